@@ -1,6 +1,6 @@
 -- What a stay catches are pending blocks, each once.
-use Rattle.fb_bgwrite.proofs.Words.{all_get, Bor, ◌≡◌, ℕ, zero, suc, ◌≤◌, List, [], ◌∷◌, ◌++◌, Bool, false, ◌||◌, Some, slice_get, take}
-use Rattle.fb_bgwrite.proofs.Words.{map, length, refl, sym, ap, ◌∙◌, subst, arith, inl, inr, ◌==◌, ◌&&◌, filter, AllByRecursion, fold}
+use Rattle.fb_bgwrite.proofs.Words.{◌⊎◌, all_get, Bor, ◌≡◌, ℕ, zero, suc, ◌≤◌, List, [], ◌∷◌, ◌++◌, Bool, false, ◌||◌, Some, slice_get}
+use Rattle.fb_bgwrite.proofs.Words.{take, map, length, refl, sym, ap, ◌∙◌, subst, arith, inl, inr, ◌==◌, ◌&&◌, filter, AllByRecursion, fold}
 use Rattle.fb_bgwrite.proofs.Words.{list_any, cases_Bool, nat_tests, list_any-append, places, Disk, all_weaker, wanted_of, Dwell, catches}
 use Rattle.fb_bgwrite.proofs.Words.{Catch, is_before, place_in, catch_of, caught_of, begin-from-le, SpillItem, SpillLine, WroteLine}
 use Rattle.fb_bgwrite.proofs.Words.{SpillRow, Put, Spilling, PutBlock, is_written, writes, entry_of, first_blocks, ArePutsOn, HasKept}
@@ -41,10 +41,6 @@ different_placed : (xs ys : List Catch) → AreDifferent xs → AreDifferent ys 
 different_placed xs [] a b all = a
 different_placed xs (y ∷ ys) a b all = different_placed (place_in xs y) ys (different_place y xs all.0 a) b.1 (more_apart y xs ys b.0 all.1)
 
-none_before : (ys : List Catch) → AllByRecursion (λ y. AllByRecursion (Differ y) []) ys
-none_before [] = tt
-none_before (y ∷ ys) = (tt, none_before ys)
-
 -- ---- each is of a block that is pending
 
 -- a catch of one of the first blocks, not written so far, whose passage begins once its put's instant has come
@@ -67,38 +63,39 @@ module _ (disk : Disk) (puts : List Put) (n : ℕ) (items : List SpillItem) (dwe
   IsAt : PutBlock → Type 0
   IsAt put = (i : ℕ) × (slice_get (first_blocks disk puts n) i ≡ Some put)
 
+  -- one more block is caught, or adds nothing
+  of_more : (put : PutBlock) (blocks : List PutBlock) → (of_blocks (put ∷ blocks) ≡ of_blocks blocks) ⊎ ((is_written items put.block ≡ false) × (of_blocks (put ∷ blocks) ≡ found put ∷ of_blocks blocks))
+  of_more put blocks = elim (cases_Bool (is_written items put.block)) [
+    | inl written ↦ inl (rw written refl)
+    | inr unwritten ↦ elim (cases_Bool (catches disk dwell put.block)) [
+      | inl caught ↦ inr (unwritten, rw (unwritten, caught) refl)
+      | inr missed ↦ inl (rw (unwritten, missed) refl)
+    ]
+  ]
+
   each_caught : (blocks : List PutBlock) → AllByRecursion IsAt blocks → AllByRecursion (λ (put : PutBlock). put.instant ≤ dwell.begin) blocks → AllByRecursion (IsCaught disk puts n items) (of_blocks blocks)
   unfolding IsAt
   each_caught [] at come = tt
-  each_caught (put ∷ blocks) at come = elim (cases_Bool (is_written items put.block)) [
-    | inl written ↦ rw written (each_caught blocks at.1 come.1)
-    | inr unwritten ↦ elim (cases_Bool (catches disk dwell put.block)) [
-      | inl yes' ↦ rw (unwritten, yes') (
-        record { index = at.0.0; put = put; stands = at.0.1; block = refl; unwritten = unwritten; after = omega (arith, come.0, begin-from-le disk.map put.block dwell.begin) },
-        each_caught blocks at.1 come.1,
-      )
-      | inr no' ↦ rw (unwritten, no') (each_caught blocks at.1 come.1)
-    ]
+  each_caught (put ∷ blocks) at come = elim (of_more put blocks) [
+    | inl same ↦ subst (AllByRecursion (IsCaught disk puts n items)) (sym same) (each_caught blocks at.1 come.1)
+    | inr more ↦ subst (AllByRecursion (IsCaught disk puts n items)) (sym more.1) (
+      record { index = at.0.0; put = put; stands = at.0.1; block = refl; unwritten = more.0; after = omega (arith, come.0, begin-from-le disk.map put.block dwell.begin) },
+      each_caught blocks at.1 come.1,
+    )
   ]
 
   all_behind : (own : PutBlock) (blocks : List PutBlock) → AllByRecursion (λ other. IsBefore own.block other.block) blocks → AllByRecursion (Differ (found own)) (of_blocks blocks)
   all_behind own [] all = tt
-  all_behind own (put ∷ blocks) all = elim (cases_Bool (is_written items put.block)) [
-    | inl written ↦ rw written (all_behind own blocks all.1)
-    | inr unwritten ↦ elim (cases_Bool (catches disk dwell put.block)) [
-      | inl yes' ↦ rw (unwritten, yes') ((before_other own.block put.block all.0).turned, all_behind own blocks all.1)
-      | inr no' ↦ rw (unwritten, no') (all_behind own blocks all.1)
-    ]
+  all_behind own (put ∷ blocks) all = elim (of_more put blocks) [
+    | inl same ↦ subst (AllByRecursion (Differ (found own))) (sym same) (all_behind own blocks all.1)
+    | inr more ↦ subst (AllByRecursion (Differ (found own))) (sym more.1) ((before_other own.block put.block all.0).turned, all_behind own blocks all.1)
   ]
 
   all_different : (blocks : List PutBlock) → AreInOrder blocks → AreDifferent (of_blocks blocks)
   all_different [] order = tt
-  all_different (put ∷ blocks) order = elim (cases_Bool (is_written items put.block)) [
-    | inl written ↦ rw written (all_different blocks order.1)
-    | inr unwritten ↦ elim (cases_Bool (catches disk dwell put.block)) [
-      | inl yes' ↦ rw (unwritten, yes') (all_behind put blocks order.0, all_different blocks order.1)
-      | inr no' ↦ rw (unwritten, no') (all_different blocks order.1)
-    ]
+  all_different (put ∷ blocks) order = elim (of_more put blocks) [
+    | inl same ↦ subst AreDifferent (sym same) (all_different blocks order.1)
+    | inr more ↦ subst AreDifferent (sym more.1) (all_behind put blocks order.0, all_different blocks order.1)
   ]
 
   pub caught_are : AllByRecursion (λ (put : PutBlock). put.instant ≤ dwell.begin) (first_blocks disk puts n) → AllByRecursion (IsCaught disk puts n items) (caught_of disk dwell (wanted_of (map (entry_of items) (first_blocks disk puts n))))
@@ -108,7 +105,7 @@ module _ (disk : Disk) (puts : List Put) (n : ℕ) (items : List SpillItem) (dwe
 
   pub caught_differ : AreInOrder (first_blocks disk puts n) → AreDifferent (caught_of disk dwell (wanted_of (map (entry_of items) (first_blocks disk puts n))))
   unfolding caught_of
-  caught_differ order = different_placed [] (of_blocks (first_blocks disk puts n)) tt (all_different (first_blocks disk puts n) order) (none_before (of_blocks (first_blocks disk puts n)))
+  caught_differ order = different_placed [] (of_blocks (first_blocks disk puts n)) tt (all_different (first_blocks disk puts n) order) (all_of (λ y. AllByRecursion (Differ y) []) (of_blocks (first_blocks disk puts n)) (λ k y at. tt))
 
 -- ---- one after another
 

@@ -1,8 +1,9 @@
 -- Blocks that share no sector pass one slot each.
-use Rattle.fb_bgwrite.proofs.Words.{◌∙◌, sym, true≢false, ◌≡◌, ℕ, zero, suc, ◌+◌, ◌-◌, ◌/◌, ◌<◌, ◌≤◌, List, [], ◌∷◌, Bool, true, false, map}
-use Rattle.fb_bgwrite.proofs.Words.{inl, inr, refl, arith, ◌==◌, AllByRecursion, sum_by, cases_Bool, nat_tests, sum_by-cons, Track}
-use Rattle.fb_bgwrite.proofs.Words.{same_track, slots_at, IsSound, HasOwnPlaces, pos, distance_of, Disk, Entry, on_track, wanted_of, Gap}
-use Rattle.fb_bgwrite.proofs.Words.{slots_within, Spill, share, AreApart, block_range, AreLeast, ArePending, ready, value, IsSpill}
+use Rattle.fb_bgwrite.proofs.Words.{map, and_parts, leb-true, ltb-true, nat_le, nat_lt, ap, if◌then◌else◌, ◌≡◌, ℕ, zero, suc, ◌+◌, ◌-◌, ◌/◌}
+use Rattle.fb_bgwrite.proofs.Words.{◌<◌, ◌≤◌, List, [], ◌∷◌, Bool, true, inl, inr, refl, arith, ◌==◌, sum_by, cases_Bool, nat_tests}
+use Rattle.fb_bgwrite.proofs.Words.{sum_by-cons, Track, same_track, slots_at, IsSound, HasOwnPlaces, pos, distance_of, Disk, Entry}
+use Rattle.fb_bgwrite.proofs.Words.{on_track, wanted_of, Gap, slots_within, Spill, AreApart, block_range, AreLeast, ArePending, ready}
+use Rattle.fb_bgwrite.proofs.Words.{value, IsSpill}
 use Rattle.std.proofs.lemmas.Nat.{le-div, mul-le}
 use Rattle.std.proofs.Math.Nat.{div-mul-le_self}
 use Rattle.fb_seek.specs.Mechanics.{Mechanics}
@@ -10,32 +11,23 @@ use Rattle.fb_seek.specs.Rising.{SeeksRise}
 use Rattle.fb_wanted.specs.Depth.{depth_at, is_in, weight_on}
 use Rattle.fb_detour.proofs.Packing.{div-rises, packing}
 use Rattle.fb_bgwrite.specs.declared.search.Moves.{Moves}
-use Rattle.fb_bgwrite.proofs.{Totals.in_no_other, Values.value_stay, Values.AreLight}
+use Rattle.fb_bgwrite.proofs.{Shuffled.has, Shuffled.has_it, Shuffled.once, Values.value_stay, Values.AreLight}
 
-both_in : (a b : Entry) (lbn : ℕ) → is_in lbn a.block ≡ true → is_in lbn b.block ≡ true → share (block_range a.block) (block_range b.block) ≡ false → ⊥
-both_in a b lbn in_a in_b apart = true≢false (sym in_b ∙ in_no_other (block_range a.block) (block_range b.block) lbn in_a apart)
-
--- none of the others has the sector
-none_others : (e : Entry) (lbn : ℕ) → is_in lbn e.block ≡ true → (es : List Entry) → AllByRecursion (λ other. share (block_range e.block) other ≡ false) (map (λ entry. block_range entry.block) es)
-    → sum_by (weight_on lbn) es ≡ 0
-none_others e lbn in_e [] apart = refl
-none_others e lbn in_e (x ∷ xs) apart = elim (cases_Bool (is_in lbn x.block)) [
-  | inl here ↦ absurd (both_in e x lbn in_e here apart.0)
-  | inr other ↦
-      let none : weight_on lbn x ≡ 0 = rw other refl in
-      omega (arith, sum_by-cons (weight_on lbn) x xs, none, none_others e lbn in_e xs apart.1)
-]
-
-at_most_one : (lbn : ℕ) (es : List Entry) → AreLight es → AreApart (map (λ entry. block_range entry.block) es) → sum_by (weight_on lbn) es ≤ 1
-at_most_one lbn [] light apart = omega arith
-at_most_one lbn (e ∷ es) light apart = elim (cases_Bool (is_in lbn e.block)) [
-  | inl here ↦
-      let one : weight_on lbn e ≡ e.block.weight = rw here refl in
-      omega (arith, sum_by-cons (weight_on lbn) e es, one, light.0, none_others e lbn here es apart.0)
-  | inr other ↦
-      let none : weight_on lbn e ≡ 0 = rw other refl in
-      omega (arith, sum_by-cons (weight_on lbn) e es, none, at_most_one lbn es light.1 apart.1)
-]
+-- a block that has a sector counts at most once
+each_once : (lbn : ℕ) (es : List Entry) → AreLight es → sum_by (weight_on lbn) es ≤ sum_by (has lbn) (map (λ entry. block_range entry.block) es)
+each_once lbn [] light = omega arith
+each_once lbn (e ∷ es) light =
+    let rest = each_once lbn es light.1 in
+    let sum = sum_by-cons (weight_on lbn) e es in
+    let ranges = sum_by-cons (has lbn) (block_range e.block) (map (λ entry. block_range entry.block) es) in
+    elim (cases_Bool (is_in lbn e.block)) [
+      | inl here ↦
+          let both = and_parts (nat_le e.block.lbn lbn) (nat_lt lbn (e.block.lbn + e.block.count)) here in
+          let one : weight_on lbn e ≡ e.block.weight = rw here refl in
+          let its : has lbn (block_range e.block) ≡ 1 = ap (λ b. if b then 1 else 0) (has_it lbn (block_range e.block) (leb-true e.block.lbn lbn both.0) (ltb-true lbn (e.block.lbn + e.block.count) both.1)) in
+          omega (arith, sum, ranges, one, its, light.0, rest)
+      | inr other ↦ let none : weight_on lbn e ≡ 0 = rw other refl in omega (arith, sum, ranges, none, rest)
+    ]
 
 fewer : (lbn : ℕ) (track : Track) (es : List Entry) → sum_by (weight_on lbn) (on_track track es) ≤ sum_by (weight_on lbn) es
 fewer lbn track [] = omega arith
@@ -45,7 +37,7 @@ fewer lbn track (e ∷ es) = elim (cases_Bool (same_track track e.block.track)) 
 ]
 
 pub one_deep : (track : Track) (lbn : ℕ) (es : List Entry) → AreLight es → AreApart (map (λ entry. block_range entry.block) es) → depth_at track lbn es ≤ 1
-one_deep track lbn es light apart = omega (arith, fewer lbn track es, at_most_one lbn es light apart)
+one_deep track lbn es light apart = omega (arith, fewer lbn track es, each_once lbn es light, once lbn (map (λ entry. block_range entry.block) es) apart)
 
 -- ---- bounds
 

@@ -5,14 +5,14 @@ use Rattle.fb_bgwrite.proofs.Words.{SectorRange, share, AreApart}
 use Rattle.std.proofs.lemmas.List.Sorted.{sum_by-IsPermutation}
 use Rattle.fb_bgwrite.proofs.{Lists.all_of, TakenRanges.is_shares, TakenRanges.not_share, TakenRanges.shares_is}
 
-abbrev sector : ℕ → SectorRange
+abbrev pub sector : ℕ → SectorRange
 sector lbn = record { first = lbn; count = 1 }
 
 -- 1 for a range that has the sector
-abbrev has : ℕ → SectorRange → ℕ
+abbrev pub has : ℕ → SectorRange → ℕ
 has lbn range = if share (sector lbn) range then 1 else 0
 
-has_it : (lbn : ℕ) (range : SectorRange) → range.first ≤ lbn → lbn < range.first + range.count → share (sector lbn) range ≡ true
+pub has_it : (lbn : ℕ) (range : SectorRange) → range.first ≤ lbn → lbn < range.first + range.count → share (sector lbn) range ≡ true
 has_it lbn range from before = is_shares (sector lbn) range before (omega arith) (omega arith) (omega arith)
 
 one_more : (lbn : ℕ) (range : SectorRange) (others : List SectorRange) → share (sector lbn) range ≡ true → sum_by (has lbn) (range ∷ others) ≡ 1 + sum_by (has lbn) others
@@ -35,7 +35,7 @@ none_has lbn range (other ∷ others) its apart =
     ∙ none_has lbn range others its apart.1
 
 -- no sector is in two of them
-once : (lbn : ℕ) (ranges : List SectorRange) → AreApart ranges → sum_by (has lbn) ranges ≤ 1
+pub once : (lbn : ℕ) (ranges : List SectorRange) → AreApart ranges → sum_by (has lbn) ranges ≤ 1
 once lbn [] apart = omega arith
 once lbn (range ∷ ranges) apart = elim (cases_Bool (share (sector lbn) range)) [
   | inl its ↦ let none = none_has lbn range ranges its apart.0 in let more = one_more lbn range ranges its in omega (arith, none, more)

@@ -1,10 +1,10 @@
 -- One more row: which blocks are pending after it, and how many sectors are left.
-use Rattle.fb_bgwrite.proofs.Words.{append-nil, all_weaker, none_kept, all_get, ◌≡◌, ℕ, zero, suc, ◌+◌, ◌<◌, ◌≤◌, List, [], ◌∷◌, ◌++◌, Bool}
-use Rattle.fb_bgwrite.proofs.Words.{true, false, ◌&&◌, ◌||◌, not, Some, slice_get, map, refl, sym, ap, ap₂, ◌∙◌, subst, arith, inl, inr}
-use Rattle.fb_bgwrite.proofs.Words.{if◌then◌else◌, ◌==◌, filter, nat_le, AllByRecursion, list_any, cases_Bool, true≢false, nat_tests}
-use Rattle.fb_bgwrite.proofs.Words.{list_any-append, sum_by-cons, Block, Entry, Wanted, Delivered, Deliver, after, entry_after, wanted_of}
-use Rattle.fb_bgwrite.proofs.Words.{SpillItem, SpillLine, WroteLine, SpillRow, WroteRow, PutBlock, is_pending, is_written, pending, sectors}
-use Rattle.fb_bgwrite.proofs.Words.{writes, AreOnce, entry_of}
+use Rattle.fb_bgwrite.proofs.Words.{◌≢◌, ◌⊎◌, append-nil, all_weaker, none_kept, all_get, ◌≡◌, ℕ, zero, suc, ◌+◌, ◌<◌, ◌≤◌, List, [], ◌∷◌}
+use Rattle.fb_bgwrite.proofs.Words.{◌++◌, Bool, true, false, ◌&&◌, ◌||◌, not, Some, slice_get, map, refl, sym, ap, ap₂, ◌∙◌, subst, arith}
+use Rattle.fb_bgwrite.proofs.Words.{inl, inr, if◌then◌else◌, ◌==◌, filter, nat_le, AllByRecursion, list_any, cases_Bool, true≢false}
+use Rattle.fb_bgwrite.proofs.Words.{nat_tests, list_any-append, sum_by-cons, Block, Entry, Wanted, Delivered, Deliver, after, entry_after}
+use Rattle.fb_bgwrite.proofs.Words.{wanted_of, SpillItem, SpillLine, WroteLine, SpillRow, WroteRow, PutBlock, is_pending, is_written}
+use Rattle.fb_bgwrite.proofs.Words.{pending, sectors, writes, AreOnce, entry_of}
 use Rattle.std.proofs.lemmas.List.Elements.{filter-append}
 use Rattle.fb_wanted.specs.declared.block.State.{State}
 use Rattle.fb_bgwrite.proofs.{Lists.before_or_last, Lists.some_one, PutBlocks.its_blocks, PutBlocks.AreInOrder, PutBlocks.IsBefore}
@@ -20,23 +20,18 @@ pub record IsOther (a b : Block) : Type 0 where
   pub by_lbn : (b.task == a.task) && (b.lbn == a.lbn) ≡ false
   pub turned : (a.task == b.task) && (a.lbn == b.lbn) ≡ false
 
+different : (a b : Block) → (a.task ≢ b.task) ⊎ ((a.index ≢ b.index) × (a.lbn ≢ b.lbn)) → IsOther a b
+different a b (inl task) = record { by_index = grind (arith, nat_tests); by_lbn = grind (arith, nat_tests); turned = grind (arith, nat_tests) }
+different a b (inr both) =
+    let index = both.0 in
+    let lbn = both.1 in
+    record { by_index = grind (arith, nat_tests); by_lbn = grind (arith, nat_tests); turned = grind (arith, nat_tests) }
+
 pub before_other : (a b : Block) → IsBefore a b → IsOther a b
-before_other a b is = elim is.order [
-  | inl less ↦ record { by_index = grind (arith, nat_tests); by_lbn = grind (arith, nat_tests); turned = grind (arith, nat_tests) }
-  | inr same ↦
-      let index = same.1 in
-      let lbn = same.2 in
-      record { by_index = grind (arith, nat_tests); by_lbn = grind (arith, nat_tests); turned = grind (arith, nat_tests) }
-]
+before_other a b is = different a b (elim is.order [ inl less ↦ inl (λ e. omega (arith, less, e)) | inr same ↦ inr ((λ e. omega (arith, same.1, e)), (λ e. omega (arith, same.2, e))) ])
 
 pub behind_other : (a b : Block) → IsBefore b a → IsOther a b
-behind_other a b is = elim is.order [
-  | inl less ↦ record { by_index = grind (arith, nat_tests); by_lbn = grind (arith, nat_tests); turned = grind (arith, nat_tests) }
-  | inr same ↦
-      let index = same.1 in
-      let lbn = same.2 in
-      record { by_index = grind (arith, nat_tests); by_lbn = grind (arith, nat_tests); turned = grind (arith, nat_tests) }
-]
+behind_other a b is = different a b (elim is.order [ inl less ↦ inl (λ e. omega (arith, less, e)) | inr same ↦ inr ((λ e. omega (arith, same.1, e)), (λ e. omega (arith, same.2, e))) ])
 
 module _ (items : List SpillItem) (row : WroteRow) (block : Block) (put_is : row.put ≡ block.task) (lbn_is : row.lbn ≡ block.lbn) where
   abbrev more : List SpillItem

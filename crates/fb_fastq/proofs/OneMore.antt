@@ -133,6 +133,10 @@ split_at (x ∷ ws) (suc k) w e = ap (λ xs. x ∷ xs) (split_at ws k w e)
 pub removed_more : (w : Waiting) (ws less : List Waiting) (k : ℕ) → less ≡ remove ws k → slice_get ws k ≡ Some w → IsMore w less ws
 removed_more w ws less k is there = record { before = take k ws; behind = drop (suc k) ws; less_is = is; more_is = split_at ws k w there }
 
+-- the row at a place
+pub row_there : (rows : List Row) (i : ℕ) (row : Row) → i < length rows → row ≡ get_or rows i row → slice_get rows i ≡ Some row
+row_there rows i row within is = slice_get_read rows (length rows) i row refl within is
+
 -- one row in the place of another
 pub set_same : (rows : List Row) (i : ℕ) (row new : Row) → slice_get rows i ≡ Some row → new.items ≡ row.items → all_of_rows (set rows i new) ≡ all_of_rows rows
 set_same [] i row new there is = refl
@@ -182,7 +186,7 @@ pub taken_from : (rows : List Row) (place : Place) (row new : Row) → IsSome (a
 taken_from rows place row new has is items = go (at_place rows place) refl has
   where
     there : slice_get rows place.row ≡ Some row
-    there = slice_get_read rows (length rows) place.row row refl (place_within rows place has) is
+    there = row_there rows place.row row (place_within rows place has) is
 
     go : (o : Option Waiting) → at_place rows place ≡ o → IsSome o → IsTakenFrom rows place row new
     go None e h = absurd (true≢false (sym h))

@@ -1,8 +1,8 @@
 -- How often a list of places leaves the turn of its track.
-use Rattle.fb_geometry.proofs.Laws.{all-filter}
 use Rattle.fb_maker.proofs.Words.{◌≡◌, ℕ, zero, suc, ◌+◌, ◌-◌, ◌*◌, ◌<◌, ◌≤◌, List, [], ◌∷◌, ◌++◌, length, take, Bool, true, false, refl}
 use Rattle.fb_maker.proofs.Words.{sym, ap, ◌∙◌, arith, append_assoc, subst, inl, inr, if◌then◌else◌, filter, AllByRecursion, flat_map}
 use Rattle.fb_maker.proofs.Words.{range_with_len, cases_Bool, cases_lt}
+use Rattle.fb_geometry.proofs.Laws.{all-filter}
 
 module _ {A : Type 0} (later : A → A → Bool) where
   -- the number of breaks in a list that follows one more element

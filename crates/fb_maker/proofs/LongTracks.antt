@@ -1,12 +1,11 @@
 -- Sectors of a disk whose tracks are long.
+use Rattle.fb_maker.proofs.Words.{length-most, ◌≡◌, ℕ, zero, suc, ◌+◌, ◌-◌, ◌*◌, ◌%◌, ◌<◌, ◌≤◌, List, [], ◌∷◌, length, map, take, drop}
+use Rattle.fb_maker.proofs.Words.{true, false, refl, sym, ap, ◌∙◌, arith, subst, append-nil, Some, None, inl, inr, ◌==◌, nat_le, nat_lt}
+use Rattle.fb_maker.proofs.Words.{not, slice_get, AllByRecursion, flat_map, range_with_len, list_all, mod-lt, mod-eq_of_lt, add-mod_left}
+use Rattle.fb_maker.proofs.Words.{length-append, length-take, none-some, cases_Bool, nat_tests, Place, Zone, PerTrack, Shape, slots_at}
+use Rattle.fb_maker.proofs.Words.{offset_at, offset_in, turn_position, is_among, places, turn, good_track, data_list, data_list_by}
+use Rattle.fb_maker.proofs.Words.{zone_places, first_apart, IsSound, cylinder_size_by, is_later, is_long}
 use Rattle.fb_geometry.proofs.Grid.{all_weaker}
-use Rattle.fb_sectormap.proofs.Parts.{length-most}
-use Rattle.fb_maker.proofs.Words.{◌≡◌, ℕ, zero, suc, ◌+◌, ◌-◌, ◌*◌, ◌%◌, ◌<◌, ◌≤◌, List, [], ◌∷◌, length, map, take, drop, true, false}
-use Rattle.fb_maker.proofs.Words.{refl, sym, ap, ◌∙◌, arith, subst, append-nil, Some, None, inl, inr, ◌==◌, nat_le, nat_lt, not, slice_get}
-use Rattle.fb_maker.proofs.Words.{AllByRecursion, flat_map, range_with_len, list_all, mod-lt, mod-eq_of_lt, add-mod_left, length-append}
-use Rattle.fb_maker.proofs.Words.{length-take, none-some, cases_Bool, nat_tests, Place, Zone, PerTrack, Shape, slots_at, offset_at}
-use Rattle.fb_maker.proofs.Words.{offset_in, turn_position, is_among, places, turn, good_track, data_list, data_list_by, zone_places}
-use Rattle.fb_maker.proofs.Words.{first_apart, IsSound, cylinder_size_by, is_later, is_long}
 use Rattle.std.proofs.lemmas.List.FromFn.{length-range_with_len}
 use Rattle.fb_units.specs.declared.types.Track.{Track}
 use Rattle.fb_units.specs.Tracks.{same_track}

@@ -27,6 +27,7 @@ pub use Rattle.fb_geometry.specs.declared.layout.Layout.TheVariants.{PerCylinder
 pub use Rattle.fb_geometry.specs.declared.zone.Zone.{Zone}
 pub use Rattle.fb_sectormap.specs.Cutting.{is_cut_before, is_later, with_sector}
 unfoldable pub use Rattle.fb_sectormap.specs.Cutting.{cutting}
+pub use Rattle.fb_sectormap.proofs.Parts.{length-most, length-same}
 pub use Rattle.fb_maker.specs.Script.{call_at, first_zone, has_long_tracks, is_long, most, script_calls, script_text}
 unfoldable pub use Rattle.fb_maker.specs.Script.{script_lines}
 pub use Rattle.fb_maker.specs.Trace.{arrival_before, flags_text, made_requests, made_trace, size_of}

@@ -1,10 +1,8 @@
 -- The first zone.
-use Rattle.fb_sectormap.proofs.Parts.{length-same}
-use Rattle.fb_maker.proofs.Words.{◌≡◌, ℕ, ◌+◌, ◌-◌, ◌*◌, ◌<◌, ◌≤◌, List, [], ◌∷◌, length, Bool, true, ◌++◌, append_assoc}
+use Rattle.fb_maker.proofs.Words.{length-same, ◌≡◌, ℕ, ◌+◌, ◌-◌, ◌*◌, ◌<◌, ◌≤◌, List, [], ◌∷◌, length, Bool, true, ◌++◌, append_assoc}
 use Rattle.fb_maker.proofs.Words.{append-nil, min, refl, sym, ap, ◌∙◌, arith, Some, None, inl, inr, ◌==◌, slice_get, nat_le, ◌&&◌, decimal}
-use Rattle.fb_maker.proofs.Words.{codes, flat_map, cases_Bool, nat_tests, Zone, none-some}
-use Rattle.fb_maker.proofs.Words.{get_or_from_slice_get, first_apart, Shape, cylinders_of, data_list, list_among, places, first_zone, most}
-use Rattle.fb_maker.proofs.Words.{script_lines, script_text}
+use Rattle.fb_maker.proofs.Words.{codes, flat_map, cases_Bool, nat_tests, Zone, none-some, get_or_from_slice_get, first_apart, Shape}
+use Rattle.fb_maker.proofs.Words.{cylinders_of, data_list, list_among, places, first_zone, most, script_lines, script_text}
 
 -- the first of the zones begins at the first cylinder
 pub begins_at_first : (zones : List Zone) (zone : Zone) → first_apart 0 0 zones ≡ None → slice_get zones 0 ≡ Some zone → zone.first ≡ 0

@@ -1,9 +1,8 @@
 -- Lines of fields are split into their fields again.
-use Rattle.std.proofs.lemmas.Bool.{and_parts}
-use Rattle.fb_report.proofs.Words.{◌≡◌, ℕ, ◌≤◌, List, [], ◌∷◌, ◌++◌, Bool, true, false, refl, sym, ap, ◌∙◌, arith, append_assoc, append-nil}
-use Rattle.fb_report.proofs.Words.{inl, inr, ◌&&◌, ◌==◌, nat_lt, not, AllByRecursion, flat_map, list_all, list_any, slice_split, nat_tests}
-use Rattle.fb_report.proofs.Words.{or-true, list_any-append, line_of, with_fields, Grammar, Form, have_forms, report_fields, ended}
-use Rattle.fb_report.proofs.Words.{AreFields, AreOneOf, IsLine, is_first, is_row, is_last}
+use Rattle.fb_report.proofs.Words.{and_parts, ◌≡◌, ℕ, ◌≤◌, List, [], ◌∷◌, ◌++◌, Bool, true, false, refl, sym, ap, ◌∙◌, arith, append_assoc}
+use Rattle.fb_report.proofs.Words.{append-nil, inl, inr, ◌&&◌, ◌==◌, nat_lt, not, AllByRecursion, flat_map, list_all, list_any, slice_split}
+use Rattle.fb_report.proofs.Words.{nat_tests, or-true, list_any-append, line_of, with_fields, Grammar, Form, have_forms, report_fields}
+use Rattle.fb_report.proofs.Words.{ended, AreFields, AreOneOf, IsLine, is_first, is_row, is_last}
 use Rattle.fb_report.proofs.ReadBack.{split_at, split_none}
 
 abbrev pub plain : ℕ → Bool

@@ -1,10 +1,9 @@
 -- The fields of lines have their forms.
-use Rattle.std.proofs.lemmas.Bool.{and_parts}
-use Rattle.fb_report.proofs.Words.{◌≡◌, ℕ, ◌+◌, ◌-◌, ◌*◌, ◌%◌, ◌<◌, ◌^◌, List, [], ◌∷◌, ◌++◌, length, drop, get_or, Bool, true, false, refl}
-use Rattle.fb_report.proofs.Words.{sym, ap, ◌∙◌, arith, subst, inl, inr, ◌==◌, nat_lt, decimal, list_all, position_or_len, before_first}
-use Rattle.fb_report.proofs.Words.{after_first, is_ascii_digit, bytes_eq, cases_Bool, nat_tests, take_at, list_all-append, decimal_by_steps}
-use Rattle.fb_report.proofs.Words.{decimal_nonempty, decimal_digit, first_decimal, are_digits, digits_after, is_name, is_name_byte}
-use Rattle.fb_report.proofs.Words.{has_no_leading_zero, is_number, is_point, is_track, is_word, IsField}
+use Rattle.fb_report.proofs.Words.{and_parts, ◌≡◌, ℕ, ◌+◌, ◌-◌, ◌*◌, ◌%◌, ◌<◌, ◌^◌, List, [], ◌∷◌, ◌++◌, length, drop, get_or, Bool, true}
+use Rattle.fb_report.proofs.Words.{false, refl, sym, ap, ◌∙◌, arith, subst, inl, inr, ◌==◌, nat_lt, decimal, list_all, position_or_len}
+use Rattle.fb_report.proofs.Words.{before_first, after_first, is_ascii_digit, bytes_eq, cases_Bool, nat_tests, take_at, list_all-append}
+use Rattle.fb_report.proofs.Words.{decimal_by_steps, decimal_nonempty, decimal_digit, first_decimal, are_digits, digits_after, is_name}
+use Rattle.fb_report.proofs.Words.{is_name_byte, has_no_leading_zero, is_number, is_point, is_track, is_word, IsField}
 use Rattle.std.proofs.Math.Seq.{drop-append-add}
 use Rattle.std.proofs.lemmas.Slice.Eq.{bytes_eq-Decides}
 use Rattle.fb_report.proofs.Fields.{plain}

@@ -1,11 +1,10 @@
 -- Printed lines are read back.
-use Rattle.std.proofs.lemmas.Bool.{and_parts, or_parts, not-true}
-use Rattle.fb_report.proofs.Behind.{row_read}
-use Rattle.fb_report.proofs.Words.{◌≡◌, ℕ, suc, ◌+◌, ◌≤◌, ◌<◌, List, [], ◌∷◌, ◌++◌, length, map, Bool, true, false, refl, sym, ap, ◌∙◌}
-use Rattle.fb_report.proofs.Words.{arith, append_assoc, Some, Ok, ◌==◌, not, slice_get, flat_map, list_any, slice_split}
-use Rattle.fb_report.proofs.Words.{nat_tests, length-slice_split, Grammar, is_line_of, may_follow, may_end, lines_behind, ended, IsLine}
-use Rattle.fb_report.proofs.Words.{is_row, is_last, is_in_place, PrintedAreReadBack}
+use Rattle.fb_report.proofs.Words.{and_parts, or_parts, not-true, ◌≡◌, ℕ, suc, ◌+◌, ◌≤◌, ◌<◌, List, [], ◌∷◌, ◌++◌, length, map, Bool, true}
+use Rattle.fb_report.proofs.Words.{false, refl, sym, ap, ◌∙◌, arith, append_assoc, Some, Ok, ◌==◌, not, slice_get, flat_map, list_any}
+use Rattle.fb_report.proofs.Words.{slice_split, nat_tests, length-slice_split, Grammar, is_line_of, may_follow, may_end, lines_behind}
+use Rattle.fb_report.proofs.Words.{ended, IsLine, is_row, is_last, is_in_place, PrintedAreReadBack}
 use Rattle.std.proofs.lemmas.List.{length-append}
+use Rattle.fb_report.proofs.Behind.{row_read}
 
 -- the first part of a text ends at the first byte that passes
 pub split_at : (p : ℕ → Bool) (xs : List ℕ) (y : ℕ) (ys : List ℕ) → list_any p xs ≡ false → p y ≡ true → slice_split p (xs ++ y ∷ ys) ≡ xs ∷ slice_split p ys

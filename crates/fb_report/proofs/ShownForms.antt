@@ -1,10 +1,9 @@
 -- Bytes and digests are shown as hexadecimal digits.
-use Rattle.std.proofs.lemmas.Bool.{and_parts}
-use Rattle.fb_report.proofs.Words.{◌≡◌, ℕ, zero, suc, ◌+◌, ◌/◌, ◌%◌, ◌<◌, ◌^◌, List, [], ◌∷◌, length, map, Bool, true, refl, ◌∙◌, arith}
-use Rattle.fb_report.proofs.Words.{inl, inr, nat_lt, replicate, codes, slice_index, flat_map, list_all, range_with_len, bytes_eq, or-true}
-use Rattle.fb_report.proofs.Words.{cases_lt, nat_tests, length-map, length-replicate, sum_by-append, list_all-append, AllPass-from_list_all}
-use Rattle.fb_report.proofs.Words.{encode_with, encode_lower, lower_digits, ContentRun, mark, fill, sector_bytes, Bytes, run_bytes}
-use Rattle.fb_report.proofs.Words.{contents_bytes, shown, digest_text, is_lower_hex, are_bytes, IsField, HasSectors}
+use Rattle.fb_report.proofs.Words.{and_parts, ◌≡◌, ℕ, zero, suc, ◌+◌, ◌/◌, ◌%◌, ◌<◌, ◌^◌, List, [], ◌∷◌, length, map, Bool, true, refl, ◌∙◌}
+use Rattle.fb_report.proofs.Words.{arith, inl, inr, nat_lt, replicate, codes, slice_index, flat_map, list_all, range_with_len, bytes_eq}
+use Rattle.fb_report.proofs.Words.{or-true, cases_lt, nat_tests, length-map, length-replicate, sum_by-append, list_all-append}
+use Rattle.fb_report.proofs.Words.{AllPass-from_list_all, encode_with, encode_lower, lower_digits, ContentRun, mark, fill, sector_bytes}
+use Rattle.fb_report.proofs.Words.{Bytes, run_bytes, contents_bytes, shown, digest_text, is_lower_hex, are_bytes, IsField, HasSectors}
 use Rattle.std.specs.Int.{byte_at, bytes_high_first}
 use Rattle.std.proofs.lemmas.List.{length-append}
 use Rattle.std.proofs.lemmas.List.FromFn.{length-range_with_len}

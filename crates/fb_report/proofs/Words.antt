@@ -7,10 +7,10 @@ pub use Rattle.std.specs.Borrow.{Bor}
 pub use Rattle.std.specs.Char.{is_ascii_digit}
 pub use Rattle.std.specs.List.{AllByRecursion, after_first, before_first, cons_option, count_by, filter_map, flat_map, fold, join_with_byte}
 pub use Rattle.std.specs.List.{list_all, list_any, onto_first, position_or_len, range_with_len, slice_split, sum_by}
-pub use Rattle.std.specs.Prelude.{if◌then◌else◌, nat_lt, not, option_map, replicate, slice_get, slice_index, ◌&&◌, ◌==◌, ◌||◌}
+pub use Rattle.std.specs.Prelude.{if◌then◌else◌, nat_lt, not, option_map, replicate, slice_get, slice_index, ◌&&◌, ◌==◌}
 pub use Rattle.std.specs.Str.{bytes_eq}
 pub use Rattle.std.proofs.Math.Bool.{and-false, or-true}
-pub use Rattle.std.proofs.lemmas.Bool.{cases_Bool, cases_lt}
+pub use Rattle.std.proofs.lemmas.Bool.{and_parts, cases_Bool, cases_lt, not-true, or_parts}
 pub use Rattle.std.proofs.lemmas.Bool.Decides.{Decides-eqb, nat_tests}
 pub use Rattle.std.proofs.lemmas.Fmt.{decimal_by_steps, decimal_digit, decimal_nonempty, first_decimal}
 pub use Rattle.std.proofs.lemmas.List.{at_drop_more, drop_all, drop_more, length-map, length-replicate, map-append, take_all, take_at}

@@ -1,6 +1,5 @@
 use Rattle.fb_report.proofs.Words.{[], ◌∷◌, refl, inl, inr, codes, decimal, task_text, back_grammar, AreNames, IsLine, is_row}
-use Rattle.fb_report.proofs.Fields.{in_row}
-use Rattle.fb_report.proofs.PrintedForms.{word_is}
+use Rattle.fb_report.proofs.{Fields.in_row, PrintedForms.word_is}
 use Rattle.fb_report.proofs.PrintedRows.{◌&◌, ended_as, named_is}
 use Rattle.fb_report.proofs.back_rows.bad_line.Goals as goal
 

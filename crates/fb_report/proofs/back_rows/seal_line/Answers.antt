@@ -1,8 +1,6 @@
 use Rattle.fb_report.proofs.Words.{[], ◌∷◌, ◌≡◌, ◌<◌, ◌^◌, ◌∙◌, refl, inl, inr, codes, decimal, sum_by, digest_text, task_text}
 use Rattle.fb_report.proofs.Words.{back_grammar, AreNames, IsLine, is_row}
-use Rattle.fb_report.proofs.Fields.{in_row}
-use Rattle.fb_report.proofs.PrintedForms.{number_is, word_is}
-use Rattle.fb_report.proofs.ShownForms.{digest_is}
+use Rattle.fb_report.proofs.{Fields.in_row, PrintedForms.number_is, PrintedForms.word_is, ShownForms.digest_is}
 use Rattle.fb_report.proofs.PrintedRows.{◌&◌, ended_as, named_is}
 use Rattle.fb_report.proofs.back_rows.seal_line.Goals as goal
 
