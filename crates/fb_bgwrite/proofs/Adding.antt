@@ -94,7 +94,8 @@ block_added old catch pending items written is are to added delivers more_writte
     let at_all' = among_all disk puts n to.index to.put is.first to.stands in
     let of_puts = all_get (IsOfPuts disk 1 puts) (put_blocks disk.map puts) to.index to.put (all_of_puts disk 1 puts are.on_disk) at_all' in
     let unwritten : is_written old.items block ≡ false = ap (is_written old.items) to.block ∙ to.unwritten in
-    let upto = all_get (λ (p : PutBlock). p.block.task ≤ n) (first_blocks disk puts n) to.index to.put (numbered_first disk puts n are) to.stands in
+    let upto = all_get (λ (p : PutBlock). p.block.task ≤ n) (first_blocks disk puts n) to.index to.put (numbered_first disk puts n are)
+    to.stands in
     let task = ap (λ (b : Block). b.task) to.block in
     let count = ap (λ (b : Block). b.count) to.block in
     let lbn = ap (λ (b : Block). b.lbn) to.block in

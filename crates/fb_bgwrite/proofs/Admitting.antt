@@ -55,7 +55,8 @@ lie_take P n puts all = all_left P (take n puts) (drop n puts) (subst (AllByRecu
 
 -- their puts are among the first
 pub numbered_first : (disk : Disk) (puts : List Put) (n : ℕ) → ArePutsOn (length (places disk.map)) puts → AllByRecursion (λ (p : PutBlock). p.block.task ≤ n) (first_blocks disk puts n)
-numbered_first disk puts n are = all_weaker (IsOfPuts disk 1 (take n puts)) (λ (p : PutBlock). p.block.task ≤ n) (λ p is. omega (arith, is.is.task, slice_get_within (take n puts) is.i is.own is.stands, length-take n puts))
+numbered_first disk puts n are = all_weaker (IsOfPuts disk 1 (take n puts)) (λ (p : PutBlock). p.block.task ≤ n)
+    (λ p is. omega (arith, is.is.task, slice_get_within (take n puts) is.i is.own is.stands, length-take n puts))
     (first_blocks disk puts n) (all_of_puts disk 1 (take n puts) (lie_take (λ (put : Put). put.first + put.count ≤ length (places disk.map)) n puts are.on_disk))
 
 pub first_in_order : (disk : Disk) (puts : List Put) (n : ℕ) → ArePutsOn (length (places disk.map)) puts → n ≤ length puts → AreInOrder (first_blocks disk puts n)
@@ -69,7 +70,8 @@ first_few disk puts n are = few_blocks disk 1 (take n puts) (lie_take (λ (put :
 pub none_yet_registered : (disk : Disk) (puts : List Put) (items : List SpillItem) (n : ℕ) → ArePutsOn (length (places disk.map)) puts → registered (n + 1) (blocks_of (map (entry_of items) (first_blocks disk puts n))) ≡ 0
 none_yet_registered disk puts items n are =
     ap (registered (n + 1)) (its_map items (first_blocks disk puts n))
-    ∙ none_registered (n + 1) (its_blocks (first_blocks disk puts n)) (all_map (λ (b : Block). b.task < n + 1) (λ (p : PutBlock). p.block) (first_blocks disk puts n)
+    ∙ none_registered (n + 1) (its_blocks (first_blocks disk puts n)) (all_map (λ (b : Block). b.task < n + 1) (λ (p : PutBlock). p.block)
+    (first_blocks disk puts n)
     (all_weaker (λ (p : PutBlock). p.block.task ≤ n) (λ (p : PutBlock). p.block.task < n + 1) (λ p le. omega (arith, le)) (first_blocks disk puts n) (numbered_first disk puts n are)))
 
 -- ---- what the search needs to know
@@ -107,7 +109,8 @@ are_pending spilling is are =
 -- ---- which blocks are pending
 
 -- what holds of the instants of puts holds of those of their blocks
-by_instant : (P : ℕ → Type 0) (disk : Disk) (puts : List Put) → AllByRecursion (λ (put : Put). P put.instant) puts → (blocks : List PutBlock) (number : ℕ) → AllByRecursion (IsOfPuts disk number puts) blocks
+by_instant : (P : ℕ → Type 0) (disk : Disk) (puts : List Put) → AllByRecursion (λ (put : Put). P put.instant) puts
+    → (blocks : List PutBlock) (number : ℕ) → AllByRecursion (IsOfPuts disk number puts) blocks
     → AllByRecursion (λ (p : PutBlock). P p.instant) blocks
 by_instant P disk puts each blocks number = all_weaker (IsOfPuts disk number puts) (λ (p : PutBlock). P p.instant)
     (λ p is. subst P (sym is.instant) (all_get (λ (put : Put). P put.instant) puts is.i is.own each is.stands)) blocks
@@ -136,8 +139,10 @@ wanted_pending spilling is are next =
     let lies = λ (put : Put). put.first + put.count ≤ length (places disk.map) in
     ap wanted_of is.registered
     ∙ pending_is spilling.items spilling.instant (put_blocks disk.map puts) (first_blocks disk puts n) (blocks_from disk.map (1 + n) (drop n puts)) (blocks_split disk.map 1 n puts is.first)
-    (by_instant (λ n. n ≤ spilling.instant) disk (take n puts) is.come (first_blocks disk puts n) 1 (all_of_puts disk 1 (take n puts) (lie_take lies n puts are.on_disk)))
-    (by_instant (λ n. spilling.instant < n) disk (drop n puts) (others_later spilling.instant n puts are.rising next) (blocks_from disk.map (1 + n) (drop n puts)) (1 + n) (all_of_puts disk (1 + n) (drop n puts) (lie_drop lies n puts are.on_disk)))
+    (by_instant (λ n. n ≤ spilling.instant) disk (take n puts) is.come (first_blocks disk puts n) 1
+    (all_of_puts disk 1 (take n puts) (lie_take lies n puts are.on_disk)))
+    (by_instant (λ n. spilling.instant < n) disk (drop n puts) (others_later spilling.instant n puts are.rising next)
+    (blocks_from disk.map (1 + n) (drop n puts)) (1 + n) (all_of_puts disk (1 + n) (drop n puts) (lie_drop lies n puts are.on_disk)))
 
 pub first_come : (spilling : Spilling) → IsSpilling spilling → ArePutsOn (length (places spilling.disk.now.map)) spilling.puts.now
     → AllByRecursion (λ (p : PutBlock). p.instant ≤ spilling.instant) (first_blocks spilling.disk.now spilling.puts.now spilling.admitted)
@@ -145,7 +150,8 @@ first_come spilling is are =
     let disk = spilling.disk.now in
     let puts = spilling.puts.now in
     let n = spilling.admitted in
-    by_instant (λ n. n ≤ spilling.instant) disk (take n puts) is.come (first_blocks disk puts n) 1 (all_of_puts disk 1 (take n puts) (lie_take (λ (put : Put). put.first + put.count ≤ length (places disk.map)) n puts are.on_disk))
+    by_instant (λ n. n ≤ spilling.instant) disk (take n puts) is.come (first_blocks disk puts n) 1
+    (all_of_puts disk 1 (take n puts) (lie_take (λ (put : Put). put.first + put.count ≤ length (places disk.map)) n puts are.on_disk))
 
 -- ---- one more put
 
@@ -182,7 +188,8 @@ put_admitted old put pending is are at come added =
     let same : puts.blocks_of disk.map (n + 1) put ≡ puts.blocks_of disk.map (1 + n) put = ap (λ m. puts.blocks_of disk.map m put) (let e : n + 1 ≡ 1 + n = omega arith in e) in
     record {
       first = omega (arith, slice_get_within old.puts.now n put at);
-      come = subst (AllByRecursion (λ (p : Put). p.instant ≤ old.instant)) (sym (one_more old.puts.now n put at)) (all_push (λ (p : Put). p.instant ≤ old.instant) (take n old.puts.now) put is.come come);
+      come = subst (AllByRecursion (λ (p : Put). p.instant ≤ old.instant)) (sym (one_more old.puts.now n put at))
+          (all_push (λ (p : Put). p.instant ≤ old.instant) (take n old.puts.now) put is.come come);
       registered = added
           ∙ ap₂ (λ xs ys. xs ++ ys) is.registered (wanted_new n old.items put.instant (numbered (n + 1) 1 0 cuts) is.upto (own_numbered n 0 cuts) ∙ ap (map (entry_of old.items)) same)
           ∙ sym (map-append (entry_of old.items) (first_blocks disk old.puts.now n) (puts.blocks_of disk.map (1 + n) put))

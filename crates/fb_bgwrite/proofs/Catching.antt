@@ -64,7 +64,9 @@ module _ (disk : Disk) (puts : List Put) (n : ℕ) (items : List SpillItem) (dwe
   IsAt put = (i : ℕ) × (slice_get (first_blocks disk puts n) i ≡ Some put)
 
   -- one more block is caught, or adds nothing
-  of_more : (put : PutBlock) (blocks : List PutBlock) → (of_blocks (put ∷ blocks) ≡ of_blocks blocks) ⊎ ((is_written items put.block ≡ false) × (of_blocks (put ∷ blocks) ≡ found put ∷ of_blocks blocks))
+  of_more : (put : PutBlock) (blocks : List PutBlock)
+      → (of_blocks (put ∷ blocks) ≡ of_blocks blocks)
+      ⊎ ((is_written items put.block ≡ false) × (of_blocks (put ∷ blocks) ≡ found put ∷ of_blocks blocks))
   of_more put blocks = elim (cases_Bool (is_written items put.block)) [
     | inl written ↦ inl (rw written refl)
     | inr unwritten ↦ elim (cases_Bool (catches disk dwell put.block)) [
@@ -79,7 +81,15 @@ module _ (disk : Disk) (puts : List Put) (n : ℕ) (items : List SpillItem) (dwe
   each_caught (put ∷ blocks) at come = elim (of_more put blocks) [
     | inl same ↦ subst (AllByRecursion (IsCaught disk puts n items)) (sym same) (each_caught blocks at.1 come.1)
     | inr more ↦ subst (AllByRecursion (IsCaught disk puts n items)) (sym more.1) (
-      record { index = at.0.0; put = put; stands = at.0.1; block = refl; unwritten = more.0; after = omega (arith, come.0, begin-from-le disk.map put.block dwell.begin) },
+      record {
+        index = at.0.0;
+        put = put;
+        stands = at.0.1;
+        block = refl;
+        unwritten = more.0;
+        after =
+            omega (arith, come.0, begin-from-le disk.map put.block dwell.begin);
+      },
       each_caught blocks at.1 come.1,
     )
   ]
@@ -88,7 +98,11 @@ module _ (disk : Disk) (puts : List Put) (n : ℕ) (items : List SpillItem) (dwe
   all_behind own [] all = tt
   all_behind own (put ∷ blocks) all = elim (of_more put blocks) [
     | inl same ↦ subst (AllByRecursion (Differ (found own))) (sym same) (all_behind own blocks all.1)
-    | inr more ↦ subst (AllByRecursion (Differ (found own))) (sym more.1) ((before_other own.block put.block all.0).turned, all_behind own blocks all.1)
+    | inr more ↦ subst (AllByRecursion (Differ (found own))) (sym more.1) (
+      (before_other own.block put.block all.0).turned,
+      all_behind own
+          blocks all.1,
+    )
   ]
 
   all_different : (blocks : List PutBlock) → AreInOrder blocks → AreDifferent (of_blocks blocks)
@@ -105,7 +119,8 @@ module _ (disk : Disk) (puts : List Put) (n : ℕ) (items : List SpillItem) (dwe
 
   pub caught_differ : AreInOrder (first_blocks disk puts n) → AreDifferent (caught_of disk dwell (wanted_of (map (entry_of items) (first_blocks disk puts n))))
   unfolding caught_of
-  caught_differ order = different_placed [] (of_blocks (first_blocks disk puts n)) tt (all_different (first_blocks disk puts n) order) (all_of (λ y. AllByRecursion (Differ y) []) (of_blocks (first_blocks disk puts n)) (λ k y at. tt))
+  caught_differ order = different_placed [] (of_blocks (first_blocks disk puts n)) tt (all_different (first_blocks disk puts n) order)
+      (all_of (λ y. AllByRecursion (Differ y) []) (of_blocks (first_blocks disk puts n)) (λ k y at. tt))
 
 -- ---- one after another
 

@@ -112,8 +112,9 @@ module _ (disk : Disk) (gap : Gap) (entries : List Entry) (pending : ArePending 
   abbrev from : ℕ → ℕ → Dwell
   from begin end = record { track = track; begin = begin; end = end }
 
-  module _ (blocks : List Entry) (its : blocks ≡ on_track track entries) (on_disk : AreOnDisk disk blocks) (begin end sectors last : ℕ) (at_once : begin ≡ ready disk gap track)
-      (counted : sectors ≡ sum_by (stay_gain disk (from begin end)) blocks) (by_last : IsLast disk (from begin end) blocks sectors last) where
+  module _ (blocks : List Entry) (its : blocks ≡ on_track track entries) (on_disk : AreOnDisk disk blocks) (begin end sectors last : ℕ)
+      (at_once : begin ≡ ready disk gap track) (counted : sectors ≡ sum_by (stay_gain disk (from begin end)) blocks)
+      (by_last : IsLast disk (from begin end) blocks sectors last) where
     light : AreLight blocks
     light = subst AreLight (sym its) (light_on track entries pending.light)
 

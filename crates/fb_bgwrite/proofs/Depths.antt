@@ -14,7 +14,8 @@ use Rattle.fb_bgwrite.specs.declared.search.Moves.{Moves}
 use Rattle.fb_bgwrite.proofs.{Shuffled.has, Shuffled.has_it, Shuffled.once, Values.value_stay, Values.AreLight}
 
 -- a block that has a sector counts at most once
-each_once : (lbn : ℕ) (es : List Entry) → AreLight es → sum_by (weight_on lbn) es ≤ sum_by (has lbn) (map (λ entry. block_range entry.block) es)
+each_once : (lbn : ℕ) (es : List Entry) → AreLight es
+    → sum_by (weight_on lbn) es ≤ sum_by (has lbn) (map (λ entry. block_range entry.block) es)
 each_once lbn [] light = omega arith
 each_once lbn (e ∷ es) light =
     let rest = each_once lbn es light.1 in
@@ -24,7 +25,8 @@ each_once lbn (e ∷ es) light =
       | inl here ↦
           let both = and_parts (nat_le e.block.lbn lbn) (nat_lt lbn (e.block.lbn + e.block.count)) here in
           let one : weight_on lbn e ≡ e.block.weight = rw here refl in
-          let its : has lbn (block_range e.block) ≡ 1 = ap (λ b. if b then 1 else 0) (has_it lbn (block_range e.block) (leb-true e.block.lbn lbn both.0) (ltb-true lbn (e.block.lbn + e.block.count) both.1)) in
+          let its : has lbn (block_range e.block) ≡ 1 = ap (λ b. if b then 1 else 0)
+          (has_it lbn (block_range e.block) (leb-true e.block.lbn lbn both.0) (ltb-true lbn (e.block.lbn + e.block.count) both.1)) in
           omega (arith, sum, ranges, one, its, light.0, rest)
       | inr other ↦ let none : weight_on lbn e ≡ 0 = rw other refl in omega (arith, sum, ranges, none, rest)
     ]
@@ -37,7 +39,13 @@ fewer lbn track (e ∷ es) = elim (cases_Bool (same_track track e.block.track)) 
 ]
 
 pub one_deep : (track : Track) (lbn : ℕ) (es : List Entry) → AreLight es → AreApart (map (λ entry. block_range entry.block) es) → depth_at track lbn es ≤ 1
-one_deep track lbn es light apart = omega (arith, fewer lbn track es, each_once lbn es light, once lbn (map (λ entry. block_range entry.block) es) apart)
+one_deep track lbn es light apart = omega (
+  arith,
+  fewer lbn track es,
+  each_once lbn es light,
+  once lbn
+      (map (λ entry. block_range entry.block) es) apart,
+)
 
 -- ---- bounds
 

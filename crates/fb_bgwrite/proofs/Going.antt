@@ -23,7 +23,8 @@ pub none_gone : (disk : Disk) (blocks : List PutBlock) (all : List RunGap) (item
 none_gone disk blocks all items none = subst (HasGone disk blocks all all) (sym none) (record { spills = []; done = []; split = λ more. refl; count = omega arith; right = tt; rows = refl })
 
 flat_push : (disk : Disk) (done : List Step) (step : Step) → flat_map (rows_in disk) (done ++ step ∷ []) ≡ flat_map (rows_in disk) done ++ rows_in disk step
-flat_push disk done step = flat_map-append (rows_in disk) done (step ∷ []) ∙ ap (λ rows. flat_map (rows_in disk) done ++ rows) (append-nil (rows_in disk step))
+flat_push disk done step = flat_map-append (rows_in disk) done (step ∷ []) ∙ ap (λ rows. flat_map (rows_in disk) done ++ rows)
+    (append-nil (rows_in disk step))
 
 pub one_gone : (disk : Disk) (blocks : List PutBlock) (all rest : List RunGap) (items new : List SpillItem) (gap : RunGap) (spill : Option Spill) → IsRight disk (step_of blocks items gap spill) → new ≡ items ++ rows_in disk (step_of blocks items gap spill)
     → HasGone disk blocks all (gap ∷ rest) items → HasGone disk blocks all rest new

@@ -72,7 +72,8 @@ none_of_fore reserve lbn inside (row ∷ rows) apart =
 pair : (blocks : List PutBlock) → AreInOrder blocks → (i j : ℕ) (a b : PutBlock) → slice_get blocks i ≡ Some a → slice_get blocks j ≡ Some b → i < j → IsBefore a.block b.block
 pair [] order i j a b at_i at_j less = absurd (grind arith)
 pair (x ∷ xs) order zero zero a b at_i at_j less = absurd (omega (arith, less))
-pair (x ∷ xs) order zero (suc j) a b at_i at_j less = subst (λ (y : PutBlock). IsBefore y.block b.block) (some_one x a at_i) (all_get (λ (other : PutBlock). IsBefore x.block other.block) xs j b order.0 at_j)
+pair (x ∷ xs) order zero (suc j) a b at_i at_j less = subst (λ (y : PutBlock). IsBefore y.block b.block) (some_one x a at_i)
+    (all_get (λ (other : PutBlock). IsBefore x.block other.block) xs j b order.0 at_j)
 pair (x ∷ xs) order (suc i) zero a b at_i at_j less = absurd (omega (arith, less))
 pair (x ∷ xs) order (suc i) (suc j) a b at_i at_j less = pair xs order.1 i j a b at_i at_j (omega (arith, less))
 

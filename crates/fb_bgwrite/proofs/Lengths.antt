@@ -69,7 +69,8 @@ module _ (disk : Disk) (gap : Gap) (entries : List Entry) (spill : Spill) (light
           | inl none ↦ inl (omega (arith, is_value, none))
           | inr is ↦
               let here = passing_here disk dwell is.entry is.passing in
-              let longer = all_get (IsAtLeast from end least) entries is.index is.entry long is.stands (passing_wanted disk dwell is.entry is.passing) (omega (arith, low, here)) (omega (arith, high, here)) in
+              let longer = all_get (IsAtLeast from end least) entries is.index is.entry long is.stands
+              (passing_wanted disk dwell is.entry is.passing) (omega (arith, low, here)) (omega (arith, high, here)) in
               inr (omega (arith, longer, is.few, is_value), omega (arith, longer, (on_disk is.index is.entry is.stands).few))
         ]
 
@@ -96,8 +97,10 @@ short_beaten disk gap entries blocks best valued spill short from end most long 
     nothing_beaten disk gap (wanted_of entries) best spill valued none
 
 -- and so is each of a range
-pub range_beaten : (disk : Disk) (gap : Gap) (entries : List Entry) → ArePending disk entries → (best : Option Valued) → IsValuedIf disk gap (wanted_of entries) best → (part : Part) → IsMost disk gap (wanted_of entries) part
-    → (short from end : ℕ) → part.from ≤ from → end ≤ part.end → min part.most 2048 ≤ short → AreAtLeast from end (short + 1) entries → BeatsRange disk gap (wanted_of entries) best from end
+pub range_beaten : (disk : Disk) (gap : Gap) (entries : List Entry) → ArePending disk entries → (best : Option Valued)
+    → IsValuedIf disk gap (wanted_of entries) best → (part : Part) → IsMost disk gap (wanted_of entries) part
+    → (short from end : ℕ) → part.from ≤ from → end ≤ part.end → min part.most 2048 ≤ short → AreAtLeast from end (short + 1) entries
+    → BeatsRange disk gap (wanted_of entries) best from end
 range_beaten disk gap entries blocks best valued part most short from end after inside few long track low high leave is =
     short_beaten disk gap entries blocks best valued (record { track = track; leave = leave }) short from end part.most long low high
     (most track (omega (arith, low, after)) (omega (arith, high, inside)) leave is) few

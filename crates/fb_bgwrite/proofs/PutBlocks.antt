@@ -124,7 +124,8 @@ put_before : (disk : Disk) (number : ℕ) (put : Put) (puts : List Put) (block :
 put_before disk number put puts block is apart other its = record {
   order = inl (omega (arith, is.task, its.is.task));
   apart = not_share (block_range block.block) (block_range other.block) (λ shares.
-      let off : share (range_of put) (range_of its.own) ≡ false = all_get (λ r. share (range_of put) r ≡ false) (map range_of puts) its.i (range_of its.own) apart (slice_get-map range_of puts its.i ∙ ap (option_map range_of) its.stands) in
+      let off : share (range_of put) (range_of its.own) ≡ false = all_get (λ r. share (range_of put) r ≡ false) (map range_of puts) its.i
+      (range_of its.own) apart (slice_get-map range_of puts its.i ∙ ap (option_map range_of) its.stands) in
       let on = is_shares (range_of put) (range_of its.own) (omega (arith, shares.before, is.low, is.high, its.is.high, its.is.low)) (omega (arith, shares.behind, is.high, its.is.low))
       (omega (arith, is.low, is.high, is.fits.some)) (omega (arith, its.is.low, its.is.high, its.is.fits.some)) in
       absurd (grind arith));
@@ -169,7 +170,8 @@ unfolding blocks_from
 blocks_more disk number k [] put at = absurd (grind arith)
 blocks_more disk number zero (p ∷ puts) put at =
     let same : p ≡ put = some_one p put at in
-    ap (λ (q : Put). blocks_of disk number q ++ []) same ∙ append-nil (blocks_of disk number put) ∙ ap (λ n. blocks_of disk n put) (let e : number ≡ number + 0 = omega arith in e)
+    ap (λ (q : Put). blocks_of disk number q ++ []) same ∙ append-nil (blocks_of disk number put)
+    ∙ ap (λ n. blocks_of disk n put) (let e : number ≡ number + 0 = omega arith in e)
 blocks_more disk number (suc k) (p ∷ puts) put at =
     ap (λ bs. blocks_of disk number p ++ bs) (blocks_more disk (number + 1) k puts put at
     ∙ ap (λ n. blocks_from disk (number + 1) (take k puts) ++ blocks_of disk n put) (let same : number + 1 + k ≡ number + suc k = omega arith in same))

@@ -53,7 +53,8 @@ one_of_apart (r ∷ rs) (suc i) (suc j) a b apart at_i at_j shares = one_of_apar
 
 module _ (ends : BTreeMap ℕ ℕ) (ranges : List SectorRange) (range : SectorRange) (taken : AreTaken ends ranges) (some : 0 < range.count) where
   has_end : (k : ℕ) (other : SectorRange) → slice_get ranges k ≡ Some other → ContainsKey nat_cmp ends (other.first + other.count)
-  has_end k other at = some_there (get nat_cmp ends (other.first + other.count)) other.first (all_get (λ r. get nat_cmp ends (r.first + r.count) ≡ Some r.first) ranges k other taken.each at)
+  has_end k other at = some_there (get nat_cmp ends (other.first + other.count)) other.first
+      (all_get (λ r. get nat_cmp ends (r.first + r.count) ≡ Some r.first) ranges k other taken.each at)
 
   -- none of them ends behind the begin of the range
   pub none_taken : ((other : ℕ) → ContainsKey nat_cmp ends other → other ≤ range.first) → false ≡ list_any (share range) ranges

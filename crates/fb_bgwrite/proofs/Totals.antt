@@ -106,7 +106,13 @@ all_counted first n (range ∷ ranges) inside apart =
     )
 
 pub no_more : (first n : ℕ) (ranges : List SectorRange) → LieIn first (first + n) ranges → AreApart ranges → sum_by (λ (range : SectorRange). range.count) ranges ≤ n
-no_more first n ranges inside apart = omega (arith, all_counted first n ranges inside apart, count_by-le-length (covered ranges) (range_with_len first n), length-range_with_len first n)
+no_more first n ranges inside apart = omega (
+  arith,
+  all_counted first n ranges inside apart,
+  count_by-le-length (covered ranges)
+      (range_with_len first n),
+  length-range_with_len first n,
+)
 
 -- ---- puts
 

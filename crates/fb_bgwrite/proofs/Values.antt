@@ -92,7 +92,8 @@ pub less_before_last : (disk : Disk) (dwell : Dwell) (entries : List Entry) (las
     → sum_by (stay_gain disk (upto dwell leave)) entries < sum_by (stay_gain disk dwell) entries
 less_before_last disk dwell entries last leave on_disk light is in_time less =
     let fits = on_disk is.index is.entry is.stands in
-    let weighs = weighs_some disk dwell is.entry fits (all_get (λ (e : Entry). e.block.weight ≡ 1) entries is.index is.entry light is.stands) is.passing in
+    let weighs = weighs_some disk dwell is.entry fits (all_get (λ (e : Entry). e.block.weight ≡ 1) entries is.index is.entry light
+    is.stands) is.passing in
     let missed = missed_before disk dwell is.entry leave (omega (arith, is.ends, less)) in
     sum_less (stay_gain disk (upto dwell leave)) (stay_gain disk dwell) (no_less disk dwell leave dwell.end in_time) entries is.index is.entry is.stands (omega (arith, weighs, missed))
 

@@ -20,18 +20,29 @@ pub record IsOther (a b : Block) : Type 0 where
   pub by_lbn : (b.task == a.task) && (b.lbn == a.lbn) ≡ false
   pub turned : (a.task == b.task) && (a.lbn == b.lbn) ≡ false
 
+-- not the same task, or neither the same index nor the same sector
 different : (a b : Block) → (a.task ≢ b.task) ⊎ ((a.index ≢ b.index) × (a.lbn ≢ b.lbn)) → IsOther a b
-different a b (inl task) = record { by_index = grind (arith, nat_tests); by_lbn = grind (arith, nat_tests); turned = grind (arith, nat_tests) }
+different a b (inl task) = record {
+  by_index = grind (arith, nat_tests);
+  by_lbn = grind (arith, nat_tests);
+  turned = grind (arith, nat_tests);
+}
 different a b (inr both) =
     let index = both.0 in
     let lbn = both.1 in
     record { by_index = grind (arith, nat_tests); by_lbn = grind (arith, nat_tests); turned = grind (arith, nat_tests) }
 
 pub before_other : (a b : Block) → IsBefore a b → IsOther a b
-before_other a b is = different a b (elim is.order [ inl less ↦ inl (λ e. omega (arith, less, e)) | inr same ↦ inr ((λ e. omega (arith, same.1, e)), (λ e. omega (arith, same.2, e))) ])
+before_other a b is = different a b (elim is.order [
+  | inl less ↦ inl (λ e. omega (arith, less, e))
+  | inr same ↦ inr ((λ e. omega (arith, same.1, e)), (λ e. omega (arith, same.2, e)))
+])
 
 pub behind_other : (a b : Block) → IsBefore b a → IsOther a b
-behind_other a b is = different a b (elim is.order [ inl less ↦ inl (λ e. omega (arith, less, e)) | inr same ↦ inr ((λ e. omega (arith, same.1, e)), (λ e. omega (arith, same.2, e))) ])
+behind_other a b is = different a b (elim is.order [
+  | inl less ↦ inl (λ e. omega (arith, less, e))
+  | inr same ↦ inr ((λ e. omega (arith, same.1, e)), (λ e. omega (arith, same.2, e)))
+])
 
 module _ (items : List SpillItem) (row : WroteRow) (block : Block) (put_is : row.put ≡ block.task) (lbn_is : row.lbn ≡ block.lbn) where
   abbrev more : List SpillItem
@@ -152,12 +163,14 @@ module _ (items : List SpillItem) (row : WroteRow) (block : Block) (put_is : row
       | inl other_before ↦ once i j one other one_before other_before puts lbns
       | inr other_last ↦
           let same = sym (wrote_one row other other_last.1) in
-          absurd (clash one (all_get _ rows i (WroteLine one) off one_before) (puts ∙ ap (λ (r : WroteRow). r.put) same) (lbns ∙ ap (λ (r : WroteRow). r.lbn) same))
+          absurd (clash one (all_get _ rows i (WroteLine one) off one_before) (puts ∙ ap (λ (r : WroteRow). r.put) same)
+          (lbns ∙ ap (λ (r : WroteRow). r.lbn) same))
     ]
     | inr one_last ↦ elim (before_or_last rows (WroteLine row) (WroteLine other) j at_j) [
       | inl other_before ↦
           let same = sym (wrote_one row one one_last.1) in
-          absurd (clash other (all_get _ rows j (WroteLine other) off other_before) (sym puts ∙ ap (λ (r : WroteRow). r.put) same) (sym lbns ∙ ap (λ (r : WroteRow). r.lbn) same))
+          absurd (clash other (all_get _ rows j (WroteLine other) off other_before) (sym puts ∙ ap (λ (r : WroteRow). r.put) same)
+          (sym lbns ∙ ap (λ (r : WroteRow). r.lbn) same))
       | inr other_last ↦ one_last.0 ∙ sym other_last.0
     ]
   ]
@@ -213,11 +226,14 @@ module _ (items : List SpillItem) (now : ℕ) where
       ]
 
   none_pending : (puts : List PutBlock) → AllByRecursion (λ (put : PutBlock). now < put.instant) puts → filter (is_pending items now) puts ≡ []
-  none_pending puts later = none_kept (is_pending items now) puts (all_weaker (λ (put : PutBlock). now < put.instant) (λ put. is_pending items now put ≡ false) (λ put less. grind (arith, nat_tests)) puts later)
+  none_pending puts later = none_kept (is_pending items now) puts (all_weaker (λ (put : PutBlock). now < put.instant)
+      (λ put. is_pending items now put ≡ false) (λ put less. grind (arith, nat_tests)) puts later)
 
   pub pending_is : (all first rest : List PutBlock) → all ≡ first ++ rest → AllByRecursion (λ (put : PutBlock). put.instant ≤ now) first → AllByRecursion (λ (put : PutBlock). now < put.instant) rest
       → wanted_of (map (entry_of items) first) ≡ pending all items now
   unfolding pending
   pending_is all first rest split come later =
       come_pending first come
-      ∙ ap its_blocks (sym (append-nil (filter (is_pending items now) first)) ∙ ap (λ xs. filter (is_pending items now) first ++ xs) (sym (none_pending rest later)) ∙ sym (filter-append (is_pending items now) first rest) ∙ ap (filter (is_pending items now)) (sym split))
+      ∙ ap its_blocks (sym (append-nil (filter (is_pending items now) first)) ∙ ap (λ xs. filter (is_pending items now) first ++ xs)
+      (sym (none_pending rest later)) ∙ sym (filter-append (is_pending items now) first rest)
+      ∙ ap (filter (is_pending items now)) (sym split))

@@ -20,7 +20,8 @@ module _ (disk : Disk) (head : Track) (now : ℕ) (map : BTreeMap (ℕ × ℕ) R
         let is = found some in
         let rank = sptf disk head now in
         all_weaker (λ w. IsNoLater (rank is.request) limit.key.1 (rank w.1) (number_of w)) (λ w. Beats disk head now best w.0 w.1)
-        (λ w own. no_later_trans best.wait best.key.1 limit.wait limit.key.1 (rank w.1) w.0.1 before (subst (λ n. IsNoLater n limit.key.1 (rank w.1) w.0.1) (sym is.wait) own)) map.entries
+        (λ w own. no_later_trans best.wait best.key.1 limit.wait limit.key.1 (rank w.1) w.0.1 before
+        (subst (λ n. IsNoLater n limit.key.1 (rank w.1) w.0.1) (sym is.wait) own)) map.entries
         (first_listed rank limit.key is.request map apart is.waits (first some))
     | inr none ↦ subst (AllByRecursion (λ w. Beats disk head now best w.0 w.1)) (sym (nil_from_length map.entries (omega (arith, none)))) tt
   ]
@@ -31,7 +32,8 @@ module _ (disk : Disk) (head : Track) (now : ℕ) (map : BTreeMap (ℕ × ℕ) R
   first_of_both best w key wait over settles =
       let rank = sptf disk head now in
       all_weaker (λ x. Beats disk head now best x.0 x.1) (λ x. IsNoLater (rank w.1) (number_of w) (rank x.1) (number_of x))
-      (λ x own. subst (λ n. IsNoLater n w.0.1 (rank x.1) x.0.1) wait (subst (λ (q : ℕ × ℕ). IsNoLater best.wait q.1 (rank x.1) x.0.1) key own)) (map.entries ++ all_of_rows rows)
+      (λ x own. subst (λ n. IsNoLater n w.0.1 (rank x.1) x.0.1) wait (subst (λ (q : ℕ × ℕ). IsNoLater best.wait q.1 (rank x.1) x.0.1) key
+      own)) (map.entries ++ all_of_rows rows)
       (all_append (λ x. Beats disk head now best x.0 x.1) map.entries (all_of_rows rows) over
       (all_weaker (Settles disk head now best) (λ x. Beats disk head now best x.0 x.1) (λ x own. own.0) (all_of_rows rows) settles))
 

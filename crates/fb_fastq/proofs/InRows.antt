@@ -14,7 +14,8 @@ all_at P (w ∷ ws) h = (h 0 w refl, all_at P ws (λ k x e. h (suc k) x e))
 -- what is so of all rows is so of each
 pub row_of_all : (P : Waiting → Type 0) (rows : List Row) (i : ℕ) (row : Row) → AllByRecursion P (all_of_rows rows) → slice_get rows i ≡ Some row → AllByRecursion P row.items
 row_of_all P [] i row h e = absurd (none-some row e)
-row_of_all P (x ∷ rows) zero row h e = subst (λ (r : Row). AllByRecursion P r.items) (some_injective x row e) (all_left P x.items (all_of_rows rows) h)
+row_of_all P (x ∷ rows) zero row h e = subst (λ (r : Row). AllByRecursion P r.items) (some_injective x row e)
+    (all_left P x.items (all_of_rows rows) h)
 row_of_all P (x ∷ rows) (suc i) row h e = row_of_all P rows i row (all_right P x.items (all_of_rows rows) h) e
 
 -- and the other way round
@@ -27,7 +28,8 @@ pub row_on : (cylinder : ℕ) (rows : List Row) (i : ℕ) (row : Row) → AreRow
 row_on cylinder [] i row h e = absurd (none-some row e)
 row_on cylinder (x ∷ rows) zero row h e =
     let own : cylinder ≡ cylinder + 0 = omega arith in
-    subst (λ (r : Row). AllByRecursion (λ w. IsOnCylinder (cylinder + 0) w.0.0) r.items) (some_injective x row e) (subst (λ c. AllByRecursion (λ (w : Waiting). IsOnCylinder c w.0.0) x.items) own h.0)
+    subst (λ (r : Row). AllByRecursion (λ w. IsOnCylinder (cylinder + 0) w.0.0) r.items) (some_injective x row e)
+    (subst (λ c. AllByRecursion (λ (w : Waiting). IsOnCylinder c w.0.0) x.items) own h.0)
 row_on cylinder (x ∷ rows) (suc i) row h e =
     let next : cylinder + 1 + i ≡ cylinder + suc i = omega arith in
     subst (λ c. AllByRecursion (λ (w : Waiting). IsOnCylinder c w.0.0) row.items) next (row_on (cylinder + 1) rows i row h.1 e)
@@ -79,7 +81,8 @@ pub held_on : (rows : List Row) (i : ℕ) (row : Row) (ws : List Waiting) (k : �
 held_on rows i row ws k w h there is at =
     let own : 0 + i ≡ i = omega arith in
     subst (λ n. IsOnCylinder n w.0.0) own
-    (all_get (λ x. IsOnCylinder (0 + i) x.0.0) ws k w (subst (AllByRecursion (λ (x : Waiting). IsOnCylinder (0 + i) x.0.0)) (sym is) (row_on 0 rows i row h there)) at)
+    (all_get (λ x. IsOnCylinder (0 + i) x.0.0) ws k w (subst (AllByRecursion (λ (x : Waiting). IsOnCylinder (0 + i) x.0.0)) (sym is)
+    (row_on 0 rows i row h there)) at)
 
 pub same_row_of : (rows : List Row) (i : ℕ) (a b : Row) → slice_get rows i ≡ Some a → slice_get rows i ≡ Some b → a ≡ b
 same_row_of rows i a b e f = some_injective a b (sym e ∙ f)

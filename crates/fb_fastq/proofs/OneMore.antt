@@ -29,7 +29,11 @@ in_order_drawn w (x ∷ before) behind h =
     ap (join_in x) (in_order_drawn w before behind h.1) ∙ sym (without_other (number_of w) x (in_order (before ++ w ∷ behind)) (λ s. other (sym s)) (in_order_rising (before ++ w ∷ behind) h.1))
 
 numbered_put : (w : Waiting) (before behind : List Waiting) → AllByRecursion (λ x. number_of x < number_of w) (before ++ behind) → AreNumbered (before ++ behind) → AreNumbered (before ++ w ∷ behind)
-numbered_put w [] behind h apart = (all_weaker (λ x. number_of x < number_of w) (λ x. number_of x ≢ number_of w) (λ x under e. omega (arith, under, e)) behind h, apart)
+numbered_put w [] behind h apart = (
+  all_weaker (λ x. number_of x < number_of w) (λ x. number_of x ≢ number_of w)
+      (λ x under e. omega (arith, under, e)) behind h,
+  apart,
+)
 numbered_put w (x ∷ before) behind h apart =
     (all_put (λ y. number_of y ≢ number_of x) w before behind (λ e. let under : number_of x < number_of w = h.0 in omega (arith, under, e)) apart.0, numbered_put w before behind h.1 apart.1)
 
@@ -57,7 +61,8 @@ module _ (w : Waiting) (less more : List Waiting) (is : IsMore w less more) wher
 
   pub index_more : IsIndex less (number_of w) → IsIndex more (number_of w + 1)
   index_more h = record {
-    given = all_more (λ x. number_of x < number_of w + 1) (omega arith) (all_weaker (λ x. number_of x < number_of w) (λ x. number_of x < number_of w + 1) (λ x under. omega (arith, under)) less h.given);
+    given = all_more (λ x. number_of x < number_of w + 1) (omega arith)
+        (all_weaker (λ x. number_of x < number_of w) (λ x. number_of x < number_of w + 1) (λ x under. omega (arith, under)) less h.given);
     numbered = subst AreNumbered (sym is.more_is)
         (numbered_put w is.before is.behind (subst (AllByRecursion (λ x. number_of x < number_of w)) is.less_is h.given) (subst AreNumbered is.less_is h.numbered));
   }
@@ -117,7 +122,8 @@ remove_more w (x ∷ ws) h (inr e) =
     let rest = remove_more w ws h.1 e in
     rw t (record { before = x ∷ rest.before; behind = rest.behind; less_is = ap (λ xs. x ∷ xs) rest.less_is; more_is = ap (λ xs. x ∷ xs) rest.more_is })
 
-pub taken_more : (ws : List Waiting) (key : ℕ × ℕ) → AreNumbered ws → IsSome (lookup (is_at (order key)) ws) → (r : Request) × IsMore (key, r) (remove_entry (is_at (order key)) ws) ws
+pub taken_more : (ws : List Waiting) (key : ℕ × ℕ) → AreNumbered ws → IsSome (lookup (is_at (order key)) ws)
+    → (r : Request) × IsMore (key, r) (remove_entry (is_at (order key)) ws) ws
 taken_more ws key apart has = let there = at_key ws key has in (there.0, remove_more (key, there.0) ws apart there.1)
 
 -- a request joins a row at its end
@@ -140,17 +146,22 @@ row_there rows i row within is = slice_get_read rows (length rows) i row refl wi
 -- one row in the place of another
 pub set_same : (rows : List Row) (i : ℕ) (row new : Row) → slice_get rows i ≡ Some row → new.items ≡ row.items → all_of_rows (set rows i new) ≡ all_of_rows rows
 set_same [] i row new there is = refl
-set_same (x ∷ rows) zero row new there is = ap (λ ws. ws ++ all_of_rows rows) (is ∙ ap (λ (r : Row). r.items) (sym (some_injective x row there)))
+set_same (x ∷ rows) zero row new there is = ap (λ ws. ws ++ all_of_rows rows)
+    (is ∙ ap (λ (r : Row). r.items) (sym (some_injective x row there)))
 set_same (x ∷ rows) (suc i) row new there is = ap (λ ws. x.items ++ ws) (set_same rows i row new there is)
 
 pub set_more : (w : Waiting) (rows : List Row) (i : ℕ) (row new : Row) → slice_get rows i ≡ Some row → IsMore w row.items new.items → IsMore w (all_of_rows rows) (all_of_rows (set rows i new))
 set_more w [] i row new there is = absurd (none-some row there)
-set_more w (x ∷ rows) zero row new there is = more_right w x.items new.items (subst (λ (r : Row). IsMore w r.items new.items) (sym (some_injective x row there)) is) (all_of_rows rows)
+set_more w (x ∷ rows) zero row new there is =
+    let same = some_injective x row there in
+    more_right w x.items new.items (subst (λ (r : Row). IsMore w r.items new.items) (sym same) is) (all_of_rows rows)
 set_more w (x ∷ rows) (suc i) row new there is = more_left w (all_of_rows rows) (all_of_rows (set rows i new)) (set_more w rows i row new there is) x.items
 
 pub set_less : (w : Waiting) (rows : List Row) (i : ℕ) (row new : Row) → slice_get rows i ≡ Some row → IsMore w new.items row.items → IsMore w (all_of_rows (set rows i new)) (all_of_rows rows)
 set_less w [] i row new there is = absurd (none-some row there)
-set_less w (x ∷ rows) zero row new there is = more_right w new.items x.items (subst (λ (r : Row). IsMore w new.items r.items) (sym (some_injective x row there)) is) (all_of_rows rows)
+set_less w (x ∷ rows) zero row new there is =
+    let same = some_injective x row there in
+    more_right w new.items x.items (subst (λ (r : Row). IsMore w new.items r.items) (sym same) is) (all_of_rows rows)
 set_less w (x ∷ rows) (suc i) row new there is = more_left w (all_of_rows (set rows i new)) (all_of_rows rows) (set_less w rows i row new there is) x.items
 
 pub set_rows : (cylinder : ℕ) (rows : List Row) (i : ℕ) (new : Row) → AreRows cylinder rows → AllByRecursion (λ w. IsOnCylinder (cylinder + i) w.0.0) new.items → AreRows cylinder (set rows i new)
@@ -182,7 +193,8 @@ pub record IsTakenFrom (rows : List Row) (place : Place) (row new : Row) : Type 
   pub at : at_place rows place ≡ Some w
   pub less : IsMore w new.items row.items
 
-pub taken_from : (rows : List Row) (place : Place) (row new : Row) → IsSome (at_place rows place) → row ≡ get_or rows place.row row → new.items ≡ remove row.items place.index → IsTakenFrom rows place row new
+pub taken_from : (rows : List Row) (place : Place) (row new : Row) → IsSome (at_place rows place) → row ≡ get_or rows place.row row
+    → new.items ≡ remove row.items place.index → IsTakenFrom rows place row new
 taken_from rows place row new has is items = go (at_place rows place) refl has
   where
     there : slice_get rows place.row ≡ Some row
@@ -194,12 +206,15 @@ taken_from rows place row new has is items = go (at_place rows place) refl has
       w = w;
       there = there;
       at = e;
-      less = removed_more w row.items new.items place.index items (sym (ap (option_and_then (λ (r : Row). slice_get r.items place.index)) there) ∙ e);
+      less = removed_more w row.items new.items place.index items
+          (sym (ap (option_and_then (λ (r : Row). slice_get r.items place.index)) there) ∙ e);
     }
 
 -- a row that has one request less, or one more of its cylinder
-pub less_rows : (rows : List Row) (i : ℕ) (row new : Row) → slice_get rows i ≡ Some row → (w : Waiting) → IsMore w new.items row.items → AreRows 0 rows → AreRows 0 (set rows i new)
-less_rows rows i row new there w less h = set_rows 0 rows i new h (all_less w new.items row.items less (λ x. IsOnCylinder (0 + i) x.0.0) (row_on 0 rows i row h there))
+pub less_rows : (rows : List Row) (i : ℕ) (row new : Row) → slice_get rows i ≡ Some row → (w : Waiting) → IsMore w new.items row.items
+    → AreRows 0 rows → AreRows 0 (set rows i new)
+less_rows rows i row new there w less h = set_rows 0 rows i new h (all_less w new.items row.items less (λ x. IsOnCylinder (0 + i) x.0.0)
+    (row_on 0 rows i row h there))
 
 pub more_rows : (w : Waiting) (rows : List Row) (i : ℕ) (row new : Row) → slice_get rows i ≡ Some row → IsMore w row.items new.items → IsOnCylinder i w.0.0 → AreRows 0 rows → AreRows 0 (set rows i new)
 more_rows w rows i row new there is on h =
@@ -225,12 +240,16 @@ no_more_rows cylinder [] new none h = (subst (AllByRecursion (λ (w : Waiting). 
 no_more_rows cylinder (x ∷ rows) new none h = (h.0, no_more_rows (cylinder + 1) rows new none h.1)
 
 -- a row of rows of which one is new
-set_get : (rows : List Row) (i k : ℕ) (new row : Row) → slice_get (set rows i new) k ≡ Some row → ((k ≡ i) × (row ≡ new)) ⊎ ((k ≢ i) × (slice_get rows k ≡ Some row))
+set_get : (rows : List Row) (i k : ℕ) (new row : Row) → slice_get (set rows i new) k ≡ Some row
+    → ((k ≡ i) × (row ≡ new)) ⊎ ((k ≢ i) × (slice_get rows k ≡ Some row))
 set_get [] i k new row e = absurd (none-some row e)
 set_get (x ∷ rows) zero zero new row e = inl (refl, sym (some_injective new row e))
 set_get (x ∷ rows) zero (suc k) new row e = inr ((λ s. omega (arith, s)), e)
 set_get (x ∷ rows) (suc i) zero new row e = inr ((λ s. omega (arith, s)), e)
-set_get (x ∷ rows) (suc i) (suc k) new row e = elim (set_get rows i k new row e) [ inl one ↦ inl (ap suc one.0, one.1) | inr other ↦ inr ((λ s. other.0 (omega (arith, s))), other.1) ]
+set_get (x ∷ rows) (suc i) (suc k) new row e = elim (set_get rows i k new row e) [
+  | inl one ↦ inl (ap suc one.0, one.1)
+  | inr other ↦ inr ((λ s. other.0 (omega (arith, s))), other.1)
+]
 
 -- a row without requests has none
 none_there : (row new : Row) → row ≡ new → new.items ≡ [] → 0 < length row.items → ⊥

@@ -20,7 +20,8 @@ pub all_from : {A : Type 0} (P : A → Type 0) (xs : List A) → ((x : A) → Is
 all_from P [] h = tt
 all_from P (x ∷ xs) h = (h x (inl refl), all_from P xs (λ y e. h y (inr e)))
 
-pub all_unmapped : {A K : Type 0} (P : K → Type 0) (f : A → K) (xs : List A) → AllByRecursion P (map f xs) → AllByRecursion (λ x. P (f x)) xs
+pub all_unmapped : {A K : Type 0} (P : K → Type 0) (f : A → K) (xs : List A) → AllByRecursion P (map f xs)
+    → AllByRecursion (λ x. P (f x)) xs
 all_unmapped P f [] h = tt
 all_unmapped P f (x ∷ xs) h = (h.0, all_unmapped P f xs h.1)
 
@@ -36,7 +37,8 @@ from_filter : {A : Type 0} (test : A → Bool) (x : A) (xs : List A) → IsIn x 
 from_filter test x [] e = elim e [ ]
 from_filter test x (y ∷ ys) e = go (from_filter test x ys) (test y) refl e
   where
-    go : (IsIn x (filter test ys) → IsIn x ys × (test x ≡ true)) → (b : Bool) → test y ≡ b → IsIn x (cond b (y ∷ filter test ys) (filter test ys)) → IsIn x (y ∷ ys) × (test x ≡ true)
+    go : (IsIn x (filter test ys) → IsIn x ys × (test x ≡ true)) → (b : Bool) → test y ≡ b
+        → IsIn x (cond b (y ∷ filter test ys) (filter test ys)) → IsIn x (y ∷ ys) × (test x ≡ true)
     go rest true t (inl here) = (inl here, ap test here ∙ t)
     go rest true t (inr there) = (inr (rest there).0, (rest there).1)
     go rest false t there = (inr (rest there).0, (rest there).1)
@@ -68,7 +70,8 @@ module _ {A : Type 0} (at : A → ℕ) where
   rises_sorted order key follows [] h = tt
   rises_sorted order key follows (x ∷ xs) h =
       let above = all_unmapped (λ k. order (key x) k ≡ Less) key xs h.0 in
-      (all_from (λ y. at x ≤ at y) xs (λ y e. follows x y (all_of (λ z. order (key x) (key z) ≡ Less) y xs above e)), rises_sorted order key follows xs h.1)
+      let least = all_from (λ y. at x ≤ at y) xs (λ y e. follows x y (all_of (λ z. order (key x) (key z) ≡ Less) y xs above e)) in
+      (least, rises_sorted order key follows xs h.1)
 
   rises_filter : (test : A → Bool) (xs : List A) → Rises xs → Rises (filter test xs)
   rises_filter test [] h = tt
@@ -92,7 +95,8 @@ module _ {A : Type 0} (at : A → ℕ) where
     pub rises : Rises left → Rises rest
 
   pub next_first : (x : A) (left rest : List A) → left ≡ x ∷ rest → IsNext x left rest
-  next_first x left rest is = subst (λ (l : List A). IsNext x l rest) (sym is) (record { there = inl refl; within = λ y e. inr e; one = λ y e. e; rises = λ h. h.1 })
+  next_first x left rest is = subst (λ (l : List A). IsNext x l rest) (sym is)
+      (record { there = inl refl; within = λ y e. inr e; one = λ y e. e; rises = λ h. h.1 })
 
   pub next_last : (x : A) (left rest : List A) → left ≡ rest ++ x ∷ [] → IsNext x left rest
   next_last x left rest is = subst (λ (l : List A). IsNext x l rest) (sym is) (record {
@@ -122,7 +126,8 @@ module _ {A : Type 0} (at : A → ℕ) where
 
   -- at first those are left that pass a test; the others need nothing
   pub swept_begins : {Inside Done : A → Type 0} (test : A → Bool) (all left : List A) → Rises all → left ≡ filter test all
-      → ((y : A) → IsIn y all → test y ≡ true → Inside y) → ((y : A) → Inside y → Done y ⊎ (IsIn y all × (test y ≡ true))) → IsSwept Inside Done left
+      → ((y : A) → IsIn y all → test y ≡ true → Inside y) → ((y : A) → Inside y → Done y ⊎ (IsIn y all × (test y ≡ true)))
+      → IsSwept Inside Done left
   swept_begins {Inside} {Done} test all left rises is sound whole = subst (IsSwept Inside Done) (sym is) (record {
     rise = rises_filter test all rises;
     inside = λ y e. let from = from_filter test y all e in sound y from.0 from.1;
@@ -131,7 +136,8 @@ module _ {A : Type 0} (at : A → ℕ) where
 
   module _ {Inside Old : A → Type 0} {left : List A} (swept : IsSwept Inside Old left) where
     -- the next one is done with
-    pub swept_on : {New : A → Type 0} (x : A) (rest : List A) → IsNext x left rest → ((y : A) → Old y → New y) → New x → IsSwept Inside New rest
+    pub swept_on : {New : A → Type 0} (x : A) (rest : List A) → IsNext x left rest → ((y : A) → Old y → New y) → New x
+        → IsSwept Inside New rest
     swept_on {New} x rest next kept new = record {
       rise = next.rises swept.rise;
       inside = λ y e. swept.inside y (next.within y e);

@@ -11,6 +11,10 @@ use Rattle.fb_fastq.proofs.{Swept.swept_on, Swept.swept_stops, Visiting.is_there
 abbrev pub spot : Waiting → ℕ
 spot w = w.0.0
 
+-- how far a request's cylinder is from the head's
+abbrev pub away : Disk → Departure → Request → ℕ
+away disk from r = distance_of from.track.cylinder (track_at disk.map r.lbn).cylinder
+
 -- the map holds what its entries say
 pub held_value : (x : Waiting) (ws : List Waiting) → IsStrictlySortedBy order (map (λ w. w.0) ws) → IsIn x ws → lookup (is_at (order x.0)) ws ≡ Some x.1
 unfolding IsStrictlySortedBy
@@ -28,8 +32,9 @@ module _ (disk : Disk) (from : Departure) (waiting : BTreeMap (ℕ × ℕ) Reque
     pub before : IsBefore best first
     pub swept : IsSwept spot (λ w. Holds waiting w.0 w.1 × side w.0.0) (λ w. Beats disk from.track from.instant best w.0 w.1) left
 
-  pub walk_begins : (test : Waiting → Bool) (left : List Waiting) → IsCandidate disk from.track from.instant waiting first → IsStrictlySortedBy order (keys waiting)
-      → left ≡ filter test waiting.entries → ((w : Waiting) → test w ≡ true → side w.0.0) → ((w : Waiting) → side w.0.0 → test w ≡ true) → IsWalk first left
+  pub walk_begins : (test : Waiting → Bool) (left : List Waiting) → IsCandidate disk from.track from.instant waiting first
+      → IsStrictlySortedBy order (keys waiting) → left ≡ filter test waiting.entries → ((w : Waiting) → test w ≡ true → side w.0.0)
+      → ((w : Waiting) → side w.0.0 → test w ≡ true) → IsWalk first left
   walk_begins test left found sorted is sound whole = record {
     found = found;
     before = inr (refl, omega arith);
@@ -39,13 +44,15 @@ module _ (disk : Disk) (from : Departure) (waiting : BTreeMap (ℕ × ℕ) Reque
         (λ w inside. inr (held_is_in w.0.0 w.0.1 w.1 waiting.entries inside.0, whole w inside.1));
   }
 
-module _ {disk : Disk} {from : Departure} {waiting : BTreeMap (ℕ × ℕ) Request} {first : Candidate} {side : ℕ → Type 0} {best : Candidate} {left : List Waiting}
-    (walk : IsWalk disk from waiting first side best left) where
+module _ {disk : Disk} {from : Departure} {waiting : BTreeMap (ℕ × ℕ) Request} {first : Candidate} {side : ℕ → Type 0}
+    {best : Candidate} {left : List Waiting} (walk : IsWalk disk from waiting first side best left) where
   -- what is not among those that are left is seen
-  pub walk_pauses : (k : ℕ × ℕ) (r : Request) → Holds waiting k r → side k.0 → (IsIn (k, r) left → ⊥) → Beats disk from.track from.instant best k r
+  pub walk_pauses : (k : ℕ × ℕ) (r : Request) → Holds waiting k r → side k.0 → (IsIn (k, r) left → ⊥)
+      → Beats disk from.track from.instant best k r
   walk_pauses k r e of_side seen = elim (walk.swept.seen (k, r) (e, of_side)) [ inl beaten ↦ beaten | inr waits ↦ absurd (seen waits) ]
 
-  module _ (spots : AllHeld (λ key request. IsAlong disk request key.0) waiting) {x : Waiting} {rest : List Waiting} (next : IsNext spot x left rest) where
+  module _ (spots : AllHeld (λ key request. IsAlong disk request key.0) waiting) {x : Waiting} {rest : List Waiting}
+      (next : IsNext spot x left rest) where
     -- the next one waits at its spot, and on this side
     pub next_along : IsAlong disk x.1 x.0.0
     next_along = spots x.0 x.1 (walk.swept.inside x next.there).0
@@ -55,9 +62,11 @@ module _ {disk : Disk} {from : Departure} {waiting : BTreeMap (ℕ × ℕ) Reque
 
     -- the next one is seen
     pub walk_goes_on : (wait : ℕ) (new : Candidate) → wait ≡ sptf disk from.track from.instant x.1
-        → (new ≡ best) ⊎ (new ≡ record { key = x.0; wait = wait }) → IsBefore new best → IsBefore new (record { key = x.0; wait = wait }) → IsWalk disk from waiting first side new rest
+        → (new ≡ best) ⊎ (new ≡ record { key = x.0; wait = wait }) → IsBefore new best
+        → IsBefore new (record { key = x.0; wait = wait }) → IsWalk disk from waiting first side new rest
     walk_goes_on wait new value is to_best to_next = record {
-      found = is_one disk from.track from.instant waiting best (record { key = x.0; wait = wait }) new x.0 x.1 walk.found (walk.swept.inside x next.there).0 refl value is;
+      found = is_one disk from.track from.instant waiting best (record { key = x.0; wait = wait }) new x.0 x.1 walk.found
+          (walk.swept.inside x next.there).0 refl value is;
       before = no_later_trans new.wait new.key.1 best.wait best.key.1 first.wait first.key.1 to_best walk.before;
       swept = swept_on spot walk.swept x rest next
           (λ w. no_later_trans new.wait new.key.1 best.wait best.key.1 (sptf disk from.track from.instant w.1) w.0.1 to_best)
@@ -66,9 +75,12 @@ module _ {disk : Disk} {from : Departure} {waiting : BTreeMap (ℕ × ℕ) Reque
 
     -- where the arm alone takes longer to its lane, and no others are nearer
     pub walk_stops : (visit : Visit) → IsVisit disk from visit → visit.lane.start ≤ x.0.0 → x.0.0 < visit.lane.start + 2 ^ 30
-        → ((now : ℕ) (r : Request) → distance_of from.track.cylinder visit.lane.track.cylinder ≤ distance_of from.track.cylinder (track_at disk.map r.lbn).cylinder → best.wait < sptf disk from.track now r)
-        → ((w : Waiting) → IsIn w left → distance_of from.track.cylinder (track_at disk.map x.1.lbn).cylinder ≤ distance_of from.track.cylinder (track_at disk.map w.1.lbn).cylinder)
+        → ((now : ℕ) (r : Request) → distance_of from.track.cylinder visit.lane.track.cylinder ≤ away disk from r
+        → best.wait < sptf disk from.track now r)
+        → ((w : Waiting) → IsIn w left → away disk from x.1 ≤ away disk from w.1)
         → (k : ℕ × ℕ) (r : Request) → Holds waiting k r → side k.0 → Beats disk from.track from.instant best k r
-    walk_stops visit is start end far farther k r e of_side = swept_stops spot walk.swept (λ w e. inl (far from.instant w.1
-        (subst (λ (t : Track). distance_of from.track.cylinder t.cylinder ≤ distance_of from.track.cylinder (track_at disk.map w.1.lbn).cylinder)
-        (sym (is_there disk from visit is x.1 x.0.0 next_along start end)) (farther w e)))) (k, r) (e, of_side)
+    walk_stops visit is start end far farther k r e of_side =
+        let same = is_there disk from visit is x.1 x.0.0 next_along start end in
+        swept_stops spot walk.swept (λ w waits. inl (far from.instant w.1
+        (subst (λ (t : Track). distance_of from.track.cylinder t.cylinder ≤ away disk from w.1) (sym same) (farther w waits))))
+        (k, r) (e, of_side)

@@ -62,7 +62,6 @@ module _ (disk : Shape) (track : Track) where
 
 -- if lists are together as long as they can be, each of them is
 module _ {A : Type 0} (f : ℕ → List A) (m : ℕ) (bound : (k : ℕ) → length (f k) ≤ m) where
-
   each_full : (a h : ℕ) → length (flat_map f (range_with_len a h)) ≡ h * m → AllByRecursion (λ k. length (f k) ≡ m) (range_with_len a h)
   each_full a zero whole = tt
   each_full a (suc h) whole =

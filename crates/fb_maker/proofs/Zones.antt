@@ -29,7 +29,8 @@ first_zone_is disk (first ∷ zones) zone n is some count same =
     let chosen : nat_le zone.first first.last ≡ true = grind (arith, nat_tests, ap (λ (z : Zone). z.last) here) in
     let held : n ≡ length (data_list disk zone zone.first) = count ∙ rw chosen (ap (λ z. length (data_list disk z zone.first)) here) in
     ap (λ m. (zone.last + 1 - zone.first) * m) held
-    ∙ sym (length-same (data_list disk zone) zone.first (zone.last + 1 - zone.first) (length (data_list disk zone zone.first)) (λ k low high. same k low (omega arith)))
+    ∙ sym (length-same (data_list disk zone) zone.first (zone.last + 1 - zone.first) (length (data_list disk zone zone.first))
+    (λ k low high. same k low (omega arith)))
     ∙ ap (λ z. first_zone disk (z ∷ zones)) (sym here)
 
 four_lines : (a b c d : List ℕ) → ((a ++ b) ++ c) ++ d ≡ flat_map (λ line. line) (a ∷ b ∷ c ∷ d ∷ [])
@@ -44,4 +45,5 @@ unfolding script_lines
 is_script disk none one two three four scrubbed saved e0 e1 e2 e3 e4 es ez =
     let scrub = codes "0.000000 want scrub 0 " ++ decimal (min (length (places disk)) (most disk)) ++ 10 ∷ [] in
     let backup = codes "0.000000 want backup 0 " ++ decimal (min (first_zone disk disk.zones) (most disk)) ++ 10 ∷ [] in
-    rw (e4, e3, e2, e1, e0, es, ez) (four_lines (codes "0.000000 open scrub scrub 1 16\n") scrub (codes "0.000000 open backup backup 2 16\n") backup)
+    rw (e4, e3, e2, e1, e0, es, ez)
+    (four_lines (codes "0.000000 open scrub scrub 1 16\n") scrub (codes "0.000000 open backup backup 2 16\n") backup)

@@ -70,7 +70,8 @@ pub record IsEndLine (line : List ℕ) : Type 0 where
 
 word_begins : (field : List ℕ) → is_word (codes "end") field ≡ true → (bytes : List ℕ) × (field ≡ 101 ∷ bytes)
 word_begins [] h = absurd (cc)
-word_begins (byte ∷ bytes) h = (bytes, ap (λ first. first ∷ bytes) ((Decides-eqb byte 101).0 (and_parts (byte == 101) (bytes_eq bytes (codes "nd")) h).0))
+word_begins (byte ∷ bytes) h =
+    (bytes, ap (λ first. first ∷ bytes) ((Decides-eqb byte 101).0 (and_parts (byte == 101) (bytes_eq bytes (codes "nd")) h).0))
 
 -- a line begins as its first field does
 onto_same : (first byte : ℕ) (bytes : List ℕ) (parts others : List (List ℕ)) → onto_first first parts ≡ (byte ∷ bytes) ∷ others → first ≡ byte

@@ -27,7 +27,6 @@ feed_at : (part rest : List ℕ) → list_any feed part ≡ false → slice_spli
 feed_at part rest whole = ap (slice_split feed) (append_assoc part (10 ∷ []) rest) ∙ split_at feed part 10 rest whole refl
 
 module _ (grammar : Grammar) where
-
   -- a line that ends the report
   stops : (before : List (List ℕ)) (line : List ℕ) → may_follow grammar before line ≡ false → may_end grammar before line ≡ true
       → lines_behind grammar before (line ∷ [] ∷ []) ≡ Ok (before ++ line ∷ [])

@@ -5,19 +5,19 @@ use Rattle.fb_bgwrite.proofs.search.spill_on.Goals as goal
 pub returns-then-written-eq0-clause-tried : goal.returns-then-written-eq0-clause-tried
 returns-then-written-eq0-clause-tried c = λ leave is.
     let written = c.written_in-written in
-    nothing_there c.args.disk.now c.args.gap.now c.args.pending.now c.requires.blocks c.args.track c.args.blocks.now c.requires.its c.requires.on_disk
-    _ _ written.result.sectors written.result.last (ap (λ x. c.args.gap.now.now + x) c.pos.ensures.value) written.ensures.sectors written.ensures.last
-    c.if-written-eq0.true leave (omega (arith, is.in_time, c.pos-on.ensures.value))
+    nothing_there _ c.args.gap.now _ c.requires.blocks c.args.track _ c.requires.its c.requires.on_disk
+    _ _ written.result.sectors written.result.last (ap (λ x. c.args.gap.now.now + x) c.pos.ensures.value)
+    written.ensures.sectors written.ensures.last c.if-written-eq0.true leave (omega (arith, is.in_time, c.pos-on.ensures.value))
 
 pub returns-clause-valued : goal.returns-clause-valued
 returns-clause-valued c =
     let written = c.written_in-written in
     let begin = ap (λ x. c.args.gap.now.now + x) c.pos.ensures.value in
-    let last = is_last c.args.disk.now c.args.gap.now c.args.pending.now c.requires.blocks c.args.track c.args.blocks.now c.requires.its c.requires.on_disk
+    let last = is_last _ c.args.gap.now _ c.requires.blocks c.args.track _ c.requires.its c.requires.on_disk
     _ _ written.result.sectors written.result.last begin written.ensures.sectors written.ensures.last in
     record {
       is_spill = record { on_disk = c.requires.track; after_ready = last.from; in_time = omega (arith, last.upto, c.if-gap-begin.false, c.pos-on.ensures.value) };
-      value_is = last_value c.args.disk.now c.args.gap.now c.args.pending.now c.requires.blocks c.args.track c.args.blocks.now c.requires.its c.requires.on_disk
+      value_is = last_value _ c.args.gap.now _ c.requires.blocks c.args.track _ c.requires.its c.requires.on_disk
           _ _ written.result.sectors written.result.last begin written.ensures.sectors written.ensures.last;
       some = omega (arith, c.if-written-eq0.false);
     }
@@ -25,6 +25,7 @@ returns-clause-valued c =
 pub returns-clause-tried : goal.returns-clause-tried
 returns-clause-tried c = λ leave is.
     let written = c.written_in-written in
-    last_beats c.args.disk.now c.args.gap.now c.args.pending.now c.requires.blocks c.args.track c.args.blocks.now c.requires.its c.requires.on_disk
-    _ _ written.result.sectors written.result.last (ap (λ x. c.args.gap.now.now + x) c.pos.ensures.value) written.ensures.sectors written.ensures.last
-    (omega (arith, c.if-written-eq0.false)) leave (omega (arith, is.in_time, c.pos-on.ensures.value))
+    last_beats _ c.args.gap.now _ c.requires.blocks c.args.track _ c.requires.its c.requires.on_disk
+    _ _ written.result.sectors written.result.last (ap (λ x. c.args.gap.now.now + x) c.pos.ensures.value)
+    written.ensures.sectors written.ensures.last (omega (arith, c.if-written-eq0.false))
+    leave (omega (arith, is.in_time, c.pos-on.ensures.value))

@@ -8,7 +8,8 @@ returns-clause-least c = λ joined rank index first.
     let waiting = c.args.waiting.now in
     let held = sym c.in-Some.ensures.value in
     let there = held_is_in c.args.key.0 c.args.key.1 c.in-Some.request waiting.entries held in
-    least_more _ _ _ (remove_more (c.args.key, c.in-Some.request) waiting.entries index.numbered there) rank index.numbered (first_listed rank c.args.key c.in-Some.request waiting index.numbered held first)
+    least_more _ _ _ (remove_more (c.args.key, c.in-Some.request) waiting.entries index.numbered there) rank index.numbered
+    (first_listed rank c.args.key c.in-Some.request waiting index.numbered held first)
     ∙ ap (λ es. Some (c.in-Some.request, pending_of es)) (sym c.remove.ensures.entries)
 
 pub returns-clause-index : goal.returns-clause-index

@@ -9,8 +9,12 @@ none_left c =
     let rows = c.args.rows.now.items in
     let there = slice_get_read rows (length rows) c.args.number c.index_mut.result.now refl c.requires.there c.index_mut.ensures.value in
     let seen = slice_get_read rows (length rows) c.args.number c.index.result.now refl c.requires.there c.index.ensures in
-    let none : length c.index.result.now.items ≡ 0 = grind (arith, nat_tests) in
-    (there, c.new.ensures.items ∙ sym (nil_from_length c.index_mut.result.now.items (ap (λ (r : Row). length r.items) (same_row_of rows c.args.number c.index_mut.result.now c.index.result.now there seen) ∙ none)))
+    let none : length c.index.result.now.items ≡ 0 = grind (arith, nat_tests) in (
+      there,
+      c.new.ensures.items
+          ∙ sym (nil_from_length c.index_mut.result.now.items
+          (ap (λ (r : Row). length r.items) (same_row_of rows c.args.number c.index_mut.result.now c.index.result.now there seen) ∙ none)),
+    )
 
 pub returns-then-is_empty-clause-same : goal.returns-then-is_empty-clause-same
 returns-then-is_empty-clause-same c =

@@ -1,5 +1,5 @@
+use Rattle.fb_fastq.proofs.Words.{◌<◌, length, arith, nat_tests}
 use Rattle.fb_fastq.proofs.OneMore.{row_there}
-use Rattle.fb_fastq.proofs.Words.{◌<◌, length, refl, arith, nat_tests, slice_get_read}
 use Rattle.fb_fastq.proofs.rows.occupy.Goals as goal
 
 pub returns-else-is_empty-clause-has : goal.returns-else-is_empty-clause-has

@@ -8,11 +8,13 @@ returns-clause-less c =
     let row = c.index_mut.result.now in
     let new = c.remove.new.self in
     let taken = taken_from rows c.args.place row new c.requires.there c.index_mut.ensures.value c.remove.ensures.items in
-    subst (λ o. IfSome o (λ w. IsMore w (all_of_rows (set rows c.args.place.row new)) (all_of_rows rows))) (sym taken.at) (set_less taken.w rows c.args.place.row row new taken.there taken.less)
+    subst (λ o. IfSome o (λ w. IsMore w (all_of_rows (set rows c.args.place.row new)) (all_of_rows rows))) (sym taken.at)
+    (set_less taken.w rows c.args.place.row row new taken.there taken.less)
 
 pub returns-clause-rows : goal.returns-clause-rows
 returns-clause-rows c =
-    let taken = taken_from c.args.rows.now.items c.args.place c.index_mut.result.now c.remove.new.self c.requires.there c.index_mut.ensures.value c.remove.ensures.items in
+    let taken = taken_from c.args.rows.now.items c.args.place c.index_mut.result.now c.remove.new.self c.requires.there
+    c.index_mut.ensures.value c.remove.ensures.items in
     less_rows c.args.rows.now.items c.args.place.row c.index_mut.result.now c.remove.new.self taken.there taken.w taken.less
 
 pub returns-clause-there : goal.returns-clause-there

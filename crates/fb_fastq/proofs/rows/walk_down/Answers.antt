@@ -8,8 +8,10 @@ loop-cylinder-init c =
     let head = c.args.from.now.track in (
       tt,
       tt,
-      outwards_begins c.args.disk.now c.args.from.now c.args.rows.now c.args.pick (λ k. k < head.cylinder) c.args.occupied.now _ (rev_source c.into_iter-cylinder-iterator.result)
-          c.requires.occupied c.range.ensures.ordered (ap rev_source c.into_iter-cylinder-iterator.ensures.into_iter_gives ∙ (c.rev-cylinder-items.ensures.source ∙ c.range.ensures.between tt))
+      outwards_begins c.args.disk.now c.args.from.now c.args.rows.now c.args.pick (λ k. k < head.cylinder) c.args.occupied.now _
+          (rev_source c.into_iter-cylinder-iterator.result)
+          c.requires.occupied c.range.ensures.ordered (ap rev_source c.into_iter-cylinder-iterator.ensures.into_iter_gives
+          ∙ (c.rev-cylinder-items.ensures.source ∙ c.range.ensures.between tt))
           (is_under head.cylinder) (under_is head.cylinder),
     )
 
@@ -33,11 +35,16 @@ pub loop-cylinder-preserved : goal.loop-cylinder-preserved
 loop-cylinder-preserved c =
     let next = next_last (λ i. i) c.in-Some.cylinder.now _ (rev_source c.next.new.self) c.in-Some.ensures.steps in
     let row = c.soonest_of_row-pick.ensures in
-    let at = c.arrival_at-arrival.ensures.cylinder in
-    (tt, tt, outwards_goes_on c.loop-cylinder.invariant.2 next c.soonest_of_row-pick.result row.pick row.first (λ other there. row.least other (ap (slice_get c.args.rows.now) at ∙ there)))
+    let at = c.arrival_at-arrival.ensures.cylinder in (
+      tt,
+      tt,
+      outwards_goes_on c.loop-cylinder.invariant.2 next c.soonest_of_row-pick.result row.pick row.first
+          (λ other there. row.least other (ap (slice_get c.args.rows.now) at ∙ there)),
+    )
 
 pub returns-clause-least : goal.returns-clause-least
-returns-clause-least c = λ i row there below. swept_ends (λ i. i) c.loop-cylinder.invariant.2.swept c.in-None.ensures.steps.0 i below row there
+returns-clause-least c = λ i row there below. swept_ends (λ i. i) c.loop-cylinder.invariant.2.swept c.in-None.ensures.steps.0
+    i below row there
 
 pub returns-clause-pick : goal.returns-clause-pick
 returns-clause-pick c = c.loop-cylinder.invariant.2.picks

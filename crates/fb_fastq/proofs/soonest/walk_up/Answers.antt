@@ -10,7 +10,8 @@ loop-key-init c = (
   tt,
   c.requires.any,
   walk_begins c.args.disk.now c.args.from c.args.waiting.now c.args.first (λ spot. c.args.start ≤ spot) _ c.into_iter-key-iterator.result
-      c.requires.first c.range-key-items.ensures.ordered (c.into_iter-key-iterator.ensures.into_iter_gives ∙ c.range-key-items.ensures.between tt)
+      c.requires.first c.range-key-items.ensures.ordered (c.into_iter-key-iterator.ensures.into_iter_gives
+      ∙ c.range-key-items.ensures.between tt)
       (λ w. is_from c.args.start w.0.0 w.0.1) (λ w. from_is c.args.start w.0.0 w.0.1),
 )
 
@@ -27,9 +28,11 @@ returns-then-is_too_far-clause-least c =
     let steps = c.in-Some.ensures.steps in
     let next = next_first spot (key, request) _ c.next.new.self steps in
     let on = next_side walk c.requires.spots next in
-    walk_stops walk c.requires.spots next c.go_on.new.self c.go_on.ensures.visit c.go_on.ensures.start c.go_on.ensures.end (c.is_too_far.ensures c.if-is_too_far.true)
+    walk_stops walk c.requires.spots next c.go_on.new.self c.go_on.ensures.visit c.go_on.ensures.start
+    c.go_on.ensures.end (c.is_too_far.ensures c.if-is_too_far.true)
     (λ w left. farther_above c.args.disk.now c.args.from.track c.args.from.instant c.args.waiting.now c.requires.spots key w.0 request w.1
-    (walk.swept.inside _ next.there).0 (walk.swept.inside w left).0 (omega (arith, on, c.requires.start)) (least_first spot _ _ _ steps walk.swept.rise w left))
+    (walk.swept.inside _ next.there).0 (walk.swept.inside w left).0 (omega (arith, on, c.requires.start))
+    (least_first spot _ _ _ steps walk.swept.rise w left))
 
 pub returns-then-left-eq0-clause-on : goal.returns-then-left-eq0-clause-on
 returns-then-left-eq0-clause-on c =
@@ -41,7 +44,8 @@ pub returns-then-left-eq0-clause-least : goal.returns-then-left-eq0-clause-least
 returns-then-left-eq0-clause-least c = λ k r e from below.
     let walk = c.loop-key.invariant.3 in
     walk_pauses walk k r e from (λ left.
-    let least = least_first spot (c.in-Some.key.now, c.in-Some.field-0-1.now) _ c.next.new.self c.in-Some.ensures.steps walk.swept.rise (k, r) left in
+    let least = least_first spot (c.in-Some.key.now, c.in-Some.field-0-1.now) _ c.next.new.self c.in-Some.ensures.steps
+    walk.swept.rise (k, r) left in
     omega (arith, least, below, c.go_on.ensures.start))
 
 pub loop-key-preserved : goal.loop-key-preserved
@@ -52,7 +56,8 @@ loop-key-preserved c =
       tt,
       tt,
       c.go_on.ensures.visit,
-      walk_goes_on walk c.requires.spots next c.wait-wait.result c.sooner-best.result wait c.sooner-best.ensures.one c.sooner-best.ensures.first c.sooner-best.ensures.second,
+      walk_goes_on walk c.requires.spots next c.wait-wait.result c.sooner-best.result wait
+          c.sooner-best.ensures.one c.sooner-best.ensures.first c.sooner-best.ensures.second,
     )
 
 pub returns-clause-least : goal.returns-clause-least

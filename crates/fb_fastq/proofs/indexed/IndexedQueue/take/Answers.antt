@@ -27,4 +27,5 @@ pub returns-clause-serves : goal.returns-clause-serves
 returns-clause-serves g c =
     let stands = λ (w : Waiting). g.C.Choice.stands c.args.disk.now w.1 w.0.0 in
     let less = taken_more c.self.inside.waiting.entries c.choose-key.result c.self.invariant.numbered c.choose-key.ensures.found in
-    subst (AllByRecursion stands) (sym c.take_out.ensures.entries) (all_less _ _ _ less.1 stands (subst (AllByRecursion stands) (sym (ap (λ v. v.waiting) c.self.view_is)) c.requires.serves))
+    subst (AllByRecursion stands) (sym c.take_out.ensures.entries)
+    (all_less _ _ _ less.1 stands (subst (AllByRecursion stands) (sym (ap (λ v. v.waiting) c.self.view_is)) c.requires.serves))
