@@ -1,12 +1,8 @@
 -- Bytes that toml reads, or refuses.
-use Rattle.std.proofs.Common.{◌≡◌, ℕ, List, Some, None, refl, inl, inr}
+use Rattle.fb_params.proofs.Words.{◌≡◌, ℕ, List, Some, None, refl, inl, inr, is_utf8, cases_Bool, Members, document_of}
 use Rattle.std.specs.Prelude.{IsUtf8}
-use Rattle.std.specs.Str.{is_utf8}
-use Rattle.std.proofs.lemmas.Bool.{cases_Bool}
 use Rattle.std.proofs.lemmas.Str.{is_utf8-from_IsUtf8, IsUtf8-from_is_utf8}
-use Rattle.toml.specs.Data.{Members}
 use Rattle.toml.specs.Parse.{parse_document}
-use Rattle.fb_params.specs.Reading.{document_of}
 
 pub document_of-read : (bytes : List ℕ) (table : Members) → IsUtf8 bytes → parse_document bytes ≡ Some table → document_of bytes ≡ Some table
 unfolding document_of

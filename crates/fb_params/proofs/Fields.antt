@@ -1,15 +1,8 @@
 -- The numbers of a file whose keys obey all rules.
-use Rattle.std.proofs.Common.{◌≡◌, ℕ, ◌^◌, ◌≤◌, codes, true, Ok, None, ◌++◌, slice_get, Some, refl, false}
-use Rattle.std.specs.List.{list_all}
-use Rattle.toml.specs.Data.{Members, get_member}
-use Rattle.fb_geometry.specs.declared.layout.Layout.{Layout}
-use Rattle.fb_geometry.specs.declared.layout.Layout.TheVariants.{PerTrack, PerCylinder}
-use Rattle.fb_params.specs.declared.key.Kind.TheVariants.{Number, Rows}
-use Rattle.fb_params.specs.declared.rule.Rule.TheVariants.{Present, OfKind, InRange}
-use Rattle.fb_params.specs.Keys.{Key, must, from_to, front_keys, back_keys, zone_keys, defects_key, grown_key, spares_key}
-use Rattle.fb_params.specs.Tables.{number_at, elements_at}
-use Rattle.fb_params.specs.Rules.{is_row_within, breaks, first_in}
-use Rattle.fb_params.specs.Reading.{keeps}
+use Rattle.fb_params.proofs.Words.{◌≡◌, ℕ, ◌^◌, ◌≤◌, codes, true, Ok, None, ◌++◌, slice_get, Some, refl, false, list_all, Members}
+use Rattle.fb_params.proofs.Words.{get_member, Layout, PerTrack, PerCylinder, Number, Rows, Present, OfKind, InRange, Key, must, from_to}
+use Rattle.fb_params.proofs.Words.{front_keys, back_keys, zone_keys, defects_key, grown_key, spares_key, number_at, elements_at}
+use Rattle.fb_params.proofs.Words.{is_row_within, breaks, first_in, keeps}
 use Rattle.fb_params.proofs.Kept.{present, of_kind, in_range, kept_at}
 use Rattle.fb_params.proofs.Numbers.{IsNumberOf, number-within, number-required, rows-within}
 

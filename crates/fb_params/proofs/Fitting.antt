@@ -1,12 +1,6 @@
 -- A file gives only the spares of its own layout.
-use Rattle.std.proofs.Common.{◌≡◌, false, not, ◌==◌, List, [], ◌∷◌, map, refl}
-use Rattle.std.specs.List.{list_any}
-use Rattle.toml.specs.Data.{Members}
-use Rattle.fb_geometry.specs.declared.layout.Layout.{Layout}
-use Rattle.fb_geometry.specs.declared.layout.Layout.TheVariants.{PerTrack, PerCylinder}
-use Rattle.fb_geometry.specs.Shape.{Shape}
-use Rattle.fb_geometry.specs.Faults.{FitsLayout}
-use Rattle.fb_params.specs.ParamsValue.{zone_of, grown_of}
+use Rattle.fb_params.proofs.Words.{◌≡◌, false, not, ◌==◌, List, [], ◌∷◌, map, refl, list_any, Members, Layout, PerTrack, PerCylinder, Shape}
+use Rattle.fb_params.proofs.Words.{FitsLayout, zone_of, grown_of}
 
 no_cylinder_spares : (tables : List Members) → list_any (λ zone. not (zone.cylinder_spares == 0)) (map (zone_of PerTrack) tables) ≡ false
 no_cylinder_spares [] = refl

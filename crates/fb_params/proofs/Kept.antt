@@ -1,18 +1,10 @@
 -- What follows from searches that found nothing.
-use Rattle.std.proofs.Common.{◌≡◌, ℕ, zero, suc, Bool, false, List, [], ◌∷◌, ◌++◌, Option, Some, None, option_map, Ok, slice_get, refl, subst, inl, inr}
-use Rattle.std.specs.List.{find}
-use Rattle.std.specs.Option.{option_or}
-use Rattle.std.proofs.lemmas.Bool.{cases_Bool}
+use Rattle.fb_params.proofs.Words.{◌≡◌, ℕ, zero, suc, Bool, false, List, [], ◌∷◌, ◌++◌, Option, Some, None, option_map, Ok, slice_get, refl}
+use Rattle.fb_params.proofs.Words.{subst, inl, inr, find, option_or, cases_Bool, Members, get_member, Layout, Rule, Known, Present, OfKind}
+use Rattle.fb_params.proofs.Words.{InRange, Key, front_keys, back_keys, zone_keys, zones_of, breaks, first_in, first_some, unless_fault}
+use Rattle.fb_params.proofs.Words.{keeps}
 use Rattle.std.proofs.lemmas.Option.{same_Some}
-use Rattle.toml.specs.Data.{Members, get_member}
-use Rattle.fb_geometry.specs.declared.layout.Layout.{Layout}
 use Rattle.fb_params.specs.declared.fault.ParamsFault.{ParamsFault}
-use Rattle.fb_params.specs.declared.rule.Rule.{Rule}
-use Rattle.fb_params.specs.declared.rule.Rule.TheVariants.{Known, Present, OfKind, InRange}
-use Rattle.fb_params.specs.Keys.{Key, front_keys, back_keys, zone_keys}
-use Rattle.fb_params.specs.Tables.{zones_of}
-use Rattle.fb_params.specs.Rules.{breaks, first_in, first_some}
-use Rattle.fb_params.specs.Reading.{unless_fault, keeps}
 
 passed_over : {A : Type 0} (p : A → Bool) (y : A) (ys : List A) → find p (y ∷ ys) ≡ None → (p y ≡ false) × (find p ys ≡ None)
 passed_over p y ys none = elim (cases_Bool (p y)) [

@@ -1,7 +1,5 @@
 -- Numbers kept in order.
-use Rattle.std.proofs.Common.{ℕ, Ordering, Less, Equal, Greater, List, [], ◌∷◌}
-use Rattle.std.specs.List.{AllByRecursion}
-use Rattle.std.specs.Ordering.{nat_cmp, match_ordering}
+use Rattle.fb_params.proofs.Words.{ℕ, Ordering, Less, Equal, Greater, List, [], ◌∷◌, AllByRecursion, nat_cmp, match_ordering}
 use Rattle.std.specs.BTreeSet.{insert_key}
 
 all-placed : (P : ℕ → Type 0) (order : Ordering) (number other : ℕ) (rest placed : List ℕ) → P number → P other → AllByRecursion P rest → AllByRecursion P placed

@@ -1,16 +1,10 @@
 -- The numbers of values that lie within a range.
-use Rattle.std.proofs.Common.{◌≡◌, ℕ, zero, suc, ◌%◌, ◌≤◌, true, false, pos, negsuc, List, [], ◌∷◌, map, Option, Some, None, option_map, unwrap_or, slice_index, refl, arith}
-use Rattle.std.specs.List.{list_all}
-use Rattle.std.proofs.lemmas.Bool.{and_parts, not-false, true≢false, false≢true}
+use Rattle.fb_params.proofs.Words.{◌≡◌, ℕ, zero, suc, ◌%◌, ◌≤◌, true, false, pos, negsuc, List, [], ◌∷◌, map, Option, Some, None}
+use Rattle.fb_params.proofs.Words.{option_map, unwrap_or, slice_index, refl, arith, list_all, and_parts, not-false, true≢false, false≢true}
+use Rattle.fb_params.proofs.Words.{Data, string, integer, float, boolean, datetime, array, table, Number, Present, OfKind, InRange, Key}
+use Rattle.fb_params.proofs.Words.{must, elements, number_of, nth, is_of, is_within, is_row_within, breaks}
 use Rattle.std.proofs.lemmas.Bool.Decides.{nat_tests}
-use Rattle.toml.specs.Data.{Data, string, integer, float, boolean, datetime, array, table}
-use Rattle.fb_params.specs.declared.key.Kind.TheVariants.{Number}
 use Rattle.fb_params.specs.declared.key.Range.{Range}
-use Rattle.fb_params.specs.declared.rule.Rule.TheVariants.{Present, OfKind, InRange}
-use Rattle.fb_params.specs.Keys.{Key, must}
-use Rattle.fb_params.specs.Tables.{elements, number_of}
-use Rattle.fb_params.specs.ParamsValue.{nth}
-use Rattle.fb_params.specs.Rules.{is_of, is_within, is_row_within, breaks}
 
 -- a value within a range is no number above it
 number_of-within : (range : Range) (value : Data) → is_within range value ≡ true → number_of value ≤ range.high

@@ -1,26 +1,17 @@
 -- The searches of the code beside those of the definitions.
-use Rattle.std.proofs.Common.{◌≡◌, ℕ, ◌+◌, ◌<◌, Bool, not, List, [], ◌∷◌, ◌++◌, length, get_or, drop, map, Option, Some, None, Less, Greater, option_map, String, Global, string_bytes, refl, sym, ap, append_assoc, ◌∙◌, inl, inr}
-use Rattle.std.specs.List.{find, filter, filter_map, cons_option, list_any, AllByRecursion}
+use Rattle.fb_params.proofs.Words.{◌≡◌, ℕ, ◌+◌, ◌<◌, Bool, not, List, [], ◌∷◌, ◌++◌, length, get_or, drop, map, Option, Some, None, Less}
+use Rattle.fb_params.proofs.Words.{Greater, option_map, String, Global, string_bytes, refl, sym, ap, append_assoc, ◌∙◌, inl, inr, find}
+use Rattle.fb_params.proofs.Words.{filter, filter_map, cons_option, list_any, AllByRecursion, nat_cmp, ordering_reverse, least, lesser}
+use Rattle.fb_params.proofs.Words.{option_or, option_and_then, option_to_list, cases_Bool, Members, as_table, get_member, view}
+use Rattle.fb_params.proofs.Words.{members_view, Value, names_of, Key, key_of, DeclaredKey, Rule, Known, Present, OfKind, InRange, breaks}
+use Rattle.fb_params.proofs.Words.{is_name_of, comes_before, first_in, first_some}
 use Rattle.std.specs.List.Sorted.{IsStrictlySortedBy}
-use Rattle.std.specs.Ordering.{nat_cmp, ordering_reverse}
 use Rattle.std.specs.Cmp.Lexicographic.{slice_cmp}
 use Rattle.std.specs.String.{string_cmp}
 use Rattle.std.proofs.lemmas.Cmp.{nat_list_cmp_total}
-use Rattle.fb_geometry.specs.Faults.{least, lesser}
-use Rattle.std.specs.Option.{option_or, option_and_then, option_to_list}
 use Rattle.std.specs.Map.{keys_of}
-use Rattle.std.proofs.lemmas.Bool.{cases_Bool}
 use Rattle.std.proofs.lemmas.List.{drop_more}
-use Rattle.toml.specs.Data.{Members, as_table, get_member}
-use Rattle.toml.specs.View.{view, members_view}
-use Rattle.toml.specs.declared.value.Value.{Value}
-use Rattle.fb_params.specs.Tables.{names_of}
 use Rattle.fb_params.proofs.Kept.{none-option_or}
-use Rattle.fb_params.specs.Keys.{Key, key_of}
-use Rattle.fb_params.specs.declared.key.Key.{Key as DeclaredKey}
-use Rattle.fb_params.specs.declared.rule.Rule.{Rule}
-use Rattle.fb_params.specs.declared.rule.Rule.TheVariants.{Known, Present, OfKind, InRange}
-use Rattle.fb_params.specs.Rules.{breaks, is_name_of, comes_before, first_in, first_some}
 
 pub find-map : {A B : Type 0} (f : A → B) (p : B → Bool) (xs : List A) → find p (map f xs) ≡ option_map f (find (λ x. p (f x)) xs)
 find-map f p [] = refl

@@ -1,11 +1,8 @@
 -- The small files are read as they have to be, by computation.
-use Rattle.std.proofs.Common.{refl}
-use Rattle.std.specs.Str.{is_utf8, chars}
+use Rattle.fb_params.proofs.Words.{refl, is_utf8, chars, first_fault, document_of, keeps, params_of_table, params_of}
 use Rattle.toml.proofs.OnLiterals.{toml_on_literals}
 use Rattle.fb_geometry.specs.Places.{places}
-use Rattle.fb_geometry.specs.Faults.{first_fault}
 use Rattle.fb_seek.specs.Faults.{fault_from}
-use Rattle.fb_params.specs.Reading.{document_of, keeps, params_of_table, params_of}
 use Rattle.fb_params.specs.SmallFiles.{Refusals, Acceptances}
 
 pub refusals : Refusals

@@ -1,13 +1,8 @@
 -- Lists of values beside the data that they stand for.
-use Rattle.std.proofs.Common.{◌≡◌, ℕ, zero, suc, ◌<◌, length, slice_index, get_or, true, arith, Bool, List, [], ◌∷◌, map, Some, unwrap_or, refl, sym, ap, subst, ◌∙◌}
-use Rattle.std.specs.List.{list_all}
-use Rattle.std.proofs.lemmas.Bool.{and_parts}
-use Rattle.std.proofs.lemmas.List.Folds.{list_all-map}
-use Rattle.toml.specs.Data.{Data, string, integer, float, boolean, datetime, array, table, Items, as_array}
-use Rattle.toml.specs.View.{view, items_of}
-use Rattle.toml.specs.declared.value.Value.{Value}
-use Rattle.fb_params.specs.Tables.{listed, elements, number_of}
-use Rattle.fb_params.specs.ParamsValue.{nth}
+use Rattle.fb_params.proofs.Words.{◌≡◌, ℕ, zero, suc, ◌<◌, length, slice_index, get_or, true, arith, Bool, List, [], ◌∷◌, map, Some}
+use Rattle.fb_params.proofs.Words.{unwrap_or, refl, sym, ap, subst, ◌∙◌, list_all, and_parts, list_all-map, Data, string, integer, float}
+use Rattle.fb_params.proofs.Words.{boolean, datetime, array, table, Items, as_array, view, items_of, Value, listed, elements, number_of}
+use Rattle.fb_params.proofs.Words.{nth}
 
 pub listed-items_of : (values : List Data) → listed (items_of values) ≡ values
 listed-items_of [] = refl

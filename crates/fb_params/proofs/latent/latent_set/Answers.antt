@@ -1,4 +1,4 @@
-use Rattle.std.proofs.Common.{◌<◌, arith}
+use Rattle.fb_params.proofs.Words.{◌<◌, arith}
 use Rattle.std.proofs.lemmas.Grind.{common_steps}
 use Rattle.fb_params.proofs.LatentSets.{all-insert_key}
 use Rattle.fb_params.proofs.latent.latent_set.Goals as goal

@@ -1,8 +1,4 @@
-use Rattle.std.proofs.Common.{◌≡◌, ◌<◌, map, nat_le, take, drop}
-use Rattle.std.specs.List.{find, AllByRecursion}
-use Rattle.toml.specs.View.{view}
-use Rattle.fb_params.specs.Tables.{number_of}
-use Rattle.fb_params.specs.ParamsValue.{ascending}
+use Rattle.fb_params.proofs.Words.{◌≡◌, ◌<◌, map, nat_le, take, drop, find, AllByRecursion, view, number_of, ascending}
 use Rattle.fb_params.proofs.latent.latent_set.Given as goal
 
 abbrev pub invariant-loop-value : goal.invariant-loop-value

@@ -1,4 +1,4 @@
-use Rattle.std.proofs.Common.{◌≡◌, ◌++◌, take}
+use Rattle.fb_params.proofs.Words.{◌≡◌, ◌++◌, take}
 use Rattle.fb_params.proofs.name.append.Given as goal
 
 abbrev pub invariant-loop-byte : goal.invariant-loop-byte

@@ -1,10 +1,5 @@
-use Rattle.std.proofs.Common.{map, arith}
-use Rattle.toml.specs.View.{view, table_view}
-use Rattle.toml.specs.Data.{as_table}
-use Rattle.std.specs.List.{filter_map}
-use Rattle.fb_params.proofs.Kept.{in_range}
-use Rattle.fb_params.proofs.Fitting.{fits_layout}
-use Rattle.fb_params.proofs.Fields.{heads-within, defects-within}
+use Rattle.fb_params.proofs.Words.{map, arith, view, table_view, as_table, filter_map}
+use Rattle.fb_params.proofs.{Kept.in_range, Fitting.fits_layout, Fields.heads-within, Fields.defects-within}
 use Rattle.fb_params.proofs.outline.geometry_of.Goals as goal
 
 pub small_number_at-heads-requires : goal.small_number_at-heads-requires

@@ -1,4 +1,4 @@
-use Rattle.toml.specs.View.{table_view}
+use Rattle.fb_params.proofs.Words.{table_view}
 use Rattle.fb_params.proofs.Fields.{grown-within}
 use Rattle.fb_params.proofs.outline.grown.Goals as goal
 

@@ -1,5 +1,4 @@
-use Rattle.std.proofs.Common.{arith}
-use Rattle.toml.specs.View.{table_view}
+use Rattle.fb_params.proofs.Words.{arith, table_view}
 use Rattle.fb_params.proofs.Fields.{zone-within, spares-within, cylinder_spares-within}
 use Rattle.fb_params.proofs.outline.zone.Goals as goal
 

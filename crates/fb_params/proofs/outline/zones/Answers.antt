@@ -1,11 +1,4 @@
-use Rattle.std.proofs.Common.{map}
-use Rattle.std.specs.List.{filter_map}
-use Rattle.toml.specs.Data.{as_table}
-use Rattle.toml.specs.View.{view}
-use Rattle.fb_params.specs.declared.rule.Rule.TheVariants.{InRange}
-use Rattle.fb_params.specs.Keys.{zone_keys}
-use Rattle.fb_params.specs.Rules.{first_in}
-use Rattle.fb_params.specs.ParamsValue.{zone_of}
+use Rattle.fb_params.proofs.Words.{map, filter_map, as_table, view, InRange, zone_keys, first_in, zone_of}
 use Rattle.fb_params.proofs.Searches.{first_some-none, zones-more}
 use Rattle.fb_params.proofs.outline.zones.Goals as goal
 

@@ -1,6 +1,4 @@
-use Rattle.std.proofs.Common.{◌%◌, ap, arith, ◌∙◌}
-use Rattle.toml.specs.View.{table_view}
-use Rattle.fb_geometry.specs.Shape.{cylinders_of}
+use Rattle.fb_params.proofs.Words.{◌%◌, ap, arith, ◌∙◌, table_view, cylinders_of}
 use Rattle.fb_params.proofs.Fields.{seek-within, sector_bytes-number}
 use Rattle.fb_params.proofs.parameters.params_of_table.Goals as goal
 

@@ -1,6 +1,4 @@
-use Rattle.std.proofs.Common.{sym, refl, ◌∙◌}
-use Rattle.std.proofs.lemmas.Bool.{false≢true}
-use Rattle.toml.specs.View.{table_view}
+use Rattle.fb_params.proofs.Words.{sym, refl, ◌∙◌, false≢true, table_view}
 use Rattle.fb_params.proofs.Documents.{document_of-read, document_of-refused}
 use Rattle.fb_params.proofs.read.read_table.Goals as goal
 

@@ -1,9 +1,4 @@
-use Rattle.std.proofs.Common.{rules, tests}
-use Rattle.std.proofs.lemmas.Iterator.{YieldsList-from_slice}
-use Rattle.std.proofs.lemmas.Iterator.Search.{all_from_yields_List}
-use Rattle.std.proofs.lemmas.List.Folds.{list_all-map}
-use Rattle.toml.specs.View.{view}
-use Rattle.fb_params.specs.Rules.{is_row}
+use Rattle.fb_params.proofs.Words.{rules, tests, YieldsList-from_slice, all_from_yields_List, list_all-map, view, is_row}
 use Rattle.fb_params.proofs.rule.are_rows.Goals as goal
 
 pub returns : goal.returns

@@ -1,5 +1,4 @@
-use Rattle.std.proofs.Common.{◌∙◌}
-use Rattle.toml.specs.View.{table_view}
+use Rattle.fb_params.proofs.Words.{◌∙◌, table_view}
 use Rattle.fb_params.proofs.Searches.{broken-key_of}
 use Rattle.fb_params.proofs.search.first_in.Goals as goal
 

@@ -1,9 +1,4 @@
-use Rattle.std.proofs.Common.{◌≡◌, map, drop}
-use Rattle.std.specs.List.{filter_map}
-use Rattle.toml.specs.Data.{as_table}
-use Rattle.toml.specs.View.{view}
-use Rattle.fb_params.specs.Keys.{zone_keys}
-use Rattle.fb_params.specs.Rules.{first_in, first_some}
+use Rattle.fb_params.proofs.Words.{◌≡◌, map, drop, filter_map, as_table, view, zone_keys, first_in, first_some}
 use Rattle.fb_params.proofs.search.first_in_zones.Given as goal
 
 -- the zones read as those that are left

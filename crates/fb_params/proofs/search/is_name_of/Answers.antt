@@ -1,7 +1,4 @@
-use Rattle.std.proofs.Common.{rules, tests}
-use Rattle.std.specs.Str.{bytes_eq}
-use Rattle.std.proofs.lemmas.Iterator.{YieldsList-from_slice}
-use Rattle.std.proofs.lemmas.Iterator.Search.{any_from_yields_List}
+use Rattle.fb_params.proofs.Words.{rules, tests, bytes_eq, YieldsList-from_slice, any_from_yields_List}
 use Rattle.fb_params.specs.declared.key.Key.{Key}
 use Rattle.fb_params.proofs.Searches.{list_any-map}
 use Rattle.fb_params.proofs.search.is_name_of.Goals as goal

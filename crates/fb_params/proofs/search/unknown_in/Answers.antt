@@ -1,5 +1,4 @@
-use Rattle.std.proofs.Common.{◌++◌, map, ap, Some, None, ◌∙◌}
-use Rattle.fb_params.specs.Keys.{key_of}
+use Rattle.fb_params.proofs.Words.{◌++◌, map, ap, Some, None, ◌∙◌, key_of}
 use Rattle.fb_params.proofs.Searches.{unknown-view}
 use Rattle.fb_params.proofs.search.unknown_in.Goals as goal
 

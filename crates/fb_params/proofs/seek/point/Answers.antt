@@ -1,6 +1,4 @@
-use Rattle.std.proofs.Common.{◌^◌, arith}
-use Rattle.toml.specs.View.{view}
-use Rattle.fb_params.specs.Keys.{from_to}
+use Rattle.fb_params.proofs.Words.{◌^◌, arith, view, from_to}
 use Rattle.fb_params.proofs.Numbers.{nth-within}
 use Rattle.fb_params.proofs.seek.point.Goals as goal
 

@@ -1,6 +1,4 @@
-use Rattle.std.proofs.Common.{◌^◌}
-use Rattle.fb_params.specs.Keys.{from_to}
-use Rattle.fb_params.specs.Rules.{is_row_within}
+use Rattle.fb_params.proofs.Words.{◌^◌, from_to, is_row_within}
 use Rattle.fb_params.proofs.Views.{list_all-at}
 use Rattle.fb_params.proofs.seek.points.Goals as goal
 

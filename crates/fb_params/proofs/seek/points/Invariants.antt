@@ -1,6 +1,4 @@
-use Rattle.std.proofs.Common.{◌≡◌, map, take}
-use Rattle.toml.specs.View.{view}
-use Rattle.fb_params.specs.ParamsValue.{point_of}
+use Rattle.fb_params.proofs.Words.{◌≡◌, map, take, view, point_of}
 use Rattle.fb_params.proofs.seek.points.Given as goal
 
 abbrev pub invariant-loop-row : goal.invariant-loop-row

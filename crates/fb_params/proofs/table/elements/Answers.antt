@@ -1,5 +1,4 @@
-use Rattle.std.proofs.Common.{sym, map, ap, ◌∙◌}
-use Rattle.toml.specs.View.{view, array_view}
+use Rattle.fb_params.proofs.Words.{sym, map, ap, ◌∙◌, view, array_view}
 use Rattle.fb_params.proofs.Views.{listed-items_of, elements-array}
 use Rattle.fb_params.proofs.table.elements.Goals as goal
 

@@ -1,5 +1,4 @@
-use Rattle.std.proofs.Common.{sym, arith, ◌∙◌}
-use Rattle.toml.specs.View.{view}
+use Rattle.fb_params.proofs.Words.{sym, arith, ◌∙◌, view}
 use Rattle.fb_params.proofs.Views.{nth-at}
 use Rattle.fb_params.proofs.table.nth.Goals as goal
 
