@@ -86,9 +86,9 @@ lbns task entries = map (λ entry. entry.block.lbn) (filter (of_task task) entri
 abbrev pub pair_cmp : ℕ × ℕ → ℕ × ℕ → Ordering
 pair_cmp a b = ordering_then (nat_cmp a.0 b.0) (nat_cmp a.1 b.1)
 
--- the region of an LBN; a region has 128 neighbouring LBNs
+-- the region of an LBN; a region has 512 neighbouring LBNs
 abbrev pub region_of : ℕ → ℕ
-region_of lbn = lbn / 128
+region_of lbn = lbn / 512
 
 -- what is noted of a run of a task: the task, the region, and the number of the first block
 abbrev pub key_of : ℕ → Run → ℕ × ℕ × ℕ

@@ -8,8 +8,8 @@ ghost use Rattle.fb_wanted.specs.Index.{region_of, run_cmp, key_of, IsUpTo};
 use fb_units::NoMemory;
 use std::collections::BTreeSet;
 
-/// The number of neighbouring LBNs of a region. Region k has the LBNs from 128 k to 128 k + 127.
-pub const REGION: u64 = 128;
+/// The number of neighbouring LBNs of a region. Region k has the LBNs from 512 k to 512 k + 511.
+pub const REGION: u64 = 512;
 
 /// Where a run begins.
 #[derive(Clone, Copy)]

@@ -34,7 +34,7 @@ use std::marker::Model;
 /// Costs: to register, to deliver or to look up a block, to look up the blocks of a track, the
 /// counts of a task and the bounds of a band take constant time. Besides, a block takes logarithmic
 /// time if the block registered before it is another task's or begins in another stretch of 2,048
-/// LBNs, and if the one before it in its task begins in another region of 128 LBNs: a note is kept
+/// LBNs, and if the one before it in its task begins in another region of 512 LBNs: a note is kept
 /// for each of these. To suspend or to resume takes constant time for each block of the task. An
 /// abort or a want again takes constant time for each of the task's blocks that begin no farther
 /// before the range than the longest block reaches, and logarithmic time for each of their regions.
