@@ -55,7 +55,7 @@ fn with_verb(
 {
     let verb = known_verb(name)?;
     let given = read_options(verb, options)?;
-    command(alloc, count, verb, given)
+    command(alloc, count, verb, &given)
 }
 
 fn known_verb(name: &str) -> Result<Verb, UsageFault>
@@ -69,8 +69,13 @@ fn known_verb(name: &str) -> Result<Verb, UsageFault>
 
 // The command with the options that were given.
 #[tactic(auto, unfolding(crate::specs::Command::terms_of))]
-fn command(alloc: Global, count: usize, verb: Verb, given: Given<'_>) -> Result<Command, WordsError>
-    ensures { Answers terms result (refused_as (fault_at count) (terms_of verb (options given.entry))) }
+fn command(
+    alloc: Global,
+    count: usize,
+    verb: Verb,
+    given: &Given<'_>,
+) -> Result<Command, WordsError>
+    ensures { Answers terms result (refused_as (fault_at count) (terms_of verb (options given.now))) }
 {
     match verb {
         Verb::Replay => Ok(Command::Replay(replay(alloc, count, given)?)),
@@ -81,8 +86,8 @@ fn command(alloc: Global, count: usize, verb: Verb, given: Given<'_>) -> Result<
 }
 
 #[tactic(auto, unfolding(crate::specs::Command::replay_of))]
-fn replay(alloc: Global, count: usize, given: Given<'_>) -> Result<ReplayWords, WordsError>
-    ensures { Answers replay_terms result (refused_as (fault_at count) (replay_of (options given.entry))) }
+fn replay(alloc: Global, count: usize, given: &Given<'_>) -> Result<ReplayWords, WordsError>
+    ensures { Answers replay_terms result (refused_as (fault_at count) (replay_of (options given.now))) }
 {
     let params = required(given.params, count, 0)?;
     let trace = required(given.trace, count, 1)?;
@@ -105,8 +110,8 @@ fn replay(alloc: Global, count: usize, given: Given<'_>) -> Result<ReplayWords, 
 }
 
 #[tactic(auto, unfolding(crate::specs::Command::make_of))]
-fn make(alloc: Global, count: usize, given: Given<'_>) -> Result<MakeWords, WordsError>
-    ensures { Answers make_terms result (refused_as (fault_at count) (make_of (options given.entry))) }
+fn make(alloc: Global, count: usize, given: &Given<'_>) -> Result<MakeWords, WordsError>
+    ensures { Answers make_terms result (refused_as (fault_at count) (make_of (options given.now))) }
 {
     let params = required(given.params, count, 0)?;
     let trace = required(given.trace, count, 1)?;
@@ -124,8 +129,8 @@ fn make(alloc: Global, count: usize, given: Given<'_>) -> Result<MakeWords, Word
 }
 
 #[tactic(auto, unfolding(crate::specs::Command::check_of))]
-fn check(alloc: Global, count: usize, given: Given<'_>) -> Result<CheckWords, WordsError>
-    ensures { Answers check_terms result (refused_as (fault_at count) (check_of (options given.entry))) }
+fn check(alloc: Global, count: usize, given: &Given<'_>) -> Result<CheckWords, WordsError>
+    ensures { Answers check_terms result (refused_as (fault_at count) (check_of (options given.now))) }
 {
     let params = required(given.params, count, 0)?;
     let trace = required(given.trace, count, 1)?;
@@ -147,8 +152,8 @@ fn check(alloc: Global, count: usize, given: Given<'_>) -> Result<CheckWords, Wo
 }
 
 #[tactic(auto, unfolding(crate::specs::Command::array_of))]
-fn array(alloc: Global, count: usize, given: Given<'_>) -> Result<ArrayWords, WordsError>
-    ensures { Answers array_terms result (refused_as (fault_at count) (array_of (options given.entry))) }
+fn array(alloc: Global, count: usize, given: &Given<'_>) -> Result<ArrayWords, WordsError>
+    ensures { Answers array_terms result (refused_as (fault_at count) (array_of (options given.now))) }
 {
     let params = required(given.params, count, 0)?;
     let trace = required(given.trace, count, 1)?;
@@ -171,9 +176,9 @@ fn rebuild(
     alloc: Global,
     count: usize,
     devices: u32,
-    given: Given<'_>,
+    given: &Given<'_>,
 ) -> Result<Option<RebuildWords>, WordsError>
-    ensures { Answers (λ words. option_map rebuild_terms words) result (refused_as (fault_at count) (rebuild_of devices (options given.entry))) }
+    ensures { Answers (λ words. option_map rebuild_terms words) result (refused_as (fault_at count) (rebuild_of devices (options given.now))) }
 {
     let (device, back, copy) = match (given.rebuild, given.back, given.copy) {
         (None, None, None) => return Ok(None),
