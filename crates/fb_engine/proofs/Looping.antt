@@ -14,14 +14,8 @@ use Rattle.fb_model.specs.FullRun.{IsFull}
 use Rattle.fb_model.proofs.Lists.{all_append}
 use Rattle.fb_decide.specs.declared.deciding.Course.{Course}
 use Rattle.fb_decide.specs.Making.{RowFits, HasMade, HasMadeOne, decisions_left}
-use Rattle.fb_decide.specs.FullRuns.{AreRowsOf, DecisionsMakeARun}
-
--- these decisions have been made, none of their rows has been taken, and perhaps more follow
-pub record HasGone (inputs : Inputs) (more : Bool) (list : List Request) (course : Course) (pending : List Request) (count : ℕ) : Type 0 where
-  pub steps : List Step
-  pub made : HasMade inputs more steps list course pending count
-  pub rows : AreRowsOf inputs steps course.fore course.background.rows
-  pub fit : AllByRecursion (RowFits (length (allowed.tasks inputs.calls))) course.background.rows
+use Rattle.fb_decide.specs.FullRuns.{DecisionsMakeARun}
+use Rattle.fb_engine.specs.Gone.{HasGone}
 
 -- at first
 pub at_first : {inputs : Inputs} {list : List Request} {course : Course} {pending : List Request} {count : ℕ}

@@ -1,11 +1,12 @@
 // The loop over decisions.
-ghost use Rattle.std.specs.Prelude.{◌≡◌, ◌*◌, ◌≤◌, ◌^◌, ℕ, List, [], length, IfOk};
+ghost use Rattle.std.specs.Prelude.{◌≡◌, ◌*◌, ◌≤◌, ◌^◌, ℕ, List, [], true, false, length, IfOk, OnOk};
 ghost use Rattle.std.specs.List.{AllByRecursion};
 ghost use Rattle.fb_rows.specs.Tasks.{HasNamedTask};
 ghost use Rattle.fb_calls.specs.Allowed.{tasks};
 ghost use Rattle.fb_model.specs.Accepted.{IsAccepted};
 ghost use Rattle.fb_model.specs.FullRun.{IsFull};
 ghost use Rattle.fb_decide.specs.Asked.{inputs_of};
+ghost use Rattle.fb_engine.specs.Gone.{HasGone, IsWhole};
 
 use fb_decide::{Asked, Decider, decisions_make_a_run};
 use fb_plan::Planner;
@@ -33,11 +34,22 @@ pub fn replay<Q: Queue, P: Planner>(
     ensures named { IfOk result (λ run. (names : List (List ℕ)) → length names ≡ length (tasks asked.entry.calls.now.calls.items) → AllByRecursion (HasNamedTask names) run.back) }
 {
     let mut decider = Decider::new(alloc, asked, queue)?;
+    run_of(alloc, asked, planner, &mut decider)
+}
+
+// The run that a decider makes from its first decision on. The only error is out of memory.
+fn run_of<Q: Queue, P: Planner>(
+    alloc: Global,
+    asked: Asked<'_>,
+    planner: &P,
+    decider: &mut Decider<'_, Q>,
+) -> Result<Run, NoMemory>
+    requires gone { HasGone (inputs_of asked Q.key) true decider.old.requests decider.old.course (Q.pending decider.old.queue) (Q.joined decider.old.queue) }
+    requires serves { Q.serves decider.old.queue asked.disk.now }
+    ensures { IfOk result (IsWhole (inputs_of asked.entry Q.key)) }
+{
+    decide_all(alloc, asked, planner, decider)?;
     decisions_make_a_run();
-    let mut goes_on = true;
-    while goes_on {
-        goes_on = decider.decide(alloc, asked, planner)?;
-    }
     let end = decider.instant();
     decider.add_task_rows()?;
     let rows = decider.take_rows(alloc);
@@ -47,4 +59,23 @@ pub fn replay<Q: Queue, P: Planner>(
         passed_over: asked.trace.passed_over,
         end,
     })
+}
+
+// Makes one decision after another until none follows. The only error is out of memory.
+fn decide_all<Q: Queue, P: Planner>(
+    alloc: Global,
+    asked: Asked<'_>,
+    planner: &P,
+    decider: &mut Decider<'_, Q>,
+) -> Result<(), NoMemory>
+    requires gone { HasGone (inputs_of asked Q.key) true decider.old.requests decider.old.course (Q.pending decider.old.queue) (Q.joined decider.old.queue) }
+    requires serves { Q.serves decider.old.queue asked.disk.now }
+    ensures gone { OnOk result (HasGone (inputs_of asked.entry Q.key) false decider.new.requests decider.new.course (Q.pending decider.new.queue) (Q.joined decider.new.queue)) }
+{
+    decisions_make_a_run();
+    let mut goes_on = true;
+    while goes_on {
+        goes_on = decider.decide(alloc, asked, planner)?;
+    }
+    Ok(())
 }

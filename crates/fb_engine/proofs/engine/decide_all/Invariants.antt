@@ -1,7 +1,7 @@
 use Rattle.fb_decide.specs.Making.{decisions_left}
 use Rattle.fb_decide.specs.Asked.{inputs_of}
-use Rattle.fb_engine.proofs.Looping.{HasGone}
-use Rattle.fb_engine.proofs.engine.replay.Given as goal
+use Rattle.fb_engine.specs.Gone.{HasGone}
+use Rattle.fb_engine.proofs.engine.decide_all.Given as goal
 
 abbrev pub invariant-loop-goes_on : goal.invariant-loop-goes_on
 invariant-loop-goes_on g l = record {
