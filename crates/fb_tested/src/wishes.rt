@@ -88,7 +88,7 @@ const LAST: Block = Block {
     weight: 3,
 };
 
-// A block that begins in the third stretch of 2,048 LBNs.
+// A block that begins in the third chunk of 2,048 LBNs.
 const THIRD: Block = Block {
     task: 2,
     index: 0,
@@ -295,7 +295,7 @@ fn tasks_far_from_a_range_are_passed_over(rt: HostRuntime) -> Result<(), Fail> {
     check_near(&rt, &mut wanted)
 }
 
-// Registers blocks of two tasks in one stretch and of a third task in another.
+// Registers blocks of two tasks in one chunk and of a third task in another.
 fn check_near(rt: &impl Abort, wanted: &mut Wanted) -> Result<(), Fail>
     requires { wanted.old ≡ [] }
 {

@@ -1,11 +1,11 @@
--- What is noted of runs: sets of keys, with one more or one less, and the order of keys.
+-- What is noted of streaks: sets of keys, with one more or one less, and the order of keys.
 use Rattle.std.proofs.Common.{◌≡◌, ℕ, ◌⊎◌, inl, inr, Bool, true, false, if◌then◌else◌, refl, arith}
 use Rattle.std.specs.BTreeMap.{is_at}
 use Rattle.std.specs.Ordering.{is_gt}
 use Rattle.std.proofs.lemmas.Bool.{cases_lt}
 use Rattle.std.proofs.lemmas.Bool.Decides.{nat_tests}
-use Rattle.fb_wanted.specs.declared.runs.Run.{Run}
-use Rattle.fb_wanted.specs.Index.{key_of, run_cmp, IsUpTo}
+use Rattle.fb_wanted.specs.declared.streaks.Streak.{Streak}
+use Rattle.fb_wanted.specs.Index.{key_of, streak_cmp, IsUpTo}
 
 pub still : (new old : Bool) → old ≡ true → (if new then true else old) ≡ true
 still true old h = refl
@@ -23,22 +23,22 @@ pub if_taken : (gone old : Bool) → old ≡ true → (gone ≡ true) ⊎ ((if g
 if_taken true old h = inl refl
 if_taken false old h = inr h
 
-pub same_key : (a b : ℕ × ℕ × ℕ) → is_at (run_cmp a) b ≡ true → b ≡ a
+pub same_key : (a b : ℕ × ℕ × ℕ) → is_at (streak_cmp a) b ≡ true → b ≡ a
 same_key a b here =
     let x : b.0 ≡ a.0 = grind (arith, nat_tests) in
     let y : b.1 ≡ a.1 = grind (arith, nat_tests) in
     let z : b.2 ≡ a.2 = grind (arith, nat_tests) in rw (x, y, z) refl
 
--- the order of the runs of one task
-pub from_key : (task : ℕ) (from other : Run) → IsUpTo from other → is_gt (run_cmp (key_of task from) (key_of task other)) ≡ false
+-- the order of the streaks of one task
+pub from_key : (task : ℕ) (from other : Streak) → IsUpTo from other → is_gt (streak_cmp (key_of task from) (key_of task other)) ≡ false
 from_key task from other (inl less) = grind (arith, nat_tests)
 from_key task from other (inr same) = grind (arith, nat_tests)
 
-pub up_to : (task region index : ℕ) (other : Run) → is_gt (run_cmp (task, region, index) (key_of task other)) ≡ false → IsUpTo (record { region = region; index = index }) other
+pub up_to : (task region index : ℕ) (other : Streak) → is_gt (streak_cmp (task, region, index) (key_of task other)) ≡ false → IsUpTo (record { region = region; index = index }) other
 up_to task region index other h = elim (cases_lt region other.region) [ inl less ↦ inl less | inr most ↦ inr (grind (arith, nat_tests), grind (arith, nat_tests)) ]
 
-pub from_up_to : (task region index : ℕ) (from : Run) → is_gt (run_cmp (key_of task from) (task, region, index)) ≡ false → IsUpTo from (record { region = region; index = index })
+pub from_up_to : (task region index : ℕ) (from : Streak) → is_gt (streak_cmp (key_of task from) (task, region, index)) ≡ false → IsUpTo from (record { region = region; index = index })
 from_up_to task region index from h = elim (cases_lt from.region region) [ inl less ↦ inl less | inr most ↦ inr (grind (arith, nat_tests), grind (arith, nat_tests)) ]
 
-pub between : (task other region index : ℕ) (from run : Run) → is_gt (run_cmp (key_of task from) (other, region, index)) ≡ false → is_gt (run_cmp (other, region, index) (key_of task run)) ≡ false → other ≡ task
-between task other region index from run up down = grind (arith, nat_tests)
+pub between : (task other region index : ℕ) (from streak : Streak) → is_gt (streak_cmp (key_of task from) (other, region, index)) ≡ false → is_gt (streak_cmp (other, region, index) (key_of task streak)) ≡ false → other ≡ task
+between task other region index from streak up down = grind (arith, nat_tests)

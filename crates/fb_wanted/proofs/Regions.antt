@@ -1,4 +1,4 @@
--- The runs of a task's blocks.
+-- The streaks of a task's blocks.
 use Rattle.std.proofs.Common.{◌≡◌, ◌≤◌, ◌↔◌, ℕ, zero, suc, ◌⊎◌, inl, inr, ◌==◌, List, [], ◌∷◌, ◌++◌, true, false, Some, length, filter, slice_get, refl, ap, sym, ◌∙◌, arith, subst, option_map}
 use Rattle.std.specs.BTreeSet.{BTreeSet, contains}
 use Rattle.std.proofs.lemmas.Bool.{cases_Bool, cases_lt, true≢false}
@@ -7,8 +7,8 @@ use Rattle.std.proofs.lemmas.List.{length-map}
 use Rattle.std.proofs.lemmas.Option.{slice_get-map, slice_get_within, same_Some, none-some}
 use Rattle.fb_wanted.specs.declared.block.Entry.{Entry}
 use Rattle.fb_wanted.specs.declared.block.State.{State}
-use Rattle.fb_wanted.specs.declared.runs.Run.{Run}
-use Rattle.fb_wanted.specs.Index.{of_task, lbns, region_of, key_of, run_cmp, IsInRun, BeginsRun, AreNoted, AreShort, with_state}
+use Rattle.fb_wanted.specs.declared.streaks.Streak.{Streak}
+use Rattle.fb_wanted.specs.Index.{of_task, lbns, region_of, key_of, streak_cmp, IsInStreak, BeginsStreak, AreNoted, AreShort, with_state}
 use Rattle.fb_wanted.proofs.Standing.{get_some}
 use Rattle.fb_wanted.proofs.Numbers.{in_either}
 
@@ -28,8 +28,8 @@ lbns-with_state task s (suc n) (e ∷ es) = elim (cases_Bool (e.block.task == ta
   | inr other ↦ rw other (lbns-with_state task s n es)
 ]
 
-pub noted-with_state : (s : State) (n : ℕ) (es : List Entry) (runs : BTreeSet (ℕ × ℕ × ℕ)) → AreNoted es runs → AreNoted (with_state s n es) runs
-noted-with_state s n es runs h task run = subst (λ l. (contains run_cmp runs (key_of task run) ≡ true) ↔ BeginsRun l run) (sym (lbns-with_state task s n es)) (h task run)
+pub noted-with_state : (s : State) (n : ℕ) (es : List Entry) (streaks : BTreeSet (ℕ × ℕ × ℕ)) → AreNoted es streaks → AreNoted (with_state s n es) streaks
+noted-with_state s n es streaks h task streak = subst (λ l. (contains streak_cmp streaks (key_of task streak) ≡ true) ↔ BeginsStreak l streak) (sym (lbns-with_state task s n es)) (h task streak)
 
 pub lbns-own : (task : ℕ) (es : List Entry) (e : Entry) → (e.block.task == task) ≡ true → lbns task (es ++ e ∷ []) ≡ lbns task es ++ e.block.lbn ∷ []
 lbns-own task [] e own = rw own refl
@@ -51,23 +51,23 @@ still_at [] y x i at = absurd (omega (arith, slice_get_within [] i x at))
 still_at (z ∷ zs) y x zero at = at
 still_at (z ∷ zs) y x (suc i) at = still_at zs y x i at
 
--- the runs of a list of LBNs are runs when one more follows
-pub runs_stay : (xs : List ℕ) (y : ℕ) (run : Run) → BeginsRun xs run → BeginsRun (xs ++ y ∷ []) run
-runs_stay xs y run h = record {
+-- the streaks of a list of LBNs are streaks when one more follows
+pub streaks_stay : (xs : List ℕ) (y : ℕ) (streak : Streak) → BeginsStreak xs streak → BeginsStreak (xs ++ y ∷ []) streak
+streaks_stay xs y streak h = record {
   lbn = h.lbn;
-  at = still_at xs y h.lbn run.index h.at;
+  at = still_at xs y h.lbn streak.index h.at;
   region = h.region;
   anew = λ i before next at. elim (in_either xs y before i at) [
     | inl old ↦ h.anew i before next old.1
-    | inr last ↦ absurd (omega (arith, last.0, next, slice_get_within xs run.index h.lbn h.at))
+    | inr last ↦ absurd (omega (arith, last.0, next, slice_get_within xs streak.index h.lbn h.at))
   ];
 }
 
--- the last LBN begins a run, or it is none that is new
-pub last_begins : (xs : List ℕ) (y : ℕ) (run : Run) → run.index ≡ length xs → run.region ≡ region_of y
-    → ((i before : ℕ) → suc i ≡ run.index → slice_get xs i ≡ Some before → region_of before ≡ run.region → ⊥) → BeginsRun (xs ++ y ∷ []) run
-last_begins [] y run here region anew = record { lbn = y; at = ap (slice_get (y ∷ [])) here; region = sym region; anew = λ i before next at. absurd (omega (arith, next, here)) }
-last_begins (x ∷ xs) y run here region anew = record {
+-- the last LBN begins a streak, or it is none that is new
+pub last_begins : (xs : List ℕ) (y : ℕ) (streak : Streak) → streak.index ≡ length xs → streak.region ≡ region_of y
+    → ((i before : ℕ) → suc i ≡ streak.index → slice_get xs i ≡ Some before → region_of before ≡ streak.region → ⊥) → BeginsStreak (xs ++ y ∷ []) streak
+last_begins [] y streak here region anew = record { lbn = y; at = ap (slice_get (y ∷ [])) here; region = sym region; anew = λ i before next at. absurd (omega (arith, next, here)) }
+last_begins (x ∷ xs) y streak here region anew = record {
   lbn = y;
   at = ap (slice_get ((x ∷ xs) ++ y ∷ [])) here ∙ at_end (x ∷ xs) y;
   region = sym region;
@@ -80,27 +80,27 @@ last_begins (x ∷ xs) y run here region anew = record {
   at_end [] z = refl
   at_end (w ∷ zs) z = at_end zs z
 
-pub run_or_last : (xs : List ℕ) (y : ℕ) (run : Run) → BeginsRun (xs ++ y ∷ []) run → BeginsRun xs run ⊎ ((run.index ≡ length xs) × (run.region ≡ region_of y)
-    × ((i before : ℕ) → suc i ≡ run.index → slice_get xs i ≡ Some before → region_of before ≡ run.region → ⊥))
-run_or_last xs y run h = elim (in_either xs y h.lbn run.index h.at) [
+pub streak_or_last : (xs : List ℕ) (y : ℕ) (streak : Streak) → BeginsStreak (xs ++ y ∷ []) streak → BeginsStreak xs streak ⊎ ((streak.index ≡ length xs) × (streak.region ≡ region_of y)
+    × ((i before : ℕ) → suc i ≡ streak.index → slice_get xs i ≡ Some before → region_of before ≡ streak.region → ⊥))
+streak_or_last xs y streak h = elim (in_either xs y h.lbn streak.index h.at) [
   | inl old ↦ inl (record { lbn = h.lbn; at = old.1; region = h.region; anew = λ i before next at. h.anew i before next (still_at xs y before i at) })
   | inr last ↦ inr (last.0, sym h.region ∙ ap region_of last.1, λ i before next at. h.anew i before next (still_at xs y before i at))
 ]
 
--- each block lies in a run
-pub run_of : (xs : List ℕ) (k lbn : ℕ) → slice_get xs k ≡ Some lbn → (run : Run) × BeginsRun xs run × (run.region ≡ region_of lbn) × IsInRun xs run k
-run_of xs zero lbn at =
-    let run : Run = record { region = region_of lbn; index = 0 } in (
-      run,
+-- each block lies in a streak
+pub streak_of : (xs : List ℕ) (k lbn : ℕ) → slice_get xs k ≡ Some lbn → (streak : Streak) × BeginsStreak xs streak × (streak.region ≡ region_of lbn) × IsInStreak xs streak k
+streak_of xs zero lbn at =
+    let streak : Streak = record { region = region_of lbn; index = 0 } in (
+      streak,
       record { lbn = lbn; at = at; region = refl; anew = λ i before next there. absurd (omega (arith, next)) },
       refl,
       (omega arith, λ j other low high there. ap region_of (same_Some other lbn (sym there ∙ (ap (slice_get xs) (omega (arith, high)) ∙ at)))),
     )
-run_of xs (suc k) lbn at =
+streak_of xs (suc k) lbn at =
     let before = get_some xs k (omega (arith, slice_get_within xs (suc k) lbn at)) in
     elim (cases_Bool (region_of before.0 == region_of lbn)) [
       | inl same ↦
-          let r = run_of xs k before.0 before.1 in
+          let r = streak_of xs k before.0 before.1 in
           let region : r.0.region ≡ region_of lbn = r.2 ∙ grind (arith, nat_tests) in (
             r.0,
             r.1,
@@ -114,8 +114,8 @@ run_of xs (suc k) lbn at =
             ),
           )
       | inr other ↦
-          let run : Run = record { region = region_of lbn; index = suc k } in (
-            run,
+          let streak : Streak = record { region = region_of lbn; index = suc k } in (
+            streak,
             record {
               lbn = lbn;
               at = at;

@@ -12,7 +12,7 @@ use Rattle.fb_wanted.specs.declared.block.Entry.{Entry}
 use Rattle.fb_wanted.specs.declared.block.State.{State}
 use Rattle.fb_wanted.specs.declared.tasks.OfTask.{OfTask}
 use Rattle.fb_wanted.specs.declared.heads.OnTrack.{OnTrack}
-use Rattle.fb_wanted.specs.declared.runs.Run.{Run}
+use Rattle.fb_wanted.specs.declared.streaks.Streak.{Streak}
 use Rattle.fb_wanted.specs.Counting.{counts_of, no_counts, recounted}
 use Rattle.fb_wanted.specs.States.{shares, state_after, entry_after}
 use Rattle.fb_wanted.specs.Numbering.{AreInOrder, AreSmall, blocks_of}
@@ -90,32 +90,32 @@ pair_cmp a b = ordering_then (nat_cmp a.0 b.0) (nat_cmp a.1 b.1)
 abbrev pub region_of : ℕ → ℕ
 region_of lbn = lbn / 512
 
--- what is noted of a run of a task: the task, the region, and the number of the first block
-abbrev pub key_of : ℕ → Run → ℕ × ℕ × ℕ
-key_of task run = (task, run.region, run.index)
+-- what is noted of a streak of a task: the task, the region, and the number of the first block
+abbrev pub key_of : ℕ → Streak → ℕ × ℕ × ℕ
+key_of task streak = (task, streak.region, streak.index)
 
--- runs are ordered by task, by region, and then by number
-abbrev pub run_cmp : ℕ × ℕ × ℕ → ℕ × ℕ × ℕ → Ordering
-run_cmp a b = ordering_then (ordering_then (nat_cmp a.0 b.0) (nat_cmp a.1 b.1)) (nat_cmp a.2 b.2)
+-- streaks are ordered by task, by region, and then by number
+abbrev pub streak_cmp : ℕ × ℕ × ℕ → ℕ × ℕ × ℕ → Ordering
+streak_cmp a b = ordering_then (ordering_then (nat_cmp a.0 b.0) (nat_cmp a.1 b.1)) (nat_cmp a.2 b.2)
 
--- of two runs of a task the first one doesn't come behind the other
-abbrev pub IsUpTo : Run → Run → Type 0
+-- of two streaks of a task the first one doesn't come behind the other
+abbrev pub IsUpTo : Streak → Streak → Type 0
 IsUpTo a b = (a.region < b.region) ⊎ ((a.region ≡ b.region) × (a.index ≤ b.index))
 
--- from the run's first block up to number i, each block of these LBNs begins in the run's region
-abbrev pub IsInRun : List ℕ → Run → ℕ → Type 0
-IsInRun lbns run i = (run.index ≤ i) × ((j lbn : ℕ) → run.index ≤ j → j ≤ i → slice_get lbns j ≡ Some lbn → region_of lbn ≡ run.region)
+-- from the streak's first block up to number i, each block of these LBNs begins in the streak's region
+abbrev pub IsInStreak : List ℕ → Streak → ℕ → Type 0
+IsInStreak lbns streak i = (streak.index ≤ i) × ((j lbn : ℕ) → streak.index ≤ j → j ≤ i → slice_get lbns j ≡ Some lbn → region_of lbn ≡ streak.region)
 
--- the run begins with its first block: that one begins in the run's region, and the block before it doesn't
-pub record BeginsRun (lbns : List ℕ) (run : Run) : Type 0 where
+-- the streak begins with its first block: that one begins in the streak's region, and the block before it doesn't
+pub record BeginsStreak (lbns : List ℕ) (streak : Streak) : Type 0 where
   pub lbn : ℕ
-  pub at : slice_get lbns run.index ≡ Some lbn
-  pub region : region_of lbn ≡ run.region
-  pub anew : (i before : ℕ) → suc i ≡ run.index → slice_get lbns i ≡ Some before → region_of before ≡ run.region → ⊥
+  pub at : slice_get lbns streak.index ≡ Some lbn
+  pub region : region_of lbn ≡ streak.region
+  pub anew : (i before : ℕ) → suc i ≡ streak.index → slice_get lbns i ≡ Some before → region_of before ≡ streak.region → ⊥
 
--- what is noted are the runs of the tasks
+-- what is noted are the streaks of the tasks
 abbrev pub AreNoted : List Entry → BTreeSet (ℕ × ℕ × ℕ) → Type 0
-AreNoted entries runs = (task : ℕ) (run : Run) → (contains run_cmp runs (key_of task run) ≡ true) ↔ BeginsRun (lbns task entries) run
+AreNoted entries streaks = (task : ℕ) (streak : Streak) → (contains streak_cmp streaks (key_of task streak) ≡ true) ↔ BeginsStreak (lbns task entries) streak
 
 -- no block has more sectors than the longest
 abbrev pub AreShort : ℕ → List Entry → Type 0
@@ -173,9 +173,9 @@ change_first test change (suc k) (e ∷ es) = if test e then change e ∷ change
 abbrev pub changed_where : (ℕ → Bool) → ℕ → Change → List Entry → List Entry
 changed_where chosen task change entries = map (λ entry. if chosen entry.block.index then entry_after task change entry else entry) entries
 
--- beside the chosen blocks of a task at least those of a run are changed
-pub record HasChanged (task : ℕ) (change : Change) (run : Run) (entries : List Entry) (chosen : ℕ → Bool) (new : List Entry) : Type 0 where
+-- beside the chosen blocks of a task at least those of a streak are changed
+pub record HasChanged (task : ℕ) (change : Change) (streak : Streak) (entries : List Entry) (chosen : ℕ → Bool) (new : List Entry) : Type 0 where
   pub more : ℕ → Bool
   pub is : new ≡ changed_where more task change entries
   pub kept : (k : ℕ) → chosen k ≡ true → more k ≡ true
-  pub own : (k : ℕ) → k < length (lbns task entries) → IsInRun (lbns task entries) run k → more k ≡ true
+  pub own : (k : ℕ) → k < length (lbns task entries) → IsInStreak (lbns task entries) streak k → more k ≡ true

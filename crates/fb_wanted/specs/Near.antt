@@ -7,15 +7,15 @@ use Rattle.fb_wanted.specs.Index.{pair_cmp}
 use Rattle.fb_wanted.specs.Numbering.{blocks_of}
 use Rattle.fb_wanted.specs.States.{shares}
 
--- the stretch of an LBN: a stretch has 2,048 neighbouring LBNs, and the last one all from 2,048 (2^32 - 1) on
-abbrev pub stretch_of : ℕ → ℕ
-stretch_of lbn = min (lbn / 2048) (2 ^ 32 - 1)
+-- the chunk of an LBN: a chunk has 2,048 neighbouring LBNs, and the last one all from 2,048 (2^32 - 1) on
+abbrev pub chunk_of : ℕ → ℕ
+chunk_of lbn = min (lbn / 2048) (2 ^ 32 - 1)
 
--- the stretch in which a block begins, and its task
+-- the chunk in which a block begins, and its task
 abbrev pub near_of : Block → ℕ × ℕ
-near_of block = (stretch_of block.lbn, block.task)
+near_of block = (chunk_of block.lbn, block.task)
 
--- each block is noted by its stretch and its task
+-- each block is noted by its chunk and its task
 abbrev pub AreNear : List Entry → BTreeSet (ℕ × ℕ) → Type 0
 AreNear entries near = (i : ℕ) (block : Block) → slice_get (blocks_of entries) i ≡ Some block → contains pair_cmp near (near_of block) ≡ true
 

@@ -1,24 +1,24 @@
-// Which tasks have blocks near a range of sectors: the tasks with a block that begins in a stretch
-// of neighbouring LBNs are noted by the number of the stretch.
+// Which tasks have blocks near a range of sectors: the tasks with a block that begins in a chunk
+// of neighbouring LBNs are noted by the number of the chunk.
 ghost use Rattle.std.specs.Prelude.{◌≡◌, ◌<◌, ◌≤◌, true, false};
 ghost use Rattle.std.specs.BTreeSet.{contains};
 ghost use Rattle.fb_wanted.specs.declared.block.Block.{Block};
 ghost use Rattle.fb_wanted.specs.Index.{pair_cmp};
-ghost use Rattle.fb_wanted.specs.Near.{near_of, stretch_of};
+ghost use Rattle.fb_wanted.specs.Near.{near_of, chunk_of};
 ghost use Rattle.fb_wanted.specs.States.{shares};
 
 use crate::notes::next_noted;
 use std::collections::BTreeSet;
 
-/// The number of LBNs of a stretch, and the greatest number of sectors of a block. Stretch k has the
+/// The number of LBNs of a chunk, and the greatest number of sectors of a block. Chunk k has the
 /// LBNs from 2,048 k on, and the last one all LBNs behind.
-pub const STRETCH: u64 = 2048;
+pub const CHUNK: u64 = 2048;
 
-/// The stretch of an LBN.
-pub fn stretch_of(lbn: u64) -> u32
-    ensures { result ≡ stretch_of lbn }
+/// The chunk of an LBN.
+pub fn chunk_of(lbn: u64) -> u32
+    ensures { result ≡ chunk_of lbn }
 {
-    (lbn / STRETCH).min(u32::MAX as u64) as u32
+    (lbn / CHUNK).min(u32::MAX as u64) as u32
 }
 
 /// The first task, from `from` on, of which a block that may share a sector with the range is noted;
@@ -28,11 +28,11 @@ pub fn next_near(near: &BTreeSet<(u32, u32)>, first: u64, count: u64, from: u32,
     ensures order { (from ≤ result) × (result ≤ end) }
     ensures others { (block : Block) → contains pair_cmp near.now (near_of block) ≡ true → block.count ≤ 2048 → from ≤ block.task → block.task < result → shares first count block ≡ false }
 {
-    let low = stretch_of(first.saturating_sub(STRETCH - 1));
-    let high = stretch_of(first.saturating_add(count).saturating_sub(1));
+    let low = chunk_of(first.saturating_sub(CHUNK - 1));
+    let high = chunk_of(first.saturating_add(count).saturating_sub(1));
     let mut least = end;
-    for stretch in low..=high {
-        if let Some(task) = next_noted(near, stretch, from) {
+    for chunk in low..=high {
+        if let Some(task) = next_noted(near, chunk, from) {
             least = least.min(task);
         }
     }

@@ -1,5 +1,5 @@
 // The registered blocks, in order of registration, with their indexes by task, by track, by
-// cylinder, by band of cylinders, by stretch and by region of LBNs.
+// cylinder, by band of cylinders, by chunk and by region of LBNs.
 ghost use Rattle.std.specs.Prelude.{◌≡◌, List, suc, Bool, true, false, ◌+◌, ◌-◌, ◌<◌, ◌≤◌, ℕ, [], ◌∷◌, ◌++◌, ◌*◌, ◌/◌, length, filter, map, IfOk, OnOk, OnErr, IfSome, IfNone, Some, slice_get, get_or, ◌==◌, if◌then◌else◌};
 ghost use Rattle.fb_wanted.specs.declared.block.Block.{Block};
 ghost use Rattle.fb_wanted.specs.declared.block.Entry.{Entry};
@@ -18,9 +18,9 @@ use crate::changes::{shares, state_after, wanted_unless};
 use crate::counting::{counts_of, no_counts};
 use crate::depths::{Depth, NO_DEPTH, deepen, most_in};
 use crate::greatest::{Greatest, update_greatest};
-use crate::near::{next_near, stretch_of};
+use crate::near::{chunk_of, next_near};
 use crate::notes::note;
-use crate::runs::{Run, forget_run, is_behind, next_run, note_run, region_of};
+use crate::streaks::{Streak, forget_streak, is_behind, next_streak, note_streak, region_of};
 use crate::tasks::{OfTask, add_place, recount, take_place_back};
 use crate::tracks::{Tracks, weight_of};
 use crate::{Block, Change, Counts, Entry, State, TrackBlocks};
@@ -33,12 +33,12 @@ use std::marker::Model;
 ///
 /// Costs: to register, to deliver or to look up a block, to look up the blocks of a track, the
 /// counts of a task and the bounds of a band take constant time. Besides, a block takes logarithmic
-/// time if the block registered before it is another task's or begins in another stretch of 2,048
+/// time if the block registered before it is another task's or begins in another chunk of 2,048
 /// LBNs, and if the one before it in its task begins in another region of 512 LBNs: a note is kept
 /// for each of these. To suspend or to resume takes constant time for each block of the task. An
 /// abort or a want again takes constant time for each of the task's blocks that begin no farther
 /// before the range than the longest block reaches, and logarithmic time for each of their regions.
-/// The next task near a range is found in logarithmic time for each stretch of the range. When the
+/// The next task near a range is found in logarithmic time for each chunk of the range. When the
 /// heaviest track of a cylinder loses weight, each track of that cylinder is looked at, and likewise
 /// each cylinder of a band when its heaviest one does. There is an entry for each task number up to
 /// the greatest one, for each cylinder up to the last one with a block, and for each head of a
@@ -49,7 +49,7 @@ pub struct Wanted {
     entries: Vec<Entry>,
     tasks: Vec<OfTask>,
     tracks: Tracks,
-    runs: BTreeSet<(u32, u64, u32)>,
+    streaks: BTreeSet<(u32, u64, u32)>,
     // No block has more sectors.
     longest: u32,
     near: BTreeSet<(u32, u32)>,
@@ -68,7 +68,7 @@ impl Model for Wanted {
 
     ghost view = { λ w. w.entries.items };
 
-    ghost invariant = { λ w. IsKept w.entries.items w.tasks.items w.tracks × AreNoted w.entries.items w.runs × AreGreatest w.tracks w.greatest × AreDeep w.entries.items w.depths.items × AreNear w.entries.items w.near × AreShort w.longest w.entries.items };
+    ghost invariant = { λ w. IsKept w.entries.items w.tasks.items w.tracks × AreNoted w.entries.items w.streaks × AreGreatest w.tracks w.greatest × AreDeep w.entries.items w.depths.items × AreNear w.entries.items w.near × AreShort w.longest w.entries.items };
 }
 
 // Adds a block that is to be registered to the indexes by task and by track, and returns the wanted
@@ -188,9 +188,9 @@ impl Wanted {
         }
     }
 
-    // Whether a block that is to be registered begins a run: the first of its task does, and one in another region
+    // Whether a block that is to be registered begins a streak: the first of its task does, and one in another region
     // than the block of its task before it.
-    fn begins_run(&self, block: Block) -> bool
+    fn begins_streak(&self, block: Block) -> bool
         requires { block.index ≡ length (filter (of_task block.task) self.now) }
         ensures new { result ≡ true → (i last : ℕ) → suc i ≡ block.index → slice_get (lbns block.task self.now) i ≡ Some last → region_of last ≡ region_of block.lbn → ⊥ }
         ensures same { result ≡ false → (last : ℕ) × (0 < block.index) × (slice_get (lbns block.task self.now) (block.index - 1) ≡ Some last) × (region_of last ≡ region_of block.lbn) }
@@ -202,8 +202,8 @@ impl Wanted {
         region_of(before.lbn) != region_of(block.lbn)
     }
 
-    // Whether a block that is to be registered begins in another stretch than the one registered last,
-    // or is another task's; else its stretch and its task are noted.
+    // Whether a block that is to be registered begins in another chunk than the one registered last,
+    // or is another task's; else its chunk and its task are noted.
     fn is_new_near(&self, block: Block) -> bool
         ensures { result ≡ false → (i : ℕ) × (before : Block) × (slice_get (blocks_of self.now) i ≡ Some before) × (near_of before ≡ near_of block) }
     {
@@ -215,19 +215,19 @@ impl Wanted {
         if last.task != block.task {
             return true;
         }
-        stretch_of(last.lbn) != stretch_of(block.lbn)
+        chunk_of(last.lbn) != chunk_of(block.lbn)
     }
 
-    // Changes the blocks of a run of the task that share a sector with the range.
-    fn change_run(&mut self, task: u32, run: Run, first: u64, count: u64, change: Change)
+    // Changes the blocks of a streak of the task that share a sector with the range.
+    fn change_streak(&mut self, task: u32, streak: Streak, first: u64, count: u64, change: Change)
         requires within { IsWithin change first count }
         requires stable { IsStable change }
-        ensures { (es : List Entry) (chosen : ℕ → Bool) → self.old ≡ changed_where chosen task change es → HasChanged task change run es chosen self.new }
+        ensures { (es : List Entry) (chosen : ℕ → Bool) → self.old ≡ changed_where chosen task change es → HasChanged task change streak es chosen self.new }
     {
         let _ = &self.entries;
-        for k in run.index..self.registered_by(task) {
+        for k in streak.index..self.registered_by(task) {
             let block = self.entry_of(task, k).block;
-            if region_of(block.lbn) != run.region {
+            if region_of(block.lbn) != streak.region {
                 return;
             }
             if shares(block, first, count) {
@@ -236,7 +236,7 @@ impl Wanted {
         }
     }
 
-    // Changes the blocks of the task that share a sector with the range, in runs that begin near it: no block is longer
+    // Changes the blocks of the task that share a sector with the range, in streaks that begin near it: no block is longer
     // than the longest.
     fn change_range(&mut self, task: u32, first: u64, count: u64, change: Change)
         requires within { IsWithin change first count }
@@ -245,18 +245,18 @@ impl Wanted {
     {
         let _ = &self.entries;
         let start = region_of(first.saturating_sub(self.longest as u64));
-        let mut from = Run {
+        let mut from = Streak {
             region: start,
             index: 0,
         };
-        while let Some(run) = next_run(&self.runs, task, from) {
-            if is_behind(run.region, first, count) {
+        while let Some(streak) = next_streak(&self.streaks, task, from) {
+            if is_behind(streak.region, first, count) {
                 return;
             }
-            self.change_run(task, run, first, count, change);
-            from = Run {
-                region: run.region,
-                index: run.index + 1,
+            self.change_streak(task, streak, first, count, change);
+            from = Streak {
+                region: streak.region,
+                index: streak.index + 1,
             };
         }
     }
@@ -270,7 +270,7 @@ impl Wanted {
             entries: Vec::new(alloc),
             tasks: Vec::new(alloc),
             tracks: Tracks::new(alloc),
-            runs: BTreeSet::new(alloc),
+            streaks: BTreeSet::new(alloc),
             longest: 0,
             near: BTreeSet::new(alloc),
             greatest: Greatest::new(alloc),
@@ -290,20 +290,20 @@ impl Wanted {
     {
         let state = wanted_unless(suspended);
         let entry = Entry { block, state };
-        let begins_run = self.begins_run(block);
-        let run = Run {
+        let begins_streak = self.begins_streak(block);
+        let streak = Streak {
             region: region_of(block.lbn),
             index: block.index,
         };
         let is_new = self.is_new_near(block);
-        let stretch = stretch_of(block.lbn);
+        let chunk = chunk_of(block.lbn);
         let place = self.entries.len() as u32;
         let band = band_of(block);
         self.entries.reserve(1)?;
-        note(&mut self.near, stretch, block.task, is_new)?;
+        note(&mut self.near, chunk, block.task, is_new)?;
         self.greatest.add_room(block.track.cylinder)?;
         add_bands(&mut self.depths, band, NO_DEPTH)?;
-        note_run(&mut self.runs, block.task, run, begins_run)?;
+        note_streak(&mut self.streaks, block.task, streak, begins_streak)?;
         match add_to_index(&mut self.tasks, &mut self.tracks, self.alloc, place, entry) {
             Ok(weight) => {
                 update_greatest(&mut self.greatest, &self.tracks, block.track, weight, 0);
@@ -313,7 +313,7 @@ impl Wanted {
                 Ok(())
             }
             Err(error) => {
-                forget_run(&mut self.runs, block.task, run);
+                forget_streak(&mut self.streaks, block.task, streak);
                 Err(error)
             }
         }

@@ -1,7 +1,7 @@
 use Rattle.std.proofs.Common.{◌≡◌, ◌-◌, ◌<◌, ◌∙◌, Some, ap, sym, refl, subst, arith, length, slice_get}
 use Rattle.std.proofs.lemmas.Bool.Decides.{nat_tests}
 use Rattle.std.proofs.lemmas.Option.{slice_get_read}
-use Rattle.fb_wanted.specs.Near.{stretch_of}
+use Rattle.fb_wanted.specs.Near.{chunk_of}
 use Rattle.fb_wanted.proofs.Nearby.{block_at}
 use Rattle.fb_wanted.proofs.wanted.Wanted.is_new_near.Goals as goal
 
@@ -12,6 +12,6 @@ returns c = λ old.
     let entry = c.index.result.now in
     let there : place < length items = omega (arith, c.len-count.ensures, c.self.inside.entries.ok.0, c.if-count-eq0.false) in
     let at = subst (λ es. slice_get es place ≡ Some entry) c.self.view_is (slice_get_read items (length items) place entry refl there c.index.ensures) in
-    let stretch : stretch_of entry.block.lbn ≡ stretch_of c.args.block.lbn = sym c.stretch_of.ensures ∙ (grind (arith, nat_tests) ∙ c.stretch_of-2.ensures) in
-    let near = ap (λ s. (s, entry.block.task)) stretch ∙ ap (λ t. (stretch_of c.args.block.lbn, t)) c.if-last-block.false in
+    let chunk : chunk_of entry.block.lbn ≡ chunk_of c.args.block.lbn = sym c.chunk_of.ensures ∙ (grind (arith, nat_tests) ∙ c.chunk_of-2.ensures) in
+    let near = ap (λ s. (s, entry.block.task)) chunk ∙ ap (λ t. (chunk_of c.args.block.lbn, t)) c.if-last-block.false in
     (place, entry.block, block_at c.args.self.now place entry at, near)

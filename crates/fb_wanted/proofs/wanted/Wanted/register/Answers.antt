@@ -19,8 +19,8 @@ use Rattle.fb_wanted.proofs.wanted.Wanted.register.Goals as goal
 its_number : (block : Block) (es : List Entry) → block.index ≡ registered block.task (blocks_of es) → block.index ≡ length (filter (of_task block.task) es)
 its_number block es free = free ∙ (ap length (task-blocks block.task es) ∙ length-map (filter (of_task block.task) es) (λ e. e.block))
 
-pub begins_run-begins_run-requires : goal.begins_run-begins_run-requires
-begins_run-begins_run-requires c = its_number c.args.block c.args.self.now c.requires.numbered
+pub begins_streak-begins_streak-requires : goal.begins_streak-begins_streak-requires
+begins_streak-begins_streak-requires c = its_number c.args.block c.args.self.now c.requires.numbered
 
 pub add_to_index-requires-clause-room : goal.add_to_index-requires-clause-room
 add_to_index-requires-clause-room c = weight_small c.self.inside.entries.items c.self.inside.tasks.items c.self.inside.tracks c.self.invariant.0 c.args.block.track
@@ -66,16 +66,16 @@ invariant_of-self-in-Ok c =
     let roomy = greatest_still c.self.inside.tracks c.self.inside.greatest c.add_room.new.self c.self.invariant.2 c.in_ok-add_room.ensures.stay c.in_ok-add_room.ensures.longer in (
       kept_pushed entry items c.self.inside.tasks.items c.add_to_index.new.tasks.items c.self.inside.tracks c.add_to_index.new.tracks c.push.new.self.items c.len-place.result list place c.self.invariant.0 free room c.requires.light c.requires.short
           c.in-Ok.ensures.tasks c.in-Ok.ensures.tracks,
-      subst (λ l. AreNoted l c.note_run.new.runs) (sym list)
-          (noted_more items task c.region_of.result c.args.block.index c.self.inside.runs c.note_run.new.runs c.begins_run-begins_run.result c.self.invariant.1 next c.in_ok-note_run.ensures.stay c.in_ok-note_run.ensures.more entry refl (sym c.region_of.ensures)
-          c.in_ok-note_run.ensures.noted
-          (λ old. let it = c.begins_run-begins_run.ensures.same old in (it.0, it.1, ap (λ es. slice_get (lbns task es) (c.args.block.index - 1)) c.self.view_is ∙ it.2, it.3 ∙ sym c.region_of.ensures))
-          (λ new i before to at same. c.begins_run-begins_run.ensures.new new i before to (ap (λ es. slice_get (lbns task es) i) (sym c.self.view_is) ∙ at) (same ∙ c.region_of.ensures))),
+      subst (λ l. AreNoted l c.note_streak.new.streaks) (sym list)
+          (noted_more items task c.region_of.result c.args.block.index c.self.inside.streaks c.note_streak.new.streaks c.begins_streak-begins_streak.result c.self.invariant.1 next c.in_ok-note_streak.ensures.stay c.in_ok-note_streak.ensures.more entry refl (sym c.region_of.ensures)
+          c.in_ok-note_streak.ensures.noted
+          (λ old. let it = c.begins_streak-begins_streak.ensures.same old in (it.0, it.1, ap (λ es. slice_get (lbns task es) (c.args.block.index - 1)) c.self.view_is ∙ it.2, it.3 ∙ sym c.region_of.ensures))
+          (λ new i before to at same. c.begins_streak-begins_streak.ensures.new new i before to (ap (λ es. slice_get (lbns task es) i) (sym c.self.view_is) ∙ at) (same ∙ c.region_of.ensures))),
       greatest_settled c.self.inside.tracks c.add_to_index.new.tracks c.args.block.track (grown c.len-place.result (wanted_weight c.args.block.track (entry ∷ []))) c.add_room.new.self roomy c.in-Ok.ensures.tracks
           c.update_greatest.new.greatest (c.in-Ok.ensures.no_longer (length c.add_room.new.self) roomy.there c.in_ok-add_room.ensures.there) c.update_greatest.ensures.length c.update_greatest.ensures.weights,
       deep_pushed items c.push.new.self.items entry c.band_of-band.result c.add_bands.new.bands.items c.deepen.new.depths.items list c.band_of-band.ensures c.requires.light
           (deep_still items c.self.inside.depths.items c.add_bands.new.bands.items c.self.invariant.3 c.in_ok-add_bands.ensures.stay) c.deepen.ensures,
-      near_pushed items c.push.new.self.items entry c.self.inside.near c.note.new.notes c.stretch_of-stretch.result c.is_new_near-is_new.result list c.self.invariant.4 c.in_ok-note.ensures.stay c.stretch_of-stretch.ensures
+      near_pushed items c.push.new.self.items entry c.self.inside.near c.note.new.notes c.chunk_of-chunk.result c.is_new_near-is_new.result list c.self.invariant.4 c.in_ok-note.ensures.stay c.chunk_of-chunk.ensures
           c.in_ok-note.ensures.noted (subst (λ es. c.is_new_near-is_new.result ≡ false → (i : ℕ) × (before : Block) × (slice_get (blocks_of es) i ≡ Some before) × (near_of before ≡ near_of c.args.block)) (sym c.self.view_is) c.is_new_near-is_new.ensures),
       subst (AreShort c.max-self-inside.result) (sym list) (short_more items entry c.self.inside.longest c.max-self-inside.result c.self.invariant.5 (omega (arith, c.max-self-inside.ensures)) (omega (arith, c.max-self-inside.ensures))),
     )
@@ -96,9 +96,9 @@ invariant_of-self-in-Err c =
         small = old.small;
         index = record { by_task = λ t. stay.tasks_stay t ∙ old.index.by_task t; by_track = λ t. stay.tracks_stay t ∙ old.index.by_track t };
       }),
-      subst (λ es. AreNoted es c.forget_run.new.runs) list
-          (noted_back items c.args.block.task c.region_of.result c.args.block.index c.self.inside.runs c.note_run.new.runs c.begins_run-begins_run.result c.self.invariant.1 next c.in_ok-note_run.ensures.stay c.in_ok-note_run.ensures.more
-          c.forget_run.new.runs c.forget_run.ensures.gone c.forget_run.ensures.only c.forget_run.ensures.others),
+      subst (λ es. AreNoted es c.forget_streak.new.streaks) list
+          (noted_back items c.args.block.task c.region_of.result c.args.block.index c.self.inside.streaks c.note_streak.new.streaks c.begins_streak-begins_streak.result c.self.invariant.1 next c.in_ok-note_streak.ensures.stay c.in_ok-note_streak.ensures.more
+          c.forget_streak.new.streaks c.forget_streak.ensures.gone c.forget_streak.ensures.only c.forget_streak.ensures.others),
       record {
         weights = λ t. subst (λ on. on.weight ≤ get_or c.add_room.new.self t.cylinder 0) (sym (stay.tracks_stay t)) (roomy.weights t);
         there = stay.no_longer (length c.add_room.new.self) roomy.there c.in_ok-add_room.ensures.there;

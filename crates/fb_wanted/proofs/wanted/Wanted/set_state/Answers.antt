@@ -72,7 +72,7 @@ invariant_of-self c =
     let same = items-with_state c.args.state c.args.place c.index-entry.result.now items here in (
       kept_set c.args.state c.args.place c.index-entry.result.now items c.self.inside.tracks c.reweigh-weight.new.self here c.self.inside.tasks.items c.recount.new.tasks.items c.counts_of.result c.counts_of-2.result c.weight_of-lost.result c.weight_of-gained.result
           c.self.invariant.0 c.counts_of.ensures c.counts_of-2.ensures c.weight_of-lost.ensures.value c.weight_of-gained.ensures.value c.recount.ensures c.reweigh-weight.ensures.tracks,
-      subst (λ l. AreNoted l c.self.inside.runs) (sym same) (noted-with_state c.args.state c.args.place items c.self.inside.runs c.self.invariant.1),
+      subst (λ l. AreNoted l c.self.inside.streaks) (sym same) (noted-with_state c.args.state c.args.place items c.self.inside.streaks c.self.invariant.1),
       greatest_settled c.self.inside.tracks c.reweigh-weight.new.self c.index-entry.result.now.block.track (reweighed c.weight_of-lost.result c.weight_of-gained.result) c.self.inside.greatest c.self.invariant.2 c.reweigh-weight.ensures.tracks
           c.update_greatest.new.greatest (omega (arith, c.reweigh-weight.ensures.length, c.self.invariant.2.there))
           c.update_greatest.ensures.length c.update_greatest.ensures.weights,

@@ -3,7 +3,7 @@ use Rattle.std.proofs.lemmas.Bool.Decides.{nat_tests}
 use Rattle.std.proofs.lemmas.Option.{same_Some}
 use Rattle.fb_wanted.specs.Index.{lbns, region_of}
 use Rattle.fb_wanted.proofs.Regions.{lbn_at}
-use Rattle.fb_wanted.proofs.wanted.Wanted.begins_run.Goals as goal
+use Rattle.fb_wanted.proofs.wanted.Wanted.begins_streak.Goals as goal
 
 pub returns-clause-new : goal.returns-clause-new
 returns-clause-new c = λ new i last next at same.

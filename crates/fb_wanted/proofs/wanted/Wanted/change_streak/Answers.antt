@@ -9,8 +9,8 @@ use Rattle.fb_wanted.proofs.Standing.{nth_stays, passes, passing-nth}
 use Rattle.fb_wanted.proofs.OfTask.{own_after}
 use Rattle.fb_wanted.proofs.Regions.{lbn_at, length-lbns}
 use Rattle.fb_wanted.proofs.Choosing.{one_more, or_true, lbns_stay, blocks_stay}
-use Rattle.fb_wanted.proofs.wanted.Wanted.change_run.Goals.{then-shares, else-shares}
-use Rattle.fb_wanted.proofs.wanted.Wanted.change_run.Goals as goal
+use Rattle.fb_wanted.proofs.wanted.Wanted.change_streak.Goals.{then-shares, else-shares}
+use Rattle.fb_wanted.proofs.wanted.Wanted.change_streak.Goals as goal
 
 pub loop-k-init : goal.loop-k-init
 loop-k-init c = record { changed = λ es chosen same. (chosen, same, λ j own. own, λ j low high. absurd (omega (arith, low, high))); size = refl }
@@ -48,19 +48,19 @@ loop-k-preserved c =
       size = ap (λ l. length (filter test l)) turned ∙ (passing-nth test step (λ e. refl) k c.loop-k.self ∙ c.loop-k.invariant.size);
     }
 
--- a block of the run whose number has come is changed, and there is none from one on that begins in another region
-pub returns-then-region_of-run : goal.returns-then-region_of-run
-returns-then-region_of-run c = λ es chosen same.
+-- a block of the streak whose number has come is changed, and there is none from one on that begins in another region
+pub returns-then-region_of-streak : goal.returns-then-region_of-streak
+returns-then-region_of-streak c = λ es chosen same.
     let now = c.loop-k.invariant.changed es chosen same in
     record {
       more = now.0;
       is = now.1;
       kept = now.2;
-      own = λ k within run. elim (cases_lt k c.loop-k.k) [
-        | inl before ↦ now.3 k run.0 before
+      own = λ k within streak. elim (cases_lt k c.loop-k.k) [
+        | inl before ↦ now.3 k streak.0 before
         | inr not_before ↦
             let at = ap (λ l. slice_get l c.loop-k.k) (sym (ap (lbns c.args.task) now.1 ∙ lbns_stay now.0 c.args.task c.args.task c.args.change es)) ∙ lbn_at c.args.task c.loop-k.self c.loop-k.k c.entry_of.result c.entry_of.ensures in
-            absurd (c.if-region_of-run.true (c.region_of.ensures ∙ run.1 c.loop-k.k c.entry_of.result.block.lbn c.loop-k.auto.k not_before at))
+            absurd (c.if-region_of-streak.true (c.region_of.ensures ∙ streak.1 c.loop-k.k c.entry_of.result.block.lbn c.loop-k.auto.k not_before at))
       ];
     }
 
@@ -69,4 +69,4 @@ returns c = λ es chosen same.
     let now = c.loop-k.invariant.changed es chosen same in
     let length-now = length-lbns c.args.task c.args.self.now in
     let length-es = ap length (ap (lbns c.args.task) same ∙ lbns_stay chosen c.args.task c.args.task c.args.change es) in
-    record { more = now.0; is = now.1; kept = now.2; own = λ k within run. now.3 k run.0 (omega (arith, within, length-now, length-es, c.loop-k-test.false, c.registered_by-k-end.ensures)) }
+    record { more = now.0; is = now.1; kept = now.2; own = λ k within streak. now.3 k streak.0 (omega (arith, within, length-now, length-es, c.loop-k-test.false, c.registered_by-k-end.ensures)) }
