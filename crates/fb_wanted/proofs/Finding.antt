@@ -46,15 +46,25 @@ few_streaks task es streaks streak noted few has =
     omega (arith, slice_get_within (lbns task es) streak.index begins.lbn begins.at, length-lbns task es, filter-le (of_task task) es, few)
 
 -- the measure of a walk over streaks
-pub comes_later : (from streak : Streak) → (from.region < 2 ^ 64) × (from.index < 2 ^ 32) → IsUpTo from streak → streak.index + 1 < 2 ^ 32
-    → (2 ^ 64 - streak.region) * 2 ^ 32 + 2 ^ 32 - (streak.index + 1) < (2 ^ 64 - from.region) * 2 ^ 32 + 2 ^ 32 - from.index
-comes_later from streak fits (inl less) few = omega (arith, less, fits.0, fits.1)
-comes_later from streak fits (inr same) few = omega (arith, same.0, same.1, fits.0, fits.1)
+pub comes_later : (region index : ℕ) (streak : Streak) → IsUpTo (record { region = region; index = index }) streak → streak.region < 2 ^ 64
+    → streak.index + 1 < 2 ^ 32 → (2 ^ 64 - streak.region) * 2 ^ 32 + (2 ^ 32 - (streak.index + 1)) < (2 ^ 64 - region) * 2 ^ 32 + (2 ^ 32 - index)
+comes_later region index streak (inl less) fits few = omega (arith, less, fits, few)
+comes_later region index streak (inr same) fits few = omega (arith, same.0, same.1, fits, few)
+
+-- the streaks before this one that can reach the range are chosen
+abbrev pub AreChosen : (task first longest : ℕ) (es : List Entry) (chosen : ℕ → Bool) (from : Streak) → Type 0
+AreChosen task first longest es chosen from = (streak : Streak) (k : ℕ) → BeginsStreak (lbns task es) streak
+    → region_of (first - (longest - 1)) ≤ streak.region → (IsUpTo from streak → ⊥) → k < length (lbns task es)
+    → IsInStreak (lbns task es) streak k → chosen k ≡ true
+
+-- those from this one on begin behind the range
+abbrev pub AreBehind : (task first count : ℕ) (es : List Entry) (from : Streak) → Type 0
+AreBehind task first count es from = (streak : Streak) (lbn : ℕ) → BeginsStreak (lbns task es) streak → IsUpTo from streak
+    → region_of lbn ≡ streak.region → first + count ≤ lbn
 
 -- a block of a task that shares a sector with the range is chosen, or it begins behind the range
 shared : (task first count longest : ℕ) (es : List Entry) (chosen : ℕ → Bool) (from : Streak) → AreInOrder (blocks_of es) → AreShort longest es
-    → ((streak : Streak) (k : ℕ) → BeginsStreak (lbns task es) streak → region_of (first - longest) ≤ streak.region → (IsUpTo from streak → ⊥) → k < length (lbns task es) → IsInStreak (lbns task es) streak k → chosen k ≡ true)
-    → ((streak : Streak) (lbn : ℕ) → BeginsStreak (lbns task es) streak → IsUpTo from streak → region_of lbn ≡ streak.region → first + count ≤ lbn)
+    → AreChosen task first longest es chosen from → AreBehind task first count es from
     → (i : ℕ) (e : Entry) → slice_get es i ≡ Some e → of_task task e ≡ true → shares first count e.block ≡ true → chosen e.block.index ≡ true
 shared task first count longest es chosen from in_order short done rest i e at own inside =
     let place = among (of_task task) es i e at own in
@@ -67,20 +77,21 @@ shared task first count longest es chosen from in_order short done rest i e at o
           let behind = rest streak.0 e.block.lbn streak.1 up (sym streak.2) in
           let before : e.block.lbn < first + count = grind (arith, nat_tests) in absurd (omega (arith, behind, before))
       | inr not_up ↦
-          let near : first ≤ e.block.lbn + longest = grind (arith, nat_tests) in
-          let region : region_of (first - longest) ≤ streak.0.region = omega (arith, near, streak.2) in
-          ap chosen index ∙ done streak.0 place.0 streak.1 region not_up (slice_get_within (lbns task es) place.0 e.block.lbn lbn) streak.3
+          let near : first < e.block.lbn + e.block.count = grind (arith, nat_tests) in
+          let region : region_of (first - (longest - 1)) ≤ streak.0.region = omega (arith, near, few, streak.2) in
+          let within = slice_get_within (lbns task es) place.0 e.block.lbn lbn in
+          ap chosen index ∙ done streak.0 place.0 streak.1 region not_up within streak.3
     ]
 
 -- so all blocks of the task are as after the change
-pub finished : (task first count longest : ℕ) (change : Change) (es : List Entry) (chosen : ℕ → Bool) (from : Streak) → IsWithin change first count → AreInOrder (blocks_of es) → AreShort longest es
-    → ((streak : Streak) (k : ℕ) → BeginsStreak (lbns task es) streak → region_of (first - longest) ≤ streak.region → (IsUpTo from streak → ⊥) → k < length (lbns task es) → IsInStreak (lbns task es) streak k → chosen k ≡ true)
-    → ((streak : Streak) (lbn : ℕ) → BeginsStreak (lbns task es) streak → IsUpTo from streak → region_of lbn ≡ streak.region → first + count ≤ lbn)
+pub finished : (task first count longest : ℕ) (change : Change) (es : List Entry) (chosen : ℕ → Bool) (from : Streak) → IsWithin change first count
+    → AreInOrder (blocks_of es) → AreShort longest es → AreChosen task first longest es chosen from → AreBehind task first count es from
     → changed_where chosen task change es ≡ after task change es
-finished task first count longest change es chosen from within in_order short done rest = all_chosen chosen task change es (λ i e at. elim (cases_Bool (of_task task e)) [
-  | inl own ↦ elim (cases_Bool (shares first count e.block)) [
-    | inl inside ↦ inl (shared task first count longest es chosen from in_order short done rest i e at own inside)
-    | inr outside ↦ inr (own_after task change e e.state own (sym (within e.block e.state outside)))
-  ]
-  | inr other ↦ inr (others_after task change e other)
-])
+finished task first count longest change es chosen from within in_order short done rest =
+    all_chosen chosen task change es (λ i e at. elim (cases_Bool (of_task task e)) [
+      | inl own ↦ elim (cases_Bool (shares first count e.block)) [
+        | inl inside ↦ inl (shared task first count longest es chosen from in_order short done rest i e at own inside)
+        | inr outside ↦ inr (own_after task change e e.state own (sym (within e.block e.state outside)))
+      ]
+      | inr other ↦ inr (others_after task change e other)
+    ])

@@ -1,5 +1,5 @@
 // Which tasks have blocks near a range of sectors: the tasks with a block that begins in a chunk
-// of neighbouring LBNs are noted by the number of the chunk.
+// of 2,048 LBNs are noted by the number of the chunk.
 ghost use Rattle.std.specs.Prelude.{◌≡◌, ◌<◌, ◌≤◌, true, false};
 ghost use Rattle.std.specs.BTreeSet.{contains};
 ghost use Rattle.fb_wanted.specs.declared.block.Block.{Block};
@@ -11,7 +11,8 @@ use crate::notes::next_noted;
 use std::collections::BTreeSet;
 
 /// The number of LBNs of a chunk, and the greatest number of sectors of a block. Chunk k has the
-/// LBNs from 2,048 k on, and the last one all LBNs behind.
+/// LBNs from 2,048 k to 2,048 k + 2,047; the last one has all from its first on, and no disk
+/// reaches it.
 pub const CHUNK: u64 = 2048;
 
 /// The chunk of an LBN.

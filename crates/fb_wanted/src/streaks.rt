@@ -1,5 +1,6 @@
-// Where the streaks of a task's blocks begin. A streak has blocks that were registered one after another and whose first
-// sectors lie in one region of the disk, so that the blocks near a range are found without a look at all others.
+// Where the streaks of a task's blocks begin. A streak has blocks that were registered one after
+// another and begin in one region of the disk, so that the blocks near a range are found without a
+// look at all others.
 ghost use Rattle.std.specs.Prelude.{◌≡◌, ◌⊎◌, ℕ, ◌<◌, ◌≤◌, ◌+◌, ◌^◌, true, false, IfSome, IfNone, OnOk, OnErr};
 ghost use Rattle.std.specs.BTreeSet.{contains};
 ghost use Rattle.fb_wanted.specs.declared.streaks.Streak.{Streak};
@@ -77,11 +78,10 @@ pub fn next_streak(streaks: &BTreeSet<(u32, u64, u32)>, task: u32, from: Streak)
 
 /// Whether all blocks of a region begin behind the range of `count` sectors from the LBN `first` on.
 pub fn is_behind(region: u64, first: u64, count: u64) -> bool
-    ensures behind { result ≡ true → (lbn : ℕ) → region ≤ region_of lbn → first + count ≤ lbn }
-    ensures small { region < 2 ^ 64 }
+    ensures { result ≡ true → (lbn : ℕ) → region ≤ region_of lbn → first + count ≤ lbn }
 {
     match first.checked_add(count) {
-        Some(end) => region_of(end) < region,
+        Some(end) => region_of(end.saturating_sub(1)) < region,
         None => false,
     }
 }

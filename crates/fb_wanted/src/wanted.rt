@@ -32,17 +32,22 @@ use std::marker::Model;
 /// Registered blocks, each with its state, in order of registration.
 ///
 /// Costs: to register, to deliver or to look up a block, to look up the blocks of a track, the
-/// counts of a task and the bounds of a band take constant time. Besides, a block takes logarithmic
-/// time if the block registered before it is another task's or begins in another chunk of 2,048
-/// LBNs, and if the one before it in its task begins in another region of 512 LBNs: a note is kept
-/// for each of these. To suspend or to resume takes constant time for each block of the task. An
-/// abort or a want again takes constant time for each of the task's blocks that begin no farther
-/// before the range than the longest block reaches, and logarithmic time for each of their regions.
-/// The next task near a range is found in logarithmic time for each chunk of the range. When the
-/// heaviest track of a cylinder loses weight, each track of that cylinder is looked at, and likewise
-/// each cylinder of a band when its heaviest one does. There is an entry for each task number up to
-/// the greatest one, for each cylinder up to the last one with a block, and for each head of a
-/// cylinder up to the last one with a block.
+/// counts of a task and the bounds of a band take constant time. Besides, to register a block takes
+/// logarithmic time if it is the first of its task or the one before it in its task begins in
+/// another region of 512 LBNs, and if the block registered before it is another task's or begins in
+/// another chunk of 2,048 LBNs: a note is kept for each of these. To suspend or to resume takes
+/// constant time for each block of the task.
+///
+/// An abort or a want again looks at the regions that the range touches and at those before it from
+/// which the longest block reaches the range. It takes constant time for each of the task's blocks
+/// that begin in them, and logarithmic time for each streak of such blocks: they were registered one
+/// after another and begin in one region. The next task near a range is found in logarithmic time
+/// for each chunk that the range touches and for the one before them.
+///
+/// When the heaviest track of a cylinder loses weight, each track of that cylinder is looked at, and
+/// likewise each cylinder of a band when its heaviest one does. There is an entry for each task
+/// number up to the greatest one, for each cylinder up to the last one with a block, and for each
+/// head of a cylinder up to the last one with a block.
 #[derive(Drop)]
 pub struct Wanted {
     alloc: Global,
@@ -188,8 +193,8 @@ impl Wanted {
         }
     }
 
-    // Whether a block that is to be registered begins a streak: the first of its task does, and one in another region
-    // than the block of its task before it.
+    // Whether a block that is to be registered begins a streak: the first of its task does, and one
+    // in another region than the block of its task before it.
     fn begins_streak(&self, block: Block) -> bool
         requires { block.index ≡ length (filter (of_task block.task) self.now) }
         ensures new { result ≡ true → (i last : ℕ) → suc i ≡ block.index → slice_get (lbns block.task self.now) i ≡ Some last → region_of last ≡ region_of block.lbn → ⊥ }
@@ -236,28 +241,24 @@ impl Wanted {
         }
     }
 
-    // Changes the blocks of the task that share a sector with the range, in streaks that begin near it: no block is longer
-    // than the longest.
+    // Changes the blocks of the task that share a sector with the range, streak by streak: no block
+    // is longer than the longest, so all of them begin in the regions from `start` on.
     fn change_range(&mut self, task: u32, first: u64, count: u64, change: Change)
         requires within { IsWithin change first count }
         requires stable { IsStable change }
         ensures { self.new ≡ after task change self.old }
     {
         let _ = &self.entries;
-        let start = region_of(first.saturating_sub(self.longest as u64));
-        let mut from = Streak {
-            region: start,
-            index: 0,
-        };
-        while let Some(streak) = next_streak(&self.streaks, task, from) {
+        let start = region_of(first.saturating_sub(self.longest.saturating_sub(1) as u64));
+        let mut region = start;
+        let mut index = 0;
+        while let Some(streak) = next_streak(&self.streaks, task, Streak { region, index }) {
             if is_behind(streak.region, first, count) {
                 return;
             }
             self.change_streak(task, streak, first, count, change);
-            from = Streak {
-                region: streak.region,
-                index: streak.index + 1,
-            };
+            region = streak.region;
+            index = streak.index + 1;
         }
     }
 
