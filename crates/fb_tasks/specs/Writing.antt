@@ -6,7 +6,7 @@ use Rattle.fb_wanted.specs.declared.block.State.{State}
 use Rattle.fb_wanted.specs.States.{shares, is_delivered, wanted_unless}
 use Rattle.fb_tasks.specs.declared.session.Session.{Session}
 
--- the state of a block of this session after a write of the range: wanted again, if it is an open backup's
+-- a block's state after a write of the range: a delivered block of an open backup that shares a sector with it is wanted again, or suspended if its task is; any other stays as it is
 abbrev pub state_left : ℕ → ℕ → Option Session → Entry → State
 state_left first count None entry = entry.state
 state_left first count (Some session) entry =
