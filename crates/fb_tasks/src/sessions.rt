@@ -36,11 +36,12 @@ use std::marker::Model;
 /// The sessions in order of opening: a session's place is its task's number.
 ///
 /// Settling costs time for each task that was touched since the last settling; a delivery or a call
-/// costs time for its own task. A write costs time for each task with a block near its sectors, or
-/// for each open backup and each task touched since the last settling, whichever are fewer. A task
-/// is touched by a delivery, a want, an abort, a new segment and its close; one whose call ran out
-/// of memory may also cost time until it is touched and settled again. A session to which nothing
-/// happens costs nothing.
+/// costs time for its own task. A write costs time for each task of which a block was ever
+/// registered near its sectors, or for each open backup and each task touched since the last
+/// settling, whichever are fewer: for each of these, every chunk of 2,048 LBNs that the write
+/// touches is searched, and the one before them. A task is touched by a delivery, a want, an abort,
+/// a new segment and its close; one whose call ran out of memory may also cost time until it is
+/// touched and settled again. A session to which nothing happens costs nothing.
 #[derive(Drop)]
 pub struct Sessions {
     alloc: Global,
