@@ -21,7 +21,7 @@ pub struct Change {
     pub run: ContentRun,
 }
 
-// What the sectors of the replacement get, in the order in which it takes effect. All of them lie
+// What the sectors of the replacement get, in the order in which it takes effect, if all of them lie
 // below 10^12.
 pub fn contents_in_order(alloc: Global, run: &Run) -> Result<Contents, NoMemory>
     requires { AllByRecursion (IsWithin (10 ^ 12)) (events run.now) }
@@ -33,7 +33,7 @@ pub fn contents_in_order(alloc: Global, run: &Run) -> Result<Contents, NoMemory>
     contents_of(alloc, &changes)
 }
 
-// The contents of the changes, in their order; their sectors lie below 10^12.
+// The contents of the changes, in their order, if their sectors lie below 10^12.
 fn contents_of(alloc: Global, changes: &[Change]) -> Result<Contents, NoMemory>
     requires { AllByRecursion (λ change. IsInRange change.run) changes.now }
     ensures { IfOk result (λ contents. contents ≡ map (λ change. change.run) changes.now) }

@@ -5,7 +5,7 @@ use Rattle.fb_store.specs.declared.content.Content.{Content}
 use Rattle.fb_store.specs.declared.content.Content.TheVariants.{Filled, Unreadable}
 use Rattle.fb_store.specs.declared.content.ContentRun.{ContentRun}
 
--- the sectors of the run lie below 10^12
+-- the run ends at or below 10^12
 abbrev pub IsInRange : ContentRun → Type 0
 IsInRange run = run.first + run.count ≤ 10 ^ 12
 
