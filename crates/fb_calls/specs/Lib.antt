@@ -1,11 +1,5 @@
-pub mod Words
-pub mod Live
-pub mod Line
+pub mod Names
 pub mod Sessions
 pub mod Blocks
-pub mod Judgement
-pub mod Reading
 pub mod Promoted
-pub mod Verdict
-pub mod Reader
 pub mod Allowed

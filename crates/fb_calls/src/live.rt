@@ -29,8 +29,8 @@ impl Live {
         }
     }
 
-    // An empty list with room for this many blocks.
-    pub(crate) fn with_capacity(alloc: Global, blocks: usize) -> Result<Self, NoMemory>
+    /// An empty list with room for this many blocks. The only error is `NoMemory`.
+    pub fn with_capacity(alloc: Global, blocks: usize) -> Result<Self, NoMemory>
         ensures { IfOk result (λ live. live ≡ []) }
     {
         Ok(Live {

@@ -1,0 +1,11 @@
+pub mod Accepting
+pub mod Bits
+pub mod Cuttings
+pub mod Following
+pub mod Keeping
+pub mod LinesRead
+pub mod Lists
+pub mod LiveBlocks
+pub mod Positions
+pub mod Scripts
+pub mod Spelling

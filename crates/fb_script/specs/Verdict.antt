@@ -1,0 +1,22 @@
+-- What the result of reading says of the text.
+use Rattle.std.specs.Prelude.{◌≡◌, Result, Ok, Err}
+use Rattle.fb_calls.specs.declared.call.Calls.{Calls}
+use Rattle.fb_script.specs.declared.fault.CallsFault.{CallsFault}
+use Rattle.fb_script.specs.declared.fault.CallsError.{CallsError}
+use Rattle.fb_script.specs.declared.fault.CallsError.TheVariants.{Fault, NoMemory}
+use Rattle.fb_script.specs.Reading.{Accepted}
+
+-- the result is the verdict, or it is out of memory
+abbrev pub Answers : {A B : Type 0} → (A → B) → Result A CallsError → Result B CallsFault → Type 0
+Answers seen (Ok a) verdict = verdict ≡ Ok (seen a)
+Answers seen (Err (Fault fault)) verdict = verdict ≡ Err fault
+Answers seen (Err NoMemory) verdict = Unit {0}
+
+-- the value of a script
+abbrev pub accepted : Calls → Accepted
+accepted calls = record { names = calls.names; calls = calls.calls.items }
+
+-- the result of a step that doesn't allocate is the verdict
+abbrev pub Agrees : {A B E : Type 0} → (A → B) → Result A E → Result B E → Type 0
+Agrees seen (Ok a) verdict = verdict ≡ Ok (seen a)
+Agrees seen (Err reason) verdict = verdict ≡ Err reason
