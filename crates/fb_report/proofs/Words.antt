@@ -27,7 +27,7 @@ pub use Rattle.fb_units.specs.Numbers.{are_digits, digits_after}
 pub use Rattle.fb_store.specs.Fill.{sector_bytes}
 unfoldable pub use Rattle.fb_store.specs.Fill.{fill, mark}
 pub use Rattle.fb_store.specs.declared.content.ContentRun.{ContentRun}
-pub use Rattle.fb_calls.specs.Words.{is_name, is_name_byte}
+pub use Rattle.fb_calls.specs.Names.{is_name, is_name_byte}
 pub use Rattle.fb_report.specs.Back.{back_first, back_last, back_line, back_text, digest_text, gap_fields, got_fields, how_text}
 pub use Rattle.fb_report.specs.Back.{is_complete_text, segment_fields, task_fields, task_kind_text, task_text}
 unfoldable pub use Rattle.fb_report.specs.Back.{back_lines}

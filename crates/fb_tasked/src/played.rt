@@ -3,9 +3,10 @@ ghost use Rattle.std.specs.Prelude.{◌≡◌, ℕ, Some, true, false, slice_get
 ghost use Rattle.fb_tasked.specs.Following.{Follows};
 
 use crate::lines::lines;
-use fb_calls::{Calls, read_calls};
+use fb_calls::Calls;
 use fb_geometry::{Geometry, Layout, Outline, Zone};
 use fb_rows::{BackRow, BackRows, DeliveryRow, How};
+use fb_script::read_calls;
 use fb_sectormap::SectorMap;
 use fb_store::{Store, runs_are_fewest};
 use fb_tasks::Sessions;

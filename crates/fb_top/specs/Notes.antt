@@ -9,8 +9,8 @@ use Rattle.fb_params.specs.declared.fault.ParamsFault.{ParamsFault}
 use Rattle.fb_params.specs.declared.fault.ParamsFault.TheVariants as params
 use Rattle.fb_trace.specs.declared.trace.TraceReason.{TraceReason}
 use Rattle.fb_trace.specs.declared.trace.TraceReason.TheVariants as trace
-use Rattle.fb_calls.specs.declared.fault.CallsReason.{CallsReason}
-use Rattle.fb_calls.specs.declared.fault.CallsReason.TheVariants as calls
+use Rattle.fb_script.specs.declared.fault.CallsReason.{CallsReason}
+use Rattle.fb_script.specs.declared.fault.CallsReason.TheVariants as calls
 use Rattle.fb_bgwrite.specs.declared.fault.PutsReason.{PutsReason}
 use Rattle.fb_bgwrite.specs.declared.fault.PutsReason.TheVariants as puts
 use Rattle.fb_report.specs.Lines.{track_text}

@@ -4,13 +4,13 @@ ghost use Rattle.fb_top.specs.Status.{status_of};
 
 use crate::Runs;
 use fb_bgwrite::{PutsFault, SpillRun};
-use fb_calls::CallsFault;
 use fb_check::Verdict;
 use fb_desk::{Input, Output};
 use fb_mirror::Rebuilt;
 use fb_params::ParamsFault;
 use fb_report::ReportsFault;
 use fb_rows::Run;
+use fb_script::CallsFault;
 use fb_trace::TraceFault;
 use fb_words::UsageFault;
 

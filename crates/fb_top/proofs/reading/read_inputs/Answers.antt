@@ -1,7 +1,7 @@
 use Rattle.std.proofs.Common.{ℕ, ap, length, subst}
 use Rattle.fb_top.specs.Sources.{sources_of}
 use Rattle.fb_trace.specs.Verdict.{accepted}
-use Rattle.fb_calls.specs.Verdict.{accepted as accepted_calls}
+use Rattle.fb_script.specs.Verdict.{accepted as accepted_calls}
 use Rattle.fb_calls.specs.Allowed.{IsScript}
 use Rattle.fb_top.specs.Read.{ReadsScript, files_of}
 use Rattle.fb_top.specs.Causes.{AcceptsDisk, AcceptsTrace, StopsScript}

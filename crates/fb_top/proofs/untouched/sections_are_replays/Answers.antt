@@ -1,6 +1,6 @@
 use Rattle.std.proofs.Common.{List, ℕ, Option, length, ap, refl, sym, subst, ◌∙◌}
 use Rattle.std.specs.Prelude.{◌≡◌, ◌++◌, Bool, if◌then◌else◌}
-use Rattle.fb_calls.specs.Reading.{Accepted as Script}
+use Rattle.fb_script.specs.Reading.{Accepted as Script}
 use Rattle.fb_model.specs.Foreground.{promoted}
 use Rattle.fb_report.specs.declared.bytes.Bytes.{Bytes}
 use Rattle.fb_report.specs.Fore.{fore_text}
