@@ -12,7 +12,7 @@ use Rattle.fb_decide.specs.FullRuns.{AreRowsOf}
 use Rattle.fb_check.specs.Verdict.{Reports}
 use Rattle.fb_check.specs.Comparing.{IsReady, HasComparedFore, HasComparedBack}
 
--- these decisions have been made, their rows were taken out, and the lines of the rows were compared
+-- these steps have been made, their rows were taken out, and the lines of the rows were compared
 pub record HasJudged (inputs : Inputs) (printed : Reports) (more : Bool) (list : List Request) (course : Course) (pending : List Request) (count : ℕ) (fore back : Comparison) : Type 0 where
   pub steps : List Step
   pub made : HasMade inputs more steps list course pending count

@@ -125,7 +125,7 @@ pub record AreKnown (inputs : Inputs) : Type 0 where
   pub sound : IsSound inputs.disk.map
   pub takes_time : PassagesTakeTime inputs.disk.map
 
--- these decisions have been made, and perhaps more follow
+-- these steps have been made, and perhaps more follow
 pub record HasMade (inputs : Inputs) (more : Bool) (steps : List Step) (list : List Request) (course : Course) (pending : List Request) (count : ℕ) : Type 0 where
   pub known : AreKnown inputs
   pub list_is : list ≡ requests inputs

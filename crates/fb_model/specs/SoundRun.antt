@@ -51,7 +51,7 @@ AreFollowed medium past (delivery ∷ deliveries) =
     (delivery.after ≡ findings past delivery.got ++ test_rows medium (delivered delivery.got ∷ past) delivery.got.end)
     × AreFollowed medium (with_delivery past delivery) deliveries
 
--- a decision's test gives its rows, and each delivery's
+-- a step's test gives its rows, and each delivery's
 pub record IsTested (inputs : Inputs) (medium : Medium) (past : Past) (step : Step) : Type 0 where
   pub settled : step.settled ≡ test_rows medium (settled_past inputs past (decision_in step)) (instant_of (decision_in step))
   pub followed : AreFollowed medium (tested_past inputs past step) step.deliveries
@@ -68,7 +68,7 @@ pub record IsSoundBy (inputs : Inputs) (steps : List Step) (run : Run) : Type 0 
   -- the head can move like this, and the run ends with its last row
   pub possible : IsPossible inputs.disk (timeline inputs.disk run.back run.fore) run.end
   pub end : run.end ≡ run_end (decisions inputs)
-  -- there is a step at each decision
+  -- the steps stand at the run's decisions, one at each, in their order
   pub decided : decisions_in steps ≡ decisions inputs
   -- the background rows stand step by step, and then those of the tasks
   pub tasks : List BackRow

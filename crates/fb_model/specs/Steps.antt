@@ -1,4 +1,4 @@
--- The history of a run, decision by decision, and the rows that it gives.
+-- The steps of a run, the history that they make, and their rows.
 use Rattle.std.specs.Prelude.{ℕ, List, [], ◌∷◌, ◌++◌, length, drop, nat_le, map, filter}
 use Rattle.std.specs.List.{flat_map, fold, count_by}
 use Rattle.fb_calls.specs.declared.call.Action.{Action}

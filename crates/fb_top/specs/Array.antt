@@ -54,7 +54,7 @@ sections size bytes device (run ∷ runs) = section size bytes device run ++ sec
 unfoldable pub array_lines : ℕ → Bytes → List Run → List (List ℕ)
 array_lines size bytes runs = array_first ∷ (sections size bytes 0 runs ++ array_last (length runs) ∷ [])
 
--- a run whose foreground a report can show: its rows are few
+-- a run whose foreground a report can show: it has at most a million rows
 abbrev pub CanTellFore : Run → Type 0
 CanTellFore run = length run.fore ≤ 10 ^ 6
 

@@ -29,7 +29,7 @@ pub record IsRunOf (desk : DeskView) (terms : ReplayTerms) (run : Run) : Type 0 
   pub accepted : IsAccepted (inputs_of files (key_of terms.policy) terms.until)
   pub full : IsFull (inputs_of files (key_of terms.policy) terms.until) run
 
--- rows that a report can show: few in the foreground, and each task of the background has a name
+-- rows that a report can show: at most a million in the foreground, and each task of the background has a name
 pub record CanBeTold (names : List (List ℕ)) (run : Run) : Type 0 where
   pub few : length run.fore ≤ 10 ^ 6
   pub named : AllByRecursion (HasNamedTask names) run.back
