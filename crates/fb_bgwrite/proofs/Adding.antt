@@ -6,7 +6,8 @@ use Rattle.fb_bgwrite.proofs.Words.{Entry, Wanted, Delivered, Deliver, after, is
 use Rattle.fb_bgwrite.proofs.Words.{Put, Spilling, PutBlock, blocks_from, is_written, put_blocks, sectors, writes, left_over, sectors_in}
 use Rattle.fb_bgwrite.proofs.Words.{AreOnce, IsInTime, entry_of, first_blocks, ArePutsOn, IsSpilling, IsToWrite, IsUpTo, wrote_row}
 use Rattle.fb_bgwrite.proofs.Words.{HasRange}
-use Rattle.fb_bgwrite.proofs.{Admitting.first_in_order, Admitting.numbered_first, Appending.at_append, Lists.all_none}
+use Rattle.fb_puts.proofs.Lists.{all_none, at_append}
+use Rattle.fb_bgwrite.proofs.{Admitting.first_in_order, Admitting.numbered_first}
 use Rattle.fb_bgwrite.proofs.{PutBlocks.all_of_puts, PutBlocks.all_sectors, PutBlocks.blocks_split, PutBlocks.its_blocks}
 use Rattle.fb_bgwrite.proofs.{PutBlocks.puts_in_order, PutBlocks.IsOfPuts, Writing.delivered, Writing.left_less, Writing.none_once}
 use Rattle.fb_bgwrite.proofs.{Writing.once_more, Writing.once_stay, Writing.stay_left, Writing.stay_registered, Writing.told}

@@ -1,14 +1,15 @@
 -- The blocks of one more put are registered.
-use Rattle.fb_bgwrite.proofs.Words.{slice_get_within, length-take, take-append-drop, all_push, all_left, all_right, all_map, one_more}
-use Rattle.fb_bgwrite.proofs.Words.{all_get, Bor, None, ◌≡◌, ℕ, zero, suc, ◌+◌, ◌<◌, ◌≤◌, List, [], ◌∷◌, ◌++◌, true, false, Some, slice_get}
-use Rattle.fb_bgwrite.proofs.Words.{take, drop, map, length, refl, sym, ap, ap₂, ◌∙◌, subst, arith, inl, inr, append_assoc, append-nil}
-use Rattle.fb_bgwrite.proofs.Words.{if◌then◌else◌, ◌==◌, AllByRecursion, sum_by, cases_Bool, nat_tests, map-append, length-map, sum_by-cons}
-use Rattle.fb_bgwrite.proofs.Words.{IsRising, Shape, places, Cut, cutting, Disk, all_weaker, Block, Entry, Wanted, Delivered, blocks_of}
-use Rattle.fb_bgwrite.proofs.Words.{registered, wanted_of, numbered, AreOnDisk, FitsDisk, SpillItem, SpillLine, WroteLine, Put, Spilling}
-use Rattle.fb_bgwrite.proofs.Words.{share, AreApart, PutBlock, blocks_from, is_written, pending, put_blocks, writes, block_range}
-use Rattle.fb_bgwrite.proofs.Words.{ArePending, entry_of, first_blocks, wanted_entry, ArePutsOn, HasChosen, HasKept, IsSpilling, IsUpTo}
-use Rattle.fb_bgwrite.proofs.Words.{IsBest, WritesNothing, spill_rows, Spill, GapRow}
-use Rattle.fb_bgwrite.proofs.{Lists.none_any, Lists.some_one, PutBlocks.all_of_puts, PutBlocks.blocks_more, PutBlocks.blocks_split}
+use Rattle.fb_bgwrite.proofs.Words.{slice_get_within, length-take, take-append-drop, all_push, all_left, all_right, all_map}
+use Rattle.fb_bgwrite.proofs.Words.{one_more, all_get, Bor, None, ◌≡◌, ℕ, zero, suc, ◌+◌, ◌<◌, ◌≤◌, List, [], ◌∷◌, ◌++◌, true}
+use Rattle.fb_bgwrite.proofs.Words.{false, Some, slice_get, take, drop, map, length, refl, sym, ap, ap₂, ◌∙◌, subst, arith, inl}
+use Rattle.fb_bgwrite.proofs.Words.{inr, append_assoc, append-nil, if◌then◌else◌, ◌==◌, AllByRecursion, sum_by, cases_Bool}
+use Rattle.fb_bgwrite.proofs.Words.{nat_tests, map-append, length-map, sum_by-cons, IsRising, Shape, places, Cut, cutting, Disk}
+use Rattle.fb_bgwrite.proofs.Words.{all_weaker, Block, Entry, Wanted, Delivered, blocks_of, registered, wanted_of, numbered}
+use Rattle.fb_bgwrite.proofs.Words.{AreOnDisk, FitsDisk, SpillItem, SpillLine, WroteLine, Put, Spilling, share, AreApart, PutBlock}
+use Rattle.fb_bgwrite.proofs.Words.{blocks_from, is_written, pending, put_blocks, writes, block_range, ArePending, entry_of}
+use Rattle.fb_bgwrite.proofs.Words.{first_blocks, wanted_entry, ArePutsOn, HasChosen, HasKept, IsSpilling, IsUpTo, IsBest}
+use Rattle.fb_bgwrite.proofs.Words.{WritesNothing, spill_rows, Spill, GapRow, none_any, some_one}
+use Rattle.fb_bgwrite.proofs.{PutBlocks.all_of_puts, PutBlocks.blocks_more, PutBlocks.blocks_split}
 use Rattle.fb_bgwrite.proofs.{PutBlocks.few_blocks, PutBlocks.its_blocks, PutBlocks.none_registered, PutBlocks.order_left}
 use Rattle.fb_bgwrite.proofs.{PutBlocks.puts_in_order, PutBlocks.AreInOrder, PutBlocks.IsBefore, PutBlocks.IsOfPuts, Writing.pending_is}
 use Rattle.fb_bgwrite.specs.Blocks as puts

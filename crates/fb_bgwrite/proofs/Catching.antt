@@ -1,12 +1,13 @@
 -- What a stay catches are pending blocks, each once.
-use Rattle.fb_bgwrite.proofs.Words.{◌⊎◌, all_get, Bor, ◌≡◌, ℕ, zero, suc, ◌≤◌, List, [], ◌∷◌, ◌++◌, Bool, false, ◌||◌, Some, slice_get}
-use Rattle.fb_bgwrite.proofs.Words.{take, map, length, refl, sym, ap, ◌∙◌, subst, arith, inl, inr, ◌==◌, ◌&&◌, filter, AllByRecursion, fold}
-use Rattle.fb_bgwrite.proofs.Words.{list_any, cases_Bool, nat_tests, list_any-append, places, Disk, all_weaker, wanted_of, Dwell, catches}
-use Rattle.fb_bgwrite.proofs.Words.{Catch, is_before, place_in, catch_of, caught_of, begin-from-le, SpillItem, SpillLine, WroteLine}
-use Rattle.fb_bgwrite.proofs.Words.{SpillRow, Put, Spilling, PutBlock, is_written, writes, entry_of, first_blocks, ArePutsOn, HasKept}
-use Rattle.fb_bgwrite.proofs.Words.{IsSpilling, IsToWrite, wrote_row}
+use Rattle.fb_bgwrite.proofs.Words.{◌⊎◌, all_get, Bor, ◌≡◌, ℕ, zero, suc, ◌≤◌, List, [], ◌∷◌, ◌++◌, Bool, false, ◌||◌, Some}
+use Rattle.fb_bgwrite.proofs.Words.{slice_get, take, map, length, refl, sym, ap, ◌∙◌, subst, arith, inl, inr, ◌==◌, ◌&&◌, filter}
+use Rattle.fb_bgwrite.proofs.Words.{AllByRecursion, fold, list_any, cases_Bool, nat_tests, list_any-append, places, Disk}
+use Rattle.fb_bgwrite.proofs.Words.{all_weaker, wanted_of, Dwell, catches, Catch, is_before, place_in, catch_of, caught_of}
+use Rattle.fb_bgwrite.proofs.Words.{begin-from-le, SpillItem, SpillLine, WroteLine, SpillRow, Put, Spilling, PutBlock, is_written}
+use Rattle.fb_bgwrite.proofs.Words.{writes, entry_of, first_blocks, ArePutsOn, HasKept, IsSpilling, IsToWrite, wrote_row, all_of}
+use Rattle.fb_bgwrite.proofs.Words.{none_any}
 use Rattle.fb_plan.proofs.Sorted.{put_front, put_behind, all_place}
-use Rattle.fb_bgwrite.proofs.{Admitting.first_come, Admitting.first_in_order, Lists.all_of, Lists.none_any, PutBlocks.AreInOrder}
+use Rattle.fb_bgwrite.proofs.{Admitting.first_come, Admitting.first_in_order, PutBlocks.AreInOrder}
 use Rattle.fb_bgwrite.proofs.{PutBlocks.IsBefore, Writing.before_other}
 
 -- ---- in the order of delivery

@@ -1,10 +1,4 @@
 pub mod Words
-pub mod Lists
-pub mod TakenRanges
-pub mod Asking
-pub mod Appending
-pub mod LinesRead
-pub mod Shuffled
 pub mod Sums
 pub mod Values
 pub mod Choices

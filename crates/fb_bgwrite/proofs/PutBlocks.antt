@@ -1,13 +1,13 @@
 -- The blocks of puts: each passes whole in one turn of its track, they are told apart, and no two share a sector.
-use Rattle.fb_bgwrite.proofs.Words.{option_map, append-nil, slice_get-map, all_map, all_get, ◌≡◌, ◌⊎◌, ℕ, zero, suc, ◌+◌, ◌<◌, ◌≤◌, List}
-use Rattle.fb_bgwrite.proofs.Words.{[], ◌∷◌, ◌++◌, false, Some, slice_get, take, drop, map, length, refl, sym, ap, ◌∙◌, subst, arith, inl}
-use Rattle.fb_bgwrite.proofs.Words.{inr, append_assoc, ◌==◌, AllByRecursion, sum_by, nat_tests, map-append, sum_by-cons, sum_by-append}
-use Rattle.fb_bgwrite.proofs.Words.{Shape, places, Cut, IsOneTurn, cutting, track_at, Disk, all_weaker, Block, registered, numbered}
-use Rattle.fb_bgwrite.proofs.Words.{all_append, all_left, FitsDisk, Put, share, AreApart, range_of, PutBlock, blocks_from, sectors}
-use Rattle.fb_bgwrite.proofs.Words.{block_range}
+use Rattle.fb_bgwrite.proofs.Words.{option_map, append-nil, slice_get-map, all_map, all_get, ◌≡◌, ◌⊎◌, ℕ, zero, suc, ◌+◌, ◌<◌, ◌≤◌}
+use Rattle.fb_bgwrite.proofs.Words.{List, [], ◌∷◌, ◌++◌, false, Some, slice_get, take, drop, map, length, refl, sym, ap, ◌∙◌, subst}
+use Rattle.fb_bgwrite.proofs.Words.{arith, inl, inr, append_assoc, ◌==◌, AllByRecursion, sum_by, nat_tests, map-append, sum_by-cons}
+use Rattle.fb_bgwrite.proofs.Words.{sum_by-append, Shape, places, Cut, IsOneTurn, cutting, track_at, Disk, all_weaker, Block}
+use Rattle.fb_bgwrite.proofs.Words.{registered, numbered, all_append, all_left, FitsDisk, Put, share, AreApart, range_of, PutBlock}
+use Rattle.fb_bgwrite.proofs.Words.{blocks_from, sectors, block_range, is_shares, some_one}
+use Rattle.fb_puts.proofs.Sharing.{not_share}
 use Rattle.fb_bgwrite.specs.Blocks.{blocks_of}
 use Rattle.fb_model.proofs.Cuts.{AreCuts, cuts_are, cuts_rise}
-use Rattle.fb_bgwrite.proofs.{Lists.some_one, TakenRanges.is_shares, TakenRanges.not_share}
 
 -- the first block has the lesser put, or is an earlier one of the same put; and they share no sector
 pub record IsBefore (a b : Block) : Type 0 where

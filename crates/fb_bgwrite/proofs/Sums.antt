@@ -1,7 +1,6 @@
 -- Sums over lists.
-use Rattle.fb_bgwrite.proofs.Words.{sum_by-le-sum_by, ◌≡◌, ℕ, zero, suc, ◌<◌, ◌≤◌, List, [], ◌∷◌, Some, slice_get, subst, sym, arith}
-use Rattle.fb_bgwrite.proofs.Words.{AllByRecursion, sum_by, sum_by-cons}
-use Rattle.fb_bgwrite.proofs.Lists.{some_one}
+use Rattle.fb_bgwrite.proofs.Words.{sum_by-le-sum_by, ◌≡◌, ℕ, zero, suc, ◌<◌, ◌≤◌, List, [], ◌∷◌, Some, slice_get, subst, sym}
+use Rattle.fb_bgwrite.proofs.Words.{arith, AllByRecursion, sum_by, sum_by-cons, some_one}
 
 -- no element adds more
 pub sum_le_on : {X : Type 0} (f g : X → ℕ) (xs : List X) → AllByRecursion (λ x. f x ≤ g x) xs → sum_by f xs ≤ sum_by g xs

@@ -1,22 +1,19 @@
 -- The names that the proofs cite, of this crate's words and of the crates below: each proof takes them from here.
 pub use Rattle.std.proofs.Common.{Bool, Bor, Err, IfOk, List, None, Ok, OnErr, OnOk, Option, Result, Some, [], ap, append-nil, append_assoc}
-pub use Rattle.std.proofs.Common.{ap₂, arith, drop, false, filter, get_or, if◌then◌else◌, inl, inr, length, map, max, min, not, refl, rules}
+pub use Rattle.std.proofs.Common.{ap₂, arith, drop, false, filter, get_or, if◌then◌else◌, inl, inr, length, map, max, min, not, refl}
 pub use Rattle.std.proofs.Common.{slice_get, subst, suc, sym, take, true, zero, ℕ, ◌&&◌, ◌*◌, ◌++◌, ◌+◌, ◌-◌, ◌/◌, ◌<◌, ◌==◌, ◌^◌, ◌||◌}
 pub use Rattle.std.proofs.Common.{◌∙◌, ◌∷◌, ◌≡◌, ◌≢◌, ◌≤◌, ◌⊎◌}
-pub use Rattle.std.specs.BTreeMap.{BTreeMap, ContainsKey, get, is_at}
 pub use Rattle.std.specs.List.{AllByRecursion, count_by, flat_map, fold, list_any, range_with_len, slice_index_or, sum_by}
-pub use Rattle.std.specs.Option.{IsSome, option_map}
-pub use Rattle.std.specs.Ordering.{nat_cmp}
-pub use Rattle.std.specs.Prelude.{IsPermutation, nat_le, nat_lt}
+pub use Rattle.std.specs.Option.{option_map}
+pub use Rattle.std.specs.Prelude.{nat_le, nat_lt}
 pub use Rattle.std.proofs.lemmas.Bool.{and_parts, cases_Bool, cases_lt, leb-true, ltb-true, true≢false}
 pub use Rattle.std.proofs.lemmas.Bool.Decides.{nat_tests}
-pub use Rattle.std.proofs.lemmas.List.{drop_all, length-append, length-map, length-take, length_push, map-append, map_push}
+pub use Rattle.std.proofs.lemmas.List.{drop_all, length-append, length-map, length-take, length_push, map-append}
 pub use Rattle.std.proofs.lemmas.List.{take-append-drop}
 pub use Rattle.std.proofs.lemmas.List.Folds.{list_any-append}
 pub use Rattle.std.proofs.lemmas.List.Sums.{count_by-le-length, sum_by-append, sum_by-cons, sum_by-le-sum_by, sum_by_push}
 pub use Rattle.std.proofs.lemmas.Option.{slice_get-get_or, slice_get-map, slice_get_within}
-pub use Rattle.std.proofs.lemmas.Result.{IfOk-weaker, err_from_is_err_and, on_ok_weaker}
-pub use Rattle.fb_units.specs.Lines.{fields_of, lines_of}
+pub use Rattle.std.proofs.lemmas.Result.{IfOk-weaker, on_ok_weaker}
 pub use Rattle.fb_units.specs.Rising.{IsRising}
 pub use Rattle.fb_units.specs.Tracks.{same_track}
 pub use Rattle.fb_units.specs.declared.types.Track.{Track}
@@ -31,8 +28,17 @@ pub use Rattle.fb_sectormap.specs.declared.cut.Cut.{Cut}
 pub use Rattle.fb_seek.specs.Positioning.{distance_of}
 unfoldable pub use Rattle.fb_seek.specs.Positioning.{pos}
 pub use Rattle.fb_service.specs.declared.disk.Disk.{Disk}
-pub use Rattle.fb_calls.specs.Allowed.{tasks, terms_of}
-pub use Rattle.fb_calls.proofs.Lists.{all_push, all_weaker, rising_push}
+pub use Rattle.fb_calls.proofs.Lists.{all_push, all_weaker}
+pub use Rattle.fb_puts.specs.Asked.{request_range}
+pub use Rattle.fb_puts.specs.Ranges.{AreApart, lies_in, share}
+pub use Rattle.fb_puts.specs.Reading.{Accepted, range_of}
+pub use Rattle.fb_puts.specs.Rules.{ArePuts, IsPutOf}
+pub use Rattle.fb_puts.specs.Verdict.{accepted}
+pub use Rattle.fb_puts.specs.declared.puts.Put.{Put}
+pub use Rattle.fb_puts.specs.declared.puts.Puts.{Puts}
+pub use Rattle.fb_puts.specs.declared.range.SectorRange.{SectorRange}
+pub use Rattle.fb_puts.proofs.Lists.{all_of, none_any, some_one}
+pub use Rattle.fb_puts.proofs.Sharing.{is_shares}
 pub use Rattle.fb_wanted.specs.Numbering.{blocks_of, registered}
 pub use Rattle.fb_wanted.specs.States.{after, entry_after, is_block, is_wanted, on_track, wanted_of}
 pub use Rattle.fb_wanted.specs.declared.block.Block.{Block}
@@ -63,21 +69,14 @@ pub use Rattle.fb_plan.proofs.Ends.{begin-from-le, end-from-le}
 pub use Rattle.fb_detour.specs.Bounds.{slots_within, stay_gain}
 pub use Rattle.fb_detour.proofs.Ceilings.{and_false, longer_stay, stay-next, stay-of, weight_of_stay}
 pub use Rattle.fb_report.proofs.Lines.{AreLines, length_lines, line_first, line_last, line_row}
-pub use Rattle.fb_report.proofs.Ranges.{all_get, drop_got, get_left, get_right, one_more}
+pub use Rattle.fb_report.proofs.Ranges.{all_get, drop_got, one_more}
 pub use Rattle.fb_bgwrite.specs.AmendedWay.{amended, amended_legs, kept, kept_legs, planned_legs, spill_legs}
 unfoldable pub use Rattle.fb_bgwrite.specs.AmendedWay.{timeline_with}
-pub use Rattle.fb_bgwrite.specs.Asked.{ranges_in, request_range}
 pub use Rattle.fb_bgwrite.specs.Blocks.{PutBlock, is_pending, is_written, put_blocks, sectors, writes}
 unfoldable pub use Rattle.fb_bgwrite.specs.Blocks.{blocks_from, pending}
 pub use Rattle.fb_bgwrite.specs.Choosing.{AreLeast, ArePending, Beats, BeatsOn, BeatsRange, EndsAt, IsBestIf, IsEnough, IsGap, IsLast}
 pub use Rattle.fb_bgwrite.specs.Choosing.{IsMost, IsOnly, IsShare, IsValuedIf, Keeps, block_range, passes}
 pub use Rattle.fb_bgwrite.specs.Gaps.{HasNoFree, RunGap, delivers, gaps}
-pub use Rattle.fb_bgwrite.specs.Ranges.{AreApart, lies_in, share}
-pub use Rattle.fb_bgwrite.specs.Reader.{IsApart, IsNextPut, IsNextReserve, IsReader, MayFollow, progress, with_step}
-pub use Rattle.fb_bgwrite.specs.Reading.{Accepted, Progress, Terms, at_end, fault_at, next_progress, next_read, puts_of, range_of}
-pub use Rattle.fb_bgwrite.specs.Reading.{reserve_or_none}
-unfoldable pub use Rattle.fb_bgwrite.specs.Reading.{lines_from}
-pub use Rattle.fb_bgwrite.specs.Rules.{ArePuts, IsPutOf}
 pub use Rattle.fb_bgwrite.specs.Shortest.{AreAtLeast, IsAtLeast, IsNoShorter, IsUnder}
 pub use Rattle.fb_bgwrite.specs.Spilled.{AreGaps, AreOnce, IsGapOf, IsInTime, IsOfPut, IsSpillRun, fore_ranges, left_over, sectors_in}
 pub use Rattle.fb_bgwrite.specs.Spilling.{IsBest, IsSpill, WritesNothing, ready, stay_of}
@@ -85,18 +84,13 @@ unfoldable pub use Rattle.fb_bgwrite.specs.Spilling.{value}
 pub use Rattle.fb_bgwrite.specs.Standing.{ArePutsOn, HasChosen, HasKept, IsSpilling, IsToWrite, IsUpTo, entry_of, first_blocks}
 pub use Rattle.fb_bgwrite.specs.Standing.{wanted_entry}
 pub use Rattle.fb_bgwrite.specs.Steps.{IsChosenIf, IsRight, Step, rows_in, spill_row, spill_rows, step_of, steps, wrote_row}
-pub use Rattle.fb_bgwrite.specs.Taken.{AreTaken, HasTaken, IsKnown}
 pub use Rattle.fb_bgwrite.specs.Text.{HasRange, item_line, spill_first, spill_last}
 unfoldable pub use Rattle.fb_bgwrite.specs.Text.{spill_lines}
-pub use Rattle.fb_bgwrite.specs.Verdict.{Answers, accepted}
 pub use Rattle.fb_bgwrite.specs.declared.choice.Spill.{Spill}
 pub use Rattle.fb_bgwrite.specs.declared.choice.Valued.{Valued}
 pub use Rattle.fb_bgwrite.specs.declared.items.SpillItem.{SpillItem}
 pub use Rattle.fb_bgwrite.specs.declared.items.SpillItem.TheVariants.{Spill as SpillLine, Wrote as WroteLine}
 pub use Rattle.fb_bgwrite.specs.declared.items.SpillRow.{SpillRow}
 pub use Rattle.fb_bgwrite.specs.declared.items.WroteRow.{WroteRow}
-pub use Rattle.fb_bgwrite.specs.declared.puts.Put.{Put}
-pub use Rattle.fb_bgwrite.specs.declared.puts.Puts.{Puts}
-pub use Rattle.fb_bgwrite.specs.declared.range.SectorRange.{SectorRange}
 pub use Rattle.fb_bgwrite.specs.declared.search.Part.{Part}
 pub use Rattle.fb_bgwrite.specs.declared.spilling.Spilling.{Spilling}

@@ -1,13 +1,24 @@
 -- One more row: which blocks are pending after it, and how many sectors are left.
-use Rattle.fb_bgwrite.proofs.Words.{◌≢◌, ◌⊎◌, append-nil, all_weaker, none_kept, all_get, ◌≡◌, ℕ, zero, suc, ◌+◌, ◌<◌, ◌≤◌, List, [], ◌∷◌}
-use Rattle.fb_bgwrite.proofs.Words.{◌++◌, Bool, true, false, ◌&&◌, ◌||◌, not, Some, slice_get, map, refl, sym, ap, ap₂, ◌∙◌, subst, arith}
-use Rattle.fb_bgwrite.proofs.Words.{inl, inr, if◌then◌else◌, ◌==◌, filter, nat_le, AllByRecursion, list_any, cases_Bool, true≢false}
-use Rattle.fb_bgwrite.proofs.Words.{nat_tests, list_any-append, sum_by-cons, Block, Entry, Wanted, Delivered, Deliver, after, entry_after}
-use Rattle.fb_bgwrite.proofs.Words.{wanted_of, SpillItem, SpillLine, WroteLine, SpillRow, WroteRow, PutBlock, is_pending, is_written}
-use Rattle.fb_bgwrite.proofs.Words.{pending, sectors, writes, AreOnce, entry_of}
+use Rattle.fb_bgwrite.proofs.Words.{◌≢◌, ◌⊎◌, append-nil, all_weaker, none_kept, all_get, ◌≡◌, ℕ, zero, suc, ◌+◌, ◌<◌, ◌≤◌, List}
+use Rattle.fb_bgwrite.proofs.Words.{[], ◌∷◌, ◌++◌, Bool, true, false, ◌&&◌, ◌||◌, not, Some, slice_get, length, map, refl, sym, ap, ap₂}
+use Rattle.fb_bgwrite.proofs.Words.{◌∙◌, subst, arith, inl, inr, if◌then◌else◌, ◌==◌, filter, nat_le, AllByRecursion, list_any}
+use Rattle.fb_bgwrite.proofs.Words.{cases_Bool, true≢false, nat_tests, list_any-append, sum_by-cons, Block, Entry, Wanted}
+use Rattle.fb_bgwrite.proofs.Words.{Delivered, Deliver, after, entry_after, wanted_of, SpillItem, SpillLine, WroteLine, SpillRow}
+use Rattle.fb_bgwrite.proofs.Words.{WroteRow, PutBlock, is_pending, is_written, pending, sectors, writes, AreOnce, entry_of}
+use Rattle.fb_bgwrite.proofs.Words.{some_one}
 use Rattle.std.proofs.lemmas.List.Elements.{filter-append}
 use Rattle.fb_wanted.specs.declared.block.State.{State}
-use Rattle.fb_bgwrite.proofs.{Lists.before_or_last, Lists.some_one, PutBlocks.its_blocks, PutBlocks.AreInOrder, PutBlocks.IsBefore}
+use Rattle.fb_bgwrite.proofs.{PutBlocks.its_blocks, PutBlocks.AreInOrder, PutBlocks.IsBefore}
+
+-- an element of a list with one more is one of the list, or the last one
+before_or_last : {X : Type 0} (xs : List X) (x y : X) (i : ℕ) → slice_get (xs ++ x ∷ []) i ≡ Some y → (slice_get xs i ≡ Some y) ⊎ ((i ≡ length xs) × (x ≡ y))
+before_or_last [] x y zero is = inr (refl, some_one x y is)
+before_or_last [] x y (suc i) is = absurd (grind arith)
+before_or_last (z ∷ xs) x y zero is = inl is
+before_or_last (z ∷ xs) x y (suc i) is = elim (before_or_last xs x y i is) [
+  | inl before ↦ inl before
+  | inr last ↦ inr (ap suc last.0, last.1)
+]
 
 wrote_one : (a b : WroteRow) → WroteLine a ≡ WroteLine b → a ≡ b
 wrote_one a b e = grind arith

@@ -5,7 +5,7 @@ use Rattle.fb_geometry.specs.Shape.{Shape}
 use Rattle.fb_sectormap.specs.Cutting.{cutting}
 use Rattle.fb_wanted.specs.declared.block.Block.{Block}
 use Rattle.fb_model.specs.Segments.{numbered}
-use Rattle.fb_bgwrite.specs.declared.puts.Put.{Put}
+use Rattle.fb_puts.specs.declared.puts.Put.{Put}
 use Rattle.fb_bgwrite.specs.declared.items.SpillItem.{SpillItem}
 use Rattle.fb_bgwrite.specs.declared.items.SpillItem.TheVariants.{Spill, Wrote}
 

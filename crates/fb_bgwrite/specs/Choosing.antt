@@ -15,10 +15,10 @@ use Rattle.fb_plan.specs.Ways.{AreOnDisk}
 use Rattle.fb_detour.specs.Bounds.{slots_within}
 use Rattle.fb_bgwrite.specs.declared.choice.Spill.{Spill}
 use Rattle.fb_bgwrite.specs.declared.choice.Valued.{Valued}
-use Rattle.fb_bgwrite.specs.declared.range.SectorRange.{SectorRange}
+use Rattle.fb_puts.specs.declared.range.SectorRange.{SectorRange}
 use Rattle.fb_bgwrite.specs.declared.search.Moves.{Moves}
 use Rattle.fb_bgwrite.specs.declared.search.Part.{Part}
-use Rattle.fb_bgwrite.specs.Ranges.{AreApart}
+use Rattle.fb_puts.specs.Ranges.{AreApart}
 use Rattle.fb_bgwrite.specs.Spilling.{value, IsBest, IsNoLater, IsSpill, WritesNothing}
 
 -- a gap between tracks of the disk that doesn't end too late to be computed

@@ -10,8 +10,8 @@ use Rattle.fb_model.specs.Content.{number_of}
 use Rattle.fb_bgwrite.specs.declared.items.SpillItem.{SpillItem}
 use Rattle.fb_bgwrite.specs.declared.items.SpillItem.TheVariants.{Spill as SpillLine, Wrote as WroteLine}
 use Rattle.fb_bgwrite.specs.declared.items.WroteRow.{WroteRow}
-use Rattle.fb_bgwrite.specs.declared.range.SectorRange.{SectorRange}
-use Rattle.fb_bgwrite.specs.Asked.{request_range}
+use Rattle.fb_puts.specs.declared.range.SectorRange.{SectorRange}
+use Rattle.fb_puts.specs.Asked.{request_range}
 
 -- at an instant the sectors of a range get the fill of a writer
 pub record Fill : Type 0 where

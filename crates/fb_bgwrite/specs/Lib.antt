@@ -1,11 +1,3 @@
-pub mod Ranges
-pub mod Asked
-pub mod Line
-pub mod Reading
-pub mod Verdict
-pub mod Taken
-pub mod Rules
-pub mod Reader
 pub mod Blocks
 pub mod Gaps
 pub mod Spilling

@@ -15,10 +15,10 @@ use Rattle.fb_bgwrite.specs.declared.choice.Spill.{Spill}
 use Rattle.fb_bgwrite.specs.declared.items.SpillItem.{SpillItem}
 use Rattle.fb_bgwrite.specs.declared.items.SpillItem.TheVariants.{Spill as SpillLine, Wrote as WroteLine}
 use Rattle.fb_bgwrite.specs.declared.items.WroteRow.{WroteRow}
-use Rattle.fb_bgwrite.specs.declared.puts.Put.{Put}
-use Rattle.fb_bgwrite.specs.declared.range.SectorRange.{SectorRange}
+use Rattle.fb_puts.specs.declared.puts.Put.{Put}
+use Rattle.fb_puts.specs.declared.range.SectorRange.{SectorRange}
 use Rattle.fb_bgwrite.specs.AmendedWay.{amended, kept}
-use Rattle.fb_bgwrite.specs.Asked.{request_range}
+use Rattle.fb_puts.specs.Asked.{request_range}
 use Rattle.fb_bgwrite.specs.Blocks.{PutBlock, put_blocks, is_written, writes, sectors}
 use Rattle.fb_bgwrite.specs.Gaps.{gaps}
 use Rattle.fb_bgwrite.specs.Steps.{Step, IsRight, rows_in, steps}

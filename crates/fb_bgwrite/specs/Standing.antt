@@ -11,10 +11,10 @@ use Rattle.fb_bgwrite.specs.declared.choice.Spill.{Spill}
 use Rattle.fb_bgwrite.specs.declared.items.SpillItem.{SpillItem}
 use Rattle.fb_bgwrite.specs.declared.items.SpillItem.TheVariants.{Spill as SpillLine, Wrote as WroteLine}
 use Rattle.fb_bgwrite.specs.declared.spilling.Spilling.{Spilling}
-use Rattle.fb_bgwrite.specs.declared.puts.Put.{Put}
+use Rattle.fb_puts.specs.declared.puts.Put.{Put}
 use Rattle.fb_units.specs.Rising.{IsRising}
-use Rattle.fb_bgwrite.specs.Ranges.{AreApart}
-use Rattle.fb_bgwrite.specs.Reading.{range_of}
+use Rattle.fb_puts.specs.Ranges.{AreApart}
+use Rattle.fb_puts.specs.Reading.{range_of}
 use Rattle.fb_bgwrite.specs.Blocks.{PutBlock, blocks_from, is_written, pending, put_blocks, sectors}
 use Rattle.fb_bgwrite.specs.Spilled.{left_over, sectors_in, AreOnce, IsInTime}
 use Rattle.fb_bgwrite.specs.Steps.{rows_of, IsChosen}

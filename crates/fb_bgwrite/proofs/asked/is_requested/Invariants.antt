@@ -1,5 +1,0 @@
-use Rattle.fb_bgwrite.proofs.Words.{◌≡◌, map, drop, list_any, request_range, share}
-use Rattle.fb_bgwrite.proofs.asked.is_requested.Given as goal
-
-abbrev pub invariant-loop-request : goal.invariant-loop-request
-invariant-loop-request l = list_any (share l.range) (map request_range l.requests) ≡ list_any (share l.range) (map request_range (drop l.request-index l.requests))

@@ -1,0 +1,8 @@
+pub mod Words
+pub mod Lists
+pub mod Sharing
+pub mod TakenRanges
+pub mod Asking
+pub mod Appending
+pub mod LinesRead
+pub mod Shuffled

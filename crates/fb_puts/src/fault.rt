@@ -1,0 +1,83 @@
+// Why a puts file is refused.
+use fb_units::NoMemory;
+use std::alloc::{AllocError, AllocFailed};
+
+/// Why a line of a puts file is refused.
+#[derive(Clone, Copy, Debug, PartialEq, Eq)]
+pub enum PutsReason {
+    /// Of the lines that aren't blank, the first isn't `reserve` with two more fields, or a later one
+    /// isn't a time, `put` and two more fields.
+    BadLine,
+    /// The first field of a put isn't a time in milliseconds, or is above 10^9 ms.
+    BadTime,
+    /// This field, counted from 1, isn't a number of its form, or the number is too large.
+    BadNumber(u32),
+    /// The instant is before that of the put before.
+    OutOfOrder,
+    /// The range has no sector.
+    Empty,
+    /// The range goes past the end of the disk.
+    BeyondDisk,
+    /// The reserve has more than 16,000,000 sectors.
+    TooLarge,
+    /// The reserve shares a sector with a request of the trace, or with the range of a want, a
+    /// promote or a segment of the script.
+    Touched,
+    /// The put doesn't lie in the reserve.
+    OutsideReserve,
+    /// The put shares a sector with an earlier one.
+    PutTwice,
+    /// There are already 100,000 puts.
+    TooMany,
+}
+
+/// The first faulty line of a puts file, and the first reason why it is refused.
+#[derive(Clone, Copy, Debug, PartialEq, Eq)]
+pub struct PutsFault {
+    /// The line, counted from 1, blank ones included.
+    pub line: u64,
+    /// The reason.
+    pub reason: PutsReason,
+}
+
+/// Why no puts file was read.
+#[derive(Clone, Copy, Debug, PartialEq, Eq)]
+pub enum PutsError {
+    /// The puts file is refused.
+    Fault(PutsFault),
+    /// Out of memory, which says nothing about the file.
+    NoMemory,
+}
+
+impl From<NoMemory> for PutsError {
+    ghost use Rattle.std.specs.Prelude.{◌≡◌};
+    ghost use Rattle.fb_puts.specs.declared.fault.PutsError.TheVariants.{NoMemory};
+
+    ghost from_gives = { λ _ error. error ≡ NoMemory };
+
+    fn from(_: NoMemory) -> PutsError {
+        PutsError::NoMemory
+    }
+}
+
+impl From<AllocError> for PutsError {
+    ghost use Rattle.std.specs.Prelude.{◌≡◌};
+    ghost use Rattle.fb_puts.specs.declared.fault.PutsError.TheVariants.{NoMemory};
+
+    ghost from_gives = { λ _ error. error ≡ NoMemory };
+
+    fn from(_: AllocError) -> PutsError {
+        PutsError::NoMemory
+    }
+}
+
+impl<T: Drop> From<AllocFailed<T>> for PutsError {
+    ghost use Rattle.std.specs.Prelude.{◌≡◌};
+    ghost use Rattle.fb_puts.specs.declared.fault.PutsError.TheVariants.{NoMemory};
+
+    ghost from_gives = { λ _ error. error ≡ NoMemory };
+
+    fn from(_: AllocFailed<T>) -> PutsError {
+        PutsError::NoMemory
+    }
+}
