@@ -1,7 +1,7 @@
 -- Files that were read, told of all inputs that the words name.
 use Rattle.std.proofs.Common.{◌≡◌, ◌∙◌, ℕ, ◌<◌, ◌^◌, List, length, Option, Some, None, true, refl, sym, ap, subst}
 use Rattle.std.specs.Prelude.{IfSome, is_some}
-use Rattle.fb_bgwrite.specs.Reading.{Accepted as PutsRead}
+use Rattle.fb_puts.specs.Reading.{Accepted as PutsRead}
 use Rattle.fb_desk.specs.Calls.{ChangesInput, Rose}
 use Rattle.fb_desk.specs.View.{DeskView, InputView, IsUnused}
 use Rattle.fb_desk.specs.declared.desk.Input.{Input}

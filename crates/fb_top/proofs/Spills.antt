@@ -3,7 +3,7 @@ use Rattle.std.proofs.Common.{◌≡◌, ◌∙◌, ◌⊎◌, ℕ, List, Option
 use Rattle.std.specs.Prelude.{IfSome, codes, is_some}
 use Rattle.std.specs.Option.{option_map}
 use Rattle.fb_rows.specs.declared.run.Run.{Run}
-use Rattle.fb_bgwrite.specs.Reading.{Accepted as PutsRead}
+use Rattle.fb_puts.specs.Reading.{Accepted as PutsRead}
 use Rattle.fb_bgwrite.specs.declared.items.SpillRun.{SpillRun}
 use Rattle.fb_desk.specs.Calls.{ChangesOutput, Rose}
 use Rattle.fb_desk.specs.View.{DeskView, OutputView}

@@ -20,10 +20,10 @@ use Rattle.fb_model.specs.Inputs.{Inputs, requests}
 use Rattle.fb_model.specs.PlainReplay.{Served, finish, first_track, last_track}
 use Rattle.fb_model.proofs.Lists.{all_append, all_left, all_right}
 use Rattle.fb_decide.proofs.Chain.{Follow, decisions_follow, services}
-use Rattle.fb_bgwrite.specs.Asked.{asked, ranges_in, request_range}
-use Rattle.fb_bgwrite.specs.Ranges.{share}
+use Rattle.fb_puts.specs.Asked.{asked, ranges_in, request_range}
+use Rattle.fb_puts.specs.Ranges.{share}
 use Rattle.fb_bgwrite.specs.Spilled.{fore_ranges}
-use Rattle.fb_bgwrite.specs.declared.range.SectorRange.{SectorRange}
+use Rattle.fb_puts.specs.declared.range.SectorRange.{SectorRange}
 
 module _ (reserve : SectorRange) where
   -- the reserve doesn't touch the sectors of a request

@@ -3,7 +3,7 @@ use Rattle.std.specs.Prelude.{◌≡◌, ℕ, List, true, is_some, IfSome, Resul
 use Rattle.fb_desk.specs.View.{DeskView}
 use Rattle.fb_desk.specs.declared.desk.Input.{Input}
 use Rattle.fb_desk.specs.declared.desk.Output.TheVariants.{Fore, Back, Spill}
-use Rattle.fb_bgwrite.specs.Reading.{Accepted as PutsRead}
+use Rattle.fb_puts.specs.Reading.{Accepted as PutsRead}
 use Rattle.fb_report.specs.Grammar.{Grammar, fore_grammar, back_grammar}
 use Rattle.fb_words.specs.Command.{Terms, ReplayTerms, CheckTerms, replays, makes, checks, arrays}
 use Rattle.fb_words.specs.declared.fault.UsageFault.{UsageFault}

@@ -16,7 +16,7 @@ use Rattle.fb_desk.specs.declared.desk.Output.TheVariants.{Fore, Back}
 use Rattle.fb_words.specs.Command.{ReplayTerms}
 use Rattle.fb_top.specs.declared.outcome.Outcome.{Outcome}
 use Rattle.fb_top.specs.declared.outcome.Outcome.TheVariants as outcomes
-use Rattle.fb_bgwrite.specs.Reading.{Accepted as PutsRead}
+use Rattle.fb_puts.specs.Reading.{Accepted as PutsRead}
 use Rattle.fb_top.specs.Read.{Files, Accepts, AcceptsPuts, inputs_of, key_of}
 use Rattle.fb_top.specs.Sources.{replay_sources}
 use Rattle.fb_top.specs.Written.{HoldsWhole, KeepsButBoth, CutsOff, CutsSecond, OutputFaultsRose}

@@ -7,9 +7,9 @@ use Rattle.fb_rows.specs.declared.run.Run.{Run}
 use Rattle.fb_model.specs.FullRun.{IsFull}
 use Rattle.fb_model.specs.PlainReplay.{Key}
 use Rattle.fb_bgwrite.specs.Held.{HoldsPuts}
-use Rattle.fb_bgwrite.specs.Ranges.{share}
-use Rattle.fb_bgwrite.specs.Reading.{Accepted as PutsRead}
-use Rattle.fb_bgwrite.specs.Rules.{ArePuts}
+use Rattle.fb_puts.specs.Ranges.{share}
+use Rattle.fb_puts.specs.Reading.{Accepted as PutsRead}
+use Rattle.fb_puts.specs.Rules.{ArePuts}
 use Rattle.fb_bgwrite.specs.Spilled.{AreOnce, IsInTime, IsSpillRun, left_over, sectors_in}
 use Rattle.fb_bgwrite.specs.Text.{spill_lines}
 use Rattle.fb_bgwrite.specs.declared.items.SpillRun.{SpillRun}

@@ -1,7 +1,7 @@
 // The inputs of a replay: the files of its run, and the puts that are to be written beside it.
 ghost use Rattle.std.specs.Prelude.{◌≡◌, ◌≤◌, ◌^◌, ℕ, None, false, length, IfErr, IfOk, IfSome};
 ghost use Rattle.std.specs.Option.{option_map};
-ghost use Rattle.fb_bgwrite.specs.Verdict.{accepted};
+ghost use Rattle.fb_puts.specs.Verdict.{accepted};
 ghost use Rattle.fb_calls.specs.Allowed.{tasks};
 ghost use Rattle.fb_desk.specs.Calls.{ChangesInput};
 ghost use Rattle.fb_desk.specs.View.{IsUnused};
@@ -20,8 +20,8 @@ ghost use Rattle.fb_top.specs.Unnamed.{KeepsUnnamed};
 use crate::Outcome;
 use crate::reading::{ReplayFiles, Sources, read_inputs};
 use crate::streams::{InputError, read_whole};
-use fb_bgwrite::{Puts, PutsError, read_puts};
 use fb_desk::{Desk, Input};
+use fb_puts::{Puts, PutsError, read_puts};
 use fb_words::ReplayWords;
 use std::alloc::Global;
 

@@ -1,6 +1,6 @@
 use Rattle.std.proofs.Common.{◌∙◌, ℕ, List, Option, subst}
 use Rattle.std.specs.Option.{option_map}
-use Rattle.fb_bgwrite.specs.Verdict.{accepted}
+use Rattle.fb_puts.specs.Verdict.{accepted}
 use Rattle.fb_desk.specs.declared.desk.Input.TheVariants.{Puts}
 use Rattle.std.specs.Prelude.{IfSome}
 use Rattle.fb_words.specs.Verdict.{replay_terms}

@@ -1,7 +1,7 @@
 use Rattle.std.proofs.Common.{◌≡◌, ◌∙◌, Option, ap, length, inl, sym, subst}
 use Rattle.std.specs.Option.{option_map}
-use Rattle.fb_bgwrite.specs.Reading.{Accepted as PutsRead}
-use Rattle.fb_bgwrite.specs.Verdict.{accepted}
+use Rattle.fb_puts.specs.Reading.{Accepted as PutsRead}
+use Rattle.fb_puts.specs.Verdict.{accepted}
 use Rattle.fb_bgwrite.specs.declared.items.SpillRun.{SpillRun}
 use Rattle.fb_calls.specs.Allowed.{tasks}
 use Rattle.fb_calls.specs.declared.call.Calls.{Calls}

@@ -1,4 +1,4 @@
-use Rattle.fb_bgwrite.specs.Verdict.{accepted, reserve}
+use Rattle.fb_puts.specs.Verdict.{accepted, reserve}
 use Rattle.fb_top.specs.Read.{files_of, inputs_of}
 use Rattle.fb_top.specs.Spilled.{CanBeSpilled}
 use Rattle.fb_top.proofs.Spills.{holds_of}
