@@ -2,7 +2,7 @@
 // then.
 ghost use Rattle.std.specs.Prelude.{◌<◌};
 
-use crate::scene::{Ending, Scene, TWELVE, disk, end, scripted, unscripted};
+use fb_scene::{Ending, Scene, TWELVE, disk, end, scripted, unscripted};
 use fb_units::{NoMemory, Ns, read_millis, read_number};
 use std::alloc::Global;
 use std::process::Abort;

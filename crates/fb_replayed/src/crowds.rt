@@ -4,8 +4,8 @@ ghost use Rattle.std.specs.Prelude.{◌<◌};
 ghost use Rattle.fb_desk.specs.View.{IsUnused};
 ghost use Rattle.fb_desk.specs.Honest.{honest_view};
 
-use crate::scene::{LARGE, Scene, end, scripted, split, unscripted};
 use fb_desk::HonestDesk;
+use fb_scene::{LARGE, Scene, end, scripted, split, unscripted};
 use fb_top::{Outcome, run_command};
 use fb_units::NoMemory;
 use std::alloc::Global;

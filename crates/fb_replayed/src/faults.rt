@@ -1,7 +1,7 @@
 // Calls of the desk that fail, and inputs that are too long.
 ghost use Rattle.std.specs.Prelude.{◌<◌};
 
-use crate::scene::{Ending, Scene, TWELVE, disk, end, scripted, spilling, unscripted};
+use fb_scene::{Ending, Scene, TWELVE, disk, end, scripted, spilling, unscripted};
 use fb_units::NoMemory;
 use std::alloc::Global;
 use std::process::Abort;

@@ -1,7 +1,7 @@
 // Whole reports of small replays with call scripts.
 ghost use Rattle.std.specs.Prelude.{◌<◌};
 
-use crate::scene::{Ending, TWELVE, disk, end, scripted};
+use fb_scene::{Ending, TWELVE, disk, end, scripted};
 use fb_units::NoMemory;
 use std::alloc::Global;
 use std::process::Abort;

@@ -1,7 +1,7 @@
 // Traces and scripts that a make writes, and their replays.
 ghost use Rattle.std.specs.Prelude.{◌<◌};
 
-use crate::scene::{Scene, TWELVE, disk, end, scripted, unscripted};
+use fb_scene::{Scene, TWELVE, disk, end, scripted, unscripted};
 use std::alloc::Global;
 use std::process::Abort;
 use std::test::Fail;

@@ -1,7 +1,7 @@
 // Each order of service, chosen by the words of the command line.
 ghost use Rattle.std.specs.Prelude.{◌<◌};
 
-use crate::scene::{Scene, TWELVE, disk, end, unscripted};
+use fb_scene::{Scene, TWELVE, disk, end, unscripted};
 use std::alloc::Global;
 use std::process::Abort;
 use std::test::Fail;

@@ -7,8 +7,6 @@ use fb_desk::{MemoryDesk, Output};
 use fb_top::{Outcome, run_command, status};
 use fb_units::NoMemory;
 use std::alloc::Global;
-use std::process::Abort;
-use std::test::Fail;
 
 // All functions but the one that makes a desk borrow it, and none has a `?` while it holds one: to
 // let go of a desk takes long to prove, at each of a function's ends.
@@ -148,24 +146,6 @@ pub fn end(alloc: Global, scene: &Scene, words: &str) -> Result<Ending, NoMemory
     end_over(alloc, &mut desk, scene, words)
 }
 
-/// Checks that these words are refused with this status and note, and write nothing else.
-pub fn check_refused(
-    rt: &impl Abort,
-    alloc: Global,
-    scene: &Scene,
-    words: &str,
-    status: u8,
-    note: &str,
-) -> Result<(), Fail>
-    requires { 0 < scene.now.piece }
-{
-    let ending = end(alloc, scene, words)?;
-    assert_eq!(rt; ending.note.as_slice(), note.as_bytes());
-    assert_eq!(rt; ending.status, status, "{note}");
-    assert!(rt; ending.is_silent(), "{note}");
-    Ok(())
-}
-
 // How a command with these words ends on an empty desk.
 fn end_over(
     alloc: Global,
@@ -181,8 +161,8 @@ fn end_over(
     written(alloc, desk, status_of(outcome))
 }
 
-/// Puts the files of a scene on a desk. The only error is out of memory.
-pub fn fill(desk: &mut MemoryDesk, scene: &Scene) -> Result<(), NoMemory>
+// Puts the files of a scene on a desk.
+fn fill(desk: &mut MemoryDesk, scene: &Scene) -> Result<(), NoMemory>
     requires { IsUnused (memory_view desk.old) }
     ensures { IsUnused (memory_view desk.new) }
 {

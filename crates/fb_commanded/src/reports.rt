@@ -1,7 +1,8 @@
 // Whole reports of small replays, and whole notes.
 ghost use Rattle.std.specs.Prelude.{◌<◌};
 
-use crate::scene::{Scene, TWELVE, check_refused, disk, end, unscripted};
+use crate::refused::check_refused;
+use fb_scene::{Scene, TWELVE, disk, end, unscripted};
 use std::alloc::Global;
 use std::process::Abort;
 use std::test::Fail;

@@ -1,7 +1,8 @@
 // Puts that are written in the free gaps of a replay.
 ghost use Rattle.std.specs.Prelude.{◌<◌, ◌≤◌};
 
-use crate::scene::{LARGE, Scene, TWELVE, check_refused, disk, end, spilling, unscripted};
+use crate::refused::check_refused;
+use fb_scene::{LARGE, Scene, TWELVE, disk, end, spilling, unscripted};
 use fb_units::NoMemory;
 use std::alloc::Global;
 use std::process::Abort;

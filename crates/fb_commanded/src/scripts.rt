@@ -1,7 +1,8 @@
 // Call scripts that are refused, and scripts that ask for the same reads.
 ghost use Rattle.std.specs.Prelude.{◌<◌};
 
-use crate::scene::{Scene, TWELVE, check_refused, disk, end, scripted, unscripted};
+use crate::refused::check_refused;
+use fb_scene::{Scene, TWELVE, disk, end, scripted, unscripted};
 use std::alloc::Global;
 use std::process::Abort;
 use std::test::Fail;
