@@ -40,14 +40,16 @@ same_streak a b (inr same) not_next = elim (cases_lt a.index b.index) [
 ]
 
 -- a streak begins with one of the registered blocks
-pub few_streaks : (task : ℕ) (es : List Entry) (streaks : BTreeSet (ℕ × ℕ × ℕ)) (streak : Streak) → AreNoted es streaks → length es ≤ 16000000 → contains streak_cmp streaks (key_of task streak) ≡ true → streak.index < 16000000
+pub few_streaks : (task : ℕ) (es : List Entry) (streaks : BTreeSet (ℕ × ℕ × ℕ)) (streak : Streak) → AreNoted es streaks
+    → length es ≤ 16000000 → contains streak_cmp streaks (key_of task streak) ≡ true → streak.index < 16000000
 few_streaks task es streaks streak noted few has =
     let begins = (noted task streak).0 has in
     omega (arith, slice_get_within (lbns task es) streak.index begins.lbn begins.at, length-lbns task es, filter-le (of_task task) es, few)
 
 -- the measure of a walk over streaks
 pub comes_later : (region index : ℕ) (streak : Streak) → IsUpTo (record { region = region; index = index }) streak → streak.region < 2 ^ 64
-    → streak.index + 1 < 2 ^ 32 → (2 ^ 64 - streak.region) * 2 ^ 32 + (2 ^ 32 - (streak.index + 1)) < (2 ^ 64 - region) * 2 ^ 32 + (2 ^ 32 - index)
+    → streak.index + 1 < 2 ^ 32
+    → (2 ^ 64 - streak.region) * 2 ^ 32 + (2 ^ 32 - (streak.index + 1)) < (2 ^ 64 - region) * 2 ^ 32 + (2 ^ 32 - index)
 comes_later region index streak (inl less) fits few = omega (arith, less, fits, few)
 comes_later region index streak (inr same) fits few = omega (arith, same.0, same.1, fits, few)
 
@@ -63,9 +65,11 @@ AreBehind task first count es from = (streak : Streak) (lbn : ℕ) → BeginsStr
     → region_of lbn ≡ streak.region → first + count ≤ lbn
 
 -- a block of a task that shares a sector with the range is chosen, or it begins behind the range
-shared : (task first count longest : ℕ) (es : List Entry) (chosen : ℕ → Bool) (from : Streak) → AreInOrder (blocks_of es) → AreShort longest es
+shared : (task first count longest : ℕ) (es : List Entry) (chosen : ℕ → Bool) (from : Streak)
+    → AreInOrder (blocks_of es) → AreShort longest es
     → AreChosen task first longest es chosen from → AreBehind task first count es from
-    → (i : ℕ) (e : Entry) → slice_get es i ≡ Some e → of_task task e ≡ true → shares first count e.block ≡ true → chosen e.block.index ≡ true
+    → (i : ℕ) (e : Entry) → slice_get es i ≡ Some e → of_task task e ≡ true
+    → shares first count e.block ≡ true → chosen e.block.index ≡ true
 shared task first count longest es chosen from in_order short done rest i e at own inside =
     let place = among (of_task task) es i e at own in
     let index = index_at es task place.0 e in_order place.2 in
@@ -84,8 +88,9 @@ shared task first count longest es chosen from in_order short done rest i e at o
     ]
 
 -- so all blocks of the task are as after the change
-pub finished : (task first count longest : ℕ) (change : Change) (es : List Entry) (chosen : ℕ → Bool) (from : Streak) → IsWithin change first count
-    → AreInOrder (blocks_of es) → AreShort longest es → AreChosen task first longest es chosen from → AreBehind task first count es from
+pub finished : (task first count longest : ℕ) (change : Change) (es : List Entry) (chosen : ℕ → Bool) (from : Streak)
+    → IsWithin change first count → AreInOrder (blocks_of es) → AreShort longest es
+    → AreChosen task first longest es chosen from → AreBehind task first count es from
     → changed_where chosen task change es ≡ after task change es
 finished task first count longest change es chosen from within in_order short done rest =
     all_chosen chosen task change es (λ i e at. elim (cases_Bool (of_task task e)) [

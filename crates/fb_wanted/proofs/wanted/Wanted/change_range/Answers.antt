@@ -56,8 +56,10 @@ returns-then-is_behind c =
     let from : Streak = record { region = c.loop-streak.region; index = c.loop-streak.index } in
     let same = lbns_stay old.chosen c.args.task c.args.task c.args.change c.args.self.now in
     let here = ap (lbns c.args.task) (c.self-in-loop-streak.view_is ∙ old.changed) ∙ same in
-    let begin = c.region_of-start.ensures ∙ ap region_of (c.saturating_sub-2.ensures ∙ ap (λ reach. c.args.first - reach) c.saturating_sub.ensures) in
-    old.changed ∙ finished c.args.task c.args.first c.args.count c.self.inside.longest c.args.change c.args.self.now old.chosen from c.requires.within
+    let before = c.saturating_sub-2.ensures ∙ ap (λ reach. c.args.first - reach) c.saturating_sub.ensures in
+    let begin = c.region_of-start.ensures ∙ ap region_of before in
+    old.changed ∙ finished c.args.task c.args.first c.args.count c.self.inside.longest c.args.change c.args.self.now old.chosen from
+    c.requires.within
     (subst (λ es. AreInOrder (blocks_of es)) c.self.view_is c.self.invariant.0.in_order)
     (subst (AreShort c.self.inside.longest) c.self.view_is c.self.invariant.5)
     (λ streak k begins near. old.done streak k begins (omega (arith, near, begin)))
@@ -75,8 +77,10 @@ returns c =
     let from : Streak = record { region = c.loop-streak.region; index = c.loop-streak.index } in
     let same = lbns_stay old.chosen c.args.task c.args.task c.args.change c.args.self.now in
     let here = ap (lbns c.args.task) (c.self-in-loop-streak.view_is ∙ old.changed) ∙ same in
-    let begin = c.region_of-start.ensures ∙ ap region_of (c.saturating_sub-2.ensures ∙ ap (λ reach. c.args.first - reach) c.saturating_sub.ensures) in
-    old.changed ∙ finished c.args.task c.args.first c.args.count c.self.inside.longest c.args.change c.args.self.now old.chosen from c.requires.within
+    let before = c.saturating_sub-2.ensures ∙ ap (λ reach. c.args.first - reach) c.saturating_sub.ensures in
+    let begin = c.region_of-start.ensures ∙ ap region_of before in
+    old.changed ∙ finished c.args.task c.args.first c.args.count c.self.inside.longest c.args.change c.args.self.now old.chosen from
+    c.requires.within
     (subst (λ es. AreInOrder (blocks_of es)) c.self.view_is c.self.invariant.0.in_order)
     (subst (AreShort c.self.inside.longest) c.self.view_is c.self.invariant.5)
     (λ streak k begins near. old.done streak k begins (omega (arith, near, begin)))
