@@ -24,9 +24,9 @@ use Rattle.fb_top.specs.declared.outcome.Outcome.TheVariants as outcomes
 use Rattle.fb_report.specs.Grammar.{Grammar, fore_grammar, back_grammar, report_of}
 use Rattle.fb_report.specs.declared.reading.Report.{Report}
 use Rattle.fb_report.specs.declared.reading.Report.TheVariants as reports
-use Rattle.fb_bgwrite.specs.Asked.{asked}
-use Rattle.fb_bgwrite.specs.Reading.{puts_of}
-use Rattle.fb_bgwrite.specs.declared.fault.PutsFault.{PutsFault}
+use Rattle.fb_puts.specs.Asked.{asked}
+use Rattle.fb_puts.specs.Reading.{puts_of}
+use Rattle.fb_puts.specs.declared.fault.PutsFault.{PutsFault}
 use Rattle.fb_script.specs.Reading.{Accepted as Script}
 use Rattle.fb_top.specs.Read.{ReadsDisk, RefusesDisk, RefusesReport, ReadsCalls, ReadsScript, puts_terms}
 use Rattle.fb_top.specs.Streams.{IsLonger}

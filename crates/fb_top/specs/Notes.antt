@@ -11,8 +11,8 @@ use Rattle.fb_trace.specs.declared.trace.TraceReason.{TraceReason}
 use Rattle.fb_trace.specs.declared.trace.TraceReason.TheVariants as trace
 use Rattle.fb_script.specs.declared.fault.CallsReason.{CallsReason}
 use Rattle.fb_script.specs.declared.fault.CallsReason.TheVariants as calls
-use Rattle.fb_bgwrite.specs.declared.fault.PutsReason.{PutsReason}
-use Rattle.fb_bgwrite.specs.declared.fault.PutsReason.TheVariants as puts
+use Rattle.fb_puts.specs.declared.fault.PutsReason.{PutsReason}
+use Rattle.fb_puts.specs.declared.fault.PutsReason.TheVariants as puts
 use Rattle.fb_report.specs.Lines.{track_text}
 use Rattle.fb_words.specs.declared.fault.UsageReason.{UsageReason}
 use Rattle.fb_words.specs.declared.fault.UsageReason.TheVariants as usage

@@ -11,9 +11,9 @@ use Rattle.fb_trace.specs.declared.trace.TraceFault.{TraceFault}
 use Rattle.fb_script.specs.Reading.{Accepted as Script, calls_of}
 use Rattle.fb_script.specs.Verdict.{accepted as accepted_calls}
 use Rattle.fb_script.specs.declared.fault.CallsFault.{CallsFault}
-use Rattle.fb_bgwrite.specs.Asked.{asked}
-use Rattle.fb_bgwrite.specs.Reading.{Accepted as PutsRead, Terms as PutsTerms, puts_of}
-use Rattle.fb_bgwrite.specs.declared.fault.PutsFault.{PutsFault}
+use Rattle.fb_puts.specs.Asked.{asked}
+use Rattle.fb_puts.specs.Reading.{Accepted as PutsRead, Terms as PutsTerms, puts_of}
+use Rattle.fb_puts.specs.declared.fault.PutsFault.{PutsFault}
 use Rattle.fb_model.specs.Inputs.{Inputs}
 use Rattle.fb_model.specs.PlainReplay.{Key, fcfs, sstf, clook, sptf}
 use Rattle.fb_desk.specs.View.{DeskView}

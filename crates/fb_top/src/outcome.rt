@@ -3,11 +3,12 @@ ghost use Rattle.std.specs.Prelude.{◌≡◌};
 ghost use Rattle.fb_top.specs.Status.{status_of};
 
 use crate::Runs;
-use fb_bgwrite::{PutsFault, SpillRun};
+use fb_bgwrite::SpillRun;
 use fb_check::Verdict;
 use fb_desk::{Input, Output};
 use fb_mirror::Rebuilt;
 use fb_params::ParamsFault;
+use fb_puts::PutsFault;
 use fb_report::ReportsFault;
 use fb_rows::Run;
 use fb_script::CallsFault;
