@@ -1,8 +1,7 @@
 // Reading a trace for several devices, line by line.
-ghost use Rattle.std.specs.Prelude.{◌≡◌, ℕ, ◌+◌, ◌<◌, ◌≤◌, ◌^◌, nat_lt, List, ◌∷◌, [], length, map, take, replicate, IfOk, IfErr, OnOk, Ok, Some, None, if◌then◌else◌};
+ghost use Rattle.std.specs.Prelude.{◌≡◌, ℕ, ◌+◌, ◌<◌, ◌≤◌, ◌^◌, nat_lt, List, ◌∷◌, [], length, map, take, replicate, IfOk, OnOk, Ok, Some, None, if◌then◌else◌};
 ghost use Rattle.std.specs.List.{AllByRecursion};
 ghost use Rattle.fb_units.specs.Lines.{fields_of};
-ghost use Rattle.fb_trace.specs.declared.trace.TraceError.TheVariants.{NoMemory};
 ghost use Rattle.fb_trace.specs.Devices.{traces_of};
 ghost use Rattle.fb_trace.specs.Line.{entry_after};
 ghost use Rattle.fb_trace.specs.Progress.{AreCounted, own_trace, requests_of, rest_of_text, unless_refused};
@@ -11,7 +10,7 @@ ghost use Rattle.fb_trace.specs.Verdict.{Answers, AreTracesOf, accepted};
 
 use crate::entry::{Entry, entry_after};
 use crate::{Trace, TraceError, TraceFault};
-use fb_units::{Ns, next_line};
+use fb_units::{NoMemory, Ns, next_line};
 use std::alloc::Global;
 
 // What was read of the lines so far for the devices 0, 1, ..
@@ -56,10 +55,9 @@ pub fn read_traces(
 
 impl DevicesReader {
     // Before the first line.
-    fn new(alloc: Global, devices: u32, sectors: u64) -> Result<DevicesReader, TraceError>
+    fn new(alloc: Global, devices: u32, sectors: u64) -> Result<DevicesReader, NoMemory>
         ensures requests { IfOk result (λ reader. requests_of reader ≡ replicate devices []) }
         ensures others { IfOk result (λ reader. (reader.sectors ≡ sectors) × (reader.instant ≡ 0) × (reader.requests ≡ 0) × (reader.fault ≡ None)) }
-        ensures memory { IfErr result (λ error. error ≡ NoMemory) }
     {
         let mut traces = Vec::new(alloc);
         for _ in 0..devices {
@@ -78,13 +76,12 @@ impl DevicesReader {
     }
 
     // Reads the next line, which has this number.
-    fn read_line(&mut self, number: u64, line: &[u8]) -> Result<(), TraceError>
+    fn read_line(&mut self, number: u64, line: &[u8]) -> Result<(), NoMemory>
         requires few { self.old.requests < number }
         requires counted { AreCounted self.old }
         ensures rest { OnOk result ((lines : List (List ℕ)) → rest_of_text self.old number (line.now ∷ lines) ≡ rest_of_text self.new (number + 1) lines) }
         ensures few { OnOk result (self.new.requests ≤ number) }
         ensures counted { OnOk result (AreCounted self.new) }
-        ensures memory { IfErr result (λ error. error ≡ NoMemory) }
     {
         match entry_after(self.instant, line) {
             Ok(None) => Ok(()),
@@ -103,7 +100,7 @@ impl DevicesReader {
     }
 
     // Adds the request of a line to its device, if that is still read.
-    fn add(&mut self, number: u64, entry: Entry) -> Result<(), TraceError>
+    fn add(&mut self, number: u64, entry: Entry) -> Result<(), NoMemory>
         requires few { self.old.requests < number }
         requires counted { AreCounted self.old }
         requires first { entry.first ≤ 10 ^ 15 }
@@ -111,7 +108,6 @@ impl DevicesReader {
             → rest_of_text self.old number (line ∷ lines) ≡ rest_of_text self.new (number + 1) lines) }
         ensures few { OnOk result (self.new.requests ≤ number) }
         ensures counted { OnOk result (AreCounted self.new) }
-        ensures memory { IfErr result (λ error. error ≡ NoMemory) }
     {
         self.instant = entry.arrival;
         self.requests += 1;

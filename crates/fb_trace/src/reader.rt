@@ -1,7 +1,6 @@
 // Reading a trace, line by line.
-ghost use Rattle.std.specs.Prelude.{◌≡◌, ◌+◌, ◌<◌, ◌≤◌, ◌^◌, length, IfOk, IfErr, OnOk};
+ghost use Rattle.std.specs.Prelude.{◌≡◌, ◌+◌, ◌<◌, ◌≤◌, ◌^◌, length, IfOk, OnOk};
 ghost use Rattle.fb_units.specs.Lines.{fields_of};
-ghost use Rattle.fb_trace.specs.declared.trace.TraceError.TheVariants.{NoMemory};
 ghost use Rattle.fb_trace.specs.Line.{of_device, line_of};
 ghost use Rattle.fb_trace.specs.Servable.{IsTraceOf};
 ghost use Rattle.fb_trace.specs.Reading.{trace_of, next_progress, with_line};
@@ -10,7 +9,7 @@ ghost use Rattle.fb_trace.specs.Progress.{progress};
 
 use crate::entry::{Entry, entry_after};
 use crate::{Trace, TraceError, TraceFault, TraceReason};
-use fb_units::{Ns, Request, next_line};
+use fb_units::{NoMemory, Ns, Request, next_line};
 use std::alloc::Global;
 
 // What a line adds to the trace of a device.
@@ -71,7 +70,7 @@ impl Reader {
         ensures few { OnOk result (self.new.trace.passed_over ≤ number) }
     {
         match self.line(line) {
-            Ok(line) => self.add(line),
+            Ok(line) => Ok(self.add(line)?),
             Err(reason) => Err(TraceError::Fault(TraceFault {
                 line: number,
                 reason,
@@ -80,10 +79,9 @@ impl Reader {
     }
 
     // Adds what a line adds.
-    fn add(&mut self, line: Line) -> Result<(), TraceError>
+    fn add(&mut self, line: Line) -> Result<(), NoMemory>
         requires few { self.old.trace.passed_over + 1 < 2 ^ 64 }
         ensures line { OnOk result (progress self.new ≡ with_line (progress self.old) line) }
-        ensures memory { IfErr result (λ error. error ≡ NoMemory) }
         ensures device { self.new.device ≡ self.old.device }
         ensures sectors { self.new.sectors ≡ self.old.sectors }
     {

@@ -1,6 +1,5 @@
 // What reading a trace returns.
-use fb_units::Request;
-use std::alloc::{AllocError, AllocFailed};
+use fb_units::{NoMemory, Request};
 
 /// The requests of one device, and how many of other devices were passed over.
 #[derive(Drop)]
@@ -50,24 +49,13 @@ pub enum TraceError {
     NoMemory,
 }
 
-impl From<AllocError> for TraceError {
+impl From<NoMemory> for TraceError {
     ghost use Rattle.std.specs.Prelude.{◌≡◌};
     ghost use Rattle.fb_trace.specs.declared.trace.TraceError.TheVariants.{NoMemory};
 
     ghost from_gives = { λ _ error. error ≡ NoMemory };
 
-    fn from(_: AllocError) -> TraceError {
-        TraceError::NoMemory
-    }
-}
-
-impl<T: Drop> From<AllocFailed<T>> for TraceError {
-    ghost use Rattle.std.specs.Prelude.{◌≡◌};
-    ghost use Rattle.fb_trace.specs.declared.trace.TraceError.TheVariants.{NoMemory};
-
-    ghost from_gives = { λ _ error. error ≡ NoMemory };
-
-    fn from(_: AllocFailed<T>) -> TraceError {
+    fn from(_: NoMemory) -> TraceError {
         TraceError::NoMemory
     }
 }
