@@ -1,6 +1,5 @@
 // Why a puts file is refused.
 use fb_units::NoMemory;
-use std::alloc::{AllocError, AllocFailed};
 
 /// Why a line of a puts file is refused.
 #[derive(Clone, Copy, Debug, PartialEq, Eq)]
@@ -56,28 +55,6 @@ impl From<NoMemory> for PutsError {
     ghost from_gives = { λ _ error. error ≡ NoMemory };
 
     fn from(_: NoMemory) -> PutsError {
-        PutsError::NoMemory
-    }
-}
-
-impl From<AllocError> for PutsError {
-    ghost use Rattle.std.specs.Prelude.{◌≡◌};
-    ghost use Rattle.fb_puts.specs.declared.fault.PutsError.TheVariants.{NoMemory};
-
-    ghost from_gives = { λ _ error. error ≡ NoMemory };
-
-    fn from(_: AllocError) -> PutsError {
-        PutsError::NoMemory
-    }
-}
-
-impl<T: Drop> From<AllocFailed<T>> for PutsError {
-    ghost use Rattle.std.specs.Prelude.{◌≡◌};
-    ghost use Rattle.fb_puts.specs.declared.fault.PutsError.TheVariants.{NoMemory};
-
-    ghost from_gives = { λ _ error. error ≡ NoMemory };
-
-    fn from(_: AllocFailed<T>) -> PutsError {
         PutsError::NoMemory
     }
 }
