@@ -9,7 +9,7 @@ ghost use Rattle.fb_report.specs.Reading.{AnswersReport, ReportsEndOnce};
 
 use crate::forms::split_once;
 use crate::grammar::table_of;
-use std::alloc::{AllocError, AllocFailed, Global};
+use std::alloc::{AllocFailed, Global};
 use std::marker::Model;
 
 /// The two reports of a run.
@@ -38,17 +38,6 @@ pub enum ReportsError {
     Fault(ReportsFault),
     /// Out of memory, which says nothing about the text.
     NoMemory,
-}
-
-impl From<AllocError> for ReportsError {
-    ghost use Rattle.std.specs.Prelude.{◌≡◌};
-    ghost use Rattle.fb_report.specs.declared.reading.ReportsError.TheVariants.{NoMemory};
-
-    ghost from_gives = { λ _ error. error ≡ NoMemory };
-
-    fn from(_: AllocError) -> ReportsError {
-        ReportsError::NoMemory
-    }
 }
 
 impl<T: Drop> From<AllocFailed<T>> for ReportsError {
