@@ -1,6 +1,5 @@
 // Why a script is refused.
 use fb_units::NoMemory;
-use std::alloc::{AllocError, AllocFailed};
 
 /// Why a line of a script is refused.
 #[derive(Clone, Copy, Debug, PartialEq, Eq)]
@@ -71,28 +70,6 @@ impl From<NoMemory> for CallsError {
     ghost from_gives = { λ _ error. error ≡ NoMemory };
 
     fn from(_: NoMemory) -> CallsError {
-        CallsError::NoMemory
-    }
-}
-
-impl From<AllocError> for CallsError {
-    ghost use Rattle.std.specs.Prelude.{◌≡◌};
-    ghost use Rattle.fb_script.specs.declared.fault.CallsError.TheVariants.{NoMemory};
-
-    ghost from_gives = { λ _ error. error ≡ NoMemory };
-
-    fn from(_: AllocError) -> CallsError {
-        CallsError::NoMemory
-    }
-}
-
-impl<T: Drop> From<AllocFailed<T>> for CallsError {
-    ghost use Rattle.std.specs.Prelude.{◌≡◌};
-    ghost use Rattle.fb_script.specs.declared.fault.CallsError.TheVariants.{NoMemory};
-
-    ghost from_gives = { λ _ error. error ≡ NoMemory };
-
-    fn from(_: AllocFailed<T>) -> CallsError {
         CallsError::NoMemory
     }
 }

@@ -1,5 +1,5 @@
 // Reading a script, line by line.
-ghost use Rattle.std.specs.Prelude.{◌≡◌, ◌+◌, ◌*◌, ◌≤◌, ◌^◌, [], ◌∷◌, ◌++◌, length, None, IfOk, IfErr, OnOk};
+ghost use Rattle.std.specs.Prelude.{◌≡◌, ◌+◌, ◌*◌, ◌≤◌, ◌^◌, [], ◌∷◌, ◌++◌, length, None, IfOk, OnOk};
 ghost use Rattle.std.specs.List.{AllByRecursion};
 ghost use Rattle.fb_calls.specs.Allowed.{tasks, IsScript};
 ghost use Rattle.fb_calls.specs.Blocks.{reads_in};
@@ -92,7 +92,7 @@ impl Reader {
         ensures sound { OnOk result (IsReader self.new) }
     {
         match self.step(map, number, line) {
-            Ok(Some(step)) => self.add(alloc, step),
+            Ok(Some(step)) => Ok(self.add(alloc, step)?),
             Ok(None) => Ok(()),
             Err(reason) => Err(CallsError::Fault(CallsFault {
                 line: number,
@@ -102,7 +102,7 @@ impl Reader {
     }
 
     // Adds a call.
-    fn add(&mut self, alloc: Global, step: Step<'_>) -> Result<(), CallsError>
+    fn add(&mut self, alloc: Global, step: Step<'_>) -> Result<(), NoMemory>
         requires reader { IsReader self.old }
         requires task { IsTaskFor self.old.sessions.items step.asked step.task }
         requires free { IsNameFor (names self.old.names.keys) step.asked step.name.now }
@@ -111,11 +111,10 @@ impl Reader {
         requires within { IsWithin step.asked }
         requires few { self.old.blocks + step.blocks ≤ 16 * 10 ^ 6 }
         ensures call { OnOk result (progress self.new ≡ with_blocks step.entry.blocks step.entry.name.now (progress self.old) (call step.entry)) }
-        ensures memory { IfErr result (λ error. error ≡ CallsError.NoMemory) }
         ensures sound { OnOk result (IsReader self.new) }
     {
         if self.calls.len() >= MOST_CALLS {
-            return Err(CallsError::NoMemory);
+            return Err(NoMemory);
         }
         let action = step.asked.action(alloc)?;
         self.mark(alloc, step)?;
@@ -196,16 +195,23 @@ impl Reader {
     fn end(self, alloc: Global) -> Result<Calls, NoMemory>
         ensures { IfOk result (λ calls. accepted calls ≡ at_end (progress self)) }
     {
-        let mut names = Names::new(alloc);
-        let keys = self.names.as_slice();
-        for name in keys {
-            names.push(key_text(alloc, name)?)?;
-        }
+        let names = names_of(alloc, self.names.as_slice())?;
         Ok(Calls {
             names,
             calls: self.calls,
         })
     }
+}
+
+// The texts of the tasks' names.
+fn names_of(alloc: Global, keys: &[Vec<u8>]) -> Result<Names, NoMemory>
+    ensures { IfOk result (λ texts. texts ≡ names keys.now) }
+{
+    let mut names = Names::new(alloc);
+    for name in keys {
+        names.push(key_text(alloc, name)?)?;
+    }
+    Ok(names)
 }
 
 // The text of a task's name.

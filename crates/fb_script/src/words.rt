@@ -1,6 +1,6 @@
 // The words for verbs and kinds.
-ghost use Rattle.std.specs.Prelude.{◌≡◌};
-ghost use Rattle.fb_script.specs.Words.{verb_of, kind_of, fields_behind};
+ghost use Rattle.std.specs.Prelude.{◌≡◌, map};
+ghost use Rattle.fb_script.specs.Words.{verb_of, kind_of, fields_behind, meaning};
 
 use fb_calls::Kind;
 
@@ -25,22 +25,32 @@ pub enum Verb {
     Segment,
 }
 
+// The words for the verbs.
+const VERBS: &[(&[u8], Verb)] = &[
+    (b"open", Verb::Open),
+    (b"want", Verb::Want),
+    (b"abort", Verb::Abort),
+    (b"promote", Verb::Promote),
+    (b"suspend", Verb::Suspend),
+    (b"resume", Verb::Resume),
+    (b"close", Verb::Close),
+    (b"segment", Verb::Segment),
+];
+
+// The words for the kinds of tasks.
+const KINDS: &[(&[u8], Kind)] = &[
+    (b"plain", Kind::Plain),
+    (b"backup", Kind::Backup),
+    (b"scrub", Kind::Scrub),
+    (b"clean", Kind::Clean),
+];
+
 /// The verb for which a word stands, if it is known.
 #[tactic(auto, unfolding(crate::specs::Words::verb_of))]
 pub fn verb_of(name: &[u8]) -> Option<Verb>
     ensures { result ≡ verb_of name.now }
 {
-    match name {
-        b"open" => Some(Verb::Open),
-        b"want" => Some(Verb::Want),
-        b"abort" => Some(Verb::Abort),
-        b"promote" => Some(Verb::Promote),
-        b"suspend" => Some(Verb::Suspend),
-        b"resume" => Some(Verb::Resume),
-        b"close" => Some(Verb::Close),
-        b"segment" => Some(Verb::Segment),
-        _ => None,
-    }
+    meaning(VERBS, name)
 }
 
 /// The kind of task for which a word stands, if it is known.
@@ -48,13 +58,19 @@ pub fn verb_of(name: &[u8]) -> Option<Verb>
 pub fn kind_of(name: &[u8]) -> Option<Kind>
     ensures { result ≡ kind_of name.now }
 {
-    match name {
-        b"plain" => Some(Kind::Plain),
-        b"backup" => Some(Kind::Backup),
-        b"scrub" => Some(Kind::Scrub),
-        b"clean" => Some(Kind::Clean),
-        _ => None,
+    meaning(KINDS, name)
+}
+
+// What a word stands for according to these words, if it is one of them.
+fn meaning<T: Copy>(names: &[(&[u8], T)], word: &[u8]) -> Option<T>
+    ensures { result ≡ meaning (map (λ name. (name.0.now, name.1)) names.now) word.now }
+{
+    for (name, meaning) in names {
+        if *name == word {
+            return Some(*meaning);
+        }
     }
+    None
 }
 
 /// How many fields follow the name of the task.
