@@ -13,7 +13,8 @@ numbered_left (x ∷ xs) ys h = (all_left (λ y. number_of y ≢ number_of x) xs
 
 module _ (disk : Disk) (head : Track) (now : ℕ) (map : BTreeMap (ℕ × ℕ) Request) (rows : List Row) where
   -- what is no later than the first of the map is no later than any of it
-  pub beats_map : (limit best : Candidate) → AreNumbered map.entries → (0 < length map.entries → IsCandidate disk head now map limit) → (0 < length map.entries → IsFirstHeld (sptf disk head now) map limit.key) → IsBefore best limit
+  pub beats_map : (limit best : Candidate) → AreNumbered map.entries → (0 < length map.entries → IsCandidate disk head now map limit)
+      → (0 < length map.entries → IsFirstHeld (sptf disk head now) map limit.key) → IsBefore best limit
       → AllByRecursion (λ w. Beats disk head now best w.0 w.1) map.entries
   beats_map limit best apart found first before = elim (cases_lt 0 (length map.entries)) [
     | inl some ↦
@@ -27,7 +28,8 @@ module _ (disk : Disk) (head : Track) (now : ℕ) (map : BTreeMap (ℕ × ℕ) R
   ]
 
   -- what is no later than all of both is the first
-  pub first_of_both : (best : Candidate) (w : Waiting) → best.key ≡ w.0 → best.wait ≡ sptf disk head now w.1 → AllByRecursion (λ x. Beats disk head now best x.0 x.1) map.entries
+  pub first_of_both : (best : Candidate) (w : Waiting) → best.key ≡ w.0 → best.wait ≡ sptf disk head now w.1
+      → AllByRecursion (λ x. Beats disk head now best x.0 x.1) map.entries
       → SettlesAll disk head now best (all_of_rows rows) → IsFirst (sptf disk head now) w (map.entries ++ all_of_rows rows)
   first_of_both best w key wait over settles =
       let rank = sptf disk head now in
@@ -38,7 +40,8 @@ module _ (disk : Disk) (head : Track) (now : ℕ) (map : BTreeMap (ℕ × ℕ) R
       (all_weaker (Settles disk head now best) (λ x. Beats disk head now best x.0 x.1) (λ x own. own.0) (all_of_rows rows) settles))
 
   -- where one that never passes is no later than the requests of the rows, there are none
-  pub none_settled : (best : Candidate) → best.wait ≡ 2 ^ 64 - 1 → SettlesAll disk head now best (all_of_rows rows) → length (all_of_rows rows) ≤ 0
+  pub none_settled : (best : Candidate) → best.wait ≡ 2 ^ 64 - 1 → SettlesAll disk head now best (all_of_rows rows)
+      → length (all_of_rows rows) ≤ 0
   none_settled best never settles = at (all_of_rows rows) settles
     where
       at : (ws : List Waiting) → SettlesAll disk head now best ws → length ws ≤ 0
@@ -46,7 +49,8 @@ module _ (disk : Disk) (head : Track) (now : ℕ) (map : BTreeMap (ℕ × ℕ) R
       at (w ∷ ws) h = let soon = h.0.1 in absurd (omega (arith, never, soon))
 
   -- so where any wait, and none of the rows is picked, the map has one
-  pub some_of_map : (limit : Candidate) → 0 < length (pending_of (map.entries ++ all_of_rows rows)) → (length map.entries ≡ 0 → limit.wait ≡ 2 ^ 64 - 1) → SettlesAll disk head now limit (all_of_rows rows) → 0 < length map.entries
+  pub some_of_map : (limit : Candidate) → 0 < length (pending_of (map.entries ++ all_of_rows rows))
+      → (length map.entries ≡ 0 → limit.wait ≡ 2 ^ 64 - 1) → SettlesAll disk head now limit (all_of_rows rows) → 0 < length map.entries
   some_of_map limit some none settles = elim (cases_lt 0 (length map.entries)) [
     | inl any ↦ any
     | inr empty ↦
@@ -59,50 +63,56 @@ pub index_left : (xs ys : List Waiting) (joined : ℕ) → IsIndex (xs ++ ys) jo
 index_left xs ys joined h = record { given = all_left (λ w. number_of w < joined) xs ys h.given; numbered = numbered_left xs ys h.numbered }
 
 -- one of the rows' is taken out, or one of the map's
-pub rows_taken : (entries : List Waiting) (rows new : List Row) (in_rows joined : ℕ) (w : Waiting) → IsDivided entries rows in_rows joined → IsMore w (all_of_rows new) (all_of_rows rows) → AreRows 0 new → IsDivided entries new (in_rows - 1) joined
+pub rows_taken : (entries : List Waiting) (rows new : List Row) (in_rows joined : ℕ) (w : Waiting) → IsDivided entries rows in_rows joined
+    → IsMore w (all_of_rows new) (all_of_rows rows) → AreRows 0 new → IsDivided entries new (in_rows - 1) joined
 rows_taken entries rows new in_rows joined w is less own = record {
-  index = index_less w (entries ++ all_of_rows new) (entries ++ all_of_rows rows) (more_left w (all_of_rows new) (all_of_rows rows) less entries) joined is.index;
+  index =
+      index_less w (entries ++ all_of_rows new) (entries ++ all_of_rows rows)
+      (more_left w (all_of_rows new) (all_of_rows rows) less entries) joined is.index;
   own_rows = own;
   counted = let one = length_more w (all_of_rows new) (all_of_rows rows) less in let all = is.counted in omega (arith, one, all);
   few = let all = is.few in omega (arith, all);
 }
 
-pub map_taken : (entries new : List Waiting) (rows : List Row) (in_rows joined : ℕ) (w : Waiting) → IsDivided entries rows in_rows joined → IsMore w new entries → IsDivided new rows in_rows joined
+pub map_taken : (entries new : List Waiting) (rows : List Row) (in_rows joined : ℕ) (w : Waiting) → IsDivided entries rows in_rows joined
+    → IsMore w new entries → IsDivided new rows in_rows joined
 map_taken entries new rows in_rows joined w is less = record {
-  index = index_less w (new ++ all_of_rows rows) (entries ++ all_of_rows rows) (more_right w new entries less (all_of_rows rows)) joined is.index;
+  index =
+      index_less w (new ++ all_of_rows rows) (entries ++ all_of_rows rows)
+      (more_right w new entries less (all_of_rows rows)) joined is.index;
   own_rows = is.own_rows;
   counted = is.counted;
   few = is.few;
 }
 
 -- one joins the rows', or the map's
-pub rows_joined : (entries : List Waiting) (rows new : List Row) (in_rows spot joined : ℕ) (r : Request) → IsDivided entries rows in_rows joined → IsMore ((spot, joined), r) (all_of_rows rows) (all_of_rows new) → AreRows 0 new → IsDivided entries new (in_rows + 1) (joined + 1)
+pub rows_joined : (entries : List Waiting) (rows new : List Row) (in_rows spot joined : ℕ) (r : Request)
+    → IsDivided entries rows in_rows joined → IsMore ((spot, joined), r) (all_of_rows rows) (all_of_rows new) → AreRows 0 new
+    → IsDivided entries new (in_rows + 1) (joined + 1)
 rows_joined entries rows new in_rows spot joined r is more own = record {
-  index = index_more ((spot, joined), r) (entries ++ all_of_rows rows) (entries ++ all_of_rows new) (more_left ((spot, joined), r) (all_of_rows rows) (all_of_rows new) more entries) is.index;
+  index =
+      index_more ((spot, joined), r) (entries ++ all_of_rows rows) (entries ++ all_of_rows new)
+      (more_left ((spot, joined), r) (all_of_rows rows) (all_of_rows new) more entries) is.index;
   own_rows = own;
-  counted = let one = length_more ((spot, joined), r) (all_of_rows rows) (all_of_rows new) more in let all = is.counted in omega (arith, one, all);
+  counted = let one = length_more ((spot, joined), r) (all_of_rows rows) (all_of_rows new) more in let all = is.counted in
+      omega (arith, one, all);
   few = let all = is.few in omega (arith, all);
 }
 
-pub map_joined : (entries new : List Waiting) (rows : List Row) (in_rows spot joined : ℕ) (r : Request) → IsDivided entries rows in_rows joined → IsMore ((spot, joined), r) entries new → IsDivided new rows in_rows (joined + 1)
+pub map_joined : (entries new : List Waiting) (rows : List Row) (in_rows spot joined : ℕ) (r : Request)
+    → IsDivided entries rows in_rows joined → IsMore ((spot, joined), r) entries new → IsDivided new rows in_rows (joined + 1)
 map_joined entries new rows in_rows spot joined r is more = record {
-  index = index_more ((spot, joined), r) (entries ++ all_of_rows rows) (new ++ all_of_rows rows) (more_right ((spot, joined), r) entries new more (all_of_rows rows)) is.index;
+  index =
+      index_more ((spot, joined), r) (entries ++ all_of_rows rows) (new ++ all_of_rows rows)
+      (more_right ((spot, joined), r) entries new more (all_of_rows rows)) is.index;
   own_rows = is.own_rows;
   counted = is.counted;
   few = let all = is.few in omega (arith, all);
 }
 
--- what the rows are is what they were
-pub rows_same : (entries : List Waiting) (rows new : List Row) (in_rows joined : ℕ) → IsDivided entries rows in_rows joined → all_of_rows new ≡ all_of_rows rows → AreRows 0 new → IsDivided entries new in_rows joined
-rows_same entries rows new in_rows joined is same own = record {
-  index = subst (λ ws. IsIndex (entries ++ ws) joined) (sym same) is.index;
-  own_rows = own;
-  counted = is.counted ∙ ap length (sym same);
-  few = is.few;
-}
-
 -- none wait where neither has any
-pub none_of_both : (entries : List Waiting) (rows : List Row) (in_rows joined : ℕ) → IsDivided entries rows in_rows joined → length (pending_of (entries ++ all_of_rows rows)) ≡ length entries + in_rows
+pub none_of_both : (entries : List Waiting) (rows : List Row) (in_rows joined : ℕ) → IsDivided entries rows in_rows joined
+    → length (pending_of (entries ++ all_of_rows rows)) ≡ length entries + in_rows
 none_of_both entries rows in_rows joined is =
     let count = is.counted in
     let all = length_pending (entries ++ all_of_rows rows) in omega (arith, length-append entries (all_of_rows rows), count, all)

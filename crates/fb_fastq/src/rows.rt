@@ -188,10 +188,10 @@ pub fn soonest_in_rows(
     walk_down(rows, occupied, disk, from, above)
 }
 
-/// Makes rows, up to this one.
-///
-/// The only error is out of memory; there may be more rows then, but no request more or less.
-pub fn reach(
+// Makes rows, up to this one.
+//
+// The only error is out of memory; there may be more rows then, but no request more or less.
+fn reach(
     alloc: Global,
     rows: &mut Vec<Vec<((u64, u64), Request)>>,
     number: u32,
@@ -207,10 +207,10 @@ pub fn reach(
     Ok(())
 }
 
-/// Notes that a row is to get a request, if it has none yet.
-///
-/// The only error is out of memory, after which nothing has changed.
-pub fn occupy(
+// Notes that a row is to get a request, if it has none yet.
+//
+// The only error is out of memory, after which nothing has changed.
+fn occupy(
     rows: &[Vec<((u64, u64), Request)>],
     occupied: &mut BTreeSet<u32>,
     number: u32,
@@ -227,10 +227,32 @@ pub fn occupy(
     Ok(())
 }
 
-/// Adds a request to its cylinder's row.
+/// Adds a request to its cylinder's row, which is made if it isn't there.
 ///
 /// The only error is out of memory, after which the same requests wait.
 pub fn put(
+    alloc: Global,
+    rows: &mut Vec<Vec<((u64, u64), Request)>>,
+    occupied: &mut BTreeSet<u32>,
+    number: u32,
+    waiting: ((u64, u64), Request),
+) -> Result<(), NoMemory>
+    requires on { IsOnCylinder number waiting.0.0 }
+    requires occupied { AreOccupied occupied.old rows.old.items }
+    ensures more { OnOk result (IsMore waiting (all_of_rows rows.old.items) (all_of_rows rows.new.items)) }
+    ensures err { OnErr result (all_of_rows rows.new.items ≡ all_of_rows rows.old.items) }
+    ensures rows { AreRows 0 rows.old.items → AreRows 0 rows.new.items }
+    ensures occupied { AreOccupied occupied.new rows.new.items }
+{
+    reach(alloc, rows, number)?;
+    occupy(rows.as_slice(), occupied, number)?;
+    add_to(rows, number, waiting)
+}
+
+// Adds a request to a row.
+//
+// The only error is out of memory, after which the same requests wait.
+fn add_to(
     rows: &mut Vec<Vec<((u64, u64), Request)>>,
     number: u32,
     waiting: ((u64, u64), Request),

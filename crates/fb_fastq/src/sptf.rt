@@ -7,7 +7,7 @@ ghost use Rattle.fb_fastq.specs.Lanes.{IsAlong};
 
 use crate::index::{add, take_out};
 use crate::lanes::{along, cylinder_around};
-use crate::rows::{leave_if_empty, occupy, put, reach, soonest_in_rows, take_from};
+use crate::rows::{leave_if_empty, put, soonest_in_rows, take_from};
 use crate::soonest::soonest_in_map;
 use fb_queue::Queue;
 use fb_service::{Disk, departure_from};
@@ -92,9 +92,8 @@ impl Queue for SptfLanes {
             self.joined += 1;
             return Ok(());
         }
-        reach(self.alloc, &mut self.rows, row)?;
-        occupy(self.rows.as_slice(), &mut self.occupied, row)?;
-        put(&mut self.rows, row, ((spot, self.joined), request))?;
+        let waiting = ((spot, self.joined), request);
+        put(self.alloc, &mut self.rows, &mut self.occupied, row, waiting)?;
         self.in_rows += 1;
         self.joined += 1;
         Ok(())

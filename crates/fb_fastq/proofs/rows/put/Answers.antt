@@ -1,30 +1,16 @@
-use Rattle.fb_fastq.proofs.OneMore.{row_there, on_err, push_more, set_same, set_more, same_rows, more_rows, occupied_set}
+use Rattle.fb_fastq.proofs.Words.{◌≡◌, subst, all_of_rows, IsMore, AreOccupied}
+use Rattle.std.specs.Prelude.{OnErr, OnOk}
 use Rattle.fb_fastq.proofs.rows.put.Goals as goal
-
-pub returns-in_err-push-clause-err : goal.returns-in_err-push-clause-err
-returns-in_err-push-clause-err c =
-    let there = row_there c.args.rows.now.items c.args.number c.index_mut.result.now c.requires.there c.index_mut.ensures.value in
-    on_err c.from_residual.result _ (set_same _ c.args.number _ c.push.new.self there (c.in_err-push.ensures).items)
-
-pub returns-in_err-push-clause-rows : goal.returns-in_err-push-clause-rows
-returns-in_err-push-clause-rows c =
-    let there = row_there c.args.rows.now.items c.args.number c.index_mut.result.now c.requires.there c.index_mut.ensures.value in
-    same_rows _ c.args.number _ c.push.new.self there (c.in_err-push.ensures).items
 
 pub returns-clause-more : goal.returns-clause-more
 returns-clause-more c =
-    let there = row_there c.args.rows.now.items c.args.number c.index_mut.result.now c.requires.there c.index_mut.ensures.value in
-    let more = push_more c.args.waiting c.index_mut.result.now.items c.push.new.self.items (c.in_ok-push.ensures).items in
-    set_more c.args.waiting _ c.args.number _ c.push.new.self there more
+    subst (λ ws. OnOk c.add_to.result (IsMore c.args.waiting ws (all_of_rows c.add_to.new.rows.items))) c.in_ok-reach.ensures.same c.add_to.ensures.more
 
-pub returns-clause-rows : goal.returns-clause-rows
-returns-clause-rows c =
-    let there = row_there c.args.rows.now.items c.args.number c.index_mut.result.now c.requires.there c.index_mut.ensures.value in
-    let more = push_more c.args.waiting c.index_mut.result.now.items c.push.new.self.items (c.in_ok-push.ensures).items in
-    more_rows c.args.waiting _ c.args.number _ c.push.new.self there more c.requires.on
+pub returns-clause-err : goal.returns-clause-err
+returns-clause-err c =
+    subst (λ ws. OnErr c.add_to.result (all_of_rows c.add_to.new.rows.items ≡ ws)) c.in_ok-reach.ensures.same c.add_to.ensures.err
 
 pub returns-clause-occupied : goal.returns-clause-occupied
-returns-clause-occupied c = λ occupied has are. occupied_set occupied c.args.rows.now.items c.args.number c.push.new.self (λ some. has) are
-
-pub returns-in_err-push-clause-occupied : goal.returns-in_err-push-clause-occupied
-returns-in_err-push-clause-occupied c = λ occupied has are. occupied_set occupied c.args.rows.now.items c.args.number c.push.new.self (λ some. has) are
+returns-clause-occupied c =
+    c.add_to.ensures.occupied c.occupy.new.occupied c.in_ok-occupy.ensures.has
+    (subst (AreOccupied c.occupy.new.occupied) c.as_slice.ensures.value c.in_ok-occupy.ensures.occupied)

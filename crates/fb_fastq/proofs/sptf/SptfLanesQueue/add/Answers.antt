@@ -1,16 +1,20 @@
 use Rattle.fb_fastq.proofs.Words.{◌≡◌, ◌++◌, ◌∷◌, [], ap, sym, subst, AllByRecursion, Waiting, pending_of, IsAlong, IsMore, all_of_rows}
-use Rattle.fb_fastq.proofs.Words.{AreOccupied}
 use Rattle.fb_fastq.proofs.OneMore.{insert_more, more_left, more_right, pending_more, all_more}
-use Rattle.fb_fastq.proofs.Divided.{index_left, map_joined, rows_joined, rows_same}
+use Rattle.fb_fastq.proofs.Divided.{index_left, map_joined, rows_joined}
 use Rattle.fb_fastq.proofs.sptf.SptfLanesQueue.add.Goals.{After-self}
 use Rattle.fb_fastq.proofs.sptf.SptfLanesQueue.add.Goals as goal
 
 -- each spot is its request's
-spots : (c : After-self) → AllByRecursion (λ (w : Waiting). IsAlong c.args.disk.now w.1 w.0.0) (c.self.inside.waiting.entries ++ all_of_rows c.self.inside.rows.items)
-spots c = subst (AllByRecursion (λ (w : Waiting). IsAlong c.args.disk.now w.1 w.0.0)) (sym (ap (λ v. v.waiting) c.self.view_is)) c.requires.serves
+spots : (c : After-self)
+    → AllByRecursion (λ (w : Waiting). IsAlong c.args.disk.now w.1 w.0.0)
+    (c.self.inside.waiting.entries ++ all_of_rows c.self.inside.rows.items)
+spots c =
+    subst (AllByRecursion (λ (w : Waiting). IsAlong c.args.disk.now w.1 w.0.0))
+    (sym (ap (λ v. v.waiting) c.self.view_is)) c.requires.serves
 
 pub add-requires : goal.add-requires
-add-requires c = index_left c.self.inside.waiting.entries (all_of_rows c.self.inside.rows.items) c.self.inside.joined c.self.invariant.0.index
+add-requires c =
+    index_left c.self.inside.waiting.entries (all_of_rows c.self.inside.rows.items) c.self.inside.joined c.self.invariant.0.index
 
 pub invariant_of-self-then-not-has_room : goal.invariant_of-self-then-not-has_room
 invariant_of-self-then-not-has_room c =
@@ -18,8 +22,13 @@ invariant_of-self-then-not-has_room c =
     let entries = inside.waiting.entries in
     let spot = c.along-spot.result in
     let own = index_left entries (all_of_rows inside.rows.items) inside.joined c.self.invariant.0.index in
-    let more = subst (IsMore ((spot, inside.joined), c.args.request) entries) (sym c.in_ok-add.ensures.entries) (insert_more spot inside.joined c.args.request entries own.given) in
-    (map_joined entries c.add.new.waiting.entries inside.rows.items inside.in_rows spot inside.joined c.args.request c.self.invariant.0 more, c.self.invariant.1)
+    let more =
+    subst (IsMore ((spot, inside.joined), c.args.request) entries) (sym c.in_ok-add.ensures.entries)
+    (insert_more spot inside.joined c.args.request entries own.given) in (
+      map_joined entries c.add.new.waiting.entries inside.rows.items inside.in_rows spot inside.joined c.args.request c.self.invariant.0
+          more,
+      c.self.invariant.1,
+    )
 
 pub returns-then-not-has_room-clause-ok : goal.returns-then-not-has_room-clause-ok
 returns-then-not-has_room-clause-ok c =
@@ -29,9 +38,11 @@ returns-then-not-has_room-clause-ok c =
     let spot = c.along-spot.result in
     let w : Waiting = ((spot, inside.joined), c.args.request) in
     let own = index_left entries rows inside.joined c.self.invariant.0.index in
-    let more = subst (IsMore w entries) (sym c.in_ok-add.ensures.entries) (insert_more spot inside.joined c.args.request entries own.given) in
+    let more =
+    subst (IsMore w entries) (sym c.in_ok-add.ensures.entries) (insert_more spot inside.joined c.args.request entries own.given) in
     subst (λ ws. pending_of (c.add.new.waiting.entries ++ rows) ≡ pending_of ws ++ c.args.request ∷ []) (ap (λ v. v.waiting) c.self.view_is)
-    (pending_more w (entries ++ rows) (c.add.new.waiting.entries ++ rows) (more_right w entries c.add.new.waiting.entries more rows) c.self.invariant.0.index.given)
+    (pending_more w (entries ++ rows) (c.add.new.waiting.entries ++ rows)
+    (more_right w entries c.add.new.waiting.entries more rows) c.self.invariant.0.index.given)
 
 pub returns-then-not-has_room-clause-serves : goal.returns-then-not-has_room-clause-serves
 returns-then-not-has_room-clause-serves c =
@@ -41,7 +52,8 @@ returns-then-not-has_room-clause-serves c =
     let spot = c.along-spot.result in
     let w : Waiting = ((spot, inside.joined), c.args.request) in
     let own = index_left entries rows inside.joined c.self.invariant.0.index in
-    let more = subst (IsMore w entries) (sym c.in_ok-add.ensures.entries) (insert_more spot inside.joined c.args.request entries own.given) in
+    let more =
+    subst (IsMore w entries) (sym c.in_ok-add.ensures.entries) (insert_more spot inside.joined c.args.request entries own.given) in
     all_more w (entries ++ rows) (c.add.new.waiting.entries ++ rows) (more_right w entries c.add.new.waiting.entries more rows)
     (λ x. IsAlong c.args.disk.now x.1 x.0.0) c.along-spot.ensures (spots ((goal.at.returns-then-not-has_room-clause-serves c).After-self))
 
@@ -49,13 +61,11 @@ pub invariant_of-self-2 : goal.invariant_of-self-2
 invariant_of-self-2 c =
     let inside = c.self.inside in
     let entries = inside.waiting.entries in
-    let grown = c.reach.new.rows.items in
     let spot = c.along-spot.result in
-    let row = c.cylinder_around-row.result in
-    let own = c.in_ok-reach.ensures.rows c.self.invariant.0.own_rows in (
-      rows_joined entries grown c.put.new.rows.items inside.in_rows spot inside.joined c.args.request
-          (rows_same entries inside.rows.items grown inside.in_rows inside.joined c.self.invariant.0 c.in_ok-reach.ensures.same own) c.in_ok-put.ensures.more (c.in_ok-put.ensures.rows own),
-      c.in_ok-put.ensures.occupied c.occupy.new.occupied c.in_ok-occupy.ensures.has (subst (AreOccupied c.occupy.new.occupied) c.as_slice.ensures.value c.in_ok-occupy.ensures.occupied),
+    let own = c.self.invariant.0.own_rows in (
+      rows_joined entries inside.rows.items c.put.new.rows.items inside.in_rows spot inside.joined c.args.request c.self.invariant.0
+          c.in_ok-put.ensures.more (c.in_ok-put.ensures.rows own),
+      c.in_ok-put.ensures.occupied,
     )
 
 pub returns-clause-ok : goal.returns-clause-ok
@@ -65,7 +75,7 @@ returns-clause-ok c =
     let rows = all_of_rows inside.rows.items in
     let new = all_of_rows c.put.new.rows.items in
     let w : Waiting = ((c.along-spot.result, inside.joined), c.args.request) in
-    let more = subst (λ ws. IsMore w ws new) c.in_ok-reach.ensures.same c.in_ok-put.ensures.more in
+    let more = c.in_ok-put.ensures.more in
     subst (λ ws. pending_of (entries ++ new) ≡ pending_of ws ++ c.args.request ∷ []) (ap (λ v. v.waiting) c.self.view_is)
     (pending_more w (entries ++ rows) (entries ++ new) (more_left w rows new more entries) c.self.invariant.0.index.given)
 
@@ -76,5 +86,6 @@ returns-clause-serves c =
     let rows = all_of_rows inside.rows.items in
     let new = all_of_rows c.put.new.rows.items in
     let w : Waiting = ((c.along-spot.result, inside.joined), c.args.request) in
-    let more = subst (λ ws. IsMore w ws new) c.in_ok-reach.ensures.same c.in_ok-put.ensures.more in
-    all_more w (entries ++ rows) (entries ++ new) (more_left w rows new more entries) (λ x. IsAlong c.args.disk.now x.1 x.0.0) c.along-spot.ensures (spots ((goal.at.returns-clause-serves c).After-self))
+    let more = c.in_ok-put.ensures.more in
+    all_more w (entries ++ rows) (entries ++ new) (more_left w rows new more entries)
+    (λ x. IsAlong c.args.disk.now x.1 x.0.0) c.along-spot.ensures (spots ((goal.at.returns-clause-serves c).After-self))

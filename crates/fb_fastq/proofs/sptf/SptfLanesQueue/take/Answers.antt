@@ -9,27 +9,38 @@ use Rattle.fb_fastq.proofs.sptf.SptfLanesQueue.take.Goals.{After-self, After-soo
 use Rattle.fb_fastq.proofs.sptf.SptfLanesQueue.take.Goals as goal
 
 -- each spot is its request's
-spots : (c : After-self) → AllByRecursion (λ (w : Waiting). IsAlong c.args.disk.now w.1 w.0.0) (c.self.inside.waiting.entries ++ all_of_rows c.self.inside.rows.items)
-spots c = subst (AllByRecursion (λ (w : Waiting). IsAlong c.args.disk.now w.1 w.0.0)) (sym (ap (λ v. v.waiting) c.self.view_is)) c.requires.serves
+spots : (c : After-self)
+    → AllByRecursion (λ (w : Waiting). IsAlong c.args.disk.now w.1 w.0.0)
+    (c.self.inside.waiting.entries ++ all_of_rows c.self.inside.rows.items)
+spots c =
+    subst (AllByRecursion (λ (w : Waiting). IsAlong c.args.disk.now w.1 w.0.0))
+    (sym (ap (λ v. v.waiting) c.self.view_is)) c.requires.serves
 
 -- what was looked for from the departure was looked for from the head's track
-picked : (c : After-soonest_in_rows-pick) → IsPick c.args.disk.now c.args.head c.args.now c.self.inside.rows.items c.soonest_in_map-limit.result c.soonest_in_rows-pick.result
+picked : (c : After-soonest_in_rows-pick)
+    → IsPick c.args.disk.now c.args.head c.args.now c.self.inside.rows.items c.soonest_in_map-limit.result c.soonest_in_rows-pick.result
 picked c =
     let from = c.departure_from-from in
-    subst (λ (rows : List Row). IsPick c.args.disk.now c.args.head c.args.now rows c.soonest_in_map-limit.result c.soonest_in_rows-pick.result) c.as_slice.ensures.value
-    (subst (λ now. IsPick c.args.disk.now c.args.head now c.as_slice.result.now c.soonest_in_map-limit.result c.soonest_in_rows-pick.result) from.ensures.instant
-    (subst (λ head. IsPick c.args.disk.now head from.result.instant c.as_slice.result.now c.soonest_in_map-limit.result c.soonest_in_rows-pick.result) from.ensures.track c.soonest_in_rows-pick.ensures.pick))
+    subst (λ (rows : List Row). IsPick c.args.disk.now c.args.head c.args.now rows c.soonest_in_map-limit.result
+    c.soonest_in_rows-pick.result) c.as_slice.ensures.value
+    (subst (λ now. IsPick c.args.disk.now c.args.head now c.as_slice.result.now c.soonest_in_map-limit.result
+    c.soonest_in_rows-pick.result) from.ensures.instant
+    (subst (λ head. IsPick c.args.disk.now head from.result.instant c.as_slice.result.now c.soonest_in_map-limit.result
+    c.soonest_in_rows-pick.result) from.ensures.track c.soonest_in_rows-pick.ensures.pick))
 
-settled : (c : After-soonest_in_rows-pick) → SettlesAll c.args.disk.now c.args.head c.args.now c.soonest_in_rows-pick.result.best (all_of_rows c.self.inside.rows.items)
+settled : (c : After-soonest_in_rows-pick)
+    → SettlesAll c.args.disk.now c.args.head c.args.now c.soonest_in_rows-pick.result.best (all_of_rows c.self.inside.rows.items)
 settled c =
     let from = c.departure_from-from in
     let best = c.soonest_in_rows-pick.result.best in
     subst (λ (rows : List Row). SettlesAll c.args.disk.now c.args.head c.args.now best (all_of_rows rows)) c.as_slice.ensures.value
     (subst (λ now. SettlesAll c.args.disk.now c.args.head now best (all_of_rows c.as_slice.result.now)) from.ensures.instant
-    (subst (λ head. SettlesAll c.args.disk.now head from.result.instant best (all_of_rows c.as_slice.result.now)) from.ensures.track c.soonest_in_rows-pick.ensures.least))
+    (subst (λ head. SettlesAll c.args.disk.now head from.result.instant best (all_of_rows c.as_slice.result.now)) from.ensures.track
+    c.soonest_in_rows-pick.ensures.least))
 
 -- the one that is picked is no later than any
-beats_both : (c : After-soonest_in_rows-pick) (w : Waiting) → c.soonest_in_rows-pick.result.best.key ≡ w.0 → c.soonest_in_rows-pick.result.best.wait ≡ sptf c.args.disk.now c.args.head c.args.now w.1
+beats_both : (c : After-soonest_in_rows-pick) (w : Waiting) → c.soonest_in_rows-pick.result.best.key ≡ w.0
+    → c.soonest_in_rows-pick.result.best.wait ≡ sptf c.args.disk.now c.args.head c.args.now w.1
     → IsFirst (sptf c.args.disk.now c.args.head c.args.now) w (c.self.inside.waiting.entries ++ all_of_rows c.self.inside.rows.items)
 beats_both c w key wait =
     let disk = c.args.disk.now in
@@ -39,58 +50,77 @@ beats_both c w key wait =
     let best = c.soonest_in_rows-pick.result.best in
     let apart = numbered_left map.entries (all_of_rows rows) c.self.invariant.0.index.numbered in
     first_of_both disk c.args.head c.args.now map rows best w key wait
-    (beats_map disk c.args.head c.args.now map rows limit best apart c.soonest_in_map-limit.ensures.found c.soonest_in_map-limit.ensures.first (picked c).before)
+    (beats_map disk c.args.head c.args.now map rows limit best apart c.soonest_in_map-limit.ensures.found
+    c.soonest_in_map-limit.ensures.first (picked c).before)
     (settled c)
 
 -- it is one of the rows'
-in_rows : (c : After-soonest_in_rows-pick) (place : Place) → c.soonest_in_rows-pick.result.place ≡ Some place → IsAt c.args.disk.now c.args.head c.args.now c.self.inside.rows.items place c.soonest_in_rows-pick.result.best
+in_rows : (c : After-soonest_in_rows-pick) (place : Place) → c.soonest_in_rows-pick.result.place ≡ Some place
+    → IsAt c.args.disk.now c.args.head c.args.now c.self.inside.rows.items place c.soonest_in_rows-pick.result.best
 in_rows c place is =
     let best = c.soonest_in_rows-pick.result.best in
-    subst (λ o. MatchOption o (best ≡ c.soonest_in_map-limit.result) (λ place. IsAt c.args.disk.now c.args.head c.args.now c.self.inside.rows.items place best)) is (picked c).found
+    subst (λ o. MatchOption o (best ≡ c.soonest_in_map-limit.result)
+    (λ place. IsAt c.args.disk.now c.args.head c.args.now c.self.inside.rows.items place best)) is (picked c).found
 
 -- or one of the map's
-in_map : (c : After-soonest_in_rows-pick) → c.soonest_in_rows-pick.result.place ≡ None → c.soonest_in_rows-pick.result.best ≡ c.soonest_in_map-limit.result
+in_map : (c : After-soonest_in_rows-pick) → c.soonest_in_rows-pick.result.place ≡ None
+    → c.soonest_in_rows-pick.result.best ≡ c.soonest_in_map-limit.result
 in_map c is =
     let best = c.soonest_in_rows-pick.result.best in
-    subst (λ o. MatchOption o (best ≡ c.soonest_in_map-limit.result) (λ place. IsAt c.args.disk.now c.args.head c.args.now c.self.inside.rows.items place best)) is (picked c).found
+    subst (λ o. MatchOption o (best ≡ c.soonest_in_map-limit.result)
+    (λ place. IsAt c.args.disk.now c.args.head c.args.now c.self.inside.rows.items place best)) is (picked c).found
 
-of_map : (c : After-soonest_in_rows-pick) → c.soonest_in_rows-pick.result.place ≡ None → IsCandidate c.args.disk.now c.args.head c.args.now c.self.inside.waiting c.soonest_in_map-limit.result
+of_map : (c : After-soonest_in_rows-pick) → c.soonest_in_rows-pick.result.place ≡ None
+    → IsCandidate c.args.disk.now c.args.head c.args.now c.self.inside.waiting c.soonest_in_map-limit.result
 of_map c is =
     let disk = c.args.disk.now in
     let map = c.self.inside.waiting in
     let rows = c.self.inside.rows.items in
     let settles = subst (λ best. SettlesAll disk c.args.head c.args.now best (all_of_rows rows)) (in_map c is) (settled c) in
     let some = subst (λ ws. 0 < length (pending_of ws)) (sym (ap (λ v. v.waiting) c.self.view_is)) c.requires.some in
-    c.soonest_in_map-limit.ensures.found (some_of_map disk c.args.head c.args.now map rows c.soonest_in_map-limit.result some c.soonest_in_map-limit.ensures.none settles)
+    c.soonest_in_map-limit.ensures.found
+    (some_of_map disk c.args.head c.args.now map rows c.soonest_in_map-limit.result some c.soonest_in_map-limit.ensures.none settles)
 
 pub soonest_in_map-limit-requires-clause-spots : goal.soonest_in_map-limit-requires-clause-spots
 soonest_in_map-limit-requires-clause-spots c =
     let is_along = λ (w : Waiting). IsAlong c.args.disk.now w.1 w.0.0 in
     all_held (λ key r. IsAlong c.args.disk.now r key.0) c.self.inside.waiting
-    (all_left is_along c.self.inside.waiting.entries (all_of_rows c.self.inside.rows.items) (spots ((goal.at.soonest_in_map-limit-requires-clause-spots c).After-self)))
+    (all_left is_along c.self.inside.waiting.entries (all_of_rows c.self.inside.rows.items)
+    (spots ((goal.at.soonest_in_map-limit-requires-clause-spots c).After-self)))
 
 pub soonest_in_rows-pick-requires-clause-spots : goal.soonest_in_rows-pick-requires-clause-spots
 soonest_in_rows-pick-requires-clause-spots c =
     let is_along = λ (w : Waiting). IsAlong c.args.disk.now w.1 w.0.0 in
     subst (λ (rows : List Row). AllByRecursion is_along (all_of_rows rows)) (sym c.as_slice.ensures.value)
-    (all_right is_along c.self.inside.waiting.entries (all_of_rows c.self.inside.rows.items) (spots ((goal.at.soonest_in_rows-pick-requires-clause-spots c).After-self)))
+    (all_right is_along c.self.inside.waiting.entries (all_of_rows c.self.inside.rows.items)
+    (spots ((goal.at.soonest_in_rows-pick-requires-clause-spots c).After-self)))
 
 pub take_from-request-requires : goal.take_from-request-requires
-take_from-request-requires c = record { there = subst IsSome (sym (in_rows ((goal.at.take_from-request-requires c).After-soonest_in_rows-pick) c.in-Some.place c.in-Some.is).there) refl }
+take_from-request-requires c =
+    record {
+      there =
+          subst IsSome
+          (sym (in_rows ((goal.at.take_from-request-requires c).After-soonest_in_rows-pick) c.in-Some.place c.in-Some.is).there)
+          refl;
+    }
 
 pub overflow_sub-self : goal.overflow_sub-self
 overflow_sub-self c =
     let at = in_rows ((goal.at.overflow_sub-self c).After-soonest_in_rows-pick) c.in-Some.place c.in-Some.is in
     let new = c.take_from-request.new.rows.items in
-    let less = subst (λ o. IfSome o (λ w. IsMore w (all_of_rows new) (all_of_rows c.self.inside.rows.items))) at.there c.take_from-request.ensures.less in
+    let less =
+    subst (λ o. IfSome o (λ w. IsMore w (all_of_rows new) (all_of_rows c.self.inside.rows.items))) at.there
+    c.take_from-request.ensures.less in
     let one = length_more at.waiting (all_of_rows new) (all_of_rows c.self.inside.rows.items) less in
     let all = c.self.invariant.0.counted in omega (arith, one, all)
 
 -- the rows have one request less
-one_less : (c : After-leave_if_empty) (w : Waiting) → at_place c.self.inside.rows.items c.in-Some.place ≡ Some w → IsMore w (all_of_rows c.leave_if_empty.new.rows.items) (all_of_rows c.self.inside.rows.items)
+one_less : (c : After-leave_if_empty) (w : Waiting) → at_place c.self.inside.rows.items c.in-Some.place ≡ Some w
+    → IsMore w (all_of_rows c.leave_if_empty.new.rows.items) (all_of_rows c.self.inside.rows.items)
 one_less c w there =
     subst (λ ws. IsMore w ws (all_of_rows c.self.inside.rows.items)) (sym c.leave_if_empty.ensures.same)
-    (subst (λ o. IfSome o (λ w. IsMore w (all_of_rows c.take_from-request.new.rows.items) (all_of_rows c.self.inside.rows.items))) there c.take_from-request.ensures.less)
+    (subst (λ o. IfSome o (λ w. IsMore w (all_of_rows c.take_from-request.new.rows.items) (all_of_rows c.self.inside.rows.items))) there
+    c.take_from-request.ensures.less)
 
 pub invariant_of-self : goal.invariant_of-self
 invariant_of-self c =
@@ -116,8 +146,12 @@ invariant_of-self-in-None c =
     let is = of_map ((goal.at.invariant_of-self-in-None c).After-soonest_in_rows-pick) c.in-None.is in
     let w : Waiting = (key, is.request) in
     let apart = numbered_left map.entries (all_of_rows inside.rows.items) c.self.invariant.0.index.numbered in
-    let less = subst (λ es. IsMore w es map.entries) (sym c.take_out.ensures.entries) (remove_more w map.entries apart (held_is_in key.0 key.1 is.request map.entries is.waits)) in
-    (map_taken map.entries c.take_out.new.waiting.entries inside.rows.items inside.in_rows inside.joined w c.self.invariant.0 less, c.self.invariant.1)
+    let less =
+    subst (λ es. IsMore w es map.entries) (sym c.take_out.ensures.entries)
+    (remove_more w map.entries apart (held_is_in key.0 key.1 is.request map.entries is.waits)) in (
+      map_taken map.entries c.take_out.new.waiting.entries inside.rows.items inside.in_rows inside.joined w c.self.invariant.0 less,
+      c.self.invariant.1,
+    )
 
 pub returns-in-Some-clause-least : goal.returns-in-Some-clause-least
 returns-in-Some-clause-least c =
@@ -130,9 +164,12 @@ returns-in-Some-clause-least c =
     let less = one_less ((goal.at.returns-in-Some-clause-least c).After-leave_if_empty) at.waiting at.there in
     let value = subst (λ o. IfSome o (λ w. c.take_from-request.result ≡ w.1)) at.there c.take_from-request.ensures.value in
     let first = beats_both ((goal.at.returns-in-Some-clause-least c).After-soonest_in_rows-pick) w at.key at.wait in
-    subst (λ ws. first_least rank (pending_of ws) ≡ Some (c.take_from-request.result, pending_of (entries ++ all_of_rows new))) (ap (λ v. v.waiting) c.self.view_is)
-    (subst (λ r. first_least rank (pending_of (entries ++ all_of_rows inside.rows.items)) ≡ Some (r, pending_of (entries ++ all_of_rows new))) (sym value)
-    (least_more w (entries ++ all_of_rows new) (entries ++ all_of_rows inside.rows.items) (more_left w (all_of_rows new) (all_of_rows inside.rows.items) less entries) rank c.self.invariant.0.index.numbered first))
+    subst (λ ws. first_least rank (pending_of ws) ≡ Some (c.take_from-request.result, pending_of (entries ++ all_of_rows new)))
+    (ap (λ v. v.waiting) c.self.view_is)
+    (subst (λ r. first_least rank (pending_of (entries ++ all_of_rows inside.rows.items))
+    ≡ Some (r, pending_of (entries ++ all_of_rows new))) (sym value)
+    (least_more w (entries ++ all_of_rows new) (entries ++ all_of_rows inside.rows.items)
+    (more_left w (all_of_rows new) (all_of_rows inside.rows.items) less entries) rank c.self.invariant.0.index.numbered first))
 
 pub returns-in-Some-clause-serves : goal.returns-in-Some-clause-serves
 returns-in-Some-clause-serves c =
@@ -141,7 +178,8 @@ returns-in-Some-clause-serves c =
     let new = c.leave_if_empty.new.rows.items in
     let entries = inside.waiting.entries in
     let less = one_less ((goal.at.returns-in-Some-clause-serves c).After-leave_if_empty) at.waiting at.there in
-    all_less at.waiting (entries ++ all_of_rows new) (entries ++ all_of_rows inside.rows.items) (more_left at.waiting (all_of_rows new) (all_of_rows inside.rows.items) less entries)
+    all_less at.waiting (entries ++ all_of_rows new) (entries ++ all_of_rows inside.rows.items)
+    (more_left at.waiting (all_of_rows new) (all_of_rows inside.rows.items) less entries)
     (λ w. IsAlong c.args.disk.now w.1 w.0.0) (spots ((goal.at.returns-in-Some-clause-serves c).After-self))
 
 pub returns-in-None-clause-least : goal.returns-in-None-clause-least
@@ -156,12 +194,17 @@ returns-in-None-clause-least c =
     let is = of_map ((goal.at.returns-in-None-clause-least c).After-soonest_in_rows-pick) c.in-None.is in
     let w : Waiting = (limit.key, is.request) in
     let apart = numbered_left map.entries rows c.self.invariant.0.index.numbered in
-    let less = subst (λ es. IsMore w es map.entries) (sym c.take_out.ensures.entries) (remove_more w map.entries apart (held_is_in limit.key.0 limit.key.1 is.request map.entries is.waits)) in
+    let less =
+    subst (λ es. IsMore w es map.entries) (sym c.take_out.ensures.entries)
+    (remove_more w map.entries apart (held_is_in limit.key.0 limit.key.1 is.request map.entries is.waits)) in
     let value = some_injective is.request c.take_out.result (sym is.waits ∙ c.take_out.ensures.value) in
-    let first = beats_both ((goal.at.returns-in-None-clause-least c).After-soonest_in_rows-pick) w (ap (λ (b : Candidate). b.key) same) (ap (λ (b : Candidate). b.wait) same ∙ is.wait) in
+    let first =
+    beats_both ((goal.at.returns-in-None-clause-least c).After-soonest_in_rows-pick) w (ap (λ (b : Candidate). b.key) same)
+    (ap (λ (b : Candidate). b.wait) same ∙ is.wait) in
     subst (λ ws. first_least rank (pending_of ws) ≡ Some (c.take_out.result, pending_of (new ++ rows))) (ap (λ v. v.waiting) c.self.view_is)
     (subst (λ r. first_least rank (pending_of (map.entries ++ rows)) ≡ Some (r, pending_of (new ++ rows))) value
-    (least_more w (new ++ rows) (map.entries ++ rows) (more_right w new map.entries less rows) rank c.self.invariant.0.index.numbered first))
+    (least_more w (new ++ rows) (map.entries ++ rows)
+    (more_right w new map.entries less rows) rank c.self.invariant.0.index.numbered first))
 
 pub returns-in-None-clause-serves : goal.returns-in-None-clause-serves
 returns-in-None-clause-serves c =
@@ -173,5 +216,8 @@ returns-in-None-clause-serves c =
     let is = of_map ((goal.at.returns-in-None-clause-serves c).After-soonest_in_rows-pick) c.in-None.is in
     let w : Waiting = (key, is.request) in
     let apart = numbered_left map.entries rows c.self.invariant.0.index.numbered in
-    let less = subst (λ es. IsMore w es map.entries) (sym c.take_out.ensures.entries) (remove_more w map.entries apart (held_is_in key.0 key.1 is.request map.entries is.waits)) in
-    all_less w (new ++ rows) (map.entries ++ rows) (more_right w new map.entries less rows) (λ x. IsAlong c.args.disk.now x.1 x.0.0) (spots ((goal.at.returns-in-None-clause-serves c).After-self))
+    let less =
+    subst (λ es. IsMore w es map.entries) (sym c.take_out.ensures.entries)
+    (remove_more w map.entries apart (held_is_in key.0 key.1 is.request map.entries is.waits)) in
+    all_less w (new ++ rows) (map.entries ++ rows) (more_right w new map.entries less rows) (λ x. IsAlong c.args.disk.now x.1 x.0.0)
+    (spots ((goal.at.returns-in-None-clause-serves c).After-self))
