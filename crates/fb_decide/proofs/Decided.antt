@@ -9,7 +9,8 @@ use Rattle.fb_units.specs.declared.types.Track.{Track}
 use Rattle.fb_units.specs.declared.types.Request.{Request}
 use Rattle.fb_service.specs.declared.disk.Disk.{Disk}
 use Rattle.fb_model.specs.PlainReplay.{Key, has_arrived, better, first_least, first_ready, start_of, service, finish, last_track, plain, Served}
-use Rattle.fb_decide.specs.Waiting.{left, AreByArrival}
+use Rattle.fb_model.specs.Accepted.{IsRequestOf}
+use Rattle.fb_decide.specs.Waiting.{left, IsWaiting, AreByArrival}
 use Rattle.fb_model.specs.Laws.{IsFirstLeast, IsPickOf}
 use Rattle.fb_model.proofs.Picks.{pick_of-first_least}
 use Rattle.fb_decide.proofs.Chain.{all_without}
@@ -99,6 +100,17 @@ taken P key ps r rest all e =
 pub taken_ready : (key : Request → ℕ) (now : ℕ) (ps qs : List Request) (r : Request) (rest : List Request) → AllByRecursion (λ r. r.arrival ≤ now) ps → AllByRecursion (λ r. now < r.arrival) qs
     → first_least key ps ≡ Some (r, rest) → first_ready key now (ps ++ qs) ≡ Some (r, rest ++ qs)
 taken_ready key now ps qs r rest here ahead e = ready_waiting key now ps qs here ahead ∙ ap (option_map (with_rest qs)) e
+
+-- requests that have arrived join those that wait
+pub join_waiting : {disk : Disk} {requests pending waiting : List Request} {now next later before after : ℕ} → IsWaiting disk requests now next before pending
+    → later ≤ length requests → after ≡ later → left requests later waiting ≡ left requests next pending → AllByRecursion (λ r. r.arrival ≤ now) waiting
+    → IsWaiting disk requests now later after waiting
+join_waiting {disk} h within counted same arrived = record {
+  within = within;
+  counted = counted;
+  arrived = arrived;
+  on_disk = subst (AllByRecursion (IsRequestOf disk.map)) (sym same) h.on_disk;
+}
 
 -- nothing is left, so nothing follows
 pub none_served : (n : ℕ) (disk : Disk) (key : Key) (head : Track) (now : ℕ) (rs : List Request) → n ≡ 0 → plain n disk key head now rs ≡ []

@@ -76,6 +76,13 @@ pub record HasDelivered (disk : Shape) (past : Past) (gots : List DeliveryRow) (
   pub rows_after : after.rows ≡ rows ++ rows_of (followed past gots)
   pub registered : AllByRecursion (λ got. IsRegistered past got.block) gots
 
+-- the best plan for a request's gap was followed, and what is due in the gap and along with a read was delivered
+pub record HasPassed (disk : Disk) (holding : Holding) (past : Past) (served : Served) (rows : List BackRow) (after : Background) : Type 0 where
+  pub plan : Plan
+  pub best : IsBest disk (gap_of disk served) (wanted past) plan
+  pub delivered : HasDelivered disk.map past (due disk (held_now holding) (serving served plan) (wanted past))
+      (rows ++ GapLine (record { name = served.request.name; gap = gap_of disk served; plan = plan }) ∷ []) after
+
 -- a request was served by the best plan for its gap, and the background rows were added
 pub record HasServed (disk : Disk) (holding : Holding) (past : Past) (served : Served) (rows : List BackRow) (after : Background) : Type 0 where
   pub plan : Plan

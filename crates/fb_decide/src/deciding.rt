@@ -14,7 +14,7 @@ ghost use Rattle.fb_decide.specs.Asked.{inputs_of};
 ghost use Rattle.fb_decide.specs.Waiting.{IsWaiting};
 ghost use Rattle.fb_decide.specs.Calls.{IsCalled};
 ghost use Rattle.fb_decide.specs.Deliveries.{IsCurrent};
-ghost use Rattle.fb_decide.specs.Deciding.{IsAtStart, IsReady, next_of, HasServedNext, HasStayed, HasDecided};
+ghost use Rattle.fb_decide.specs.Deciding.{IsAtStart, IsReady, next_of, HasServedNext, HasStayed, HasActed, HasDecided};
 ghost use Rattle.fb_decide.specs.Making.{HasMade, HasMadeOne, RowFits};
 
 use crate::asked::Asked;
@@ -193,8 +193,8 @@ fn at_start(alloc: Global, latent: &[u64]) -> Result<Course, NoMemory>
     })
 }
 
-// One decision: a request is served, or the head stays until something happens or the end is
-// reached. Returns whether another decision follows.
+// One decision: calls take effect, requests join, and then the head acts. Returns whether another
+// decision follows.
 fn advance<Q: Queue, P: Planner>(
     alloc: Global,
     asked: Asked<'_>,
@@ -212,23 +212,46 @@ fn advance<Q: Queue, P: Planner>(
     ensures waiting { IfOk result (λ goes_on. goes_on ≡ true → IsWaiting asked.entry.disk.now requests.now course.new.now course.new.joined (Q.joined queue.new) (Q.pending queue.new)) }
     ensures serves { OnOk result (Q.serves queue.new asked.entry.disk.now) }
 {
-    let disk = asked.disk;
-    let calls = asked.calls;
     let now = course.now;
-    course.called = course.background.settle(disk, calls, course.called, now)?;
-    course.joined = join_arrived(disk, requests, queue, course.joined, now)?;
+    course.called = course
+        .background
+        .settle(asked.disk, asked.calls, course.called, now)?;
+    course.joined = join_arrived(asked.disk, requests, queue, course.joined, now)?;
+    act(alloc, asked, requests, planner, queue, course)
+}
+
+// Serves a request of those that wait, or, where none waits, lets the head stay until something
+// happens or the end is reached. Returns whether another decision follows.
+fn act<Q: Queue, P: Planner>(
+    alloc: Global,
+    asked: Asked<'_>,
+    requests: &[Request],
+    planner: &P,
+    queue: &mut Q,
+    course: &mut Course,
+) -> Result<bool, NoMemory>
+    requires waiting { IsWaiting asked.disk.now requests.now course.old.now course.old.joined (Q.joined queue.old) (Q.pending queue.old) }
+    requires serves { Q.serves queue.old asked.disk.now }
+    requires head { IsTrackOf asked.disk.now.map course.old.head }
+    requires now { course.old.now ≤ 9 * 10 ^ 18 - 10 ^ 15 }
+    requires current { (past : Past) × IsCurrent asked.disk.now.map past course.old.background }
+    ensures acted { IfOk result (λ goes_on. HasActed asked.entry.disk.now Q.key asked.entry.until (next_of (slice_get requests.now course.old.joined) (slice_get asked.entry.calls.now.calls.items course.old.called))
+        (Q.pending queue.old) course.old goes_on (Q.pending queue.new) course.new) }
+    ensures waiting { IfOk result (λ goes_on. goes_on ≡ true → IsWaiting asked.entry.disk.now requests.now course.new.now course.new.joined (Q.joined queue.new) (Q.pending queue.new)) }
+    ensures serves { OnOk result (Q.serves queue.new asked.entry.disk.now) }
+{
     if !queue.is_empty() {
-        serve_next(alloc, disk, planner, queue, course)?;
+        serve_next(alloc, asked.disk, planner, queue, course)?;
         return Ok(true);
     }
-    match next_instant(requests, calls, course.joined, course.called) {
+    match next_instant(requests, asked.calls, course.joined, course.called) {
         Some(instant) => {
-            stay_until(alloc, disk, course, instant)?;
+            stay_until(alloc, asked.disk, course, instant)?;
             Ok(true)
         }
         None => {
-            if now < asked.until {
-                stay_until(alloc, disk, course, asked.until)?;
+            if course.now < asked.until {
+                stay_until(alloc, asked.disk, course, asked.until)?;
             }
             Ok(false)
         }

@@ -8,13 +8,13 @@ ghost use Rattle.fb_store.specs.Index.{content_in};
 ghost use Rattle.fb_service.specs.Extents.{all_passages_of, IsUnbroken};
 ghost use Rattle.fb_model.specs.Content.{number_of};
 ghost use Rattle.fb_model.specs.History.{Past, finished, wanted};
-ghost use Rattle.fb_model.specs.PlainReplay.{last_track};
+ghost use Rattle.fb_model.specs.PlainReplay.{media, finish, last_track};
 ghost use Rattle.fb_model.specs.Plans.{IsPlan};
 ghost use Rattle.fb_model.specs.Rides.{caught_in_gap, missed_in_gap};
 ghost use Rattle.fb_plan.specs.Ways.{IsGap};
 ghost use Rattle.fb_tasks.specs.Telling.{Tells};
 ghost use Rattle.fb_decide.specs.Contents.{found_in, left_by, IsRowOf};
-ghost use Rattle.fb_decide.specs.Deliveries.{IsCurrent, HasDelivered, HasServed, held_now, past_with};
+ghost use Rattle.fb_decide.specs.Deliveries.{IsCurrent, HasDelivered, HasPassed, HasServed, held_now, past_with};
 ghost use Rattle.fb_decide.specs.Turn.{IsTurnOn, served_in};
 
 use crate::background::Background;
@@ -24,7 +24,7 @@ use fb_rows::{BackRow, ForeRow, Gap, GapRow, How};
 use fb_service::{Access, Disk, serve};
 use fb_store::{Contents, Store};
 use fb_tasks::reads_change_nothing;
-use fb_units::{Name, NoMemory, Request, Track};
+use fb_units::{Name, NoMemory, Ns, Request, Track};
 use std::alloc::Global;
 
 /// A served request.
@@ -34,6 +34,17 @@ pub struct Serving {
     pub row: ForeRow,
     /// The track on which the head then is.
     pub head: Track,
+}
+
+// When the sectors of a request pass.
+#[derive(Clone, Copy)]
+struct Passing {
+    // The media instant, in ns.
+    media: Ns,
+    // The instant, in ns, at which the last sector has passed.
+    finish: Ns,
+    // The track on which the head then is.
+    head: Track,
 }
 
 /// Serves a request in its turn.
@@ -60,23 +71,7 @@ pub fn serve_request<P: Planner>(
         → HasServed disk.now store.old past (served_in disk.now turn) background.old.rows background.new) }
 {
     let request = turn.request;
-    let access = Access {
-        lbn: request.lbn,
-        count: request.count,
-        write: request.write,
-    };
-    let service = serve(alloc, disk, turn.head, turn.start, access)?;
-    let gap = Gap {
-        source: turn.head,
-        target: disk.map.place(request.lbn).track,
-        now: turn.start,
-        deadline: service.media,
-        write: request.write,
-    };
-    let plan = planner.best(disk, &background.wanted, &gap);
-    let name = request.name;
-    background.pass(alloc, disk, store, GapRow { name, gap, plan })?;
-    background.ride(alloc, disk, store, turn, service.extents.as_slice())?;
+    let passing = background.deliver_around(alloc, disk, planner, store, turn)?;
     let content = found(alloc, store, request)?;
     let bad = content.bad() as u32;
     leave(store, request)?;
@@ -85,16 +80,63 @@ pub fn serve_request<P: Planner>(
         row: ForeRow {
             request,
             start: turn.start,
-            media: service.media,
-            finish: service.finish,
+            media: passing.media,
+            finish: passing.finish,
             bad,
             content,
         },
-        head: service.last_track,
+        head: passing.head,
     })
 }
 
 impl Background {
+    // Delivers what the head catches in the gap of a request, by the best plan, and then what a read
+    // carries; returns when the request passes. The only error is out of memory.
+    fn deliver_around<P: Planner>(
+        &mut self,
+        alloc: Global,
+        disk: &Disk,
+        planner: &P,
+        store: &Store,
+        turn: Turn,
+    ) -> Result<Passing, NoMemory>
+        requires turn { IsTurnOn disk.now turn }
+        requires current { (past : Past) × IsCurrent disk.now.map past self.old }
+        ensures media { IfOk result (λ passing. passing.media ≡ media (served_in disk.now turn)) }
+        ensures finish { IfOk result (λ passing. passing.finish ≡ finish (served_in disk.now turn)) }
+        ensures head { IfOk result (λ passing. passing.head ≡ last_track disk.now (served_in disk.now turn)) }
+        ensures on_disk { IfOk result (λ passing. IsTrackOf disk.now.map passing.head) }
+        ensures each { OnOk result (AllByRecursion (λ passage. passage.begin < passage.end) (served_in disk.now turn).passages) }
+        ensures later { IfOk result (λ passing. turn.start < passing.finish) }
+        ensures soon { IfOk result (λ passing. passing.finish ≤ turn.start + turn.request.count * (4 * 10 ^ 9)) }
+        ensures delivered { OnOk result ((past : Past) → IsCurrent disk.now.map past self.old
+            → HasPassed disk.now store.now past (served_in disk.now turn) self.old.rows self.new) }
+    {
+        let request = turn.request;
+        let access = Access {
+            lbn: request.lbn,
+            count: request.count,
+            write: request.write,
+        };
+        let service = serve(alloc, disk, turn.head, turn.start, access)?;
+        let gap = Gap {
+            source: turn.head,
+            target: disk.map.place(request.lbn).track,
+            now: turn.start,
+            deadline: service.media,
+            write: request.write,
+        };
+        let plan = planner.best(disk, &self.wanted, &gap);
+        let name = request.name;
+        self.pass(alloc, disk, store, GapRow { name, gap, plan })?;
+        self.ride(alloc, disk, store, turn, service.extents.as_slice())?;
+        Ok(Passing {
+            media: service.media,
+            finish: service.finish,
+            head: service.last_track,
+        })
+    }
+
     // Adds the row of a gap, goes through it by the row's plan, and delivers what its dwells catch.
     fn pass(
         &mut self,

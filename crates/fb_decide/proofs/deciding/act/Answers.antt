@@ -1,0 +1,56 @@
+use Rattle.std.proofs.Common.{◌≡◌, ◌≤◌, drop, length, sym, subst, ◌∙◌, arith}
+use Rattle.std.specs.List.{AllByRecursion}
+use Rattle.fb_calls.proofs.Lists.{all_weaker}
+use Rattle.fb_model.specs.Accepted.{IsRequestOf}
+use Rattle.fb_model.proofs.Lists.{all_append, all_left, all_right}
+use Rattle.fb_decide.specs.Deciding.{serves_pick, stays_on, stays_last, ends_here}
+use Rattle.fb_decide.proofs.Decided.{taken, none_waits}
+use Rattle.fb_decide.proofs.deciding.act.Goals as goal
+
+pub serve_next-requires-clause-on_disk : goal.serve_next-requires-clause-on_disk
+serve_next-requires-clause-on_disk g c =
+    let disk = c.args.asked.disk.now.map in
+    all_left (IsRequestOf disk) (g.Q.Queue.pending c.args.queue.now) (drop c.args.course.now.joined c.args.requests.now) c.requires.waiting.on_disk
+
+pub returns-then-not-is_empty-clause-acted : goal.returns-then-not-is_empty-clause-acted
+returns-then-not-is_empty-clause-acted g c =
+    let served = c.in_ok-serve_next.ensures.served in
+    serves_pick served.0 _ _ served.1 served.2
+
+pub returns-then-not-is_empty-clause-waiting : goal.returns-then-not-is_empty-clause-waiting
+returns-then-not-is_empty-clause-waiting g c = λ _.
+    let requests = c.args.requests.now in
+    let before = c.requires.waiting in
+    let served = c.in_ok-serve_next.ensures.served in
+    let disk = c.args.asked.disk.now.map in
+    let ps = g.Q.Queue.pending c.args.queue.now in
+    let qs = drop c.args.course.now.joined requests in
+    let key = g.Q.Queue.key c.args.asked.disk.now c.args.course.now.head c.args.course.now.now in
+    let rest = g.Q.Queue.pending c.serve_next.new.queue in
+    let later = served.2.later in
+    let came = taken (λ r. r.arrival ≤ c.args.course.now.now) key ps served.0 rest before.arrived served.1 in
+    let lie = taken (IsRequestOf disk) key ps served.0 rest (all_left (IsRequestOf disk) ps qs before.on_disk) served.1 in
+    let same : c.serve_next.new.course.joined ≡ c.args.course.now.joined = served.2.same_joined in
+    record {
+      within = subst (λ n. n ≤ length requests) (sym same) before.within;
+      counted = c.in_ok-serve_next.ensures.counted ∙ before.counted ∙ sym same;
+      arrived = all_weaker (λ r. r.arrival ≤ c.args.course.now.now) (λ r. r.arrival ≤ c.serve_next.new.course.now)
+          (λ r le. omega (arith, le, later)) rest came.1.0;
+      on_disk = all_append (IsRequestOf disk) rest (drop c.serve_next.new.course.joined requests) lie.1.0
+          (subst (λ n. AllByRecursion (IsRequestOf disk) (drop n requests)) (sym same) (all_right (IsRequestOf disk) ps qs before.on_disk));
+    }
+
+pub returns-in_ok-stay_until-in-Some-clause-acted : goal.returns-in_ok-stay_until-in-Some-clause-acted
+returns-in_ok-stay_until-in-Some-clause-acted g c =
+    stays_on c.in-Some.instant _ (none_waits (g.Q.Queue.pending c.args.queue.now) c.if-not-is_empty.ensures)
+    (sym c.next_instant.ensures ∙ c.in-Some.is) c.in_ok-stay_until-in-Some.ensures
+
+pub returns-in_ok-stay_until-in-None-clause-acted : goal.returns-in_ok-stay_until-in-None-clause-acted
+returns-in_ok-stay_until-in-None-clause-acted g c =
+    stays_last _ (none_waits (g.Q.Queue.pending c.args.queue.now) c.if-not-is_empty.ensures)
+    (sym c.next_instant.ensures ∙ c.in-None.is) c.if-course-asked.true c.in_ok-stay_until-in-None.ensures
+
+pub returns-else-course-asked-clause-acted : goal.returns-else-course-asked-clause-acted
+returns-else-course-asked-clause-acted g c =
+    ends_here (none_waits (g.Q.Queue.pending c.args.queue.now) c.if-not-is_empty.ensures)
+    (sym c.next_instant.ensures ∙ c.in-None.is) (omega (arith, c.if-course-asked.false))
