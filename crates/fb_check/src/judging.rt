@@ -1,18 +1,23 @@
 // Judges printed reports, decision by decision.
-ghost use Rattle.std.specs.Prelude.{◌≡◌, ◌%◌, [], true, false, length, None, IfOk};
+ghost use Rattle.std.specs.Prelude.{◌≡◌, ◌%◌, ◌++◌, ℕ, List, [], true, false, length, None, IfOk, OnOk};
+ghost use Rattle.std.specs.List.{AllByRecursion};
 ghost use Rattle.fb_calls.specs.Allowed.{tasks};
+ghost use Rattle.fb_rows.specs.Tasks.{HasNamedTask};
+ghost use Rattle.fb_rows.specs.declared.fore.ForeRow.{ForeRow};
+ghost use Rattle.fb_rows.specs.declared.back.BackRow.{BackRow};
 ghost use Rattle.fb_decide.specs.Asked.{inputs_of};
 ghost use Rattle.fb_decide.specs.Making.{HasMade};
 ghost use Rattle.fb_model.specs.Accepted.{IsAccepted};
 ghost use Rattle.fb_report.specs.Grammar.{back_grammar, fore_grammar};
 ghost use Rattle.fb_report.specs.Reading.{IsReport};
+ghost use Rattle.fb_check.specs.Comparing.{IsReady, HasComparedFore, HasComparedBack};
 ghost use Rattle.fb_check.specs.Judged.{HasJudged};
 ghost use Rattle.fb_check.specs.Printed.{reports_of};
 ghost use Rattle.fb_check.specs.Verdict.{IsVerdict};
 
 use crate::Verdict;
 use crate::comparing::Comparison;
-use fb_decide::{Asked, Decider, decisions_make_a_run};
+use fb_decide::{Asked, Decider, Rows, decisions_make_a_run};
 use fb_plan::Planner;
 use fb_queue::Queue;
 use fb_report::{Bytes, ReportLines, reports_end_once};
@@ -77,19 +82,47 @@ fn judge_over<Q: Queue, P: Planner>(
     reports_end_once();
     let mut fore = Comparison::begin_fore(alloc, printed.fore)?;
     let mut back = Comparison::begin_back(alloc, printed.back)?;
-    let sector_bytes = asked.disk.sector_bytes;
-    let names = &asked.calls.names;
     let mut goes_on = true;
     while goes_on {
         goes_on = decider.decide(alloc, asked, planner)?;
         let rows = decider.take_rows(alloc);
-        fore.compare_fore(alloc, &rows.fore, sector_bytes, printed.bytes)?;
+        let compared = compare_rows(alloc, asked, &rows, printed.bytes, &mut fore, &mut back);
+        drop(rows);
+        compared?;
         if let Some(mismatch) = fore.wrong {
             return Ok(Verdict::No(mismatch));
         }
-        back.compare_back(alloc, &rows.back, names, sector_bytes, printed.bytes)?;
     }
     judge_ends(alloc, asked, printed, decider, fore, back)
+}
+
+// Compares the lines of a decision's rows: the foreground's, and where none of those is wrong, the
+// background's too. The only error is out of memory.
+fn compare_rows(
+    alloc: Global,
+    asked: Asked<'_>,
+    rows: &Rows,
+    bytes: Bytes,
+    fore: &mut Comparison<'_>,
+    back: &mut Comparison<'_>,
+) -> Result<(), NoMemory>
+    requires whole { asked.disk.now.sector_bytes % 16 ≡ 0 }
+    requires named { AllByRecursion (HasNamedTask asked.calls.now.names) rows.now.back }
+    requires fore_ready { IsReady fore.old }
+    requires back_ready { IsReady back.old }
+    ensures fore_ready { OnOk result (IsReady fore.new) }
+    ensures fore_compared { OnOk result ((printed : List (List ℕ)) (before : List ForeRow) → HasComparedFore asked.entry.disk.now.sector_bytes bytes printed fore.old before
+        → HasComparedFore asked.entry.disk.now.sector_bytes bytes printed fore.new (before ++ rows.now.fore)) }
+    ensures back_ready { OnOk result (fore.new.wrong ≡ None → IsReady back.new) }
+    ensures back_compared { OnOk result (fore.new.wrong ≡ None → (printed : List (List ℕ)) (before : List BackRow) → HasComparedBack asked.entry.calls.now.names asked.entry.disk.now.sector_bytes bytes printed back.old before
+        → HasComparedBack asked.entry.calls.now.names asked.entry.disk.now.sector_bytes bytes printed back.new (before ++ rows.now.back)) }
+{
+    let sector_bytes = asked.disk.sector_bytes;
+    fore.compare_fore(alloc, &rows.fore, sector_bytes, bytes)?;
+    if fore.wrong.is_some() {
+        return Ok(());
+    }
+    back.compare_back(alloc, &rows.back, &asked.calls.names, sector_bytes, bytes)
 }
 
 // The verdict where all decisions are made and no row of the foreground is wrong.
@@ -115,13 +148,10 @@ fn judge_ends<Q: Queue>(
     decider.add_task_rows()?;
     let rows = decider.take_rows(alloc);
     let sector_bytes = asked.disk.sector_bytes;
-    back.compare_back(
-        alloc,
-        &rows.back,
-        &asked.calls.names,
-        sector_bytes,
-        printed.bytes,
-    )?;
+    let names = &asked.calls.names;
+    let compared = back.compare_back(alloc, &rows.back, names, sector_bytes, printed.bytes);
+    drop(rows);
+    compared?;
     back.end_back(alloc, decider.instant())?;
     match back.wrong {
         Some(mismatch) => Ok(Verdict::No(mismatch)),

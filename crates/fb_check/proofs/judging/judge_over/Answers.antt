@@ -28,11 +28,11 @@ pub returns-in-Some : goal.returns-in-Some
 returns-in-Some g c =
     let judged = going (inputs_of c.args.asked g.Q.Queue.key) (reports_of c.args.asked c.args.printed) true _ _ _ _ _ _ _ c.loop-goes_on-test.true c.loop-goes_on.invariant.judged in
     let one = c.in_ok-goes_on.ensures.decided judged.steps judged.made in
-    wrong_now _ _ _ _ _ _ _ _ _ _ _ _ judged one c.decisions_make_a_run.ensures c.take_rows-rows.result.fore c.compare_fore.new.self c.in-Some.mismatch c.take_rows-rows.ensures.fore
-    (c.in_ok-compare_fore.ensures.compared _ judged.fore_rows judged.fore_compared) c.in-Some.is
+    wrong_now _ _ _ _ _ _ _ _ _ _ _ _ judged one c.decisions_make_a_run.ensures c.take_rows-rows.result.fore c.compare_rows-compared.new.fore c.in-Some.mismatch c.take_rows-rows.ensures.fore
+    (c.in_ok-compared.ensures.fore_compared _ judged.fore_rows judged.fore_compared) c.in-Some.is
 
-pub compare_back-requires-clause-named : goal.compare_back-requires-clause-named
-compare_back-requires-clause-named g c =
+pub compare_rows-compared-requires-clause-named : goal.compare_rows-compared-requires-clause-named
+compare_rows-compared-requires-clause-named g c =
     let judged = going (inputs_of c.args.asked g.Q.Queue.key) (reports_of c.args.asked c.args.printed) true _ _ _ _ _ _ _ c.loop-goes_on-test.true c.loop-goes_on.invariant.judged in
     let one = c.in_ok-goes_on.ensures.decided judged.steps judged.made in
     back_named _ _ _ _ _ _ _ _ _ _ _ _ judged one c.args.asked.calls.now.names c.take_rows-rows.result.back c.requires.names c.take_rows-rows.ensures.back
@@ -49,11 +49,12 @@ loop-goes_on-preserved g c =
     let judged = going (inputs_of c.args.asked g.Q.Queue.key) (reports_of c.args.asked c.args.printed) true _ _ _ _ _ _ _ c.loop-goes_on-test.true c.loop-goes_on.invariant.judged in
     let one = c.in_ok-goes_on.ensures.decided judged.steps judged.made in
     let made = c.take_rows-rows.ensures.made (inputs_of c.args.asked g.Q.Queue.key) _ _ (kept _ _ _ _ _ _ _ _ c.in_ok-goes_on.ensures.requests one.made) in
+    let right = none_by c.compare_rows-compared.new.fore.wrong c.in_default.not-Some in
     record {
       judged = next _ _ _ _ _ _ _ _ _ _ _ _ judged one c.decisions_make_a_run.ensures _ _ _ _ made c.take_rows-rows.ensures.no_fore c.take_rows-rows.ensures.no_back c.take_rows-rows.result.fore c.take_rows-rows.result.back c.take_rows-rows.ensures.fore c.take_rows-rows.ensures.back
-          c.compare_fore.new.self c.compare_back.new.self (c.in_ok-compare_fore.ensures.compared _ judged.fore_rows judged.fore_compared) (c.in_ok-compare_back.ensures.compared _ judged.back_rows judged.back_compared)
-          c.in_ok-compare_fore.ensures.ready c.in_ok-compare_back.ensures.ready;
-      right = λ e. none_by c.compare_fore.new.self.wrong c.in_default.not-Some;
+          c.compare_rows-compared.new.fore c.compare_rows-compared.new.back (c.in_ok-compared.ensures.fore_compared _ judged.fore_rows judged.fore_compared) (c.in_ok-compared.ensures.back_compared right _ judged.back_rows judged.back_compared)
+          c.in_ok-compared.ensures.fore_ready (c.in_ok-compared.ensures.back_ready right);
+      right = λ _. right;
       serves = subst (λ queue. g.Q.Queue.serves queue c.args.asked.disk.now) (sym c.take_rows-rows.ensures.queue) c.in_ok-goes_on.ensures.serves;
     }
 
