@@ -1,6 +1,7 @@
 -- What an array has written, and why it has its answer.
-use Rattle.std.proofs.Common.{◌≡◌, ◌≢◌, ◌∙◌, ℕ, List, [], ◌∷◌, Option, Some, None, true, refl, sym, ap, subst, arith, inl, inr}
+use Rattle.std.proofs.Common.{◌≡◌, ◌≢◌, ◌∙◌, ℕ, List, [], ◌∷◌, Option, Some, None, true, length, refl, sym, ap, subst, arith, inl, inr}
 use Rattle.std.proofs.lemmas.Bool.Decides.{nat_tests}
+use Rattle.std.specs.Prelude.{slice_get}
 use Rattle.std.specs.List.{AllByRecursion}
 use Rattle.std.specs.Option.{option_map}
 use Rattle.fb_rows.specs.declared.run.Run.{Run}
@@ -14,11 +15,11 @@ use Rattle.fb_desk.specs.declared.desk.Output.TheVariants.{Fore, Back, Copied, N
 use Rattle.fb_words.specs.Command.{ArrayTerms, RebuildTerms}
 use Rattle.fb_top.specs.declared.outcome.Outcome.{Outcome}
 use Rattle.fb_top.specs.declared.outcome.Outcome.TheVariants as outcomes
-use Rattle.fb_top.specs.Array.{AreRunsOf, ArrayHasCause, IsArrayCut, IsArrayed, array_texts, rebuild_texts, replacement, sectors_of, survivor}
+use Rattle.fb_top.specs.Array.{AreRunsOf, ArrayHasCause, IsArrayCut, IsArrayed, IsRunOfDevice, array_texts, rebuild_texts, replacement, sectors_of, survivor}
 use Rattle.fb_top.specs.Causes.{RunsOut}
-use Rattle.fb_top.specs.Devices.{AcceptsArray, Array, StopsArray, is_rebuilt_from}
+use Rattle.fb_top.specs.Devices.{Array, StopsArray, is_rebuilt_from}
 use Rattle.fb_top.specs.Sources.{array_inputs}
-use Rattle.fb_top.specs.Unnamed.{KeepsUnnamed}
+use Rattle.fb_top.specs.Taken.{TakesArray}
 use Rattle.fb_top.specs.Written.{KeepsReports, StopsTexts, Text, WritesAll, joined}
 use Rattle.fb_top.proofs.Texts.{stops_texts, writes_all}
 
@@ -89,12 +90,22 @@ array_stopped terms old new (outcomes.ReadFault input) h = h
 array_stopped terms old new (outcomes.WriteFault output) h = absurd h
 
 -- memory ran out after the files were read
-pub ran_out : (terms : ArrayTerms) (old new : DeskView) (array : Array) → AcceptsArray old terms array → KeepsUnnamed (array_inputs terms) old new → ((output : Output) → new.outputs output ≡ old.outputs output) → RunsOut old new (array_inputs terms)
-ran_out terms old new array accepts unnamed outputs = record {
+pub ran_out : {terms : ArrayTerms} {array : Array} {old new : DeskView} → TakesArray terms array old new
+    → RunsOut old new (array_inputs terms)
+ran_out {array = array} takes = record {
   input = Trace;
-  before = record { disk = array.disk; latent = array.latent; reads_disk = accepts.disk };
-  ends = record { later = (unnamed Calls refl, unnamed Puts refl, unnamed ForeReport refl, unnamed BackReport refl); reports = λ output no_note. outputs output };
+  before = record { disk = array.disk; latent = array.latent; reads_disk = takes.accepts.disk };
+  ends = record {
+    later = (takes.unnamed Calls refl, takes.unnamed Puts refl, takes.unnamed ForeReport refl, takes.unnamed BackReport refl);
+    reports = λ output no_note. takes.outputs output;
+  };
 }
+
+-- the runs of files that were taken
+abbrev pub runs_taken : {terms : ArrayTerms} {array : Array} {old new : DeskView} → TakesArray terms array old new → (runs : List Run)
+    → length runs ≡ terms.devices → ((device : ℕ) (run : Run) → slice_get runs device ≡ Some run → IsRunOfDevice terms array device run) → AreRunsOf old terms runs
+runs_taken {array = array} takes runs count each =
+    record { array = array; accepts = takes.accepts; sound = takes.sound; count = count; each = each }
 
 pub one_copy : (one other : Rebuilt) → ◌≡◌ {A = Option Rebuilt} (Some one) (Some other) → one ≡ other
 one_copy one other e = cc

@@ -20,6 +20,7 @@ use Rattle.fb_top.specs.Checked.{ChangesPrinted, IsVerdictCut, IsVerdictOf, Judg
 use Rattle.fb_top.specs.Read.{Files, ReadsReport, RefusesReport}
 use Rattle.fb_top.specs.Sources.{check_inputs, check_sources, files_alone, name_of}
 use Rattle.fb_top.specs.Streams.{IsLonger}
+use Rattle.fb_top.specs.Taken.{TakesCheck}
 use Rattle.fb_top.specs.Written.{KeepsBut, KeepsReports, StopsText}
 use Rattle.fb_top.proofs.Moved.{fore_is_no_note, stops_text}
 use Rattle.fb_top.proofs.MoreInputs.{files_stopped}
@@ -153,6 +154,17 @@ module _ (terms : CheckTerms) (old mid new : DeskView) (held : (name : List ℕ)
     pub printed_stopped : (outcome : Outcome) → StopsPrinted terms mid new outcome → CheckHasCause terms old new outcome
     printed_stopped outcome (inl h) = fore_stopped outcome h.stops h.later
     printed_stopped outcome (inr h) = back_stopped outcome (fore_before h.lines h.before) h.stops
+
+-- the verdict by files that were taken
+abbrev pub verdict_taken : {terms : CheckTerms} {files : Files} {old mid : DeskView} → TakesCheck terms files old mid → (late : DeskView)
+    → ChangesPrinted mid late → (verdict : Verdict) → JudgesBy mid terms files verdict → IsVerdictOf old terms verdict
+verdict_taken {terms} {files} {old} {mid} takes late only verdict judges = record {
+  files = files;
+  accepts = takes.accepts;
+  sound = takes.sound;
+  accepted = takes.fit;
+  judges = judges_before terms old mid late takes.held takes.outputs only files verdict judges;
+}
 
 -- and then the line was written
 module _ (terms : CheckTerms) (old mid new : DeskView) (verdict : Verdict) (is_verdict : IsVerdictOf old terms verdict) (outputs : (output : Output) → mid.outputs output ≡ old.outputs output) (only : ChangesOutput Fore mid new) where

@@ -20,11 +20,11 @@ pub mod MoreInputs
 pub mod RunGaps
 pub mod Untouching
 pub mod Together
+pub mod Readable
 pub mod Spills
 pub mod OneRun
 pub mod OneSection
 pub mod Opened
-pub mod Readable
 pub mod Printed
 mod Checking
 mod RightReports

@@ -1,25 +1,26 @@
 -- What a replay writes beside its reports where the words name puts, and why it has its answer.
-use Rattle.std.proofs.Common.{◌≡◌, ◌∙◌, ◌⊎◌, ℕ, List, Option, Some, None, true, refl, sym, subst, inl, inr}
-use Rattle.std.specs.Prelude.{IfSome, codes, is_some}
+use Rattle.std.proofs.Common.{◌≡◌, ◌∙◌, ◌⊎◌, ℕ, List, Option, Some, None, refl, sym, subst, inl, inr}
+use Rattle.std.specs.Prelude.{IfSome, codes}
 use Rattle.std.specs.Option.{option_map}
 use Rattle.fb_rows.specs.declared.run.Run.{Run}
+use Rattle.fb_model.specs.FullRun.{IsFull}
 use Rattle.fb_puts.specs.Reading.{Accepted as PutsRead}
 use Rattle.fb_bgwrite.specs.declared.items.SpillRun.{SpillRun}
 use Rattle.fb_desk.specs.Calls.{ChangesOutput, Rose}
 use Rattle.fb_desk.specs.View.{DeskView, OutputView}
 use Rattle.fb_desk.specs.declared.desk.Input.TheVariants.{Puts, ForeReport, BackReport}
-use Rattle.fb_desk.specs.declared.desk.Output.{Output}
 use Rattle.fb_desk.specs.declared.desk.Output.TheVariants.{Fore, Back, Spill, Note, MadeTrace, MadeCalls, Copied}
-use Rattle.fb_words.specs.Command.{ReplayTerms, go_together}
+use Rattle.fb_words.specs.Command.{ReplayTerms}
 use Rattle.fb_top.specs.declared.outcome.Outcome.{Outcome}
 use Rattle.fb_top.specs.declared.outcome.Outcome.TheVariants as outcomes
 use Rattle.fb_top.specs.Causes.{HasCause, IsCut, RunsOut}
-use Rattle.fb_top.specs.Done.{AreReadBack, HoldsReports, HoldsWanted, IsDone, IsRunOf, back_told, fore_told}
-use Rattle.fb_top.specs.Read.{Accepts, AcceptsPuts, Files}
-use Rattle.fb_top.specs.Sources.{replay_inputs, replay_sources}
-use Rattle.fb_top.specs.Unnamed.{KeepsUnnamed}
-use Rattle.fb_top.specs.Spilled.{CutsSpill, HoldsBoth, HoldsSpill, IsSpillOf, IsSpilled, StopsReplay, StopsSpill, WritesGiven, WritesPuts, spill_told}
+use Rattle.fb_top.specs.Done.{AreReadBack, CanBeRead, HoldsReports, HoldsWanted, IsDone, IsRunOf, back_told, fore_told}
+use Rattle.fb_top.specs.Read.{AcceptsPuts, Files, inputs_of, key_of}
+use Rattle.fb_top.specs.Sources.{replay_inputs}
+use Rattle.fb_top.specs.Spilled.{CutsSpill, HoldsBoth, HoldsReplay, HoldsSpill, IsSpillOf, IsSpilled, StopsReplay, StopsSpill, WritesGiven, WritesPuts, spill_told}
 use Rattle.fb_top.specs.Written.{HoldsFront, HoldsWhole, KeepsReports, StopsText}
+use Rattle.fb_top.specs.Taken.{TakesReplay}
+use Rattle.fb_top.proofs.Readable.{run_can_be_read}
 use Rattle.fb_top.proofs.Moved.{faults_rose, fore_is_no_note, front, holds_reports, spill_is_no_note, stops_reports, wanted, whole}
 
 -- what is made of a thing in two steps
@@ -30,15 +31,6 @@ through (Some x) g f = refl
 -- what holds of a thing that is given
 pub holds_of : {X : Type 0} (P : X → Type 0) (given : Option X) (x : X) → given ≡ Some x → IfSome given P → P x
 holds_of P given x is all = subst (λ o. IfSome o P) is all
-
--- memory ran out after all inputs were read
-pub replay_ran_out : (terms : ReplayTerms) (old new : DeskView) (files : Files) → Accepts old (replay_sources terms) files → KeepsUnnamed (replay_inputs terms) old new
-    → ((output : Output) → new.outputs output ≡ old.outputs output) → RunsOut old new (replay_inputs terms)
-replay_ran_out terms old new files accepts unnamed outputs = record {
-  input = Puts;
-  before = record { files = files; accepts = accepts };
-  ends = record { later = (unnamed ForeReport refl, unnamed BackReport refl); reports = λ output no_note. outputs output };
-}
 
 -- the first desk keeps the reports of one before it, and one after the second keeps those of the second
 module _ (old mid late new : DeskView) (first : KeepsReports old mid) (last : KeepsReports late new) (terms : ReplayTerms) (files : Files) (run : Run) where
@@ -129,18 +121,7 @@ module _ (terms : ReplayTerms) (files : Files) (run : Run) (spill : SpillRun) (o
   stopped_spill (outcomes.TooLong input) h = absurd h
   stopped_spill (outcomes.ReadFault input) h = absurd h
 
--- there is something to write exactly if there is a name for it
-pub named_alike : (desk : DeskView) (files : Files) (run : Run) (given name : Option (List ℕ)) (puts : Option PutsRead) (spill : Option SpillRun) → AcceptsPuts desk given files puts
-    → WritesGiven files.disk run puts spill → go_together given name ≡ true → is_some spill ≡ is_some name
-named_alike desk files run (Some one) (Some name) (Some puts) (Some spill) accepts writes both = refl
-named_alike desk files run None None None None accepts writes both = refl
-named_alike desk files run (Some one) None (Some puts) (Some spill) accepts writes both = cc
-named_alike desk files run None (Some name) None None accepts writes both = cc
-named_alike desk files run (Some one) name (Some puts) None accepts writes both = absurd writes
-named_alike desk files run (Some one) name None spill accepts writes both = absurd accepts
-named_alike desk files run None name (Some puts) spill accepts writes both = absurd accepts
-named_alike desk files run None name None (Some spill) accepts writes both = absurd writes
-
+-- nothing is written in free gaps exactly if the words name no puts
 no_puts : (desk : DeskView) (files : Files) (run : Run) (given : Option (List ℕ)) (puts : Option PutsRead) → AcceptsPuts desk given files puts → WritesGiven files.disk run puts None → given ≡ None
 no_puts desk files run None None accepts writes = refl
 no_puts desk files run (Some name) None accepts writes = absurd accepts
@@ -149,46 +130,74 @@ no_puts desk files run given (Some puts) accepts writes = absurd writes
 one_spill : (one other : SpillRun) → ◌≡◌ {A = Option SpillRun} (Some one) (Some other) → one ≡ other
 one_spill one other e = cc
 
-module _ (terms : ReplayTerms) (run : Run) (old mid : DeskView) (is_run : IsRunOf old terms run) (keeps : KeepsReports old mid) where
-  spill_of : (puts : Option PutsRead) (given : Option SpillRun) (spill : SpillRun) → given ≡ Some spill → AcceptsPuts old terms.puts is_run.files puts → WritesGiven is_run.files.disk run puts given
-      → IsSpillOf old terms is_run.files run spill
-  spill_of (Some puts) (Some one) spill is accepts writes = record { puts = puts; accepts = accepts; writes = subst (WritesPuts is_run.files.disk run puts) (one_spill one spill is) writes }
-  spill_of None (Some one) spill is accepts writes = absurd writes
-  spill_of puts None spill is accepts writes = absurd cc
+-- a run of inputs that were taken
+module _ (terms : ReplayTerms) (files : Files) (puts : Option PutsRead) (old mid : DeskView)
+    (takes : TakesReplay terms files puts old mid) where
+  -- memory ran out
+  pub replay_ran_out : RunsOut old mid (replay_inputs terms)
+  replay_ran_out = record {
+    input = Puts;
+    before = record { files = files; accepts = takes.accepts };
+    ends = record {
+      later = (takes.unnamed ForeReport refl, takes.unnamed BackReport refl);
+      reports = λ output no_note. takes.outputs output;
+    };
+  }
 
-  module _ (new : DeskView) (puts : Option PutsRead) (accepts : AcceptsPuts old terms.puts is_run.files puts) where
-    -- all was written
-    pub all_spilled : (spill : SpillRun) → WritesGiven is_run.files.disk run puts (Some spill) → HoldsSpill terms is_run.files run spill mid new → AreReadBack terms is_run.files run → IsSpilled old new terms run spill
-    all_spilled spill writes holds read = record {
-      is_run = is_run;
-      is_spill = spill_of puts (Some spill) spill refl accepts writes;
-      texts = spill_moved old mid new new keeps (λ output no_note. refl) terms is_run.files run spill holds;
-      read = read;
-    }
+  module _ (run : Run) (full : IsFull (inputs_of files (key_of terms.policy) terms.until) run) where
+    abbrev is_run : IsRunOf old terms run
+    is_run = record { files = files; accepts = takes.accepts; sound = takes.sound; accepted = takes.fit; full = full }
 
-    pub all_done : WritesGiven is_run.files.disk run puts None → HoldsReports terms is_run.files run mid new → AreReadBack terms is_run.files run → IsDone old new terms run
-    all_done writes holds read = record {
-      no_puts = no_puts old is_run.files run terms.puts puts accepts writes;
-      is_run = is_run;
-      reports = holds_reports old mid new new keeps (λ output no_note. refl) terms is_run.files run holds;
-      read = read;
-    }
+    keeps : KeepsReports old mid
+    keeps output no_note = takes.outputs output
 
-    module _ (given : Option SpillRun) (writes : WritesGiven is_run.files.disk run puts given) where
-      is_cut : (outcome : Outcome) → StopsReplay terms is_run.files run given mid new outcome → IsCut old new terms outcome
+    read_back : (CanBeRead files run → AreReadBack terms files run) → AreReadBack terms files run
+    read_back read = read (run_can_be_read old terms run is_run)
+
+    spill_of : (asked : Option PutsRead) (given : Option SpillRun) (spill : SpillRun) → given ≡ Some spill
+        → AcceptsPuts old terms.puts files asked → WritesGiven files.disk run asked given → IsSpillOf old terms files run spill
+    spill_of (Some asked) (Some one) spill is accepts writes =
+        record { puts = asked; accepts = accepts; writes = subst (WritesPuts files.disk run asked) (one_spill one spill is) writes }
+    spill_of None (Some one) spill is accepts writes = absurd writes
+    spill_of asked None spill is accepts writes = absurd cc
+
+    module _ (given : Option SpillRun) (writes : WritesGiven files.disk run puts given) (new : DeskView) where
+      -- all was written
+      pub all_spilled : (spill : SpillRun) → given ≡ Some spill → HoldsReplay terms files run given mid new
+          → (CanBeRead files run → AreReadBack terms files run) → IsSpilled old new terms run spill
+      all_spilled spill is holds read = record {
+        is_run = is_run;
+        is_spill = spill_of puts given spill is takes.accepts_puts writes;
+        texts = spill_moved old mid new new keeps (λ output no_note. refl) terms files run spill
+            (subst (λ (s : Option SpillRun). HoldsReplay terms files run s mid new) is holds);
+        read = read_back read;
+      }
+
+      pub all_done : given ≡ None → HoldsReplay terms files run given mid new → (CanBeRead files run → AreReadBack terms files run)
+          → IsDone old new terms run
+      all_done is holds read = record {
+        no_puts = no_puts old files run terms.puts puts takes.accepts_puts
+            (subst (λ (s : Option SpillRun). WritesGiven files.disk run puts s) is writes);
+        is_run = is_run;
+        reports = holds_reports old mid new new keeps (λ output no_note. refl) terms files run
+            (subst (λ (s : Option SpillRun). HoldsReplay terms files run s mid new) is holds);
+        read = read_back read;
+      }
+
+      is_cut : (outcome : Outcome) → StopsReplay terms files run given mid new outcome → IsCut old new terms outcome
       is_cut outcome (inl stops) = inl (record {
         run = run;
         is_run = is_run;
         puts = puts;
-        accepts_puts = accepts;
-        stops = stops_reports old mid new new keeps (λ output no_note. refl) terms is_run.files run outcome stops;
+        accepts_puts = takes.accepts_puts;
+        stops = stops_reports old mid new new keeps (λ output no_note. refl) terms files run outcome stops;
       })
       is_cut outcome (inr h) = inr (record {
         run = run;
         spill = h.0;
         is_run = is_run;
-        is_spill = spill_of puts given h.0 h.1 accepts writes;
-        stops = stops_moved old mid new new keeps (λ output no_note. refl) terms is_run.files run h.0 outcome h.2;
+        is_spill = spill_of puts given h.0 h.1 takes.accepts_puts writes;
+        stops = stops_moved old mid new new keeps (λ output no_note. refl) terms files run h.0 outcome h.2;
       })
 
       nothing_stops : ⊥ ⊎ ((spill : SpillRun) × (given ≡ Some spill) × ⊥) → ⊥
@@ -196,7 +205,7 @@ module _ (terms : ReplayTerms) (run : Run) (old mid : DeskView) (is_run : IsRunO
       nothing_stops (inr h) = h.2
 
       -- or not
-      pub at_replay : (outcome : Outcome) → StopsReplay terms is_run.files run given mid new outcome → HasCause terms old new outcome
+      pub at_replay : (outcome : Outcome) → StopsReplay terms files run given mid new outcome → HasCause terms old new outcome
       at_replay (outcomes.WriteFault output) h = is_cut (outcomes.WriteFault output) h
       at_replay outcomes.NoMemory h = inr (is_cut outcomes.NoMemory h)
       at_replay (outcomes.Done ran) h = absurd (nothing_stops h)

@@ -47,12 +47,13 @@ pub later_at_params : (old new : DeskView) → ChangesInput Params old new → K
 later_at_params old new only = (only.inputs Trace trace_is_no_params, only.inputs Calls calls_are_no_params, only.inputs Puts (λ e. cc), only.inputs ForeReport (λ e. cc), only.inputs BackReport (λ e. cc))
 
 -- outputs leave the inputs alone
-pub later_after : (which : Output) (old mid new : DeskView) → KeepsLater Params old mid → ChangesOutput which mid new → KeepsLater Params old new
-later_after which old mid new keeps only = (only.inputs Trace ∙ keeps.0, only.inputs Calls ∙ keeps.1, only.inputs Puts ∙ keeps.2, only.inputs ForeReport ∙ keeps.3, only.inputs BackReport ∙ keeps.4)
+pub later_after : (old mid new : DeskView) → KeepsLater Params old mid → KeepsInputs mid new → KeepsLater Params old new
+later_after old mid new keeps same =
+    (same Trace ∙ keeps.0, same Calls ∙ keeps.1, same Puts ∙ keeps.2, same ForeReport ∙ keeps.3, same BackReport ∙ keeps.4)
 
 pub unnamed_after : (reading : Result Terms UsageFault) (which : Output) (old mid new : DeskView) → LeavesUnnamed reading old mid → ChangesOutput which mid new → LeavesUnnamed reading old new
 unnamed_after (Ok (replays terms)) which old mid new keeps only = λ input unnamed. only.inputs input ∙ keeps input unnamed
-unnamed_after (Ok (makes terms)) which old mid new keeps only = later_after which old mid new keeps only
+unnamed_after (Ok (makes terms)) which old mid new keeps only = later_after old mid new keeps only.inputs
 unnamed_after (Ok (checks terms)) which old mid new keeps only = λ input unnamed. only.inputs input ∙ keeps input unnamed
 unnamed_after (Ok (arrays terms)) which old mid new keeps only = λ input unnamed. only.inputs input ∙ keeps input unnamed
 unnamed_after (Err fault) which old mid new keeps only = λ input. only.inputs input ∙ keeps input

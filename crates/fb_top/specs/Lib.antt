@@ -8,6 +8,7 @@ pub mod Checked
 pub mod Causes
 pub mod Unnamed
 pub mod Opened
+pub mod Taken
 pub mod Calm
 pub mod Make
 pub mod Devices

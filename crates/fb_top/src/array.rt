@@ -3,7 +3,7 @@ ghost use Rattle.std.specs.Prelude.{◌≡◌, ◌%◌, ◌^◌, ◌<◌, ◌≤
 ghost use Rattle.std.specs.List.{AllByRecursion};
 ghost use Rattle.std.specs.Option.{option_map};
 ghost use Rattle.fb_calls.specs.Allowed.{tasks};
-ghost use Rattle.fb_desk.specs.View.{IsUnused};
+ghost use Rattle.fb_desk.specs.View.{DeskView, IsUnused};
 ghost use Rattle.fb_model.specs.Accepted.{IsAccepted};
 ghost use Rattle.fb_rows.specs.declared.run.Run.{Run};
 ghost use Rattle.fb_trace.specs.Reading.{Accepted};
@@ -16,6 +16,7 @@ ghost use Rattle.fb_top.specs.Devices.{array_of, device_inputs, is_rebuilt_from}
 ghost use Rattle.fb_top.specs.Done.{CanBeTold};
 ghost use Rattle.fb_top.specs.Opened.{OpensAsNamed};
 ghost use Rattle.fb_top.specs.Sources.{array_inputs};
+ghost use Rattle.fb_top.specs.Taken.{TakesArray};
 ghost use Rattle.fb_top.specs.Unnamed.{KeepsInputs, KeepsUnnamed};
 ghost use Rattle.fb_top.specs.Written.{StopsTexts, WritesAll};
 
@@ -45,19 +46,38 @@ pub fn run_array<D: Desk>(alloc: Global, desk: &mut D, words: &ArrayWords) -> Ou
     ensures calm { MeetsNoFault result (D.seen desk.old) (D.seen desk.new) }
     ensures no_note { (D.seen desk.new).outputs Output.Note ≡ (D.seen desk.old).outputs Output.Note }
 {
-    let files = match read_array(alloc, desk, words) {
-        Ok(files) => files,
-        Err(outcome) => return outcome,
-    };
-    let runs = match replay_devices(alloc, words, &files) {
+    match read_array(alloc, desk, words) {
+        Ok(files) => replay_array(alloc, desk, words, &files),
+        Err(outcome) => outcome,
+    }
+}
+
+// Replays an array whose files were read, and writes what the words ask for.
+fn replay_array<D: Desk>(
+    alloc: Global,
+    desk: &mut D,
+    words: &ArrayWords,
+    files: &ArrayFiles,
+) -> Outcome
+    requires fresh { (output : Output) → ((D.seen desk.old).outputs output).begun ≡ false }
+    requires limits { IsWithinLimits (arrays (array_terms words.now)) }
+    requires count { length (array_of files.now).traces ≡ (array_terms words.now).devices }
+    requires fit { (device : ℕ) (trace : Accepted) → slice_get (array_of files.now).traces device ≡ Some trace → IsAccepted (device_inputs (array_terms words.now) (array_of files.now) device trace) }
+    requires names { length files.now.calls.names ≡ length (tasks files.now.calls.calls.items) }
+    ensures cause { (first : DeskView) → TakesArray (array_terms words.now) (array_of files.now) first (D.seen desk.old) → ArrayHasCause (array_terms words.now) first (D.seen desk.new) result }
+    ensures calm { MeetsNoFault result (D.seen desk.old) (D.seen desk.new) }
+    ensures no_note { (D.seen desk.new).outputs Output.Note ≡ (D.seen desk.old).outputs Output.Note }
+    ensures inputs { KeepsInputs (D.seen desk.old) (D.seen desk.new) }
+{
+    let runs = match replay_devices(alloc, words, files) {
         Ok(runs) => runs,
         Err(NoMemory) => return Outcome::NoMemory,
     };
-    let copy = match copy_survivor(alloc, words, &files, &runs) {
+    let copy = match copy_survivor(alloc, words, files, &runs) {
         Ok(copy) => copy,
         Err(NoMemory) => return Outcome::NoMemory,
     };
-    match write_array(alloc, desk, words, &files, &runs, copy.as_ref()) {
+    match write_array(alloc, desk, words, files, &runs, copy.as_ref()) {
         Ok(()) => Outcome::Arrayed { runs, copy },
         Err(outcome) => outcome,
     }

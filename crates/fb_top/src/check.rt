@@ -1,8 +1,8 @@
 // The command that judges printed reports.
-ghost use Rattle.std.specs.Prelude.{◌≡◌, ◌≤◌, ◌^◌, ℕ, false, codes, length, IfErr, IfOk, OnOk};
+ghost use Rattle.std.specs.Prelude.{◌≡◌, ◌≢◌, ◌≤◌, ◌^◌, ℕ, false, codes, length, IfErr, IfOk, OnOk};
 ghost use Rattle.fb_calls.specs.Allowed.{tasks};
 ghost use Rattle.fb_desk.specs.Calls.{ChangesInput, ChangesOutput};
-ghost use Rattle.fb_desk.specs.View.{IsUnused};
+ghost use Rattle.fb_desk.specs.View.{DeskView, IsUnused};
 ghost use Rattle.fb_model.specs.Accepted.{IsAccepted};
 ghost use Rattle.fb_words.specs.Verdict.{check_terms};
 ghost use Rattle.fb_top.specs.Calm.{MeetsNoFault};
@@ -14,6 +14,7 @@ ghost use Rattle.fb_top.specs.Checked.{ArePrintedCalm, ChangesPrinted, JudgesBac
 ghost use Rattle.fb_top.specs.Opened.{IsOpenedAs, OpensAsNamed};
 ghost use Rattle.fb_top.specs.Read.{files_of, inputs_of, key_of};
 ghost use Rattle.fb_top.specs.Sources.{check_inputs, check_sources, sources_of};
+ghost use Rattle.fb_top.specs.Taken.{TakesCheck};
 ghost use Rattle.fb_top.specs.Unnamed.{KeepsUnnamed};
 ghost use Rattle.fb_top.specs.Written.{HoldsWhole, StopsText};
 
@@ -39,11 +40,32 @@ pub fn run_check<D: Desk>(alloc: Global, desk: &mut D, words: &CheckWords) -> Ou
     ensures calm { MeetsNoFault result (D.seen desk.old) (D.seen desk.new) }
     ensures no_note { (D.seen desk.new).outputs Output.Note ≡ (D.seen desk.old).outputs Output.Note }
 {
-    let files = match read_inputs(alloc, desk, &sources(words)) {
-        Ok(files) => files,
-        Err(outcome) => return outcome,
-    };
-    let verdict = match judge_printed(alloc, desk, words, &files) {
+    match read_inputs(alloc, desk, &sources(words)) {
+        Ok(files) => check_read(alloc, desk, words, &files),
+        Err(outcome) => outcome,
+    }
+}
+
+// Judges the printed reports by files that were read, and tells the verdict.
+fn check_read<D: Desk>(
+    alloc: Global,
+    desk: &mut D,
+    words: &CheckWords,
+    files: &ReplayFiles,
+) -> Outcome
+    requires fresh_fore { ((D.seen desk.old).inputs Input.ForeReport).opened ≡ false }
+    requires fresh_back { ((D.seen desk.old).inputs Input.BackReport).opened ≡ false }
+    requires fresh { ((D.seen desk.old).outputs Output.Fore).begun ≡ false }
+    requires fit { IsAccepted (inputs_of (files_of files.now) (key_of words.now.policy) words.now.until) }
+    requires names { length files.now.calls.names ≡ length (tasks files.now.calls.calls.items) }
+    ensures cause { (first : DeskView) → TakesCheck (check_terms words.now) (files_of files.now) first (D.seen desk.old) → CheckHasCause (check_terms words.now) first (D.seen desk.new) result }
+    ensures others { (input : Input) → input ≢ Input.ForeReport → input ≢ Input.BackReport → (D.seen desk.new).inputs input ≡ (D.seen desk.old).inputs input }
+    ensures fore { IsOpenedAs (check_terms words.now).fore (D.seen desk.old) ((D.seen desk.new).inputs Input.ForeReport) }
+    ensures back { IsOpenedAs (check_terms words.now).back (D.seen desk.old) ((D.seen desk.new).inputs Input.BackReport) }
+    ensures calm { MeetsNoFault result (D.seen desk.old) (D.seen desk.new) }
+    ensures no_note { (D.seen desk.new).outputs Output.Note ≡ (D.seen desk.old).outputs Output.Note }
+{
+    let verdict = match judge_printed(alloc, desk, words, files) {
         Ok(verdict) => verdict,
         Err(outcome) => return outcome,
     };

@@ -1,8 +1,8 @@
 // The command that makes a trace and a call script for a disk.
-ghost use Rattle.std.specs.Prelude.{◌≡◌, ◌≤◌, ◌^◌, false, OnOk, IfErr};
+ghost use Rattle.std.specs.Prelude.{◌≡◌, ◌≤◌, ◌^◌, List, ℕ, false, OnOk, IfErr};
 ghost use Rattle.std.specs.String.{string_bytes};
-ghost use Rattle.fb_desk.specs.View.{IsUnused};
-ghost use Rattle.fb_desk.specs.Calls.{ChangesOutput};
+ghost use Rattle.fb_desk.specs.View.{DeskView, IsUnused};
+ghost use Rattle.fb_desk.specs.Calls.{ChangesInput, ChangesOutput};
 ghost use Rattle.fb_words.specs.Command.{makes};
 ghost use Rattle.fb_words.specs.Limits.{IsWithinLimits};
 ghost use Rattle.fb_words.specs.Verdict.{make_terms};
@@ -11,8 +11,10 @@ ghost use Rattle.fb_maker.specs.Script.{script_text};
 ghost use Rattle.fb_desk.specs.declared.desk.Input.{Input};
 ghost use Rattle.fb_top.specs.Causes.{KeepsLater};
 ghost use Rattle.fb_top.specs.Make.{MakeHasCause};
+ghost use Rattle.fb_top.specs.Read.{ReadsDisk};
 ghost use Rattle.fb_top.specs.Opened.{IsOpenedAs};
 ghost use Rattle.fb_top.specs.Calm.{MeetsNoFault};
+ghost use Rattle.fb_top.specs.Unnamed.{KeepsInputs};
 ghost use Rattle.fb_top.specs.Written.{HoldsWhole, StopsText};
 
 use crate::Outcome;
@@ -21,6 +23,7 @@ use crate::streams::write_whole;
 use fb_desk::{Desk, Failed, Output};
 use fb_maker::{Maker, made_calls, made_scripts_are_read, made_traces_are_read};
 use fb_sectormap::SectorMap;
+use fb_service::Disk;
 use fb_units::NoMemory;
 use fb_words::MakeWords;
 use std::alloc::Global;
@@ -35,11 +38,23 @@ pub fn run_make<D: Desk>(alloc: Global, desk: &mut D, words: &MakeWords) -> Outc
     ensures calm { MeetsNoFault result (D.seen desk.old) (D.seen desk.new) }
     ensures no_note { (D.seen desk.new).outputs Output.Note ≡ (D.seen desk.old).outputs Output.Note }
 {
-    let params = match read_disk(alloc, desk, words.params.as_str()) {
-        Ok(params) => params,
-        Err(outcome) => return outcome,
-    };
-    let map = &params.disk.map;
+    match read_disk(alloc, desk, words.params.as_str()) {
+        Ok(params) => make_for(alloc, desk, words, &params.disk),
+        Err(outcome) => outcome,
+    }
+}
+
+// Writes a trace and a call script for a disk that was read.
+fn make_for<D: Desk>(alloc: Global, desk: &mut D, words: &MakeWords, disk: &Disk) -> Outcome
+    requires fresh_trace { ((D.seen desk.old).outputs Output.MadeTrace).begun ≡ false }
+    requires fresh_calls { ((D.seen desk.old).outputs Output.MadeCalls).begun ≡ false }
+    requires limits { IsWithinLimits (makes (make_terms words.now)) }
+    ensures cause { (first : DeskView) (latent : List ℕ) → ReadsDisk first (make_terms words.now).params disk.now latent → ChangesInput Input.Params first (D.seen desk.old) → MakeHasCause (make_terms words.now) first (D.seen desk.new) result }
+    ensures calm { MeetsNoFault result (D.seen desk.old) (D.seen desk.new) }
+    ensures no_note { (D.seen desk.new).outputs Output.Note ≡ (D.seen desk.old).outputs Output.Note }
+    ensures inputs { KeepsInputs (D.seen desk.old) (D.seen desk.new) }
+{
+    let map = &disk.map;
     map.geometry().sound();
     made_traces_are_read();
     made_scripts_are_read(map);

@@ -1,10 +1,12 @@
 // The command that replays a trace, and writes puts in the free gaps of the run.
-ghost use Rattle.std.specs.Prelude.{◌≡◌, ◌≤◌, ◌*◌, ◌^◌, true, false, is_some, IfErr, IfOk, IfSome, OnOk};
+ghost use Rattle.std.specs.Prelude.{◌≡◌, ◌≤◌, ◌*◌, ◌^◌, true, false, is_some, length, IfErr, IfOk, IfSome, OnOk};
 ghost use Rattle.std.specs.List.{AllByRecursion};
 ghost use Rattle.std.specs.Option.{option_map};
 ghost use Rattle.fb_bgwrite.specs.Text.{HasRange};
 ghost use Rattle.fb_puts.specs.Verdict.{accepted};
-ghost use Rattle.fb_desk.specs.View.{IsUnused};
+ghost use Rattle.fb_calls.specs.Allowed.{tasks};
+ghost use Rattle.fb_model.specs.Accepted.{IsAccepted};
+ghost use Rattle.fb_desk.specs.View.{DeskView, IsUnused};
 ghost use Rattle.fb_desk.specs.declared.desk.Output.{Output};
 ghost use Rattle.fb_words.specs.Command.{go_together};
 ghost use Rattle.fb_words.specs.Verdict.{replay_terms};
@@ -12,14 +14,15 @@ ghost use Rattle.fb_top.specs.Calm.{AreOutputsCalm, MeetsNoFault};
 ghost use Rattle.fb_top.specs.Causes.{HasCause};
 ghost use Rattle.fb_top.specs.Done.{AreReadBack, CanBeRead, CanBeTold};
 ghost use Rattle.fb_top.specs.Opened.{OpensAsNamed};
-ghost use Rattle.fb_top.specs.Read.{files_of};
+ghost use Rattle.fb_top.specs.Read.{files_of, inputs_of, key_of};
 ghost use Rattle.fb_top.specs.Sources.{replay_inputs};
 ghost use Rattle.fb_top.specs.Spilled.{CanBeSpilled, HoldsReplay, IsRunOfFiles, StopsReplay, WritesGiven};
+ghost use Rattle.fb_top.specs.Taken.{TakesReplay};
 ghost use Rattle.fb_top.specs.Unnamed.{KeepsInputs, KeepsUnnamed};
 
 use crate::Outcome;
 use crate::policy::replay_by;
-use crate::puts::read_replay;
+use crate::puts::{ReplayInputs, read_replay};
 use crate::reading::ReplayFiles;
 use crate::report::write_reports;
 use crate::spill_text::SpillLines;
@@ -44,10 +47,29 @@ pub fn run_replay<D: Desk>(alloc: Global, desk: &mut D, words: &ReplayWords) -> 
     ensures calm { MeetsNoFault result (D.seen desk.old) (D.seen desk.new) }
     ensures no_note { (D.seen desk.new).outputs Output.Note ≡ (D.seen desk.old).outputs Output.Note }
 {
-    let inputs = match read_replay(alloc, desk, words) {
-        Ok(inputs) => inputs,
-        Err(outcome) => return outcome,
-    };
+    match read_replay(alloc, desk, words) {
+        Ok(inputs) => replay_read(alloc, desk, words, &inputs),
+        Err(outcome) => outcome,
+    }
+}
+
+// Replays inputs that were read, and writes what the words ask for.
+fn replay_read<D: Desk>(
+    alloc: Global,
+    desk: &mut D,
+    words: &ReplayWords,
+    inputs: &ReplayInputs,
+) -> Outcome
+    requires fresh { (output : Output) → ((D.seen desk.old).outputs output).begun ≡ false }
+    requires fit { IsAccepted (inputs_of (files_of inputs.now.files) (key_of words.now.policy) words.now.until) }
+    requires fit_puts { IfSome inputs.now.puts (λ puts. CanBeSpilled (files_of inputs.now.files) (accepted puts)) }
+    requires names { length inputs.now.files.calls.names ≡ length (tasks inputs.now.files.calls.calls.items) }
+    requires named { is_some inputs.now.puts ≡ is_some (replay_terms words.now).spill }
+    ensures cause { (first : DeskView) → TakesReplay (replay_terms words.now) (files_of inputs.now.files) (option_map accepted inputs.now.puts) first (D.seen desk.old) → HasCause (replay_terms words.now) first (D.seen desk.new) result }
+    ensures calm { MeetsNoFault result (D.seen desk.old) (D.seen desk.new) }
+    ensures no_note { (D.seen desk.new).outputs Output.Note ≡ (D.seen desk.old).outputs Output.Note }
+    ensures inputs { KeepsInputs (D.seen desk.old) (D.seen desk.new) }
+{
     let files = &inputs.files;
     let run = match replay_by(alloc, words.policy, files.asked(words.until)) {
         Ok(run) => run,

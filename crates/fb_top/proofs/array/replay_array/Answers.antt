@@ -1,0 +1,40 @@
+use Rattle.std.proofs.Common.{◌≤◌, ◌∙◌, ℕ, ◌<◌, refl, sym, subst, inl}
+use Rattle.std.specs.Prelude.{IfSome}
+use Rattle.fb_words.specs.Verdict.{array_terms}
+use Rattle.fb_top.proofs.Arrayed.{arrayed, at_texts, ran_out, runs_taken}
+use Rattle.fb_top.proofs.array.replay_array.Goals as goal
+
+pub returns-in-Err-clause-cause : goal.returns-in-Err-clause-cause
+returns-in-Err-clause-cause g c = λ first takes. inl (ran_out takes)
+
+pub returns-in-Err-copy_survivor-clause-cause : goal.returns-in-Err-copy_survivor-clause-cause
+returns-in-Err-copy_survivor-clause-cause g c = λ first takes. inl (ran_out takes)
+
+pub copy_survivor-requires-clause-device : goal.copy_survivor-requires-clause-device
+copy_survivor-requires-clause-device g c =
+    subst (λ (n : ℕ). IfSome (array_terms c.args.words.now).rebuild (λ rebuild. rebuild.device < n))
+    (sym (c.in-Ok.ensures.count ∙ c.requires.count)) c.requires.limits.2
+
+pub write_array-requires-clause-few : goal.write_array-requires-clause-few
+write_array-requires-clause-few g c = subst (λ (n : ℕ). n ≤ 16) (sym (c.in-Ok.ensures.count ∙ c.requires.count)) c.requires.limits.1
+
+pub write_array-requires-clause-device : goal.write_array-requires-clause-device
+write_array-requires-clause-device g c =
+    subst (λ (n : ℕ). IfSome (array_terms c.args.words.now).rebuild (λ rebuild. rebuild.device < n))
+    (sym (c.in-Ok.ensures.count ∙ c.requires.count)) c.requires.limits.2
+
+pub returns-in-Ok-write_array-clause-cause : goal.returns-in-Ok-write_array-clause-cause
+returns-in-Ok-write_array-clause-cause g c = λ first takes.
+    let new = g.D.Desk.seen c.write_array.new.desk in
+    let are_runs = runs_taken takes c.in-Ok.runs (c.in-Ok.ensures.count ∙ c.requires.count) c.in-Ok.ensures.full in
+    arrayed (array_terms c.args.words.now) first _ new new c.in-Ok.runs are_runs
+    (λ output no_note. takes.outputs output) (λ output no_note. refl)
+    c.in-Ok-copy_survivor.copy c.in-Ok-copy_survivor.ensures.copied c.in-Ok-write_array.ensures.whole
+
+pub returns-in-Err-write_array-clause-cause : goal.returns-in-Err-write_array-clause-cause
+returns-in-Err-write_array-clause-cause g c = λ first takes.
+    let new = g.D.Desk.seen c.write_array.new.desk in
+    let are_runs = runs_taken takes c.in-Ok.runs (c.in-Ok.ensures.count ∙ c.requires.count) c.in-Ok.ensures.full in
+    at_texts (array_terms c.args.words.now) first _ new new c.in-Ok.runs are_runs
+    (λ output no_note. takes.outputs output) (λ output no_note. refl)
+    c.in-Err-write_array.outcome c.in-Err-write_array.ensures.stops

@@ -1,0 +1,41 @@
+-- What is known once the inputs of a command were accepted, and before it does anything else.
+use Rattle.std.specs.Prelude.{◌≡◌, ℕ, List, Option}
+use Rattle.fb_geometry.specs.Sound.{IsSound}
+use Rattle.fb_puts.specs.Reading.{Accepted as PutsRead}
+use Rattle.fb_desk.specs.View.{DeskView}
+use Rattle.fb_desk.specs.declared.desk.Output.{Output}
+use Rattle.fb_model.specs.Accepted.{IsAccepted}
+use Rattle.fb_words.specs.Command.{ArrayTerms, CheckTerms, ReplayTerms}
+use Rattle.fb_top.specs.Devices.{AcceptsArray, Array}
+use Rattle.fb_top.specs.Read.{Accepts, AcceptsPuts, Files, inputs_of, key_of}
+use Rattle.fb_top.specs.Sources.{array_inputs, check_sources, files_alone, replay_inputs, replay_sources}
+use Rattle.fb_top.specs.Unnamed.{KeepsUnnamed}
+
+-- no output has changed
+abbrev pub KeepsOutputs : DeskView → DeskView → Type 0
+KeepsOutputs old new = (output : Output) → new.outputs output ≡ old.outputs output
+
+-- the files and the puts of a replay were accepted, and nothing else was touched
+pub record TakesReplay (terms : ReplayTerms) (files : Files) (puts : Option PutsRead) (old new : DeskView) : Type 0 where
+  pub accepts : Accepts old (replay_sources terms) files
+  pub accepts_puts : AcceptsPuts old terms.puts files puts
+  pub sound : IsSound files.disk.map
+  pub fit : IsAccepted (inputs_of files (key_of terms.policy) terms.until)
+  pub unnamed : KeepsUnnamed (replay_inputs terms) old new
+  pub outputs : KeepsOutputs old new
+
+-- the files of a check were accepted, and nothing else was touched
+pub record TakesCheck (terms : CheckTerms) (files : Files) (old new : DeskView) : Type 0 where
+  pub accepts : Accepts old (check_sources terms) files
+  pub sound : IsSound files.disk.map
+  pub fit : IsAccepted (inputs_of files (key_of terms.policy) terms.until)
+  pub held : (name : List ℕ) → new.held name ≡ old.held name
+  pub unnamed : KeepsUnnamed (files_alone (check_sources terms)) old new
+  pub outputs : KeepsOutputs old new
+
+-- the files of an array were accepted, and nothing else was touched
+pub record TakesArray (terms : ArrayTerms) (array : Array) (old new : DeskView) : Type 0 where
+  pub accepts : AcceptsArray old terms array
+  pub sound : IsSound array.disk.map
+  pub unnamed : KeepsUnnamed (array_inputs terms) old new
+  pub outputs : KeepsOutputs old new
