@@ -29,19 +29,7 @@ fn is_no_later(a: Spill, b: Spill) -> bool
     ensures yes { result ≡ true → IsNoLater a b }
     ensures no { result ≡ false → IsNoLater b a }
 {
-    if a.track.cylinder < b.track.cylinder {
-        return true;
-    }
-    if b.track.cylinder < a.track.cylinder {
-        return false;
-    }
-    if a.track.head < b.track.head {
-        return true;
-    }
-    if b.track.head < a.track.head {
-        return false;
-    }
-    a.leave <= b.leave
+    a.track < b.track || a.track == b.track && a.leave <= b.leave
 }
 
 /// The spill of greater value; of two with the same value, the first in the order of ties.
