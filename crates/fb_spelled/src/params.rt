@@ -1,11 +1,19 @@
 use fb_params::{ParamsError, ParamsFault, read_params};
 use fb_units::KeyText;
 use std::alloc::{AllocError, Global};
+use std::process::Abort;
 use std::test::Fail;
 
 // A disk of 96 sectors: the keys up to its seek table, that table, and its zone.
 const TOP: &str =
     "version = 1\nrotation_ns = 1200\nsector_bytes = 16\nheads = 2\nhead_switch_ns = 200\nwrite_settle_ns = 50\n";
+
+// The same with a word for the heads, and with a rotation of no time.
+const TOP_OF_WORD: &str =
+    "version = 1\nrotation_ns = 1200\nsector_bytes = 16\nheads = \"2\"\nhead_switch_ns = 200\nwrite_settle_ns = 50\n";
+
+const TOP_OF_ZERO: &str =
+    "version = 1\nrotation_ns = 0\nsector_bytes = 16\nheads = 2\nhead_switch_ns = 200\nwrite_settle_ns = 50\n";
 
 const SEEK: &str = "seek = [[1, 300], [3, 500]]\n";
 
@@ -18,27 +26,23 @@ const TOP_OF_TWO: &str =
 const ZONE_OF_TWO: &str = "[[zone]]\nfirst = 0\nlast = 3\nsectors = 12\ncylinder_spares = 2\n";
 
 #[test]
-fn first_faults(rt: HostRuntime) -> Result<(), Fail> {
+fn faults_of_keys(rt: HostRuntime) -> Result<(), Fail> {
     let rows = [
         (["", "", ""], "MissingKey version"),
         (["speed = 1\n", TOP, SEEK], "UnknownKey speed"),
-        (
-            [
-                "version = 1\nrotation_ns = 1200\nsector_bytes = 16\nheads = \"2\"\nhead_switch_ns = 200\nwrite_settle_ns = 50\n",
-                SEEK,
-                ZONE,
-            ],
-            "WrongKind heads",
-        ),
-        (
-            [
-                "version = 1\nrotation_ns = 0\nsector_bytes = 16\nheads = 2\nhead_switch_ns = 200\nwrite_settle_ns = 50\n",
-                SEEK,
-                ZONE,
-            ],
-            "OutOfRange rotation_ns",
-        ),
+        ([TOP_OF_WORD, SEEK, ZONE], "WrongKind heads"),
+        ([TOP_OF_ZERO, SEEK, ZONE], "OutOfRange rotation_ns"),
         (["version = 1\n", TOP, SEEK], "NotToml"),
+    ];
+    for (parts, expected) in rows {
+        check_answer(&rt, rt.alloc(), parts.as_slice(), expected)?;
+    }
+    Ok(())
+}
+
+#[test]
+fn faults_of_zone_keys(rt: HostRuntime) -> Result<(), Fail> {
+    let rows = [
         ([TOP, SEEK, ""], "MissingKey zone"),
         (
             [TOP, SEEK, "[[zone]]\nfirst = 0\nlast = 3\n"],
@@ -58,14 +62,13 @@ fn first_faults(rt: HostRuntime) -> Result<(), Fail> {
         ),
     ];
     for (parts, expected) in rows {
-        let answer = answer(rt.alloc(), parts.as_slice())?;
-        assert_eq!(rt; answer.as_str(), expected, "for {parts:?}");
+        check_answer(&rt, rt.alloc(), parts.as_slice(), expected)?;
     }
     Ok(())
 }
 
 #[test]
-fn first_faults_of_disks(rt: HostRuntime) -> Result<(), Fail> {
+fn faults_of_zones(rt: HostRuntime) -> Result<(), Fail> {
     let rows = [
         ([TOP, SEEK, ZONE, ""], "accepted"),
         ([TOP, SEEK, ZONE, "spares = 12\n"], "Geometry OutOfRange"),
@@ -82,67 +85,88 @@ fn first_faults_of_disks(rt: HostRuntime) -> Result<(), Fail> {
             [TOP, SEEK, ZONE, "track_skew = 12\n"],
             "Geometry SkewTooLarge(0)",
         ),
+    ];
+    for (parts, expected) in rows {
+        check_answer(&rt, rt.alloc(), parts.as_slice(), expected)?;
+    }
+    Ok(())
+}
+
+#[test]
+fn faults_of_defects(rt: HostRuntime) -> Result<(), Fail> {
+    let rows = [
         (
-            [TOP, SEEK, "defects = [[4, 0, 0]]\n", ZONE],
+            "defects = [[4, 0, 0]]\n",
             "Geometry DefectOutside(Place { track: Track { cylinder: 4, head: 0 }, slot: 0 })",
         ),
         (
-            [TOP, SEEK, "defects = [[0, 1, 3], [0, 1, 3]]\n", ZONE],
+            "defects = [[0, 1, 3], [0, 1, 3]]\n",
             "Geometry DefectTwice(Place { track: Track { cylinder: 0, head: 1 }, slot: 3 })",
         ),
         (
-            [TOP, SEEK, "defects = [[0, 1, 3]]\n", ZONE],
+            "defects = [[0, 1, 3]]\n",
             "Geometry TooManyDefects(Track { cylinder: 0, head: 1 })",
         ),
-        ([TOP, "seek = []\n", ZONE, ""], "Seek NoPoints"),
+        ("latent = [96]\n", "LatentOutside 96"),
+    ];
+    for (listed, expected) in rows {
+        check_answer(&rt, rt.alloc(), &[TOP, SEEK, listed, ZONE], expected)?;
+    }
+    Ok(())
+}
+
+#[test]
+fn faults_of_grown_defects(rt: HostRuntime) -> Result<(), Fail> {
+    let rows = [
         (
-            [TOP, "seek = [[2, 300], [3, 500]]\n", ZONE, ""],
-            "Seek FirstNotOne",
-        ),
-        (
-            [TOP, "seek = [[1, 300], [1, 500]]\n", ZONE, ""],
-            "Seek DistanceNotRising(1)",
-        ),
-        (
-            [TOP, "seek = [[1, 300], [3, 200]]\n", ZONE, ""],
-            "Seek TimeFalls(1)",
-        ),
-        (
-            [TOP, "seek = [[1, 300], [2, 400]]\n", ZONE, ""],
-            "Seek TooShort",
-        ),
-        (
-            [TOP, "seek = [[1, 0], [3, 500]]\n", ZONE, ""],
-            "Seek OutOfRange",
-        ),
-        ([TOP, SEEK, "latent = [96]\n", ZONE], "LatentOutside 96"),
-        (
-            [TOP_OF_TWO, SEEK, "grown = [[4, 0, 0]]\n", ZONE_OF_TWO],
+            "grown = [[4, 0, 0]]\n",
             "Geometry GrownOutside(Place { track: Track { cylinder: 4, head: 0 }, slot: 0 })",
         ),
         (
-            [
-                TOP_OF_TWO,
-                SEEK,
-                "grown = [[0, 0, 3], [0, 0, 3]]\n",
-                ZONE_OF_TWO,
-            ],
+            "grown = [[0, 0, 3], [0, 0, 3]]\n",
             "Geometry GrownTwice(Place { track: Track { cylinder: 0, head: 0 }, slot: 3 })",
         ),
         (
-            [
-                TOP_OF_TWO,
-                SEEK,
-                "grown = [[0, 0, 1], [0, 0, 2], [0, 0, 3]]\n",
-                ZONE_OF_TWO,
-            ],
+            "grown = [[0, 0, 1], [0, 0, 2], [0, 0, 3]]\n",
             "Geometry TooManyInCylinder(0)",
         ),
     ];
-    for (parts, expected) in rows {
-        let answer = answer(rt.alloc(), parts.as_slice())?;
-        assert_eq!(rt; answer.as_str(), expected, "for {parts:?}");
+    for (listed, expected) in rows {
+        check_answer(
+            &rt,
+            rt.alloc(),
+            &[TOP_OF_TWO, SEEK, listed, ZONE_OF_TWO],
+            expected,
+        )?;
     }
+    Ok(())
+}
+
+#[test]
+fn faults_of_seek_tables(rt: HostRuntime) -> Result<(), Fail> {
+    let rows = [
+        ("seek = []\n", "Seek NoPoints"),
+        ("seek = [[2, 300], [3, 500]]\n", "Seek FirstNotOne"),
+        ("seek = [[1, 300], [1, 500]]\n", "Seek DistanceNotRising(1)"),
+        ("seek = [[1, 300], [3, 200]]\n", "Seek TimeFalls(1)"),
+        ("seek = [[1, 300], [2, 400]]\n", "Seek TooShort"),
+        ("seek = [[1, 0], [3, 500]]\n", "Seek OutOfRange"),
+    ];
+    for (seek, expected) in rows {
+        check_answer(&rt, rt.alloc(), &[TOP, seek, ZONE], expected)?;
+    }
+    Ok(())
+}
+
+// Reading the text of these parts gives this answer.
+fn check_answer(
+    rt: &impl Abort,
+    alloc: Global,
+    parts: &[&str],
+    expected: &str,
+) -> Result<(), Fail> {
+    let answer = answer(alloc, parts)?;
+    assert_eq!(rt; answer.as_str(), expected, "for {parts:?}");
     Ok(())
 }
 
