@@ -1,9 +1,11 @@
 // Changes of the blocks of a task.
-ghost use Rattle.std.specs.Prelude.{◌≡◌, length, filter};
+ghost use Rattle.std.specs.Prelude.{◌≡◌, ℕ, List, false, length, filter};
+ghost use Rattle.fb_wanted.specs.declared.block.Entry.{Entry};
+ghost use Rattle.fb_wanted.specs.Counting.{counts_of};
 ghost use Rattle.fb_wanted.specs.States.{shares, is_wanted, is_suspended, is_delivered, is_open, wanted_unless, state_after, after, entry_after, is_block};
 ghost use Rattle.fb_units.specs.Tracks.{same_track};
 
-use crate::{Block, Change, State};
+use crate::{Block, Change, Counts, State};
 
 /// Whether the block shares a sector with the range.
 pub fn shares(block: Block, first: u64, count: u64) -> bool
@@ -95,5 +97,24 @@ pub fn state_after(change: Change, block: Block, state: State) -> State
             State::Suspended => State::Wanted,
             _ => state,
         },
+    }
+}
+
+/// Whether the change may concern a block of a task with these counts: an abort concerns those that are neither delivered
+/// nor aborted, and a want again those that are delivered.
+#[tactic(auto, using(crate::proofs::Unchanged::none_open, crate::proofs::Unchanged::none_delivered))]
+pub fn may_change(counts: Counts, change: Change) -> bool
+    ensures { result ≡ false → (task : ℕ) (es : List Entry) → counts ≡ counts_of task es → after task change es ≡ es }
+{
+    match change {
+        Change::Abort { first: _, count: _ } => {
+            counts.delivered as u64 + counts.aborted as u64 != counts.registered as u64
+        }
+        Change::Rewant {
+            first: _,
+            count: _,
+            suspended: _,
+        } => counts.delivered != 0,
+        _ => true,
     }
 }

@@ -14,7 +14,7 @@ ghost use Rattle.fb_units.specs.declared.types.Track.{Track};
 ghost use Rattle.fb_units.specs.Tracks.{same_track};
 
 use crate::bands::{add_bands, band_of};
-use crate::changes::{shares, state_after, wanted_unless};
+use crate::changes::{may_change, shares, state_after, wanted_unless};
 use crate::counting::{counts_of, no_counts};
 use crate::depths::{Depth, NO_DEPTH, deepen, most_in};
 use crate::greatest::{Greatest, update_greatest};
@@ -38,11 +38,12 @@ use std::marker::Model;
 /// another chunk of 2,048 LBNs: a note is kept for each of these. To suspend or to resume takes
 /// constant time for each block of the task.
 ///
-/// An abort or a want again looks at the regions that the range touches and at those before it from
-/// which the longest block reaches the range. It takes constant time for each of the task's blocks
-/// that begin in them, and logarithmic time for each streak of such blocks: they were registered one
-/// after another and begin in one region. The next task near a range is found in logarithmic time
-/// for each chunk that the range touches and for the one before them.
+/// An abort takes constant time where each block of the task is delivered or aborted, and a want
+/// again where none is delivered. Else both look at the regions that the range touches and at those
+/// before it from which the longest block reaches the range: they take constant time for each of the
+/// task's blocks that begin in them, and logarithmic time for each streak of such blocks, which were
+/// registered one after another and begin in one region. The next task near a range is found in
+/// logarithmic time for each chunk that the range touches and for the one before them.
 ///
 /// When the heaviest track of a cylinder loses weight, each track of that cylinder is looked at, and
 /// likewise each cylinder of a band when its heaviest one does. There is an entry for each task
@@ -248,7 +249,9 @@ impl Wanted {
         requires stable { IsStable change }
         ensures { self.new ≡ after task change self.old }
     {
-        let _ = &self.entries;
+        if !may_change(self.counts(task), change) {
+            return;
+        }
         let start = region_of(first.saturating_sub(self.longest.saturating_sub(1) as u64));
         let mut region = start;
         let mut index = 0;

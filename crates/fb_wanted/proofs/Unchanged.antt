@@ -1,0 +1,110 @@
+-- Changes that concern no block of a task.
+use Rattle.std.proofs.Common.{◌≡◌, ℕ, ◌+◌, ◌≤◌, ◌==◌, inl, inr, List, [], ◌∷◌, true, false, Bool, refl, ap, ◌∙◌, arith}
+use Rattle.std.proofs.lemmas.Bool.{cases_Bool}
+use Rattle.fb_wanted.specs.declared.block.Change.TheVariants.{Abort, Rewant}
+use Rattle.fb_wanted.specs.declared.block.Counts.{Counts}
+use Rattle.fb_wanted.specs.declared.block.Entry.{Entry}
+use Rattle.fb_wanted.specs.declared.block.State.{State}
+use Rattle.fb_wanted.specs.declared.block.State.TheVariants.{Wanted, Suspended, Delivered, Aborted}
+use Rattle.fb_wanted.specs.States.{after, entry_after, shares, is_open, is_delivered, is_aborted}
+use Rattle.fb_wanted.specs.Counting.{counts_of, sum_of}
+use Rattle.fb_wanted.proofs.Counted.{counts-append}
+use Rattle.fb_wanted.proofs.OfTask.{others_after}
+
+-- a block is open, delivered or aborted, and no two of these
+data Kind (s : State) : Type 0 where
+  unread : is_open s ≡ true → is_delivered s ≡ false → is_aborted s ≡ false → Kind s
+  read : is_open s ≡ false → is_delivered s ≡ true → is_aborted s ≡ false → Kind s
+  given_up : is_open s ≡ false → is_delivered s ≡ false → is_aborted s ≡ true → Kind s
+
+kind : (s : State) → Kind s
+kind Wanted = unread refl refl refl
+kind Suspended = unread refl refl refl
+kind Delivered = read refl refl refl
+kind Aborted = given_up refl refl refl
+
+closed_stays : (task first count : ℕ) (e : Entry) → is_open e.state ≡ false → entry_after task (Abort first count) e ≡ e
+closed_stays task first count e closed = elim (cases_Bool (e.block.task == task)) [
+  | inl own ↦ elim (cases_Bool (shares first count e.block)) [ inl inside ↦ rw (own, inside, closed) refl | inr outside ↦ rw (own, outside) refl ]
+  | inr other ↦ others_after task (Abort first count) e other
+]
+
+unread_stays : (task first count : ℕ) (suspended : Bool) (e : Entry) → is_delivered e.state ≡ false → entry_after task (Rewant first count suspended) e ≡ e
+unread_stays task first count suspended e not_read = elim (cases_Bool (e.block.task == task)) [
+  | inl own ↦ elim (cases_Bool (shares first count e.block)) [ inl inside ↦ rw (own, inside, not_read) refl | inr outside ↦ rw (own, outside) refl ]
+  | inr other ↦ others_after task (Rewant first count suspended) e other
+]
+
+module _ (task : ℕ) (e : Entry) (es : List Entry) where
+  -- the counts of a block and of the others
+  counted : counts_of task (e ∷ es) ≡ sum_of (counts_of task (e ∷ [])) (counts_of task es)
+  counted = counts-append task (e ∷ []) es
+
+  registered : (counts_of task (e ∷ es)).registered ≡ (counts_of task (e ∷ [])).registered + (counts_of task es).registered
+  registered = ap (λ n. n.registered) counted
+
+  delivered : (counts_of task (e ∷ es)).delivered ≡ (counts_of task (e ∷ [])).delivered + (counts_of task es).delivered
+  delivered = ap (λ n. n.delivered) counted
+
+  aborted : (counts_of task (e ∷ es)).aborted ≡ (counts_of task (e ∷ [])).aborted + (counts_of task es).aborted
+  aborted = ap (λ n. n.aborted) counted
+
+abbrev one : ℕ → ℕ → ℕ → Counts
+one r d a = record { registered = r; delivered = d; aborted = a }
+
+-- no more blocks of a task are delivered or aborted than it has
+closed_few : (task : ℕ) (es : List Entry) → (counts_of task es).delivered + (counts_of task es).aborted ≤ (counts_of task es).registered
+closed_few task [] = omega arith
+closed_few task (e ∷ es) =
+    let rest = closed_few task es in
+    elim (cases_Bool (e.block.task == task)) [
+      | inl own ↦ elim (kind e.state) [
+        | unread o d a ↦ rw (own, d, a) (omega (arith, rest))
+        | read o d a ↦ rw (own, d, a) (omega (arith, rest))
+        | given_up o d a ↦ rw (own, d, a) (omega (arith, rest))
+      ]
+      | inr other ↦ rw other rest
+    ]
+
+-- an abort changes nothing in a task all of whose blocks are delivered or aborted
+pub none_open : (task first count : ℕ) (es : List Entry) → (counts_of task es).delivered + (counts_of task es).aborted ≡ (counts_of task es).registered → after task (Abort first count) es ≡ es
+none_open task first count [] all = refl
+none_open task first count (e ∷ es) all =
+    let few = closed_few task es in
+    let r = registered task e es in
+    let d = delivered task e es in
+    let a = aborted task e es in
+    elim (cases_Bool (e.block.task == task)) [
+      | inl own ↦ elim (kind e.state) [
+        | unread o x y ↦
+            let alone : counts_of task (e ∷ []) ≡ one 1 0 0 = rw (own, x, y) refl in
+            absurd (omega (arith, all, few, r, d, a, ap (λ n. n.registered) alone, ap (λ n. n.delivered) alone, ap (λ n. n.aborted) alone))
+        | read o x y ↦
+            let alone : counts_of task (e ∷ []) ≡ one 1 1 0 = rw (own, x, y) refl in
+            let rest = none_open task first count es (omega (arith, all, r, d, a, ap (λ n. n.registered) alone, ap (λ n. n.delivered) alone, ap (λ n. n.aborted) alone)) in
+            ap (λ x. x ∷ after task (Abort first count) es) (closed_stays task first count e o) ∙ ap (λ l. e ∷ l) rest
+        | given_up o x y ↦
+            let alone : counts_of task (e ∷ []) ≡ one 1 0 1 = rw (own, x, y) refl in
+            let rest = none_open task first count es (omega (arith, all, r, d, a, ap (λ n. n.registered) alone, ap (λ n. n.delivered) alone, ap (λ n. n.aborted) alone)) in
+            ap (λ x. x ∷ after task (Abort first count) es) (closed_stays task first count e o) ∙ ap (λ l. e ∷ l) rest
+      ]
+      | inr other ↦
+          let alone : counts_of task (e ∷ []) ≡ one 0 0 0 = rw other refl in
+          let rest = none_open task first count es (omega (arith, all, r, d, a, ap (λ n. n.registered) alone, ap (λ n. n.delivered) alone, ap (λ n. n.aborted) alone)) in
+          ap (λ x. x ∷ after task (Abort first count) es) (others_after task (Abort first count) e other) ∙ ap (λ l. e ∷ l) rest
+    ]
+
+-- a want again changes nothing in a task none of whose blocks is delivered
+pub none_delivered : (task first count : ℕ) (suspended : Bool) (es : List Entry) → (counts_of task es).delivered ≡ 0 → after task (Rewant first count suspended) es ≡ es
+none_delivered task first count suspended [] none = refl
+none_delivered task first count suspended (e ∷ es) none =
+    let rest = none_delivered task first count suspended es (omega (arith, none, delivered task e es)) in
+    elim (cases_Bool (e.block.task == task)) [
+      | inl own ↦ elim (cases_Bool (is_delivered e.state)) [
+        | inl was ↦
+            let alone : (counts_of task (e ∷ [])).delivered ≡ 1 = rw (own, was) refl in
+            absurd (omega (arith, none, delivered task e es, alone))
+        | inr not_read ↦ ap (λ x. x ∷ after task (Rewant first count suspended) es) (unread_stays task first count suspended e not_read) ∙ ap (λ l. e ∷ l) rest
+      ]
+      | inr other ↦ ap (λ x. x ∷ after task (Rewant first count suspended) es) (others_after task (Rewant first count suspended) e other) ∙ ap (λ l. e ∷ l) rest
+    ]
