@@ -36,7 +36,7 @@ pub struct Serving {
     pub head: Track,
 }
 
-// When the sectors of a request pass.
+// When the sectors of a request pass, and where the head then is.
 #[derive(Clone, Copy)]
 struct Passing {
     // The media instant, in ns.

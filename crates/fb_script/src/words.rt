@@ -65,9 +65,9 @@ pub fn kind_of(name: &[u8]) -> Option<Kind>
 fn meaning<T: Copy>(names: &[(&[u8], T)], word: &[u8]) -> Option<T>
     ensures { result ≡ meaning (map (λ name. (name.0.now, name.1)) names.now) word.now }
 {
-    for (name, meaning) in names {
+    for (name, meant) in names {
         if *name == word {
-            return Some(*meaning);
+            return Some(*meant);
         }
     }
     None

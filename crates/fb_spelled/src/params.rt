@@ -93,7 +93,7 @@ fn faults_of_zones(rt: HostRuntime) -> Result<(), Fail> {
 }
 
 #[test]
-fn faults_of_defects(rt: HostRuntime) -> Result<(), Fail> {
+fn faults_of_listed_places(rt: HostRuntime) -> Result<(), Fail> {
     let rows = [
         (
             "defects = [[4, 0, 0]]\n",

@@ -7,21 +7,21 @@ use Rattle.fb_wanted.specs.declared.block.Entry.{Entry}
 use Rattle.fb_wanted.specs.declared.block.State.{State}
 use Rattle.fb_wanted.specs.declared.block.State.TheVariants.{Wanted, Suspended, Delivered, Aborted}
 use Rattle.fb_wanted.specs.States.{after, entry_after, shares, is_open, is_delivered, is_aborted}
-use Rattle.fb_wanted.specs.Counting.{counts_of, sum_of}
+use Rattle.fb_wanted.specs.Counting.{counts_of}
 use Rattle.fb_wanted.proofs.Counted.{counts-append}
 use Rattle.fb_wanted.proofs.OfTask.{others_after}
 
 -- a block is open, delivered or aborted, and no two of these
-data Kind (s : State) : Type 0 where
-  unread : is_open s ≡ true → is_delivered s ≡ false → is_aborted s ≡ false → Kind s
-  read : is_open s ≡ false → is_delivered s ≡ true → is_aborted s ≡ false → Kind s
-  given_up : is_open s ≡ false → is_delivered s ≡ false → is_aborted s ≡ true → Kind s
+data Fate (s : State) : Type 0 where
+  unread : is_open s ≡ true → is_delivered s ≡ false → is_aborted s ≡ false → Fate s
+  read : is_open s ≡ false → is_delivered s ≡ true → is_aborted s ≡ false → Fate s
+  given_up : is_open s ≡ false → is_delivered s ≡ false → is_aborted s ≡ true → Fate s
 
-kind : (s : State) → Kind s
-kind Wanted = unread refl refl refl
-kind Suspended = unread refl refl refl
-kind Delivered = read refl refl refl
-kind Aborted = given_up refl refl refl
+fate : (s : State) → Fate s
+fate Wanted = unread refl refl refl
+fate Suspended = unread refl refl refl
+fate Delivered = read refl refl refl
+fate Aborted = given_up refl refl refl
 
 closed_stays : (task first count : ℕ) (e : Entry) → is_open e.state ≡ false → entry_after task (Abort first count) e ≡ e
 closed_stays task first count e closed = elim (cases_Bool (e.block.task == task)) [
@@ -36,18 +36,14 @@ unread_stays task first count suspended e not_read = elim (cases_Bool (e.block.t
 ]
 
 module _ (task : ℕ) (e : Entry) (es : List Entry) where
-  -- the counts of a block and of the others
-  counted : counts_of task (e ∷ es) ≡ sum_of (counts_of task (e ∷ [])) (counts_of task es)
-  counted = counts-append task (e ∷ []) es
-
   registered : (counts_of task (e ∷ es)).registered ≡ (counts_of task (e ∷ [])).registered + (counts_of task es).registered
-  registered = ap (λ n. n.registered) counted
+  registered = ap (λ n. n.registered) (counts-append task (e ∷ []) es)
 
   delivered : (counts_of task (e ∷ es)).delivered ≡ (counts_of task (e ∷ [])).delivered + (counts_of task es).delivered
-  delivered = ap (λ n. n.delivered) counted
+  delivered = ap (λ n. n.delivered) (counts-append task (e ∷ []) es)
 
   aborted : (counts_of task (e ∷ es)).aborted ≡ (counts_of task (e ∷ [])).aborted + (counts_of task es).aborted
-  aborted = ap (λ n. n.aborted) counted
+  aborted = ap (λ n. n.aborted) (counts-append task (e ∷ []) es)
 
 abbrev one : ℕ → ℕ → ℕ → Counts
 one r d a = record { registered = r; delivered = d; aborted = a }
@@ -58,7 +54,7 @@ closed_few task [] = omega arith
 closed_few task (e ∷ es) =
     let rest = closed_few task es in
     elim (cases_Bool (e.block.task == task)) [
-      | inl own ↦ elim (kind e.state) [
+      | inl own ↦ elim (fate e.state) [
         | unread o d a ↦ rw (own, d, a) (omega (arith, rest))
         | read o d a ↦ rw (own, d, a) (omega (arith, rest))
         | given_up o d a ↦ rw (own, d, a) (omega (arith, rest))
@@ -75,7 +71,7 @@ none_open task first count (e ∷ es) all =
     let d = delivered task e es in
     let a = aborted task e es in
     elim (cases_Bool (e.block.task == task)) [
-      | inl own ↦ elim (kind e.state) [
+      | inl own ↦ elim (fate e.state) [
         | unread o x y ↦
             let alone : counts_of task (e ∷ []) ≡ one 1 0 0 = rw (own, x, y) refl in
             absurd (omega (arith, all, few, r, d, a, ap (λ n. n.registered) alone, ap (λ n. n.delivered) alone, ap (λ n. n.aborted) alone))
