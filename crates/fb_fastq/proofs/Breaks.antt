@@ -1,34 +1,67 @@
 -- Walks that break off at a lane, and go on behind it.
-use Rattle.fb_fastq.proofs.Words.{ℕ, ◌+◌, ◌^◌, inl, inr, Option, Some, None, IfSome, MatchOption, BTreeMap, cases_lt, Track, Request, Disk}
-use Rattle.fb_fastq.proofs.Words.{Candidate, Visit, AllHeld, IsAlong, IsBefore, BeatsFrom, BeatsBetween}
-use Rattle.fb_fastq.proofs.Sweeps.{beats_more, beats_both}
+use Rattle.fb_fastq.proofs.Words.{◌≡◌, ℕ, ◌+◌, ◌-◌, ◌^◌, ◌<◌, ◌≤◌, inl, inr, ◌⊎◌, arith, Option, Some, None, IfSome, BTreeMap, cases_lt}
+use Rattle.fb_fastq.proofs.Words.{Track, Request, Disk, Candidate, Visit, Stretch, Side, Above, Below, IsOn, IsNearer, IsReached, beyond}
+use Rattle.fb_fastq.proofs.Words.{AllHeld, IsAlong, IsBefore, BeatsBetween, BeatsUntil, IsOutside, subst}
+use Rattle.fb_fastq.proofs.Sweeps.{beats_more}
 
 -- what is so of any is so of the one, if there is one
 pub if_some : (P Q : Visit → Type 0) (visit : Option Visit) → ((v : Visit) → P v → Q v) → IfSome visit P → IfSome visit Q
 if_some P Q None all h = tt
 if_some P Q (Some v) all h = all v h
 
-module _ (disk : Disk) (head : Track) (now : ℕ) (waiting : BTreeMap (ℕ × ℕ) Request) (spots : AllHeld (λ key request. IsAlong disk request key.0) waiting) (old new : Candidate) (before : IsBefore new old) where
-  -- one row of spots under another
-  pub beats_down : (start middle end : ℕ) → BeatsBetween disk head now waiting new start middle → BeatsBetween disk head now waiting old middle end → BeatsBetween disk head now waiting new start end
-  beats_down start middle end under over = λ k s e from below. elim (cases_lt k.0 middle) [
-    | inl lt ↦ under k s e from lt
-    | inr ge ↦ beats_more disk head now waiting spots new old k s before (over k s e ge below)
-  ]
+-- what of a side is left where the walk broke off
+abbrev pub left_of : Side → Option Visit → ℕ
+left_of side None = 0
+left_of Above (Some visit) = 2 ^ 64 - visit.lane.start
+left_of Below (Some visit) = visit.lane.start + 1
 
-  -- upwards, from a spot on or up to the next lane
-  pub goes_up : (start middle : ℕ) (full : Option Visit) → BeatsBetween disk head now waiting old start middle
-      → MatchOption full (BeatsFrom disk head now waiting new middle) (λ visit. BeatsBetween disk head now waiting new middle visit.lane.start)
-      → MatchOption full (BeatsFrom disk head now waiting new start) (λ visit. BeatsBetween disk head now waiting new start visit.lane.start)
-  goes_up start middle None under over = λ k s e from. elim (cases_lt k.0 middle) [
-    | inl lt ↦ beats_more disk head now waiting spots new old k s before (under k s e from lt)
-    | inr ge ↦ over k s e ge
-  ]
-  goes_up start middle (Some visit) under over = beats_both disk head now waiting spots old new start middle visit.lane.start before under over
+-- a spot of a side is nearer than a lane, in its room, or farther out
+near_or_beyond : (side : Side) (lane spot : ℕ)
+    → IsNearer side lane spot ⊎ (((lane ≤ spot) × (spot < lane + 2 ^ 30)) ⊎ IsOn side (beyond side lane) spot)
+near_or_beyond Above lane spot = elim (cases_lt spot lane) [
+  | inl under ↦ inl under
+  | inr from ↦ elim (cases_lt spot (lane + 2 ^ 30)) [ inl inside ↦ inr (inl (from, inside)) | inr over ↦ inr (inr over) ]
+]
+near_or_beyond Below lane spot = elim (cases_lt spot lane) [
+  | inl under ↦ inr (inr under)
+  | inr from ↦ elim (cases_lt spot (lane + 2 ^ 30)) [ inl inside ↦ inr (inl (from, inside)) | inr over ↦ inl over ]
+]
 
-  -- downwards, before a spot or down to the next lane
-  pub goes_down : (middle end : ℕ) (full : Option Visit) → BeatsBetween disk head now waiting old middle end
-      → MatchOption full (BeatsBetween disk head now waiting new 0 middle) (λ visit. BeatsBetween disk head now waiting new (visit.lane.start + 2 ^ 30) middle)
-      → MatchOption full (BeatsBetween disk head now waiting new 0 end) (λ visit. BeatsBetween disk head now waiting new (visit.lane.start + 2 ^ 30) end)
-  goes_down middle end None over under = beats_down 0 middle end under over
-  goes_down middle end (Some visit) over under = beats_down (visit.lane.start + 2 ^ 30) middle end under over
+-- a lane that is reached behind another is nearer to the end
+pub reached_later : (side : Side) (start lane later : ℕ) → IsReached side start lane → IsReached side (beyond side lane) later
+    → IsReached side start later
+reached_later Above start lane later reached more = omega arith
+reached_later Below start lane later reached more = omega arith
+
+pub less_left : (side : Side) (visit : Visit) (full : Option Visit) → visit.lane.start ≤ 2 ^ 60
+    → IfSome full (λ v. IsReached side (beyond side visit.lane.start) v.lane.start) → left_of side full < left_of side (Some visit)
+less_left Above visit None few more = omega arith
+less_left Above visit (Some later) few more = omega arith
+less_left Below visit None few more = omega arith
+less_left Below visit (Some later) few more = omega arith
+
+-- behind a lane the walk goes on from there
+pub still_outside : (side : Side) (head start lane : ℕ) → IsOutside side head start → IsReached side start lane
+    → IsOutside side head (beyond side lane)
+still_outside Above head start lane outside reached = omega arith
+still_outside Below head start lane outside reached = omega arith
+
+module _ (disk : Disk) (head : Track) (now : ℕ) (waiting : BTreeMap (ℕ × ℕ) Request)
+    (spots : AllHeld (λ key request. IsAlong disk request key.0) waiting) where
+  -- what is beaten up to a lane, in its room, and beyond it
+  pub goes_on : (old best new : Candidate) (stretch rest : Stretch) (visit : Visit) (full : Option Visit)
+      → IsBefore best old → IsBefore new best
+      → rest ≡ record { side = stretch.side; start = beyond stretch.side visit.lane.start }
+      → BeatsUntil disk head now waiting old stretch (Some visit)
+      → BeatsBetween disk head now waiting best visit.lane.start (visit.lane.start + 2 ^ 30)
+      → BeatsUntil disk head now waiting new rest full
+      → BeatsUntil disk head now waiting new stretch full
+  goes_on old best new stretch rest visit full sooner first is seen lane more = λ k r held on before.
+      elim (near_or_beyond stretch.side visit.lane.start k.0) [
+        | inl nearer ↦ beats_more disk head now waiting spots new best k r first
+            (beats_more disk head now waiting spots best old k r sooner (seen k r held on nearer))
+        | inr other ↦ elim other [
+          | inl inside ↦ beats_more disk head now waiting spots new best k r first (lane k r held inside.0 inside.1)
+          | inr out ↦ subst (λ (s : Stretch). BeatsUntil disk head now waiting new s full) is more k r held out before
+        ]
+      ]

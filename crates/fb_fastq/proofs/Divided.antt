@@ -1,5 +1,5 @@
 -- Requests that are divided among a map and rows.
-use Rattle.fb_fastq.proofs.Words.{◌≡◌, ◌≢◌, ℕ, ◌+◌, ◌-◌, ◌^◌, ◌<◌, ◌≤◌, List, [], ◌∷◌, ◌++◌, sym, ap, subst, ◌∙◌, arith, inl, inr, length}
+use Rattle.fb_fastq.proofs.Words.{◌≡◌, ◌≢◌, ℕ, ◌+◌, ◌-◌, ◌^◌, ◌<◌, ◌≤◌, List, [], ◌∷◌, ◌++◌, sym, subst, arith, inl, inr, length}
 use Rattle.fb_fastq.proofs.Words.{AllByRecursion, BTreeMap, cases_lt, Track, Request, Disk, sptf, Candidate, Waiting, number_of, pending_of}
 use Rattle.fb_fastq.proofs.Words.{AreNumbered, IsIndex, IsNoLater, IsFirst, IsFirstHeld, IsCandidate, IsBefore, Beats, IsMore, Row}
 use Rattle.fb_fastq.proofs.Words.{all_of_rows, AreRows, Settles, SettlesAll, IsDivided, length-append, nil_from_length, all_weaker}

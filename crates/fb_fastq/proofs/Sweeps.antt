@@ -1,7 +1,8 @@
 -- A sweep over the lanes, from the head's cylinder outwards.
 use Rattle.fb_fastq.proofs.Words.{◌≡◌, ℕ, ◌+◌, ◌-◌, ◌*◌, ◌%◌, ◌^◌, ◌<◌, ◌≤◌, sym, ap, subst, ◌∙◌, arith, inl, inr, ◌⊎◌, BTreeMap, cases_lt}
 use Rattle.fb_fastq.proofs.Words.{Track, Request, track_at, pos, distance_of, Disk, sptf, Lane, Candidate, Holds, AllHeld, IsNoLater}
-use Rattle.fb_fastq.proofs.Words.{IsFirstHeld, turn, IsLane, IsAlong, IsCandidate, IsBefore, Beats, BeatsFrom, BeatsBetween}
+use Rattle.fb_fastq.proofs.Words.{IsFirstHeld, turn, IsLane, IsAlong, IsCandidate, IsBefore, Beats, BeatsOn, BeatsBetween, Side, Above, Below}
+use Rattle.fb_fastq.proofs.Words.{IsOutside, IsOn, IsNoFarther}
 use Rattle.fb_fastq.proofs.{Swept.some_injective, Least.waits_there, Turns.ComesFirst, OnLanes.on_cylinder, OnLanes.on_lane, OnLanes.begins}
 use Rattle.fb_fastq.proofs.{OnLanes.waits_on_lane}
 
@@ -58,28 +59,29 @@ module _ (disk : Disk) (head : Track) (now : ℕ) (waiting : BTreeMap (ℕ × �
 
   -- outwards from the head's cylinder, spots that are farther lie on cylinders that are no nearer
   module _ (x w : ℕ × ℕ) (r s : Request) (held : Holds waiting x r) (other : Holds waiting w s) where
-    pub farther_above : head.cylinder * 2 ^ 37 ≤ x.0 → x.0 ≤ w.0 → distance_of head.cylinder (track_at disk.map r.lbn).cylinder ≤ distance_of head.cylinder (track_at disk.map s.lbn).cylinder
-    farther_above from more = let here = on_cylinder disk r x.0 (spots x r held) in let there = on_cylinder disk s w.0 (spots w s other) in omega (arith, here.0, here.1, there.0, there.1, from, more)
-
-    pub farther_below : x.0 < head.cylinder * 2 ^ 37 → w.0 ≤ x.0 → distance_of head.cylinder (track_at disk.map r.lbn).cylinder ≤ distance_of head.cylinder (track_at disk.map s.lbn).cylinder
-    farther_below below less = let here = on_cylinder disk r x.0 (spots x r held) in let there = on_cylinder disk s w.0 (spots w s other) in omega (arith, here.0, here.1, there.0, there.1, below, less)
-
-  -- one row of spots after another
-  pub beats_both : (old new : Candidate) (start middle end : ℕ) → IsBefore new old → BeatsBetween disk head now waiting old start middle → BeatsBetween disk head now waiting new middle end → BeatsBetween disk head now waiting new start end
-  beats_both old new start middle end before seen more = λ k s e from below. elim (cases_lt k.0 middle) [
-    | inl lt ↦ beats_more new old k s before (seen k s e from lt)
-    | inr ge ↦ more k s e ge below
-  ]
+    pub farther : (side : Side) (start : ℕ) → IsOutside side (head.cylinder * 2 ^ 37) start → IsOn side start x.0 → IsNoFarther side x.0 w.0
+        → distance_of head.cylinder (track_at disk.map r.lbn).cylinder
+        ≤ distance_of head.cylinder (track_at disk.map s.lbn).cylinder
+    farther Above start outside on more =
+        let here = on_cylinder disk r x.0 (spots x r held) in
+        let there = on_cylinder disk s w.0 (spots w s other) in
+        omega (arith, here.0, here.1, there.0, there.1, outside, on, more)
+    farther Below start outside on more =
+        let here = on_cylinder disk r x.0 (spots x r held) in
+        let there = on_cylinder disk s w.0 (spots w s other) in
+        omega (arith, here.0, here.1, there.0, there.1, outside, on, more)
 
 -- a candidate that beats all is the first of all
 pub soonest_is_first : (disk : Disk) (head : Track) (now start : ℕ) (waiting : BTreeMap (ℕ × ℕ) Request) (above best : Candidate) → IsCandidate disk head now waiting best → IsBefore best above
-    → BeatsFrom disk head now waiting above start → BeatsBetween disk head now waiting best 0 start → IsFirstHeld (sptf disk head now) waiting best.key
+    → BeatsOn disk head now waiting above (record { side = Above; start = start })
+    → BeatsOn disk head now waiting best (record { side = Below; start = start })
+    → IsFirstHeld (sptf disk head now) waiting best.key
 soonest_is_first disk head now start waiting above best found before over under = λ r e k s other.
     let rank = sptf disk head now in
     let same : found.request ≡ r = some_injective found.request r (sym found.waits ∙ e) in
     let wait : best.wait ≡ rank r = found.wait ∙ ap rank same in
     subst (λ n. IsNoLater n best.key.1 (rank s) k.1) wait
     (elim (cases_lt k.0 start) [
-      | inl below ↦ under k s other (omega arith) below
+      | inl below ↦ under k s other below
       | inr from ↦ no_later_trans best.wait best.key.1 above.wait above.key.1 (rank s) k.1 before (over k s other from)
     ])

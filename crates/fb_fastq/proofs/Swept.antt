@@ -1,7 +1,7 @@
 -- Lists that rise by a number, and what a walk from one of their ends has seen.
 use Rattle.fb_fastq.proofs.Words.{◌≡◌, ℕ, ◌≤◌, List, [], ◌∷◌, ◌++◌, map, filter, refl, sym, ap, subst, ◌∙◌, arith, Bool, true, false, inl}
 use Rattle.fb_fastq.proofs.Words.{inr, ◌⊎◌, Some, cond, AllByRecursion, IsStrictlySortedBy, Ordering, Less, cases_Bool, all_filter}
-use Rattle.fb_fastq.proofs.Words.{all_left, all_right}
+use Rattle.fb_fastq.proofs.Words.{all_left, all_right, ◌<◌, length, length-append, Side, Above, Below, on_side, IsNoFarther, AreThose}
 
 pub some_injective : {A : Type 0} (x y : A) → Some x ≡ Some y → x ≡ y
 some_injective x y e = cc
@@ -58,6 +58,15 @@ last_or_front x y [] (inr e) = elim e [ ]
 last_or_front x y (z ∷ xs) (inl e) = inr (inl e)
 last_or_front x y (z ∷ xs) (inr e) = elim (last_or_front x y xs e) [ inl last ↦ inl last | inr front ↦ inr (inr front) ]
 
+-- outwards the next one of a list is the first above, and the last below
+abbrev pub Takes : {A : Type 0} → Side → List A → A → List A → Type 0
+Takes side left x rest = on_side side (left ≡ x ∷ rest) (left ≡ rest ++ x ∷ [])
+
+pub none_left : {A : Type 0} (side : Side) (left rest : List A)
+    → on_side side ((left ≡ []) × (rest ≡ [])) ((left ≡ []) × (rest ≡ [])) → left ≡ []
+none_left Above left rest is = is.0
+none_left Below left rest is = is.0
+
 module _ {A : Type 0} (at : A → ℕ) where
   -- none is less than one before it
   abbrev pub Rises : List A → Type 0
@@ -93,27 +102,27 @@ module _ {A : Type 0} (at : A → ℕ) where
     pub within : (y : A) → IsIn y rest → IsIn y left
     pub one : (y : A) → IsIn y left → (y ≡ x) ⊎ IsIn y rest
     pub rises : Rises left → Rises rest
+    pub fewer : length rest < length left
 
-  pub next_first : (x : A) (left rest : List A) → left ≡ x ∷ rest → IsNext x left rest
-  next_first x left rest is = subst (λ (l : List A). IsNext x l rest) (sym is)
-      (record { there = inl refl; within = λ y e. inr e; one = λ y e. e; rises = λ h. h.1 })
-
-  pub next_last : (x : A) (left rest : List A) → left ≡ rest ++ x ∷ [] → IsNext x left rest
-  next_last x left rest is = subst (λ (l : List A). IsNext x l rest) (sym is) (record {
+  pub next_out : (side : Side) (x : A) (left rest : List A) → Takes side left x rest → IsNext x left rest
+  next_out Above x left rest is = subst (λ (l : List A). IsNext x l rest) (sym is)
+      (record { there = inl refl; within = λ y e. inr e; one = λ y e. e; rises = λ h. h.1; fewer = omega arith })
+  next_out Below x left rest is = subst (λ (l : List A). IsNext x l rest) (sym is) (record {
     there = in_last x rest;
     within = λ y. in_front y x rest;
     one = λ y. last_or_front y x rest;
     rises = λ h. (front_rises x rest h).0;
+    fewer = omega (arith, length-append rest (x ∷ []));
   })
 
-  pub least_first : (x : A) (left rest : List A) → left ≡ x ∷ rest → Rises left → (y : A) → IsIn y left → at x ≤ at y
-  least_first x left rest is rises y e = elim (subst (IsIn y) is e) [
+  -- the others are no nearer
+  pub next_nearest : (side : Side) (x : A) (left rest : List A) → Takes side left x rest → Rises left → (y : A) → IsIn y left
+      → IsNoFarther side (at x) (at y)
+  next_nearest Above x left rest is rises y e = elim (subst (IsIn y) is e) [
     | inl here ↦ let same = ap at here in omega (arith, same)
     | inr later ↦ all_of (λ z. at x ≤ at z) y rest (subst Rises is rises).0 later
   ]
-
-  pub greatest_last : (x : A) (left rest : List A) → left ≡ rest ++ x ∷ [] → Rises left → (y : A) → IsIn y left → at y ≤ at x
-  greatest_last x left rest is rises y e = elim (last_or_front y x rest (subst (IsIn y) is e)) [
+  next_nearest Below x left rest is rises y e = elim (last_or_front y x rest (subst (IsIn y) is e)) [
     | inl here ↦ let same = ap at here in omega (arith, same)
     | inr front ↦ all_of (λ z. at z ≤ at x) y rest (front_rises x rest (subst Rises is rises)).1 front
   ]
@@ -124,14 +133,17 @@ module _ {A : Type 0} (at : A → ℕ) where
     pub inside : (y : A) → IsIn y left → Inside y
     pub seen : (y : A) → Inside y → Done y ⊎ IsIn y left
 
-  -- at first those are left that pass a test; the others need nothing
-  pub swept_begins : {Inside Done : A → Type 0} (test : A → Bool) (all left : List A) → Rises all → left ≡ filter test all
-      → ((y : A) → IsIn y all → test y ≡ true → Inside y) → ((y : A) → Inside y → Done y ⊎ (IsIn y all × (test y ≡ true)))
+  -- at first those are left that are so; the others need nothing
+  pub swept_begins : {IsSo Inside Done : A → Type 0} (all left : List A) → Rises all → AreThose IsSo all left
+      → ((y : A) → IsIn y all → IsSo y → Inside y) → ((y : A) → Inside y → Done y ⊎ (IsIn y all × IsSo y))
       → IsSwept Inside Done left
-  swept_begins {Inside} {Done} test all left rises is sound whole = subst (IsSwept Inside Done) (sym is) (record {
-    rise = rises_filter test all rises;
-    inside = λ y e. let from = from_filter test y all e in sound y from.0 from.1;
-    seen = λ y inside. elim (whole y inside) [ inl done ↦ inl done | inr there ↦ inr (in_filter test y all there.0 there.1) ];
+  swept_begins {IsSo} {Inside} {Done} all left rises those sound whole = subst (IsSwept Inside Done) (sym those.is) (record {
+    rise = rises_filter those.test all rises;
+    inside = λ y e. let from = from_filter those.test y all e in sound y from.0 (those.sound y from.1);
+    seen = λ y inside. elim (whole y inside) [
+      | inl done ↦ inl done
+      | inr there ↦ inr (in_filter those.test y all there.0 (those.whole y there.1))
+    ];
   })
 
   module _ {Inside Old : A → Type 0} {left : List A} (swept : IsSwept Inside Old left) where

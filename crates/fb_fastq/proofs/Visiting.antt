@@ -1,5 +1,5 @@
 -- The wait for a request of a lane that the head visits.
-use Rattle.fb_fastq.proofs.Words.{◌≡◌, ℕ, ◌+◌, ◌-◌, ◌%◌, ◌^◌, ◌<◌, ◌≤◌, sym, ap, ◌∙◌, arith, Option, Some, None, Request, track_at, pos}
+use Rattle.fb_fastq.proofs.Words.{◌≡◌, ℕ, ◌+◌, ◌-◌, ◌%◌, ◌^◌, ◌<◌, ◌≤◌, sym, ap, ◌∙◌, arith, Request, track_at, pos}
 use Rattle.fb_fastq.proofs.Words.{Disk, Departure, sptf, Visit, turn, IsAlong, IsVisit}
 use Rattle.fb_fastq.proofs.{Turns.ahead, Turns.round, OnLanes.on_lane, OnLanes.begins, OnLanes.waits_on_lane}
 
@@ -33,13 +33,3 @@ module _ (disk : Disk) (from : Departure) (visit : Visit) (is : IsVisit disk fro
       let turned = is.turned in
       let sum : disk.map.rotation - visit.angle + (spot - visit.lane.start) ≡ spot - visit.lane.start + disk.map.rotation - visit.angle = omega arith in
       ap (λ x. visit.way + x) (sum ∙ sym (round (spot - visit.lane.start) visit.angle disk.map.rotation lt turned)) ∙ sym turns
-
--- the spots above a lane, where the walk broke off
-abbrev pub above_of : Option Visit → ℕ
-above_of None = 0
-above_of (Some visit) = 2 ^ 64 - visit.lane.start
-
--- and those below
-abbrev pub below_of : Option Visit → ℕ
-below_of None = 0
-below_of (Some visit) = visit.lane.start + 1

@@ -1,11 +1,12 @@
 -- A walk over the requests that wait, from the head's cylinder outwards.
-use Rattle.fb_fastq.proofs.Words.{◌≡◌, ℕ, ◌+◌, ◌<◌, ◌≤◌, ◌^◌, List, [], ◌∷◌, map, filter, refl, sym, subst, arith, Bool, true, inl, inr}
+use Rattle.fb_fastq.proofs.Words.{◌≡◌, ℕ, ◌+◌, ◌<◌, ◌≤◌, ◌^◌, List, [], ◌∷◌, map, refl, sym, subst, arith, inl, inr}
 use Rattle.fb_fastq.proofs.Words.{◌⊎◌, Some, lookup, Less, BTreeMap, is_at, keys, IsStrictlySortedBy, Request, Track, Disk, Departure}
 use Rattle.fb_fastq.proofs.Words.{Visit, IsVisit, sptf, distance_of, track_at, Candidate, order, Waiting, Holds, AllHeld, IsAlong}
-use Rattle.fb_fastq.proofs.Words.{IsCandidate, IsBefore, Beats}
-use Rattle.fb_fastq.proofs.{Keys.here_equal, Keys.follows, Keys.not_at, Least.held_is_in, Sweeps.no_later_trans, Sweeps.is_one, Swept.IsIn}
+use Rattle.fb_fastq.proofs.Words.{IsCandidate, IsBefore, Beats, BeatsOn, BeatsUntil, Stretch, Side, Above, Below, IsOn, IsOutside, IsReached}
+use Rattle.fb_fastq.proofs.Words.{IsNearer, IsNoFarther, AreThose, ◌*◌, length}
+use Rattle.fb_fastq.proofs.{Keys.here_equal, Keys.follows, Keys.not_at, Least.held_is_in, Sweeps.no_later_trans, Sweeps.is_one, Sweeps.farther, Swept.IsIn}
 use Rattle.fb_fastq.proofs.{Swept.all_of, Swept.all_unmapped, Swept.rises_sorted, Swept.IsNext, Swept.IsSwept, Swept.swept_begins}
-use Rattle.fb_fastq.proofs.{Swept.swept_on, Swept.swept_stops, Visiting.is_there}
+use Rattle.fb_fastq.proofs.{Swept.swept_on, Swept.swept_stops, Swept.Takes, Swept.next_out, Swept.next_nearest, Visiting.is_there}
 
 -- where a request stands
 abbrev pub spot : Waiting → ℕ
@@ -25,62 +26,87 @@ held_value x (y ∷ ws) sorted (inr e) =
     let t = not_at y.0.0 y.0.1 x.0.0 x.0.1 less in
     rw t (held_value x ws sorted.1 e)
 
-module _ (disk : Disk) (from : Departure) (waiting : BTreeMap (ℕ × ℕ) Request) (first : Candidate) (side : ℕ → Type 0) where
-  -- of one side all but those that are left are seen, and the best is no later than any of them
+module _ (disk : Disk) (from : Departure) (waiting : BTreeMap (ℕ × ℕ) Request) (first : Candidate) (stretch : Stretch) where
+  -- of a stretch all but those that are left are seen, and the best is no later than any of them
   pub record IsWalk (best : Candidate) (left : List Waiting) : Type 0 where
     pub found : IsCandidate disk from.track from.instant waiting best
     pub before : IsBefore best first
-    pub swept : IsSwept spot (λ w. Holds waiting w.0 w.1 × side w.0.0) (λ w. Beats disk from.track from.instant best w.0 w.1) left
+    pub swept : IsSwept spot (λ w. Holds waiting w.0 w.1 × IsOn stretch.side stretch.start w.0.0)
+        (λ w. Beats disk from.track from.instant best w.0 w.1) left
 
-  pub walk_begins : (test : Waiting → Bool) (left : List Waiting) → IsCandidate disk from.track from.instant waiting first
-      → IsStrictlySortedBy order (keys waiting) → left ≡ filter test waiting.entries → ((w : Waiting) → test w ≡ true → side w.0.0)
-      → ((w : Waiting) → side w.0.0 → test w ≡ true) → IsWalk first left
-  walk_begins test left found sorted is sound whole = record {
+  pub walk_begins : (left : List Waiting) → IsCandidate disk from.track from.instant waiting first
+      → IsStrictlySortedBy order (keys waiting)
+      → AreThose (λ w. IsOn stretch.side stretch.start w.0.0) waiting.entries left → IsWalk first left
+  walk_begins left found sorted those = record {
     found = found;
     before = inr (refl, omega arith);
-    swept = swept_begins spot test waiting.entries left
-        (rises_sorted spot order (λ w. w.0) (λ v w. follows v.0.0 v.0.1 w.0.0 w.0.1) waiting.entries sorted) is
-        (λ w e t. (held_value w waiting.entries sorted e, sound w t))
-        (λ w inside. inr (held_is_in w.0.0 w.0.1 w.1 waiting.entries inside.0, whole w inside.1));
+    swept = swept_begins spot waiting.entries left
+        (rises_sorted spot order (λ w. w.0) (λ v w. follows v.0.0 v.0.1 w.0.0 w.0.1) waiting.entries sorted) those
+        (λ w e on. (held_value w waiting.entries sorted e, on))
+        (λ w inside. inr (held_is_in w.0.0 w.0.1 w.1 waiting.entries inside.0, inside.1));
   }
 
-module _ {disk : Disk} {from : Departure} {waiting : BTreeMap (ℕ × ℕ) Request} {first : Candidate} {side : ℕ → Type 0}
-    {best : Candidate} {left : List Waiting} (walk : IsWalk disk from waiting first side best left) where
-  -- what is not among those that are left is seen
-  pub walk_pauses : (k : ℕ × ℕ) (r : Request) → Holds waiting k r → side k.0 → (IsIn (k, r) left → ⊥)
-      → Beats disk from.track from.instant best k r
-  walk_pauses k r e of_side seen = elim (walk.swept.seen (k, r) (e, of_side)) [ inl beaten ↦ beaten | inr waits ↦ absurd (seen waits) ]
+-- the lane of a spot that is on a side is reached
+reaches : (side : Side) (start lane spot : ℕ) → lane ≤ spot → spot < lane + 2 ^ 30 → IsOn side start spot → IsReached side start lane
+reaches Above start lane spot from below on = omega arith
+reaches Below start lane spot from below on = omega arith
 
-  module _ (spots : AllHeld (λ key request. IsAlong disk request key.0) waiting) {x : Waiting} {rest : List Waiting}
-      (next : IsNext spot x left rest) where
-    -- the next one waits at its spot, and on this side
-    pub next_along : IsAlong disk x.1 x.0.0
-    next_along = spots x.0 x.1 (walk.swept.inside x next.there).0
+-- what is no nearer than a spot is no nearer than its lane
+not_nearer : (side : Side) (lane spot other : ℕ) → lane ≤ spot → spot < lane + 2 ^ 30 → IsNoFarther side spot other
+    → IsNearer side lane other → ⊥
+not_nearer Above lane spot other from below farther nearer = absurd (omega arith)
+not_nearer Below lane spot other from below farther nearer = absurd (omega arith)
 
-    pub next_side : side x.0.0
-    next_side = (walk.swept.inside x next.there).1
+module _ {disk : Disk} {from : Departure} {waiting : BTreeMap (ℕ × ℕ) Request} {first : Candidate} {stretch : Stretch}
+    {best : Candidate} {left : List Waiting} (walk : IsWalk disk from waiting first stretch best left)
+    (spots : AllHeld (λ key request. IsAlong disk request key.0) waiting)
+    (x : Waiting) (rest : List Waiting) (takes : Takes stretch.side left x rest) where
+  next : IsNext spot x left rest
+  next = next_out spot stretch.side x left rest takes
 
-    -- the next one is seen
-    pub walk_goes_on : (wait : ℕ) (new : Candidate) → wait ≡ sptf disk from.track from.instant x.1
-        → (new ≡ best) ⊎ (new ≡ record { key = x.0; wait = wait }) → IsBefore new best
-        → IsBefore new (record { key = x.0; wait = wait }) → IsWalk disk from waiting first side new rest
-    walk_goes_on wait new value is to_best to_next = record {
-      found = is_one disk from.track from.instant waiting best (record { key = x.0; wait = wait }) new x.0 x.1 walk.found
-          (walk.swept.inside x next.there).0 refl value is;
-      before = no_later_trans new.wait new.key.1 best.wait best.key.1 first.wait first.key.1 to_best walk.before;
-      swept = swept_on spot walk.swept x rest next
-          (λ w. no_later_trans new.wait new.key.1 best.wait best.key.1 (sptf disk from.track from.instant w.1) w.0.1 to_best)
-          (no_later_trans new.wait new.key.1 wait x.0.1 (sptf disk from.track from.instant x.1) x.0.1 to_next (inr (value, omega arith)));
-    }
+  pub fewer_left : length rest < length left
+  fewer_left = next.fewer
+
+  -- the next one waits at its spot, and on this side
+  pub next_along : IsAlong disk x.1 x.0.0
+  next_along = spots x.0 x.1 (walk.swept.inside x next.there).0
+
+  -- the next one is seen
+  pub walk_goes_on : (wait : ℕ) (new : Candidate) → wait ≡ sptf disk from.track from.instant x.1
+      → (new ≡ best) ⊎ (new ≡ record { key = x.0; wait = wait }) → IsBefore new best
+      → IsBefore new (record { key = x.0; wait = wait }) → IsWalk disk from waiting first stretch new rest
+  walk_goes_on wait new value is to_best to_next = record {
+    found = is_one disk from.track from.instant waiting best (record { key = x.0; wait = wait }) new x.0 x.1 walk.found
+        (walk.swept.inside x next.there).0 refl value is;
+    before = no_later_trans new.wait new.key.1 best.wait best.key.1 first.wait first.key.1 to_best walk.before;
+    swept = swept_on spot walk.swept x rest next
+        (λ w. no_later_trans new.wait new.key.1 best.wait best.key.1 (sptf disk from.track from.instant w.1) w.0.1 to_best)
+        (no_later_trans new.wait new.key.1 wait x.0.1 (sptf disk from.track from.instant x.1) x.0.1 to_next (inr (value, omega arith)));
+  }
+
+  module _ (visit : Visit) (start : visit.lane.start ≤ x.0.0) (end : x.0.0 < visit.lane.start + 2 ^ 30) where
+    -- where the walk breaks off at its lane
+    pub walk_reaches : IsReached stretch.side stretch.start visit.lane.start
+    walk_reaches = reaches stretch.side stretch.start visit.lane.start x.0.0 start end (walk.swept.inside x next.there).1
+
+    pub walk_pauses : BeatsUntil disk from.track from.instant waiting best stretch (Some visit)
+    walk_pauses = λ k r held on nearer. elim (walk.swept.seen (k, r) (held, on)) [
+      | inl beaten ↦ beaten
+      | inr waits ↦ absurd (not_nearer stretch.side visit.lane.start x.0.0 k.0 start end
+          (next_nearest spot stretch.side x left rest takes walk.swept.rise (k, r) waits) nearer)
+    ]
 
     -- where the arm alone takes longer to its lane, and no others are nearer
-    pub walk_stops : (visit : Visit) → IsVisit disk from visit → visit.lane.start ≤ x.0.0 → x.0.0 < visit.lane.start + 2 ^ 30
+    pub walk_stops : IsOutside stretch.side (from.track.cylinder * 2 ^ 37) stretch.start → IsVisit disk from visit
         → ((now : ℕ) (r : Request) → distance_of from.track.cylinder visit.lane.track.cylinder ≤ away disk from r
         → best.wait < sptf disk from.track now r)
-        → ((w : Waiting) → IsIn w left → away disk from x.1 ≤ away disk from w.1)
-        → (k : ℕ × ℕ) (r : Request) → Holds waiting k r → side k.0 → Beats disk from.track from.instant best k r
-    walk_stops visit is start end far farther k r e of_side =
+        → BeatsOn disk from.track from.instant waiting best stretch
+    walk_stops outside is far k r held on =
         let same = is_there disk from visit is x.1 x.0.0 next_along start end in
+        let here = walk.swept.inside x next.there in
         swept_stops spot walk.swept (λ w waits. inl (far from.instant w.1
-        (subst (λ (t : Track). distance_of from.track.cylinder t.cylinder ≤ away disk from w.1) (sym same) (farther w waits))))
-        (k, r) (e, of_side)
+        (subst (λ (t : Track). distance_of from.track.cylinder t.cylinder ≤ away disk from w.1) (sym same)
+        (farther disk from.track from.instant waiting spots x.0 w.0 x.1 w.1 here.0 (walk.swept.inside w waits).0
+        stretch.side stretch.start outside here.1
+        (next_nearest spot stretch.side x left rest takes walk.swept.rise w waits)))))
+        (k, r) (held, on)

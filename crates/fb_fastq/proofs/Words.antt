@@ -33,16 +33,20 @@ pub use Rattle.fb_model.specs.PlainReplay.{better, first_least, sptf}
 pub use Rattle.fb_model.proofs.Lists.{all_append, all_filter, all_left, all_right}
 pub use Rattle.fb_fastq.specs.ByCylinder.{AreOccupied, AreRows, IsArrival, IsAt, IsDivided, IsOnCylinder, IsPick, Row, Settles, SettlesAll}
 pub use Rattle.fb_fastq.specs.ByCylinder.{all_of_rows, at_place}
-pub use Rattle.fb_fastq.specs.Candidates.{Beats, BeatsBetween, BeatsFrom, IsBefore, IsCandidate}
+pub use Rattle.fb_fastq.specs.Candidates.{Beats, BeatsBetween, BeatsOn, BeatsUntil, IsBefore, IsCandidate}
 pub use Rattle.fb_fastq.specs.Joining.{AllHeld, AreNumbered, Holds, IsFirst, IsFirstHeld, IsIndex, IsNoLater, Waiting, Waits, in_order}
 pub use Rattle.fb_fastq.specs.Joining.{join_in, number_of, order, pending_of}
 pub use Rattle.fb_fastq.specs.Lanes.{IsAlong, IsLane, lane_start}
 pub use Rattle.fb_fastq.specs.More.{IsMore}
+pub use Rattle.fb_fastq.specs.Sides.{AreThose, IsNearer, IsNoFarther, IsOn, IsOutside, IsReached, beyond, on_side}
 pub use Rattle.fb_fastq.specs.Turns.{turn}
 pub use Rattle.fb_fastq.specs.Visits.{IsVisit}
 pub use Rattle.fb_fastq.specs.declared.arrival.Arrival.{Arrival}
 pub use Rattle.fb_fastq.specs.declared.lanes.Lane.{Lane}
 pub use Rattle.fb_fastq.specs.declared.rows.Pick.{Pick}
 pub use Rattle.fb_fastq.specs.declared.rows.Place.{Place}
+pub use Rattle.fb_fastq.specs.declared.side.Side.{Side}
+pub use Rattle.fb_fastq.specs.declared.side.Side.TheVariants.{Above, Below}
 pub use Rattle.fb_fastq.specs.declared.soonest.Candidate.{Candidate}
+pub use Rattle.fb_fastq.specs.declared.stretch.Stretch.{Stretch}
 pub use Rattle.fb_fastq.specs.declared.visit.Visit.{Visit}

@@ -1,11 +1,14 @@
 -- The request whose first sector passes soonest.
-use Rattle.std.specs.Prelude.{◌≡◌, ℕ, ◌<◌, ◌≤◌}
+use Rattle.std.specs.Prelude.{◌≡◌, ℕ, ◌<◌, ◌≤◌, Option, IfSome}
 use Rattle.std.specs.BTreeMap.{BTreeMap}
 use Rattle.fb_units.specs.declared.types.Track.{Track}
 use Rattle.fb_units.specs.declared.types.Request.{Request}
 use Rattle.fb_service.specs.declared.disk.Disk.{Disk}
 use Rattle.fb_model.specs.PlainReplay.{sptf}
 use Rattle.fb_fastq.specs.declared.soonest.Candidate.{Candidate}
+use Rattle.fb_fastq.specs.declared.stretch.Stretch.{Stretch}
+use Rattle.fb_fastq.specs.declared.visit.Visit.{Visit}
+use Rattle.fb_fastq.specs.Sides.{IsOn, IsNearer}
 use Rattle.fb_fastq.specs.Joining.{Holds, AllHeld, IsNoLater}
 
 -- the candidate is a request that waits, with the time until its first sector passes
@@ -22,9 +25,17 @@ IsBefore a b = IsNoLater a.wait a.key.1 b.wait b.key.1
 abbrev pub Beats : Disk → Track → ℕ → Candidate → ℕ × ℕ → Request → Type 0
 Beats disk head now candidate key request = IsNoLater candidate.wait candidate.key.1 (sptf disk head now request) key.1
 
--- it beats all that wait at these spots, or from this one on
+-- it beats all that wait at these spots
 abbrev pub BeatsBetween : Disk → Track → ℕ → BTreeMap (ℕ × ℕ) Request → Candidate → ℕ → ℕ → Type 0
 BeatsBetween disk head now waiting candidate start end = AllHeld (λ key request. start ≤ key.0 → key.0 < end → Beats disk head now candidate key request) waiting
 
-abbrev pub BeatsFrom : Disk → Track → ℕ → BTreeMap (ℕ × ℕ) Request → Candidate → ℕ → Type 0
-BeatsFrom disk head now waiting candidate start = AllHeld (λ key request. start ≤ key.0 → Beats disk head now candidate key request) waiting
+-- it beats all that wait on a stretch
+abbrev pub BeatsOn : Disk → Track → ℕ → BTreeMap (ℕ × ℕ) Request → Candidate → Stretch → Type 0
+BeatsOn disk head now waiting candidate stretch = AllHeld (λ key request.
+    IsOn stretch.side stretch.start key.0 → Beats disk head now candidate key request) waiting
+
+-- it beats all that wait there and are nearer than a lane, if there is one
+abbrev pub BeatsUntil : Disk → Track → ℕ → BTreeMap (ℕ × ℕ) Request → Candidate → Stretch → Option Visit → Type 0
+BeatsUntil disk head now waiting candidate stretch lane = AllHeld (λ key request.
+    IsOn stretch.side stretch.start key.0 → IfSome lane (λ visit. IsNearer stretch.side visit.lane.start key.0)
+    → Beats disk head now candidate key request) waiting

@@ -1,6 +1,7 @@
 pub mod Joining
 pub mod Spots
 pub mod Turns
+pub mod Sides
 pub mod Lanes
 pub mod Visits
 pub mod Candidates

@@ -25,8 +25,10 @@ mod lanes;
 mod nearest;
 mod ring;
 mod rows;
+mod side;
 mod soonest;
 mod sptf;
+mod stretch;
 mod upwards;
 mod visit;
 

@@ -1,24 +1,29 @@
 // Requests that wait in a row for each cylinder.
 ghost use Rattle.std.specs.Prelude.{◌≡◌, ◌⊎◌, ℕ, ◌<◌, ◌≤◌, ◌^◌, Some, true, length, slice_get, IfSome, IsSome, OnOk, OnErr};
 ghost use Rattle.std.specs.List.{AllByRecursion};
+ghost use Rattle.std.specs.List.Sorted.{IsStrictlySortedBy};
 ghost use Rattle.std.specs.Ordering.{nat_cmp};
 ghost use Rattle.std.specs.BTreeSet.{contains};
+ghost use Rattle.fb_geometry.specs.Shape.{cylinders_of};
 ghost use Rattle.fb_seek.specs.Positioning.{seek};
 ghost use Rattle.fb_seek.specs.Rising.{SeeksRise};
 ghost use Rattle.fb_service.specs.Approaching.{IsDeparture};
 ghost use Rattle.fb_fastq.specs.declared.soonest.Candidate.{Candidate};
 ghost use Rattle.fb_fastq.specs.Joining.{Waiting};
 ghost use Rattle.fb_fastq.specs.Lanes.{IsAlong};
+ghost use Rattle.fb_fastq.specs.Sides.{IsOn, AreThose};
 ghost use Rattle.fb_fastq.specs.Candidates.{IsBefore};
 ghost use Rattle.fb_fastq.specs.More.{IsMore};
 ghost use Rattle.fb_fastq.specs.ByCylinder.{Row, all_of_rows, at_place, IsOnCylinder, AreRows, AreOccupied, IsArrival, IsPick, SettlesAll, Numbers};
 
 use crate::arrival::{Arrival, arrival_at};
+use crate::side::Side;
 use crate::soonest::Candidate;
 use fb_service::{Departure, Disk};
 use fb_units::{NoMemory, Ns, Request};
 use std::alloc::Global;
 use std::collections::BTreeSet;
+use std::collections::btree_set::Range;
 
 /// Where a request stands among the rows.
 #[derive(Clone, Copy)]
@@ -64,7 +69,8 @@ fn soonest_of_row(
     requires spots { AllByRecursion (λ w. IsAlong disk.now w.1 w.0.0) (all_of_rows rows.now) }
     requires from { IsDeparture disk.now from.now }
     requires arrival { IsArrival disk.now from.now arrival.now }
-    ensures pick { (limit : Candidate) → IsPick disk.now from.now.track from.now.instant rows.now limit pick → IsPick disk.now from.now.track from.now.instant rows.now limit result }
+    ensures pick { (limit : Candidate) → IsPick disk.now from.now.track from.now.instant rows.now limit pick
+        → IsPick disk.now from.now.track from.now.instant rows.now limit result }
     ensures first { IsBefore result.best pick.best }
     ensures least { (row : Row) → slice_get rows.now arrival.now.cylinder ≡ Some row → SettlesAll disk.now from.now.track from.now.instant result.best row.items }
 {
@@ -93,54 +99,47 @@ fn soonest_of_row(
     pick
 }
 
-// The soonest of what is picked and the requests of the head's cylinder and of those above.
-fn walk_up(
-    rows: &[Vec<((u64, u64), Request)>],
-    occupied: &BTreeSet<u32>,
+// The cylinders of the disk on one side of the head whose rows have requests.
+fn occupied_on<'a>(
+    occupied: &'a BTreeSet<u32>,
     disk: &Disk,
     from: &Departure,
-    pick: Pick,
-) -> Pick
-    requires rows { AreRows 0 rows.now }
-    requires spots { AllByRecursion (λ w. IsAlong disk.now w.1 w.0.0) (all_of_rows rows.now) }
-    requires occupied { AreOccupied occupied.now rows.now }
+    side: Side,
+) -> Range<'a, u32>
     requires from { IsDeparture disk.now from.now }
-    ensures pick { (limit : Candidate) → IsPick disk.now from.now.track from.now.instant rows.now limit pick → IsPick disk.now from.now.track from.now.instant rows.now limit result }
-    ensures first { IsBefore result.best pick.best }
-    ensures least { (i : ℕ) (row : Row) → slice_get rows.now i ≡ Some row → from.now.track.cylinder ≤ i → SettlesAll disk.now from.now.track from.now.instant result.best row.items }
+    ensures ordered { IsStrictlySortedBy nat_cmp occupied.now.keys }
+    ensures those { AreThose (λ k. IsOn side from.now.track.cylinder k × (k < cylinders_of disk.now.map.zones)) occupied.now.keys result }
 {
-    let end = disk.map.geometry().cylinders();
-    let mut pick = pick;
-    disk.mechanism.seeks_rise();
-    for cylinder in occupied.range(from.track.cylinder..end) {
-        let arrival = arrival_at(disk, from, *cylinder);
-        if pick.best.wait < arrival.seek {
-            return pick;
-        }
-        pick = soonest_of_row(rows, disk, from, &arrival, pick);
+    let start = from.track.cylinder;
+    match side {
+        Side::Above => occupied.range(start..disk.map.geometry().cylinders()),
+        Side::Below => occupied.range(..start),
     }
-    pick
 }
 
-// The soonest of what is picked and the requests of the cylinders below the head's.
-fn walk_down(
+// The soonest of what is picked and the requests of the cylinders on one side of the head.
+fn walk(
     rows: &[Vec<((u64, u64), Request)>],
     occupied: &BTreeSet<u32>,
     disk: &Disk,
     from: &Departure,
+    side: Side,
     pick: Pick,
 ) -> Pick
     requires rows { AreRows 0 rows.now }
     requires spots { AllByRecursion (λ w. IsAlong disk.now w.1 w.0.0) (all_of_rows rows.now) }
     requires occupied { AreOccupied occupied.now rows.now }
     requires from { IsDeparture disk.now from.now }
-    ensures pick { (limit : Candidate) → IsPick disk.now from.now.track from.now.instant rows.now limit pick → IsPick disk.now from.now.track from.now.instant rows.now limit result }
+    ensures pick { (limit : Candidate) → IsPick disk.now from.now.track from.now.instant rows.now limit pick
+        → IsPick disk.now from.now.track from.now.instant rows.now limit result }
     ensures first { IsBefore result.best pick.best }
-    ensures least { (i : ℕ) (row : Row) → slice_get rows.now i ≡ Some row → i < from.now.track.cylinder → SettlesAll disk.now from.now.track from.now.instant result.best row.items }
+    ensures least { (i : ℕ) (row : Row) → slice_get rows.now i ≡ Some row → IsOn side from.now.track.cylinder i
+        → SettlesAll disk.now from.now.track from.now.instant result.best row.items }
 {
     let mut pick = pick;
+    let mut left = occupied_on(occupied, disk, from, side);
     disk.mechanism.seeks_rise();
-    for cylinder in occupied.range(..from.track.cylinder).rev() {
+    while let Some(cylinder) = side.next(&mut left) {
         let arrival = arrival_at(disk, from, *cylinder);
         if pick.best.wait < arrival.seek {
             return pick;
@@ -181,11 +180,11 @@ pub fn soonest_in_rows(
         best: limit,
         place: None,
     };
-    let above = walk_up(rows, occupied, disk, from, pick);
+    let above = walk(rows, occupied, disk, from, Side::Above, pick);
     if is_too_far(disk, above.best.wait) {
         return above;
     }
-    walk_down(rows, occupied, disk, from, above)
+    walk(rows, occupied, disk, from, Side::Below, above)
 }
 
 // Makes rows, up to this one.

@@ -1,5 +1,5 @@
 // Shortest positioning time first.
-ghost use Rattle.std.specs.Prelude.{◌≡◌, ℕ, ◌+◌, ◌*◌, ◌<◌, ◌≤◌, ◌^◌, ◌⊎◌, true, IfSome, MatchOption, ◌-◌, length};
+ghost use Rattle.std.specs.Prelude.{◌≡◌, ℕ, ◌+◌, ◌*◌, ◌<◌, ◌≤◌, ◌^◌, ◌⊎◌, true, IfSome, ◌-◌, length};
 ghost use Rattle.fb_units.specs.declared.types.Request.{Request};
 ghost use Rattle.fb_geometry.specs.Shape.{IsTrackOf};
 ghost use Rattle.fb_sectormap.specs.Lookup.{track_at};
@@ -10,10 +10,13 @@ ghost use Rattle.fb_model.specs.PlainReplay.{sptf};
 ghost use Rattle.fb_fastq.specs.Joining.{AllHeld, IsFirstHeld};
 ghost use Rattle.fb_fastq.specs.Lanes.{IsLane, IsAlong};
 ghost use Rattle.fb_fastq.specs.Visits.{IsVisit};
-ghost use Rattle.fb_fastq.specs.Candidates.{IsCandidate, IsBefore, BeatsFrom, BeatsBetween};
+ghost use Rattle.fb_fastq.specs.Sides.{IsOutside, IsReached};
+ghost use Rattle.fb_fastq.specs.Candidates.{IsCandidate, IsBefore, BeatsBetween, BeatsUntil, BeatsOn};
 
 use crate::index::{next_or_first, next_round};
-use crate::lanes::{LANE, cylinder_start};
+use crate::lanes::cylinder_start;
+use crate::side::Side;
+use crate::stretch::Stretch;
 use crate::visit::{Visit, visit_to};
 use fb_service::{Departure, Disk, departure_from};
 use fb_units::{Ns, Request, Track};
@@ -90,144 +93,73 @@ fn soonest_of_lane(
     }
 }
 
-// The soonest of a candidate and of the requests from a spot on, no lower than the head's cylinder, up to the first lane
-// on which more than a few wait.
-fn walk_up(
+// The soonest of a candidate and of the requests of a stretch, as far as the first lane on which more than a few wait.
+fn walk(
     waiting: &BTreeMap<(u64, u64), Request>,
     disk: &Disk,
     from: Departure,
-    start: u64,
+    stretch: Stretch,
     any: Visit,
     first: Candidate,
 ) -> Walked
     requires spots { AllHeld (λ key request. IsAlong disk.now request key.0) waiting.now }
     requires from { IsDeparture disk.now from }
-    requires start { from.track.cylinder * 2 ^ 37 ≤ start }
+    requires outside { IsOutside stretch.side (from.track.cylinder * 2 ^ 37) stretch.start }
     requires any { IsVisit disk.now from any }
     requires first { IsCandidate disk.now from.track from.instant waiting.now first }
     ensures found { IsCandidate disk.now from.track from.instant waiting.now result.best }
     ensures first { IsBefore result.best first }
     ensures full { IfSome result.full (IsVisit disk.now from) }
-    ensures on { IfSome result.full (λ visit. start < visit.lane.start + 2 ^ 30) }
-    ensures least { MatchOption result.full (BeatsFrom disk.now from.track from.instant waiting.now result.best start)
-        (λ visit. BeatsBetween disk.now from.track from.instant waiting.now result.best start visit.lane.start) }
+    ensures reached { IfSome result.full (λ visit. IsReached stretch.side stretch.start visit.lane.start) }
+    ensures least { BeatsUntil disk.now from.track from.instant waiting.now result.best stretch result.full }
 {
     let mut best = first;
     let mut visit = any;
-    let mut left = FEW;
-    for (key, _) in waiting.range((start, 0)..) {
+    let mut few = FEW;
+    let mut left = stretch.those_of(waiting);
+    while let Some((key, _)) = stretch.side.next(&mut left) {
         if visit.go_on(disk, &from, key.0) {
             if is_too_far(disk, from, &visit, best.wait) {
                 return Walked { best, full: None };
             }
-            left = FEW;
+            few = FEW;
         }
-        if left == 0 {
+        if few == 0 {
             return Walked {
                 best,
                 full: Some(visit),
             };
         }
-        left -= 1;
+        few -= 1;
         let wait = visit.wait(disk, key.0);
         best = sooner(best, Candidate { key: *key, wait });
     }
     Walked { best, full: None }
 }
 
-// The soonest of a candidate and of the requests before a spot, no higher than the head's cylinder, down to the first
-// lane on which more than a few wait.
-fn walk_down(
+// The soonest of a candidate and of the requests of a stretch.
+fn soonest_on(
     waiting: &BTreeMap<(u64, u64), Request>,
     disk: &Disk,
     from: Departure,
-    end: u64,
-    any: Visit,
-    first: Candidate,
-) -> Walked
-    requires spots { AllHeld (λ key request. IsAlong disk.now request key.0) waiting.now }
-    requires from { IsDeparture disk.now from }
-    requires end { end ≤ from.track.cylinder * 2 ^ 37 }
-    requires any { IsVisit disk.now from any }
-    requires first { IsCandidate disk.now from.track from.instant waiting.now first }
-    ensures found { IsCandidate disk.now from.track from.instant waiting.now result.best }
-    ensures first { IsBefore result.best first }
-    ensures full { IfSome result.full (IsVisit disk.now from) }
-    ensures on { IfSome result.full (λ visit. visit.lane.start < end) }
-    ensures least { MatchOption result.full (BeatsBetween disk.now from.track from.instant waiting.now result.best 0 end)
-        (λ visit. BeatsBetween disk.now from.track from.instant waiting.now result.best (visit.lane.start + 2 ^ 30) end) }
-{
-    let mut best = first;
-    let mut visit = any;
-    let mut left = FEW;
-    for (key, _) in waiting.range(..(end, 0)).rev() {
-        if visit.go_on(disk, &from, key.0) {
-            if is_too_far(disk, from, &visit, best.wait) {
-                return Walked { best, full: None };
-            }
-            left = FEW;
-        }
-        if left == 0 {
-            return Walked {
-                best,
-                full: Some(visit),
-            };
-        }
-        left -= 1;
-        let wait = visit.wait(disk, key.0);
-        best = sooner(best, Candidate { key: *key, wait });
-    }
-    Walked { best, full: None }
-}
-
-// The soonest of a candidate and of the requests from a spot on, no lower than the head's cylinder.
-fn soonest_above(
-    waiting: &BTreeMap<(u64, u64), Request>,
-    disk: &Disk,
-    from: Departure,
-    start: u64,
+    stretch: Stretch,
     any: Visit,
     first: Candidate,
 ) -> Candidate
     requires spots { AllHeld (λ key request. IsAlong disk.now request key.0) waiting.now }
     requires from { IsDeparture disk.now from }
-    requires start { from.track.cylinder * 2 ^ 37 ≤ start }
+    requires outside { IsOutside stretch.side (from.track.cylinder * 2 ^ 37) stretch.start }
     requires any { IsVisit disk.now from any }
     requires first { IsCandidate disk.now from.track from.instant waiting.now first }
     ensures found { IsCandidate disk.now from.track from.instant waiting.now result }
     ensures first { IsBefore result first }
-    ensures least { BeatsFrom disk.now from.track from.instant waiting.now result start }
+    ensures least { BeatsOn disk.now from.track from.instant waiting.now result stretch }
 {
-    let mut walked = walk_up(waiting, disk, from, start, any, first);
+    let mut walked = walk(waiting, disk, from, stretch, any, first);
     while let Some(visit) = walked.full {
         let best = soonest_of_lane(waiting, disk, &visit, walked.best);
-        walked = walk_up(waiting, disk, from, visit.lane.start + LANE, visit, best);
-    }
-    walked.best
-}
-
-// The soonest of a candidate and of the requests before a spot, no higher than the head's cylinder.
-fn soonest_below(
-    waiting: &BTreeMap<(u64, u64), Request>,
-    disk: &Disk,
-    from: Departure,
-    end: u64,
-    any: Visit,
-    first: Candidate,
-) -> Candidate
-    requires spots { AllHeld (λ key request. IsAlong disk.now request key.0) waiting.now }
-    requires from { IsDeparture disk.now from }
-    requires end { end ≤ from.track.cylinder * 2 ^ 37 }
-    requires any { IsVisit disk.now from any }
-    requires first { IsCandidate disk.now from.track from.instant waiting.now first }
-    ensures found { IsCandidate disk.now from.track from.instant waiting.now result }
-    ensures first { IsBefore result first }
-    ensures least { BeatsBetween disk.now from.track from.instant waiting.now result 0 end }
-{
-    let mut walked = walk_down(waiting, disk, from, end, any, first);
-    while let Some(visit) = walked.full {
-        let best = soonest_of_lane(waiting, disk, &visit, walked.best);
-        walked = walk_down(waiting, disk, from, visit.lane.start, visit, best);
+        let rest = stretch.beyond(&visit.lane);
+        walked = walk(waiting, disk, from, rest, visit, best);
     }
     walked.best
 }
@@ -257,6 +189,14 @@ pub fn soonest_in_map(
     let (key, _) = next_or_first(waiting, start);
     let visit = visit_to(disk, &from, key.0);
     let wait = visit.wait(disk, key.0);
-    let above = soonest_above(waiting, disk, from, start, visit, Candidate { key, wait });
-    soonest_below(waiting, disk, from, start, visit, above)
+    let above = Stretch {
+        side: Side::Above,
+        start,
+    };
+    let below = Stretch {
+        side: Side::Below,
+        start,
+    };
+    let first = soonest_on(waiting, disk, from, above, visit, Candidate { key, wait });
+    soonest_on(waiting, disk, from, below, visit, first)
 }
