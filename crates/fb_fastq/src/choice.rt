@@ -1,11 +1,10 @@
 // What decides which request is taken.
 ghost use Rattle.std.specs.Prelude.{◌≡◌, ℕ, ◌<◌, ◌≤◌, ◌^◌, ◌*◌, length};
-ghost use Rattle.fb_units.specs.declared.types.Request.{Request};
-ghost use Rattle.fb_service.specs.declared.disk.Disk.{Disk};
 ghost use Rattle.fb_geometry.specs.Shape.{IsTrackOf};
 ghost use Rattle.fb_model.specs.Accepted.{IsRequestOf};
 ghost use Rattle.fb_model.specs.PlainReplay.{Key};
 ghost use Rattle.fb_fastq.specs.Joining.{Waits, AllHeld, IsFirstHeld};
+ghost use Rattle.fb_fastq.specs.Spots.{IsCylinderOf};
 
 use fb_service::Disk;
 use fb_units::{Ns, Request, Track};
@@ -13,21 +12,13 @@ use std::collections::BTreeMap;
 
 /// What decides which of the requests that wait is taken next.
 ///
-/// Requests wait in an index: each at a spot that the choice gives it, and those at one spot in order
-/// of joining.
+/// Requests wait in an index by the cylinder of their first sector, and those of one cylinder in
+/// order of joining.
 pub trait Choice: Drop {
     /// The key, of which the least is taken.
     ghost key: { Key };
 
-    /// A request stands at this spot.
-    ghost stands: { Disk → Request → ℕ → Type 0 };
-
-    /// The spot of a request.
-    fn spot_of(&self, disk: &Disk, request: &Request) -> u64
-        requires { IsRequestOf disk.now.map request.now }
-        ensures { stands disk.now request.now result };
-
-    /// The spot and the number of joining of the request of least key, while the head is on this
+    /// The cylinder and the number of joining of the request of least key, while the head is on this
     /// track at the instant `now`, in ns.
     ///
     /// Of several requests with the least key the one that joined first is chosen.
@@ -39,7 +30,7 @@ pub trait Choice: Drop {
         now: Ns,
     ) -> (u64, u64)
         requires some { 0 < length waiting.now.entries }
-        requires spots { AllHeld (λ key request. stands disk.now request key.0) waiting.now }
+        requires spots { AllHeld (λ key request. IsCylinderOf disk.now request key.0) waiting.now }
         requires on_disk { AllHeld (λ key request. IsRequestOf disk.now.map request) waiting.now }
         requires head { IsTrackOf disk.now.map head }
         requires now { now ≤ 9 * 10 ^ 18 }

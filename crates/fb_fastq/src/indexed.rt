@@ -1,9 +1,11 @@
-// A queue over pending requests by spot.
+// A queue over pending requests by cylinder.
 ghost use Rattle.std.specs.Prelude.{◌≡◌, []};
 ghost use Rattle.std.specs.List.{AllByRecursion};
 ghost use Rattle.fb_fastq.specs.Joining.{pending_of};
+ghost use Rattle.fb_fastq.specs.Spots.{IsCylinderOf};
 
 use crate::Choice;
+use crate::cylinders::cylinder_of;
 use crate::index::{add, take_out};
 use fb_queue::Queue;
 use fb_service::Disk;
@@ -12,7 +14,7 @@ use std::alloc::Global;
 use std::collections::BTreeMap;
 use std::marker::Model;
 
-/// Waiting requests in an index by spot and number of joining; the choice finds the one of least
+/// Waiting requests in an index by cylinder and number of joining; the choice finds the one of least
 /// key.
 #[derive(Drop)]
 pub struct Indexed<C: Choice> {
@@ -52,14 +54,14 @@ impl<C: Choice> Queue for Indexed<C> {
 
     ghost key = { C.key };
 
-    ghost serves = { λ q disk. AllByRecursion (λ w. C.stands disk w.1 w.0.0) q.waiting };
+    ghost serves = { λ q disk. AllByRecursion (λ w. IsCylinderOf disk w.1 w.0.0) q.waiting };
 
     ghost use Rattle.fb_fastq.specs.NonePending.{all_of_none};
 
-    ghost serves_any = { λ q disk none. all_of_none (λ w. C.stands disk w.1 w.0.0) q.waiting none };
+    ghost serves_any = { λ q disk none. all_of_none (λ w. IsCylinderOf disk w.1 w.0.0) q.waiting none };
 
     fn add(&mut self, disk: &Disk, request: Request) -> Result<(), NoMemory> {
-        let spot = self.choice.spot_of(disk, &request);
+        let spot = cylinder_of(disk, &request);
         add(&mut self.waiting, spot, self.joined, request)?;
         self.joined += 1;
         Ok(())

@@ -3,9 +3,7 @@ ghost use Rattle.std.specs.Prelude.{◌≡◌, ℕ, ◌<◌, ◌≤◌, length};
 ghost use Rattle.fb_seek.specs.Positioning.{distance_of};
 ghost use Rattle.fb_model.specs.PlainReplay.{sstf};
 ghost use Rattle.fb_fastq.specs.Joining.{Waits, IsNoLater};
-ghost use Rattle.fb_fastq.specs.Spots.{IsCylinderOf};
 
-use crate::cylinders::cylinder_of;
 use crate::index::{earlier, first_before, next_from};
 use crate::{Choice, Indexed};
 use fb_service::Disk;
@@ -41,12 +39,6 @@ fn first_of_nearest(waiting: &BTreeMap<(u64, u64), Request>, spot: u64) -> (u64,
 
 impl Choice for Nearest {
     ghost key = { sstf };
-
-    ghost stands = { IsCylinderOf };
-
-    fn spot_of(&self, disk: &Disk, request: &Request) -> u64 {
-        cylinder_of(disk, request)
-    }
 
     fn choose(
         &self,

@@ -1,8 +1,6 @@
 // The circular elevator.
 ghost use Rattle.fb_model.specs.PlainReplay.{clook};
-ghost use Rattle.fb_fastq.specs.Spots.{IsCylinderOf};
 
-use crate::cylinders::cylinder_of;
 use crate::index::next_round;
 use crate::{Choice, Indexed};
 use fb_service::Disk;
@@ -18,12 +16,6 @@ pub type ClookMap = Indexed<Upwards>;
 
 impl Choice for Upwards {
     ghost key = { clook };
-
-    ghost stands = { IsCylinderOf };
-
-    fn spot_of(&self, disk: &Disk, request: &Request) -> u64 {
-        cylinder_of(disk, request)
-    }
 
     fn choose(
         &self,

@@ -1,4 +1,5 @@
 use Rattle.fb_fastq.proofs.Words.{◌≡◌, ap, sym, subst, Some, AllByRecursion, first_least, Waiting, pending_of}
+use Rattle.fb_fastq.specs.Spots.{IsCylinderOf}
 use Rattle.fb_model.specs.Accepted.{IsRequestOf}
 use Rattle.fb_fastq.proofs.{Least.all_waiting, Least.all_held, OneMore.all_less, OneMore.taken_more}
 use Rattle.fb_fastq.proofs.indexed.IndexedQueue.take.Goals as goal
@@ -11,8 +12,8 @@ choose-key-requires-clause-on_disk g c =
 
 pub choose-key-requires-clause-spots : goal.choose-key-requires-clause-spots
 choose-key-requires-clause-spots g c =
-    all_held (λ key r. g.C.Choice.stands c.args.disk.now r key.0) c.self.inside.waiting
-    (subst (AllByRecursion (λ (w : Waiting). g.C.Choice.stands c.args.disk.now w.1 w.0.0)) (sym (ap (λ v. v.waiting) c.self.view_is)) c.requires.serves)
+    all_held (λ key r. IsCylinderOf c.args.disk.now r key.0) c.self.inside.waiting
+    (subst (AllByRecursion (λ (w : Waiting). IsCylinderOf c.args.disk.now w.1 w.0.0)) (sym (ap (λ v. v.waiting) c.self.view_is)) c.requires.serves)
 
 pub invariant_of-self : goal.invariant_of-self
 invariant_of-self g c = c.take_out.ensures.index c.self.inside.joined c.self.invariant
@@ -25,7 +26,7 @@ returns-clause-least g c =
 
 pub returns-clause-serves : goal.returns-clause-serves
 returns-clause-serves g c =
-    let stands = λ (w : Waiting). g.C.Choice.stands c.args.disk.now w.1 w.0.0 in
+    let stands = λ (w : Waiting). IsCylinderOf c.args.disk.now w.1 w.0.0 in
     let less = taken_more c.self.inside.waiting.entries c.choose-key.result c.self.invariant.numbered c.choose-key.ensures.found in
     subst (AllByRecursion stands) (sym c.take_out.ensures.entries)
     (all_less _ _ _ less.1 stands (subst (AllByRecursion stands) (sym (ap (λ v. v.waiting) c.self.view_is)) c.requires.serves))
