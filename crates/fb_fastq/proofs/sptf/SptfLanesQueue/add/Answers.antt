@@ -1,91 +1,84 @@
-use Rattle.fb_fastq.proofs.Words.{◌≡◌, ◌++◌, ◌∷◌, [], ap, sym, subst, AllByRecursion, Waiting, pending_of, IsAlong, IsMore, all_of_rows}
+use Rattle.fb_fastq.proofs.Words.{◌≡◌, ◌++◌, ◌∷◌, [], ℕ, List, ap, sym, subst, AllByRecursion, Waiting, order, insert_entry, pending_of, IsAlong}
+use Rattle.fb_fastq.proofs.Words.{IsMore, all_of_rows}
 use Rattle.fb_fastq.proofs.OneMore.{insert_more, more_left, more_right, pending_more, all_more}
 use Rattle.fb_fastq.proofs.Divided.{index_left, map_joined, rows_joined}
 use Rattle.fb_fastq.proofs.sptf.SptfLanesQueue.add.Goals.{After-self}
 use Rattle.fb_fastq.proofs.sptf.SptfLanesQueue.add.Goals as goal
 
--- each spot is its request's
-spots : (c : After-self)
-    → AllByRecursion (λ (w : Waiting). IsAlong c.args.disk.now w.1 w.0.0)
-    (c.self.inside.waiting.entries ++ all_of_rows c.self.inside.rows.items)
-spots c =
-    subst (AllByRecursion (λ (w : Waiting). IsAlong c.args.disk.now w.1 w.0.0))
-    (sym (ap (λ v. v.waiting) c.self.view_is)) c.requires.serves
-
 pub add-requires : goal.add-requires
 add-requires c =
     index_left c.self.inside.waiting.entries (all_of_rows c.self.inside.rows.items) c.self.inside.joined c.self.invariant.0.index
 
+module _ (c : After-self) (spot : ℕ) where
+  -- the one that joins
+  abbrev one : Waiting
+  one = ((spot, c.self.inside.joined), c.args.request)
+
+  abbrev all : List Waiting
+  all = c.self.inside.waiting.entries ++ all_of_rows c.self.inside.rows.items
+
+  in_map : (new : List Waiting) → new ≡ insert_entry order c.self.inside.waiting.entries (spot, c.self.inside.joined) c.args.request
+      → IsMore one c.self.inside.waiting.entries new
+  in_map new is =
+      let entries = c.self.inside.waiting.entries in
+      let own = index_left entries (all_of_rows c.self.inside.rows.items) c.self.inside.joined c.self.invariant.0.index in
+      subst (IsMore one entries) (sym is) (insert_more spot c.self.inside.joined c.args.request entries own.given)
+
+  beside_rows : (new : List Waiting) → new ≡ insert_entry order c.self.inside.waiting.entries (spot, c.self.inside.joined) c.args.request
+      → IsMore one all (new ++ all_of_rows c.self.inside.rows.items)
+  beside_rows new is = more_right one c.self.inside.waiting.entries new (in_map new is) (all_of_rows c.self.inside.rows.items)
+
+  beside_map : (new : List Waiting) → IsMore one (all_of_rows c.self.inside.rows.items) new → IsMore one all (c.self.inside.waiting.entries ++ new)
+  beside_map new more = more_left one (all_of_rows c.self.inside.rows.items) new more c.self.inside.waiting.entries
+
+  module _ (new : List Waiting) (more : IsMore one all new) where
+    pending_then : pending_of new ≡ pending_of c.args.self.now.waiting ++ c.args.request ∷ []
+    pending_then =
+        subst (λ ws. pending_of new ≡ pending_of ws ++ c.args.request ∷ []) (ap (λ v. v.waiting) c.self.view_is)
+        (pending_more one all new more c.self.invariant.0.index.given)
+
+    -- each spot is its request's
+    along_then : IsAlong c.args.disk.now c.args.request spot → AllByRecursion (λ w. IsAlong c.args.disk.now w.1 w.0.0) new
+    along_then along = all_more one all new more (λ w. IsAlong c.args.disk.now w.1 w.0.0) along
+        (subst (AllByRecursion (λ (w : Waiting). IsAlong c.args.disk.now w.1 w.0.0))
+        (sym (ap (λ v. v.waiting) c.self.view_is)) c.requires.serves)
+
 pub invariant_of-self-then-not-has_room : goal.invariant_of-self-then-not-has_room
 invariant_of-self-then-not-has_room c =
     let inside = c.self.inside in
-    let entries = inside.waiting.entries in
     let spot = c.along-spot.result in
-    let own = index_left entries (all_of_rows inside.rows.items) inside.joined c.self.invariant.0.index in
-    let more =
-    subst (IsMore ((spot, inside.joined), c.args.request) entries) (sym c.in_ok-add.ensures.entries)
-    (insert_more spot inside.joined c.args.request entries own.given) in (
-      map_joined entries c.add.new.waiting.entries inside.rows.items inside.in_rows spot inside.joined c.args.request c.self.invariant.0
-          more,
+    let more = in_map ((goal.at.invariant_of-self-then-not-has_room c).After-self) spot c.add.new.waiting.entries c.in_ok-add.ensures.entries in (
+      map_joined inside.waiting.entries c.add.new.waiting.entries inside.rows.items inside.in_rows spot inside.joined c.args.request
+          c.self.invariant.0 more,
       c.self.invariant.1,
     )
 
 pub returns-then-not-has_room-clause-ok : goal.returns-then-not-has_room-clause-ok
 returns-then-not-has_room-clause-ok c =
-    let inside = c.self.inside in
-    let entries = inside.waiting.entries in
-    let rows = all_of_rows inside.rows.items in
-    let spot = c.along-spot.result in
-    let w : Waiting = ((spot, inside.joined), c.args.request) in
-    let own = index_left entries rows inside.joined c.self.invariant.0.index in
-    let more =
-    subst (IsMore w entries) (sym c.in_ok-add.ensures.entries) (insert_more spot inside.joined c.args.request entries own.given) in
-    subst (λ ws. pending_of (c.add.new.waiting.entries ++ rows) ≡ pending_of ws ++ c.args.request ∷ []) (ap (λ v. v.waiting) c.self.view_is)
-    (pending_more w (entries ++ rows) (c.add.new.waiting.entries ++ rows)
-    (more_right w entries c.add.new.waiting.entries more rows) c.self.invariant.0.index.given)
+    let at = (goal.at.returns-then-not-has_room-clause-ok c).After-self in
+    pending_then at c.along-spot.result _ (beside_rows at c.along-spot.result c.add.new.waiting.entries c.in_ok-add.ensures.entries)
 
 pub returns-then-not-has_room-clause-serves : goal.returns-then-not-has_room-clause-serves
 returns-then-not-has_room-clause-serves c =
-    let inside = c.self.inside in
-    let entries = inside.waiting.entries in
-    let rows = all_of_rows inside.rows.items in
-    let spot = c.along-spot.result in
-    let w : Waiting = ((spot, inside.joined), c.args.request) in
-    let own = index_left entries rows inside.joined c.self.invariant.0.index in
-    let more =
-    subst (IsMore w entries) (sym c.in_ok-add.ensures.entries) (insert_more spot inside.joined c.args.request entries own.given) in
-    all_more w (entries ++ rows) (c.add.new.waiting.entries ++ rows) (more_right w entries c.add.new.waiting.entries more rows)
-    (λ x. IsAlong c.args.disk.now x.1 x.0.0) c.along-spot.ensures (spots ((goal.at.returns-then-not-has_room-clause-serves c).After-self))
+    let at = (goal.at.returns-then-not-has_room-clause-serves c).After-self in
+    along_then at c.along-spot.result _ (beside_rows at c.along-spot.result c.add.new.waiting.entries c.in_ok-add.ensures.entries)
+    c.along-spot.ensures
 
 pub invariant_of-self-2 : goal.invariant_of-self-2
 invariant_of-self-2 c =
-    let inside = c.self.inside in
-    let entries = inside.waiting.entries in
-    let spot = c.along-spot.result in
-    let own = c.self.invariant.0.own_rows in (
-      rows_joined entries inside.rows.items c.put.new.rows.items inside.in_rows spot inside.joined c.args.request c.self.invariant.0
-          c.in_ok-put.ensures.more (c.in_ok-put.ensures.rows own),
+    let inside = c.self.inside in (
+      rows_joined inside.waiting.entries inside.rows.items c.put.new.rows.items inside.in_rows c.along-spot.result inside.joined
+          c.args.request c.self.invariant.0 c.in_ok-put.ensures.more (c.in_ok-put.ensures.rows c.self.invariant.0.own_rows),
       c.in_ok-put.ensures.occupied,
     )
 
 pub returns-clause-ok : goal.returns-clause-ok
 returns-clause-ok c =
-    let inside = c.self.inside in
-    let entries = inside.waiting.entries in
-    let rows = all_of_rows inside.rows.items in
-    let new = all_of_rows c.put.new.rows.items in
-    let w : Waiting = ((c.along-spot.result, inside.joined), c.args.request) in
-    let more = c.in_ok-put.ensures.more in
-    subst (λ ws. pending_of (entries ++ new) ≡ pending_of ws ++ c.args.request ∷ []) (ap (λ v. v.waiting) c.self.view_is)
-    (pending_more w (entries ++ rows) (entries ++ new) (more_left w rows new more entries) c.self.invariant.0.index.given)
+    let at = (goal.at.returns-clause-ok c).After-self in
+    pending_then at c.along-spot.result _ (beside_map at c.along-spot.result (all_of_rows c.put.new.rows.items) c.in_ok-put.ensures.more)
 
 pub returns-clause-serves : goal.returns-clause-serves
 returns-clause-serves c =
-    let inside = c.self.inside in
-    let entries = inside.waiting.entries in
-    let rows = all_of_rows inside.rows.items in
-    let new = all_of_rows c.put.new.rows.items in
-    let w : Waiting = ((c.along-spot.result, inside.joined), c.args.request) in
-    let more = c.in_ok-put.ensures.more in
-    all_more w (entries ++ rows) (entries ++ new) (more_left w rows new more entries)
-    (λ x. IsAlong c.args.disk.now x.1 x.0.0) c.along-spot.ensures (spots ((goal.at.returns-clause-serves c).After-self))
+    let at = (goal.at.returns-clause-serves c).After-self in
+    along_then at c.along-spot.result _ (beside_map at c.along-spot.result (all_of_rows c.put.new.rows.items) c.in_ok-put.ensures.more)
+    c.along-spot.ensures
