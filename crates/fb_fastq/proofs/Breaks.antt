@@ -1,7 +1,7 @@
 -- Walks that break off at a lane, and go on behind it.
 use Rattle.fb_fastq.proofs.Words.{◌≡◌, ℕ, ◌+◌, ◌-◌, ◌^◌, ◌<◌, ◌≤◌, inl, inr, ◌⊎◌, arith, Option, Some, None, IfSome, BTreeMap, cases_lt}
 use Rattle.fb_fastq.proofs.Words.{Track, Request, Disk, Candidate, Visit, Stretch, Side, Above, Below, IsOn, IsNearer, IsReached, beyond}
-use Rattle.fb_fastq.proofs.Words.{AllHeld, IsAlong, IsBefore, BeatsBetween, BeatsUntil, IsOutside, subst}
+use Rattle.fb_fastq.proofs.Words.{AllHeld, IsAlong, IsBefore, BeatsBetween, BeatsUntil, IsNoFarther, subst}
 use Rattle.fb_fastq.proofs.Sweeps.{beats_more}
 
 -- what is so of any is so of the one, if there is one
@@ -41,8 +41,8 @@ less_left Below visit None few more = omega arith
 less_left Below visit (Some later) few more = omega arith
 
 -- behind a lane the walk goes on from there
-pub still_outside : (side : Side) (head start lane : ℕ) → IsOutside side head start → IsReached side start lane
-    → IsOutside side head (beyond side lane)
+pub still_outside : (side : Side) (head start lane : ℕ) → IsNoFarther side head start → IsReached side start lane
+    → IsNoFarther side head (beyond side lane)
 still_outside Above head start lane outside reached = omega arith
 still_outside Below head start lane outside reached = omega arith
 

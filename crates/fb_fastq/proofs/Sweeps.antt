@@ -2,7 +2,7 @@
 use Rattle.fb_fastq.proofs.Words.{◌≡◌, ℕ, ◌+◌, ◌-◌, ◌*◌, ◌%◌, ◌^◌, ◌<◌, ◌≤◌, sym, ap, subst, ◌∙◌, arith, inl, inr, ◌⊎◌, BTreeMap, cases_lt}
 use Rattle.fb_fastq.proofs.Words.{Track, Request, track_at, pos, distance_of, Disk, sptf, Lane, Candidate, Holds, AllHeld, IsNoLater}
 use Rattle.fb_fastq.proofs.Words.{IsFirstHeld, turn, IsLane, IsAlong, IsCandidate, IsBefore, Beats, BeatsOn, BeatsBetween, Side, Above, Below}
-use Rattle.fb_fastq.proofs.Words.{IsOutside, IsOn, IsNoFarther}
+use Rattle.fb_fastq.proofs.Words.{IsNoFarther, IsOn}
 use Rattle.fb_fastq.proofs.{Swept.some_injective, Least.waits_there, Turns.ComesFirst, OnLanes.on_cylinder, OnLanes.on_lane, OnLanes.begins}
 use Rattle.fb_fastq.proofs.{OnLanes.waits_on_lane}
 
@@ -59,7 +59,7 @@ module _ (disk : Disk) (head : Track) (now : ℕ) (waiting : BTreeMap (ℕ × �
 
   -- outwards from the head's cylinder, spots that are farther lie on cylinders that are no nearer
   module _ (x w : ℕ × ℕ) (r s : Request) (held : Holds waiting x r) (other : Holds waiting w s) where
-    pub farther : (side : Side) (start : ℕ) → IsOutside side (head.cylinder * 2 ^ 37) start → IsOn side start x.0 → IsNoFarther side x.0 w.0
+    pub farther : (side : Side) (start : ℕ) → IsNoFarther side (head.cylinder * 2 ^ 37) start → IsOn side start x.0 → IsNoFarther side x.0 w.0
         → distance_of head.cylinder (track_at disk.map r.lbn).cylinder
         ≤ distance_of head.cylinder (track_at disk.map s.lbn).cylinder
     farther Above start outside on more =

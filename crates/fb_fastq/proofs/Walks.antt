@@ -2,8 +2,8 @@
 use Rattle.fb_fastq.proofs.Words.{◌≡◌, ℕ, ◌+◌, ◌<◌, ◌≤◌, ◌^◌, List, [], ◌∷◌, map, refl, sym, subst, arith, inl, inr}
 use Rattle.fb_fastq.proofs.Words.{◌⊎◌, Some, lookup, Less, BTreeMap, is_at, keys, IsStrictlySortedBy, Request, Track, Disk, Departure}
 use Rattle.fb_fastq.proofs.Words.{Visit, IsVisit, sptf, distance_of, track_at, Candidate, order, Waiting, Holds, AllHeld, IsAlong}
-use Rattle.fb_fastq.proofs.Words.{IsCandidate, IsBefore, Beats, BeatsOn, BeatsUntil, Stretch, Side, Above, Below, IsOn, IsOutside, IsReached}
-use Rattle.fb_fastq.proofs.Words.{IsNearer, IsNoFarther, AreThose, ◌*◌, length}
+use Rattle.fb_fastq.proofs.Words.{IsCandidate, IsBefore, Beats, BeatsOn, BeatsUntil, Stretch, Side, Above, Below, IsOn, IsNoFarther, IsReached}
+use Rattle.fb_fastq.proofs.Words.{IsNearer, AreThose, ◌*◌, length}
 use Rattle.fb_fastq.proofs.{Keys.here_equal, Keys.follows, Keys.not_at, Least.held_is_in, Sweeps.no_later_trans, Sweeps.is_one, Sweeps.farther, Swept.IsIn}
 use Rattle.fb_fastq.proofs.{Swept.all_of, Swept.all_unmapped, Swept.rises_sorted, Swept.IsNext, Swept.IsSwept, Swept.swept_begins}
 use Rattle.fb_fastq.proofs.{Swept.swept_on, Swept.swept_stops, Swept.Takes, Swept.next_out, Swept.next_nearest, Visiting.is_there}
@@ -97,7 +97,7 @@ module _ {disk : Disk} {from : Departure} {waiting : BTreeMap (ℕ × ℕ) Reque
     ]
 
     -- where the arm alone takes longer to its lane, and no others are nearer
-    pub walk_stops : IsOutside stretch.side (from.track.cylinder * 2 ^ 37) stretch.start → IsVisit disk from visit
+    pub walk_stops : IsNoFarther stretch.side (from.track.cylinder * 2 ^ 37) stretch.start → IsVisit disk from visit
         → ((now : ℕ) (r : Request) → distance_of from.track.cylinder visit.lane.track.cylinder ≤ away disk from r
         → best.wait < sptf disk from.track now r)
         → BeatsOn disk from.track from.instant waiting best stretch

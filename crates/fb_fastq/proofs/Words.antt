@@ -38,7 +38,7 @@ pub use Rattle.fb_fastq.specs.Joining.{AllHeld, AreNumbered, Holds, IsFirst, IsF
 pub use Rattle.fb_fastq.specs.Joining.{join_in, number_of, order, pending_of}
 pub use Rattle.fb_fastq.specs.Lanes.{IsAlong, IsLane, lane_start}
 pub use Rattle.fb_fastq.specs.More.{IsMore}
-pub use Rattle.fb_fastq.specs.Sides.{AreThose, IsNearer, IsNoFarther, IsOn, IsOutside, IsReached, beyond, on_side}
+pub use Rattle.fb_fastq.specs.Sides.{AreThose, IsNearer, IsNoFarther, IsOn, IsReached, beyond, on_side}
 pub use Rattle.fb_fastq.specs.Turns.{turn}
 pub use Rattle.fb_fastq.specs.Visits.{IsVisit}
 pub use Rattle.fb_fastq.specs.declared.arrival.Arrival.{Arrival}

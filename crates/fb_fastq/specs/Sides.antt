@@ -13,10 +13,6 @@ on_side Below above below = below
 abbrev pub IsOn : Side → ℕ → ℕ → Type 0
 IsOn side start k = on_side side (start ≤ k) (k < start)
 
--- no number on a side of the start is on the other side of the head
-abbrev pub IsOutside : Side → ℕ → ℕ → Type 0
-IsOutside side head start = on_side side (head ≤ start) (start ≤ head)
-
 -- one number is no farther out than another
 abbrev pub IsNoFarther : Side → ℕ → ℕ → Type 0
 IsNoFarther side a b = on_side side (a ≤ b) (b ≤ a)

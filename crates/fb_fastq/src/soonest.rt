@@ -10,7 +10,7 @@ ghost use Rattle.fb_model.specs.PlainReplay.{sptf};
 ghost use Rattle.fb_fastq.specs.Joining.{AllHeld, IsFirstHeld};
 ghost use Rattle.fb_fastq.specs.Lanes.{IsLane, IsAlong};
 ghost use Rattle.fb_fastq.specs.Visits.{IsVisit};
-ghost use Rattle.fb_fastq.specs.Sides.{IsOutside, IsReached};
+ghost use Rattle.fb_fastq.specs.Sides.{IsNoFarther, IsReached};
 ghost use Rattle.fb_fastq.specs.Candidates.{IsCandidate, IsBefore, BeatsBetween, BeatsUntil, BeatsOn};
 
 use crate::index::{next_or_first, next_round};
@@ -104,7 +104,7 @@ fn walk(
 ) -> Walked
     requires spots { AllHeld (λ key request. IsAlong disk.now request key.0) waiting.now }
     requires from { IsDeparture disk.now from }
-    requires outside { IsOutside stretch.side (from.track.cylinder * 2 ^ 37) stretch.start }
+    requires outside { IsNoFarther stretch.side (from.track.cylinder * 2 ^ 37) stretch.start }
     requires any { IsVisit disk.now from any }
     requires first { IsCandidate disk.now from.track from.instant waiting.now first }
     ensures found { IsCandidate disk.now from.track from.instant waiting.now result.best }
@@ -148,7 +148,7 @@ fn soonest_on(
 ) -> Candidate
     requires spots { AllHeld (λ key request. IsAlong disk.now request key.0) waiting.now }
     requires from { IsDeparture disk.now from }
-    requires outside { IsOutside stretch.side (from.track.cylinder * 2 ^ 37) stretch.start }
+    requires outside { IsNoFarther stretch.side (from.track.cylinder * 2 ^ 37) stretch.start }
     requires any { IsVisit disk.now from any }
     requires first { IsCandidate disk.now from.track from.instant waiting.now first }
     ensures found { IsCandidate disk.now from.track from.instant waiting.now result }

@@ -1,4 +1,4 @@
-use Rattle.fb_fastq.proofs.Words.{◌*◌, ◌^◌, ◌<◌, sym, subst, Stretch, IfSome, IsVisit, IsOutside, IsReached, BeatsUntil, beyond}
+use Rattle.fb_fastq.proofs.Words.{◌*◌, ◌^◌, ◌<◌, sym, subst, Stretch, IfSome, IsVisit, IsNoFarther, IsReached, BeatsUntil, beyond}
 use Rattle.fb_fastq.proofs.Sweeps.{no_later_trans}
 use Rattle.fb_fastq.proofs.Breaks.{if_some, goes_on, reached_later, still_outside, left_of, less_left}
 use Rattle.fb_fastq.proofs.soonest.soonest_on.Goals as goal
@@ -39,7 +39,7 @@ walk-walked-requires-in-Some-clause-outside c =
     let side = c.args.stretch.side in
     let start = c.args.stretch.start in
     let reached = subst (λ full. IfSome full (λ v. IsReached side start v.lane.start)) c.in-Some.is c.loop-walked.invariant.reached in
-    subst (λ (s : Stretch). IsOutside s.side (c.args.from.track.cylinder * 2 ^ 37) s.start) (sym c.beyond-rest.ensures)
+    subst (λ (s : Stretch). IsNoFarther s.side (c.args.from.track.cylinder * 2 ^ 37) s.start) (sym c.beyond-rest.ensures)
     (still_outside side (c.args.from.track.cylinder * 2 ^ 37) start c.in-Some.visit.lane.start c.requires.outside reached)
 
 pub loop-walked-smaller : goal.loop-walked-smaller
