@@ -59,7 +59,8 @@ module _ (disk : Disk) (head : Track) (now : ℕ) (waiting : BTreeMap (ℕ × �
 
   -- outwards from the head's cylinder, spots that are farther lie on cylinders that are no nearer
   module _ (x w : ℕ × ℕ) (r s : Request) (held : Holds waiting x r) (other : Holds waiting w s) where
-    pub farther : (side : Side) (start : ℕ) → IsNoFarther side (head.cylinder * 2 ^ 37) start → IsOn side start x.0 → IsNoFarther side x.0 w.0
+    pub farther : (side : Side) (start : ℕ) → IsNoFarther side (head.cylinder * 2 ^ 37) start → IsOn side start x.0
+        → IsNoFarther side x.0 w.0
         → distance_of head.cylinder (track_at disk.map r.lbn).cylinder
         ≤ distance_of head.cylinder (track_at disk.map s.lbn).cylinder
     farther Above start outside on more =

@@ -25,12 +25,14 @@ loop-walked-preserved c =
     more.reached in record {
       found = more.found;
       before = no_later_trans new.best.wait new.best.key.1 best.wait best.key.1 c.args.first.wait c.args.first.key.1 more.first
-          (no_later_trans best.wait best.key.1 old.wait old.key.1 c.args.first.wait c.args.first.key.1 first c.loop-walked.invariant.before);
+          (no_later_trans best.wait best.key.1 old.wait old.key.1 c.args.first.wait c.args.first.key.1
+          first c.loop-walked.invariant.before);
       full = more.full;
       reached = if_some (λ v. IsReached side (beyond side visit.lane.start) v.lane.start) (λ v. IsReached side start v.lane.start)
           new.full
           (λ v more. reached_later side start visit.lane.start v.lane.start reached more) further;
-      seen = goes_on disk head now waiting c.requires.spots old best new.best c.args.stretch c.beyond-rest.result visit new.full first more.first
+      seen = goes_on disk head now waiting c.requires.spots old best new.best c.args.stretch
+          c.beyond-rest.result visit new.full first more.first
           c.beyond-rest.ensures seen lane more.least;
     }
 

@@ -28,7 +28,8 @@ module _ (c : After-self) (spot : ℕ) where
       → IsMore one all (new ++ all_of_rows c.self.inside.rows.items)
   beside_rows new is = more_right one c.self.inside.waiting.entries new (in_map new is) (all_of_rows c.self.inside.rows.items)
 
-  beside_map : (new : List Waiting) → IsMore one (all_of_rows c.self.inside.rows.items) new → IsMore one all (c.self.inside.waiting.entries ++ new)
+  beside_map : (new : List Waiting) → IsMore one (all_of_rows c.self.inside.rows.items) new
+      → IsMore one all (c.self.inside.waiting.entries ++ new)
   beside_map new more = more_left one (all_of_rows c.self.inside.rows.items) new more c.self.inside.waiting.entries
 
   module _ (new : List Waiting) (more : IsMore one all new) where
@@ -47,7 +48,8 @@ pub invariant_of-self-then-not-has_room : goal.invariant_of-self-then-not-has_ro
 invariant_of-self-then-not-has_room c =
     let inside = c.self.inside in
     let spot = c.along-spot.result in
-    let more = in_map ((goal.at.invariant_of-self-then-not-has_room c).After-self) spot c.add.new.waiting.entries c.in_ok-add.ensures.entries in (
+    let more = in_map ((goal.at.invariant_of-self-then-not-has_room c).After-self) spot
+    c.add.new.waiting.entries c.in_ok-add.ensures.entries in (
       map_joined inside.waiting.entries c.add.new.waiting.entries inside.rows.items inside.in_rows spot inside.joined c.args.request
           c.self.invariant.0 more,
       c.self.invariant.1,
