@@ -69,11 +69,7 @@ rose_since old now new same rose = subst (λ (count : ℕ). Rose count new) same
 pub same_name : (name : List ℕ) (old new : Option (List ℕ)) → new ≡ old → IfSome old (λ told. told ≡ name) → IfSome new (λ told. told ≡ name)
 same_name name old new same h = subst (λ (told : Option (List ℕ)). IfSome told (λ it. it ≡ name)) (sym same) h
 
--- a text of which nothing was written, or a part
-pub nothing_yet : (now : Option (List ℕ)) (text : List ℕ) → IfSome now (λ bytes. bytes ≡ []) → IfSome now (λ bytes. IsFront bytes text)
-nothing_yet None text empty = tt
-nothing_yet (Some bytes) text empty = (text, ap (λ front. front ++ text) empty)
-
-pub cut_text : (old new : Option (List ℕ)) (bytes text : List ℕ) → IfSome old (λ held. held ≡ []) → bytes ≡ text → AppendsFront old new bytes → IfSome new (λ held. IsFront held text)
-cut_text None new bytes text empty is front = rw front.2 tt
-cut_text (Some held) new bytes text empty is front = rw front.2 (drop front.0 bytes, ap (λ xs. (xs ++ take front.0 bytes) ++ drop front.0 bytes) empty ∙ take-append-drop front.0 bytes ∙ is)
+-- a text of which a part was written
+pub cut_text : (old new : Option (List ℕ)) (text : List ℕ) → IfSome old (λ held. held ≡ []) → AppendsFront old new text → IfSome new (λ held. IsFront held text)
+cut_text None new text empty front = rw front.2 tt
+cut_text (Some held) new text empty front = rw front.2 (drop front.0 text, ap (λ xs. (xs ++ take front.0 text) ++ drop front.0 text) empty ∙ take-append-drop front.0 text)

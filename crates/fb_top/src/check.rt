@@ -21,10 +21,10 @@ ghost use Rattle.fb_top.specs.Written.{HoldsWhole, StopsText};
 use crate::Outcome;
 use crate::policy::judge_by;
 use crate::reading::{ReplayFiles, Sources, read_inputs, read_printed};
-use crate::streams::write_whole;
 use crate::verdict_line::verdict_line;
+use crate::writing::write_text;
 use fb_check::{Printed, Verdict};
-use fb_desk::{Desk, Failed, Input, Output};
+use fb_desk::{Desk, Input, Output};
 use fb_report::{Report, ReportLines, ReportsError, read_back, read_fore};
 use fb_units::NoMemory;
 use fb_words::CheckWords;
@@ -172,16 +172,8 @@ fn write_verdict<D: Desk>(alloc: Global, desk: &mut D, verdict: &Verdict) -> Res
     ensures calm { OnOk result (((D.seen desk.new).outputs Output.Fore).faults ≡ ((D.seen desk.old).outputs Output.Fore).faults) }
     ensures stops { IfErr result (StopsText Output.Fore (codes "-") (verdict_line verdict.now) (D.seen desk.old) (D.seen desk.new)) }
 {
-    match desk.begin_output(Output::Fore, "-") {
-        Ok(()) => {}
-        Err(Failed) => return Err(Outcome::WriteFault(Output::Fore)),
-    }
-    let text = match verdict_line(alloc, verdict) {
-        Ok(text) => text,
-        Err(NoMemory) => return Err(Outcome::NoMemory),
-    };
-    match write_whole(desk, Output::Fore, text.as_slice()) {
-        Ok(()) => Ok(()),
-        Err(Failed) => Err(Outcome::WriteFault(Output::Fore)),
+    match verdict_line(alloc, verdict) {
+        Ok(text) => write_text(desk, Output::Fore, "-", text.as_slice()),
+        Err(NoMemory) => Err(Outcome::NoMemory),
     }
 }

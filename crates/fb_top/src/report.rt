@@ -16,9 +16,8 @@ ghost use Rattle.fb_top.specs.Calm.{AreOutputsCalm};
 use crate::Outcome;
 use crate::lines::{BackLines, ForeLines};
 use crate::reading::ReplayFiles;
-use crate::streams::write_whole;
-use crate::writing::write_lines;
-use fb_desk::{Desk, Failed, Output};
+use crate::writing::{write_lines, write_text};
+use fb_desk::{Desk, Output};
 use fb_report::{Bytes, summary_text};
 use fb_rows::Run;
 use fb_units::NoMemory;
@@ -91,17 +90,9 @@ fn write_summary<D: Desk>(alloc: Global, desk: &mut D, run: &Run) -> Result<(), 
     ensures calm { OnOk result (((D.seen desk.new).outputs Output.Fore).faults ≡ ((D.seen desk.old).outputs Output.Fore).faults) }
     ensures stops { IfErr result (StopsText Output.Fore (codes "-") (summary_text run.now) (D.seen desk.old) (D.seen desk.new)) }
 {
-    match desk.begin_output(Output::Fore, "-") {
-        Ok(()) => {}
-        Err(Failed) => return Err(Outcome::WriteFault(Output::Fore)),
-    }
-    let text = match summary_text(alloc, run) {
-        Ok(text) => text,
-        Err(NoMemory) => return Err(Outcome::NoMemory),
-    };
-    match write_whole(desk, Output::Fore, text.as_slice()) {
-        Ok(()) => Ok(()),
-        Err(Failed) => Err(Outcome::WriteFault(Output::Fore)),
+    match summary_text(alloc, run) {
+        Ok(text) => write_text(desk, Output::Fore, "-", text.as_slice()),
+        Err(NoMemory) => Err(Outcome::NoMemory),
     }
 }
 

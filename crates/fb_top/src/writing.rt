@@ -1,4 +1,4 @@
-// Writes texts line by line, and the note.
+// Writes texts, whole or line by line, and the note.
 ghost use Rattle.std.specs.Prelude.{◌≡◌, false, IfErr, OnOk};
 ghost use Rattle.fb_desk.specs.Calls.{ChangesOutput};
 ghost use Rattle.fb_report.specs.Printed.{IsReadBack};
@@ -13,6 +13,31 @@ use crate::streams::write_whole;
 use fb_desk::{Desk, Failed, Output};
 use fb_units::NoMemory;
 use std::alloc::Global;
+
+/// Begins an output under a name, and writes a text to it.
+///
+/// The error is the outcome: a call that writes failed.
+pub fn write_text<D: Desk>(
+    desk: &mut D,
+    which: Output,
+    name: &str,
+    text: &[u8],
+) -> Result<(), Outcome>
+    requires fresh { ((D.seen desk.old).outputs which).begun ≡ false }
+    ensures only { ChangesOutput which (D.seen desk.old) (D.seen desk.new) }
+    ensures whole { OnOk result (HoldsWhole ((D.seen desk.new).outputs which) name.now text.now) }
+    ensures calm { OnOk result (((D.seen desk.new).outputs which).faults ≡ ((D.seen desk.old).outputs which).faults) }
+    ensures stops { IfErr result (StopsText which name.now text.now (D.seen desk.old) (D.seen desk.new)) }
+{
+    match desk.begin_output(which, name) {
+        Ok(()) => {}
+        Err(Failed) => return Err(Outcome::WriteFault(which)),
+    }
+    match write_whole(desk, which, text) {
+        Ok(()) => Ok(()),
+        Err(Failed) => Err(Outcome::WriteFault(which)),
+    }
+}
 
 /// Begins an output under a name, and writes the lines of a text to it, one by one.
 ///
