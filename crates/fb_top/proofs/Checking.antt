@@ -10,7 +10,6 @@ use Rattle.fb_desk.specs.Calls.{Rose, ChangesOutput}
 use Rattle.fb_desk.specs.View.{DeskView, InputView}
 use Rattle.fb_desk.specs.declared.desk.Input.{Input}
 use Rattle.fb_desk.specs.declared.desk.Input.TheVariants.{Puts, ForeReport, BackReport}
-use Rattle.fb_desk.specs.declared.desk.Output.{Output}
 use Rattle.fb_desk.specs.declared.desk.Output.TheVariants.{Fore}
 use Rattle.fb_words.specs.Command.{CheckTerms}
 use Rattle.fb_top.specs.declared.outcome.Outcome.{Outcome}
@@ -20,7 +19,7 @@ use Rattle.fb_top.specs.Checked.{ChangesPrinted, IsVerdictCut, IsVerdictOf, Judg
 use Rattle.fb_top.specs.Read.{Files, ReadsReport, RefusesReport}
 use Rattle.fb_top.specs.Sources.{check_inputs, check_sources, files_alone, name_of}
 use Rattle.fb_top.specs.Streams.{IsLonger}
-use Rattle.fb_top.specs.Taken.{TakesCheck}
+use Rattle.fb_top.specs.Taken.{KeepsOutputs, TakesCheck}
 use Rattle.fb_top.specs.Written.{KeepsBut, KeepsReports, StopsText}
 use Rattle.fb_top.proofs.Moved.{fore_is_no_note, stops_text}
 use Rattle.fb_top.proofs.MoreInputs.{files_stopped}
@@ -49,7 +48,7 @@ module _ (terms : CheckTerms) (old new : DeskView) where
   check_files_stopped outcome h = check_stopped outcome (files_stopped (check_inputs terms) old new outcome h)
 
 -- the files were read, and then the reports
-module _ (terms : CheckTerms) (old mid new : DeskView) (held : (name : List ℕ) → mid.held name ≡ old.held name) (outputs : (output : Output) → mid.outputs output ≡ old.outputs output) (only : ChangesPrinted mid new) where
+module _ (terms : CheckTerms) (old mid new : DeskView) (held : (name : List ℕ) → mid.held name ≡ old.held name) (outputs : KeepsOutputs old mid) (only : ChangesPrinted mid new) where
   reads_before : (name : List ℕ) (grammar : Grammar) (lines : List (List ℕ)) → ReadsReport mid name grammar lines → ReadsReport old name grammar lines
   reads_before name grammar lines reads = record {
     bytes = reads.bytes;
@@ -167,7 +166,7 @@ verdict_taken {terms} {files} {old} {mid} takes late only verdict judges = recor
 }
 
 -- and then the line was written
-module _ (terms : CheckTerms) (old mid new : DeskView) (verdict : Verdict) (is_verdict : IsVerdictOf old terms verdict) (outputs : (output : Output) → mid.outputs output ≡ old.outputs output) (only : ChangesOutput Fore mid new) where
+module _ (terms : CheckTerms) (old mid new : DeskView) (verdict : Verdict) (is_verdict : IsVerdictOf old terms verdict) (outputs : KeepsOutputs old mid) (only : ChangesOutput Fore mid new) where
   pub but_fore : KeepsBut Fore old new
   but_fore = λ output no_fore no_note. only.outputs output no_fore ∙ outputs output
 

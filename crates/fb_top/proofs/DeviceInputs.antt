@@ -31,7 +31,7 @@ use Rattle.fb_top.specs.Devices.{Array, ReadsTraces, StopsArray, StopsRebuild, S
 use Rattle.fb_top.proofs.Later.{at_params, at_trace, ends_at_trace, is_accepted}
 
 -- the names of an array's files, and its first device
-abbrev sources : ArrayTerms → SourceTerms
+abbrev pub sources : ArrayTerms → SourceTerms
 sources terms = record { params = terms.params; trace = terms.trace; calls = None; device = 0 }
 
 -- why the parameter file was not read

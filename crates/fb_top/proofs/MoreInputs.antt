@@ -6,7 +6,6 @@ use Rattle.fb_desk.specs.Calls.{ChangesInput, Rose}
 use Rattle.fb_desk.specs.View.{DeskView, InputView, IsUnused}
 use Rattle.fb_desk.specs.declared.desk.Input.{Input}
 use Rattle.fb_desk.specs.declared.desk.Input.TheVariants.{Params, Trace, Calls, Puts, ForeReport, BackReport}
-use Rattle.fb_desk.specs.declared.desk.Output.{Output}
 use Rattle.fb_top.specs.declared.outcome.Outcome.{Outcome}
 use Rattle.fb_top.specs.declared.outcome.Outcome.TheVariants as outcomes
 use Rattle.fb_report.specs.declared.reading.Report.{Report}
@@ -16,6 +15,7 @@ use Rattle.fb_top.specs.Causes.{AcceptsBefore, AcceptsFiles, EndsAt, StopsInputs
 use Rattle.fb_top.specs.Opened.{IsOpenedAs, OpensAsNamed}
 use Rattle.fb_top.specs.Read.{AcceptsPuts, Files}
 use Rattle.fb_top.specs.Sources.{InputTerms, SourceTerms, files_alone, name_of}
+use Rattle.fb_top.specs.Taken.{KeepsOutputs}
 use Rattle.fb_top.specs.Unnamed.{KeepsUnnamed}
 use Rattle.fb_top.proofs.Later.{has_name}
 use Rattle.fb_top.proofs.Opened.{told_before, unopened}
@@ -87,8 +87,11 @@ module _ (terms : InputTerms) (old new : DeskView) where
     files_opened unused opened BackReport name given = unopened BackReport name old new unused (unnamed BackReport refl)
 
 -- the files were read, and then the puts
-module _ (terms : InputTerms) (old mid new : DeskView) (held : (name : List ℕ) → mid.held name ≡ old.held name) (outputs : (output : Output) → mid.outputs output ≡ old.outputs output)
-    (unnamed : KeepsUnnamed (files_alone terms.sources) old mid) (only : ChangesInput Puts mid new) where
+module _ (terms : InputTerms) (sources : SourceTerms) (same : sources ≡ terms.sources) (old mid new : DeskView) (held : (name : List ℕ) → mid.held name ≡ old.held name)
+    (outputs : KeepsOutputs old mid) (keeps : KeepsUnnamed (files_alone sources) old mid) (only : ChangesInput Puts mid new) where
+  unnamed : KeepsUnnamed (files_alone terms.sources) old mid
+  unnamed = subst (λ (s : SourceTerms). KeepsUnnamed (files_alone s) old mid) same keeps
+
   ends_at_puts : EndsAt Puts old new
   ends_at_puts = record {
     later = (only.inputs ForeReport (λ e. cc) ∙ unnamed ForeReport refl, only.inputs BackReport (λ e. cc) ∙ unnamed BackReport refl);

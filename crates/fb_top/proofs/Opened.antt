@@ -16,6 +16,7 @@ use Rattle.fb_top.specs.Streams.{IsLeftOf}
 use Rattle.fb_top.specs.Calm.{AreInputsCalm, AreOutputsCalm, IsCalm, MeetsNoFault}
 use Rattle.fb_top.specs.Opened.{IsOpenedAs, OpensAsNamed, OpensNamed}
 use Rattle.fb_top.specs.Noted.{LeavesNote}
+use Rattle.fb_top.specs.Taken.{KeepsOutputs}
 use Rattle.fb_top.specs.Unnamed.{KeepsInputs}
 use Rattle.fb_top.proofs.Unnamed.{is_named}
 use Rattle.fb_top.proofs.Later.{trace_is_no_params, calls_are_no_params, calls_are_no_trace}
@@ -103,63 +104,21 @@ calm_inputs old mid late new first second third params trace script BackReport =
     ap (λ (v : InputView). v.faults) (third.inputs BackReport (λ e. cc) ∙ second.inputs BackReport (λ e. cc) ∙ first.inputs BackReport (λ e. cc))
 
 -- inputs were read, and then outputs written
-pub calm_both : (old mid new : DeskView) → AreInputsCalm old mid → ((output : Output) → mid.outputs output ≡ old.outputs output) → KeepsInputs mid new → AreOutputsCalm mid new → IsCalm old new
+pub calm_both : (old mid new : DeskView) → AreInputsCalm old mid → KeepsOutputs old mid → KeepsInputs mid new → AreOutputsCalm mid new → IsCalm old new
 calm_both old mid new read same keeps written = record {
   inputs = λ input. ap (λ (v : InputView). v.faults) (keeps input) ∙ read input;
   outputs = λ output. written output ∙ ap (λ (v : OutputView). v.faults) (same output);
 }
 
--- an output was written, and no other was touched
-pub calm_output : (which : Output) (old new : DeskView) → ChangesOutput which old new → (new.outputs which).faults ≡ (old.outputs which).faults → AreOutputsCalm old new
-calm_output Fore old new only calm Fore = calm
-calm_output Fore old new only calm Back = ap (λ (v : OutputView). v.faults) (only.outputs Back (λ e. cc))
-calm_output Fore old new only calm Spill = ap (λ (v : OutputView). v.faults) (only.outputs Spill (λ e. cc))
-calm_output Fore old new only calm Note = ap (λ (v : OutputView). v.faults) (only.outputs Note (λ e. cc))
-calm_output Fore old new only calm MadeTrace = ap (λ (v : OutputView). v.faults) (only.outputs MadeTrace (λ e. cc))
-calm_output Fore old new only calm MadeCalls = ap (λ (v : OutputView). v.faults) (only.outputs MadeCalls (λ e. cc))
-calm_output Fore old new only calm Copied = ap (λ (v : OutputView). v.faults) (only.outputs Copied (λ e. cc))
-calm_output Back old new only calm Fore = ap (λ (v : OutputView). v.faults) (only.outputs Fore (λ e. cc))
-calm_output Back old new only calm Back = calm
-calm_output Back old new only calm Spill = ap (λ (v : OutputView). v.faults) (only.outputs Spill (λ e. cc))
-calm_output Back old new only calm Note = ap (λ (v : OutputView). v.faults) (only.outputs Note (λ e. cc))
-calm_output Back old new only calm MadeTrace = ap (λ (v : OutputView). v.faults) (only.outputs MadeTrace (λ e. cc))
-calm_output Back old new only calm MadeCalls = ap (λ (v : OutputView). v.faults) (only.outputs MadeCalls (λ e. cc))
-calm_output Back old new only calm Copied = ap (λ (v : OutputView). v.faults) (only.outputs Copied (λ e. cc))
-calm_output Spill old new only calm Fore = ap (λ (v : OutputView). v.faults) (only.outputs Fore (λ e. cc))
-calm_output Spill old new only calm Back = ap (λ (v : OutputView). v.faults) (only.outputs Back (λ e. cc))
-calm_output Spill old new only calm Spill = calm
-calm_output Spill old new only calm Note = ap (λ (v : OutputView). v.faults) (only.outputs Note (λ e. cc))
-calm_output Spill old new only calm MadeTrace = ap (λ (v : OutputView). v.faults) (only.outputs MadeTrace (λ e. cc))
-calm_output Spill old new only calm MadeCalls = ap (λ (v : OutputView). v.faults) (only.outputs MadeCalls (λ e. cc))
-calm_output Spill old new only calm Copied = ap (λ (v : OutputView). v.faults) (only.outputs Copied (λ e. cc))
-calm_output Note old new only calm Fore = ap (λ (v : OutputView). v.faults) (only.outputs Fore (λ e. cc))
-calm_output Note old new only calm Back = ap (λ (v : OutputView). v.faults) (only.outputs Back (λ e. cc))
-calm_output Note old new only calm Spill = ap (λ (v : OutputView). v.faults) (only.outputs Spill (λ e. cc))
-calm_output Note old new only calm Note = calm
-calm_output Note old new only calm MadeTrace = ap (λ (v : OutputView). v.faults) (only.outputs MadeTrace (λ e. cc))
-calm_output Note old new only calm MadeCalls = ap (λ (v : OutputView). v.faults) (only.outputs MadeCalls (λ e. cc))
-calm_output Note old new only calm Copied = ap (λ (v : OutputView). v.faults) (only.outputs Copied (λ e. cc))
-calm_output MadeTrace old new only calm Fore = ap (λ (v : OutputView). v.faults) (only.outputs Fore (λ e. cc))
-calm_output MadeTrace old new only calm Back = ap (λ (v : OutputView). v.faults) (only.outputs Back (λ e. cc))
-calm_output MadeTrace old new only calm Spill = ap (λ (v : OutputView). v.faults) (only.outputs Spill (λ e. cc))
-calm_output MadeTrace old new only calm Note = ap (λ (v : OutputView). v.faults) (only.outputs Note (λ e. cc))
-calm_output MadeTrace old new only calm MadeTrace = calm
-calm_output MadeTrace old new only calm MadeCalls = ap (λ (v : OutputView). v.faults) (only.outputs MadeCalls (λ e. cc))
-calm_output MadeTrace old new only calm Copied = ap (λ (v : OutputView). v.faults) (only.outputs Copied (λ e. cc))
-calm_output MadeCalls old new only calm Fore = ap (λ (v : OutputView). v.faults) (only.outputs Fore (λ e. cc))
-calm_output MadeCalls old new only calm Back = ap (λ (v : OutputView). v.faults) (only.outputs Back (λ e. cc))
-calm_output MadeCalls old new only calm Spill = ap (λ (v : OutputView). v.faults) (only.outputs Spill (λ e. cc))
-calm_output MadeCalls old new only calm Note = ap (λ (v : OutputView). v.faults) (only.outputs Note (λ e. cc))
-calm_output MadeCalls old new only calm MadeTrace = ap (λ (v : OutputView). v.faults) (only.outputs MadeTrace (λ e. cc))
-calm_output MadeCalls old new only calm MadeCalls = calm
-calm_output MadeCalls old new only calm Copied = ap (λ (v : OutputView). v.faults) (only.outputs Copied (λ e. cc))
-calm_output Copied old new only calm Fore = ap (λ (v : OutputView). v.faults) (only.outputs Fore (λ e. cc))
-calm_output Copied old new only calm Back = ap (λ (v : OutputView). v.faults) (only.outputs Back (λ e. cc))
-calm_output Copied old new only calm Spill = ap (λ (v : OutputView). v.faults) (only.outputs Spill (λ e. cc))
-calm_output Copied old new only calm Note = ap (λ (v : OutputView). v.faults) (only.outputs Note (λ e. cc))
-calm_output Copied old new only calm MadeTrace = ap (λ (v : OutputView). v.faults) (only.outputs MadeTrace (λ e. cc))
-calm_output Copied old new only calm MadeCalls = ap (λ (v : OutputView). v.faults) (only.outputs MadeCalls (λ e. cc))
-calm_output Copied old new only calm Copied = calm
+-- the note was written, and no other output was touched
+calm_note : (old new : DeskView) → ChangesOutput Note old new → (new.outputs Note).faults ≡ (old.outputs Note).faults → AreOutputsCalm old new
+calm_note old new only calm Note = calm
+calm_note old new only calm Fore = ap (λ (v : OutputView). v.faults) (only.outputs Fore (λ e. cc))
+calm_note old new only calm Back = ap (λ (v : OutputView). v.faults) (only.outputs Back (λ e. cc))
+calm_note old new only calm Spill = ap (λ (v : OutputView). v.faults) (only.outputs Spill (λ e. cc))
+calm_note old new only calm MadeTrace = ap (λ (v : OutputView). v.faults) (only.outputs MadeTrace (λ e. cc))
+calm_note old new only calm MadeCalls = ap (λ (v : OutputView). v.faults) (only.outputs MadeCalls (λ e. cc))
+calm_note old new only calm Copied = ap (λ (v : OutputView). v.faults) (only.outputs Copied (λ e. cc))
 
 pub calm_outputs : (old mid new : DeskView) → AreOutputsCalm old mid → AreOutputsCalm mid new → AreOutputsCalm old new
 calm_outputs old mid new first second = λ output. second output ∙ first output
@@ -167,7 +126,7 @@ calm_outputs old mid new first second = λ output. second output ∙ first outpu
 is_calm_after : (old mid new : DeskView) → IsCalm old mid → ChangesOutput Note mid new → (new.outputs Note).faults ≡ (mid.outputs Note).faults → IsCalm old new
 is_calm_after old mid new calm only note = record {
   inputs = λ input. ap (λ (v : InputView). v.faults) (only.inputs input) ∙ calm.inputs input;
-  outputs = calm_outputs old mid new calm.outputs (calm_output Note mid new only note);
+  outputs = calm_outputs old mid new calm.outputs (calm_note mid new only note);
 }
 
 -- the note is left as it is where something was done

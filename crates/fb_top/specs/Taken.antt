@@ -1,11 +1,19 @@
 -- What is known once the inputs of a command were accepted, and before it does anything else.
-use Rattle.std.specs.Prelude.{◌≡◌, ℕ, List, Option}
+use Rattle.std.specs.Prelude.{◌≡◌, ℕ, List, Option, Some, None}
+use Rattle.fb_bgwrite.specs.declared.items.SpillRun.{SpillRun}
 use Rattle.fb_geometry.specs.Sound.{IsSound}
 use Rattle.fb_puts.specs.Reading.{Accepted as PutsRead}
+use Rattle.fb_script.specs.Verdict.{accepted as accepted_calls}
+use Rattle.fb_service.specs.declared.disk.Disk.{Disk}
+use Rattle.fb_trace.specs.Verdict.{accepted}
 use Rattle.fb_desk.specs.View.{DeskView}
 use Rattle.fb_desk.specs.declared.desk.Output.{Output}
 use Rattle.fb_model.specs.Accepted.{IsAccepted}
+use Rattle.fb_rows.specs.declared.run.Run.{Run}
 use Rattle.fb_words.specs.Command.{ArrayTerms, CheckTerms, ReplayTerms}
+use Rattle.fb_top.specs.declared.outcome.Outcome.{Outcome}
+use Rattle.fb_top.specs.declared.outcome.Outcome.TheVariants as outcomes
+use Rattle.fb_top.specs.declared.reading.Load.{Load}
 use Rattle.fb_top.specs.Devices.{AcceptsArray, Array}
 use Rattle.fb_top.specs.Read.{Accepts, AcceptsPuts, Files, inputs_of, key_of}
 use Rattle.fb_top.specs.Sources.{array_inputs, check_sources, files_alone, replay_inputs, replay_sources}
@@ -15,6 +23,10 @@ use Rattle.fb_top.specs.Unnamed.{KeepsUnnamed}
 abbrev pub KeepsOutputs : DeskView → DeskView → Type 0
 KeepsOutputs old new = (output : Output) → new.outputs output ≡ old.outputs output
 
+-- what the files of a replay say, with a disk that was read before the others
+abbrev pub files_on : Disk → List ℕ → Load → Files
+files_on disk latent load = record { disk = disk; latent = latent; trace = accepted load.trace; script = accepted_calls load.calls }
+
 -- the files and the puts of a replay were accepted, and nothing else was touched
 pub record TakesReplay (terms : ReplayTerms) (files : Files) (puts : Option PutsRead) (old new : DeskView) : Type 0 where
   pub accepts : Accepts old (replay_sources terms) files
@@ -23,6 +35,11 @@ pub record TakesReplay (terms : ReplayTerms) (files : Files) (puts : Option Puts
   pub fit : IsAccepted (inputs_of files (key_of terms.policy) terms.until)
   pub unnamed : KeepsUnnamed (replay_inputs terms) old new
   pub outputs : KeepsOutputs old new
+
+-- the outcome of a replay that is done
+abbrev pub done_as : Run → Option SpillRun → Outcome
+done_as run None = outcomes.Done run
+done_as run (Some spill) = outcomes.Spilled run spill
 
 -- the files of a check were accepted, and nothing else was touched
 pub record TakesCheck (terms : CheckTerms) (files : Files) (old new : DeskView) : Type 0 where

@@ -1,11 +1,10 @@
 // The inputs of an array, read whole and judged for each device.
-ghost use Rattle.std.specs.Prelude.{◌≡◌, ℕ, ◌<◌, Some, true, false, map, length, slice_get, IfErr, IfOk, IfSome};
+ghost use Rattle.std.specs.Prelude.{◌≡◌, List, ℕ, ◌<◌, Some, true, false, map, length, slice_get, IfErr, IfOk, IfSome};
 ghost use Rattle.std.specs.List.{AllByRecursion};
 ghost use Rattle.fb_geometry.specs.Places.{places};
 ghost use Rattle.fb_geometry.specs.Sound.{IsSound};
 ghost use Rattle.fb_desk.specs.Calls.{ChangesInput};
-ghost use Rattle.fb_desk.specs.View.{IsUnused};
-ghost use Rattle.fb_desk.specs.declared.desk.Output.{Output};
+ghost use Rattle.fb_desk.specs.View.{DeskView, IsUnused};
 ghost use Rattle.fb_trace.specs.Reading.{Accepted};
 ghost use Rattle.fb_trace.specs.Servable.{IsTraceOf};
 ghost use Rattle.fb_trace.specs.Verdict.{accepted};
@@ -19,7 +18,9 @@ ghost use Rattle.fb_words.specs.Verdict.{array_terms};
 ghost use Rattle.fb_top.specs.Calm.{AreInputsCalm};
 ghost use Rattle.fb_top.specs.Devices.{AcceptsArray, ReadsRebuild, ReadsTraces, StopsArray, StopsRebuild, StopsTraces, array_of, device_inputs, is_rebuilt_from};
 ghost use Rattle.fb_top.specs.Opened.{IsOpenedAs, OpensAsNamed};
+ghost use Rattle.fb_top.specs.Read.{ReadsDisk};
 ghost use Rattle.fb_top.specs.Sources.{array_inputs};
+ghost use Rattle.fb_top.specs.Taken.{KeepsOutputs};
 ghost use Rattle.fb_top.specs.Unnamed.{KeepsUnnamed};
 
 use crate::Outcome;
@@ -47,6 +48,15 @@ pub struct ArrayFiles {
     pub calls: Calls,
 }
 
+// What the devices have to serve.
+#[derive(Drop)]
+struct Loads {
+    // The requests of each device, by device.
+    traces: Vec<Trace>,
+    // The calls of the rebuild; none where there is no rebuild.
+    calls: Calls,
+}
+
 /// Reads the files of an array, the parameter file and then the trace, and the script of the
 /// rebuild, if there is one.
 ///
@@ -58,7 +68,7 @@ pub fn read_array<D: Desk>(
 ) -> Result<ArrayFiles, Outcome>
     requires unused { IsUnused (D.seen desk.old) }
     requires limits { IsWithinLimits (arrays (array_terms words.now)) }
-    ensures outputs { (output : Output) → (D.seen desk.new).outputs output ≡ (D.seen desk.old).outputs output }
+    ensures outputs { KeepsOutputs (D.seen desk.old) (D.seen desk.new) }
     ensures accepts { IfOk result (λ files. AcceptsArray (D.seen desk.old) (array_terms words.now) (array_of files)) }
     ensures fit { IfOk result (λ files. (device : ℕ) (trace : Accepted) → slice_get (array_of files).traces device ≡ Some trace → IsAccepted (device_inputs (array_terms words.now) (array_of files) device trace)) }
     ensures sound { IfOk result (λ files. IsSound files.params.disk.map) }
@@ -73,17 +83,44 @@ pub fn read_array<D: Desk>(
         Err(outcome) => return Err(outcome),
     };
     params.disk.map.geometry().sound();
-    let name = words.trace.as_str();
-    let traces = match read_devices(alloc, desk, name, words.devices, &params.disk) {
+    match read_loads(alloc, desk, words, &params.disk) {
+        Ok(loads) => Ok(ArrayFiles {
+            params,
+            traces: loads.traces,
+            calls: loads.calls,
+        }),
+        Err(outcome) => Err(outcome),
+    }
+}
+
+// Reads what the devices have to serve, on a disk that was read: the trace, and then the script of
+// the rebuild, if there is one.
+//
+// The error is the outcome: the trace can't be read or is refused, or the script is refused.
+fn read_loads<D: Desk>(
+    alloc: Global,
+    desk: &mut D,
+    words: &ArrayWords,
+    disk: &Disk,
+) -> Result<Loads, Outcome>
+    requires fresh { ((D.seen desk.old).inputs Input.Trace).opened ≡ false }
+    requires limits { IsWithinLimits (arrays (array_terms words.now)) }
+    ensures only { ChangesInput Input.Trace (D.seen desk.old) (D.seen desk.new) }
+    ensures opened { IsOpenedAs (array_terms words.now).trace (D.seen desk.old) ((D.seen desk.new).inputs Input.Trace) }
+    ensures calm { IfOk result (λ _. ((D.seen desk.new).inputs Input.Trace).faults ≡ ((D.seen desk.old).inputs Input.Trace).faults) }
+    ensures traces { IfOk result (λ loads. ReadsTraces (D.seen desk.old) (array_terms words.now).trace (array_terms words.now).devices disk.now (map accepted loads.traces.items)) }
+    ensures servable { IfOk result (λ loads. AllByRecursion (λ trace. IsTraceOf (length (places disk.now.map)) trace.requests.items) loads.traces.items) }
+    ensures script { IfOk result (λ loads. ReadsRebuild (array_terms words.now).rebuild disk.now.map (accepted_calls loads.calls)) }
+    ensures fit { IfOk result (λ loads. (device : ℕ) (trace : Trace) → slice_get loads.traces.items device ≡ Some trace → is_rebuilt_from (array_terms words.now).rebuild device ≡ true → IsScript disk.now.map (length trace.requests.items) loads.calls.calls.items) }
+    ensures names { IfOk result (λ loads. length loads.calls.names ≡ length (tasks loads.calls.calls.items)) }
+    ensures cause { IfErr result (λ outcome. (first : DeskView) (latent : List ℕ) → ReadsDisk first (array_terms words.now).params disk.now latent → ChangesInput Input.Params first (D.seen desk.old) → StopsArray (array_terms words.now) first (D.seen desk.new) outcome) }
+{
+    let traces = match read_devices(alloc, desk, words.trace.as_str(), words.devices, disk) {
         Ok(traces) => traces,
         Err(outcome) => return Err(outcome),
     };
-    match read_rebuild(alloc, words, &params.disk, traces.as_slice()) {
-        Ok(calls) => Ok(ArrayFiles {
-            params,
-            traces,
-            calls,
-        }),
+    match read_rebuild(alloc, words, disk, traces.as_slice()) {
+        Ok(calls) => Ok(Loads { traces, calls }),
         Err(outcome) => Err(outcome),
     }
 }

@@ -5,7 +5,6 @@ ghost use Rattle.fb_puts.specs.Verdict.{accepted};
 ghost use Rattle.fb_calls.specs.Allowed.{tasks};
 ghost use Rattle.fb_desk.specs.Calls.{ChangesInput};
 ghost use Rattle.fb_desk.specs.View.{IsUnused};
-ghost use Rattle.fb_desk.specs.declared.desk.Output.{Output};
 ghost use Rattle.fb_geometry.specs.Sound.{IsSound};
 ghost use Rattle.fb_model.specs.Accepted.{IsAccepted};
 ghost use Rattle.fb_words.specs.Verdict.{replay_terms};
@@ -15,6 +14,7 @@ ghost use Rattle.fb_top.specs.Opened.{IsOpenedAs, OpensAsNamed};
 ghost use Rattle.fb_top.specs.Read.{Accepts, AcceptsPuts, ReadsPuts, files_of, inputs_of, key_of};
 ghost use Rattle.fb_top.specs.Sources.{replay_inputs, replay_sources, sources_of};
 ghost use Rattle.fb_top.specs.Spilled.{CanBeSpilled};
+ghost use Rattle.fb_top.specs.Taken.{KeepsOutputs};
 ghost use Rattle.fb_top.specs.Unnamed.{KeepsUnnamed};
 
 use crate::Outcome;
@@ -48,7 +48,7 @@ pub fn read_replay<D: Desk>(
 ) -> Result<ReplayInputs, Outcome>
     requires unused { IsUnused (D.seen desk.old) }
     requires until { words.now.until ≤ 10 ^ 15 }
-    ensures outputs { (output : Output) → (D.seen desk.new).outputs output ≡ (D.seen desk.old).outputs output }
+    ensures outputs { KeepsOutputs (D.seen desk.old) (D.seen desk.new) }
     ensures accepts { IfOk result (λ inputs. Accepts (D.seen desk.old) (replay_sources (replay_terms words.now)) (files_of inputs.files)) }
     ensures puts { IfOk result (λ inputs. AcceptsPuts (D.seen desk.old) (replay_terms words.now).puts (files_of inputs.files) (option_map accepted inputs.puts)) }
     ensures fit { IfOk result (λ inputs. IsAccepted (inputs_of (files_of inputs.files) (key_of words.now.policy) words.now.until)) }

@@ -5,8 +5,7 @@ ghost use Rattle.std.specs.Option.{option_map};
 ghost use Rattle.fb_geometry.specs.Places.{places};
 ghost use Rattle.fb_geometry.specs.Sound.{IsSound};
 ghost use Rattle.fb_desk.specs.Calls.{ChangesInput};
-ghost use Rattle.fb_desk.specs.View.{IsUnused};
-ghost use Rattle.fb_desk.specs.declared.desk.Output.{Output};
+ghost use Rattle.fb_desk.specs.View.{DeskView, IsUnused};
 ghost use Rattle.fb_trace.specs.Servable.{IsTraceOf};
 ghost use Rattle.fb_trace.specs.Verdict.{accepted};
 ghost use Rattle.fb_calls.specs.Allowed.{IsScript, tasks};
@@ -17,6 +16,7 @@ ghost use Rattle.fb_model.specs.PlainReplay.{Key};
 ghost use Rattle.fb_top.specs.Sources.{files_alone, sources_of};
 ghost use Rattle.fb_top.specs.Read.{Accepts, ReadsCalls, ReadsDisk, ReadsScript, ReadsTrace, files_of, inputs_of};
 ghost use Rattle.fb_top.specs.Causes.{StopsCalls, StopsDisk, StopsInputs, StopsReport, StopsScript, StopsTrace, input_of};
+ghost use Rattle.fb_top.specs.Taken.{KeepsOutputs, files_on};
 ghost use Rattle.fb_top.specs.Unnamed.{KeepsUnnamed};
 ghost use Rattle.fb_top.specs.Opened.{IsOpenedAs, OpensAsNamed};
 ghost use Rattle.fb_top.specs.Streams.{IsHeld};
@@ -71,6 +71,15 @@ pub struct ReplayFiles {
     pub calls: Calls,
 }
 
+// What a disk has to serve.
+#[derive(Drop)]
+struct Load {
+    // The requests of one device, in order of arrival.
+    trace: Trace,
+    // The calls, in order of instant, and the names of their tasks.
+    calls: Calls,
+}
+
 impl ReplayFiles {
     /// The inputs of a replay of these files. `until` is how long the head may go on reading when no request
     /// and no call is left, in ns, at most 10^15.
@@ -99,7 +108,7 @@ pub fn read_inputs<D: Desk>(
 ) -> Result<ReplayFiles, Outcome>
     requires { IsUnused (D.seen desk.old) }
     ensures held { (name : List ℕ) → (D.seen desk.new).held name ≡ (D.seen desk.old).held name }
-    ensures outputs { (output : Output) → (D.seen desk.new).outputs output ≡ (D.seen desk.old).outputs output }
+    ensures outputs { KeepsOutputs (D.seen desk.old) (D.seen desk.new) }
     ensures accepts { IfOk result (λ files. Accepts (D.seen desk.old) (sources_of sources.now) (files_of files)) }
     ensures fit { IfOk result (λ files. (key : Key) (until : ℕ) → until ≤ 10 ^ 15 → IsAccepted (inputs_of (files_of files) key until)) }
     ensures sound { IfOk result (λ files. IsSound files.params.disk.map) }
@@ -114,18 +123,46 @@ pub fn read_inputs<D: Desk>(
         Err(outcome) => return Err(outcome),
     };
     params.disk.map.geometry().sound();
-    let trace = match read_requests(alloc, desk, sources.trace, sources.device, &params.disk) {
+    match read_load(alloc, desk, sources, &params.disk) {
+        Ok(load) => Ok(ReplayFiles {
+            params,
+            trace: load.trace,
+            calls: load.calls,
+        }),
+        Err(outcome) => Err(outcome),
+    }
+}
+
+// Reads what a disk that was read has to serve: the trace, and then the script, if any.
+//
+// The error is the outcome of the first file that can't be read or is refused.
+fn read_load<D: Desk>(
+    alloc: Global,
+    desk: &mut D,
+    sources: &Sources<'_>,
+    disk: &Disk,
+) -> Result<Load, Outcome>
+    requires fresh_trace { ((D.seen desk.old).inputs Input.Trace).opened ≡ false }
+    requires fresh_calls { ((D.seen desk.old).inputs Input.Calls).opened ≡ false }
+    ensures held { (name : List ℕ) → (D.seen desk.new).held name ≡ (D.seen desk.old).held name }
+    ensures outputs { KeepsOutputs (D.seen desk.old) (D.seen desk.new) }
+    ensures accepts { IfOk result (λ load. (first : DeskView) (latent : List ℕ) → ReadsDisk first (sources_of sources.now).params disk.now latent → ChangesInput Input.Params first (D.seen desk.old) → Accepts first (sources_of sources.now) (files_on disk.now latent load)) }
+    ensures servable { IfOk result (λ load. IsTraceOf (length (places disk.now.map)) load.trace.requests.items) }
+    ensures fit { IfOk result (λ load. IsScript disk.now.map (length load.trace.requests.items) load.calls.calls.items) }
+    ensures names { IfOk result (λ load. length load.calls.names ≡ length (tasks load.calls.calls.items)) }
+    ensures cause { IfErr result (λ outcome. (first : DeskView) (latent : List ℕ) → ReadsDisk first (sources_of sources.now).params disk.now latent → ChangesInput Input.Params first (D.seen desk.old) → StopsInputs (files_alone (sources_of sources.now)) first (D.seen desk.new) outcome) }
+    ensures unnamed { (first : DeskView) → ChangesInput Input.Params first (D.seen desk.old) → KeepsUnnamed (files_alone (sources_of sources.now)) first (D.seen desk.new) }
+    ensures opened { (first : DeskView) → IsUnused first → ChangesInput Input.Params first (D.seen desk.old) → IsOpenedAs (sources_of sources.now).params first ((D.seen desk.old).inputs Input.Params) → OpensAsNamed (files_alone (sources_of sources.now)) first (D.seen desk.new) }
+    ensures calm { IfOk result (λ _. (first : DeskView) → ChangesInput Input.Params first (D.seen desk.old) → ((D.seen desk.old).inputs Input.Params).faults ≡ (first.inputs Input.Params).faults → AreInputsCalm first (D.seen desk.new)) }
+{
+    let trace = match read_requests(alloc, desk, sources.trace, sources.device, disk) {
         Ok(trace) => trace,
         Err(outcome) => return Err(outcome),
     };
     let requests = trace.requests.as_slice();
     let traced = requests.len() as u64;
-    match read_script(alloc, desk, sources.calls, &params.disk, traced) {
-        Ok(calls) => Ok(ReplayFiles {
-            params,
-            trace,
-            calls,
-        }),
+    match read_script(alloc, desk, sources.calls, disk, traced) {
+        Ok(calls) => Ok(Load { trace, calls }),
         Err(outcome) => Err(outcome),
     }
 }

@@ -1,58 +1,92 @@
-use Rattle.std.proofs.Common.{List, ℕ, ◌≡◌, ◌<◌, arith, length, map, refl, sym, subst, Some, true}
-use Rattle.std.specs.Prelude.{IfSome, slice_get}
-use Rattle.std.proofs.lemmas.List.{length-map}
-use Rattle.fb_trace.specs.declared.trace.Trace.{Trace}
+use Rattle.std.proofs.Common.{List, ℕ, map, refl, subst}
+use Rattle.fb_desk.specs.declared.desk.Input.TheVariants.{Params, Calls}
+use Rattle.fb_geometry.specs.Sound.{IsSound}
 use Rattle.fb_trace.specs.Verdict.{accepted}
-use Rattle.fb_calls.specs.Allowed.{IsScript}
 use Rattle.fb_words.specs.Verdict.{array_terms}
-use Rattle.fb_top.specs.Causes.{AcceptsDisk}
-use Rattle.fb_top.specs.Devices.{ReadsTraces, StopsTraces, array_of, is_rebuilt_from}
+use Rattle.fb_top.specs.Causes.{StopsDisk}
+use Rattle.fb_top.specs.Devices.{array_of}
+use Rattle.fb_top.specs.Opened.{IsOpenedAs}
 use Rattle.fb_top.specs.Read.{ReadsDisk}
-use Rattle.fb_top.proofs.DeviceInputs.{array_at_rebuild, array_at_trace, each_fits, traces_before}
-use Rattle.fb_top.proofs.Values.{each_counted}
+use Rattle.fb_top.proofs.DeviceInputs.{array_at_params, each_fits, sources, traces_before}
+use Rattle.fb_top.proofs.Opened.{calm_inputs, opened_at_params, opened_at_trace}
+use Rattle.fb_top.proofs.Pieces.{input_same}
+use Rattle.fb_top.proofs.Unnamed.{unnamed_at_params, unnamed_at_trace}
 use Rattle.fb_top.proofs.devices.read_array.Goals as goal
 
-pub returns-in-Err-read_devices-clause-cause : goal.returns-in-Err-read_devices-clause-cause
-returns-in-Err-read_devices-clause-cause g c =
+pub returns-in-Err-clause-cause : goal.returns-in-Err-clause-cause
+returns-in-Err-clause-cause g c =
     let old = g.D.Desk.seen c.args.desk.now in
-    let mid = g.D.Desk.seen c.read_disk.new.desk in
-    let new = g.D.Desk.seen c.read_devices.new.desk in
+    let new = g.D.Desk.seen c.read_disk.new.desk in
+    array_at_params (array_terms c.args.words.now) old new c.in-Err.outcome c.in-Err.ensures.only
+    (subst (λ (name : List ℕ). StopsDisk name old new c.in-Err.outcome) c.as_str.ensures.value c.in-Err.ensures.stops)
+
+pub returns-in-Err-clause-unnamed : goal.returns-in-Err-clause-unnamed
+returns-in-Err-clause-unnamed g c =
+    unnamed_at_params (sources (array_terms c.args.words.now)) (g.D.Desk.seen c.args.desk.now) (g.D.Desk.seen c.read_disk.new.desk) c.in-Err.ensures.only
+
+pub returns-in-Err-clause-opened : goal.returns-in-Err-clause-opened
+returns-in-Err-clause-opened g c =
+    let old = g.D.Desk.seen c.args.desk.now in
+    let new = g.D.Desk.seen c.read_disk.new.desk in
+    opened_at_params (sources (array_terms c.args.words.now)) old c.requires.unused new c.in-Err.ensures.only
+    (subst (λ (name : List ℕ). IsOpenedAs name old (new.inputs Params)) c.as_str.ensures.value c.in-Err.ensures.opened)
+
+pub returns-in-Ok-read_loads-clause-accepts : goal.returns-in-Ok-read_loads-clause-accepts
+returns-in-Ok-read_loads-clause-accepts g c =
+    let old = g.D.Desk.seen c.args.desk.now in
     let terms = array_terms c.args.words.now in
     let disk = c.in-Ok.params.disk in
-    let latent = c.in-Ok.params.latent.items in
-    let before : AcceptsDisk old terms.params = record { disk = disk; latent = latent; reads_disk = subst (λ (name : List ℕ). ReadsDisk old name disk latent) c.as_str.ensures.value c.in-Ok.ensures.disk } in
-    array_at_trace terms old mid new c.in-Err-read_devices.outcome before c.in-Ok.ensures.only c.in-Err-read_devices.ensures.only
-    (subst (λ (name : List ℕ). StopsTraces name terms.devices disk mid new c.in-Err-read_devices.outcome) c.as_str-name.ensures.value c.in-Err-read_devices.ensures.stops)
-
-pub read_rebuild-requires : goal.read_rebuild-requires
-read_rebuild-requires g c =
-    let terms = array_terms c.args.words.now in
-    let traces = c.in-Ok-read_devices.traces.items in
-    let counted : length traces ≡ terms.devices = omega (arith, each_counted _ terms.devices (map accepted traces) c.in-Ok-read_devices.ensures.traces.spells, length-map traces accepted) in
     record {
-      device = subst (λ (given : List Trace). IfSome terms.rebuild (λ rebuild. rebuild.device < length given)) (sym c.as_slice.ensures.value)
-          (subst (λ (n : ℕ). IfSome terms.rebuild (λ rebuild. rebuild.device < n)) (sym counted) c.requires.limits.2);
+      disk = subst (λ (name : List ℕ). ReadsDisk old name disk c.in-Ok.params.latent.items) c.as_str.ensures.value c.in-Ok.ensures.disk;
+      traces = traces_before old (g.D.Desk.seen c.read_disk.new.desk) terms.trace terms.devices disk (map accepted c.in-Ok-read_loads.loads.traces.items)
+          c.in-Ok.ensures.only c.in-Ok-read_loads.ensures.traces;
+      script = c.in-Ok-read_loads.ensures.script;
     }
 
-pub returns-in-Ok-read_rebuild-clause-fit : goal.returns-in-Ok-read_rebuild-clause-fit
-returns-in-Ok-read_rebuild-clause-fit g c =
-    let terms = array_terms c.args.words.now in
-    let array = array_of (record { params = c.in-Ok.params; traces = c.in-Ok-read_devices.traces; calls = c.in-Ok-read_rebuild.calls }) in
-    each_fits terms array c.in-Ok-read_devices.traces.items refl c.in-Ok.ensures.latent c.in-Ok-read_devices.ensures.servable
-    (subst (λ (given : List Trace). (device : ℕ) (trace : Trace) → slice_get given device ≡ Some trace → is_rebuilt_from terms.rebuild device ≡ true
-    → IsScript array.disk.map (length trace.requests.items) array.script.calls) c.as_slice.ensures.value c.in-Ok-read_rebuild.ensures.fit)
-    c.requires.limits.3
+pub returns-in-Ok-read_loads-clause-fit : goal.returns-in-Ok-read_loads-clause-fit
+returns-in-Ok-read_loads-clause-fit g c =
+    let loads = c.in-Ok-read_loads.loads in
+    each_fits (array_terms c.args.words.now) (array_of (record { params = c.in-Ok.params; traces = loads.traces; calls = loads.calls })) loads.traces.items refl
+    c.in-Ok.ensures.latent c.in-Ok-read_loads.ensures.servable c.in-Ok-read_loads.ensures.fit c.requires.limits.3
 
-pub returns-in-Err-read_rebuild-clause-cause : goal.returns-in-Err-read_rebuild-clause-cause
-returns-in-Err-read_rebuild-clause-cause g c =
+pub returns-in-Ok-read_loads-clause-sound : goal.returns-in-Ok-read_loads-clause-sound
+returns-in-Ok-read_loads-clause-sound g c = subst IsSound c.geometry.ensures c.sound.ensures
+
+pub returns-in-Ok-read_loads-clause-unnamed : goal.returns-in-Ok-read_loads-clause-unnamed
+returns-in-Ok-read_loads-clause-unnamed g c =
+    unnamed_at_trace (sources (array_terms c.args.words.now)) (g.D.Desk.seen c.args.desk.now) (g.D.Desk.seen c.read_disk.new.desk) (g.D.Desk.seen c.read_loads.new.desk)
+    c.in-Ok.ensures.only c.in-Ok-read_loads.ensures.only
+
+pub returns-in-Ok-read_loads-clause-opened : goal.returns-in-Ok-read_loads-clause-opened
+returns-in-Ok-read_loads-clause-opened g c =
     let old = g.D.Desk.seen c.args.desk.now in
     let mid = g.D.Desk.seen c.read_disk.new.desk in
-    let new = g.D.Desk.seen c.read_devices.new.desk in
-    let terms = array_terms c.args.words.now in
-    let disk = c.in-Ok.params.disk in
+    opened_at_trace (sources (array_terms c.args.words.now)) old c.requires.unused mid c.in-Ok.ensures.only
+    (subst (λ (name : List ℕ). IsOpenedAs name old (mid.inputs Params)) c.as_str.ensures.value c.in-Ok.ensures.opened)
+    (g.D.Desk.seen c.read_loads.new.desk) c.in-Ok-read_loads.ensures.only c.in-Ok-read_loads.ensures.opened
+
+pub returns-in-Ok-read_loads-clause-calm : goal.returns-in-Ok-read_loads-clause-calm
+returns-in-Ok-read_loads-clause-calm g c =
+    let new = g.D.Desk.seen c.read_loads.new.desk in
+    calm_inputs (g.D.Desk.seen c.args.desk.now) (g.D.Desk.seen c.read_disk.new.desk) new new c.in-Ok.ensures.only c.in-Ok-read_loads.ensures.only (input_same Calls new)
+    c.in-Ok.ensures.calm c.in-Ok-read_loads.ensures.calm refl
+
+pub returns-in-Err-read_loads-clause-cause : goal.returns-in-Err-read_loads-clause-cause
+returns-in-Err-read_loads-clause-cause g c =
+    let old = g.D.Desk.seen c.args.desk.now in
     let latent = c.in-Ok.params.latent.items in
-    let before : AcceptsDisk old terms.params = record { disk = disk; latent = latent; reads_disk = subst (λ (name : List ℕ). ReadsDisk old name disk latent) c.as_str.ensures.value c.in-Ok.ensures.disk } in
-    let traces = map accepted c.in-Ok-read_devices.traces.items in
-    array_at_rebuild terms old mid new c.in-Err-read_rebuild.outcome before traces
-    (traces_before old mid terms.trace terms.devices disk traces c.in-Ok.ensures.only (subst (λ (name : List ℕ). ReadsTraces mid name terms.devices disk traces) c.as_str-name.ensures.value c.in-Ok-read_devices.ensures.traces))
-    c.in-Ok.ensures.only c.in-Ok-read_devices.ensures.only c.in-Err-read_rebuild.ensures.stops
+    c.in-Err-read_loads.ensures.cause old latent
+    (subst (λ (name : List ℕ). ReadsDisk old name c.in-Ok.params.disk latent) c.as_str.ensures.value c.in-Ok.ensures.disk) c.in-Ok.ensures.only
+
+pub returns-in-Err-read_loads-clause-unnamed : goal.returns-in-Err-read_loads-clause-unnamed
+returns-in-Err-read_loads-clause-unnamed g c =
+    unnamed_at_trace (sources (array_terms c.args.words.now)) (g.D.Desk.seen c.args.desk.now) (g.D.Desk.seen c.read_disk.new.desk) (g.D.Desk.seen c.read_loads.new.desk)
+    c.in-Ok.ensures.only c.in-Err-read_loads.ensures.only
+
+pub returns-in-Err-read_loads-clause-opened : goal.returns-in-Err-read_loads-clause-opened
+returns-in-Err-read_loads-clause-opened g c =
+    let old = g.D.Desk.seen c.args.desk.now in
+    let mid = g.D.Desk.seen c.read_disk.new.desk in
+    opened_at_trace (sources (array_terms c.args.words.now)) old c.requires.unused mid c.in-Ok.ensures.only
+    (subst (λ (name : List ℕ). IsOpenedAs name old (mid.inputs Params)) c.as_str.ensures.value c.in-Ok.ensures.opened)
+    (g.D.Desk.seen c.read_loads.new.desk) c.in-Err-read_loads.ensures.only c.in-Err-read_loads.ensures.opened

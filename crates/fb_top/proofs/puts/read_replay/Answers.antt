@@ -43,7 +43,7 @@ returns-in-Ok-read_given_puts-clause-puts g c =
     let terms = replay_inputs (replay_terms c.args.words.now) in
     let files = files_of c.in-Ok.files in
     let puts = option_map accepted c.in-Ok-read_given_puts.puts in
-    puts_before terms old mid new c.in-Ok.ensures.held c.in-Ok.ensures.outputs (subst (λ (s : SourceTerms). KeepsUnnamed (files_alone s) old mid) c.sources.ensures c.in-Ok.ensures.unnamed)
+    puts_before terms _ c.sources.ensures old mid new c.in-Ok.ensures.held c.in-Ok.ensures.outputs c.in-Ok.ensures.unnamed
     c.in-Ok-read_given_puts.ensures.only terms.puts files puts (subst (λ (given : Option (List ℕ)). AcceptsPuts mid given files puts) c.puts_name.ensures c.in-Ok-read_given_puts.ensures.puts)
 
 pub returns-in-Ok-read_given_puts-clause-fit : goal.returns-in-Ok-read_given_puts-clause-fit
@@ -51,31 +51,25 @@ returns-in-Ok-read_given_puts-clause-fit g c = c.in-Ok.ensures.fit (key_of c.arg
 
 pub returns-in-Ok-read_given_puts-clause-unnamed : goal.returns-in-Ok-read_given_puts-clause-unnamed
 returns-in-Ok-read_given_puts-clause-unnamed g c =
-    let old = g.D.Desk.seen c.args.desk.now in
-    let mid = g.D.Desk.seen c.read_inputs.new.desk in
-    let new = g.D.Desk.seen c.read_given_puts.new.desk in
-    let terms = replay_inputs (replay_terms c.args.words.now) in
-    puts_unnamed terms old mid new c.in-Ok.ensures.held c.in-Ok.ensures.outputs (subst (λ (s : SourceTerms). KeepsUnnamed (files_alone s) old mid) c.sources.ensures c.in-Ok.ensures.unnamed)
-    c.in-Ok-read_given_puts.ensures.only (λ none. c.in-Ok-read_given_puts.ensures.unnamed (c.puts_name.ensures ∙ none))
+    puts_unnamed (replay_inputs (replay_terms c.args.words.now)) _ c.sources.ensures
+    (g.D.Desk.seen c.args.desk.now) (g.D.Desk.seen c.read_inputs.new.desk) (g.D.Desk.seen c.read_given_puts.new.desk)
+    c.in-Ok.ensures.held c.in-Ok.ensures.outputs c.in-Ok.ensures.unnamed c.in-Ok-read_given_puts.ensures.only
+    (λ none. c.in-Ok-read_given_puts.ensures.unnamed (c.puts_name.ensures ∙ none))
 
 pub returns-in-Ok-read_given_puts-clause-opened : goal.returns-in-Ok-read_given_puts-clause-opened
 returns-in-Ok-read_given_puts-clause-opened g c =
     let old = g.D.Desk.seen c.args.desk.now in
     let mid = g.D.Desk.seen c.read_inputs.new.desk in
     let new = g.D.Desk.seen c.read_given_puts.new.desk in
-    let terms = replay_inputs (replay_terms c.args.words.now) in
-    puts_opened terms old mid new c.in-Ok.ensures.held c.in-Ok.ensures.outputs (subst (λ (s : SourceTerms). KeepsUnnamed (files_alone s) old mid) c.sources.ensures c.in-Ok.ensures.unnamed)
+    puts_opened (replay_inputs (replay_terms c.args.words.now)) _ c.sources.ensures old mid new c.in-Ok.ensures.held c.in-Ok.ensures.outputs c.in-Ok.ensures.unnamed
     c.in-Ok-read_given_puts.ensures.only c.requires.unused (subst (λ (s : SourceTerms). OpensAsNamed (files_alone s) old mid) c.sources.ensures c.in-Ok.ensures.opened)
     (subst (λ (given : Option (List ℕ)). IfSome given (λ name. IsOpenedAs name mid (new.inputs Puts))) c.puts_name.ensures c.in-Ok-read_given_puts.ensures.opened)
 
 pub returns-in-Ok-read_given_puts-clause-calm : goal.returns-in-Ok-read_given_puts-clause-calm
 returns-in-Ok-read_given_puts-clause-calm g c =
-    let old = g.D.Desk.seen c.args.desk.now in
-    let mid = g.D.Desk.seen c.read_inputs.new.desk in
-    let new = g.D.Desk.seen c.read_given_puts.new.desk in
-    let terms = replay_inputs (replay_terms c.args.words.now) in
-    puts_calm terms old mid new c.in-Ok.ensures.held c.in-Ok.ensures.outputs (subst (λ (s : SourceTerms). KeepsUnnamed (files_alone s) old mid) c.sources.ensures c.in-Ok.ensures.unnamed)
-    c.in-Ok-read_given_puts.ensures.only c.in-Ok.ensures.calm c.in-Ok-read_given_puts.ensures.calm
+    puts_calm (replay_inputs (replay_terms c.args.words.now)) _ c.sources.ensures
+    (g.D.Desk.seen c.args.desk.now) (g.D.Desk.seen c.read_inputs.new.desk) (g.D.Desk.seen c.read_given_puts.new.desk)
+    c.in-Ok.ensures.held c.in-Ok.ensures.outputs c.in-Ok.ensures.unnamed c.in-Ok-read_given_puts.ensures.only c.in-Ok.ensures.calm c.in-Ok-read_given_puts.ensures.calm
 
 pub returns-in-Err-read_given_puts-clause-cause : goal.returns-in-Err-read_given_puts-clause-cause
 returns-in-Err-read_given_puts-clause-cause g c =
@@ -85,24 +79,21 @@ returns-in-Err-read_given_puts-clause-cause g c =
     let terms = replay_inputs (replay_terms c.args.words.now) in
     let outcome = c.in-Err-read_given_puts.outcome in
     let files : AcceptsFiles old terms.sources = record { files = files_of c.in-Ok.files; accepts = subst (λ (s : SourceTerms). Accepts old s (files_of c.in-Ok.files)) c.sources.ensures c.in-Ok.ensures.accepts } in
-    puts_stopped terms old mid new c.in-Ok.ensures.held c.in-Ok.ensures.outputs (subst (λ (s : SourceTerms). KeepsUnnamed (files_alone s) old mid) c.sources.ensures c.in-Ok.ensures.unnamed)
+    puts_stopped terms _ c.sources.ensures old mid new c.in-Ok.ensures.held c.in-Ok.ensures.outputs c.in-Ok.ensures.unnamed
     c.in-Err-read_given_puts.ensures.only outcome files (subst (λ (given : Option (List ℕ)). StopsGivenPuts given files.files mid new outcome) c.puts_name.ensures c.in-Err-read_given_puts.ensures.stops)
 
 pub returns-in-Err-read_given_puts-clause-unnamed : goal.returns-in-Err-read_given_puts-clause-unnamed
 returns-in-Err-read_given_puts-clause-unnamed g c =
-    let old = g.D.Desk.seen c.args.desk.now in
-    let mid = g.D.Desk.seen c.read_inputs.new.desk in
-    let new = g.D.Desk.seen c.read_given_puts.new.desk in
-    let terms = replay_inputs (replay_terms c.args.words.now) in
-    puts_unnamed terms old mid new c.in-Ok.ensures.held c.in-Ok.ensures.outputs (subst (λ (s : SourceTerms). KeepsUnnamed (files_alone s) old mid) c.sources.ensures c.in-Ok.ensures.unnamed)
-    c.in-Err-read_given_puts.ensures.only (λ none. c.in-Err-read_given_puts.ensures.unnamed (c.puts_name.ensures ∙ none))
+    puts_unnamed (replay_inputs (replay_terms c.args.words.now)) _ c.sources.ensures
+    (g.D.Desk.seen c.args.desk.now) (g.D.Desk.seen c.read_inputs.new.desk) (g.D.Desk.seen c.read_given_puts.new.desk)
+    c.in-Ok.ensures.held c.in-Ok.ensures.outputs c.in-Ok.ensures.unnamed c.in-Err-read_given_puts.ensures.only
+    (λ none. c.in-Err-read_given_puts.ensures.unnamed (c.puts_name.ensures ∙ none))
 
 pub returns-in-Err-read_given_puts-clause-opened : goal.returns-in-Err-read_given_puts-clause-opened
 returns-in-Err-read_given_puts-clause-opened g c =
     let old = g.D.Desk.seen c.args.desk.now in
     let mid = g.D.Desk.seen c.read_inputs.new.desk in
     let new = g.D.Desk.seen c.read_given_puts.new.desk in
-    let terms = replay_inputs (replay_terms c.args.words.now) in
-    puts_opened terms old mid new c.in-Ok.ensures.held c.in-Ok.ensures.outputs (subst (λ (s : SourceTerms). KeepsUnnamed (files_alone s) old mid) c.sources.ensures c.in-Ok.ensures.unnamed)
+    puts_opened (replay_inputs (replay_terms c.args.words.now)) _ c.sources.ensures old mid new c.in-Ok.ensures.held c.in-Ok.ensures.outputs c.in-Ok.ensures.unnamed
     c.in-Err-read_given_puts.ensures.only c.requires.unused (subst (λ (s : SourceTerms). OpensAsNamed (files_alone s) old mid) c.sources.ensures c.in-Ok.ensures.opened)
     (subst (λ (given : Option (List ℕ)). IfSome given (λ name. IsOpenedAs name mid (new.inputs Puts))) c.puts_name.ensures c.in-Err-read_given_puts.ensures.opened)

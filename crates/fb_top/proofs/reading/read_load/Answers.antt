@@ -1,0 +1,85 @@
+use Rattle.std.proofs.Common.{ℕ, ap, length, subst}
+use Rattle.fb_trace.specs.Verdict.{accepted}
+use Rattle.fb_script.specs.Verdict.{accepted as accepted_calls}
+use Rattle.fb_calls.specs.Allowed.{IsScript}
+use Rattle.fb_top.specs.Sources.{sources_of}
+use Rattle.fb_top.specs.Read.{ReadsScript}
+use Rattle.fb_top.specs.Causes.{AcceptsTrace, StopsScript}
+use Rattle.fb_top.proofs.Later.{at_trace, at_script, script_before, trace_before}
+use Rattle.fb_top.proofs.Unnamed.{unnamed_at_trace, unnamed_at_calls}
+use Rattle.fb_top.proofs.Opened.{calm_inputs, opened_at_trace, opened_at_calls}
+use Rattle.fb_top.proofs.reading.read_load.Goals as goal
+
+pub returns-in-Err-clause-cause : goal.returns-in-Err-clause-cause
+returns-in-Err-clause-cause g c = λ first latent reads only.
+    at_trace (sources_of c.args.sources.now) first (g.D.Desk.seen c.args.desk.now) (g.D.Desk.seen c.read_requests.new.desk) c.in-Err.outcome
+    (record { disk = c.args.disk.now; latent = latent; reads_disk = reads }) only c.in-Err.ensures.only c.in-Err.ensures.stops
+
+pub returns-in-Err-clause-unnamed : goal.returns-in-Err-clause-unnamed
+returns-in-Err-clause-unnamed g c = λ first only.
+    unnamed_at_trace (sources_of c.args.sources.now) first (g.D.Desk.seen c.args.desk.now) (g.D.Desk.seen c.read_requests.new.desk) only c.in-Err.ensures.only
+
+pub returns-in-Err-clause-opened : goal.returns-in-Err-clause-opened
+returns-in-Err-clause-opened g c = λ first unused only opened.
+    opened_at_trace (sources_of c.args.sources.now) first unused (g.D.Desk.seen c.args.desk.now) only opened (g.D.Desk.seen c.read_requests.new.desk)
+    c.in-Err.ensures.only c.in-Err.ensures.opened
+
+pub returns-in-Ok-read_script-clause-accepts : goal.returns-in-Ok-read_script-clause-accepts
+returns-in-Ok-read_script-clause-accepts g c = λ first latent reads only.
+    let mid = g.D.Desk.seen c.args.desk.now in
+    let late = g.D.Desk.seen c.read_requests.new.desk in
+    let words = sources_of c.args.sources.now in
+    let disk = c.args.disk.now in
+    let trace = accepted c.in-Ok.trace in
+    let script = accepted_calls c.in-Ok-read_script.calls in
+    record {
+      disk = reads;
+      trace = trace_before first mid words.trace words.device disk trace only c.in-Ok.ensures.trace;
+      script = script_before first mid late words.calls disk (length trace.requests) script only c.in-Ok.ensures.only
+          (subst (λ (traced : ℕ). ReadsScript late words.calls disk traced script) (ap length c.as_slice-requests.ensures.value) c.in-Ok-read_script.ensures.script);
+    }
+
+pub returns-in-Ok-read_script-clause-fit : goal.returns-in-Ok-read_script-clause-fit
+returns-in-Ok-read_script-clause-fit g c =
+    subst (λ (traced : ℕ). IsScript c.args.disk.now.map traced c.in-Ok-read_script.calls.calls.items) (ap length c.as_slice-requests.ensures.value) c.in-Ok-read_script.ensures.fit
+
+pub returns-in-Ok-read_script-clause-unnamed : goal.returns-in-Ok-read_script-clause-unnamed
+returns-in-Ok-read_script-clause-unnamed g c = λ first only.
+    unnamed_at_calls (sources_of c.args.sources.now) first (g.D.Desk.seen c.args.desk.now) (g.D.Desk.seen c.read_requests.new.desk) (g.D.Desk.seen c.read_script.new.desk)
+    only c.in-Ok.ensures.only c.in-Ok-read_script.ensures.only c.in-Ok-read_script.ensures.unnamed
+
+pub returns-in-Ok-read_script-clause-opened : goal.returns-in-Ok-read_script-clause-opened
+returns-in-Ok-read_script-clause-opened g c = λ first unused only opened.
+    opened_at_calls (sources_of c.args.sources.now) first unused (g.D.Desk.seen c.args.desk.now) only opened (g.D.Desk.seen c.read_requests.new.desk) (g.D.Desk.seen c.read_script.new.desk)
+    c.in-Ok.ensures.only c.in-Ok.ensures.opened c.in-Ok-read_script.ensures.only c.in-Ok-read_script.ensures.opened
+
+pub returns-in-Ok-read_script-clause-calm : goal.returns-in-Ok-read_script-clause-calm
+returns-in-Ok-read_script-clause-calm g c = λ first only calm.
+    calm_inputs first (g.D.Desk.seen c.args.desk.now) (g.D.Desk.seen c.read_requests.new.desk) (g.D.Desk.seen c.read_script.new.desk)
+    only c.in-Ok.ensures.only c.in-Ok-read_script.ensures.only calm c.in-Ok.ensures.calm c.in-Ok-read_script.ensures.calm
+
+pub returns-in-Err-read_script-clause-cause : goal.returns-in-Err-read_script-clause-cause
+returns-in-Err-read_script-clause-cause g c = λ first latent reads only.
+    let mid = g.D.Desk.seen c.args.desk.now in
+    let late = g.D.Desk.seen c.read_requests.new.desk in
+    let new = g.D.Desk.seen c.read_script.new.desk in
+    let words = sources_of c.args.sources.now in
+    let disk = c.args.disk.now in
+    let trace = accepted c.in-Ok.trace in
+    let before : AcceptsTrace first words = record {
+      params = record { disk = disk; latent = latent; reads_disk = reads };
+      trace = trace;
+      reads_trace = trace_before first mid words.trace words.device disk trace only c.in-Ok.ensures.trace;
+    } in
+    at_script words first mid late new c.in-Err-read_script.outcome before only c.in-Ok.ensures.only c.in-Err-read_script.ensures.only
+    (subst (λ (traced : ℕ). StopsScript words.calls disk traced late new c.in-Err-read_script.outcome) (ap length c.as_slice-requests.ensures.value) c.in-Err-read_script.ensures.stops)
+
+pub returns-in-Err-read_script-clause-unnamed : goal.returns-in-Err-read_script-clause-unnamed
+returns-in-Err-read_script-clause-unnamed g c = λ first only.
+    unnamed_at_calls (sources_of c.args.sources.now) first (g.D.Desk.seen c.args.desk.now) (g.D.Desk.seen c.read_requests.new.desk) (g.D.Desk.seen c.read_script.new.desk)
+    only c.in-Ok.ensures.only c.in-Err-read_script.ensures.only c.in-Err-read_script.ensures.unnamed
+
+pub returns-in-Err-read_script-clause-opened : goal.returns-in-Err-read_script-clause-opened
+returns-in-Err-read_script-clause-opened g c = λ first unused only opened.
+    opened_at_calls (sources_of c.args.sources.now) first unused (g.D.Desk.seen c.args.desk.now) only opened (g.D.Desk.seen c.read_requests.new.desk) (g.D.Desk.seen c.read_script.new.desk)
+    c.in-Ok.ensures.only c.in-Ok.ensures.opened c.in-Err-read_script.ensures.only c.in-Err-read_script.ensures.opened
