@@ -1,7 +1,6 @@
 -- What a replay writes beside its reports where the words name puts, and why it has its answer.
 use Rattle.std.proofs.Common.{◌≡◌, ◌∙◌, ◌⊎◌, ℕ, List, Option, Some, None, refl, sym, subst, inl, inr}
 use Rattle.std.specs.Prelude.{IfSome, codes}
-use Rattle.std.specs.Option.{option_map}
 use Rattle.fb_rows.specs.declared.run.Run.{Run}
 use Rattle.fb_model.specs.FullRun.{IsFull}
 use Rattle.fb_puts.specs.Reading.{Accepted as PutsRead}
@@ -13,20 +12,16 @@ use Rattle.fb_desk.specs.declared.desk.Output.TheVariants.{Fore, Back, Spill, No
 use Rattle.fb_words.specs.Command.{ReplayTerms}
 use Rattle.fb_top.specs.declared.outcome.Outcome.{Outcome}
 use Rattle.fb_top.specs.declared.outcome.Outcome.TheVariants as outcomes
+use Rattle.fb_top.specs.Calm.{IsCalm, MeetsNoFault}
 use Rattle.fb_top.specs.Causes.{HasCause, IsCut, RunsOut}
-use Rattle.fb_top.specs.Done.{AreReadBack, CanBeRead, HoldsReports, HoldsWanted, IsDone, IsRunOf, back_told, fore_told}
+use Rattle.fb_top.specs.Done.{AreReadBack, CanBeRead, HoldsReports, HoldsWanted, IsRunOf, back_told, fore_told}
 use Rattle.fb_top.specs.Read.{AcceptsPuts, Files, inputs_of, key_of}
 use Rattle.fb_top.specs.Sources.{replay_inputs}
-use Rattle.fb_top.specs.Spilled.{CutsSpill, HoldsBoth, HoldsReplay, HoldsSpill, IsSpillOf, IsSpilled, StopsReplay, StopsSpill, WritesGiven, WritesPuts, spill_told}
+use Rattle.fb_top.specs.Spilled.{CutsSpill, HoldsBoth, HoldsReplay, HoldsSpill, IsSpillOf, StopsReplay, StopsSpill, WritesGiven, WritesPuts, spill_told}
 use Rattle.fb_top.specs.Written.{HoldsFront, HoldsWhole, KeepsReports, StopsText}
-use Rattle.fb_top.specs.Taken.{TakesReplay}
+use Rattle.fb_top.specs.Taken.{TakesReplay, done_as}
 use Rattle.fb_top.proofs.Readable.{run_can_be_read}
 use Rattle.fb_top.proofs.Moved.{faults_rose, fore_is_no_note, front, holds_reports, spill_is_no_note, stops_reports, wanted, whole}
-
--- what is made of a thing in two steps
-pub through : {X Y Z : Type 0} (r : Option X) (g : X → Y) (f : Y → Z) → option_map (λ x. f (g x)) r ≡ option_map f (option_map g r)
-through None g f = refl
-through (Some x) g f = refl
 
 -- what holds of a thing that is given
 pub holds_of : {X : Type 0} (P : X → Type 0) (given : Option X) (x : X) → given ≡ Some x → IfSome given P → P x
@@ -121,7 +116,7 @@ module _ (terms : ReplayTerms) (files : Files) (run : Run) (spill : SpillRun) (o
   stopped_spill (outcomes.TooLong input) h = absurd h
   stopped_spill (outcomes.ReadFault input) h = absurd h
 
--- nothing is written in free gaps exactly if the words name no puts
+-- where nothing is written in free gaps, the words name no puts
 no_puts : (desk : DeskView) (files : Files) (run : Run) (given : Option (List ℕ)) (puts : Option PutsRead) → AcceptsPuts desk given files puts → WritesGiven files.disk run puts None → given ≡ None
 no_puts desk files run None None accepts writes = refl
 no_puts desk files run (Some name) None accepts writes = absurd accepts
@@ -161,29 +156,23 @@ module _ (terms : ReplayTerms) (files : Files) (puts : Option PutsRead) (old mid
     spill_of None (Some one) spill is accepts writes = absurd writes
     spill_of asked None spill is accepts writes = absurd cc
 
+    -- all was written
+    pub all_written : (given : Option SpillRun) (new : DeskView) → WritesGiven files.disk run puts given → HoldsReplay terms files run given mid new
+        → (CanBeRead files run → AreReadBack terms files run) → HasCause terms old new (done_as run given)
+    all_written (Some spill) new writes holds read = record {
+      is_run = is_run;
+      is_spill = spill_of puts (Some spill) spill refl takes.accepts_puts writes;
+      texts = spill_moved old mid new new keeps (λ output no_note. refl) terms files run spill holds;
+      read = read_back read;
+    }
+    all_written None new writes holds read = record {
+      no_puts = no_puts old files run terms.puts puts takes.accepts_puts writes;
+      is_run = is_run;
+      reports = holds_reports old mid new new keeps (λ output no_note. refl) terms files run holds;
+      read = read_back read;
+    }
+
     module _ (given : Option SpillRun) (writes : WritesGiven files.disk run puts given) (new : DeskView) where
-      -- all was written
-      pub all_spilled : (spill : SpillRun) → given ≡ Some spill → HoldsReplay terms files run given mid new
-          → (CanBeRead files run → AreReadBack terms files run) → IsSpilled old new terms run spill
-      all_spilled spill is holds read = record {
-        is_run = is_run;
-        is_spill = spill_of puts given spill is takes.accepts_puts writes;
-        texts = spill_moved old mid new new keeps (λ output no_note. refl) terms files run spill
-            (subst (λ (s : Option SpillRun). HoldsReplay terms files run s mid new) is holds);
-        read = read_back read;
-      }
-
-      pub all_done : given ≡ None → HoldsReplay terms files run given mid new → (CanBeRead files run → AreReadBack terms files run)
-          → IsDone old new terms run
-      all_done is holds read = record {
-        no_puts = no_puts old files run terms.puts puts takes.accepts_puts
-            (subst (λ (s : Option SpillRun). WritesGiven files.disk run puts s) is writes);
-        is_run = is_run;
-        reports = holds_reports old mid new new keeps (λ output no_note. refl) terms files run
-            (subst (λ (s : Option SpillRun). HoldsReplay terms files run s mid new) is holds);
-        read = read_back read;
-      }
-
       is_cut : (outcome : Outcome) → StopsReplay terms files run given mid new outcome → IsCut old new terms outcome
       is_cut outcome (inl stops) = inl (record {
         run = run;
@@ -221,3 +210,8 @@ module _ (terms : ReplayTerms) (files : Files) (puts : Option PutsRead) (old mid
       at_replay (outcomes.Reports fault) h = absurd (nothing_stops h)
       at_replay (outcomes.TooLong input) h = absurd (nothing_stops h)
       at_replay (outcomes.ReadFault input) h = absurd (nothing_stops h)
+
+-- a replay that is done has met no fault, if none was met
+pub calm_done : (run : Run) (spill : Option SpillRun) (old new : DeskView) → IsCalm old new → MeetsNoFault (done_as run spill) old new
+calm_done run None old new calm = calm
+calm_done run (Some spill) old new calm = calm

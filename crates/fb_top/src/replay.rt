@@ -17,7 +17,7 @@ ghost use Rattle.fb_top.specs.Opened.{OpensAsNamed};
 ghost use Rattle.fb_top.specs.Read.{files_of, inputs_of, key_of};
 ghost use Rattle.fb_top.specs.Sources.{replay_inputs};
 ghost use Rattle.fb_top.specs.Spilled.{CanBeSpilled, HoldsReplay, IsRunOfFiles, StopsReplay, WritesGiven};
-ghost use Rattle.fb_top.specs.Taken.{TakesReplay};
+ghost use Rattle.fb_top.specs.Taken.{TakesReplay, done_as};
 ghost use Rattle.fb_top.specs.Unnamed.{KeepsInputs, KeepsUnnamed};
 
 use crate::Outcome;
@@ -29,7 +29,6 @@ use crate::spill_text::SpillLines;
 use crate::writing::write_lines;
 use fb_bgwrite::{SpillRun, spill};
 use fb_desk::{Desk, Output};
-use fb_puts::Puts;
 use fb_rows::Run;
 use fb_units::NoMemory;
 use fb_words::ReplayWords;
@@ -75,14 +74,20 @@ fn replay_read<D: Desk>(
         Ok(run) => run,
         Err(NoMemory) => return Outcome::NoMemory,
     };
-    let spill = match spill_given(alloc, files, &run, inputs.puts.as_ref()) {
+    let spill = match spill_given(alloc, inputs, &run) {
         Ok(spill) => spill,
         Err(NoMemory) => return Outcome::NoMemory,
     };
     match write_replay(alloc, desk, words, files, &run, spill.as_ref()) {
-        Ok(()) => {}
-        Err(outcome) => return outcome,
+        Ok(()) => outcome_of(run, spill),
+        Err(outcome) => outcome,
     }
+}
+
+// The outcome where all is done.
+fn outcome_of(run: Run, spill: Option<SpillRun>) -> Outcome
+    ensures { result ≡ done_as run spill }
+{
     match spill {
         Some(spill) => Outcome::Spilled { run, spill },
         None => Outcome::Done(run),
@@ -92,18 +97,17 @@ fn replay_read<D: Desk>(
 // What is written in the free gaps of a run, if there are puts. The only error is out of memory.
 fn spill_given(
     alloc: Global,
-    files: &ReplayFiles,
+    inputs: &ReplayInputs,
     run: &Run,
-    puts: Option<&Puts>,
 ) -> Result<Option<SpillRun>, NoMemory>
-    requires full { IsRunOfFiles (files_of files.now) run.now }
+    requires full { IsRunOfFiles (files_of inputs.now.files) run.now }
     requires early { run.now.end ≤ 9 * 10 ^ 18 }
-    requires fit { IfSome puts (λ puts. CanBeSpilled (files_of files.now) (accepted puts.now)) }
-    ensures writes { IfOk result (WritesGiven (files_of files.now).disk run.now (option_map (λ puts. accepted puts.now) puts.entry)) }
+    requires fit { IfSome inputs.now.puts (λ puts. CanBeSpilled (files_of inputs.now.files) (accepted puts)) }
+    ensures writes { IfOk result (WritesGiven (files_of inputs.now.files).disk run.now (option_map accepted inputs.now.puts)) }
     ensures told { IfOk result (λ spill. IfSome spill (λ spill. AllByRecursion HasRange spill.items)) }
 {
-    match puts {
-        Some(puts) => Ok(Some(spill(alloc, &files.params.disk, run, puts)?)),
+    match &inputs.puts {
+        Some(puts) => Ok(Some(spill(alloc, &inputs.files.params.disk, run, puts)?)),
         None => Ok(None),
     }
 }

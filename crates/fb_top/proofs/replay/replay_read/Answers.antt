@@ -1,7 +1,4 @@
-use Rattle.std.proofs.Common.{◌≡◌, ◌∙◌, Option, ap, length, inl, sym, subst}
-use Rattle.std.specs.Option.{option_map}
-use Rattle.fb_puts.specs.Reading.{Accepted as PutsRead}
-use Rattle.fb_puts.specs.Verdict.{accepted}
+use Rattle.std.proofs.Common.{◌≡◌, Option, length, inl, refl, sym, subst}
 use Rattle.fb_bgwrite.specs.declared.items.SpillRun.{SpillRun}
 use Rattle.fb_calls.specs.Allowed.{tasks}
 use Rattle.fb_calls.specs.declared.call.Calls.{Calls}
@@ -9,10 +6,14 @@ use Rattle.fb_model.specs.Accepted.{IsAccepted}
 use Rattle.fb_model.specs.FullRun.{IsFull}
 use Rattle.fb_model.specs.Inputs.{Inputs}
 use Rattle.fb_words.specs.Verdict.{replay_terms}
+use Rattle.fb_top.specs.declared.outcome.Outcome.{Outcome}
+use Rattle.fb_top.specs.Calm.{MeetsNoFault}
+use Rattle.fb_top.specs.Causes.{HasCause}
 use Rattle.fb_top.specs.Read.{files_of, key_of}
 use Rattle.fb_top.specs.Done.{CanBeTold}
-use Rattle.fb_top.specs.Spilled.{HoldsReplay, StopsReplay, WritesGiven}
-use Rattle.fb_top.proofs.Spills.{all_done, all_spilled, at_replay, replay_ran_out, through}
+use Rattle.fb_top.specs.Spilled.{HoldsReplay, StopsReplay}
+use Rattle.fb_top.proofs.Opened.{calm_both}
+use Rattle.fb_top.proofs.Spills.{all_written, at_replay, calm_done, replay_ran_out}
 use Rattle.fb_top.proofs.replay.replay_read.Goals as goal
 
 pub replay_by-requires : goal.replay_by-requires
@@ -41,49 +42,33 @@ write_replay-requires-clause-told g c =
 
 pub returns-in-Err-write_replay-clause-cause : goal.returns-in-Err-write_replay-clause-cause
 returns-in-Err-write_replay-clause-cause g c = λ first takes.
+    let mid = g.D.Desk.seen c.args.desk.now in
     let new = g.D.Desk.seen c.write_replay.new.desk in
     let terms = replay_terms c.args.words.now in
     let files = files_of c.args.inputs.now.files in
     let run = c.in-Ok.run' in
-    let mid = g.D.Desk.seen c.args.desk.now in
-    let key = key_of c.args.words.now.policy in
-    let spill = c.in-Ok-spill_given.spill in
-    let full = subst (λ (inputs : Inputs). IsFull inputs run) (c.asked.ensures.inputs key) c.in-Ok.ensures.full in
-    let same = through c.as_ref.result (λ p. p.now) accepted ∙ ap (option_map accepted) c.as_ref.ensures.value in
-    let writes = subst (λ (p : Option PutsRead). WritesGiven files.disk run p spill) same c.in-Ok-spill_given.ensures.writes in
-    let outcome = c.in-Err-write_replay.outcome in
-    at_replay terms files _ first mid takes run full spill writes new outcome
-    (subst (λ (s : Option SpillRun). StopsReplay terms files run s mid new outcome) c.as_ref-2.ensures.value
+    let full = subst (λ (inputs : Inputs). IsFull inputs run) (c.asked.ensures.inputs (key_of c.args.words.now.policy)) c.in-Ok.ensures.full in
+    at_replay terms files _ first mid takes run full c.in-Ok-spill_given.spill c.in-Ok-spill_given.ensures.writes new c.in-Err-write_replay.outcome
+    (subst (λ (s : Option SpillRun). StopsReplay terms files run s mid new c.in-Err-write_replay.outcome) c.as_ref.ensures.value
     c.in-Err-write_replay.ensures.stops)
 
-pub returns-in-Some-clause-cause : goal.returns-in-Some-clause-cause
-returns-in-Some-clause-cause g c = λ first takes.
+pub returns-in-Ok-write_replay-clause-cause : goal.returns-in-Ok-write_replay-clause-cause
+returns-in-Ok-write_replay-clause-cause g c = λ first takes.
+    let mid = g.D.Desk.seen c.args.desk.now in
     let new = g.D.Desk.seen c.write_replay.new.desk in
     let terms = replay_terms c.args.words.now in
     let files = files_of c.args.inputs.now.files in
     let run = c.in-Ok.run' in
-    let mid = g.D.Desk.seen c.args.desk.now in
-    let key = key_of c.args.words.now.policy in
-    let spill = c.in-Ok-spill_given.spill in
-    let full = subst (λ (inputs : Inputs). IsFull inputs run) (c.asked.ensures.inputs key) c.in-Ok.ensures.full in
-    let same = through c.as_ref.result (λ p. p.now) accepted ∙ ap (option_map accepted) c.as_ref.ensures.value in
-    let writes = subst (λ (p : Option PutsRead). WritesGiven files.disk run p spill) same c.in-Ok-spill_given.ensures.writes in
-    all_spilled terms files _ first mid takes run full spill writes new c.in-Some.spill c.in-Some.is
-    (subst (λ (s : Option SpillRun). HoldsReplay terms files run s mid new) c.as_ref-2.ensures.value
-    c.in-Ok-write_replay.ensures.whole) c.in-Ok-write_replay.ensures.read
+    let full = subst (λ (inputs : Inputs). IsFull inputs run) (c.asked.ensures.inputs (key_of c.args.words.now.policy)) c.in-Ok.ensures.full in
+    subst (λ (outcome : Outcome). HasCause terms first new outcome) (sym c.outcome_of.ensures)
+    (all_written terms files _ first mid takes run full c.in-Ok-spill_given.spill new c.in-Ok-spill_given.ensures.writes
+    (subst (λ (s : Option SpillRun). HoldsReplay terms files run s mid new) c.as_ref.ensures.value c.in-Ok-write_replay.ensures.whole)
+    c.in-Ok-write_replay.ensures.read)
 
-pub returns-in-None-clause-cause : goal.returns-in-None-clause-cause
-returns-in-None-clause-cause g c = λ first takes.
+pub returns-in-Ok-write_replay-clause-calm : goal.returns-in-Ok-write_replay-clause-calm
+returns-in-Ok-write_replay-clause-calm g c =
+    let old = g.D.Desk.seen c.args.desk.now in
     let new = g.D.Desk.seen c.write_replay.new.desk in
-    let terms = replay_terms c.args.words.now in
-    let files = files_of c.args.inputs.now.files in
-    let run = c.in-Ok.run' in
-    let mid = g.D.Desk.seen c.args.desk.now in
-    let key = key_of c.args.words.now.policy in
-    let spill = c.in-Ok-spill_given.spill in
-    let full = subst (λ (inputs : Inputs). IsFull inputs run) (c.asked.ensures.inputs key) c.in-Ok.ensures.full in
-    let same = through c.as_ref.result (λ p. p.now) accepted ∙ ap (option_map accepted) c.as_ref.ensures.value in
-    let writes = subst (λ (p : Option PutsRead). WritesGiven files.disk run p spill) same c.in-Ok-spill_given.ensures.writes in
-    all_done terms files _ first mid takes run full spill writes new c.in-None.is
-    (subst (λ (s : Option SpillRun). HoldsReplay terms files run s mid new) c.as_ref-2.ensures.value
-    c.in-Ok-write_replay.ensures.whole) c.in-Ok-write_replay.ensures.read
+    subst (λ (outcome : Outcome). MeetsNoFault outcome old new) (sym c.outcome_of.ensures)
+    (calm_done c.in-Ok.run' c.in-Ok-spill_given.spill old new
+    (calm_both old old new (λ input. refl) (λ output. refl) c.in-Ok-write_replay.ensures.inputs c.in-Ok-write_replay.ensures.calm))

@@ -13,33 +13,25 @@ use Rattle.fb_top.proofs.replay.write_replay.Goals as goal
 
 pub returns-in-Some-Some-clause-whole : goal.returns-in-Some-Some-clause-whole
 returns-in-Some-Some-clause-whole g c =
-    let old = g.D.Desk.seen c.args.desk.now in
-    let mid = g.D.Desk.seen c.write_reports.new.desk in
     let new = g.D.Desk.seen c.write_lines.new.desk in
     let terms = replay_terms c.args.words.now in
     let files = files_of c.args.files.now in
-    let run = c.args.run.now in
     let spill = c.in-Some-Some.spill.now in
-    let name = string_bytes c.in-Some-Some.name in
     on_ok_weaker c.write_lines.result (λ holds.
-    subst (λ (given : Option SpillRun). HoldsReplay terms files run given old new) (sym (ap (option_map (λ s. s.now)) c.in-Some-Some.is-0))
-    (wrote_spill terms files run spill old mid new c.in-Ok.ensures.whole c.write_lines.ensures.only name (ap (option_map string_bytes) c.in-Some-Some.is-1)
-    (subst (λ (told : List ℕ). HoldsWhole (new.outputs Spill) told (spill_told terms files spill)) c.as_str.ensures.value holds))) c.write_lines.ensures.whole
+    subst (λ (given : Option SpillRun). HoldsReplay terms files c.args.run.now given (g.D.Desk.seen c.args.desk.now) new) (sym (ap (option_map (λ s. s.now)) c.in-Some-Some.is-0))
+    (wrote_spill terms files _ spill _ _ new c.in-Ok.ensures.whole c.write_lines.ensures.only _ (ap (option_map string_bytes) c.in-Some-Some.is-1)
+    (subst (λ (name : List ℕ). HoldsWhole (new.outputs Spill) name (spill_told terms files spill)) c.as_str.ensures.value holds))) c.write_lines.ensures.whole
 
 pub returns-in-Some-Some-clause-stops : goal.returns-in-Some-Some-clause-stops
 returns-in-Some-Some-clause-stops g c =
-    let old = g.D.Desk.seen c.args.desk.now in
-    let mid = g.D.Desk.seen c.write_reports.new.desk in
-    let new = g.D.Desk.seen c.write_lines.new.desk in
     let terms = replay_terms c.args.words.now in
     let files = files_of c.args.files.now in
-    let run = c.args.run.now in
     let spill = c.in-Some-Some.spill.now in
-    let name = string_bytes c.in-Some-Some.name in
     IfErr-weaker c.write_lines.result _ _ (λ outcome stops.
     inr (
       spill,
       ap (option_map (λ s. s.now)) c.in-Some-Some.is-0,
-      stopped_spill terms files run spill old mid new c.in-Ok.ensures.whole c.write_lines.ensures.only name (ap (option_map string_bytes) c.in-Some-Some.is-1) outcome
-          (subst (λ (told : List ℕ). StopsText Spill told (spill_told terms files spill) mid new outcome) c.as_str.ensures.value stops),
+      stopped_spill terms files _ spill _ _ _ c.in-Ok.ensures.whole c.write_lines.ensures.only _ (ap (option_map string_bytes) c.in-Some-Some.is-1) outcome
+          (subst (λ (name : List ℕ). StopsText Spill name (spill_told terms files spill) (g.D.Desk.seen c.write_reports.new.desk) (g.D.Desk.seen c.write_lines.new.desk) outcome)
+          c.as_str.ensures.value stops),
     )) c.write_lines.ensures.stops
