@@ -1,4 +1,4 @@
-use Rattle.std.proofs.Common.{ℕ, subst}
+use Rattle.std.proofs.Common.{subst}
 use Rattle.fb_geometry.specs.Sound.{IsSound}
 use Rattle.fb_top.specs.Sources.{sources_of}
 use Rattle.fb_top.specs.Taken.{files_on}
