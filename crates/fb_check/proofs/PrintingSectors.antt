@@ -8,8 +8,7 @@ use Rattle.std.proofs.lemmas.List.Filters.{sum_by-filter_both}
 use Rattle.std.proofs.lemmas.List.FromFn.{length-map-range_with_len}
 use Rattle.fb_geometry.specs.Shape.{Shape}
 use Rattle.fb_sectormap.specs.declared.cut.Cut.{Cut}
-use Rattle.fb_sectormap.specs.Lookup.{track_at}
-use Rattle.fb_sectormap.specs.Cutting.{cutting, with_sector, is_cut_before}
+use Rattle.fb_sectormap.specs.Cutting.{cut_of, cutting, with_sector, is_cut_before}
 use Rattle.fb_calls.specs.Blocks.{live_cuts}
 use Rattle.fb_store.specs.declared.content.Content.{Content}
 use Rattle.fb_store.specs.declared.content.ContentRun.{ContentRun}
@@ -73,8 +72,8 @@ with_one disk block lbn (cut ∷ cuts) =
     let count = λ (cut : Cut). cut.count in
     let before = sum_by-cons count cut cuts in
     elim (cases_Bool (is_cut_before disk block (lbn + 1))) [
-      | inl alone ↦ rw alone (omega (arith, sum_by-cons count (record { lbn = lbn; count = 1; track = track_at disk lbn }) (cut ∷ cuts)))
-      | inr joined ↦ rw joined (omega (arith, before, sum_by-cons count (record { lbn = lbn; count = cut.count + 1; track = cut.track }) cuts))
+      | inl alone ↦ rw alone (omega (arith, sum_by-cons count (cut_of disk lbn 1) (cut ∷ cuts)))
+      | inr joined ↦ rw joined (omega (arith, before, sum_by-cons count (cut_of disk lbn (cut.count + 1)) cuts))
     ]
 
 -- a range is cut into all its sectors
@@ -102,7 +101,7 @@ some_numbered task weight n (cut ∷ cuts) all = (all.0, some_numbered task weig
 pub numbered_have : (task weight n : ℕ) (cuts : List Cut) → sectors (numbered task weight n cuts) ≡ cut_sectors cuts
 numbered_have task weight n [] = refl
 numbered_have task weight n (cut ∷ cuts) =
-    let block : Block = record { task = task; index = n; lbn = cut.lbn; count = cut.count; track = cut.track; weight = weight } in
+    let block : Block = record { task = task; index = n; lbn = cut.lbn; count = cut.count; track = cut.track; weight = weight; sweep = cut.sweep } in
     omega (arith, sum_by-cons (λ (block : Block). block.count) block (numbered task weight (n + 1) cuts), sum_by-cons (λ (cut : Cut). cut.count) cut cuts, numbered_have task weight (n + 1) cuts)
 
 pub none_other : (owner task weight n : ℕ) (cuts : List Cut) → (owner == task) ≡ false → own task (numbered owner weight n cuts) ≡ []

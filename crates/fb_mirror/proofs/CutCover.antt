@@ -5,8 +5,7 @@ use Rattle.std.specs.List.{AllByRecursion}
 use Rattle.std.proofs.lemmas.Bool.{cases_lt}
 use Rattle.fb_geometry.specs.Shape.{Shape}
 use Rattle.fb_sectormap.specs.declared.cut.Cut.{Cut}
-use Rattle.fb_sectormap.specs.Cutting.{cutting, is_cut_before, with_sector}
-use Rattle.fb_sectormap.specs.Lookup.{track_at}
+use Rattle.fb_sectormap.specs.Cutting.{cut_of, cutting, is_cut_before, with_sector}
 
 abbrev BeginsAt : ℕ → List Cut → Type 0
 BeginsAt lbn [] = Unit {0}
@@ -16,7 +15,7 @@ with_begins : (disk : Shape) (block lbn : ℕ) (cuts : List Cut) → BeginsAt lb
 with_begins disk block lbn [] = refl
 with_begins disk block lbn (cut ∷ cuts) = by (is_cut_before disk block (lbn + 1))
   where
-    by : (b : Bool) → BeginsAt lbn (if b then record { lbn = lbn; count = 1; track = track_at disk lbn } ∷ cut ∷ cuts else record { lbn = lbn; count = cut.count + 1; track = cut.track } ∷ cuts)
+    by : (b : Bool) → BeginsAt lbn (if b then cut_of disk lbn 1 ∷ cut ∷ cuts else cut_of disk lbn (cut.count + 1) ∷ cuts)
     by true = refl
     by false = refl
 
@@ -34,7 +33,7 @@ with_ends : (disk : Shape) (block lbn end : ℕ) (cuts : List Cut) → lbn < end
 with_ends disk block lbn end [] less begins all = (omega arith, tt)
 with_ends disk block lbn end (cut ∷ cuts) less begins all = by (is_cut_before disk block (lbn + 1))
   where
-    by : (b : Bool) → AllByRecursion (EndsBy end) (if b then record { lbn = lbn; count = 1; track = track_at disk lbn } ∷ cut ∷ cuts else record { lbn = lbn; count = cut.count + 1; track = cut.track } ∷ cuts)
+    by : (b : Bool) → AllByRecursion (EndsBy end) (if b then cut_of disk lbn 1 ∷ cut ∷ cuts else cut_of disk lbn (cut.count + 1) ∷ cuts)
     by true = (omega arith, all)
     by false = (omega (arith, all.0, begins), all.1)
 
@@ -52,7 +51,7 @@ with_some : (disk : Shape) (block lbn : ℕ) (cuts : List Cut) → AllByRecursio
 with_some disk block lbn [] all = (omega arith, tt)
 with_some disk block lbn (cut ∷ cuts) all = by (is_cut_before disk block (lbn + 1))
   where
-    by : (b : Bool) → AllByRecursion HasSectors (if b then record { lbn = lbn; count = 1; track = track_at disk lbn } ∷ cut ∷ cuts else record { lbn = lbn; count = cut.count + 1; track = cut.track } ∷ cuts)
+    by : (b : Bool) → AllByRecursion HasSectors (if b then cut_of disk lbn 1 ∷ cut ∷ cuts else cut_of disk lbn (cut.count + 1) ∷ cuts)
     by true = (omega arith, all)
     by false = (omega arith, all.1)
 
@@ -71,7 +70,7 @@ module _ (Q : ℕ → Type 0) where
   with_holds disk block lbn [] begins all = (all.0 lbn (omega arith) (omega arith), tt)
   with_holds disk block lbn (cut ∷ cuts) begins all = by (is_cut_before disk block (lbn + 1)) all
     where
-      by : (b : Bool) → AllByRecursion HoldsIn (if b then record { lbn = lbn; count = 1; track = track_at disk lbn } ∷ cut ∷ cuts else record { lbn = lbn; count = cut.count + 1; track = cut.track } ∷ cuts)
+      by : (b : Bool) → AllByRecursion HoldsIn (if b then cut_of disk lbn 1 ∷ cut ∷ cuts else cut_of disk lbn (cut.count + 1) ∷ cuts)
           → Q lbn × AllByRecursion HoldsIn (cut ∷ cuts)
       by true all = (all.0 lbn (omega arith) (omega arith), all.1)
       by false all = (all.0 lbn (omega arith) (omega arith), (λ x from to. all.0 x (omega (arith, from, begins)) (omega (arith, to, begins)), all.1))

@@ -259,7 +259,7 @@ complete_over past are done =
 
 own_blocks : (weight n : ℕ) (cuts : List Cut) → filter (λ (block : Block). block.task == 0) (numbered 0 weight n cuts) ≡ numbered 0 weight n cuts
 own_blocks weight n [] = refl
-own_blocks weight n (cut ∷ cuts) = ap (λ blocks. record { task = 0; index = n; lbn = cut.lbn; count = cut.count; track = cut.track; weight = weight } ∷ blocks) (own_blocks weight (n + 1) cuts)
+own_blocks weight n (cut ∷ cuts) = ap (λ blocks. record { task = 0; index = n; lbn = cut.lbn; count = cut.count; track = cut.track; weight = weight; sweep = cut.sweep } ∷ blocks) (own_blocks weight (n + 1) cuts)
 
 all_passed : (test : Block → Bool) (Q : Block → Type 0) (blocks : List Block) → ((block : Block) → IsOneOf blocks block → test block ≡ true → Q block) → list_all test blocks ≡ true → AllByRecursion Q blocks
 all_passed test Q [] each passed = tt

@@ -1,28 +1,27 @@
 -- The blocks into which a range is cut.
-use Rattle.std.proofs.Common.{◌≡◌, ℕ, zero, suc, ◌+◌, ◌-◌, ◌%◌, ◌<◌, ◌≤◌, ◌==◌, not, nat_lt, List, [], ◌∷◌, true, false, refl, ap, sym, ◌∙◌, arith, subst, inl, inr}
-use Rattle.std.proofs.lemmas.Bool.{cases_Bool, true≢false, and_parts, or_parts, eq-eqb, cases_lt, not-false}
+use Rattle.std.proofs.Common.{◌≡◌, ℕ, zero, suc, ◌+◌, ◌-◌, ◌%◌, ◌<◌, ◌≤◌, ◌==◌, not, List, [], ◌∷◌, true, false, refl, ap, sym, ◌∙◌, arith, subst, inl, inr}
+use Rattle.std.proofs.lemmas.Bool.{cases_Bool, true≢false, or_parts, eq-eqb, cases_lt, not-false}
 use Rattle.std.proofs.Math.Nat.{mod-add-mod, mod-eq_of_lt, mod-lt, mod_self}
-use Rattle.fb_units.specs.Tracks.{same_track}
-use Rattle.fb_geometry.specs.Shape.{Shape, turn_position}
+use Rattle.fb_geometry.specs.Shape.{Shape}
 use Rattle.fb_sectormap.specs.declared.cut.Cut.{Cut}
 use Rattle.fb_sectormap.specs.Lookup.{place_at, track_at}
+use Rattle.fb_sectormap.specs.Sweeps.{sweep_of}
 use Rattle.fb_sectormap.specs.Cutting.{IsOneTurn, cutting, with_sector, is_cut_before, is_later}
-use Rattle.fb_service.proofs.Joining.{same_tracks}
 
--- cuts that lie end to end, none beyond a multiple of the block size, each in one turn of its track
+-- cuts that lie end to end, none beyond a multiple of the block size, each in one turn of its track, with its sweep
 abbrev pub AreCuts : Shape → ℕ → ℕ → ℕ → List Cut → Type 0
 AreCuts disk block from end [] = from ≡ end
 AreCuts disk block from end (cut ∷ cuts) = (cut.lbn ≡ from) × (0 < cut.count) × (cut.count ≤ block - from % block) × (cut.track ≡ track_at disk from) × AreCuts disk block (from + cut.count) end cuts × IsOneTurn disk from cut.count
+    × (cut.sweep ≡ sweep_of disk from cut.count)
 
 -- a sector that no block begins at comes by later in the turn of the one before
 goes_on : (disk : Shape) (block lbn : ℕ) → is_cut_before disk block (lbn + 1) ≡ false
-    → (track_at disk (lbn + 1) ≡ track_at disk lbn) × (((lbn + 1) % block == 0) ≡ false) × (is_later disk (place_at disk lbn) (place_at disk (lbn + 1)) ≡ true)
+    → (((lbn + 1) % block == 0) ≡ false) × (is_later disk (place_at disk lbn) (place_at disk (lbn + 1)) ≡ true)
 goes_on disk block lbn here =
     let back : lbn + 1 - 1 ≡ lbn = omega arith in
     let parts = or_parts ((lbn + 1) % block == 0) (not (is_later disk (place_at disk (lbn + 1 - 1)) (place_at disk (lbn + 1)))) here in
     let later = not-false (is_later disk (place_at disk (lbn + 1 - 1)) (place_at disk (lbn + 1))) parts.1 in
-    let same = same_tracks (track_at disk (lbn + 1 - 1)) (track_at disk (lbn + 1)) (and_parts (same_track (track_at disk (lbn + 1 - 1)) (track_at disk (lbn + 1))) (nat_lt (turn_position disk (place_at disk (lbn + 1 - 1))) (turn_position disk (place_at disk (lbn + 1)))) later).0 in
-    (sym same ∙ ap (track_at disk) back, parts.0, ap (λ at. is_later disk (place_at disk at) (place_at disk (lbn + 1))) (sym back) ∙ later)
+    (parts.0, ap (λ at. is_later disk (place_at disk at) (place_at disk (lbn + 1))) (sym back) ∙ later)
 
 -- a turn that goes on from the next sector goes on from this one
 turn_before : (disk : Shape) (lbn count : ℕ) → is_later disk (place_at disk lbn) (place_at disk (lbn + 1)) ≡ true → IsOneTurn disk (lbn + 1) count → IsOneTurn disk lbn (count + 1)
@@ -41,13 +40,21 @@ room block lbn some other =
     ]
 
 with_cut : (disk : Shape) (block lbn end : ℕ) (cuts : List Cut) → 0 < block → AreCuts disk block (lbn + 1) end cuts → AreCuts disk block lbn end (with_sector disk block lbn cuts)
-with_cut disk block lbn end [] some h = (refl, omega arith, omega (arith, mod-lt lbn some), refl, h, λ i less. absurd (omega arith))
+with_cut disk block lbn end [] some h = (refl, omega arith, omega (arith, mod-lt lbn some), refl, h, λ i less. absurd (omega arith), refl)
 with_cut disk block lbn end (cut ∷ cuts) some h = elim (cases_Bool (is_cut_before disk block (lbn + 1))) [
-  | inl here ↦ rw here (refl, omega arith, omega (arith, mod-lt lbn some), refl, h, λ i less. absurd (omega arith))
+  | inl here ↦ rw here (refl, omega arith, omega (arith, mod-lt lbn some), refl, h, λ i less. absurd (omega arith), refl)
   | inr on ↦
       let goes = goes_on disk block lbn on in
       let next : lbn + 1 + cut.count ≡ lbn + (cut.count + 1) = omega arith in
-      rw on (refl, omega (arith, h.1), omega (arith, h.2, room block lbn some goes.1), h.3 ∙ goes.0, subst (λ at. AreCuts disk block at end cuts) next h.4, turn_before disk lbn cut.count goes.2 h.5)
+      rw on (
+        refl,
+        omega (arith, h.1),
+        omega (arith, h.2, room block lbn some goes.0),
+        refl,
+        subst (λ at. AreCuts disk block at end cuts) next h.4,
+        turn_before disk lbn cut.count goes.1 h.5,
+        refl,
+      )
 ]
 
 pub cuts_are : (disk : Shape) (block lbn n : ℕ) → 0 < block → AreCuts disk block lbn (lbn + n) (cutting disk block lbn n)

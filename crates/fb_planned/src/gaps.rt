@@ -148,6 +148,7 @@ fn block_of(disk: &Disk, index: u32, wish: Wish) -> Option<Block>
         count: cut.count,
         track: cut.track,
         weight: wish.weight,
+        sweep: cut.sweep,
     })
 }
 

@@ -8,6 +8,7 @@ use Rattle.fb_units.specs.Tracks.{same_track}
 use Rattle.fb_geometry.specs.Shape.{same_place}
 use Rattle.fb_geometry.specs.Places.{places}
 use Rattle.fb_sectormap.specs.Lookup.{place_at}
+use Rattle.fb_sectormap.specs.Sweeps.{sweep_of}
 use Rattle.fb_sectormap.specs.Cutting.{cutting}
 use Rattle.fb_sectormap.specs.Worked.{slipping, place, SlipsOnTrack, HoldNothing, SlipsOnCylinder, CutBehindMoved}
 
@@ -20,7 +21,7 @@ unfolding places
 slips_on_cylinder = (refl, refl, refl)
 
 pub cut_behind_moved : CutBehindMoved
-unfolding places place_at cutting
+unfolding places place_at cutting sweep_of
 cut_behind_moved = (refl, refl, refl, refl, refl)
 
 none_some : {X : Type 0} (x : X) → None ≡ Some x → ⊥

@@ -1,26 +1,12 @@
 -- The first block of a cutting.
-use Rattle.std.proofs.Common.{◌≡◌, ℕ, zero, suc, ◌+◌, ◌-◌, ◌%◌, ◌<◌, ◌≤◌, List, [], ◌∷◌, Bool, true, false, not, refl, ap, sym, ◌∙◌, arith, ◌⊎◌, inl, inr}
-use Rattle.std.specs.Prelude.{◌==◌, nat_lt}
-use Rattle.std.proofs.lemmas.Bool.{and_parts, or_parts, or_from, or_left, or_right, eqb-true, eq-eqb, ne_eqb, cases_lt}
+use Rattle.std.proofs.Common.{◌≡◌, ℕ, zero, suc, ◌+◌, ◌-◌, ◌%◌, ◌<◌, ◌≤◌, List, [], ◌∷◌, true, false, not, refl, ap, sym, ◌∙◌, arith, ◌⊎◌, inl, inr}
+use Rattle.std.specs.Prelude.{◌==◌}
+use Rattle.std.proofs.lemmas.Bool.{or_from, or_left, or_right, eq-eqb, ne_eqb, cases_lt}
 use Rattle.std.proofs.Math.Nat.{mod-add-mod, mod-eq_of_lt, mod-lt, mod_self}
-use Rattle.fb_units.specs.declared.types.Track.{Track}
-use Rattle.fb_units.specs.Tracks.{same_track}
-use Rattle.fb_geometry.specs.Shape.{Shape, turn_position}
+use Rattle.fb_geometry.specs.Shape.{Shape}
 use Rattle.fb_sectormap.specs.declared.cut.Cut.{Cut}
-use Rattle.fb_sectormap.specs.Lookup.{place_at, track_at}
-use Rattle.fb_sectormap.specs.Cutting.{IsOneTurn, cutting, with_sector, is_cut_before, is_later}
-
-same_tracks : (a b : Track) → same_track a b ≡ true → a ≡ b
-same_tracks a b h =
-    let parts = and_parts (a.cylinder == b.cylinder) (a.head == b.head) h in
-    ap (λ c. record { cylinder = c; head = a.head }) (eqb-true a.cylinder b.cylinder parts.0) ∙ ap (λ k. record { cylinder = b.cylinder; head = k }) (eqb-true a.head b.head parts.1)
-
-not_true : (b : Bool) → not b ≡ false → b ≡ true
-not_true true h = refl
-not_true false h = sym h
-
-abbrev cut_of : Shape → ℕ → ℕ → Cut
-cut_of disk lbn count = record { lbn = lbn; count = count; track = track_at disk lbn }
+use Rattle.fb_sectormap.specs.Lookup.{place_at}
+use Rattle.fb_sectormap.specs.Cutting.{IsOneTurn, cut_of, cutting, with_sector, is_cut_before, is_later}
 
 -- a sector whose block ends with it is a block of its own
 alone : (disk : Shape) (block lbn : ℕ) (cuts : List Cut) → (cuts ≡ []) ⊎ (is_cut_before disk block (lbn + 1) ≡ true) → with_sector disk block lbn cuts ≡ cut_of disk lbn 1 ∷ cuts
@@ -29,12 +15,9 @@ alone disk block lbn (cut ∷ cuts) (inl none) = cc
 alone disk block lbn (cut ∷ cuts) (inr here) = rw here refl
 
 -- a sector whose block goes on joins the block of the next sector
-goes_on : (disk : Shape) (block lbn count : ℕ) (cuts : List Cut) → is_cut_before disk block (lbn + 1) ≡ false → with_sector disk block lbn (cut_of disk (lbn + 1) count ∷ cuts) ≡ cut_of disk lbn (count + 1) ∷ cuts
-goes_on disk block lbn count cuts here =
-    let later = not_true (is_later disk (place_at disk (lbn + 1 - 1)) (place_at disk (lbn + 1))) (or_parts ((lbn + 1) % block == 0) (not (is_later disk (place_at disk (lbn + 1 - 1)) (place_at disk (lbn + 1)))) here).1 in
-    let same = same_tracks (track_at disk (lbn + 1 - 1)) (track_at disk (lbn + 1)) (and_parts (same_track (track_at disk (lbn + 1 - 1)) (track_at disk (lbn + 1))) (nat_lt (turn_position disk (place_at disk (lbn + 1 - 1))) (turn_position disk (place_at disk (lbn + 1)))) later).0 in
-    let track : track_at disk (lbn + 1) ≡ track_at disk lbn = sym same ∙ ap (track_at disk) (let back : lbn + 1 - 1 ≡ lbn = omega arith in back) in
-    rw here (ap (λ t. record { lbn = lbn; count = count + 1; track = t } ∷ cuts) track)
+goes_on : (disk : Shape) (block lbn count : ℕ) (cuts : List Cut) → is_cut_before disk block (lbn + 1) ≡ false
+    → with_sector disk block lbn (cut_of disk (lbn + 1) count ∷ cuts) ≡ cut_of disk lbn (count + 1) ∷ cuts
+goes_on disk block lbn count cuts here = rw here refl
 
 ended : (disk : Shape) (block lbn n : ℕ) → (1 < suc n → is_cut_before disk block (lbn + 1) ≡ true) → (cutting disk block (lbn + 1) n ≡ []) ⊎ (is_cut_before disk block (lbn + 1) ≡ true)
 unfolding cutting
@@ -48,7 +31,7 @@ front disk block lbn count count' at at' n n' e f g =
     ap (λ c. cut_of disk lbn c ∷ cutting disk block at n) e ∙ ap (λ a. cut_of disk lbn count' ∷ cutting disk block a n) f ∙ ap (λ m. cut_of disk lbn count' ∷ cutting disk block at' m) g
 
 pub first_block : (disk : Shape) (block lbn n k : ℕ) → 0 < k → k ≤ n → ((i : ℕ) → 0 < i → i < k → is_cut_before disk block (lbn + i) ≡ false) → (k < n → is_cut_before disk block (lbn + k) ≡ true)
-    → cutting disk block lbn n ≡ record { lbn = lbn; count = k; track = track_at disk lbn } ∷ cutting disk block (lbn + k) (n - k)
+    → cutting disk block lbn n ≡ cut_of disk lbn k ∷ cutting disk block (lbn + k) (n - k)
 unfolding cutting
 first_block disk block lbn n zero some le on ends = absurd (omega arith)
 first_block disk block lbn zero (suc k) some le on ends = absurd (omega arith)
@@ -80,7 +63,7 @@ at_block block first i some e =
 pub first_cut-is : (disk : Shape) (block first count most k : ℕ) → 0 < block → most ≤ count → most ≤ block - first % block → (most < count → most ≡ block - first % block) → 0 < k → k ≤ most
     → ((i : ℕ) → 0 < i → i < k → is_later disk (place_at disk (first + i - 1)) (place_at disk (first + i)) ≡ true)
     → (k < most → is_later disk (place_at disk (first + k - 1)) (place_at disk (first + k)) ≡ false)
-    → cutting disk block first count ≡ record { lbn = first; count = k; track = track_at disk first } ∷ cutting disk block (first + k) (count - k)
+    → cutting disk block first count ≡ cut_of disk first k ∷ cutting disk block (first + k) (count - k)
 first_cut-is disk block first count most k some_block within small whole some bound goes_on ends =
     first_block disk block first count k some (omega arith)
     (λ i more less. or_from ((first + i) % block == 0) (not (is_later disk (place_at disk (first + i - 1)) (place_at disk (first + i))))

@@ -8,3 +8,4 @@ pub mod Computed
 pub mod Stretching
 pub mod Turns
 pub mod Running
+pub mod Sweeping

@@ -5,6 +5,7 @@ use Rattle.fb_units.specs.Tracks.{same_track}
 use Rattle.fb_geometry.specs.Shape.{Shape, turn_position}
 use Rattle.fb_sectormap.specs.declared.cut.Cut.{Cut}
 use Rattle.fb_sectormap.specs.Lookup.{place_at, track_at}
+use Rattle.fb_sectormap.specs.Sweeps.{sweep_of}
 
 -- a place comes by later in the same turn of the same track
 abbrev pub is_later : Shape → Place → Place → Bool
@@ -18,12 +19,16 @@ IsOneTurn disk lbn count = (i : ℕ) → i + 1 < count → is_later disk (place_
 abbrev pub is_cut_before : Shape → ℕ → ℕ → Bool
 is_cut_before disk block lbn = (lbn % block == 0) || not (is_later disk (place_at disk (lbn - 1)) (place_at disk lbn))
 
+-- the block that has `count` sectors from lbn on
+abbrev pub cut_of : Shape → ℕ → ℕ → Cut
+cut_of disk lbn count = record { lbn = lbn; count = count; track = track_at disk lbn; sweep = sweep_of disk lbn count }
+
 -- the blocks with the sector before them: it is a block of its own, or joins the first one
 abbrev pub with_sector : Shape → ℕ → ℕ → List Cut → List Cut
-with_sector disk block lbn [] = record { lbn = lbn; count = 1; track = track_at disk lbn } ∷ []
+with_sector disk block lbn [] = cut_of disk lbn 1 ∷ []
 with_sector disk block lbn (cut ∷ cuts) = if is_cut_before disk block (lbn + 1)
-    then record { lbn = lbn; count = 1; track = track_at disk lbn } ∷ cut ∷ cuts
-    else record { lbn = lbn; count = cut.count + 1; track = cut.track } ∷ cuts
+    then cut_of disk lbn 1 ∷ cut ∷ cuts
+    else cut_of disk lbn (cut.count + 1) ∷ cuts
 
 -- the blocks into which n sectors from lbn on are cut
 unfoldable pub cutting : Shape → ℕ → ℕ → ℕ → List Cut

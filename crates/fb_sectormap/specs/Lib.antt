@@ -1,4 +1,5 @@
 pub mod Lookup
+pub mod Sweeps
 pub mod Cutting
 pub mod Cylinders
 pub mod Worked

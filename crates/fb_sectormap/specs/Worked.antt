@@ -1,10 +1,12 @@
 -- Sectors of small disks, worked out by hand: four cylinders, two heads, twelve slots a track, and two spares to each track or cylinder.
 use Rattle.std.specs.Prelude.{◌≡◌, ℕ, List, [], ◌∷◌}
 use Rattle.fb_units.specs.declared.types.Place.{Place}
+use Rattle.fb_units.specs.declared.types.Sweep.{Sweep}
 use Rattle.fb_units.specs.declared.types.Track.{Track}
 use Rattle.fb_geometry.specs.declared.layout.Layout.{Layout}
 use Rattle.fb_geometry.specs.declared.layout.Layout.TheVariants.{PerTrack, PerCylinder}
 use Rattle.fb_geometry.specs.Shape.{Shape}
+use Rattle.fb_sectormap.specs.declared.cut.Cut.{Cut}
 use Rattle.fb_sectormap.specs.Lookup.{IsAt}
 use Rattle.fb_sectormap.specs.Cutting.{cutting}
 
@@ -49,7 +51,11 @@ HoldNothing = ((lbn : ℕ) → IsAt slipping lbn (place 0 0 3) → ⊥) × ((lbn
 abbrev pub SlipsOnCylinder : Type 0
 SlipsOnCylinder = IsAt slipping_over 10 (place 0 0 11) × IsAt slipping_over 11 (place 0 1 0) × IsAt slipping_over 22 (place 1 0 0)
 
+-- a block of two sectors on track 0.1
+abbrev pub block : ℕ → Sweep → Cut
+block lbn sweep = record { lbn = lbn; count = 2; track = track 0 1; sweep = sweep }
+
 -- a sector that has moved to a spare ends its block, since the next one comes by before it
 abbrev pub CutBehindMoved : Type 0
 CutBehindMoved = IsAt remapped 15 (place 0 1 3) × IsAt remapped 16 (place 0 1 10) × IsAt remapped 17 (place 0 1 5) × IsAt remapped 18 (place 0 1 6)
-    × (cutting remapped 20 15 4 ≡ record { lbn = 15; count = 2; track = track 0 1 } ∷ record { lbn = 17; count = 2; track = track 0 1 } ∷ [])
+    × (cutting remapped 20 15 4 ≡ block 15 (record { begin = 300; length = 800 }) ∷ block 17 (record { begin = 500; length = 200 }) ∷ [])

@@ -13,6 +13,7 @@ mod map;
 mod numbering;
 mod run;
 mod span;
+mod sweep;
 mod worked;
 
 pub use cut::Cut;

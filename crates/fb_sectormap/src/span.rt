@@ -1,5 +1,5 @@
 // Sectors that follow one another in a turn of a track, with their LBNs.
-ghost use Rattle.std.specs.Prelude.{◌≡◌, ◌+◌, ◌-◌, ◌<◌, length};
+ghost use Rattle.std.specs.Prelude.{◌≡◌, ◌+◌, ◌-◌, ◌*◌, ◌%◌, ◌<◌, length};
 ghost use Rattle.fb_geometry.specs.Shape.{slots_at, IsTrackOf};
 ghost use Rattle.fb_geometry.specs.Places.{places};
 ghost use Rattle.fb_sectormap.specs.Lookup.{place_at};
@@ -19,6 +19,14 @@ pub struct Span {
     pub stretch: Stretch,
 }
 
+// The number modulo n, for a number less than twice n.
+fn wrapped(number: u32, n: u32) -> u32
+    requires { number < 2 * n }
+    ensures { result ≡ number % n }
+{
+    if number < n { number } else { number - n }
+}
+
 impl SectorMap {
     /// The sectors in neighbouring slots from this one on.
     pub fn span(&self, lbn: u64) -> Span
@@ -32,18 +40,22 @@ impl SectorMap {
         }
     }
 
-    // The place of the last sector of a span.
-    pub(crate) fn last_place(&self, span: &Span) -> Place
+    // The place of a sector: by the span, if that has the sector.
+    pub(crate) fn place_near(&self, span: &Span, lbn: u64) -> Place
         requires span { IsSpan self.now span.now }
-        ensures value { result ≡ place_at self.now (span.now.first + span.now.stretch.count - 1) }
+        requires on_disk { lbn < length (places self.now) }
+        ensures value { result ≡ place_at self.now lbn }
         ensures track { IsTrackOf self.now result.track }
         ensures slot { result.slot < slots_at self.now.zones result.track.cylinder }
     {
+        if lbn < span.first || lbn - span.first >= span.stretch.count as u64 {
+            return self.place(lbn);
+        }
         let place = span.stretch.place;
         let slots = self.geometry().slots(place.track);
         Place {
             track: place.track,
-            slot: (place.slot + (span.stretch.count - 1)) % slots,
+            slot: wrapped(place.slot + (lbn - span.first) as u32, slots),
         }
     }
 }

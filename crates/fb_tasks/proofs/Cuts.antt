@@ -7,6 +7,7 @@ use Rattle.fb_tasks.proofs.Words.{slice_get_within, get_or_from_slice_get}
 use Rattle.fb_tasks.proofs.Registered.{all_own}
 use Rattle.fb_geometry.proofs.Turns.{range-append}
 use Rattle.fb_sectormap.specs.Lookup.{track_at}
+use Rattle.fb_sectormap.specs.Sweeps.{sweep_of}
 use Rattle.fb_wanted.specs.Numbering.{registered}
 
 pub cuts_placed : (disk : Shape) (tasks task weight block n from end : ℕ) (cuts : List Cut) → task < tasks → weight ≤ 1000 → block ≤ 2048 → end ≤ length (places disk) → end ≤ 10 ^ 12 → AreCuts disk block from end cuts
@@ -23,6 +24,7 @@ cuts_placed disk tasks task weight block n from end (cut ∷ cuts) opened light 
         within = omega (arith, h.0);
         track = h.3 ∙ ap (track_at disk) (sym h.0);
         one_turn = subst (λ at. IsOneTurn disk at cut.count) (sym h.0) h.5;
+        sweep = h.6 ∙ ap (λ at. sweep_of disk at cut.count) (sym h.0);
       },
       cuts_placed disk tasks task weight block (n + 1) (from + cut.count) end cuts opened light short on_disk within h.4,
     )
@@ -67,7 +69,7 @@ drop_at xs i x h = drop_more xs i x (slice_get_within xs i x h) ∙ rw (get_or_f
 pub numbered_append : (task weight n : ℕ) (cs ds : List Cut) → numbered task weight n (cs ++ ds) ≡ numbered task weight n cs ++ numbered task weight (n + length cs) ds
 numbered_append task weight n [] ds = ap (λ k. numbered task weight k ds) (let e : n ≡ n + 0 = omega arith in e)
 numbered_append task weight n (c ∷ cs) ds =
-    rw (numbered_append task weight (n + 1) cs ds) (ap (λ k. record { task = task; index = n; lbn = c.lbn; count = c.count; track = c.track; weight = weight } ∷ (numbered task weight (n + 1) cs ++ numbered task weight k ds)) (let e : n + 1 + length cs ≡ n + suc (length cs) = omega arith in e))
+    rw (numbered_append task weight (n + 1) cs ds) (ap (λ k. record { task = task; index = n; lbn = c.lbn; count = c.count; track = c.track; weight = weight; sweep = c.sweep } ∷ (numbered task weight (n + 1) cs ++ numbered task weight k ds)) (let e : n + 1 + length cs ≡ n + suc (length cs) = omega arith in e))
 
 new_named : (session : Session) (bs : List Block) → blocks_of (new_entries session bs) ≡ bs
 new_named session [] = refl

@@ -118,7 +118,7 @@ chosen_own olds items n session old before now at touched stay own more idle = e
 
 -- the blocks that are registered and those that are left stay the same
 pub cut_registered : (task index : ℕ) (session : Session) (before now : List Entry) (cut : Cut) (cuts rest : List Cut) (block : Block) → cuts ≡ cut ∷ rest
-    → block ≡ record { task = task; index = index; lbn = cut.lbn; count = cut.count; track = cut.track; weight = session.weight } → now ≡ before ++ record { block = block; state = wanted_unless session.suspended } ∷ []
+    → block ≡ record { task = task; index = index; lbn = cut.lbn; count = cut.count; track = cut.track; weight = session.weight; sweep = cut.sweep } → now ≡ before ++ record { block = block; state = wanted_unless session.suspended } ∷ []
     → now ++ new_entries session (numbered task session.weight (index + 1) rest) ≡ before ++ new_entries session (numbered task session.weight index cuts)
 cut_registered task index session before now cut cuts rest block first same is = rw (is, first, same, append_assoc) refl
 

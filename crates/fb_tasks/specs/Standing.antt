@@ -5,6 +5,7 @@ use Rattle.fb_geometry.specs.Shape.{Shape}
 use Rattle.fb_geometry.specs.Places.{places}
 use Rattle.fb_sectormap.specs.Lookup.{track_at}
 use Rattle.fb_sectormap.specs.Cutting.{IsOneTurn}
+use Rattle.fb_sectormap.specs.Sweeps.{sweep_of}
 use Rattle.fb_calls.specs.Blocks.{live_cuts}
 use Rattle.fb_calls.specs.Sessions.{is_backup, is_clean}
 use Rattle.fb_store.specs.declared.content.Content.{Content}
@@ -47,6 +48,7 @@ pub record IsBlockOf (disk : Shape) (tasks : ℕ) (block : Block) : Type 0 where
   pub within : block.lbn + block.count ≤ 10 ^ 12
   pub track : block.track ≡ track_at disk block.lbn
   pub one_turn : IsOneTurn disk block.lbn block.count
+  pub sweep : block.sweep ≡ sweep_of disk block.lbn block.count
 
 -- blocks are numbered on from n
 abbrev pub AreIndexed : ℕ → List Block → Type 0

@@ -51,7 +51,7 @@ pub fn want_range(
 
 // The task's block of that number.
 fn block_of(session: &Session, task: u32, index: u32, cut: Cut) -> Block
-    ensures { result ≡ record { task = task; index = index; lbn = cut.lbn; count = cut.count; track = cut.track; weight = session.now.weight } }
+    ensures { result ≡ record { task = task; index = index; lbn = cut.lbn; count = cut.count; track = cut.track; weight = session.now.weight; sweep = cut.sweep } }
 {
     Block {
         task,
@@ -60,6 +60,7 @@ fn block_of(session: &Session, task: u32, index: u32, cut: Cut) -> Block
         count: cut.count,
         track: cut.track,
         weight: session.weight,
+        sweep: cut.sweep,
     }
 }
 

@@ -7,7 +7,7 @@ ghost use Rattle.fb_store.specs.Sparse.{Gives};
 use fb_calls::Live;
 use fb_clean::Segments;
 use fb_store::{Content, ContentRun, Contents};
-use fb_units::{NoMemory, Track};
+use fb_units::{NoMemory, Sweep, Track};
 use fb_wanted::Block;
 use std::alloc::Global;
 use std::process::Abort;
@@ -54,6 +54,10 @@ fn block(lbn: u32) -> Block
             head: 0,
         },
         weight: 1,
+        sweep: Sweep {
+            begin: 0,
+            length: 100,
+        },
     }
 }
 

@@ -2,7 +2,7 @@
 // and one block of another task.
 ghost use Rattle.std.specs.Prelude.{◌≡◌, ◌<◌, ◌≤◌, []};
 
-use fb_units::Track;
+use fb_units::{Sweep, Track};
 use fb_wanted::{BAND, Block, State, Wanted};
 use std::process::Abort;
 use std::test::Fail;
@@ -17,6 +17,11 @@ const FAR: Track = Track {
     head: 0,
 };
 
+const SWEEP: Sweep = Sweep {
+    begin: 0,
+    length: 400,
+};
+
 const FIRST: Block = Block {
     task: 0,
     index: 0,
@@ -24,6 +29,7 @@ const FIRST: Block = Block {
     count: 4,
     track: NEAR,
     weight: 1,
+    sweep: SWEEP,
 };
 
 const SECOND: Block = Block {
@@ -33,6 +39,7 @@ const SECOND: Block = Block {
     count: 4,
     track: NEAR,
     weight: 2,
+    sweep: SWEEP,
 };
 
 const OTHER: Block = Block {
@@ -42,6 +49,7 @@ const OTHER: Block = Block {
     count: 4,
     track: FAR,
     weight: 3,
+    sweep: SWEEP,
 };
 
 const BEFORE: Block = Block {
@@ -51,6 +59,7 @@ const BEFORE: Block = Block {
     count: 4,
     track: NEAR,
     weight: 1,
+    sweep: SWEEP,
 };
 
 // A block on another track of the first cylinder.
@@ -64,6 +73,7 @@ const BESIDE: Block = Block {
         head: 3,
     },
     weight: 5,
+    sweep: SWEEP,
 };
 
 // Another task wants the first block too.
@@ -74,6 +84,7 @@ const AGAIN: Block = Block {
     count: 4,
     track: NEAR,
     weight: 3,
+    sweep: SWEEP,
 };
 
 const LAST: Block = Block {
@@ -86,6 +97,7 @@ const LAST: Block = Block {
         head: 1,
     },
     weight: 3,
+    sweep: SWEEP,
 };
 
 // A block that begins in the third chunk of 2,048 LBNs.
@@ -96,6 +108,7 @@ const THIRD: Block = Block {
     count: 8,
     track: FAR,
     weight: 1,
+    sweep: SWEEP,
 };
 
 fn check_weight(rt: &impl Abort, wanted: &Wanted, expected: u64) {

@@ -16,4 +16,4 @@ pub use lines::{next_field, next_line};
 pub use numbers::{LIMIT, read_flags, read_millis, read_number, write_millis};
 pub use text::KeyText;
 pub use times::{Ns, wait_for};
-pub use types::{Name, NoMemory, Place, Request, Track};
+pub use types::{Name, NoMemory, Place, Request, Sweep, Track};

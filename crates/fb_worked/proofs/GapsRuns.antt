@@ -10,7 +10,7 @@ use Rattle.fb_model.specs.Decisions.{decisions}
 use Rattle.fb_model.specs.Steps.{Step}
 use Rattle.fb_model.specs.SoundRun.{none, taken, IsSoundBy, Throughout}
 use Rattle.fb_model.specs.FullRun.{IsAllDelivered, IsBestPlanned, IsFull}
-use Rattle.fb_worked.specs.Gaps.{both_dwells, detour, no_time_to_settle, detour_on_the_way, detour_over_nothing, weight_decides, block_over_the_turn}
+use Rattle.fb_worked.specs.Gaps.{both_dwells, detour, no_time_to_settle, detour_on_the_way, detour_over_nothing, weight_decides, block_over_the_turn, last_and_first}
 use Rattle.fb_worked.proofs.OnSmallDisks.{on_small_disks, serve, rest, steps_at, with_rows}
 use Rattle.fb_worked.proofs.BestPlans.{here, there, none_in_time, none_on_the_way, all_at_once, all_then_leave, all_by_detour}
 use Rattle.fb_worked.proofs.CloseGaps.{by_weight, sooner_over}
@@ -280,7 +280,7 @@ weight_decides_is_full = record { steps = steps_of_weight_decides; sound = sound
 abbrev steps_of_block_over_the_turn : List Step
 steps_of_block_over_the_turn = steps_at (decisions block_over_the_turn.inputs) (
     serve [] (Direct 0) (
-    with_rows (got (block 0 0 12 2 (at 0 1) 1) 1100 1300 ByGap 0 (untouched 12 2 ∷ [])) (done_line 0 1300 ∷ [])
+    with_rows (got last_and_first 1100 1300 ByGap 0 (untouched 12 2 ∷ [])) (done_line 0 1300 ∷ [])
     ∷ [])
     ∷ rest [] []
     ∷ [])
@@ -313,7 +313,7 @@ all_block_over_the_turn = (refl, (refl, tt))
 
 best_block_over_the_turn : Throughout IsBestPlanned block_over_the_turn.inputs steps_of_block_over_the_turn
 unfolding on_small_disks
-best_block_over_the_turn = (all_at_once turned_disk (gap (at 0 0) (at 0 1) 0 1300 false) (block 0 0 12 2 (at 0 1) 1 ∷ []) refl (lit≤ tt, lit≤ tt), (tt, tt))
+best_block_over_the_turn = (all_at_once turned_disk (gap (at 0 0) (at 0 1) 0 1300 false) (last_and_first ∷ []) refl (lit≤ tt, lit≤ tt), (tt, tt))
 
 pub block_over_the_turn_is_full : IsFull block_over_the_turn.inputs block_over_the_turn.run
 block_over_the_turn_is_full = record { steps = steps_of_block_over_the_turn; sound = sound_block_over_the_turn; best = best_block_over_the_turn; all = all_block_over_the_turn }

@@ -2,6 +2,7 @@
 use Rattle.std.specs.Prelude.{⊤, List, [], ◌∷◌}
 use Rattle.fb_geometry.specs.Places.{places}
 use Rattle.fb_sectormap.specs.Lookup.{place_at}
+use Rattle.fb_sectormap.specs.Sweeps.{sweep_of}
 use Rattle.fb_sectormap.specs.Cutting.{cutting}
 use Rattle.fb_seek.specs.Positioning.{pos}
 use Rattle.fb_service.specs.Passing.{begin_from}
@@ -25,7 +26,7 @@ use Rattle.fb_model.specs.Steps.{Delivery, Step, settled_past, past_after, task_
 use Rattle.fb_worked.specs.SmallDisk.{small_disk, quick_disk, uneven_disk, one_sector_disk, skewed_disk, turned_disk, slipped_disk, remapped_disk}
 
 unfoldable pub on_small_disks : ⊤
-unfolding places place_at cutting pos begin_from passages plain served medium_of fore_rows timeline led_to value decisions_from decisions bare_state wanted is_complete with_choices test_rows due settled_past past_after task_rows small_disk quick_disk uneven_disk one_sector_disk skewed_disk turned_disk slipped_disk remapped_disk
+unfolding places place_at sweep_of cutting pos begin_from passages plain served medium_of fore_rows timeline led_to value decisions_from decisions bare_state wanted is_complete with_choices test_rows due settled_past past_after task_rows small_disk quick_disk uneven_disk one_sector_disk skewed_disk turned_disk slipped_disk remapped_disk
 on_small_disks = tt
 
 -- what is done at a decision, after this plan if a request is served

@@ -10,7 +10,7 @@ use Rattle.fb_model.specs.Decisions.{decisions}
 use Rattle.fb_model.specs.Steps.{Step}
 use Rattle.fb_model.specs.SoundRun.{none, taken, IsSoundBy, Throughout}
 use Rattle.fb_model.specs.FullRun.{IsAllDelivered, IsBestPlanned, IsFull}
-use Rattle.fb_worked.specs.Written.{overwritten_between, latent_until_written, read_as_the_write_ends, scrub_finds_latent}
+use Rattle.fb_worked.specs.Written.{overwritten_between, latent_until_written, read_as_the_write_ends, whole_track, scrub_finds_latent}
 use Rattle.fb_worked.proofs.OnSmallDisks.{on_small_disks, serve, rest, steps_at, with_rows}
 use Rattle.fb_worked.proofs.BestPlans.{none_in_time}
 
@@ -120,7 +120,7 @@ abbrev steps_of_read_as_the_write_ends : List Step
 steps_of_read_as_the_write_ends = steps_at (decisions read_as_the_write_ends.inputs) (
     serve [] (Direct 0) []
     ∷ rest [] (
-    with_rows (got (block 0 0 0 1 (at 0 0) 1) 1200 2400 ByIdle 0 (written 1 0 1 ∷ [])) (done_line 0 2400 ∷ [])
+    with_rows (got whole_track 1200 2400 ByIdle 0 (written 1 0 1 ∷ [])) (done_line 0 2400 ∷ [])
     ∷ [])
     ∷ [])
 

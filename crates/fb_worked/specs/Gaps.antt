@@ -3,11 +3,12 @@ use Rattle.std.specs.Prelude.{[], ◌∷◌, true, false}
 use Rattle.fb_units.specs.declared.types.Name.TheVariants.{Traced}
 use Rattle.fb_calls.specs.declared.call.Kind.TheVariants.{Plain}
 use Rattle.fb_calls.specs.declared.call.Action.TheVariants.{Open, Want}
+use Rattle.fb_wanted.specs.declared.block.Block.{Block}
 use Rattle.fb_rows.specs.declared.gap.Plan.TheVariants.{Direct, Detour}
 use Rattle.fb_rows.specs.declared.gap.How.TheVariants.{Gap as ByGap}
 use Rattle.fb_model.specs.PlainReplay.{fcfs}
 use Rattle.fb_worked.specs.SmallDisk.{small_disk, quick_disk, turned_disk}
-use Rattle.fb_worked.specs.Rows.{Worked, at, reading, writing, untouched, row, call, block, got, got_line, gap_line, done_line, task_line}
+use Rattle.fb_worked.specs.Rows.{Worked, at, reading, writing, untouched, row, call, block, swept_block, got, got_line, gap_line, done_line, task_line}
 
 -- three blocks that the two dwells of a gap catch
 abbrev pub both_dwells : Worked
@@ -181,6 +182,10 @@ weight_decides = record {
   };
 }
 
+-- the block that passes in the last slot of a turn and the first of the next
+abbrev pub last_and_first : Block
+last_and_first = swept_block 0 0 12 2 (at 0 1) 1 (record { begin = 1100; length = 200 })
+
 -- a block whose second sector is the first slot of its track
 abbrev pub block_over_the_turn : Worked
 block_over_the_turn = record {
@@ -197,7 +202,7 @@ block_over_the_turn = record {
     fore = row (reading (Traced 1) 0 14 1) 0 1300 1400 0 (untouched 14 1 ∷ []) ∷ [];
     back =
         gap_line (Traced 1) (at 0 0) (at 0 1) 0 1300 false (Direct 0)
-        ∷ got_line (got (block 0 0 12 2 (at 0 1) 1) 1100 1300 ByGap 0 (untouched 12 2 ∷ []))
+        ∷ got_line (got last_and_first 1100 1300 ByGap 0 (untouched 12 2 ∷ []))
         ∷ done_line 0 1300
         ∷ task_line 0 Plain 1 1 0 true
         ∷ [];

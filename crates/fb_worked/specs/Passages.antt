@@ -1,5 +1,5 @@
 -- Where sectors of small disks are, and when they pass.
-use Rattle.std.specs.Prelude.{◌≡◌, ℕ, [], ◌∷◌, length, false}
+use Rattle.std.specs.Prelude.{◌≡◌, ℕ, ◌*◌, [], ◌∷◌, length, false}
 use Rattle.fb_units.specs.declared.types.Place.{Place}
 use Rattle.fb_geometry.specs.Places.{places}
 use Rattle.fb_sectormap.specs.Lookup.{IsAt}
@@ -18,9 +18,9 @@ place cylinder head slot = record { track = at cylinder head; slot = slot }
 abbrev pub passage : ℕ → ℕ → ℕ → Passage
 passage lbn begin end = record { lbn = lbn; begin = begin; end = end }
 
--- sectors of one track: the first and how many, cylinder and head
-abbrev pub cut : ℕ → ℕ → ℕ → ℕ → Cut
-cut lbn count cylinder head = record { lbn = lbn; count = count; track = at cylinder head }
+-- sectors of one track, each of which takes 100 ns to pass: the first and how many, cylinder and head, and the angle of the first
+abbrev pub cut : ℕ → ℕ → ℕ → ℕ → ℕ → Cut
+cut lbn count cylinder head angle = record { lbn = lbn; count = count; track = at cylinder head; sweep = record { begin = angle; length = count * 100 } }
 
 -- the second track begins with its slot 2, or with its last
 abbrev pub SkewedTracks : Type 0
@@ -47,6 +47,6 @@ PassagesOverDefects = (passages slipped_disk (at 0 0) 0 false 2 2 ≡ passage 2 
 
 -- ranges cut at multiples, at the border of two tracks, and around a sector that moved
 abbrev pub Cuttings : Type 0
-Cuttings = (cutting small_disk.map 8 6 11 ≡ cut 6 2 0 0 ∷ cut 8 4 0 0 ∷ cut 12 4 0 1 ∷ cut 16 1 0 1 ∷ [])
-    × (cutting remapped_disk.map 8 2 3 ≡ cut 2 1 0 0 ∷ cut 3 1 0 1 ∷ cut 4 1 0 0 ∷ [])
-    × (cutting turned_disk.map 2 12 2 ≡ cut 12 2 0 1 ∷ [])
+Cuttings = (cutting small_disk.map 8 6 11 ≡ cut 6 2 0 0 600 ∷ cut 8 4 0 0 800 ∷ cut 12 4 0 1 0 ∷ cut 16 1 0 1 400 ∷ [])
+    × (cutting remapped_disk.map 8 2 3 ≡ cut 2 1 0 0 200 ∷ cut 3 1 0 1 1000 ∷ cut 4 1 0 0 400 ∷ [])
+    × (cutting turned_disk.map 2 12 2 ≡ cut 12 2 0 1 1100 ∷ [])

@@ -1,5 +1,6 @@
 -- Short words for the inputs and the rows of a run.
-use Rattle.std.specs.Prelude.{ℕ, List, Bool, true, false}
+use Rattle.std.specs.Prelude.{ℕ, ◌*◌, ◌%◌, List, Bool, true, false}
+use Rattle.fb_units.specs.declared.types.Sweep.{Sweep}
 use Rattle.fb_units.specs.declared.types.Track.{Track}
 use Rattle.fb_units.specs.declared.types.Request.{Request}
 use Rattle.fb_units.specs.declared.types.Name.{Name}
@@ -54,9 +55,13 @@ row request start media finish bad content = record { request = request; start =
 abbrev pub call : ℕ → ℕ → ℕ → Action → Call
 call line instant task action = record { line = line; instant = instant; task = task; action = action }
 
--- task, index, first sector, number of sectors, track, weight
+-- task, index, first sector, number of sectors, track, weight, and how it passes
+abbrev pub swept_block : ℕ → ℕ → ℕ → ℕ → Track → ℕ → Sweep → Block
+swept_block task index lbn count track weight sweep = record { task = task; index = index; lbn = lbn; count = count; track = track; weight = weight; sweep = sweep }
+
+-- the same where each track has twelve sectors, each of which takes 100 ns to pass
 abbrev pub block : ℕ → ℕ → ℕ → ℕ → Track → ℕ → Block
-block task index lbn count track weight = record { task = task; index = index; lbn = lbn; count = count; track = track; weight = weight }
+block task index lbn count track weight = swept_block task index lbn count track weight (record { begin = lbn % 12 * 100; length = count * 100 })
 
 -- begin, end, how, unreadable sectors, contents
 abbrev pub got : Block → ℕ → ℕ → How → ℕ → List ContentRun → DeliveryRow

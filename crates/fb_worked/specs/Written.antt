@@ -3,11 +3,12 @@ use Rattle.std.specs.Prelude.{[], ◌∷◌, true}
 use Rattle.fb_units.specs.declared.types.Name.TheVariants.{Traced}
 use Rattle.fb_calls.specs.declared.call.Kind.TheVariants.{Plain, Scrub}
 use Rattle.fb_calls.specs.declared.call.Action.TheVariants.{Open, Want}
+use Rattle.fb_wanted.specs.declared.block.Block.{Block}
 use Rattle.fb_rows.specs.declared.gap.Plan.TheVariants.{Direct}
 use Rattle.fb_rows.specs.declared.gap.How.TheVariants.{Idle as ByIdle}
 use Rattle.fb_model.specs.PlainReplay.{fcfs}
 use Rattle.fb_worked.specs.SmallDisk.{small_disk, one_sector_disk}
-use Rattle.fb_worked.specs.Rows.{Worked, at, writing, untouched, written, unreadable, row, call, block, got, got_line, gap_line, idle_line, done_line, bad_line, task_line}
+use Rattle.fb_worked.specs.Rows.{Worked, at, writing, untouched, written, unreadable, row, call, block, swept_block, got, got_line, gap_line, idle_line, done_line, bad_line, task_line}
 
 -- a sector that is read before it is written and after it
 abbrev pub overwritten_between : Worked
@@ -69,6 +70,10 @@ latent_until_written = record {
   };
 }
 
+-- the only block of a track with one sector, which passes for a whole turn
+abbrev pub whole_track : Block
+whole_track = swept_block 0 0 0 1 (at 0 0) 1 (record { begin = 0; length = 1200 })
+
 -- a delivery that begins as the write of its sector ends
 abbrev pub read_as_the_write_ends : Worked
 read_as_the_write_ends = record {
@@ -86,7 +91,7 @@ read_as_the_write_ends = record {
     back =
         gap_line (Traced 1) (at 0 0) (at 0 0) 0 0 true (Direct 0)
         ∷ idle_line (at 0 0) 1200 3000
-        ∷ got_line (got (block 0 0 0 1 (at 0 0) 1) 1200 2400 ByIdle 0 (written 1 0 1 ∷ []))
+        ∷ got_line (got whole_track 1200 2400 ByIdle 0 (written 1 0 1 ∷ []))
         ∷ done_line 0 2400
         ∷ task_line 0 Plain 1 1 0 true
         ∷ [];

@@ -30,8 +30,8 @@ loop-length-preserved c =
       end = λ less. omega (arith, c.min-length-in-loop-length.ensures, c.span.ensures.first);
       goes_on = later-through disk next.first next.stretch.place next.stretch.count is.slot is.next is.one_turn c.args.first l.length c.min-length-in-loop-length.result
           (sym c.span.ensures.first) (omega (arith, c.min-length-in-loop-length.ensures)) l.invariant.goes_on
-          (ap (λ at. is_later disk (place_at disk at) (place_at disk next.first)) (let last : next.first - 1 ≡ l.span.first + l.span.stretch.count - 1 = omega (arith, end, c.span.ensures.first) in last)
-          ∙ ap (λ p. is_later disk p (place_at disk next.first)) (sym c.last_place-before.ensures.value)
-          ∙ ap (is_later disk c.last_place-before.result) (sym is.first)
+          (ap (λ at. is_later disk (place_at disk at) (place_at disk next.first)) (let last : next.first - 1 ≡ c.args.first + (l.length - 1) = omega (arith, c.span.ensures.first, l.invariant.some) in last)
+          ∙ ap (λ p. is_later disk p (place_at disk next.first)) (sym c.place_near-before.ensures.value)
+          ∙ ap (is_later disk c.place_near-before.result) (sym is.first)
           ∙ sym c.is_later.ensures ∙ c.if-not-is_later.false);
     }
