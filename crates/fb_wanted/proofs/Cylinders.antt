@@ -5,14 +5,21 @@ use Rattle.std.proofs.lemmas.Grind.{get_or-set_at}
 use Rattle.std.proofs.lemmas.List.{get_or-set_other, length-set}
 use Rattle.fb_units.specs.declared.types.Track.{Track}
 use Rattle.fb_units.specs.Tracks.{same_track}
-use Rattle.fb_wanted.specs.declared.heads.OnTrack.{OnTrack}
-use Rattle.fb_wanted.specs.Index.{track_at, weight_kept, AreGreatest, AreBands}
+use Rattle.fb_wanted.specs.Index.{OnTrack, track_at, weight_kept, AreGreatest, AreBands}
 
 -- the bounds hold too with room for more cylinders
 pub greatest_still : (tracks : List (List OnTrack)) (was is : List ℕ) → AreGreatest tracks was → ((c : ℕ) → get_or is c 0 ≡ get_or was c 0) → length was ≤ length is → AreGreatest tracks is
 greatest_still tracks was is h stay longer = record {
   weights = λ t. subst (λ n. weight_kept tracks t ≤ n) (sym (stay t.cylinder)) (h.weights t);
   there = omega (arith, h.there, longer);
+}
+
+-- the bounds hold too of tracks with the same weights
+pub greatest_same : (tracks new : List (List OnTrack)) (greatest : List ℕ) → AreGreatest tracks greatest
+    → ((t : Track) → (track_at new t).weight ≡ (track_at tracks t).weight) → length new ≡ length tracks → AreGreatest new greatest
+greatest_same tracks new greatest h same size = record {
+  weights = λ t. subst (λ n. n ≤ get_or greatest t.cylinder 0) (sym (same t)) (h.weights t);
+  there = omega (arith, h.there, size);
 }
 
 -- the bounds after the weight of one track has changed

@@ -8,11 +8,10 @@ use Rattle.fb_wanted.specs.declared.block.Entry.{Entry}
 use Rattle.fb_wanted.specs.declared.block.State.{State}
 use Rattle.fb_wanted.specs.declared.block.Counts.{Counts}
 use Rattle.fb_wanted.specs.declared.tasks.OfTask.{OfTask}
-use Rattle.fb_wanted.specs.declared.heads.OnTrack.{OnTrack}
 use Rattle.fb_wanted.specs.Counting.{counts_of, no_counts, recounted}
 use Rattle.fb_wanted.specs.Numbering.{AreInOrder, AreSmall, blocks_of, registered}
 use Rattle.fb_wanted.specs.Tracks.{wanted_weight}
-use Rattle.fb_wanted.specs.Index.{of_task, of_track, grown, reweighed, no_blocks, grown_task, counted_anew, kept_of_task, kept_of, track_at, IsKept, with_state}
+use Rattle.fb_wanted.specs.Index.{OnTrack, of_task, of_track, places, grown, reweighed, no_blocks, grown_task, counted_anew, kept_of_task, track_at, weight_kept, offers_at, IsKept, IsChanged, with_state}
 use Rattle.fb_wanted.proofs.Standing.{length-with_state, items-with_state, blocks-with_state, places-with_state, places-more_yes, places-more_no}
 use Rattle.fb_wanted.proofs.Numbers.{numbered-more, small-more}
 use Rattle.fb_wanted.proofs.Counted.{counts-grown, counts-grown_other, counts-with_state, counts-with_other}
@@ -22,7 +21,8 @@ pub same_one : (a b : Track) → same_track a b ≡ true → a ≡ b
 same_one a b h =
     let cylinders : a.cylinder ≡ b.cylinder = grind (arith, nat_tests) in
     let heads : a.head ≡ b.head = grind (arith, nat_tests) in
-    ap (λ x. let t : Track = record { cylinder = x; head = a.head } in t) cylinders ∙ ap (λ x. let t : Track = record { cylinder = b.cylinder; head = x } in t) heads
+    ap (λ x. let t : Track = record { cylinder = x; head = a.head } in t) cylinders ∙ ap
+    (λ x. let t : Track = record { cylinder = b.cylinder; head = x } in t) heads
 
 pub same_itself : (a : Track) → same_track a a ≡ true
 same_itself a = grind (arith, nat_tests)
@@ -30,38 +30,80 @@ same_itself a = grind (arith, nat_tests)
 same_turned : (a b : Track) → same_track a b ≡ false → same_track b a ≡ false
 same_turned a b h = grind (arith, nat_tests)
 
--- what the index has for two tracks is equal if each part is
-same_track_blocks : (a b : OnTrack) → a.places ≡ b.places → a.weight ≡ b.weight → a ≡ b
-same_track_blocks a b x y = rw (x, y) refl
-
 -- what the index has for two tasks is equal if each part is
 same_blocks : (a b : OfTask) → a.places ≡ b.places → a.counts ≡ b.counts → a ≡ b
 same_blocks a b x y = rw (x, y) refl
+
+-- the tracks after one of them has changed
+module _ (tracks new : List (List OnTrack)) (track : Track) (change : OnTrack → OnTrack) where
+  pub changed_here : IsChanged tracks new track change → (t : Track) → same_track track t ≡ true → track_at new t ≡ change
+      (track_at tracks t)
+  changed_here changed t here = changed t ∙ rw here refl
+
+  pub unchanged : IsChanged tracks new track change → (t : Track) → same_track track t ≡ false → track_at new t ≡ track_at tracks t
+  unchanged changed t other = changed t ∙ rw other refl
+
+  pub changed_places : ((o : OnTrack) → (change o).places ≡ o.places) → IsChanged tracks new track change → (t : Track) →
+      (track_at new t).places ≡ (track_at tracks t).places
+  changed_places stay changed t = elim (cases_Bool (same_track track t)) [
+    | inl here ↦ ap (λ o. o.places) (changed_here changed t here) ∙ stay (track_at tracks t)
+    | inr other ↦ ap (λ o. o.places) (unchanged changed t other)
+  ]
+
+  pub changed_weight : ((o : OnTrack) → (change o).weight ≡ o.weight) → IsChanged tracks new track change → (t : Track)
+      → weight_kept new t ≡ weight_kept tracks t
+  changed_weight stay changed t = elim (cases_Bool (same_track track t)) [
+    | inl here ↦ ap (λ o. o.weight) (changed_here changed t here) ∙ stay (track_at tracks t)
+    | inr other ↦ ap (λ o. o.weight) (unchanged changed t other)
+  ]
+
+  pub changed_offers : ((o : OnTrack) → (change o).offers ≡ o.offers) → IsChanged tracks new track change → (t : Track)
+      → offers_at new t ≡ offers_at tracks t
+  changed_offers stay changed t = elim (cases_Bool (same_track track t)) [
+    | inl here ↦ ap (λ o. o.offers) (changed_here changed t here) ∙ stay (track_at tracks t)
+    | inr other ↦ ap (λ o. o.offers) (unchanged changed t other)
+  ]
+
+-- the indexes hold with other tracks whose places and weights are the same
+pub kept_still : (es : List Entry) (tasks : List OfTask) (tracks new : List (List OnTrack)) → IsKept es tasks tracks
+    → ((t : Track) → (track_at new t).places ≡ (track_at tracks t).places) → ((t : Track) → (track_at new t).weight ≡
+    (track_at tracks t).weight) → IsKept es tasks new
+kept_still es tasks tracks new h same_places same_weights = record {
+  in_order = h.in_order;
+  few = h.few;
+  small = h.small;
+  index = record {
+    by_task = h.index.by_task;
+    by_track = λ t. same_places t ∙ h.index.by_track t;
+    by_weight = λ t. same_weights t
+        ∙ h.index.by_weight t;
+  };
+}
 
 module _ (s : State) (n : ℕ) (e : Entry) (es : List Entry) (tracks new : List (List OnTrack)) (at : slice_get es n ≡ Some e) where
   abbrev pub turned : Entry
   turned = record { block = e.block; state = s }
 
-  kept_there : (t : Track) → same_track e.block.track t ≡ true → track_at tracks t ≡ kept_of t es
-      → reweighed (wanted_weight e.block.track (e ∷ [])) (wanted_weight e.block.track (turned ∷ [])) (track_at tracks t) ≡ kept_of t (with_state s n es)
-  kept_there t here kept =
+  abbrev change : OnTrack → OnTrack
+  change = reweighed (wanted_weight e.block.track (e ∷ [])) (wanted_weight e.block.track (turned ∷ []))
+
+  weight_there : (t : Track) (w : ℕ) → same_track e.block.track t ≡ true → w ≡ wanted_weight t es
+      → w - wanted_weight e.block.track (e ∷ []) + wanted_weight e.block.track (turned ∷ []) ≡ wanted_weight t (with_state s n es)
+  weight_there t w here kept =
       let same = same_one e.block.track t here in
       let lost = ap (λ u. wanted_weight u (e ∷ [])) same in
       let gained = ap (λ u. wanted_weight u (turned ∷ [])) same in
       let change = weight-with_state t s n e es at in
       let part = weight_at t n e es at in
-      let weight : wanted_weight t es - wanted_weight e.block.track (e ∷ []) + wanted_weight e.block.track (turned ∷ []) ≡ wanted_weight t (with_state s n es) = omega (arith, lost, gained, change, part) in
-      ap (reweighed (wanted_weight e.block.track (e ∷ [])) (wanted_weight e.block.track (turned ∷ []))) kept
-      ∙ same_track_blocks _ _ (sym (places-with_state (λ b. same_track t b.track) s n es)) weight
+      omega (arith, lost, gained, change, part, kept)
 
-  kept_elsewhere : (t : Track) → same_track e.block.track t ≡ false → track_at tracks t ≡ kept_of t es → track_at tracks t ≡ kept_of t (with_state s n es)
-  kept_elsewhere t other kept =
+  weight_other : (t : Track) (w : ℕ) → same_track e.block.track t ≡ false → w ≡ wanted_weight t es → w ≡ wanted_weight t (with_state s n es)
+  weight_other t w other kept =
       let off = same_turned e.block.track t other in
       let lost = weight_elsewhere t e off in
       let gained = weight_elsewhere t turned off in
       let change = weight-with_state t s n e es at in
-      let weight : wanted_weight t es ≡ wanted_weight t (with_state s n es) = omega (arith, lost, gained, change) in
-      kept ∙ same_track_blocks _ _ (sym (places-with_state (λ b. same_track t b.track) s n es)) weight
+      omega (arith, lost, gained, change, kept)
 
   kept_own : (task : ℕ) (blocks : OfTask) → (e.block.task == task) ≡ true → blocks ≡ kept_of_task task es
       → counted_anew (counts_of e.block.task (e ∷ [])) (counts_of e.block.task (turned ∷ [])) blocks ≡ kept_of_task task (with_state s n es)
@@ -75,8 +117,10 @@ module _ (s : State) (n : ℕ) (e : Entry) (es : List Entry) (tracks new : List 
   kept_other task other = same_blocks _ _ (sym (places-with_state (λ b. b.task == task) s n es)) (counts-with_other task s n e es at other)
 
   pub kept_turned : (tasks more : List OfTask) → IsKept es tasks tracks
-      → ((k : ℕ) → get_or more k no_blocks ≡ (if e.block.task == k then counted_anew (counts_of e.block.task (e ∷ [])) (counts_of e.block.task (turned ∷ [])) (get_or tasks k no_blocks) else get_or tasks k no_blocks))
-      → ((t : Track) → track_at new t ≡ (if same_track e.block.track t then reweighed (wanted_weight e.block.track (e ∷ [])) (wanted_weight e.block.track (turned ∷ [])) (track_at tracks t) else track_at tracks t))
+      → ((k : ℕ) → get_or more k no_blocks ≡ (if e.block.task == k then counted_anew (counts_of e.block.task (e ∷ []))
+      (counts_of e.block.task (turned ∷ [])) (get_or tasks k no_blocks) else get_or tasks k no_blocks))
+      → ((t : Track) → track_at new t ≡ (if same_track e.block.track t then reweighed (wanted_weight e.block.track (e ∷ []))
+      (wanted_weight e.block.track (turned ∷ [])) (track_at tracks t) else track_at tracks t))
       → IsKept (with_state s n es) more new
   kept_turned tasks more h counted changed = record {
     in_order = subst AreInOrder (sym (blocks-with_state s n es)) h.in_order;
@@ -87,68 +131,99 @@ module _ (s : State) (n : ℕ) (e : Entry) (es : List Entry) (tracks new : List 
         | inl own ↦ counted task ∙ rw own (kept_own task (get_or tasks task no_blocks) own (h.index.by_task task))
         | inr other ↦ counted task ∙ rw other (h.index.by_task task ∙ kept_other task other)
       ];
-      by_track = λ t. elim (cases_Bool (same_track e.block.track t)) [
-        | inl here ↦ changed t ∙ rw here (kept_there t here (h.index.by_track t))
-        | inr other ↦ changed t ∙ rw other (kept_elsewhere t other (h.index.by_track t))
+      by_track = λ t. changed_places tracks new e.block.track change (λ o. refl) changed t
+          ∙ (h.index.by_track t ∙ sym (places-with_state (λ b. same_track t b.track) s n es));
+      by_weight = λ t. elim (cases_Bool (same_track e.block.track t)) [
+        | inl here ↦ ap (λ o. o.weight) (changed_here tracks new e.block.track change changed t here) ∙ weight_there t
+            (weight_kept tracks t) here (h.index.by_weight t)
+        | inr other ↦ ap (λ o. o.weight) (unchanged tracks new e.block.track change changed t other) ∙ weight_other t
+            (weight_kept tracks t) other (h.index.by_weight t)
       ];
     };
   }
 
   -- the indexes after a block is written with its new state
   pub kept_set : (tasks more : List OfTask) (was is : Counts) (lost gained : ℕ) → IsKept es tasks tracks
-      → was ≡ counts_of e.block.task (e ∷ []) → is ≡ counts_of e.block.task (turned ∷ []) → lost ≡ wanted_weight e.block.track (e ∷ []) → gained ≡ wanted_weight e.block.track (turned ∷ [])
-      → ((k : ℕ) → get_or more k no_blocks ≡ (if e.block.task == k then counted_anew was is (get_or tasks k no_blocks) else get_or tasks k no_blocks))
-      → ((t : Track) → track_at new t ≡ (if same_track e.block.track t then reweighed lost gained (track_at tracks t) else track_at tracks t))
+      → was ≡ counts_of e.block.task (e ∷ []) → is ≡ counts_of e.block.task (turned ∷ []) → lost ≡ wanted_weight e.block.track
+      (e ∷ []) → gained ≡ wanted_weight e.block.track (turned ∷ [])
+      → ((k : ℕ) → get_or more k no_blocks ≡ (if e.block.task == k then counted_anew was is
+      (get_or tasks k no_blocks) else get_or tasks k no_blocks))
+      → ((t : Track) → track_at new t ≡ (if same_track e.block.track t then reweighed lost gained
+      (track_at tracks t) else track_at tracks t))
       → IsKept (set es n turned) more new
   kept_set tasks more was is lost gained h before after loses gains counted changed =
-      let counts : (k : ℕ) → get_or more k no_blocks ≡ (if e.block.task == k then counted_anew (counts_of e.block.task (e ∷ [])) (counts_of e.block.task (turned ∷ [])) (get_or tasks k no_blocks) else get_or tasks k no_blocks)
+      let counts : (k : ℕ) → get_or more k no_blocks ≡ (if e.block.task == k then counted_anew (counts_of e.block.task (e ∷ []))
+      (counts_of e.block.task (turned ∷ [])) (get_or tasks k no_blocks) else get_or tasks k no_blocks)
       = λ k. counted k
       ∙ (ap (λ x. if e.block.task == k then counted_anew x is (get_or tasks k no_blocks) else get_or tasks k no_blocks) before
-      ∙ ap (λ x. if e.block.task == k then counted_anew (counts_of e.block.task (e ∷ [])) x (get_or tasks k no_blocks) else get_or tasks k no_blocks) after) in
-      let weights : (t : Track) → track_at new t ≡ (if same_track e.block.track t then reweighed (wanted_weight e.block.track (e ∷ [])) (wanted_weight e.block.track (turned ∷ [])) (track_at tracks t) else track_at tracks t)
+      ∙ ap (λ x. if e.block.task == k then counted_anew (counts_of e.block.task (e ∷ [])) x
+      (get_or tasks k no_blocks) else get_or tasks k no_blocks) after) in
+      let weights : (t : Track) → track_at new t ≡ (if same_track e.block.track t then reweighed (wanted_weight e.block.track
+      (e ∷ [])) (wanted_weight e.block.track (turned ∷ [])) (track_at tracks t) else track_at tracks t)
       = λ t. changed t
       ∙ (ap (λ l. if same_track e.block.track t then reweighed l gained (track_at tracks t) else track_at tracks t) loses
-      ∙ ap (λ g. if same_track e.block.track t then reweighed (wanted_weight e.block.track (e ∷ [])) g (track_at tracks t) else track_at tracks t) gains) in
+      ∙ ap (λ g. if same_track e.block.track t then reweighed (wanted_weight e.block.track (e ∷ [])) g
+      (track_at tracks t) else track_at tracks t) gains) in
       subst (λ l. IsKept l more new) (sym (items-with_state s n e es at)) (kept_turned tasks more h counts weights)
 
 module _ (e : Entry) (es : List Entry) (tasks newtasks : List OfTask) (tracks new : List (List OnTrack)) where
-  more_own : (task : ℕ) (blocks : OfTask) → (e.block.task == task) ≡ true → blocks ≡ kept_of_task task es → grown_task (length es) e blocks ≡ kept_of_task task (es ++ e ∷ [])
+  more_own : (task : ℕ) (blocks : OfTask) → (e.block.task == task) ≡ true → blocks ≡ kept_of_task task es → grown_task
+      (length es) e blocks ≡ kept_of_task task (es ++ e ∷ [])
   more_own task blocks own kept =
       let same : e.block.task ≡ task = grind (arith, nat_tests) in
       ap (grown_task (length es) e) kept
-      ∙ same_blocks _ _ (sym (places-more_yes (of_task task) es e own)) (ap (λ u. recounted no_counts (counts_of u (e ∷ [])) (counts_of task es)) same ∙ counts-grown task es e)
+      ∙ same_blocks _ _ (sym (places-more_yes (of_task task) es e own)) (ap (λ u. recounted no_counts (counts_of u (e ∷ []))
+      (counts_of task es)) same ∙ counts-grown task es e)
 
   more_other : (task : ℕ) → (e.block.task == task) ≡ false → kept_of_task task es ≡ kept_of_task task (es ++ e ∷ [])
   more_other task other = same_blocks _ _ (sym (places-more_no (of_task task) es e other)) (counts-grown_other task es e other)
 
   more_of_task : (task : ℕ) → get_or tasks task no_blocks ≡ kept_of_task task es
-      → get_or newtasks task no_blocks ≡ (if e.block.task == task then grown_task (length es) e (get_or tasks task no_blocks) else get_or tasks task no_blocks)
+      → get_or newtasks task no_blocks ≡ (if e.block.task == task then grown_task (length es) e
+      (get_or tasks task no_blocks) else get_or tasks task no_blocks)
       → get_or newtasks task no_blocks ≡ kept_of_task task (es ++ e ∷ [])
   more_of_task task kept changed = elim (cases_Bool (e.block.task == task)) [
     | inl own ↦ changed ∙ rw own (more_own task (get_or tasks task no_blocks) own kept)
     | inr other ↦ changed ∙ rw other (kept ∙ more_other task other)
   ]
 
-  more_on_track : (t : Track) → track_at tracks t ≡ kept_of t es
-      → track_at new t ≡ (if same_track e.block.track t then grown (length es) (wanted_weight e.block.track (e ∷ [])) (track_at tracks t) else track_at tracks t)
-      → track_at new t ≡ kept_of t (es ++ e ∷ [])
-  more_on_track t kept changed = elim (cases_Bool (same_track e.block.track t)) [
+  abbrev added : OnTrack → OnTrack
+  added = grown (length es) (wanted_weight e.block.track (e ∷ []))
+
+  more_places : (t : Track) → (track_at tracks t).places ≡ places (of_track t) es
+      → IsChanged tracks new e.block.track (grown (length es) (wanted_weight e.block.track (e ∷ [])))
+      → (track_at new t).places ≡ places (of_track t) (es ++ e ∷ [])
+  more_places t kept changed = elim (cases_Bool (same_track e.block.track t)) [
     | inl here ↦
-        let same = same_one e.block.track t here in
-        let on : same_track t e.block.track ≡ true = ap (λ u. same_track t u) same ∙ same_itself t in
-        let gained = ap (λ u. wanted_weight u (e ∷ [])) same in
-        let weight : wanted_weight t es + wanted_weight e.block.track (e ∷ []) ≡ wanted_weight t (es ++ e ∷ []) = omega (arith, gained, weight-append t es (e ∷ [])) in
-        changed ∙ rw here (ap (grown (length es) (wanted_weight e.block.track (e ∷ []))) kept
-        ∙ same_track_blocks _ _ (sym (places-more_yes (of_track t) es e on)) weight)
+        let on : same_track t e.block.track ≡ true = ap (λ u. same_track t u) (same_one e.block.track t here) ∙ same_itself t in
+        ap (λ o. o.places) (changed_here tracks new e.block.track added changed t here) ∙ (ap (λ l. l ++ length es ∷ []) kept ∙ sym
+        (places-more_yes (of_track t) es e on))
     | inr other ↦
-        let off = same_turned e.block.track t other in
-        let weight : wanted_weight t es ≡ wanted_weight t (es ++ e ∷ []) = omega (arith, weight-append t es (e ∷ []), weight_elsewhere t e off) in
-        changed ∙ rw other (kept ∙ same_track_blocks _ _ (sym (places-more_no (of_track t) es e off)) weight)
+        ap (λ o. o.places) (unchanged tracks new e.block.track added changed t other) ∙ (kept ∙ sym (places-more_no (of_track t) es e
+        (same_turned e.block.track t other)))
   ]
 
-  pub kept_more : IsKept es tasks tracks → e.block.index ≡ registered e.block.task (blocks_of es) → length es < 16000000 → e.block.weight ≤ 1000 → e.block.count ≤ 2048
-      → ((task : ℕ) → get_or newtasks task no_blocks ≡ (if e.block.task == task then grown_task (length es) e (get_or tasks task no_blocks) else get_or tasks task no_blocks))
-      → ((t : Track) → track_at new t ≡ (if same_track e.block.track t then grown (length es) (wanted_weight e.block.track (e ∷ [])) (track_at tracks t) else track_at tracks t))
+  more_weight : (t : Track) → weight_kept tracks t ≡ wanted_weight t es
+      → IsChanged tracks new e.block.track (grown (length es) (wanted_weight e.block.track (e ∷ [])))
+      → weight_kept new t ≡ wanted_weight t (es ++ e ∷ [])
+  more_weight t kept changed = elim (cases_Bool (same_track e.block.track t)) [
+    | inl here ↦
+        let gained = ap (λ u. wanted_weight u (e ∷ [])) (same_one e.block.track t here) in
+        let is : weight_kept new t ≡ weight_kept tracks t + wanted_weight e.block.track (e ∷ []) = ap (λ o. o.weight)
+        (changed_here tracks new e.block.track added changed t here) in
+        omega (arith, is, kept, gained, weight-append t es (e ∷ []))
+    | inr other ↦
+        let off = same_turned e.block.track t other in
+        let is : weight_kept new t ≡ weight_kept tracks t = ap (λ o. o.weight) (unchanged tracks new e.block.track added changed t other) in
+        omega (arith, is, kept, weight-append t es (e ∷ []), weight_elsewhere t e off)
+  ]
+
+  pub kept_more : IsKept es tasks tracks → e.block.index ≡ registered e.block.task (blocks_of es) → length es < 16000000
+      → e.block.weight ≤ 1000 → e.block.count ≤ 2048
+      → ((task : ℕ) → get_or newtasks task no_blocks ≡ (if e.block.task == task then grown_task (length es) e
+      (get_or tasks task no_blocks) else get_or tasks task no_blocks))
+      → ((t : Track) → track_at new t ≡ (if same_track e.block.track t then grown (length es) (wanted_weight e.block.track (e ∷ []))
+      (track_at tracks t) else track_at tracks t))
       → IsKept (es ++ e ∷ []) newtasks new
   kept_more h free room light short by_task by_track = record {
     in_order = numbered-more es e h.in_order free;
@@ -156,17 +231,23 @@ module _ (e : Entry) (es : List Entry) (tasks newtasks : List OfTask) (tracks ne
     small = small-more es e h.small light short;
     index = record {
       by_task = λ task. more_of_task task (h.index.by_task task) (by_task task);
-      by_track = λ t. more_on_track t (h.index.by_track t) (by_track t);
+      by_track = λ t. more_places t (h.index.by_track t) by_track;
+      by_weight = λ t. more_weight t (h.index.by_weight t) by_track;
     };
   }
 
   -- the indexes after a block is added at the end
   pub kept_pushed : (items : List Entry) (place : ℕ) → items ≡ es ++ e ∷ [] → place ≡ length es
-      → IsKept es tasks tracks → e.block.index ≡ registered e.block.task (blocks_of es) → length es < 16000000 → e.block.weight ≤ 1000 → e.block.count ≤ 2048
-      → ((task : ℕ) → get_or newtasks task no_blocks ≡ (if e.block.task == task then grown_task place e (get_or tasks task no_blocks) else get_or tasks task no_blocks))
-      → ((t : Track) → track_at new t ≡ (if same_track e.block.track t then grown place (wanted_weight e.block.track (e ∷ [])) (track_at tracks t) else track_at tracks t))
+      → IsKept es tasks tracks → e.block.index ≡ registered e.block.task (blocks_of es) → length es < 16000000
+      → e.block.weight ≤ 1000 → e.block.count ≤ 2048
+      → ((task : ℕ) → get_or newtasks task no_blocks ≡ (if e.block.task == task then grown_task place e
+      (get_or tasks task no_blocks) else get_or tasks task no_blocks))
+      → ((t : Track) → track_at new t ≡ (if same_track e.block.track t then grown place (wanted_weight e.block.track (e ∷ []))
+      (track_at tracks t) else track_at tracks t))
       → IsKept items newtasks new
   kept_pushed items place list is h free room light short by_task by_track =
       subst (λ l. IsKept l newtasks new) (sym list) (kept_more h free room light short
-      (subst (λ p. (task : ℕ) → get_or newtasks task no_blocks ≡ (if e.block.task == task then grown_task p e (get_or tasks task no_blocks) else get_or tasks task no_blocks)) is by_task)
-      (subst (λ p. (t : Track) → track_at new t ≡ (if same_track e.block.track t then grown p (wanted_weight e.block.track (e ∷ [])) (track_at tracks t) else track_at tracks t)) is by_track))
+      (subst (λ p. (task : ℕ) → get_or newtasks task no_blocks ≡ (if e.block.task == task then grown_task p e
+      (get_or tasks task no_blocks) else get_or tasks task no_blocks)) is by_task)
+      (subst (λ p. (t : Track) → track_at new t ≡ (if same_track e.block.track t then grown p (wanted_weight e.block.track (e ∷ []))
+      (track_at tracks t) else track_at tracks t)) is by_track))

@@ -8,11 +8,10 @@ use Rattle.fb_units.specs.declared.types.Track.{Track}
 use Rattle.fb_wanted.specs.declared.block.Entry.{Entry}
 use Rattle.fb_wanted.specs.declared.block.Counts.{Counts}
 use Rattle.fb_wanted.specs.declared.tasks.OfTask.{OfTask}
-use Rattle.fb_wanted.specs.declared.heads.OnTrack.{OnTrack}
 use Rattle.fb_wanted.specs.Counting.{counts_of, sum_of, AreNoMore, Fit}
 use Rattle.fb_wanted.specs.States.{on_track}
 use Rattle.fb_wanted.specs.Tracks.{wanted_weight}
-use Rattle.fb_wanted.specs.Index.{places, of_task, of_track, track_at, weight_kept, IsThere, IsKept, no_blocks, no_block_on}
+use Rattle.fb_wanted.specs.Index.{OnTrack, places, of_task, of_track, track_at, weight_kept, IsThere, IsKept, no_blocks, no_block_on}
 use Rattle.fb_wanted.proofs.Standing.{length-places, among}
 use Rattle.fb_wanted.proofs.Counted.{filter-le, counts_at, counts-few}
 use Rattle.fb_wanted.proofs.Kept.{same_itself}
@@ -64,13 +63,13 @@ module _ (es : List Entry) (tasks : List OfTask) (tracks : List (List OnTrack)) 
       rw (is, kept_counts task) (omega (arith, one.0, all.0, h.few), omega (arith, one.1, all.1, h.few), omega (arith, one.2, all.2, h.few))
 
   pub track_kept : (t : Track) (on : OnTrack) → on ≡ track_at tracks t → (on.places ≡ places (of_track t) es) × (on.weight ≡ wanted_weight t es)
-  track_kept t on at = let kept = at ∙ h.index.by_track t in (ap (λ o. o.places) kept, ap (λ o. o.weight) kept)
+  track_kept t on at = (ap (λ o. o.places) at ∙ h.index.by_track t, ap (λ o. o.weight) at ∙ h.index.by_weight t)
 
   pub track_weight : (t : Track) (on : OnTrack) → on ≡ track_at tracks t → on.weight ≤ 16000000 * 2048000
   track_weight t on at = omega (arith, (track_kept t on at).1, weight-le t es h.small, h.few)
 
   pub weight_read : (t : Track) → weight_kept tracks t ≡ wanted_weight t es
-  weight_read t = ap (λ on. on.weight) (h.index.by_track t)
+  weight_read t = h.index.by_weight t
 
   pub weight_small : (t : Track) → weight_kept tracks t ≤ 16000000 * 2048000
   weight_small t = omega (arith, weight_read t, weight-le t es h.small, h.few)
@@ -80,7 +79,7 @@ module _ (es : List Entry) (tasks : List OfTask) (tracks : List (List OnTrack)) 
   weight_part n e lost at is = omega (arith, is, weight_read e.block.track, weight_at e.block.track n e es at)
 
   track_length : (t : Track) → length (track_at tracks t).places ≡ length (on_track t es)
-  track_length t = ap (λ on. length on.places) (h.index.by_track t) ∙ length-places (of_track t) es
+  track_length t = ap length (h.index.by_track t) ∙ length-places (of_track t) es
 
   -- the track of a registered block has a place in the index
   pub its_track_there : (n : ℕ) (e : Entry) → slice_get es n ≡ Some e → IsThere tracks e.block.track

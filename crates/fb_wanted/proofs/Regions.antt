@@ -11,6 +11,7 @@ use Rattle.fb_wanted.specs.declared.streaks.Streak.{Streak}
 use Rattle.fb_wanted.specs.Index.{of_task, lbns, region_of, key_of, streak_cmp, IsInStreak, BeginsStreak, AreNoted, AreShort, with_state}
 use Rattle.fb_wanted.proofs.Standing.{get_some}
 use Rattle.fb_wanted.proofs.Numbers.{in_either}
+use Rattle.fb_wanted.proofs.Spots.{at_left, at_end}
 
 -- the LBN of the k-th block of a task
 pub lbn_at : (task : ℕ) (es : List Entry) (k : ℕ) (e : Entry) → slice_get (filter (of_task task) es) k ≡ Some e → slice_get (lbns task es) k ≡ Some e.block.lbn
@@ -45,17 +46,11 @@ lbns-other task (x ∷ es) e other = elim (cases_Bool (x.block.task == task)) [
   | inr no' ↦ rw no' (lbns-other task es e other)
 ]
 
--- an element of a list is there when one more follows
-pub still_at : (xs : List ℕ) (y x i : ℕ) → slice_get xs i ≡ Some x → slice_get (xs ++ y ∷ []) i ≡ Some x
-still_at [] y x i at = absurd (omega (arith, slice_get_within [] i x at))
-still_at (z ∷ zs) y x zero at = at
-still_at (z ∷ zs) y x (suc i) at = still_at zs y x i at
-
 -- the streaks of a list of LBNs are streaks when one more follows
 pub streaks_stay : (xs : List ℕ) (y : ℕ) (streak : Streak) → BeginsStreak xs streak → BeginsStreak (xs ++ y ∷ []) streak
 streaks_stay xs y streak h = record {
   lbn = h.lbn;
-  at = still_at xs y h.lbn streak.index h.at;
+  at = at_left xs y h.lbn streak.index h.at;
   region = h.region;
   anew = λ i before next at. elim (in_either xs y before i at) [
     | inl old ↦ h.anew i before next old.1
@@ -75,16 +70,13 @@ last_begins (x ∷ xs) y streak here region anew = record {
     | inl old ↦ anew i before next old.1
     | inr last ↦ absurd (omega (arith, last.0, next, here))
   ];
-} where
-  at_end : (zs : List ℕ) (z : ℕ) → slice_get (zs ++ z ∷ []) (length zs) ≡ Some z
-  at_end [] z = refl
-  at_end (w ∷ zs) z = at_end zs z
+}
 
 pub streak_or_last : (xs : List ℕ) (y : ℕ) (streak : Streak) → BeginsStreak (xs ++ y ∷ []) streak → BeginsStreak xs streak ⊎ ((streak.index ≡ length xs) × (streak.region ≡ region_of y)
     × ((i before : ℕ) → suc i ≡ streak.index → slice_get xs i ≡ Some before → region_of before ≡ streak.region → ⊥))
 streak_or_last xs y streak h = elim (in_either xs y h.lbn streak.index h.at) [
-  | inl old ↦ inl (record { lbn = h.lbn; at = old.1; region = h.region; anew = λ i before next at. h.anew i before next (still_at xs y before i at) })
-  | inr last ↦ inr (last.0, sym h.region ∙ ap region_of last.1, λ i before next at. h.anew i before next (still_at xs y before i at))
+  | inl old ↦ inl (record { lbn = h.lbn; at = old.1; region = h.region; anew = λ i before next at. h.anew i before next (at_left xs y before i at) })
+  | inr last ↦ inr (last.0, sym h.region ∙ ap region_of last.1, λ i before next at. h.anew i before next (at_left xs y before i at))
 ]
 
 -- each block lies in a streak

@@ -1,5 +1,6 @@
 -- The indexes that are kept beside the list of registered blocks.
 use Rattle.std.specs.Prelude.{◌≡◌, ◌↔◌, ◌⊎◌, ℕ, zero, suc, ◌+◌, ◌-◌, ◌*◌, ◌/◌, ◌≤◌, ◌<◌, ◌==◌, Bool, true, false, List, [], ◌∷◌, ◌++◌, Some, length, map, filter, get_or, slice_get, if◌then◌else◌}
+use Rattle.std.specs.List.{swap_remove}
 use Rattle.std.specs.Ordering.{nat_cmp, ordering_then}
 use Rattle.std.specs.declared.cmp.Ordering.{Ordering}
 use Rattle.std.specs.BTreeSet.{BTreeSet, contains}
@@ -11,10 +12,11 @@ use Rattle.fb_wanted.specs.declared.block.Counts.{Counts}
 use Rattle.fb_wanted.specs.declared.block.Entry.{Entry}
 use Rattle.fb_wanted.specs.declared.block.State.{State}
 use Rattle.fb_wanted.specs.declared.tasks.OfTask.{OfTask}
-use Rattle.fb_wanted.specs.declared.heads.OnTrack.{OnTrack}
+use Rattle.fb_wanted.specs.declared.offer.Offer.{Offer}
 use Rattle.fb_wanted.specs.declared.streaks.Streak.{Streak}
 use Rattle.fb_wanted.specs.Counting.{counts_of, no_counts, recounted}
-use Rattle.fb_wanted.specs.States.{shares, state_after, entry_after}
+use Rattle.fb_wanted.specs.States.{shares, state_after, entry_after, is_wanted, on_track}
+use Rattle.fb_wanted.specs.Offers.{AreOffers, offer_of}
 use Rattle.fb_wanted.specs.Numbering.{AreInOrder, AreSmall, blocks_of}
 use Rattle.fb_wanted.specs.Tracks.{wanted_weight}
 
@@ -49,25 +51,57 @@ grown_task place entry blocks = counted_anew no_counts (counts_of entry.block.ta
 abbrev pub kept_of_task : ℕ → List Entry → OfTask
 kept_of_task task entries = record { places = places (of_task task) entries; counts = counts_of task entries }
 
+-- what the index has for a track: the indexes of its blocks, the weight of the wanted ones, and what they offer
+pub record OnTrack : Type 0 where
+  pub places : List ℕ
+  pub weight : ℕ
+  pub offers : List Offer
+
 -- a track with no block
 abbrev pub no_block_on : OnTrack
-no_block_on = record { places = []; weight = 0 }
+no_block_on = record { places = []; weight = 0; offers = [] }
 
--- a track with one more block
+-- a track with one more block, which isn't offered
 abbrev pub grown : ℕ → ℕ → OnTrack → OnTrack
-grown place weight on = record { places = on.places ++ place ∷ []; weight = on.weight + weight }
+grown place weight on = record { places = on.places ++ place ∷ []; weight = on.weight + weight; offers = on.offers }
 
 -- a track whose weight is without `lost` and with `gained`
 abbrev pub reweighed : ℕ → ℕ → OnTrack → OnTrack
-reweighed lost gained on = record { places = on.places; weight = on.weight - lost + gained }
+reweighed lost gained on = record { places = on.places; weight = on.weight - lost + gained; offers = on.offers }
 
--- what the index has for a track
-abbrev pub kept_of : Track → List Entry → OnTrack
-kept_of track entries = record { places = places (of_track track) entries; weight = wanted_weight track entries }
+-- a track with one more offer
+abbrev pub with_offer : Offer → OnTrack → OnTrack
+with_offer offer on = record { places = on.places; weight = on.weight; offers = on.offers ++ offer ∷ [] }
+
+-- what a block with no sector offers
+abbrev pub no_offer : Offer
+no_offer = record { sweep = record { begin = 0; length = 0 }; worth = 0; place = 0 }
+
+-- the last offer
+abbrev pub last_of : List Offer → Offer
+last_of offers = get_or offers (length offers - 1) no_offer
+
+-- the offers without the one at an index, where the last one stands then
+abbrev pub taken_out : ℕ → List Offer → List Offer
+taken_out spot offers = swap_remove offers spot no_offer
+
+-- a track without the offer at an index
+abbrev pub without_offer : ℕ → OnTrack → OnTrack
+without_offer spot on = record { places = on.places; weight = on.weight; offers = taken_out spot on.offers }
 
 -- what stands for a track in lists by cylinder and by head
 abbrev pub track_at : List (List OnTrack) → Track → OnTrack
 track_at tracks track = get_or (get_or tracks track.cylinder []) track.head no_block_on
+
+-- the track of a head has changed so, and no other has changed
+abbrev pub IsHeadChanged : List OnTrack → List OnTrack → ℕ → (OnTrack → OnTrack) → Type 0
+IsHeadChanged old new head change = (h : ℕ)
+    → get_or new h no_block_on ≡ (if head == h then change (get_or old h no_block_on) else get_or old h no_block_on)
+
+-- the track has changed so, and no other has changed
+abbrev pub IsChanged : List (List OnTrack) → List (List OnTrack) → Track → (OnTrack → OnTrack) → Type 0
+IsChanged old new track change = (t : Track)
+    → track_at new t ≡ (if same_track track t then change (track_at old t) else track_at old t)
 
 -- the lists reach to the track
 abbrev pub IsThere : List (List OnTrack) → Track → Type 0
@@ -76,7 +110,8 @@ IsThere tracks track = (track.cylinder < length tracks) × (track.head < length 
 -- the indexes by task and by track are those of the list
 pub record IsIndex (entries : List Entry) (tasks : List OfTask) (tracks : List (List OnTrack)) : Type 0 where
   pub by_task : (task : ℕ) → get_or tasks task no_blocks ≡ kept_of_task task entries
-  pub by_track : (track : Track) → track_at tracks track ≡ kept_of track entries
+  pub by_track : (track : Track) → (track_at tracks track).places ≡ places (of_track track) entries
+  pub by_weight : (track : Track) → (track_at tracks track).weight ≡ wanted_weight track entries
 
 -- the LBNs of a task's blocks, in order of registration
 abbrev pub lbns : ℕ → List Entry → List ℕ
@@ -124,6 +159,26 @@ AreShort longest entries = (i : ℕ) (entry : Entry) → slice_get entries i ≡
 -- the wanted weight that the index has for a track
 abbrev pub weight_kept : List (List OnTrack) → Track → ℕ
 weight_kept tracks track = (track_at tracks track).weight
+
+-- the offers that the index has for a track
+abbrev pub offers_at : List (List OnTrack) → Track → List Offer
+offers_at tracks track = (track_at tracks track).offers
+
+-- an offer is that of a wanted block of the track, and the block's spot is where the offer stands
+pub record IsItsOffer (entries : List Entry) (spots : List ℕ) (track : Track) (spot : ℕ) (offer : Offer) : Type 0 where
+  pub entry : Entry
+  pub there : slice_get entries offer.place ≡ Some entry
+  pub on : same_track entry.block.track track ≡ true
+  pub wanted : is_wanted entry.state ≡ true
+  pub spot_is : slice_get spots offer.place ≡ Some spot
+
+-- the offers of each track are those of its wanted blocks, each of which stands at the block's spot
+pub record AreOffered (entries : List Entry) (offers : Track → List Offer) (spots : List ℕ) : Type 0 where
+  pub sums : (track : Track) → AreOffers (offers track) (on_track track entries)
+  pub each : (track : Track) (i : ℕ) (offer : Offer) → slice_get (offers track) i ≡ Some offer → IsItsOffer entries spots track i offer
+  pub all : (place : ℕ) (entry : Entry) → slice_get entries place ≡ Some entry → is_wanted entry.state ≡ true
+      → (i : ℕ) × (slice_get spots place ≡ Some i) × (slice_get (offers entry.block.track) i ≡ Some (offer_of place entry.block))
+  pub one_each : length spots ≡ length entries
 
 -- no track has more wanted weight than the bound of its cylinder, and each cylinder in the index has a bound
 pub record AreGreatest (tracks : List (List OnTrack)) (greatest : List ℕ) : Type 0 where

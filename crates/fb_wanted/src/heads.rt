@@ -1,20 +1,12 @@
 // The index of the registered blocks of one cylinder's tracks.
 ghost use Rattle.std.specs.Prelude.{◌≡◌, ℕ, ◌≤◌, ◌<◌, ◌+◌, ◌-◌, ◌^◌, ◌==◌, ◌∷◌, ◌++◌, [], List, IfSome, IfNone, IfOk, OnOk, OnErr, length, get_or, if◌then◌else◌};
-ghost use Rattle.fb_wanted.specs.Index.{grown, reweighed, no_block_on};
+ghost use Rattle.fb_wanted.specs.Index.{grown, reweighed, with_offer, without_offer, last_of, no_block_on, IsHeadChanged};
 
-use crate::places::Places;
+use crate::Offer;
+use crate::on_track::OnTrack;
 use fb_units::NoMemory;
 use std::alloc::Global;
 use std::marker::Model;
-
-/// The registered blocks of a track.
-#[derive(Drop)]
-pub struct OnTrack {
-    /// Their indexes among all registered blocks.
-    pub places: Places,
-    /// The sum of weight times sectors over the wanted ones.
-    pub weight: u64,
-}
 
 /// The tracks of a cylinder, by head, up to the last one with a block.
 #[derive(Drop)]
@@ -24,9 +16,9 @@ pub struct Heads {
 
 impl Model for Heads {
     ghost use Rattle.std.specs.Prelude.{List};
-    ghost use Rattle.fb_wanted.specs.declared.heads.OnTrack.{OnTrack};
+    ghost use Rattle.fb_wanted.specs.Index as index;
 
-    ghost Value = { List OnTrack };
+    ghost Value = { List index.OnTrack };
 
     ghost view = { λ h. h.items.items };
 }
@@ -41,20 +33,16 @@ fn add_to(
     weight: u64,
 ) -> Result<u64, NoMemory>
     requires { (get_or tracks.old.items head no_block_on).weight + weight < 2 ^ 64 }
-    ensures ok { OnOk result ((h : ℕ) → get_or tracks.new.items h no_block_on ≡ (if head == h then grown place weight (get_or tracks.old.items h no_block_on) else get_or tracks.old.items h no_block_on)) }
+    ensures ok { OnOk result (IsHeadChanged tracks.old.items tracks.new.items head (grown place weight)) }
     ensures weight { IfOk result (λ kept. kept ≡ (get_or tracks.new.items head no_block_on).weight) }
     ensures err { OnErr result ((h : ℕ) → get_or tracks.new.items h no_block_on ≡ get_or tracks.old.items h no_block_on) }
 {
     let head = head as usize;
     for _ in tracks.len()..head + 1 {
-        tracks.push(OnTrack {
-            places: Places::new(alloc),
-            weight: 0,
-        })?;
+        tracks.push(OnTrack::new(alloc))?;
     }
-    tracks[head].places.push(place)?;
-    tracks[head].weight += weight;
-    Ok(tracks[head].weight)
+    tracks[head].add(place, weight)?;
+    Ok(tracks[head].weight())
 }
 
 // Takes `lost` from the wanted weight of a track and adds `gained`, and returns the weight
@@ -63,12 +51,12 @@ fn reweigh(tracks: &mut Vec<OnTrack>, head: u32, lost: u64, gained: u64) -> u64
     requires there { head < length tracks.old.items }
     requires part { lost ≤ (get_or tracks.old.items head no_block_on).weight }
     requires room { (get_or tracks.old.items head no_block_on).weight + gained < 2 ^ 64 }
-    ensures tracks { (h : ℕ) → get_or tracks.new.items h no_block_on ≡ (if head == h then reweighed lost gained (get_or tracks.old.items h no_block_on) else get_or tracks.old.items h no_block_on) }
+    ensures tracks { IsHeadChanged tracks.old.items tracks.new.items head (reweighed lost gained) }
     ensures weight { result ≡ (get_or tracks.new.items head no_block_on).weight }
 {
-    let on = &mut tracks[head as usize];
-    on.weight = on.weight - lost + gained;
-    on.weight
+    let head = head as usize;
+    tracks[head].reweigh(lost, gained);
+    tracks[head].weight()
 }
 
 // The greatest wanted weight of these tracks; 0 if there are none.
@@ -78,7 +66,7 @@ fn greatest(tracks: &[OnTrack]) -> u64
 {
     let mut greatest: u64 = 0;
     for i in 0..tracks.len() {
-        greatest = greatest.max(tracks[i].weight);
+        greatest = greatest.max(tracks[i].weight());
     }
     greatest
 }
@@ -103,7 +91,7 @@ impl Heads {
         weight: u64,
     ) -> Result<u64, NoMemory>
         requires { (get_or self.old head no_block_on).weight + weight < 2 ^ 64 }
-        ensures ok { OnOk result ((h : ℕ) → get_or self.new h no_block_on ≡ (if head == h then grown place weight (get_or self.old h no_block_on) else get_or self.old h no_block_on)) }
+        ensures ok { OnOk result (IsHeadChanged self.old self.new head (grown place weight)) }
         ensures weight { IfOk result (λ kept. kept ≡ (get_or self.new head no_block_on).weight) }
         ensures err { OnErr result ((h : ℕ) → get_or self.new h no_block_on ≡ get_or self.old h no_block_on) }
     {
@@ -116,10 +104,32 @@ impl Heads {
         requires there { head < length self.old }
         requires part { lost ≤ (get_or self.old head no_block_on).weight }
         requires room { (get_or self.old head no_block_on).weight + gained < 2 ^ 64 }
-        ensures tracks { (h : ℕ) → get_or self.new h no_block_on ≡ (if head == h then reweighed lost gained (get_or self.old h no_block_on) else get_or self.old h no_block_on) }
+        ensures tracks { IsHeadChanged self.old self.new head (reweighed lost gained) }
         ensures weight { result ≡ (get_or self.new head no_block_on).weight }
     {
         reweigh(&mut self.items, head, lost, gained)
+    }
+
+    /// Adds an offer to those of a head's track, and returns its index there.
+    pub fn offer(&mut self, head: u32, offer: Offer) -> u32
+        requires there { head < length self.old }
+        requires room { length (get_or self.old head no_block_on).offers < length (get_or self.old head no_block_on).places }
+        requires few { length (get_or self.old head no_block_on).offers < 2 ^ 32 }
+        ensures tracks { IsHeadChanged self.old self.new head (with_offer offer) }
+        ensures spot { result ≡ length (get_or self.old head no_block_on).offers }
+    {
+        self.items[head as usize].offer(offer)
+    }
+
+    /// Takes an offer of a head's track away, by its index there, to which the last offer is moved;
+    /// returns the index of that one's block among all registered ones.
+    pub fn withdraw(&mut self, head: u32, spot: u32) -> u32
+        requires there { head < length self.old }
+        requires spot { spot < length (get_or self.old head no_block_on).offers }
+        ensures tracks { IsHeadChanged self.old self.new head (without_offer spot) }
+        ensures moved { result ≡ (last_of (get_or self.old head no_block_on).offers).place }
+    {
+        self.items[head as usize].withdraw(spot)
     }
 
     /// The registered blocks of a head's track; none if there is no place for it yet.

@@ -1,5 +1,5 @@
 // The indexes of some blocks among the registered ones.
-ghost use Rattle.std.specs.Prelude.{◌≡◌, ℕ, ◌<◌, ◌∷◌, ◌++◌, [], List, Some, slice_get, length, OnOk, OnErr};
+ghost use Rattle.std.specs.Prelude.{◌≡◌, ℕ, ◌<◌, ◌+◌, ◌^◌, ◌∷◌, ◌++◌, [], List, Some, slice_get, length, OnOk, OnErr};
 
 use fb_units::NoMemory;
 use std::alloc::Global;
@@ -47,7 +47,8 @@ impl Places {
 
     /// The number of indexes.
     pub fn len(&self) -> usize
-        ensures { result ≡ length self.now }
+        ensures number { result ≡ length self.now }
+        ensures few { result + 1 < 2 ^ 64 }
     {
         self.items.len()
     }

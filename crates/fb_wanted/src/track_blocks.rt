@@ -2,16 +2,18 @@
 ghost use Rattle.std.specs.Prelude.{◌≡◌, ◌*◌, ◌≤◌, ◌<◌, List, Some, length, slice_get};
 ghost use Rattle.std.specs.List.{sum_by};
 ghost use Rattle.fb_wanted.specs.States.{on_track, wanted_of};
+ghost use Rattle.fb_wanted.specs.Offers.{AreOffers};
 ghost use Rattle.fb_wanted.specs.Tracks.{wanted_weight};
 ghost use Rattle.fb_wanted.specs.Index.{places, of_track};
 
-use crate::Entry;
+use crate::{Entry, Offer};
 use fb_units::Track;
 use std::marker::Model;
 
 /// The registered blocks of a track, in order of registration.
 ///
-/// Looking at one of them takes constant time.
+/// Looking at one of them takes constant time. What the wanted ones offer lies side by side in memory,
+/// so looking at all of that is faster than looking at each block.
 #[derive(Drop)]
 pub struct TrackBlocks<'a> {
     track: Track,
@@ -20,12 +22,15 @@ pub struct TrackBlocks<'a> {
     at: &'a [u32],
     // The sum of weight times sectors over the wanted ones.
     weight: u64,
+    // What the wanted ones offer.
+    offers: &'a [Offer],
 }
 
 impl<'a> Model for TrackBlocks<'a> {
     ghost use Rattle.std.specs.Prelude.{◌≡◌, ◌*◌, ◌≤◌, List, length};
     ghost use Rattle.fb_wanted.specs.declared.block.Entry.{Entry};
     ghost use Rattle.fb_wanted.specs.States.{on_track};
+    ghost use Rattle.fb_wanted.specs.Offers.{AreOffers};
     ghost use Rattle.fb_wanted.specs.Tracks.{wanted_weight};
     ghost use Rattle.fb_wanted.specs.Index.{places, of_track};
 
@@ -33,16 +38,27 @@ impl<'a> Model for TrackBlocks<'a> {
 
     ghost view = { λ t. on_track t.track t.entries.now };
 
-    ghost invariant = { λ t. (t.at.now ≡ places (of_track t.track) t.entries.now) × (length t.entries.now ≤ 16000000) × (t.weight ≡ wanted_weight t.track t.entries.now) × (t.weight ≤ 16000000 * 2048000) };
+    ghost invariant = { λ t. (t.at.now ≡ places (of_track t.track) t.entries.now)
+        × (length t.entries.now ≤ 16000000)
+        × (t.weight ≡ wanted_weight t.track t.entries.now)
+        × (t.weight ≤ 16000000 * 2048000)
+        × AreOffers t.offers.now (on_track t.track t.entries.now) };
 }
 
 impl<'a> TrackBlocks<'a> {
-    /// The blocks of a track among all, whose indexes and wanted weight are known.
-    pub(crate) fn new(track: Track, entries: &'a [Entry], at: &'a [u32], weight: u64) -> Self
+    /// The blocks of a track among all, whose indexes, wanted weight and offers are known.
+    pub(crate) fn new(
+        track: Track,
+        entries: &'a [Entry],
+        at: &'a [u32],
+        weight: u64,
+        offers: &'a [Offer],
+    ) -> Self
         requires its { at.now ≡ places (of_track track) entries.now }
         requires few { length entries.now ≤ 16000000 }
         requires weight { weight ≡ wanted_weight track entries.now }
         requires small { weight ≤ 16000000 * 2048000 }
+        requires offers { AreOffers offers.now (on_track track entries.now) }
         ensures { result ≡ on_track track entries.now }
     {
         TrackBlocks {
@@ -50,6 +66,7 @@ impl<'a> TrackBlocks<'a> {
             entries,
             at,
             weight,
+            offers,
         }
     }
 
@@ -76,5 +93,14 @@ impl<'a> TrackBlocks<'a> {
     {
         let _ = &self.entries;
         self.weight
+    }
+
+    /// What the wanted blocks offer, in any order, side by side in memory.
+    pub fn offers(&self) -> &'a [Offer]
+        ensures its { AreOffers result.now self.now }
+        ensures few { length result.now ≤ 16000000 }
+    {
+        let _ = &self.entries;
+        self.offers
     }
 }

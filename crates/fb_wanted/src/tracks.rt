@@ -2,11 +2,13 @@
 ghost use Rattle.std.specs.Prelude.{◌≡◌, ℕ, ◌≤◌, ◌<◌, ◌+◌, ◌-◌, ◌^◌, ◌∷◌, ◌++◌, [], List, IfSome, IfNone, IfOk, OnOk, OnErr, length, get_or, if◌then◌else◌};
 ghost use Rattle.fb_units.specs.declared.types.Track.{Track};
 ghost use Rattle.fb_units.specs.Tracks.{same_track};
-ghost use Rattle.fb_wanted.specs.Index.{track_at, grown, reweighed, weight_kept, no_block_on, IsThere};
+ghost use Rattle.fb_wanted.specs.Index.{track_at, offers_at, weight_kept, last_of, no_block_on, IsThere, IsChanged};
+ghost use Rattle.fb_wanted.specs.Index.{grown, reweighed, with_offer, without_offer};
 ghost use Rattle.fb_wanted.specs.Tracks.{wanted_weight};
 
-use crate::heads::{Heads, OnTrack};
-use crate::{Entry, State};
+use crate::heads::Heads;
+use crate::on_track::OnTrack;
+use crate::{Entry, Offer, State};
 use fb_units::{NoMemory, Track};
 use std::alloc::Global;
 use std::marker::Model;
@@ -19,9 +21,9 @@ pub struct Tracks {
 
 impl Model for Tracks {
     ghost use Rattle.std.specs.Prelude.{List};
-    ghost use Rattle.fb_wanted.specs.declared.heads.OnTrack.{OnTrack};
+    ghost use Rattle.fb_wanted.specs.Index as index;
 
-    ghost Value = { List (List OnTrack) };
+    ghost Value = { List (List index.OnTrack) };
 
     ghost view = { λ t. t.cylinders.items };
 }
@@ -72,7 +74,7 @@ impl Tracks {
         weight: u64,
     ) -> Result<u64, NoMemory>
         requires { weight_kept self.old track + weight < 2 ^ 64 }
-        ensures ok { OnOk result ((t : Track) → track_at self.new t ≡ (if same_track track t then grown place weight (track_at self.old t) else track_at self.old t)) }
+        ensures ok { OnOk result (IsChanged self.old self.new track (grown place weight)) }
         ensures weight { IfOk result (λ kept. kept ≡ weight_kept self.new track) }
         ensures err { OnErr result ((t : Track) → track_at self.new t ≡ track_at self.old t) }
         ensures no_longer { (n : ℕ) → length self.old ≤ n → track.cylinder < n → length self.new ≤ n }
@@ -87,11 +89,35 @@ impl Tracks {
         requires there { IsThere self.old track }
         requires part { lost ≤ weight_kept self.old track }
         requires room { weight_kept self.old track + gained < 2 ^ 64 }
-        ensures tracks { (t : Track) → track_at self.new t ≡ (if same_track track t then reweighed lost gained (track_at self.old t) else track_at self.old t) }
+        ensures tracks { IsChanged self.old self.new track (reweighed lost gained) }
         ensures weight { result ≡ weight_kept self.new track }
         ensures length { length self.new ≡ length self.old }
     {
         self.cylinders[track.cylinder as usize].reweigh(track.head, lost, gained)
+    }
+
+    /// Adds an offer to those of a track, and returns its index there.
+    pub fn offer(&mut self, track: Track, offer: Offer) -> u32
+        requires there { IsThere self.old track }
+        requires room { length (offers_at self.old track) < length (track_at self.old track).places }
+        requires few { length (offers_at self.old track) < 2 ^ 32 }
+        ensures tracks { IsChanged self.old self.new track (with_offer offer) }
+        ensures spot { result ≡ length (offers_at self.old track) }
+        ensures length { length self.new ≡ length self.old }
+    {
+        self.cylinders[track.cylinder as usize].offer(track.head, offer)
+    }
+
+    /// Takes an offer of a track away, by its index there, to which the last offer is moved; returns
+    /// the index of that one's block among all registered ones.
+    pub fn withdraw(&mut self, track: Track, spot: u32) -> u32
+        requires there { IsThere self.old track }
+        requires spot { spot < length (offers_at self.old track) }
+        ensures tracks { IsChanged self.old self.new track (without_offer spot) }
+        ensures moved { result ≡ (last_of (offers_at self.old track)).place }
+        ensures length { length self.new ≡ length self.old }
+    {
+        self.cylinders[track.cylinder as usize].withdraw(track.head, spot)
     }
 
     /// The registered blocks of a track; none if there is no place for it yet.

@@ -9,17 +9,18 @@ ghost use Rattle.fb_wanted.specs.Counting.{counts_of, sum_of, Fit};
 ghost use Rattle.fb_wanted.specs.Tracks.{wanted_weight};
 ghost use Rattle.fb_wanted.specs.Depth.{depth_at};
 ghost use Rattle.fb_wanted.specs.Near.{near_of, SharesNone};
-ghost use Rattle.fb_wanted.specs.Index.{places, of_task, lbns, region_of, HasChanged, IsStable, IsWithin, changed_where, with_state, change_nth, track_at, grown, weight_kept, no_blocks, grown_task};
+ghost use Rattle.fb_wanted.specs.Index.{places, of_task, lbns, region_of, HasChanged, IsStable, IsWithin, changed_where, with_state, change_nth, track_at, grown, weight_kept, no_blocks, grown_task, IsChanged};
 ghost use Rattle.fb_units.specs.declared.types.Track.{Track};
 ghost use Rattle.fb_units.specs.Tracks.{same_track};
 
 use crate::bands::{add_bands, band_of};
-use crate::changes::{may_change, shares, state_after, wanted_unless};
+use crate::changes::{may_change, shares, state_after};
 use crate::counting::{counts_of, no_counts};
 use crate::depths::{Depth, NO_DEPTH, deepen, most_in};
 use crate::greatest::{Greatest, update_greatest};
 use crate::near::{chunk_of, next_near};
 use crate::notes::note;
+use crate::offers::reoffer;
 use crate::streaks::{Streak, forget_streak, is_behind, next_streak, note_streak, region_of};
 use crate::tasks::{OfTask, add_place, recount, take_place_back};
 use crate::tracks::{Tracks, weight_of};
@@ -30,6 +31,9 @@ use std::collections::BTreeSet;
 use std::marker::Model;
 
 /// Registered blocks, each with its state, in order of registration.
+///
+/// For each track, what its wanted blocks offer lies side by side in memory, in any order. The room
+/// for what a block offers is taken as it is registered, so no change of state takes memory.
 ///
 /// Costs: to register, to deliver or to look up a block, to look up the blocks of a track, the
 /// counts of a task and the bounds of a band take constant time. Besides, to register a block takes
@@ -56,6 +60,8 @@ pub struct Wanted {
     tasks: Vec<OfTask>,
     tracks: Tracks,
     streaks: BTreeSet<(u32, u64, u32)>,
+    // For each wanted block the index of its offer among those of its track.
+    spots: Vec<u32>,
     // No block has more sectors.
     longest: u32,
     near: BTreeSet<(u32, u32)>,
@@ -66,7 +72,7 @@ pub struct Wanted {
 impl Model for Wanted {
     ghost use Rattle.std.specs.Prelude.{List};
     ghost use Rattle.fb_wanted.specs.declared.block.Entry.{Entry};
-    ghost use Rattle.fb_wanted.specs.Index.{IsKept, AreNoted, AreGreatest, AreShort};
+    ghost use Rattle.fb_wanted.specs.Index.{IsKept, AreNoted, AreGreatest, AreShort, AreOffered, offers_at};
     ghost use Rattle.fb_wanted.specs.Depth.{AreDeep};
     ghost use Rattle.fb_wanted.specs.Near.{AreNear};
 
@@ -74,7 +80,13 @@ impl Model for Wanted {
 
     ghost view = { λ w. w.entries.items };
 
-    ghost invariant = { λ w. IsKept w.entries.items w.tasks.items w.tracks × AreNoted w.entries.items w.streaks × AreGreatest w.tracks w.greatest × AreDeep w.entries.items w.depths.items × AreNear w.entries.items w.near × AreShort w.longest w.entries.items };
+    ghost invariant = { λ w. IsKept w.entries.items w.tasks.items w.tracks
+        × AreNoted w.entries.items w.streaks
+        × AreGreatest w.tracks w.greatest
+        × AreDeep w.entries.items w.depths.items
+        × AreNear w.entries.items w.near
+        × AreShort w.longest w.entries.items
+        × AreOffered w.entries.items (offers_at w.tracks) w.spots.items };
 }
 
 // Adds a block that is to be registered to the indexes by task and by track, and returns the wanted
@@ -91,7 +103,8 @@ fn add_to_index(
     requires room { weight_kept tracks.old entry.block.track ≤ 16000000 * 2048000 }
     requires few { Fit (sum_of (get_or tasks.old.items entry.block.task no_blocks).counts (counts_of entry.block.task (entry ∷ []))) }
     ensures tasks { OnOk result ((k : ℕ) → get_or tasks.new.items k no_blocks ≡ (if entry.block.task == k then grown_task place entry (get_or tasks.old.items k no_blocks) else get_or tasks.old.items k no_blocks)) }
-    ensures tracks { OnOk result ((t : Track) → track_at tracks.new t ≡ (if same_track entry.block.track t then grown place (wanted_weight entry.block.track (entry ∷ [])) (track_at tracks.old t) else track_at tracks.old t)) }
+    ensures tracks { let weight = wanted_weight entry.block.track (entry ∷ []) in
+        OnOk result (IsChanged tracks.old tracks.new entry.block.track (grown place weight)) }
     ensures weight { IfOk result (λ kept. kept ≡ weight_kept tracks.new entry.block.track) }
     ensures tasks_stay { OnErr result ((k : ℕ) → get_or tasks.new.items k no_blocks ≡ get_or tasks.old.items k no_blocks) }
     ensures no_longer { (n : ℕ) → length tracks.old ≤ n → entry.block.track.cylinder < n → length tracks.new ≤ n }
@@ -152,6 +165,13 @@ impl Wanted {
         ensures { self.new ≡ with_state state place self.old }
     {
         let entry = self.entries[place as usize];
+        reoffer(
+            &mut self.tracks,
+            &mut self.spots,
+            &self.entries,
+            place,
+            state,
+        );
         let turned = Entry {
             block: entry.block,
             state,
@@ -265,6 +285,51 @@ impl Wanted {
         }
     }
 
+    // Registers a block, suspended, behind all others. Out of memory, it returns `NoMemory` and
+    // nothing has changed.
+    fn add(&mut self, block: Block) -> Result<(), NoMemory>
+        requires numbered { block.index ≡ registered block.task (blocks_of self.old) }
+        requires room { length self.old < 16000000 }
+        requires light { block.weight ≤ 1000 }
+        requires short { block.count ≤ 2048 }
+        ensures ok { OnOk result (self.new ≡ self.old ++ record { block = block; state = State.Suspended } ∷ []) }
+        ensures err { OnErr result (self.new ≡ self.old) }
+    {
+        let entry = Entry {
+            block,
+            state: State::Suspended,
+        };
+        let begins_streak = self.begins_streak(block);
+        let streak = Streak {
+            region: region_of(block.lbn),
+            index: block.index,
+        };
+        let is_new = self.is_new_near(block);
+        let chunk = chunk_of(block.lbn);
+        let place = self.entries.len() as u32;
+        let band = band_of(block);
+        self.entries.reserve(1)?;
+        self.spots.reserve(1)?;
+        note(&mut self.near, chunk, block.task, is_new)?;
+        self.greatest.add_room(block.track.cylinder)?;
+        add_bands(&mut self.depths, band, NO_DEPTH)?;
+        note_streak(&mut self.streaks, block.task, streak, begins_streak)?;
+        match add_to_index(&mut self.tasks, &mut self.tracks, self.alloc, place, entry) {
+            Ok(weight) => {
+                update_greatest(&mut self.greatest, &self.tracks, block.track, weight, 0);
+                deepen(&mut self.depths, band, block);
+                self.longest = self.longest.max(block.count);
+                self.spots.push(0)?;
+                self.entries.push(entry)?;
+                Ok(())
+            }
+            Err(error) => {
+                forget_streak(&mut self.streaks, block.task, streak);
+                Err(error)
+            }
+        }
+    }
+
     /// No registered block.
     pub fn new(alloc: Global) -> Self
         ensures { result ≡ [] }
@@ -275,6 +340,7 @@ impl Wanted {
             tasks: Vec::new(alloc),
             tracks: Tracks::new(alloc),
             streaks: BTreeSet::new(alloc),
+            spots: Vec::new(alloc),
             longest: 0,
             near: BTreeSet::new(alloc),
             greatest: Greatest::new(alloc),
@@ -292,35 +358,12 @@ impl Wanted {
         ensures ok { OnOk result (self.new ≡ self.old ++ record { block = block; state = wanted_unless suspended } ∷ []) }
         ensures err { OnErr result (self.new ≡ self.old) }
     {
-        let state = wanted_unless(suspended);
-        let entry = Entry { block, state };
-        let begins_streak = self.begins_streak(block);
-        let streak = Streak {
-            region: region_of(block.lbn),
-            index: block.index,
-        };
-        let is_new = self.is_new_near(block);
-        let chunk = chunk_of(block.lbn);
         let place = self.entries.len() as u32;
-        let band = band_of(block);
-        self.entries.reserve(1)?;
-        note(&mut self.near, chunk, block.task, is_new)?;
-        self.greatest.add_room(block.track.cylinder)?;
-        add_bands(&mut self.depths, band, NO_DEPTH)?;
-        note_streak(&mut self.streaks, block.task, streak, begins_streak)?;
-        match add_to_index(&mut self.tasks, &mut self.tracks, self.alloc, place, entry) {
-            Ok(weight) => {
-                update_greatest(&mut self.greatest, &self.tracks, block.track, weight, 0);
-                deepen(&mut self.depths, band, block);
-                self.longest = self.longest.max(block.count);
-                self.entries.push(entry)?;
-                Ok(())
-            }
-            Err(error) => {
-                forget_streak(&mut self.streaks, block.task, streak);
-                Err(error)
-            }
+        self.add(block)?;
+        if !suspended {
+            self.set_state(place, State::Wanted);
         }
+        Ok(())
     }
 
     /// Aborts the task's blocks that share a sector with the range and are neither delivered nor
@@ -428,10 +471,11 @@ impl Wanted {
             Some(on) => TrackBlocks::new(
                 track,
                 self.entries.as_slice(),
-                on.places.as_slice(),
-                on.weight,
+                on.places(),
+                on.weight(),
+                on.offers(),
             ),
-            None => TrackBlocks::new(track, self.entries.as_slice(), &[], 0),
+            None => TrackBlocks::new(track, self.entries.as_slice(), &[], 0, &[]),
         }
     }
 

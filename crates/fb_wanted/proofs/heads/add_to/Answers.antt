@@ -1,14 +1,12 @@
 use Rattle.std.proofs.Common.{ap, ◌∙◌, get_or, set}
 use Rattle.std.proofs.lemmas.List.{set-get_or}
-use Rattle.fb_wanted.specs.declared.heads.OnTrack.{OnTrack}
 use Rattle.fb_wanted.specs.Index.{no_block_on}
 use Rattle.fb_wanted.proofs.Lists.{on_err}
 use Rattle.fb_wanted.proofs.heads.add_to.Goals as goal
 
-pub returns-in_err-push-2-clause-err : goal.returns-in_err-push-2-clause-err
-returns-in_err-push-2-clause-err c =
+pub returns-in_err-add-clause-err : goal.returns-in_err-add-clause-err
+returns-in_err-add-clause-err c =
     let items = c.loop.tracks.items in
     let was = c.index_mut.result.now in
-    let on = ap (λ ps. let o : OnTrack = record { places = ps; weight = was.weight } in o) c.in_err-push-2.ensures.err in
-    let same = ap (set items c.args.head) (on ∙ c.index_mut.ensures.value) ∙ set-get_or items c.args.head was in
-    on_err c.from_residual-in_err-push-2.result (λ h. ap (λ xs. get_or xs h no_block_on) same ∙ c.loop.invariant.0 h)
+    let same = ap (set items c.args.head) (c.in_err-add.ensures.err ∙ c.index_mut.ensures.value) ∙ set-get_or items c.args.head was in
+    on_err c.from_residual-in_err-add.result (λ h. ap (λ xs. get_or xs h no_block_on) same ∙ c.loop.invariant.0 h)

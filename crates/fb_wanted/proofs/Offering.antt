@@ -1,0 +1,442 @@
+-- What the wanted blocks of each track offer, after a block is registered or changes its state.
+use Rattle.std.proofs.Common.{◌≡◌, ℕ, ◌+◌, ◌-◌, ◌*◌, ◌<◌, ◌≤◌, ◌⊎◌, inl, inr, List, [], ◌∷◌, ◌++◌, Some, true, false, length, length-append, filter, set, slice_get, refl, ap, sym, ◌∙◌, arith, subst}
+use Rattle.std.specs.List.{sum_by}
+use Rattle.std.proofs.lemmas.Bool.{cases_Bool, cases_eq, cases_lt, true≢false}
+use Rattle.std.proofs.lemmas.List.{length-map, length-set}
+use Rattle.std.proofs.lemmas.List.Sums.{sum_by-cons, sum_by_push, sum_by-swap_remove}
+use Rattle.std.proofs.lemmas.Option.{same_Some, slice_get_within, get_or_from_slice_get}
+use Rattle.fb_units.specs.declared.types.Sweep.{Sweep}
+use Rattle.fb_units.specs.declared.types.Track.{Track}
+use Rattle.fb_units.specs.Tracks.{same_track}
+use Rattle.fb_wanted.specs.declared.block.Block.{Block}
+use Rattle.fb_wanted.specs.declared.block.Entry.{Entry}
+use Rattle.fb_wanted.specs.declared.block.State.{State}
+use Rattle.fb_wanted.specs.declared.block.State.TheVariants.{Wanted}
+use Rattle.fb_wanted.specs.declared.offer.Offer.{Offer}
+use Rattle.fb_wanted.specs.Offers.{AreOffers, offer_of}
+use Rattle.fb_wanted.specs.States.{is_wanted, on_track, wanted_of}
+use Rattle.fb_wanted.specs.Index.{OnTrack, places, of_track, no_offer, last_of, taken_out, with_offer, without_offer, offers_at, with_state, AreOffered, IsItsOffer, IsChanged}
+use Rattle.fb_wanted.proofs.Counted.{filter-le}
+use Rattle.fb_wanted.proofs.Kept.{same_one, same_itself, changed_here, unchanged}
+use Rattle.fb_wanted.proofs.Numbers.{in_either}
+use Rattle.fb_wanted.proofs.Spots.{at_left, at_end, set_same, set_other, removed_within, removed_other, removed_at, last_at, state_other, state_at}
+use Rattle.fb_wanted.proofs.Standing.{length-places, length-with_state, places-with_state}
+use Rattle.fb_wanted.proofs.Weights.{sum_wanted, by-append, by-with_state, by_elsewhere, by_unwanted, by_wanted}
+
+-- what a measure is of a block and of an offer
+abbrev of_block : (Sweep → ℕ → ℕ) → Block → ℕ
+of_block measure b = measure b.sweep (b.weight * b.count)
+
+abbrev of_offer : (Sweep → ℕ → ℕ) → Offer → ℕ
+of_offer measure o = measure o.sweep o.worth
+
+turned_track : (a b : Track) → same_track a b ≡ true → same_track b a ≡ true
+turned_track a b h = ap (λ u. same_track b u) (same_one a b h) ∙ same_itself b
+
+turned_other : (a b : Track) → same_track a b ≡ false → same_track b a ≡ false
+turned_other a b h = elim (cases_Bool (same_track b a)) [
+  | inl same ↦ absurd (true≢false (sym (turned_track b a same) ∙ h))
+  | inr other ↦ other
+]
+
+-- an offer is the same block's alone
+same_place : (p q : ℕ) (a b : Block) → offer_of p a ≡ offer_of q b → p ≡ q
+same_place p q a b h = ap (λ o. o.place) h
+
+-- the offers hold with other tracks that have the same ones
+pub offered_still : (es : List Entry) (was is : Track → List Offer) (spots : List ℕ) → AreOffered es was spots → ((t : Track)
+    → is t ≡ was t) → AreOffered es is spots
+offered_still es was is spots h same = record {
+  sums = λ t. subst (λ l. AreOffers l (on_track t es)) (sym (same t)) (h.sums t);
+  each = λ t i o at. h.each t i o (ap (λ l. slice_get l i) (sym (same t)) ∙ at);
+  all = λ p e at yes'. let it = h.all p e at yes' in (it.0, it.1, ap (λ l. slice_get l it.0) (same e.block.track) ∙ it.2);
+  one_each = h.one_each;
+}
+
+-- one more block, which isn't wanted
+pub offered_pushed : (es : List Entry) (offers : Track → List Offer) (spots : List ℕ) (e : Entry) (spot : ℕ)
+    → AreOffered es offers spots → is_wanted e.state ≡ false
+    → AreOffered (es ++ e ∷ []) offers (spots ++ spot ∷ [])
+offered_pushed es offers spots e spot h un = record {
+  sums = λ t measure. omega (
+    arith,
+    h.sums t measure,
+    by-append (of_block measure) (of_track t) es (e ∷ []),
+    by_unwanted
+        (of_block measure) (of_track t) e un,
+  );
+  each = λ t i o at. let its = h.each t i o at in
+      record { entry = its.entry; there = at_left es e its.entry o.place its.there; on = its.on; wanted = its.wanted; spot_is = at_left spots spot i o.place its.spot_is };
+  all = λ p x at yes'. elim (in_either es e x p at) [
+    | inl old ↦ let it = h.all p x old.1 yes' in (it.0, at_left spots spot it.0 p it.1, it.2)
+    | inr last ↦ absurd (true≢false (sym yes' ∙ (ap (λ y. is_wanted y.state) last.1 ∙ un)))
+  ];
+  one_each = omega (arith, h.one_each, length-append es (e ∷ []), length-append spots (spot ∷ []));
+}
+
+module _ (es : List Entry) (spots : List ℕ) (p : ℕ) (e : Entry) (s : State) (at : slice_get es p ≡ Some e) where
+  abbrev pub turned : Entry
+  turned = record { block = e.block; state = s }
+
+  -- an entry after the change is the block itself, or as it was
+  entry_is : (q : ℕ) (x : Entry) → slice_get (with_state s p es) q ≡ Some x → ((q ≡ p) × (turned ≡ x)) ⊎ ((q ≡ p → ⊥) ×
+      (slice_get es q ≡ Some x))
+  entry_is q x there = elim (cases_eq q p) [
+    | inl here ↦ inl (here, same_Some turned x (sym (state_at s p e es at) ∙ (ap (slice_get (with_state s p es)) (sym here) ∙ there)))
+    | inr other ↦ inr (other, sym (state_other s p q es other) ∙ there)
+  ]
+
+  -- the offer of another block is still that of its block
+  its_still : (t : Track) (i : ℕ) (o : Offer) (more : List ℕ) → (o.place ≡ p → ⊥) → slice_get more o.place ≡ slice_get spots o.place
+      → IsItsOffer es spots t i o → IsItsOffer (with_state s p es) more t i o
+  its_still t i o more other spot its = record {
+    entry = its.entry;
+    there = state_other s p o.place es other ∙ its.there;
+    on = its.on;
+    wanted = its.wanted;
+    spot_is = spot ∙ its.spot_is;
+  }
+
+  -- the offer of a wanted block isn't that of one which isn't wanted
+  not_its : (t : Track) (i : ℕ) (o : Offer) → is_wanted e.state ≡ false → IsItsOffer es spots t i o → o.place ≡ p → ⊥
+  not_its t i o un its same =
+      let one = same_Some e its.entry (sym at ∙ (ap (slice_get es) (sym same) ∙ its.there)) in
+      true≢false (sym its.wanted ∙ (ap (λ x. is_wanted x.state) (sym one) ∙ un))
+
+  -- a change that makes no block wanted, or unwanted
+  pub offered_alike : (offers : Track → List Offer) → AreOffered es offers spots → is_wanted s ≡ is_wanted e.state → AreOffered
+      (with_state s p es) offers spots
+  offered_alike offers h alike = record {
+    sums = λ t measure.
+        let part : sum_wanted (of_block measure) (of_track t) (turned ∷ []) ≡ sum_wanted (of_block measure) (of_track t) (e ∷ [])
+        = elim (cases_Bool (same_track t e.block.track)) [
+          | inl on ↦ elim (cases_Bool (is_wanted e.state)) [
+            | inl yes' ↦ by_wanted (of_block measure) (of_track t) turned on (alike ∙ yes') ∙ sym (by_wanted (of_block measure)
+                (of_track t) e on yes')
+            | inr no' ↦ by_unwanted (of_block measure) (of_track t) turned (alike ∙ no') ∙ sym (by_unwanted (of_block measure)
+                (of_track t) e no')
+          ]
+          | inr off ↦ by_elsewhere (of_block measure) (of_track t) turned off ∙ sym (by_elsewhere (of_block measure) (of_track t) e off)
+        ] in
+        omega (arith, h.sums t measure, by-with_state (of_block measure) (of_track t) s p e es at, part);
+    each = λ t i o there. let its = h.each t i o there in elim (cases_eq o.place p) [
+      | inl here ↦
+          let one = same_Some e its.entry (sym at ∙ (ap (slice_get es) (sym here) ∙ its.there)) in
+          record {
+            entry = turned;
+            there = ap (slice_get (with_state s p es)) here ∙ state_at s p e es at;
+            on = ap (λ x. same_track x.block.track t) one ∙ its.on;
+            wanted = alike ∙ (ap (λ x. is_wanted x.state) one ∙ its.wanted);
+            spot_is = its.spot_is;
+          }
+      | inr other ↦ its_still t i o spots other refl its
+    ];
+    all = λ q x there yes'. elim (entry_is q x there) [
+      | inl here ↦
+          let was = sym alike ∙ (ap (λ y. is_wanted y.state) here.1 ∙ yes') in
+          let it = h.all p e at was in
+          let block = ap (λ y. y.block) here.1 in (
+            it.0,
+            ap (slice_get spots) here.0 ∙ it.1,
+            ap (λ b. slice_get (offers b.track) it.0) (sym block) ∙ (it.2 ∙ (ap (λ b. Some (offer_of p b)) block ∙ ap (λ k. Some
+                (offer_of k x.block)) (sym here.0))),
+          )
+      | inr other ↦ h.all q x other.1 yes'
+    ];
+    one_each = h.one_each ∙ sym (length-with_state s p es);
+  }
+
+  -- the block isn't offered yet, and is wanted from now on: its offer stands behind the others
+  module _ (tracks new : List (List OnTrack)) (h : AreOffered es (offers_at tracks) spots) (un : is_wanted e.state ≡ false)
+      (wanted : is_wanted s ≡ true)
+      (changed : IsChanged tracks new e.block.track (with_offer (offer_of p e.block))) where
+    abbrev pub track : Track
+    track = e.block.track
+
+    abbrev pub spot : ℕ
+    spot = length (offers_at tracks track)
+
+    one_more : (t : Track) → same_track track t ≡ true → offers_at new t ≡ offers_at tracks t ++ offer_of p e.block ∷ []
+    one_more t here = ap (λ o. o.offers) (changed_here tracks new track (with_offer (offer_of p e.block)) changed t here)
+
+    as_before : (t : Track) → same_track track t ≡ false → offers_at new t ≡ offers_at tracks t
+    as_before t other = ap (λ o. o.offers) (unchanged tracks new track (with_offer (offer_of p e.block)) changed t other)
+
+    spot_of : (t : Track) → same_track track t ≡ true → length (offers_at tracks t) ≡ spot
+    spot_of t here = ap (λ u. length (offers_at tracks u)) (sym (same_one track t here))
+
+    room : p < length spots
+    room = omega (arith, slice_get_within es p e at, h.one_each)
+
+    given_sums : (t : Track) → AreOffers (offers_at new t) (on_track t (with_state s p es))
+    given_sums t measure =
+        let change = by-with_state (of_block measure) (of_track t) s p e es at in
+        let none = by_unwanted (of_block measure) (of_track t) e un in
+        elim (cases_Bool (same_track track t)) [
+          | inl here ↦
+              let own = by_wanted (of_block measure) (of_track t) turned (turned_track track t here) wanted in
+              let sums = ap (sum_by (of_offer measure)) (one_more t here) ∙ sum_by_push (of_offer measure) (offers_at tracks t)
+              (offer_of p e.block) in
+              omega (arith, sums, h.sums t measure, change, none, own)
+          | inr other ↦
+              let off = by_elsewhere (of_block measure) (of_track t) turned (turned_other track t other) in
+              let sums = ap (sum_by (of_offer measure)) (as_before t other) in
+              omega (arith, sums, h.sums t measure, change, none, off)
+        ]
+
+    old_its : (t : Track) (i : ℕ) (o : Offer) → slice_get (offers_at tracks t) i ≡ Some o → IsItsOffer (with_state s p es)
+        (set spots p spot) t i o
+    old_its t i o there =
+        let its = h.each t i o there in
+        let other = not_its t i o un its in
+        its_still t i o (set spots p spot) other (set_other spots p o.place spot other) its
+
+    given_its : (t : Track) (i : ℕ) (o : Offer) → slice_get (offers_at new t) i ≡ Some o → IsItsOffer (with_state s p es)
+        (set spots p spot) t i o
+    given_its t i o there = elim (cases_Bool (same_track track t)) [
+      | inl here ↦ elim (in_either (offers_at tracks t) (offer_of p e.block) o i (ap (λ l. slice_get l i) (sym (one_more t here))
+          ∙ there)) [
+            | inl old ↦ old_its t i o old.1
+            | inr last ↦
+                let place : o.place ≡ p = ap (λ x. x.place) last.1 in
+                let is : i ≡ spot = last.0 ∙ spot_of t here in
+                record {
+                  entry = turned;
+                  there = ap (slice_get (with_state s p es)) place ∙ state_at s p e es at;
+                  on = here;
+                  wanted = wanted;
+                  spot_is = ap (slice_get (set spots p spot)) place ∙ (set_same spots p spot room ∙ ap (λ k. Some k) (sym is));
+                }
+          ]
+      | inr other ↦ old_its t i o (ap (λ l. slice_get l i) (sym (as_before t other)) ∙ there)
+    ]
+
+    still_there : (t : Track) (i : ℕ) (o : Offer) → slice_get (offers_at tracks t) i ≡ Some o → slice_get (offers_at new t) i ≡ Some o
+    still_there t i o there = elim (cases_Bool (same_track track t)) [
+      | inl here ↦ ap (λ l. slice_get l i) (one_more t here) ∙ at_left (offers_at tracks t) (offer_of p e.block) o i there
+      | inr other ↦ ap (λ l. slice_get l i) (as_before t other) ∙ there
+    ]
+
+    pub offered_given : AreOffered (with_state s p es) (offers_at new) (set spots p spot)
+    offered_given = record {
+      sums = given_sums;
+      each = given_its;
+      all = λ q x there yes'. elim (entry_is q x there) [
+        | inl here ↦
+            let block = ap (λ y. y.block) here.1 in
+            let last = ap (λ l. slice_get l spot) (one_more track (same_itself track)) ∙ at_end (offers_at tracks track)
+            (offer_of p e.block) in (
+              spot,
+              ap (slice_get (set spots p spot)) here.0 ∙ set_same spots p spot room,
+              ap (λ b. slice_get (offers_at new b.track) spot) (sym block) ∙ (last ∙ (ap (λ b. Some (offer_of p b)) block ∙ ap
+                  (λ k. Some (offer_of k x.block)) (sym here.0))),
+            )
+        | inr other ↦ let it = h.all q x other.1 yes' in
+            (it.0, set_other spots p q spot other.0 ∙ it.1, still_there x.block.track it.0 (offer_of q x.block) it.2)
+      ];
+      one_each = length-set spots p spot ∙ (h.one_each ∙ sym (length-with_state s p es));
+    }
+
+  -- the block is offered
+  module _ (tracks : List (List OnTrack)) (i : ℕ) (h : AreOffered es (offers_at tracks) spots) (was : is_wanted e.state ≡ true)
+      (spot_is : slice_get spots p ≡ Some i) where
+    abbrev pub own_track : Track
+    own_track = e.block.track
+
+    abbrev pub offers : List Offer
+    offers = offers_at tracks own_track
+
+    abbrev pub moved : Offer
+    moved = last_of offers
+
+    own_at : slice_get offers i ≡ Some (offer_of p e.block)
+    own_at = let it = h.all p e at was in ap (slice_get offers) (same_Some i it.0 (sym spot_is ∙ it.1)) ∙ it.2
+
+    own_within : i < length offers
+    own_within = slice_get_within offers i (offer_of p e.block) own_at
+
+    moved_at : slice_get offers (length offers - 1) ≡ Some moved
+    moved_at = last_at offers i no_offer (omega (arith, own_within))
+
+    moved_its : IsItsOffer es spots own_track (length offers - 1) moved
+    moved_its = h.each own_track (length offers - 1) moved moved_at
+
+    pub moved_there : moved.place < length spots
+    moved_there = slice_get_within spots moved.place (length offers - 1) moved_its.spot_is
+
+    -- it isn't wanted any more: the last offer of its track stands where its own did
+    module _ (new : List (List OnTrack)) (un : is_wanted s ≡ false) (changed : IsChanged tracks new e.block.track (without_offer i)) where
+      one_less : (t : Track) → same_track own_track t ≡ true → offers_at new t ≡ taken_out i offers
+      one_less t here = ap (λ o. o.offers) (changed_here tracks new own_track (without_offer i) changed t here) ∙ ap (λ u. taken_out i
+          (offers_at tracks u)) (sym (same_one own_track t here))
+
+      as_they_were : (t : Track) → same_track own_track t ≡ false → offers_at new t ≡ offers_at tracks t
+      as_they_were t other = ap (λ o. o.offers) (unchanged tracks new own_track (without_offer i) changed t other)
+
+      taken_sums : (t : Track) → AreOffers (offers_at new t) (on_track t (with_state s p es))
+      taken_sums t measure =
+          let change = by-with_state (of_block measure) (of_track t) s p e es at in
+          let none = by_unwanted (of_block measure) (of_track t) turned un in
+          elim (cases_Bool (same_track own_track t)) [
+            | inl here ↦
+                let own = by_wanted (of_block measure) (of_track t) e (turned_track own_track t here) was in
+                let sums = ap (sum_by (of_offer measure)) (one_less t here) in
+                let rest = sum_by-swap_remove (of_offer measure) offers i no_offer own_within in
+                let its = ap (of_offer measure) (get_or_from_slice_get offers i (offer_of p e.block) no_offer own_at) in
+                let before = ap (λ u. sum_by (of_offer measure) (offers_at tracks u)) (same_one own_track t here) in
+                omega (arith, sums, rest, its, before, h.sums t measure, change, none, own)
+            | inr other ↦
+                let off = by_elsewhere (of_block measure) (of_track t) e (turned_other own_track t other) in
+                let sums = ap (sum_by (of_offer measure)) (as_they_were t other) in
+                omega (arith, sums, h.sums t measure, change, none, off)
+          ]
+
+      -- an offer whose block is neither the one that changes nor the one whose offer is moved
+      other_its : (t : Track) (j : ℕ) (o : Offer) → (o.place ≡ p → ⊥) → (o.place ≡ moved.place → ⊥) → IsItsOffer es spots t j o
+          → IsItsOffer (with_state s p es) (set spots moved.place i) t j o
+      other_its t j o not_own not_moved its = its_still t j o (set spots moved.place i) not_own
+          (set_other spots moved.place o.place i not_moved) its
+
+      -- a block with another spot is another
+      apart : (q : ℕ) (j k : ℕ) → slice_get spots q ≡ Some j → (place : ℕ) → slice_get spots place ≡ Some k → (j ≡ k → ⊥) → place ≡ q → ⊥
+      apart q j k here place there ne same = ne (same_Some j k (sym here ∙ (ap (slice_get spots) (sym same) ∙ there)))
+
+      -- a block of another track is another
+      elsewhere : (t u : Track) (j k : ℕ) (a b : Offer) → IsItsOffer es spots t j a → IsItsOffer es spots u k b
+          → same_track u t ≡ false → a.place ≡ b.place → ⊥
+      elsewhere t u j k a b its other ne same =
+          let one = same_Some its.entry other.entry (sym its.there ∙ (ap (slice_get es) same ∙ other.there)) in
+          let on : same_track other.entry.block.track t ≡ true = ap (λ x. same_track x.block.track t) (sym one) ∙ its.on in
+          true≢false (sym (ap (λ v. same_track v t) (sym (same_one other.entry.block.track u other.on)) ∙ on) ∙ ne)
+
+      own_its : IsItsOffer es spots own_track i (offer_of p e.block)
+      own_its = h.each own_track i (offer_of p e.block) own_at
+
+      taken_its : (t : Track) (j : ℕ) (o : Offer) → slice_get (offers_at new t) j ≡ Some o → IsItsOffer (with_state s p es)
+          (set spots moved.place i) t j o
+      taken_its t j o there = elim (cases_Bool (same_track own_track t)) [
+        | inl here ↦
+            let at_j = ap (λ l. slice_get l j) (sym (one_less t here)) ∙ there in
+            let low = removed_within offers i no_offer j o at_j in
+            elim (cases_eq j i) [
+              | inl same ↦
+                  let is : moved ≡ o = same_Some moved o (sym (removed_at offers i no_offer (omega (arith, low, same))) ∙ (ap
+                  (slice_get (taken_out i offers)) (sym same) ∙ at_j)) in
+                  let not_own : moved.place ≡ p → ⊥ = apart p i (length offers - 1) spot_is moved.place moved_its.spot_is (λ e. absurd
+                  (omega (arith, e, low, same))) in
+                  subst (λ x. IsItsOffer (with_state s p es) (set spots moved.place i) t j x) is (record {
+                    entry = moved_its.entry;
+                    there = state_other s p moved.place es not_own ∙ moved_its.there;
+                    on = ap (λ u. same_track moved_its.entry.block.track u) (sym (same_one own_track t here)) ∙ moved_its.on;
+                    wanted = moved_its.wanted;
+                    spot_is = set_same spots moved.place i moved_there ∙ ap (λ k. Some k) (sym same);
+                  })
+              | inr ne ↦
+                  let old : slice_get (offers_at tracks t) j ≡ Some o = ap (λ u. slice_get (offers_at tracks u) j) (sym
+                  (same_one own_track t here)) ∙ (sym (removed_other offers i no_offer j ne low) ∙ at_j) in
+                  let its = h.each t j o old in
+                  other_its t j o (apart p i j spot_is o.place its.spot_is (λ e. ne (sym e)))
+                  (apart moved.place (length offers - 1) j moved_its.spot_is o.place its.spot_is (λ e. absurd (omega (arith, e, low)))) its
+            ]
+        | inr other ↦
+            let its = h.each t j o (ap (λ l. slice_get l j) (sym (as_they_were t other)) ∙ there) in
+            other_its t j o (elsewhere t own_track j i o (offer_of p e.block) its own_its other) (elsewhere t own_track j
+            (length offers - 1) o moved its moved_its other) its
+      ]
+
+      -- another block that is wanted stands at its spot afterwards
+      taken_there : (q : ℕ) (x : Entry) → (q ≡ p → ⊥) → slice_get es q ≡ Some x → is_wanted x.state ≡ true
+          → (j : ℕ) × (slice_get (set spots moved.place i) q ≡ Some j) × (slice_get (offers_at new x.block.track) j ≡ Some
+          (offer_of q x.block))
+      taken_there q x not_own there yes' =
+          let it = h.all q x there yes' in
+          let k = it.0 in
+          elim (cases_Bool (same_track own_track x.block.track)) [
+            | inl here ↦
+                let was_at : slice_get offers k ≡ Some (offer_of q x.block) = ap (λ u. slice_get (offers_at tracks u) k)
+                (same_one own_track x.block.track here) ∙ it.2 in
+                let low = slice_get_within offers k (offer_of q x.block) was_at in
+                let not_i : k ≡ i → ⊥ = λ same. not_own (same_place q p x.block e.block (same_Some (offer_of q x.block)
+                (offer_of p e.block) (sym was_at ∙ (ap (slice_get offers) same ∙ own_at)))) in
+                elim (cases_eq k (length offers - 1)) [
+                  | inl last ↦
+                      let is : moved ≡ offer_of q x.block = same_Some moved (offer_of q x.block) (sym moved_at ∙ (ap
+                      (slice_get offers) (sym last) ∙ was_at)) in
+                      let place : moved.place ≡ q = ap (λ o. o.place) is in
+                      let room : i + 1 < length offers = elim (cases_lt (i + 1) (length offers)) [
+                        | inl less ↦ less
+                        | inr past ↦ absurd
+                            (not_i (omega (arith, past, own_within, last)))
+                      ] in (
+                        i,
+                        ap (slice_get (set spots moved.place i)) (sym place) ∙ set_same spots moved.place i moved_there,
+                        ap (λ l. slice_get l i) (one_less x.block.track here) ∙ (removed_at offers i no_offer room ∙ ap (λ o. Some o) is),
+                      )
+                  | inr ne ↦ (
+                    k,
+                    set_other spots moved.place q i (apart moved.place (length offers - 1) k moved_its.spot_is q it.1 (λ e. ne
+                        (sym e))) ∙ it.1,
+                    ap (λ l. slice_get l k) (one_less x.block.track here) ∙ (removed_other offers i no_offer k not_i (elim (cases_lt
+                        (k + 1) (length offers)) [ inl less ↦ less | inr past ↦ absurd (ne (omega (arith, past, low))) ]) ∙ was_at),
+                  )
+                ]
+            | inr other ↦
+                let its = h.each x.block.track k (offer_of q x.block) it.2 in (
+                  k,
+                  set_other spots moved.place q i (elsewhere x.block.track own_track k (length offers - 1)
+                      (offer_of q x.block) moved its moved_its other) ∙ it.1,
+                  ap (λ l. slice_get l k) (as_they_were x.block.track other) ∙ it.2,
+                )
+          ]
+
+      pub offered_taken : AreOffered (with_state s p es) (offers_at new) (set spots moved.place i)
+      offered_taken = record {
+        sums = taken_sums;
+        each = taken_its;
+        all = λ q x there yes'. elim (entry_is q x there) [
+          | inl here ↦ absurd (true≢false (sym yes' ∙ (ap (λ y. is_wanted y.state) (sym here.1) ∙ un)))
+          | inr other ↦ taken_there q x other.0 other.1 yes'
+        ];
+        one_each = length-set spots moved.place i ∙ (h.one_each ∙ sym (length-with_state s p es));
+      }
+
+-- as many offers as wanted blocks
+ones : {X : Type 0} (xs : List X) → sum_by (λ x. 1) xs ≡ length xs
+ones [] = refl
+ones (x ∷ xs) = sum_by-cons (λ x. 1) x xs ∙ omega (arith, ones xs)
+
+length-offers : (t : Track) (offers : List Offer) (es : List Entry) → AreOffers offers (on_track t es) → length offers ≡ length
+    (wanted_of (on_track t es))
+length-offers t offers es h = sym (ones offers) ∙ (h (λ a b. 1) ∙ ones (wanted_of (on_track t es)))
+
+wanted-le : (es : List Entry) → length (wanted_of es) ≤ length es
+wanted-le es = omega (arith, length-map (filter (λ e. is_wanted e.state) es) (λ e. e.block), filter-le (λ e. is_wanted e.state) es)
+
+-- there are no more offers than blocks
+pub offers-few : (t : Track) (offers : List Offer) (es : List Entry) → AreOffers offers (on_track t es) → length es ≤ 16000000
+    → length offers ≤ 16000000
+offers-few t offers es h few = omega (arith, length-offers t offers es h, wanted-le (on_track t es), filter-le (of_track t) es, few)
+
+-- a block of a track isn't wanted: there are fewer offers than blocks of the track
+pub offers-room : (es : List Entry) (p : ℕ) (e : Entry) (offers : List Offer) → slice_get es p ≡ Some e → is_wanted e.state ≡ false
+    → AreOffers offers (on_track e.block.track es)
+    → length offers < length (places (of_track e.block.track) es)
+offers-room es p e offers at un h =
+    let t = e.block.track in
+    let own : Entry = record { block = e.block; state = Wanted } in
+    let all = with_state Wanted p es in
+    let more = by-with_state (λ b. 1) (of_track t) Wanted p e es at in
+    let none = by_unwanted (λ b. 1) (of_track t) e un in
+    let one = by_wanted (λ b. 1) (of_track t) own (same_itself t) refl in
+    let most = wanted-le (on_track t all) in
+    let count = ones (wanted_of (on_track t all)) in
+    let is = ones (wanted_of (on_track t es)) in
+    let same = sym (length-places (of_track t) all) ∙ ap length (places-with_state (λ b. same_track t b.track) Wanted p es) in
+    omega (arith, length-offers t offers es h, more, none, one, most, count, is, same)
+
+-- the entry that stands for none
+abbrev pub no_entry : Entry
+no_entry = record {
+  block = record { task = 0; index = 0; lbn = 0; count = 0; track = record { cylinder = 0; head = 0 }; weight = 0; sweep = record { begin = 0; length = 0 } };
+  state = Wanted;
+}

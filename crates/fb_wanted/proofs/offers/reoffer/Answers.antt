@@ -1,0 +1,88 @@
+use Rattle.std.proofs.Common.{◌<◌, ◌∙◌, ap, sym, subst, refl, length, get_or, arith}
+use Rattle.std.proofs.lemmas.Option.{slice_get-get_or, slice_get_read}
+use Rattle.fb_wanted.specs.Index.{offers_at, with_state, AreOffered}
+use Rattle.fb_wanted.proofs.Numbers.{small_at}
+use Rattle.fb_wanted.proofs.Offering.{moved_there, offered_taken, offered_given, offered_alike, offers-few, offers-room, no_entry}
+use Rattle.fb_wanted.proofs.offers.reoffer.Goals as goal
+
+pub take_away-requires-clause-moved : goal.take_away-requires-clause-moved
+take_away-requires-clause-moved c =
+    let es = c.args.entries.now in
+    let spots = c.args.spots.now.items in
+    let p = c.args.place in
+    let h = c.requires.offered in
+    let room : p < length spots = omega (arith, c.requires.there, h.one_each) in
+    let spot = slice_get_read spots (length spots) p c.index.result.now refl room c.index.ensures in
+    moved_there es spots p (get_or es p no_entry) c.args.state
+    (slice_get-get_or es p no_entry c.requires.there) c.args.tracks.now c.index.result.now h (sym c.is_wanted.ensures
+    ∙ c.if-is_wanted.true) spot
+
+pub give-requires-clause-there : goal.give-requires-clause-there
+give-requires-clause-there c = c.requires.tracks (get_or c.args.entries.now c.args.place no_entry)
+    (slice_get-get_or c.args.entries.now c.args.place no_entry c.requires.there)
+
+pub give-requires-clause-room : goal.give-requires-clause-room
+give-requires-clause-room c =
+    let es = c.args.entries.now in
+    let e = get_or es c.args.place no_entry in
+    let t = e.block.track in
+    let room = offers-room es c.args.place e (offers_at c.args.tracks.now t)
+    (slice_get-get_or es c.args.place no_entry c.requires.there) (sym c.is_wanted.ensures ∙ c.if-is_wanted.false)
+    (c.requires.offered.sums t) in
+    omega (arith, room, ap length (c.requires.places t))
+
+pub give-requires-clause-few : goal.give-requires-clause-few
+give-requires-clause-few c =
+    let t = (get_or c.args.entries.now c.args.place no_entry).block.track in
+    omega (arith, offers-few t (offers_at c.args.tracks.now t) c.args.entries.now (c.requires.offered.sums t) c.requires.few)
+
+pub give-requires-clause-light : goal.give-requires-clause-light
+give-requires-clause-light c =
+    let es = c.args.entries.now in (small_at es c.args.place (get_or es c.args.place no_entry) c.requires.small
+    (slice_get-get_or es c.args.place no_entry c.requires.there)).0
+
+pub give-requires-clause-short : goal.give-requires-clause-short
+give-requires-clause-short c =
+    let es = c.args.entries.now in (small_at es c.args.place (get_or es c.args.place no_entry) c.requires.small
+    (slice_get-get_or es c.args.place no_entry c.requires.there)).1
+
+pub returns-then-not-is_wanted-clause-offered : goal.returns-then-not-is_wanted-clause-offered
+returns-then-not-is_wanted-clause-offered c =
+    let es = c.args.entries.now in
+    let spots = c.args.spots.now.items in
+    let p = c.args.place in
+    let h = c.requires.offered in
+    let room : p < length spots = omega (arith, c.requires.there, h.one_each) in
+    let spot = slice_get_read spots (length spots) p c.index.result.now refl room c.index.ensures in
+    let un = sym c.is_wanted-then-is_wanted.ensures ∙ c.if-not-is_wanted.true in
+    subst (λ l. AreOffered (with_state c.args.state p es) (offers_at c.take_away.new.tracks) l) (sym c.take_away.ensures.spots)
+    (offered_taken es spots p (get_or es p no_entry) c.args.state
+    (slice_get-get_or es p no_entry c.requires.there) c.args.tracks.now c.index.result.now h (sym c.is_wanted.ensures
+    ∙ c.if-is_wanted.true) spot
+    c.take_away.new.tracks un c.take_away.ensures.tracks)
+
+pub returns-else-not-is_wanted-clause-offered : goal.returns-else-not-is_wanted-clause-offered
+returns-else-not-is_wanted-clause-offered c =
+    let es = c.args.entries.now in
+    let p = c.args.place in
+    let yes' = sym c.is_wanted-then-is_wanted.ensures ∙ c.if-not-is_wanted.false in
+    offered_alike es c.args.spots.now.items p (get_or es p no_entry) c.args.state (slice_get-get_or es p no_entry c.requires.there)
+    (offers_at c.args.tracks.now) c.requires.offered
+    (yes' ∙ sym (sym c.is_wanted.ensures ∙ c.if-is_wanted.true))
+
+pub returns-then-is_wanted-2-clause-offered : goal.returns-then-is_wanted-2-clause-offered
+returns-then-is_wanted-2-clause-offered c =
+    let es = c.args.entries.now in
+    let p = c.args.place in
+    subst (λ l. AreOffered (with_state c.args.state p es) (offers_at c.give.new.tracks) l) (sym c.give.ensures.spots)
+    (offered_given es c.args.spots.now.items p (get_or es p no_entry) c.args.state
+    (slice_get-get_or es p no_entry c.requires.there) c.args.tracks.now c.give.new.tracks c.requires.offered
+    (sym c.is_wanted.ensures ∙ c.if-is_wanted.false) (sym c.is_wanted-else-is_wanted.ensures ∙ c.if-is_wanted-2.true) c.give.ensures.tracks)
+
+pub returns-else-is_wanted-2-clause-offered : goal.returns-else-is_wanted-2-clause-offered
+returns-else-is_wanted-2-clause-offered c =
+    let es = c.args.entries.now in
+    let p = c.args.place in
+    offered_alike es c.args.spots.now.items p (get_or es p no_entry) c.args.state (slice_get-get_or es p no_entry c.requires.there)
+    (offers_at c.args.tracks.now) c.requires.offered
+    ((sym c.is_wanted-else-is_wanted.ensures ∙ c.if-is_wanted-2.false) ∙ sym (sym c.is_wanted.ensures ∙ c.if-is_wanted.false))

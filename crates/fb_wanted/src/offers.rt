@@ -1,0 +1,83 @@
+// Keeping the offers of all tracks up to date.
+ghost use Rattle.std.specs.Prelude.{◌≡◌, ◌≤◌, ◌<◌, ◌*◌, ◌+◌, ◌^◌, Some, length, set, slice_get, if◌then◌else◌};
+ghost use Rattle.fb_units.specs.declared.types.Track.{Track};
+ghost use Rattle.fb_units.specs.Tracks.{same_track};
+ghost use Rattle.fb_wanted.specs.Numbering.{AreSmall, blocks_of};
+ghost use Rattle.fb_wanted.specs.Offers.{offer_of};
+ghost use Rattle.fb_wanted.specs.States.{is_wanted};
+ghost use Rattle.fb_wanted.specs.Index.{track_at, offers_at, with_offer, without_offer, last_of, with_state, places, of_track};
+ghost use Rattle.fb_wanted.specs.Index.{AreOffered, IsChanged, IsThere};
+
+use crate::offer::offer_of;
+use crate::tracks::Tracks;
+use crate::{Block, Entry, State};
+use fb_units::Track;
+
+fn is_wanted(state: State) -> bool
+    ensures { result ≡ is_wanted state }
+{
+    match state {
+        State::Wanted => true,
+        _ => false,
+    }
+}
+
+// Offers a block that isn't offered.
+fn give(tracks: &mut Tracks, spots: &mut Vec<u32>, place: u32, block: Block)
+    requires there { IsThere tracks.old block.track }
+    requires room { length (offers_at tracks.old block.track) < length (track_at tracks.old block.track).places }
+    requires few { length (offers_at tracks.old block.track) < 2 ^ 32 }
+    requires spot { place < length spots.old.items }
+    requires light { block.weight ≤ 1000 }
+    requires short { block.count ≤ 2048 }
+    ensures tracks { IsChanged tracks.old tracks.new block.track (with_offer (offer_of place block)) }
+    ensures spots { spots.new.items ≡ set spots.old.items place (length (offers_at tracks.old block.track)) }
+    ensures length { length tracks.new ≡ length tracks.old }
+{
+    let spot = tracks.offer(block.track, offer_of(place, block));
+    spots[place as usize] = spot;
+}
+
+// Takes the offer of a block away, which has the index `spot` among those of its track.
+fn take_away(tracks: &mut Tracks, spots: &mut Vec<u32>, track: Track, spot: u32)
+    requires there { IsThere tracks.old track }
+    requires spot { spot < length (offers_at tracks.old track) }
+    requires moved { (last_of (offers_at tracks.old track)).place < length spots.old.items }
+    ensures tracks { IsChanged tracks.old tracks.new track (without_offer spot) }
+    ensures spots { spots.new.items ≡ set spots.old.items (last_of (offers_at tracks.old track)).place spot }
+    ensures length { length tracks.new ≡ length tracks.old }
+{
+    let moved = tracks.withdraw(track, spot);
+    spots[moved as usize] = spot;
+}
+
+/// Brings the offers up to date for a block that comes into another state. The entries are those
+/// before; for each of them `spots` has the index of its offer among those of its track, if it is
+/// wanted.
+pub fn reoffer(
+    tracks: &mut Tracks,
+    spots: &mut Vec<u32>,
+    entries: &[Entry],
+    place: u32,
+    state: State,
+)
+    requires there { place < length entries.now }
+    requires small { AreSmall (blocks_of entries.now) }
+    requires few { length entries.now ≤ 16000000 }
+    requires places { (t : Track) → (track_at tracks.old t).places ≡ places (of_track t) entries.now }
+    requires tracks { (e : Entry) → slice_get entries.now place ≡ Some e → IsThere tracks.old e.block.track }
+    requires offered { AreOffered entries.now (offers_at tracks.old) spots.old.items }
+    ensures offered { AreOffered (with_state state place entries.now) (offers_at tracks.new) spots.new.items }
+    ensures places { (t : Track) → (track_at tracks.new t).places ≡ (track_at tracks.old t).places }
+    ensures weights { (t : Track) → (track_at tracks.new t).weight ≡ (track_at tracks.old t).weight }
+    ensures length { length tracks.new ≡ length tracks.old }
+{
+    let entry = entries[place as usize];
+    if is_wanted(entry.state) {
+        if !is_wanted(state) {
+            take_away(tracks, spots, entry.block.track, spots[place as usize]);
+        }
+    } else if is_wanted(state) {
+        give(tracks, spots, place, entry.block);
+    }
+}
