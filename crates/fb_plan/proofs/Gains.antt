@@ -1,10 +1,10 @@
 -- The value of a plan is what the blocks of its two tracks add.
-use Rattle.std.proofs.Common.{◌≡◌, inl, inr, ℕ, ◌+◌, ◌*◌, take, List, [], ◌∷◌, Bool, true, false, ◌&&◌, Some, slice_get, zero, suc, filter, refl, arith, sym, ap, ◌∙◌, if◌then◌else◌, subst}
+use Rattle.std.proofs.Common.{◌≡◌, inl, inr, ℕ, ◌+◌, ◌*◌, List, [], ◌∷◌, Bool, true, false, ◌&&◌, ◌||◌, Some, slice_get, zero}
+use Rattle.std.proofs.Common.{suc, filter, refl, arith, sym, ap, ◌∙◌, if◌then◌else◌, subst}
 use Rattle.std.specs.List.{sum_by}
 use Rattle.std.proofs.lemmas.Bool.{cases_Bool, true≢false}
 use Rattle.std.proofs.lemmas.Bool.Decides.{nat_tests}
-use Rattle.std.proofs.lemmas.List.Sums.{sum_by-cons, sum_by_more}
-use Rattle.std.proofs.lemmas.Option.{slice_get_within, get_or_from_slice_get}
+use Rattle.std.proofs.lemmas.List.Sums.{sum_by-cons}
 use Rattle.fb_units.specs.declared.types.Track.{Track}
 use Rattle.fb_units.specs.Tracks.{same_track}
 use Rattle.fb_service.specs.declared.disk.Disk.{Disk}
@@ -15,9 +15,8 @@ use Rattle.fb_rows.specs.declared.gap.Gap.{Gap}
 use Rattle.fb_rows.specs.declared.gap.Plan.{Plan}
 use Rattle.fb_rows.specs.declared.gap.Plan.TheVariants.{Direct, Detour}
 use Rattle.fb_rows.specs.declared.gap.Dwell.{Dwell}
-use Rattle.fb_model.specs.Plans.{is_caught, value, early_dwell, late_dwell}
+use Rattle.fb_model.specs.Plans.{catches, is_caught, value, early_dwell, late_dwell}
 use Rattle.fb_plan.specs.Ways.{gain, track_of}
-use Rattle.fb_plan.specs.Turns.{gain_by}
 
 pub some-one : {X : Type 0} (x y : X) → Some x ≡ Some y → x ≡ y
 some-one x y h = grind arith
@@ -39,7 +38,8 @@ in_filter p (y ∷ ys) i x h = elim (cases_Bool (p y)) [
 abbrev worth : Block → ℕ
 worth b = b.weight * b.count
 
-abbrev adds : (Block → Bool) → Entry → ℕ
+-- what an entry adds, if it's wanted and its block passes the test
+abbrev pub adds : (Block → Bool) → Entry → ℕ
 adds c e = if is_wanted e.state && c e.block then e.block.weight * e.block.count else 0
 
 sums : (c : Block → Bool) (es : List Entry) → sum_by worth (filter c (wanted_of es)) ≡ sum_by (adds c) es
@@ -128,12 +128,9 @@ sum-two disk gap plan es track sum other e apart s o =
     let first = s ∙ ap (λ t. sum_by (gain disk gap plan) (on_track t es)) e in
     omega (arith, two, first, o)
 
--- the sum so far and one more block
-pub sum-more : (f : Entry → ℕ) (xs : List Entry) (i sum more : ℕ) (e : Entry) → slice_get xs i ≡ Some e → more ≡ f e
-    → sum ≡ sum_by f (take i xs) → sum + more ≡ sum_by f (take (i + 1) xs)
-sum-more f xs i sum more e at m s =
-    let here = ap f (get_or_from_slice_get xs i e e at) in
-    omega (arith, sum_by_more f xs i e (slice_get_within xs i e at), m, here, s)
+-- what a registered block adds to the value of a plan with these two dwells
+abbrev pub gain_by : Disk → Dwell → Dwell → Entry → ℕ
+gain_by disk early late entry = adds (λ b. catches disk early b || catches disk late b) entry
 
 own-track : (disk : Disk) (gap : Gap) (plan : Plan) → (early_dwell disk gap plan).track ≡ track_of gap plan
 own-track disk gap (Direct u) = refl

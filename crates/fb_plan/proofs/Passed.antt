@@ -1,16 +1,17 @@
 -- What the best so far has passed.
-use Rattle.std.proofs.Common.{◌≡◌, inl, inr, ℕ, ◌+◌, ◌<◌, ◌≤◌, List, [], ◌∷◌, Bool, true, false, Some, slice_get, get_or, filter, length, map, option_map, refl, arith, sym, ap, ◌∙◌, subst, take}
+use Rattle.std.proofs.Common.{◌≡◌, inl, inr, ℕ, ◌+◌, ◌<◌, ◌≤◌, List, true, false}
+use Rattle.std.proofs.Common.{Some, slice_get, get_or, length, arith, sym, ap, ◌∙◌, subst}
 use Rattle.std.proofs.lemmas.Bool.{cases_lt}
-use Rattle.std.proofs.lemmas.Option.{slice_get_within, slice_get-map, slice_get-get_or, get_or_from_slice_get}
+use Rattle.std.proofs.lemmas.Option.{slice_get_within, slice_get-get_or}
 use Rattle.fb_units.specs.declared.types.Track.{Track}
 use Rattle.fb_units.specs.Tracks.{same_track}
 use Rattle.fb_geometry.specs.Shape.{cylinders_of, IsTrackOf}
 use Rattle.fb_service.specs.declared.disk.Disk.{Disk}
 use Rattle.fb_wanted.specs.declared.block.Block.{Block}
 use Rattle.fb_wanted.specs.declared.block.Entry.{Entry}
-use Rattle.fb_wanted.specs.declared.block.State.TheVariants.{Wanted}
+use Rattle.fb_wanted.specs.declared.offer.Offer.{Offer}
+use Rattle.fb_wanted.specs.Offers.{AreOffers}
 use Rattle.fb_wanted.specs.States.{is_wanted, on_track, wanted_of}
-use Rattle.fb_wanted.proofs.Numbers.{filter_at}
 use Rattle.fb_rows.specs.declared.gap.Gap.{Gap}
 use Rattle.fb_rows.specs.declared.gap.Plan.{Plan}
 use Rattle.fb_rows.specs.declared.gap.Plan.TheVariants.{Direct, Detour}
@@ -18,35 +19,24 @@ use Rattle.fb_model.specs.Plans.{block_end, value, early_dwell, IsPlan, IsDetour
 use Rattle.fb_plan.specs.declared.choice.Scored.{Scored}
 use Rattle.fb_plan.specs.declared.way.Way.{Way}
 use Rattle.fb_plan.specs.declared.way.Way.TheVariants.{Source, Over}
-use Rattle.fb_plan.specs.Ways.{plan_by, early_track, arrival, move_on, Beats, IsOver, IsScored, IsWay}
+use Rattle.fb_plan.specs.declared.turning.Turning.{Turning}
+use Rattle.fb_plan.specs.Ways.{plan_by, early_track, arrival, move_on, AreOnDisk, Beats, IsOver, IsScored, IsWay}
 use Rattle.fb_plan.specs.declared.sides.Sides.{Sides}
-use Rattle.fb_plan.specs.Turns.{AreSides, stay_of}
+use Rattle.fb_plan.specs.Turns.{AreSides, IsTurning, end_of, stay_of}
 use Rattle.fb_plan.proofs.Enough.{enough}
-use Rattle.fb_plan.proofs.Gains.{in_filter, some-one}
-use Rattle.fb_plan.proofs.Ties.{later-leave, beats-trans}
-
-to_filter : (p : Entry → Bool) (es : List Entry) (j : ℕ) (e : Entry) → slice_get es j ≡ Some e → p e ≡ true → (k : ℕ) × (slice_get (filter p es) k ≡ Some e)
-to_filter p es j e at pass =
-    let same = get_or_from_slice_get es j e e at in
-    (length (filter p (take j es)), filter_at p es j e (slice_get_within es j e at) (ap p same ∙ pass) ∙ ap Some same)
-
-length-blocks : (es : List Entry) → length (map (λ x. x.block) es) ≡ length es
-length-blocks [] = refl
-length-blocks (e ∷ es) = rw (length-blocks es) refl
+use Rattle.fb_plan.proofs.Gains.{some-one}
+use Rattle.fb_plan.proofs.Offered.{entry-of, offer-of, to_filter, wanted-at}
+use Rattle.fb_plan.proofs.Swept.{turning-end}
+use Rattle.fb_plan.proofs.Ties.{later-leave, beats-self, beats-trans}
 
 -- a wanted block of the track is among its entries
 in_track : (track : Track) (es : List Entry) (i : ℕ) (b : Block) → slice_get (wanted_of es) i ≡ Some b → same_track track b.track ≡ true
     → (k : ℕ) × (e : Entry) × (slice_get (on_track track es) k ≡ Some e) × (e.block ≡ b) × (is_wanted e.state ≡ true)
 in_track track es i b at on =
-    let wanted = filter (λ x. is_wanted x.state) es in
-    let lt : i < length wanted = omega (arith, slice_get_within (wanted_of es) i b at, length-blocks wanted) in
-    let d : Entry = record { block = b; state = Wanted } in
-    let e = get_or wanted i d in
-    let here = slice_get-get_or wanted i d lt in
-    let same : e.block ≡ b = some-one e.block b (sym (slice_get-map (λ x. x.block) wanted i ∙ ap (option_map (λ x. x.block)) here) ∙ at) in
-    let r = in_filter (λ x. is_wanted x.state) es i e here in
-    let k = to_filter (λ x. same_track track x.block.track) es r.0 e r.1 (ap (λ x. same_track track x.track) same ∙ on) in
-    (k.0, e, k.1, same, r.2)
+    let r = entry-of es i b at in
+    let here = ap (λ (x : Block). same_track track x.track) r.3 ∙ on in
+    let k = to_filter (λ (x : Entry). same_track track x.block.track) es r.0 r.1 r.2 here in
+    (k.0, r.1, k.1, r.3, r.4)
 
 pub way-source : (disk : Disk) (gap : Gap) → IsWay disk gap Source
 way-source disk gap = λ leave a b. (a, b)
@@ -86,33 +76,70 @@ all_leaves disk gap way es best u some first each is =
     ] in
     beats-trans disk gap (wanted_of es) best (plan_by way v.0) (plan_by way u) better (leave-beats disk gap (wanted_of es) way v.0 u v.1.upto v.2)
 
--- one more entry
-pub entries-more : (disk : Disk) (gap : Gap) (way : Way) (wanted : List Block) (xs : List Entry) (i t : ℕ) (old new : Plan) (x : Entry) → slice_get xs i ≡ Some x → Beats disk gap wanted new old
-    → (is_wanted x.state ≡ true → block_end disk.map x.block t + move_on disk gap way ≤ gap.deadline → Beats disk gap wanted new (plan_by way (block_end disk.map x.block t)))
-    → ((k : ℕ) (e : Entry) → k < i → slice_get xs k ≡ Some e → is_wanted e.state ≡ true → block_end disk.map e.block t + move_on disk gap way ≤ gap.deadline → Beats disk gap wanted old (plan_by way (block_end disk.map e.block t)))
-    → (k : ℕ) (e : Entry) → k < i + 1 → slice_get xs k ≡ Some e → is_wanted e.state ≡ true → block_end disk.map e.block t + move_on disk gap way ≤ gap.deadline → Beats disk gap wanted new (plan_by way (block_end disk.map e.block t))
-entries-more disk gap way wanted xs i t old new x at keeps this before k e less here w fits = elim (cases_lt k i) [
-  | inl l ↦ beats-trans disk gap wanted new old (plan_by way (block_end disk.map e.block t)) keeps (before k e l here w fits)
-  | inr m ↦
-      let same : k ≡ i = omega arith in
-      let one : x ≡ e = some-one x e (sym at ∙ (ap (slice_get xs) (sym same) ∙ here)) in
-      subst (λ y. is_wanted y.state ≡ true → block_end disk.map y.block t + move_on disk gap way ≤ gap.deadline → Beats disk gap wanted new (plan_by way (block_end disk.map y.block t))) one this w fits
-]
+-- when the head leaves as the sweep of an offer ends
+abbrev pub leave_at : Turning → Offer → ℕ
+leave_at turning offer = end_of turning.rotation offer.sweep turning.from
 
--- the loop over the entries of a way's track is through
-pub way_done : (disk : Disk) (gap : Gap) (way : Way) (es : List Entry) (best first start : Plan) (track : Track) (t n u : ℕ) → 0 < disk.map.rotation
-    → track ≡ early_track gap way → t ≡ arrival disk gap way → start ≡ plan_by way t → length (on_track track es) ≤ n
-    → Beats disk gap (wanted_of es) best first → Beats disk gap (wanted_of es) first start
-    → ((k : ℕ) (e : Entry) → k < n → slice_get (on_track track es) k ≡ Some e → is_wanted e.state ≡ true → block_end disk.map e.block t + move_on disk gap way ≤ gap.deadline
-    → Beats disk gap (wanted_of es) best (plan_by way (block_end disk.map e.block t)))
-    → IsPlan disk gap (plan_by way u) → Beats disk gap (wanted_of es) best (plan_by way u)
-way_done disk gap way es best first start track t n u some on when from all b f each is = all_leaves disk gap way es best u some
-    (subst (λ p. Beats disk gap (wanted_of es) best p) (from ∙ ap (plan_by way) when) (beats-trans disk gap (wanted_of es) best first start b f))
-    (λ k e at w fits.
-    let here = subst (λ x. slice_get (on_track x es) k ≡ Some e) (sym on) at in
-    let end = ap (block_end disk.map e.block) when in
-    subst (λ x. Beats disk gap (wanted_of es) best (plan_by way x)) end (each k e (omega (arith, slice_get_within (on_track track es) k e here)) here w (omega (arith, end, fits))))
-    is
+-- of the first offers, so many, each leave that is in time is no better than this plan
+abbrev pub AreTried : Disk → Gap → Way → List Block → Turning → List Offer → ℕ → Plan → Type 0
+AreTried disk gap way wanted turning offers n best = (k : ℕ) (o : Offer) → k < n → slice_get offers k ≡ Some o
+    → leave_at turning o + move_on disk gap way ≤ gap.deadline → Beats disk gap wanted best (plan_by way (leave_at turning o))
+
+module _ (disk : Disk) (gap : Gap) (way : Way) (wanted : List Block) (turning : Turning) (xs : List Offer) (i : ℕ) where
+  -- one more offer
+  pub offers-more : (old new : Plan) (x : Offer) → slice_get xs i ≡ Some x → Beats disk gap wanted new old
+      → (leave_at turning x + move_on disk gap way ≤ gap.deadline → Beats disk gap wanted new (plan_by way (leave_at turning x)))
+      → AreTried disk gap way wanted turning xs i old → AreTried disk gap way wanted turning xs (i + 1) new
+  offers-more old new x at keeps this before k o less here fits = elim (cases_lt k i) [
+    | inl l ↦ beats-trans disk gap wanted new old (plan_by way (leave_at turning o)) keeps (before k o l here fits)
+    | inr m ↦
+        let same : k ≡ i = omega arith in
+        let one : x ≡ o = some-one x o (sym at ∙ (ap (slice_get xs) (sym same) ∙ here)) in
+        let leave = λ (y : Offer). leave_at turning y in
+        subst (λ y. leave y + move_on disk gap way ≤ gap.deadline → Beats disk gap wanted new (plan_by way (leave y))) one this fits
+  ]
+
+  module _ (d : Offer) (less : i < length xs) (old : Plan) (before : AreTried disk gap way wanted turning xs i old) where
+    -- whose leave was tried
+    pub offers-tried : (new plan : Plan) (end : ℕ) → Beats disk gap wanted new old → end ≡ leave_at turning (get_or xs i d)
+        → plan ≡ plan_by way end → Beats disk gap wanted new plan → AreTried disk gap way wanted turning xs (i + 1) new
+    offers-tried new plan end keeps is by tried = offers-more old new (get_or xs i d) (slice_get-get_or xs i d less) keeps
+        (λ fits. subst (Beats disk gap wanted new) (by ∙ ap (plan_by way) is) tried) before
+
+    -- or is too late
+    pub offers-late : (latest : ℕ) → latest < leave_at turning (get_or xs i d) → gap.deadline ≤ latest + move_on disk gap way
+        → AreTried disk gap way wanted turning xs (i + 1) old
+    offers-late latest late most = offers-more old old (get_or xs i d) (slice_get-get_or xs i d less) (beats-self disk gap wanted old)
+        (λ fits. absurd (omega (arith, late, most, fits))) before
+
+-- the loop over the offers of a way's track is through
+module _ (disk : Disk) (gap : Gap) (way : Way) (es : List Entry) (turning : Turning) (offers : List Offer) (xs : List Entry)
+    (turns : IsTurning disk turning) (when : turning.from ≡ arrival disk gap way) (its : xs ≡ on_track (early_track gap way) es)
+    (on : AreOnDisk disk xs) (are : AreOffers offers xs) where
+  -- the leave at a wanted block's end is that of its offer
+  offered : (k : ℕ) (e : Entry) → slice_get (on_track (early_track gap way) es) k ≡ Some e → is_wanted e.state ≡ true
+      → (i : ℕ) × (o : Offer) × (slice_get offers i ≡ Some o) × (leave_at turning o ≡ block_end disk.map e.block (arrival disk gap way))
+  offered k e at w =
+      let here : slice_get xs k ≡ Some e = ap (λ l. slice_get l k) its ∙ at in
+      let i = wanted-at xs k e here w in
+      let o = offer-of offers xs are i.0 e.block i.1 in
+      let end = turning-end disk turning e.block turns (on k e here) ∙ ap (block_end disk.map e.block) when in
+      (o.0, o.1, o.2, ap (λ s. end_of turning.rotation s turning.from) o.3 ∙ end)
+
+  pub way_done : (best first start : Plan) (n u : ℕ) → start ≡ plan_by way turning.from → length offers ≤ n
+      → Beats disk gap (wanted_of es) best first → Beats disk gap (wanted_of es) first start
+      → AreTried disk gap way (wanted_of es) turning offers n best
+      → IsPlan disk gap (plan_by way u) → Beats disk gap (wanted_of es) best (plan_by way u)
+  way_done best first start n u from all b f each is =
+      let arrived = beats-trans disk gap (wanted_of es) best first start b f in
+      all_leaves disk gap way es best u disk.some_rotation
+      (subst (λ p. Beats disk gap (wanted_of es) best p) (from ∙ ap (plan_by way) when) arrived)
+      (λ k e at w fits.
+      let o = offered k e at w in
+      let within = slice_get_within offers o.0 o.1 o.2 in
+      let in_time = subst (λ x. x + move_on disk gap way ≤ gap.deadline) (sym o.3) fits in
+      subst (λ x. Beats disk gap (wanted_of es) best (plan_by way x)) o.3 (each o.0 o.1 (omega (arith, all, within)) o.2 in_time))
+      is
 
 -- one more track
 pub tracks-more : (disk : Disk) (gap : Gap) (wanted : List Block) (new old : Plan) (at : ℕ → Track) (n : ℕ) → Beats disk gap wanted new old
@@ -135,8 +162,8 @@ all_plans disk gap wanted best n all direct detour (Detour track leave) is = det
 -- the sides of a way are those of each of its plans
 sides-way : (disk : Disk) (gap : Gap) (way : Way) (leave : ℕ) (es : List Entry) (sides : Sides) → AreSides disk gap.target es (stay_of disk gap way) sides
     → AreSides disk gap.target es (early_dwell disk gap (plan_by way leave)) sides
-sides-way disk gap Source leave es sides h = record { early = h.early; late = h.late; passing = h.passing; from = h.from; passing_late = h.passing_late }
-sides-way disk gap (Over track) leave es sides h = record { early = h.early; late = h.late; passing = h.passing; from = h.from; passing_late = h.passing_late }
+sides-way disk gap Source leave es sides h = record { early = h.early; late = h.late; passing = h.passing; from = h.from }
+sides-way disk gap (Over track) leave es sides h = record { early = h.early; late = h.late; passing = h.passing; from = h.from }
 
 pub sides-by : (disk : Disk) (gap : Gap) (way : Way) (leave : ℕ) (plan : Plan) (es : List Entry) (sides : Sides) → plan ≡ plan_by way leave → AreSides disk gap.target es (stay_of disk gap way) sides
     → AreSides disk gap.target es (early_dwell disk gap plan) sides

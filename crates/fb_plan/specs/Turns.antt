@@ -1,62 +1,68 @@
 -- How blocks pass from an instant on.
-use Rattle.std.specs.Prelude.{◌≡◌, ℕ, ◌+◌, ◌*◌, ◌%◌, ◌<◌, ◌≤◌, ◌^◌, List, ◌&&◌, ◌||◌, if◌then◌else◌}
+use Rattle.std.specs.Prelude.{◌≡◌, ℕ, ◌+◌, ◌*◌, ◌%◌, ◌<◌, ◌≤◌, ◌^◌, List, Bool, ◌||◌, nat_le, if◌then◌else◌}
+use Rattle.std.specs.List.{All}
+use Rattle.fb_units.specs.declared.types.Sweep.{Sweep}
 use Rattle.fb_units.specs.declared.types.Track.{Track}
-use Rattle.fb_geometry.specs.Shape.{slots_at}
-use Rattle.fb_geometry.specs.Angles.{slot_begin}
-use Rattle.fb_sectormap.specs.Lookup.{place_at, neighbour}
+use Rattle.fb_units.specs.Wait.{wait}
+use Rattle.fb_geometry.specs.Sound.{IsSound}
 use Rattle.fb_service.specs.declared.disk.Disk.{Disk}
 use Rattle.fb_wanted.specs.declared.block.Entry.{Entry}
-use Rattle.fb_wanted.specs.States.{is_wanted, on_track}
+use Rattle.fb_wanted.specs.declared.offer.Offer.{Offer}
+use Rattle.fb_wanted.specs.States.{on_track}
 use Rattle.fb_rows.specs.declared.gap.Dwell.{Dwell}
 use Rattle.fb_rows.specs.declared.gap.Gap.{Gap}
-use Rattle.fb_model.specs.Plans.{catches}
 use Rattle.fb_plan.specs.declared.way.Way.{Way}
 use Rattle.fb_plan.specs.Ways.{early_track, arrival}
 use Rattle.fb_plan.specs.declared.turning.Turning.{Turning}
-use Rattle.fb_plan.specs.declared.turning.Until.{Until}
 use Rattle.fb_plan.specs.declared.sides.Sides.{Sides}
 
--- where the platter stands at the instant, and the sectors of the stretch in neighbouring slots of one turn
-pub record IsTurning (disk : Disk) (turning : Turning) : Type 0 where
-  pub rotation : turning.rotation ≡ disk.map.rotation
+-- when a sweep next begins from an instant on
+abbrev pub begin_of : ℕ → Sweep → ℕ → ℕ
+begin_of rotation sweep t = t + wait rotation sweep.begin t
+
+-- when that sweep ends
+abbrev pub end_of : ℕ → Sweep → ℕ → ℕ
+end_of rotation sweep t = begin_of rotation sweep t + sweep.length
+
+-- the sweep begins at an angle of the rotation, and takes at most one
+pub record IsInTurn (rotation : ℕ) (sweep : Sweep) : Type 0 where
+  pub begin : sweep.begin < rotation
+  pub length : sweep.length ≤ rotation
+
+-- the angle is that at which the platter stands at the instant
+pub record Stands (turning : Turning) : Type 0 where
   pub early : turning.from ≤ 9 * 10 ^ 18
-  pub at : turning.at ≡ turning.from % disk.map.rotation
-  pub few : turning.slots ≤ 10000
-  pub room : turning.slots ≤ disk.map.rotation
-  pub shares : disk.map.rotation ≡ turning.share * turning.slots + turning.rest
-  pub rest : turning.rest < turning.slots
-  pub before : (slot : ℕ) → slot < turning.first → slot_begin disk.map.rotation turning.slots slot < turning.at
-  pub behind : (slot : ℕ) → turning.first ≤ slot → turning.at ≤ slot_begin disk.map.rotation turning.slots slot
-  pub turn : turning.first ≤ turning.slots
-  pub slot : turning.stretch.place.slot < turning.slots
-  pub one_turn : turning.stretch.count ≤ turning.slots
-  pub slots : 0 < turning.stretch.count → turning.slots ≡ slots_at disk.map.zones turning.stretch.place.track.cylinder
-  pub next : (i : ℕ) → i < turning.stretch.count → place_at disk.map (turning.lbn + i) ≡ neighbour disk.map turning.stretch.place i
+  pub short : turning.rotation ≤ 10 ^ 9
+  pub at : turning.at ≡ turning.from % turning.rotation
 
--- slots below this number begin by the latest instant and the others later, for all slots that the next passage of a block can reach
-pub record IsUntil (disk : Disk) (until : Until) : Type 0 where
-  pub passing : IsTurning disk until.passing
-  pub by : (slot : ℕ) → slot < until.slots → until.passing.from + slot_begin disk.map.rotation until.passing.slots slot ≤ until.latest + until.passing.at
-  pub later : (slot : ℕ) → until.slots ≤ slot → slot < until.passing.first + 2 * until.passing.slots
-      → until.latest + until.passing.at < until.passing.from + slot_begin disk.map.rotation until.passing.slots slot
+-- the platter is that of the disk
+pub record IsTurning (disk : Disk) (turning : Turning) : Type 0 where
+  pub stands : Stands turning
+  pub rotation : turning.rotation ≡ disk.map.rotation
+  pub sound : IsSound disk.map
 
--- it decides which blocks pass whole during the dwell
-pub record IsOfDwell (disk : Disk) (dwell : Dwell) (until : Until) : Type 0 where
-  pub tells : IsUntil disk until
-  pub begin : until.passing.from ≡ dwell.begin
-  pub end : until.latest ≡ dwell.end
-
--- the blocks of a dwell's track and of the target, as they pass from the begin of the dwell on
+-- the blocks of a dwell's track and of the target, and where the platter stands at the begin of the dwell
 pub record AreSides (disk : Disk) (target : Track) (entries : List Entry) (dwell : Dwell) (sides : Sides) : Type 0 where
   pub early : sides.early ≡ on_track dwell.track entries
   pub late : sides.late ≡ on_track target entries
   pub passing : IsTurning disk sides.passing
   pub from : sides.passing.from ≡ dwell.begin
-  pub passing_late : IsTurning disk sides.passing_late
 
--- what a registered block adds to the value of a plan with these two dwells
-abbrev pub gain_by : Disk → Dwell → Dwell → Entry → ℕ
-gain_by disk early late entry = if is_wanted entry.state && (catches disk early entry.block || catches disk late entry.block) then entry.block.weight * entry.block.count else 0
+-- all of them begin at an angle of the rotation, and take at most one
+abbrev pub AreInTurn : ℕ → List Offer → Type 0
+AreInTurn rotation offers = All (λ (offer : Offer). IsInTurn rotation offer.sweep) offers
+
+-- the sweep that begins next ends by the latest instant
+abbrev pub passes_by : Turning → ℕ → Sweep → Bool
+passes_by turning latest sweep = nat_le (end_of turning.rotation sweep turning.from) latest
+
+-- it ends in either of two dwells, by the instants at which they end
+abbrev pub passes_in_either : Turning → ℕ → Turning → ℕ → Sweep → Bool
+passes_in_either early leave late deadline sweep = passes_by early leave sweep || passes_by late deadline sweep
+
+-- what an offer adds, if its sweep passes
+abbrev pub added : (Sweep → Bool) → Offer → ℕ
+added passes offer = if passes offer.sweep then offer.worth else 0
 
 -- the longest early dwell of a way: from the arrival to the deadline
 abbrev pub stay_of : Disk → Gap → Way → Dwell

@@ -1,20 +1,20 @@
 // The search over tracks and over the instants at which the head leaves. At each step the best plan
 // so far is at least as good as every plan behind it.
-ghost use Rattle.std.specs.Prelude.{◌≡◌, ◌+◌, ◌*◌, ◌≤◌, ◌<◌, ◌^◌, ℕ, true, IfSome, IfNone};
+ghost use Rattle.std.specs.Prelude.{◌≡◌, ◌+◌, ◌*◌, ◌≤◌, ◌<◌, ◌^◌, ℕ, IfSome, IfNone};
 ghost use Rattle.fb_geometry.specs.Shape.{IsTrackOf};
-ghost use Rattle.fb_model.specs.Plans.{IsPlan, block_end, early_dwell};
-ghost use Rattle.fb_wanted.specs.States.{is_wanted, wanted_of};
-ghost use Rattle.fb_plan.specs.Ways.{FitsDisk, AreOnDisk, IsGap, IsWay, IsScored, Beats, plan_by, early_track, arrival, move_on};
-ghost use Rattle.fb_plan.specs.Turns.{IsTurning, AreSides, stay_of};
+ghost use Rattle.fb_model.specs.Plans.{IsPlan, early_dwell};
+ghost use Rattle.fb_wanted.specs.States.{wanted_of};
+ghost use Rattle.fb_plan.specs.Ways.{AreOnDisk, IsGap, IsWay, IsScored, Beats, plan_by, early_track, arrival, move_on};
+ghost use Rattle.fb_plan.specs.Turns.{Stands, IsInTurn, AreSides, end_of, stay_of};
 
 use crate::choice::choose;
 use crate::sides::{Sides, sides_of};
-use crate::sums::{is_same, is_wanted, plan_value, value_by};
+use crate::sums::{is_same, plan_value, value_by};
 use crate::{Scored, Turning, Way};
 use fb_rows::{Dwell, Gap, Plan};
 use fb_service::Disk;
-use fb_units::{Ns, Track};
-use fb_wanted::{Entry, Wanted};
+use fb_units::{Ns, Sweep, Track};
+use fb_wanted::Wanted;
 
 /// The plan that goes this way and leaves for the target at the instant `leave`, in ns.
 pub fn plan_by(way: Way, leave: Ns) -> Plan
@@ -114,25 +114,15 @@ pub fn try_plan(
     choose(best, scored_by(disk, wanted, gap, sides, plan))
 }
 
-// The instant, in ns, at which a block's passage on the way ends, if the block is wanted and there is
-// time to get from there to the target.
-fn end_in_time(disk: &Disk, gap: &Gap, way: Way, passing: &Turning, entry: Entry) -> Option<Ns>
-    requires track { IsTrackOf disk.now.map (early_track gap.now way) }
-    requires fits { FitsDisk disk.now entry.block }
-    requires gap { IsGap disk.now gap.now }
-    requires passing { IsTurning disk.now passing.now }
-    requires from { passing.now.from ≡ arrival disk.now gap.now way }
-    ensures some { IfSome result (λ end. (end ≡ block_end disk.now.map entry.block (arrival disk.now gap.entry.now way)) × (end + move_on disk.now gap.entry.now way ≤ gap.entry.now.deadline)) }
-    ensures none { IfNone result (is_wanted entry.state ≡ true → gap.entry.now.deadline < block_end disk.now.map entry.block (arrival disk.now gap.entry.now way) + move_on disk.now gap.entry.now way) }
+// The instant, in ns, at which the sweep ends, if that is no later than `latest`.
+fn end_by(passing: &Turning, sweep: Sweep, latest: Ns) -> Option<Ns>
+    requires stands { Stands passing.now }
+    requires sweep { IsInTurn passing.now.rotation sweep }
+    ensures some { IfSome result (λ end. (end ≡ end_of passing.now.rotation sweep passing.now.from) × (end ≤ latest)) }
+    ensures none { IfNone result (latest < end_of passing.now.rotation sweep passing.now.from) }
 {
-    if !is_wanted(entry.state) {
-        return None;
-    }
-    let end = passing.end(disk, entry.block);
-    if gap.deadline < end + move_on(disk, gap, way) {
-        return None;
-    }
-    Some(end)
+    let end = passing.end(sweep);
+    if end <= latest { Some(end) } else { None }
 }
 
 /// The longest early dwell of this way: from the arrival to the deadline.
@@ -164,14 +154,15 @@ pub fn try_way(disk: &Disk, wanted: &Wanted, gap: &Gap, way: Way, start: Scored)
     ensures tried { (leave : ℕ) → IsPlan disk.now gap.entry.now (plan_by way leave) → Beats disk.now gap.entry.now (wanted_of wanted.now) result.plan (plan_by way leave) }
 {
     let stay = stay_of(disk, gap, way);
-    if gap.deadline < stay.begin + move_on(disk, gap, way) {
+    let on = move_on(disk, gap, way);
+    if gap.deadline < stay.begin + on {
         return start;
     }
     let both = sides_of(disk, wanted, gap.target, stay);
     let mut best = try_plan(disk, wanted, gap, &both, plan_by(way, stay.begin), start);
-    for i in 0..both.early.len() {
-        let entry = both.early.get(i);
-        best = match end_in_time(disk, gap, way, &both.passing, entry) {
+    let offers = both.early.offers();
+    for offer in offers {
+        best = match end_by(&both.passing, offer.sweep, gap.deadline - on) {
             Some(end) => try_plan(disk, wanted, gap, &both, plan_by(way, end), best),
             None => best,
         };

@@ -2,7 +2,7 @@
 ghost use Rattle.std.specs.Prelude.{◌≡◌, ◌*◌, ◌≤◌, ◌^◌};
 ghost use Rattle.fb_wanted.specs.States.{on_track};
 ghost use Rattle.fb_plan.specs.Ways.{AreOnDisk};
-ghost use Rattle.fb_plan.specs.Turns.{IsTurning, AreSides};
+ghost use Rattle.fb_plan.specs.Turns.{AreSides};
 
 use crate::Turning;
 use fb_rows::Dwell;
@@ -10,17 +10,15 @@ use fb_service::Disk;
 use fb_units::Track;
 use fb_wanted::{TrackBlocks, Wanted};
 
-/// The registered blocks of a plan's two tracks, and how they pass under the head.
+/// The registered blocks of a plan's two tracks, and where the platter stands.
 #[derive(Drop)]
 pub struct Sides<'a> {
     /// The blocks on the track of the early dwell.
     pub early: TrackBlocks<'a>,
-    /// How these pass from the arrival on.
+    /// Where the platter stands at the begin of that dwell.
     pub passing: Turning,
     /// The blocks on the target.
     pub late: TrackBlocks<'a>,
-    /// How those pass, from some instant on.
-    pub passing_late: Turning,
 }
 
 /// The registered blocks of a track, wanted or not.
@@ -33,7 +31,8 @@ pub fn blocks_on<'a>(disk: &Disk, wanted: &'a Wanted, track: Track) -> TrackBloc
     wanted.on(track)
 }
 
-/// The blocks of a dwell's track and of the target, as they pass from the begin of the dwell on.
+/// The blocks of a dwell's track and of the target, and where the platter stands at the begin of the
+/// dwell.
 pub fn sides_of<'a>(disk: &Disk, wanted: &'a Wanted, target: Track, dwell: Dwell) -> Sides<'a>
     requires blocks { AreOnDisk disk.now wanted.now }
     requires early { dwell.begin ≤ 9 * 10 ^ 18 }
@@ -41,14 +40,9 @@ pub fn sides_of<'a>(disk: &Disk, wanted: &'a Wanted, target: Track, dwell: Dwell
     ensures early { AreOnDisk disk.now result.early }
     ensures late { AreOnDisk disk.now result.late }
 {
-    let early = blocks_on(disk, wanted, dwell.track);
-    let passing = Turning::new(disk, &early, dwell.begin);
-    let late = blocks_on(disk, wanted, target);
-    let passing_late = Turning::new(disk, &late, dwell.begin);
     Sides {
-        early,
-        passing,
-        late,
-        passing_late,
+        early: blocks_on(disk, wanted, dwell.track),
+        passing: Turning::new(disk, dwell.begin),
+        late: blocks_on(disk, wanted, target),
     }
 }

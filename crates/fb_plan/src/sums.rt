@@ -1,19 +1,18 @@
 // The value of a plan.
-ghost use Rattle.std.specs.Prelude.{◌≡◌, ◌+◌, ◌*◌, ◌≤◌, ◌<◌, ◌^◌, ◌||◌, ◌&&◌, ℕ, if◌then◌else◌};
+ghost use Rattle.std.specs.Prelude.{◌≡◌, ◌+◌, ◌*◌, ◌≤◌, ◌<◌, ◌^◌, length};
 ghost use Rattle.std.specs.List.{sum_by};
 ghost use Rattle.fb_units.specs.Tracks.{same_track};
 ghost use Rattle.fb_model.specs.Plans.{value, early_dwell, IsPlan};
-ghost use Rattle.fb_wanted.specs.declared.block.Entry.{Entry};
 ghost use Rattle.fb_wanted.specs.States.{is_wanted, wanted_of};
-ghost use Rattle.fb_plan.specs.Ways.{FitsDisk, AreOnDisk, IsGap};
-ghost use Rattle.fb_plan.specs.Turns.{IsOfDwell, AreSides, gain_by};
+ghost use Rattle.fb_plan.specs.Ways.{AreOnDisk, IsGap};
+ghost use Rattle.fb_plan.specs.Turns.{Stands, IsInTurn, AreInTurn, AreSides, passes_by, passes_in_either, added};
 
 use crate::sides::{Sides, sides_of};
-use crate::{DwellPair, Until, dwells};
+use crate::{DwellPair, Turning, dwells};
 use fb_rows::{Gap, Plan};
 use fb_service::Disk;
-use fb_units::Track;
-use fb_wanted::{Entry, State, TrackBlocks, Wanted};
+use fb_units::{Ns, Track};
+use fb_wanted::{Offer, State, Wanted};
 
 /// Whether a block in this state may be delivered.
 pub fn is_wanted(state: State) -> bool
@@ -27,51 +26,68 @@ pub fn is_wanted(state: State) -> bool
     }
 }
 
-// What one block adds to the value of a plan with these dwells: nothing where neither catches it.
-fn gain(disk: &Disk, pair: DwellPair, early: &Until, late: &Until, entry: Entry) -> u64
-    requires fits { FitsDisk disk.now entry.block }
-    requires early { IsOfDwell disk.now pair.early early.now }
-    requires late { IsOfDwell disk.now pair.late late.now }
-    ensures value { result ≡ gain_by disk.now pair.early pair.late entry }
-    ensures small { result ≤ 2048000 }
+// What an offer adds if its passage ends by the instant `latest`, in ns.
+fn gain(offer: Offer, passing: &Turning, latest: Ns) -> u64
+    requires stands { Stands passing.now }
+    requires sweep { IsInTurn passing.now.rotation offer.sweep }
+    ensures value { result ≡ added (passes_by passing.now latest) offer }
+    ensures small { result < 2 ^ 32 }
 {
-    if !is_wanted(entry.state) {
-        return 0;
+    if passing.ends_by(offer.sweep, latest) {
+        offer.worth as u64
+    } else {
+        0
     }
-    if early.catches(disk, pair.early, entry.block) {
-        return worth(disk, entry);
-    }
-    if late.catches(disk, pair.late, entry.block) {
-        return worth(disk, entry);
-    }
-    0
 }
 
-// Weight times sectors.
-fn worth(disk: &Disk, entry: Entry) -> u64
-    requires { FitsDisk disk.now entry.block }
-    ensures value { result ≡ entry.block.weight * entry.block.count }
-    ensures small { result ≤ 2048000 }
-{
-    entry.block.weight as u64 * entry.block.count as u64
-}
-
-// What the blocks of a track add to the value of a plan with these dwells.
-fn value_on(disk: &Disk, blocks: &TrackBlocks, pair: DwellPair, early: &Until, late: &Until) -> u64
-    requires blocks { AreOnDisk disk.now blocks.now }
-    requires early { IsOfDwell disk.now pair.early early.now }
-    requires late { IsOfDwell disk.now pair.late late.now }
-    ensures value { result ≡ sum_by (gain_by disk.now pair.early pair.late) blocks.now }
-    ensures small { result ≤ 16000000 * 2048000 }
+// What the offers of a track add to the value of a plan that stays there until the instant `latest`,
+// in ns.
+fn value_until(offers: &[Offer], passing: &Turning, latest: Ns) -> u64
+    requires stands { Stands passing.now }
+    requires sweeps { AreInTurn passing.now.rotation offers.now }
+    requires few { length offers.now ≤ 16000000 }
+    ensures value { result ≡ sum_by (added (passes_by passing.now latest)) offers.now }
+    ensures small { result ≤ 16000000 * 2 ^ 32 }
 {
     let mut sum = 0;
-    for i in 0..blocks.len() {
-        sum += gain(disk, pair, early, late, blocks.get(i));
+    for offer in offers {
+        sum += gain(*offer, passing, latest);
     }
     sum
 }
 
-/// The value of a plan, from the blocks of its two tracks.
+// What an offer adds if its passage ends in time in either dwell.
+fn gain_in_either(offer: Offer, pair: DwellPair, early: &Turning, late: &Turning) -> u64
+    requires early { Stands early.now }
+    requires late { Stands late.now }
+    requires early_sweep { IsInTurn early.now.rotation offer.sweep }
+    requires late_sweep { IsInTurn late.now.rotation offer.sweep }
+    ensures value { result ≡ added (passes_in_either early.now pair.early.end late.now pair.late.end) offer }
+    ensures small { result < 2 ^ 32 }
+{
+    if early.ends_by(offer.sweep, pair.early.end) {
+        return offer.worth as u64;
+    }
+    gain(offer, late, pair.late.end)
+}
+
+// What the offers of a track add to the value of a plan that stays there twice.
+fn value_in_either(offers: &[Offer], pair: DwellPair, early: &Turning, late: &Turning) -> u64
+    requires early { Stands early.now }
+    requires late { Stands late.now }
+    requires early_sweeps { AreInTurn early.now.rotation offers.now }
+    requires late_sweeps { AreInTurn late.now.rotation offers.now }
+    requires few { length offers.now ≤ 16000000 }
+    ensures { result ≡ sum_by (added (passes_in_either early.now pair.early.end late.now pair.late.end)) offers.now }
+{
+    let mut sum = 0;
+    for offer in offers {
+        sum += gain_in_either(*offer, pair, early, late);
+    }
+    sum
+}
+
+/// The value of a plan, from what is offered on its two tracks.
 pub fn value_by(disk: &Disk, wanted: &Wanted, gap: &Gap, sides: &Sides, plan: Plan) -> u64
     requires plan { IsPlan disk.now gap.now plan }
     requires gap { IsGap disk.now gap.now }
@@ -82,16 +98,13 @@ pub fn value_by(disk: &Disk, wanted: &Wanted, gap: &Gap, sides: &Sides, plan: Pl
 {
     let _ = wanted;
     let pair = dwells(disk, plan, gap);
-    let early = sides.passing.until(disk, pair.early.end);
-    let late = sides
-        .passing_late
-        .again(disk, pair.late.begin)
-        .until(disk, pair.late.end);
-    let sum = value_on(disk, &sides.early, pair, &early, &late);
+    let late = Turning::new(disk, pair.late.begin);
+    let offers = sides.early.offers();
     if is_same(pair.early.track, gap.target) {
-        return sum;
+        return value_in_either(offers, pair, &sides.passing, &late);
     }
-    sum + value_on(disk, &sides.late, pair, &early, &late)
+    let sum = value_until(offers, &sides.passing, pair.early.end);
+    sum + value_until(sides.late.offers(), &late, pair.late.end)
 }
 
 /// The value of a plan: weight times sectors, summed over the wanted blocks that it catches.
