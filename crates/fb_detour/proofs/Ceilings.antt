@@ -1,10 +1,10 @@
 -- No plan is worth more than its two stays.
-use Rattle.std.proofs.Common.{◌≡◌, ℕ, ◌+◌, ◌*◌, ◌<◌, ◌≤◌, inl, inr, take, List, [], ◌∷◌, Bool, true, false, ◌&&◌, ◌||◌, Some, slice_get, length, refl, arith, ap, ◌∙◌, if◌then◌else◌}
+use Rattle.std.proofs.Common.{◌≡◌, ℕ, ◌+◌, ◌*◌, ◌<◌, ◌≤◌, inl, inr, take, List, [], ◌∷◌, Bool, true, false, ◌&&◌, ◌||◌, Some}
+use Rattle.std.proofs.Common.{slice_get, refl, arith, ap, ◌∙◌, if◌then◌else◌}
 use Rattle.std.specs.List.{sum_by}
 use Rattle.std.proofs.lemmas.Bool.{cases_Bool}
 use Rattle.std.proofs.lemmas.Bool.Decides.{nat_tests}
 use Rattle.std.proofs.lemmas.List.Sums.{sum_by-cons, sum_by_more}
-use Rattle.std.proofs.Math.Seq.{take-length}
 use Rattle.std.proofs.lemmas.Option.{slice_get_within, get_or_from_slice_get}
 use Rattle.fb_units.specs.Tracks.{same_track}
 use Rattle.fb_service.specs.declared.disk.Disk.{Disk}
@@ -34,12 +34,8 @@ pub stay-of : (disk : Disk) (dwell : Dwell) (es xs : List Entry) (sum : ℕ) →
 unfolding stay
 stay-of disk dwell es xs sum same s = s ∙ ap (sum_by (stay_gain disk dwell)) same
 
-pub stay-done : (disk : Disk) (dwell : Dwell) (es xs : List Entry) (n sum : ℕ) → xs ≡ on_track dwell.track es → n ≡ length xs → sum ≡ sum_by (stay_gain disk dwell) (take n xs) → sum ≡ stay disk dwell es
-stay-done disk dwell es xs n sum same all s = stay-of disk dwell es xs sum same
-    (s ∙ (ap (λ k. sum_by (stay_gain disk dwell) (take k xs)) all ∙ ap (sum_by (stay_gain disk dwell)) (take-length xs)))
-
 -- a sum of greater parts is no less
-pub sums-le : (f g : Entry → ℕ) → ((e : Entry) → f e ≤ g e) → (es : List Entry) → sum_by f es ≤ sum_by g es
+pub sums-le : {A : Type 0} (f g : A → ℕ) → ((e : A) → f e ≤ g e) → (es : List A) → sum_by f es ≤ sum_by g es
 sums-le f g le [] = omega arith
 sums-le f g le (e ∷ es) = omega (arith, sum_by-cons f e es, sum_by-cons g e es, le e, sums-le f g le es)
 

@@ -2,6 +2,7 @@ pub mod Ceilings
 pub mod Ways
 pub mod Ranges
 pub mod Arrays
+pub mod Offers
 pub mod Missed
 pub mod Leaving
 pub mod Noted

@@ -1,23 +1,16 @@
 -- Limits: from each of them on the target gives no more than the part that it belongs to.
-use Rattle.std.proofs.Common.{◌≡◌, ℕ, zero, suc, ◌+◌, ◌-◌, ◌*◌, ◌/◌, ◌<◌, ◌≤◌, inl, inr, List, false, get_or, length, refl, arith, subst}
+use Rattle.std.proofs.Common.{◌≡◌, ℕ, zero, suc, ◌+◌, ◌-◌, ◌*◌, ◌/◌, ◌<◌, ◌≤◌, inl, inr, List, false, get_or, length, arith, ap}
+use Rattle.std.proofs.Common.{subst, if◌then◌else◌}
 use Rattle.std.specs.Prelude.{nat_le}
-use Rattle.std.specs.List.{slice_set, sum_by}
+use Rattle.std.specs.List.{slice_set}
 use Rattle.std.proofs.lemmas.Bool.{cases_lt, cases_order}
 use Rattle.std.proofs.lemmas.Bool.Decides.{nat_tests}
 use Rattle.std.proofs.lemmas.List.{get_or-set_same, get_or-set_other}
 use Rattle.std.proofs.lemmas.Nat.{div-add-mod', mul-le}
 use Rattle.std.proofs.Math.Nat.{div-mul-le_self, mod-lt}
-use Rattle.fb_units.specs.Tracks.{same_track}
-use Rattle.fb_service.specs.declared.disk.Disk.{Disk}
-use Rattle.fb_wanted.specs.declared.block.Entry.{Entry}
-use Rattle.fb_wanted.specs.States.{is_wanted}
-use Rattle.fb_rows.specs.declared.gap.Gap.{Gap}
-use Rattle.fb_geometry.specs.Shape.{Shape}
-use Rattle.fb_wanted.specs.declared.block.Block.{Block}
-use Rattle.fb_model.specs.Plans.{block_begin, block_end}
-use Rattle.fb_plan.proofs.Ends.{begin-from-le}
-use Rattle.fb_detour.specs.Bounds.{stay_gain, late_most}
-use Rattle.fb_detour.proofs.Ceilings.{and_false, gain-falls, sums-le}
+use Rattle.fb_wanted.specs.declared.offer.Offer.{Offer}
+use Rattle.fb_plan.specs.Turns.{end_of}
+use Rattle.fb_detour.specs.Bounds.{offer_gain}
 
 -- the quotient of a number below so many steps is less than that
 pub steps_below : (n step m : ℕ) → n < m * step → n / step < m
@@ -54,35 +47,21 @@ pub first_limit : (xs : List ℕ) (begin step : ℕ) → get_or xs 0 0 ≡ begin
 first_limit xs begin step first zero less = omega (arith, first)
 first_limit xs begin step first (suc j) less = absurd (omega (arith, less))
 
-module _ (disk : Disk) (gap : Gap) (entry : Entry) where
-  -- a block that ends too late adds nothing
-  too_late : (from : ℕ) → gap.deadline < block_end disk.map entry.block from → stay_gain disk (late_most gap from) entry ≡ 0
+module _ (rotation now deadline : ℕ) (offer : Offer) where
+  -- what ends too late adds nothing
+  too_late : (from : ℕ) → deadline < end_of rotation offer.sweep from → offer_gain rotation from deadline offer ≡ 0
   too_late from late =
-      let missed : nat_le (block_end disk.map entry.block from) gap.deadline ≡ false = grind (arith, nat_tests) in
-      rw (missed, and_false (same_track gap.target entry.block.track), and_false (is_wanted entry.state)) refl
+      let missed : nat_le (end_of rotation offer.sweep from) deadline ≡ false = grind (arith, nat_tests) in
+      ap (λ b. if b then offer.worth else 0) missed
 
-  -- nor does one behind the last instant at which it can be caught
-  pub behind_last : (last from : ℕ) → ((t : ℕ) → gap.now ≤ t → block_end disk.map entry.block t ≤ gap.deadline → t ≤ last) → gap.now ≤ from → last < from
-      → stay_gain disk (late_most gap from) entry ≡ 0
-  behind_last last from catches now behind = elim (cases_lt gap.deadline (block_end disk.map entry.block from)) [
+  -- nor does what is behind the last instant at which it can be caught
+  pub behind_last : (last from : ℕ) → ((t : ℕ) → now ≤ t → end_of rotation offer.sweep t ≤ deadline → t ≤ last) → now ≤ from → last < from
+      → offer_gain rotation from deadline offer ≡ 0
+  behind_last last from catches after behind = elim (cases_lt deadline (end_of rotation offer.sweep from)) [
     | inl late ↦ too_late from late
-    | inr caught ↦ absurd (omega (arith, catches from now caught, behind))
+    | inr caught ↦ absurd (omega (arith, catches from after caught, behind))
   ]
-
-  -- nor one that is never caught
-  pub never_caught : (from : ℕ) → ((t : ℕ) → gap.now ≤ t → gap.deadline < block_end disk.map entry.block t) → gap.now ≤ from → stay_gain disk (late_most gap from) entry ≡ 0
-  never_caught from never now = too_late from (never from now)
-
--- later limits, no greater sums
-pub sums-fall : (disk : Disk) (gap : Gap) (soon late : ℕ) (xs : List Entry) → 0 < disk.map.rotation → soon ≤ late
-    → sum_by (stay_gain disk (late_most gap late)) xs ≤ sum_by (stay_gain disk (late_most gap soon)) xs
-sums-fall disk gap soon late xs some le =
-    sums-le (stay_gain disk (late_most gap late)) (stay_gain disk (late_most gap soon)) (λ e. gain-falls disk (late_most gap late) (late_most gap soon) e some refl le (omega arith)) xs
 
 -- thirty-two steps of a bit more than a thirty-second go over the whole
 pub beyond_all : (n : ℕ) → n < 32 * (n / 32 + 1)
 beyond_all n = let whole = div-add-mod' n 32 in let rest = mod-lt n {m = 32} (omega arith) in omega (arith, whole, rest)
-
--- a passage ends behind its begin, which is no earlier than the instant
-pub begin-before : (disk : Shape) (block : Block) (t : ℕ) → (t ≤ block_begin disk block t) × (block_begin disk block t < block_end disk block t)
-begin-before disk block t = (begin-from-le disk block t, omega arith)

@@ -1,8 +1,8 @@
 -- The leaves that are noted as tried.
-use Rattle.std.proofs.Common.{◌≡◌, ℕ, ◌<◌, ◌⊎◌, inl, inr, List, get_or, length, arith, sym, subst}
-use Rattle.std.proofs.lemmas.Bool.{cases_eq, cases_lt}
+use Rattle.std.proofs.Common.{ℕ, ◌<◌, inl, inr, List, get_or, length, sym, subst}
+use Rattle.std.proofs.lemmas.Bool.{cases_eq}
 use Rattle.std.proofs.lemmas.Grind.{get_or-set_at}
-use Rattle.std.proofs.lemmas.List.{get_or_past, get_or-set_other, length-set}
+use Rattle.std.proofs.lemmas.List.{get_or-set_other}
 use Rattle.std.specs.List.{slice_set}
 use Rattle.fb_service.specs.declared.disk.Disk.{Disk}
 use Rattle.fb_wanted.specs.declared.block.Block.{Block}
@@ -14,21 +14,17 @@ use Rattle.fb_detour.specs.Bounds.{IsBeaten}
 use Rattle.fb_plan.proofs.Ties.{beats-trans}
 
 module _ (disk : Disk) (gap : Gap) (way : Way) (wanted : List Block) where
-  -- a note is blank, or the plan that leaves then was tried
+  -- no leave that is noted is better than the best so far
   abbrev Are : Plan → List ℕ → Type 0
-  Are best leaves = (k : ℕ) → k < 1024 → (get_or leaves k 0 ≡ 0) ⊎ IsBeaten disk gap wanted way best (get_or leaves k 0)
+  Are best leaves = (k : ℕ) → k < 1024 → IsBeaten disk gap wanted way best (get_or leaves k 0)
 
   pub notes-kept : (new old : Plan) (leaves : List ℕ) → Beats disk gap wanted new old → Are old leaves → Are new leaves
-  notes-kept new old leaves keeps notes k less = elim (notes k less) [
-    | inl blank ↦ inl blank
-    | inr beaten ↦ inr (λ fits. beats-trans disk gap wanted new old (plan_by way (get_or leaves k 0)) keeps (beaten fits))
-  ]
+  notes-kept new old leaves keeps notes k less fits =
+      beats-trans disk gap wanted new old (plan_by way (get_or leaves k 0)) keeps (notes k less fits)
 
-  pub notes-more : (best : Plan) (leaves : List ℕ) (part leave : ℕ) → Are best leaves → IsBeaten disk gap wanted way best leave → Are best (slice_set leaves part leave)
-  notes-more best leaves part leave notes beaten k less = elim (cases_eq k part) [
-    | inl here ↦ elim (cases_lt part (length leaves)) [
-      | inl there ↦ inr (subst (IsBeaten disk gap wanted way best) (sym (get_or-set_at leaves part k leave 0 here there)) beaten)
-      | inr past ↦ inl (get_or_past (slice_set leaves part leave) k 0 (omega (arith, length-set leaves part leave, past, here)))
-    ]
-    | inr other ↦ subst (λ x. (x ≡ 0) ⊎ IsBeaten disk gap wanted way best x) (sym (get_or-set_other leaves part k leave 0 other)) (notes k less)
+  pub notes-more : (best : Plan) (leaves : List ℕ) (part leave : ℕ) → part < length leaves → Are best leaves
+      → IsBeaten disk gap wanted way best leave → Are best (slice_set leaves part leave)
+  notes-more best leaves part leave within notes beaten k less = elim (cases_eq k part) [
+    | inl here ↦ subst (IsBeaten disk gap wanted way best) (sym (get_or-set_at leaves part k leave 0 here within)) beaten
+    | inr other ↦ subst (IsBeaten disk gap wanted way best) (sym (get_or-set_other leaves part k leave 0 other)) (notes k less)
   ]

@@ -1,7 +1,7 @@
 -- A stay catches no more than the sectors that can pass while it lasts.
-use Rattle.std.proofs.Common.{◌≡◌, ℕ, zero, suc, ◌+◌, ◌-◌, ◌*◌, ◌/◌, ◌<◌, ◌≤◌, inl, inr, List, [], ◌∷◌, true, ◌&&◌, Some, slice_get, length, refl, arith, ap, sym, subst, ◌∙◌, if◌then◌else◌}
+use Rattle.std.proofs.Common.{◌≡◌, ℕ, zero, suc, ◌+◌, ◌-◌, ◌*◌, ◌/◌, ◌<◌, ◌≤◌, inl, inr, List, true, ◌&&◌, Some, length, arith}
+use Rattle.std.proofs.Common.{ap, sym, subst, ◌∙◌, if◌then◌else◌}
 use Rattle.std.specs.Prelude.{nat_le}
-use Rattle.std.specs.List.{AllByRecursion}
 use Rattle.std.proofs.lemmas.Bool.{cases_Bool, and_parts, leb-true}
 use Rattle.std.proofs.lemmas.Option.{slice_get-get_or}
 use Rattle.std.proofs.lemmas.Nat.{le-div}
@@ -24,6 +24,7 @@ use Rattle.fb_model.specs.Plans.{catches, block_end}
 use Rattle.fb_plan.specs.Ways.{FitsDisk, AreOnDisk}
 use Rattle.fb_detour.specs.Bounds.{stay, stay_gain, early_to, slots_within}
 use Rattle.fb_detour.proofs.Ceilings.{sums-le}
+use Rattle.fb_detour.proofs.Offers.{all_of}
 use Rattle.fb_detour.proofs.Counted.{no_more}
 use Rattle.fb_detour.proofs.Within.{its_track, place_of, from-le, sectors_pass}
 use Rattle.fb_detour.proofs.Spread.{same_share, slots_short}
@@ -31,10 +32,6 @@ use Rattle.fb_detour.proofs.Spread.{same_share, slots_short}
 pub div-rises : (a b n : ℕ) → a ≤ b → a / n ≤ b / n
 div-rises a b zero le = omega arith
 div-rises a b (suc n) le = le-div (a / suc n) b (suc n) (omega arith) (omega (arith, div-mul-le_self a (suc n), le))
-
-all_of : (P : Entry → Type 0) (es : List Entry) → ((k : ℕ) (e : Entry) → slice_get es k ≡ Some e → P e) → AllByRecursion P es
-all_of P [] each = tt
-all_of P (e ∷ es) each = (each 0 e refl, all_of P es (λ k. each (suc k)))
 
 is_at : (disk : Shape) (lbn : ℕ) → lbn < length (places disk) → IsAt disk lbn (place_at disk lbn)
 unfolding place_at

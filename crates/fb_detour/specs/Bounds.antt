@@ -1,5 +1,6 @@
 -- Upper bounds on the value of detours.
-use Rattle.std.specs.Prelude.{◌≡◌, ℕ, false, ◌+◌, ◌-◌, ◌*◌, ◌/◌, ◌%◌, ◌^◌, ◌<◌, ◌≤◌, ◌⊎◌, min, nat_lt, get_or, take, List, ◌&&◌, if◌then◌else◌}
+use Rattle.std.specs.Prelude.{◌≡◌, ℕ, false, ◌+◌, ◌-◌, ◌*◌, ◌/◌, ◌%◌, ◌^◌, ◌<◌, ◌≤◌, ◌⊎◌, min, nat_le, nat_lt, get_or, take, List}
+use Rattle.std.specs.Prelude.{◌&&◌, if◌then◌else◌}
 use Rattle.std.specs.List.{sum_by}
 use Rattle.fb_units.specs.declared.types.Track.{Track}
 use Rattle.fb_seek.specs.Mechanics.{Mechanics}
@@ -7,13 +8,16 @@ use Rattle.fb_seek.specs.Positioning.{distance_of, pos, seek}
 use Rattle.fb_service.specs.declared.disk.Disk.{Disk}
 use Rattle.fb_wanted.specs.declared.block.Block.{Block}
 use Rattle.fb_wanted.specs.declared.block.Entry.{Entry}
+use Rattle.fb_wanted.specs.declared.offer.Offer.{Offer}
+use Rattle.fb_wanted.specs.Offers.{AreOffers}
 use Rattle.fb_wanted.specs.States.{is_wanted, on_track, wanted_of}
 use Rattle.fb_rows.specs.declared.gap.Dwell.{Dwell}
 use Rattle.fb_rows.specs.declared.gap.Gap.{Gap}
 use Rattle.fb_rows.specs.declared.gap.Plan.{Plan}
 use Rattle.fb_rows.specs.declared.gap.Plan.TheVariants.{Detour}
-use Rattle.fb_model.specs.Plans.{block_end, catches, value, IsPlan, IsDetour, IsNoLater, IsTrackBefore}
+use Rattle.fb_model.specs.Plans.{catches, value, IsPlan, IsDetour, IsNoLater, IsTrackBefore}
 use Rattle.fb_plan.specs.declared.choice.Scored.{Scored}
+use Rattle.fb_plan.specs.declared.sides.Sides.{Sides}
 use Rattle.fb_plan.specs.declared.way.Way.{Way}
 use Rattle.fb_detour.specs.declared.bounds.Moves.{Moves}
 use Rattle.fb_detour.specs.declared.bounds.Seeks.{Seeks}
@@ -24,19 +28,19 @@ use Rattle.fb_detour.specs.declared.parts.LateParts.{LateParts}
 use Rattle.fb_detour.specs.declared.steps.Reach.{Reach}
 use Rattle.fb_detour.specs.declared.stop.Stop.{Stop}
 use Rattle.fb_plan.specs.Ways.{Beats, AreOnDisk, IsGap, IsScored, plan_by, early_track, arrival, move_on}
-use Rattle.fb_plan.specs.Turns.{IsTurning}
+use Rattle.fb_plan.specs.Turns.{end_of, stay_of, AreInTurn, AreSides, IsTurning, Stands}
 
 -- what a registered block adds to a stay of the head on its track
 abbrev pub stay_gain : Disk → Dwell → Entry → ℕ
 stay_gain disk dwell entry = if is_wanted entry.state && catches disk dwell entry.block then entry.block.weight * entry.block.count else 0
 
--- what a registered block weighs while it is wanted
-abbrev pub wanted_worth : Entry → ℕ
-wanted_worth entry = if is_wanted entry.state then entry.block.weight * entry.block.count else 0
+-- what an offer gives to a stay between two instants
+abbrev pub offer_gain : ℕ → ℕ → ℕ → Offer → ℕ
+offer_gain rotation from upto offer = if nat_le (end_of rotation offer.sweep from) upto then offer.worth else 0
 
--- the worth of a wanted block that a stay misses, since it hasn't passed whole by the end
-abbrev pub missed : Disk → ℕ → ℕ → Entry → ℕ
-missed disk arrive latest entry = if is_wanted entry.state && nat_lt latest (block_end disk.map entry.block arrive) then entry.block.weight * entry.block.count else 0
+-- the worth of an offer that a stay misses, since it hasn't passed whole by the end
+abbrev pub missed : ℕ → ℕ → ℕ → Offer → ℕ
+missed rotation from upto offer = if nat_lt upto (end_of rotation offer.sweep from) then offer.worth else 0
 
 -- what a stay catches of its track's blocks
 unfoldable pub stay : Disk → Dwell → List Entry → ℕ
@@ -86,6 +90,17 @@ IsFound search found = IsScored search.disk.now search.gap.now (wanted_of search
 abbrev pub IsNoWorse : Search → Plan → Plan → Type 0
 IsNoWorse search plan other = Beats search.disk.now search.gap.now (wanted_of search.wanted.now) plan other
 
+-- the plan is at least as good as each plan of the way
+abbrev pub BeatsWay : Search → Way → Plan → Type 0
+BeatsWay search way plan = (leave : ℕ) → IsPlan search.disk.now search.gap.now (plan_by way leave)
+    → IsNoWorse search plan (plan_by way leave)
+
+-- the blocks of the way's track and of the target, as the first pass from the arrival on
+pub record AreSidesOf (search : Search) (way : Way) (sides : Sides) : Type 0 where
+  pub its : AreSides search.disk.now search.gap.now.target search.wanted.now (stay_of search.disk.now search.gap.now way) sides
+  pub early : AreOnDisk search.disk.now sides.early
+  pub late : AreOnDisk search.disk.now sides.late
+
 -- the ceiling of the plan that leaves at an instant: what the track gives up to the end of that interval, and the target after the move
 abbrev pub ceiling_at : Ceilings → ℕ → ℕ
 ceiling_at ceilings leave = get_or ceilings.early (min ((leave - ceilings.begin) / ceilings.step) 15) 0 + part_at ceilings.late.now (leave + ceilings.move_on)
@@ -107,17 +122,27 @@ pub record AreCeilings (disk : Disk) (gap : Gap) (entries : List Entry) (way : W
 abbrev pub IsBeaten : Disk → Gap → List Block → Way → Plan → ℕ → Type 0
 IsBeaten disk gap wanted way best leave = leave + move_on disk gap way ≤ gap.deadline → Beats disk gap wanted best (plan_by way leave)
 
--- each leave that is noted was tried
+-- no leave that is noted is better than the best so far
 abbrev pub AreNotes : Disk → Gap → List Block → Way → Tried → Type 0
-AreNotes disk gap wanted way tried = (k : ℕ) → k < 1024 → (get_or tried.leaves k 0 ≡ 0) ⊎ IsBeaten disk gap wanted way tried.best.plan (get_or tried.leaves k 0)
+AreNotes disk gap wanted way tried = (k : ℕ) → k < 1024 → IsBeaten disk gap wanted way tried.best.plan (get_or tried.leaves k 0)
 
--- the blocks of a track, and how they pass from the arrival on
-pub record IsStop (disk : Disk) (entries : List Entry) (stop : Stop) : Type 0 where
-  pub its : stop.blocks ≡ on_track stop.track entries
-  pub on_disk : AreOnDisk disk stop.blocks
-  pub early : stop.arrive ≤ 9 * 10 ^ 18
+-- the worth of all offers is the stop's weight, and they pass once a rotation from the arrival on
+pub record IsReady (stop : Stop) : Type 0 where
+  pub weight : sum_by (λ (offer : Offer). offer.worth) stop.offers.now ≡ stop.weight
+  pub small : stop.weight ≤ 16000000 * 2048000
+  pub in_turn : AreInTurn stop.passing.rotation stop.offers.now
+  pub stands : Stands stop.passing
+
+-- these blocks of the track make the offers
+pub record IsStop (disk : Disk) (blocks : List Entry) (stop : Stop) : Type 0 where
+  pub ready : IsReady stop
+  pub its : AreOffers stop.offers.now blocks
+  pub on_disk : AreOnDisk disk blocks
   pub passing : IsTurning disk stop.passing
-  pub from : stop.passing.from ≡ stop.arrive
+
+-- what a stop gives to a head that stays up to an instant
+abbrev pub offered : Stop → ℕ → ℕ
+offered stop upto = sum_by (offer_gain stop.passing.rotation stop.passing.from upto) stop.offers.now
 
 -- how many cylinders a cylinder lies outside a range; 0 inside it
 abbrev pub distance_to : ℕ → ℕ → ℕ → ℕ

@@ -1,5 +1,6 @@
 // Upper bounds on the value of the plans of a way, by the instant at which the head leaves.
 ghost use Rattle.std.specs.Prelude.{◌≡◌, ◌+◌, ◌*◌, ◌≤◌, ◌<◌, ◌^◌, ℕ, get_or};
+ghost use Rattle.fb_wanted.specs.States.{on_track};
 ghost use Rattle.fb_plan.specs.Ways.{early_track, arrival, move_on};
 ghost use Rattle.fb_detour.specs.Bounds.{IsStop, AreCeilings, ceiling_at, IsSearch};
 
@@ -23,19 +24,19 @@ pub struct Ceilings<'a> {
 // ns.
 pub fn ceilings_of<'a>(search: &Search<'a>, way: Way, stop: &Stop, on: Ns) -> Ceilings<'a>
     requires search { IsSearch search.now }
-    requires stop { IsStop search.now.disk.now search.now.wanted.now stop.now }
-    requires track { stop.now.track ≡ early_track search.now.gap.now way }
-    requires arrive { stop.now.arrive ≡ arrival search.now.disk.now search.now.gap.now way }
+    requires stop { IsStop search.now.disk.now (on_track (early_track search.now.gap.now way) search.now.wanted.now) stop.now }
+    requires arrive { stop.now.passing.from ≡ arrival search.now.disk.now search.now.gap.now way }
     requires on { on ≡ move_on search.now.disk.now search.now.gap.now way }
     requires soon { on ≤ 2 * 10 ^ 9 }
-    requires in_time { stop.now.arrive + on ≤ search.now.gap.now.deadline }
+    requires in_time { stop.now.passing.from + on ≤ search.now.gap.now.deadline }
     ensures { AreCeilings search.now.disk.now search.now.gap.now search.now.wanted.now way result }
 {
-    let step = (search.gap.deadline - on - stop.arrive) / EARLY as u64 + 1;
+    let begin = stop.passing.from;
+    let step = (search.gap.deadline - on - begin) / EARLY as u64 + 1;
     Ceilings {
-        begin: stop.arrive,
+        begin,
         step,
-        early: early_parts(search.disk, search.wanted, stop, step),
+        early: early_parts(stop, step),
         move_on: on,
         late: search.late,
     }

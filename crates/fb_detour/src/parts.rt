@@ -1,16 +1,15 @@
 // What a track, or the target, can give, tabulated by instant.
 ghost use Rattle.std.specs.Prelude.{◌≡◌, ◌+◌, ◌-◌, ◌*◌, ◌/◌, ◌≤◌, ◌<◌, ◌^◌, ℕ, get_or, nat_le, if◌then◌else◌, IfSome, IfNone};
-ghost use Rattle.fb_model.specs.Plans.{block_end};
-ghost use Rattle.fb_plan.specs.Ways.{FitsDisk, AreOnDisk, IsGap};
-ghost use Rattle.fb_plan.specs.Turns.{IsTurning};
-ghost use Rattle.fb_detour.specs.Bounds.{stay, stay_gain, early_to, late_most, late_step, IsLate, IsStop, part_at, sum_of_first};
+ghost use Rattle.fb_plan.specs.Ways.{AreOnDisk, IsGap};
+ghost use Rattle.fb_plan.specs.Turns.{end_of, IsInTurn, IsTurning, Stands};
+ghost use Rattle.fb_detour.specs.Bounds.{offer_gain, offered, late_step, IsLate, IsReady, part_at, sum_of_first};
 
-use crate::stop::Stop;
-use fb_plan::{Turning, blocks_on, is_same, is_wanted};
+use crate::stop::{Stop, stop_at};
+use fb_plan::{Turning, blocks_on};
 use fb_rows::Gap;
 use fb_service::Disk;
-use fb_units::Ns;
-use fb_wanted::{Block, Entry, Wanted};
+use fb_units::{Ns, Sweep};
+use fb_wanted::{Offer, Wanted};
 
 // Into how many parts the time of the gap is divided.
 pub const LATE: usize = 32;
@@ -41,31 +40,32 @@ fn worth_by(instant: Ns, upto: Ns, worth: u64) -> u64
     if instant <= upto { worth } else { 0 }
 }
 
-// The last instant at which the head can come to the target and still catch the block, which passes
-// once a rotation; `None` where it doesn't pass whole by the deadline.
-fn last_catch(disk: &Disk, gap: &Gap, passing: &Turning, block: Block) -> Option<Ns>
+// The last instant at which the head can come to the target and still catch what passes so, once a
+// rotation; `None` where it doesn't pass whole by the deadline.
+fn last_catch(disk: &Disk, gap: &Gap, passing: &Turning, sweep: Sweep) -> Option<Ns>
     requires gap { IsGap disk.now gap.now }
-    requires fits { FitsDisk disk.now block }
     requires passing { IsTurning disk.now passing.now }
     requires from { passing.now.from ≡ gap.now.now }
-    ensures some { IfSome result (λ last. (from : ℕ) → gap.entry.now.now ≤ from → block_end disk.now.map block from ≤ gap.entry.now.deadline → from ≤ last) }
+    requires in_turn { IsInTurn passing.now.rotation sweep }
+    ensures some { IfSome result (λ last. (from : ℕ) → gap.entry.now.now ≤ from
+        → end_of passing.now.rotation sweep from ≤ gap.entry.now.deadline → from ≤ last) }
     ensures within { IfSome result (λ last. (gap.entry.now.now ≤ last) × (last ≤ gap.entry.now.deadline)) }
-    ensures none { IfNone result ((from : ℕ) → gap.entry.now.now ≤ from → gap.entry.now.deadline < block_end disk.now.map block from) }
+    ensures none { IfNone result ((from : ℕ) → gap.entry.now.now ≤ from → gap.entry.now.deadline < end_of passing.now.rotation sweep from) }
 {
-    let end = passing.end(disk, block);
+    let end = passing.end(sweep);
     if gap.deadline < end {
         return None;
     }
     let rotation = disk.map.geometry().rotation();
     let turns = (gap.deadline - end) / rotation;
-    Some(passing.begin(disk, block) + turns * rotation)
+    Some(end - sweep.length as u64 + turns * rotation)
 }
 
 // Adds the worth to each part that begins no later than the last instant.
 fn add_last(last: Ns, worth: u64, begin: Ns, step: Ns, parts: &mut [u64; LATE])
     requires begin { begin ≤ 9 * 10 ^ 18 }
     requires step { step ≤ 29 * 10 ^ 16 }
-    requires worth { worth ≤ 2048000 }
+    requires worth { worth < 2 ^ 32 }
     requires room { (k : ℕ) → k < 32 → get_or parts.old k 0 ≤ 16000000 * 2048000 }
     ensures { (k : ℕ) → k < 32 → get_or parts.new k 0 ≡ get_or parts.old k 0 + (if nat_le (begin + k * step) last then worth else 0) }
 {
@@ -104,36 +104,35 @@ fn add_limit(last: Ns, begin: Ns, step: Ns, limits: &mut [Ns; LIMITS])
     limits[k as usize + 1] = limit;
 }
 
-// Adds the worth of the block to each part from whose beginning on it can still be caught, and moves
+// Adds the worth of an offer to each part from whose beginning on it can still be caught, and moves
 // the limit behind the last of these.
 fn add_late(
     disk: &Disk,
     gap: &Gap,
     passing: &Turning,
-    entry: Entry,
+    offer: Offer,
     parts: &mut [u64; LATE],
     limits: &mut [Ns; LIMITS],
 )
     requires gap { IsGap disk.now gap.now }
-    requires fits { FitsDisk disk.now entry.block }
     requires passing { IsTurning disk.now passing.now }
     requires from { passing.now.from ≡ gap.now.now }
+    requires in_turn { IsInTurn passing.now.rotation offer.sweep }
     requires spread { (k : ℕ) → k < 33 → gap.now.now + (k - 1) * late_step gap.now ≤ get_or limits.old k 0 }
     requires room { (k : ℕ) → k < 32 → get_or parts.old k 0 ≤ 16000000 * 2048000 }
-    ensures most { (k : ℕ) → k < 32 → get_or parts.old k 0 + stay_gain disk.now (late_most gap.entry.now (gap.entry.now.now + k * late_step gap.entry.now)) entry ≤ get_or parts.new k 0 }
-    ensures small { (k : ℕ) → k < 32 → get_or parts.new k 0 ≤ get_or parts.old k 0 + 2048000 }
+    ensures most { (k : ℕ) → k < 32 → get_or parts.old k 0
+        + offer_gain passing.now.rotation (gap.entry.now.now + k * late_step gap.entry.now) gap.entry.now.deadline offer
+        ≤ get_or parts.new k 0 }
+    ensures small { (k : ℕ) → k < 32 → get_or parts.new k 0 ≤ get_or parts.old k 0 + offer.worth }
     ensures first { get_or limits.new 0 0 ≡ get_or limits.old 0 0 }
     ensures grow { (k : ℕ) → get_or limits.old k 0 ≤ get_or limits.new k 0 }
-    ensures limits { (k : ℕ) → k < 32 → get_or parts.old k 0 + stay_gain disk.now (late_most gap.entry.now (get_or limits.new k 0)) entry ≤ get_or parts.new k 0 }
-    ensures end { stay_gain disk.now (late_most gap.entry.now (get_or limits.new 32 0)) entry ≡ 0 }
+    ensures limits { (k : ℕ) → k < 32 → get_or parts.old k 0
+        + offer_gain passing.now.rotation (get_or limits.new k 0) gap.entry.now.deadline offer ≤ get_or parts.new k 0 }
+    ensures end { offer_gain passing.now.rotation (get_or limits.new 32 0) gap.entry.now.deadline offer ≡ 0 }
 {
-    if !is_wanted(entry.state) {
-        return;
-    }
-    if let Some(last) = last_catch(disk, gap, passing, entry.block) {
+    if let Some(last) = last_catch(disk, gap, passing, offer.sweep) {
         let step = (gap.deadline - gap.now) / LATE as u64 + 1;
-        let worth = entry.block.weight as u64 * entry.block.count as u64;
-        add_last(last, worth, gap.now, step, parts);
+        add_last(last, offer.worth as u64, gap.now, step, parts);
         add_limit(last, gap.now, step, limits);
     }
 }
@@ -145,13 +144,12 @@ pub fn late_parts(disk: &Disk, wanted: &Wanted, gap: &Gap) -> LateParts
     ensures late { IsLate disk.now gap.entry.now wanted.now result }
 {
     let blocks = blocks_on(disk, wanted, gap.target);
-    let passing = Turning::new(disk, &blocks, gap.now);
+    let stop = stop_at(disk, &blocks, gap.target, gap.now);
     let step = (gap.deadline - gap.now) / LATE as u64 + 1;
     let mut parts = [0; LATE];
     let mut limits = first_limits(gap.now, step);
-    for i in 0..blocks.len() {
-        let entry = blocks.get(i);
-        add_late(disk, gap, &passing, entry, &mut parts, &mut limits);
+    for offer in stop.offers {
+        add_late(disk, gap, &stop.passing, *offer, &mut parts, &mut limits);
     }
     LateParts {
         begin: gap.now,
@@ -176,26 +174,19 @@ pub fn late_at(late: &LateParts, from: Ns) -> u64
 // Into how many intervals the time on a track is divided.
 pub const EARLY: usize = 16;
 
-// Adds the worth of the block to the interval in which its passage ends.
-fn add_entry(disk: &Disk, stop: &Stop, step: Ns, entry: Entry, intervals: &mut [u64; EARLY])
-    requires fits { FitsDisk disk.now entry.block }
-    requires passing { IsTurning disk.now stop.now.passing }
-    requires begin { stop.now.passing.from ≡ stop.now.arrive }
+// Adds the worth of an offer to the interval in which its passage ends.
+fn add_offer(stop: &Stop, step: Ns, offer: Offer, intervals: &mut [u64; EARLY])
+    requires stands { Stands stop.now.passing }
+    requires in_turn { IsInTurn stop.now.passing.rotation offer.sweep }
     requires some { 0 < step }
     requires room { (k : ℕ) → k < 16 → sum_of_first (k + 1) intervals.old ≤ 16000000 * 2048000 }
-    ensures { (k : ℕ) → k < 16 → sum_of_first (k + 1) intervals.new ≡ sum_of_first (k + 1) intervals.old + stay_gain disk.now (early_to stop.now.track stop.now.arrive (stop.now.arrive + (k + 1) * step)) entry }
+    ensures { (k : ℕ) → k < 16 → sum_of_first (k + 1) intervals.new ≡ sum_of_first (k + 1) intervals.old
+        + offer_gain stop.now.passing.rotation stop.now.passing.from (stop.now.passing.from + (k + 1) * step) offer }
 {
-    if !is_wanted(entry.state) {
-        return;
-    }
-    if !is_same(stop.track, entry.block.track) {
-        return;
-    }
-    let worth = entry.block.weight as u64 * entry.block.count as u64;
-    let end = stop.passing.end(disk, entry.block);
-    let first = (end - stop.arrive - 1) / step;
+    let past = stop.passing.end(offer.sweep) - stop.passing.from;
+    let first = past.saturating_sub(1) / step;
     if first < EARLY as u64 {
-        intervals[first as usize] += worth;
+        intervals[first as usize] += offer.worth as u64;
     }
 }
 
@@ -209,17 +200,16 @@ fn add_up(intervals: &mut [u64; EARLY])
     }
 }
 
-// What a track gives to a head that stays from its arrival to the end of each interval.
-pub fn early_parts(disk: &Disk, wanted: &Wanted, stop: &Stop, step: Ns) -> [u64; EARLY]
-    requires stop { IsStop disk.now wanted.now stop.now }
+// What a stop gives to a head that stays from its arrival to the end of each interval.
+pub fn early_parts(stop: &Stop, step: Ns) -> [u64; EARLY]
+    requires stop { IsReady stop.now }
     requires some { 0 < step }
-    ensures each { (k : ℕ) → k < 16 → get_or result k 0 ≡ stay disk.now (early_to stop.now.track stop.now.arrive (stop.now.arrive + (k + 1) * step)) wanted.now }
+    ensures each { (k : ℕ) → k < 16 → get_or result k 0 ≡ offered stop.now (stop.now.passing.from + (k + 1) * step) }
     ensures small { (k : ℕ) → k < 16 → get_or result k 0 ≤ 16000000 * 2048000 }
 {
-    let _ = wanted;
     let mut parts = [0; EARLY];
-    for i in 0..stop.blocks.len() {
-        add_entry(disk, stop, step, stop.blocks.get(i), &mut parts);
+    for offer in stop.offers {
+        add_offer(stop, step, *offer, &mut parts);
     }
     add_up(&mut parts);
     parts

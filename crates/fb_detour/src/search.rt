@@ -19,22 +19,22 @@ use crate::steps::{Reach, most_by_steps, most_over, rate_in, rate_over, reach_by
 use crate::stop::stop_at;
 use fb_plan::{Scored, Way, blocks_on, is_same};
 use fb_units::{Ns, Track};
-use fb_wanted::{TrackBlocks, Wanted};
+use fb_wanted::TrackBlocks;
 
 // Tries the plans that stop at a track with these blocks, unless none can be better than the best so far.
 fn try_stop(
     search: &Search,
     track: Track,
     seeks: Seeks,
-    blocks: TrackBlocks,
+    blocks: &TrackBlocks,
     start: Scored,
 ) -> Scored
     requires seeks { AreSeeks search.now.disk.now.mechanism search.now.gap.now track.cylinder seeks }
     requires track { IsTrackOf search.now.disk.now.map track }
     requires detour { same_track track search.now.gap.now.source ≡ false }
     requires elsewhere { same_track track search.now.gap.now.target ≡ false }
-    requires its { blocks ≡ on_track track search.now.wanted.now }
-    requires on_disk { AreOnDisk search.now.disk.now blocks }
+    requires its { blocks.now ≡ on_track track search.now.wanted.now }
+    requires on_disk { AreOnDisk search.now.disk.now blocks.now }
     requires search { IsSearch search.now }
     requires best { IsFound search.now start }
     ensures scored { IsFound search.now result }
@@ -48,16 +48,9 @@ fn try_stop(
     if search.gap.deadline < arrive + on {
         return start;
     }
-    let stop = stop_at(search.disk, search.wanted, blocks, track, arrive);
+    let stop = stop_at(search.disk, blocks, track, arrive);
     let after = late_at(search.late, arrive + on);
-    if misses_enough(
-        search.disk,
-        search.wanted,
-        &stop,
-        search.gap.deadline - on,
-        after,
-        start,
-    ) {
+    if misses_enough(&stop, search.gap.deadline - on, after, start) {
         return start;
     }
     let way = Way::Over(track);
@@ -90,7 +83,7 @@ fn try_track(search: &Search, track: Track, seeks: Seeks, reach: Reach, start: S
     if is_enough(start, most, track) {
         return start;
     }
-    try_stop(search, track, seeks, blocks, start)
+    try_stop(search, track, seeks, &blocks, start)
 }
 
 // Tries the tracks of a cylinder.

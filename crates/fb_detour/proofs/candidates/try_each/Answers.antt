@@ -1,44 +1,69 @@
-use Rattle.std.proofs.Common.{arith, ap, sym, refl, subst, ◌≡◌, ◌∙◌, length, slice_get}
-use Rattle.fb_wanted.specs.States.{on_track, wanted_of}
-use Rattle.fb_rows.specs.declared.gap.Dwell.{Dwell}
-use Rattle.fb_plan.specs.Ways.{plan_by, early_track, arrival}
-use Rattle.fb_plan.specs.Turns.{AreSides}
+use Rattle.std.proofs.Common.{arith, refl, sym, subst, get_or, ◌∙◌}
+use Rattle.std.proofs.lemmas.Option.{slice_get-get_or}
+use Rattle.fb_wanted.specs.States.{wanted_of}
+use Rattle.fb_plan.specs.Ways.{plan_by, Beats}
+use Rattle.fb_plan.proofs.Offered.{offers-in-turn}
+use Rattle.fb_plan.proofs.Passed.{bounds, offers-more, way_done}
 use Rattle.fb_plan.proofs.Ties.{beats-self, beats-trans}
-use Rattle.fb_plan.proofs.Passed.{entries-more, way_done}
+use Rattle.fb_detour.specs.Bounds.{IsBeaten}
 use Rattle.fb_detour.proofs.candidates.try_each.Goals as goal
 
-pub try_arrival-best-requires-clause-sides : goal.try_arrival-best-requires-clause-sides
-try_arrival-best-requires-clause-sides c =
-    subst (λ d. AreSides c.args.search.now.disk.now c.args.search.now.gap.now.target c.args.search.now.wanted.now d c.sides_of-both.result) c.stay_of-stay.ensures.value c.sides_of-both.ensures.sides
+pub try_leave-best-requires-clause-after : goal.try_leave-best-requires-clause-after
+try_leave-best-requires-clause-after c = omega (arith, c.requires.ceilings.begin)
 
-pub try_leave-best-requires-clause-sides : goal.try_leave-best-requires-clause-sides
-try_leave-best-requires-clause-sides c =
-    subst (λ d. AreSides c.args.search.now.disk.now c.args.search.now.gap.now.target c.args.search.now.wanted.now d c.sides_of-both.result) c.stay_of-stay.ensures.value c.sides_of-both.ensures.sides
+pub try_leave-best-requires-clause-soon : goal.try_leave-best-requires-clause-soon
+try_leave-best-requires-clause-soon c =
+    let its = c.requires.sides.its in omega (arith, c.requires.ceilings.begin, its.from, its.passing.stands.early)
 
-pub loop-i-preserved : goal.loop-i-preserved
-loop-i-preserved c =
-    let xs = on_track (early_track c.args.search.now.gap.now c.args.way) c.args.search.now.wanted.now in
-    let same : c.sides_of-both.result.early ≡ xs = c.sides_of-both.ensures.sides.early ∙ ap (λ (d : Dwell). on_track d.track c.args.search.now.wanted.now) c.stay_of-stay.ensures.value in (
-      c.try_leave-best.ensures.scored,
-      beats-trans c.args.search.now.disk.now c.args.search.now.gap.now (wanted_of c.args.search.now.wanted.now) c.try_leave-best.result.plan c.loop-i.best.plan c.try_arrival-best.result.plan c.try_leave-best.ensures.keeps c.loop-i.invariant.1,
-      entries-more c.args.search.now.disk.now c.args.search.now.gap.now c.args.way (wanted_of c.args.search.now.wanted.now) xs c.loop-i.i (arrival c.args.search.now.disk.now c.args.search.now.gap.now c.args.way) c.loop-i.best.plan c.try_leave-best.result.plan c.get-entry.result
-          (ap (λ ys. slice_get ys c.loop-i.i) (sym same) ∙ c.get-entry.ensures) c.try_leave-best.ensures.keeps c.try_leave-best.ensures.tried c.loop-i.invariant.2,
-    )
+pub end-end-requires-clause-sweep : goal.end-end-requires-clause-sweep
+end-end-requires-clause-sweep c =
+    let sides = c.args.sides.now in
+    let disk = c.args.search.now.disk.now in
+    let its = c.requires.sides in
+    offers-in-turn c.offers-offers.result.now sides.early c.offers-offers.ensures.its disk sides.passing its.its.passing its.early
+    c.loop-offer.offer-index _ c.loop-offer-test.true
+
+pub loop-offer-init : goal.loop-offer-init
+loop-offer-init c =
+    let search = c.args.search.now in record {
+      scored = c.try_leave-best.ensures.scored;
+      keeps = beats-self search.disk.now search.gap.now (wanted_of search.wanted.now) c.try_leave-best.result.plan;
+      tried = λ k o less. absurd (omega (arith, less));
+    }
+
+pub loop-offer-preserved : goal.loop-offer-preserved
+loop-offer-preserved c =
+    let search = c.args.search.now in
+    let disk = search.disk.now in
+    let gap = search.gap.now in
+    let wanted = wanted_of search.wanted.now in
+    let offers = c.offers-offers.result.now in
+    let i = c.loop-offer.offer-index in
+    let new = c.try_leave-best-in-loop-offer.result.plan in
+    let old = c.loop-offer.best.plan in
+    let step = c.try_leave-best-in-loop-offer.ensures in
+    let this = subst (IsBeaten disk gap wanted c.args.way new) c.end-end.ensures.value step.tried in record {
+      scored = step.scored;
+      keeps = beats-trans disk gap wanted new old c.try_leave-best.result.plan step.keeps c.loop-offer.invariant.keeps;
+      tried = offers-more disk gap c.args.way wanted c.args.sides.now.passing offers i old new (get_or offers i _)
+          (slice_get-get_or offers i _ c.loop-offer-test.true) step.keeps this c.loop-offer.invariant.tried;
+    }
 
 pub returns-clause-tried : goal.returns-clause-tried
-returns-clause-tried c = λ u is.
-    let track = early_track c.args.search.now.gap.now c.args.way in
-    let same : c.sides_of-both.result.early ≡ on_track track c.args.search.now.wanted.now = c.sides_of-both.ensures.sides.early ∙ ap (λ (d : Dwell). on_track d.track c.args.search.now.wanted.now) c.stay_of-stay.ensures.value in
-    way_done c.args.search.now.disk.now c.args.search.now.gap.now c.args.way c.args.search.now.wanted.now c.loop-i.best.plan c.try_arrival-best.result.plan (plan_by c.args.way (arrival c.args.search.now.disk.now c.args.search.now.gap.now c.args.way)) track (arrival c.args.search.now.disk.now c.args.search.now.gap.now c.args.way) c.loop-i.i u
-    c.args.search.now.disk.now.some_rotation refl refl refl
-    (omega (arith, c.loop-i-test.false, c.len-i-end.ensures.count, ap length same)) c.loop-i.invariant.1 c.try_arrival-best.ensures.tried c.loop-i.invariant.2 is
-
-pub try_leave-best-requires-clause-fits : goal.try_leave-best-requires-clause-fits
-try_leave-best-requires-clause-fits c = c.sides_of-both.ensures.early c.loop-i.i c.get-entry.result c.get-entry.ensures
-
-pub loop-i-init : goal.loop-i-init
-loop-i-init c = (
-  c.try_arrival-best.ensures.scored,
-  beats-self c.args.search.now.disk.now c.args.search.now.gap.now (wanted_of c.args.search.now.wanted.now) c.try_arrival-best.result.plan,
-  λ k e less. absurd (omega (arith, less)),
-)
+returns-clause-tried c = λ leave is.
+    let search = c.args.search.now in
+    let disk = search.disk.now in
+    let gap = search.gap.now in
+    let way = c.args.way in
+    let wanted = wanted_of search.wanted.now in
+    let sides = c.args.sides.now in
+    let its = c.requires.sides.its in
+    let done = c.loop-offer.invariant in
+    let first = c.try_leave-best.result.plan in
+    let fits = bounds disk gap way leave is in
+    let arrived = c.try_leave-best.ensures.tried (omega (arith, fits.0, fits.1, c.requires.ceilings.begin)) in
+    way_done disk gap way search.wanted.now sides.passing c.offers-offers.result.now sides.early
+    its.passing its.from its.early c.requires.sides.early c.offers-offers.ensures.its
+    c.loop-offer.best.plan first (plan_by way sides.passing.from) c.loop-offer.offer-index leave refl c.loop-offer-test.false done.keeps
+    (subst (λ t. Beats disk gap wanted first (plan_by way t)) (c.requires.ceilings.begin ∙ sym its.from) arrived)
+    done.tried is

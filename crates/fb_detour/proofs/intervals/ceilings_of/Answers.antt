@@ -1,16 +1,27 @@
-use Rattle.std.proofs.Common.{ℕ, arith, subst, ◌≡◌, ◌<◌, ◌+◌, ◌-◌, ◌*◌, ◌/◌, get_or}
+use Rattle.std.proofs.Common.{ℕ, arith, ◌≡◌, ◌∙◌, ◌<◌, ◌+◌, ◌-◌, ◌*◌, ◌/◌, get_or}
 use Rattle.fb_plan.specs.Ways.{early_track}
 use Rattle.fb_detour.specs.Bounds.{stay, early_to}
 use Rattle.fb_detour.proofs.Arrays.{over_all, sixteen}
 use Rattle.fb_detour.proofs.Leaving.{below_ceiling}
+use Rattle.fb_detour.proofs.Offers.{gives}
 use Rattle.fb_detour.proofs.intervals.ceilings_of.Goals as goal
+
+pub early_parts-requires-clause-stop : goal.early_parts-requires-clause-stop
+early_parts-requires-clause-stop c = c.requires.stop.ready
 
 pub returns : goal.returns
 returns c =
-    let begin = c.args.stop.now.arrive in
-    let n = c.args.search.now.gap.now.deadline - c.args.on - begin in
+    let search = c.args.search.now in
+    let disk = search.disk.now in
+    let gap = search.gap.now in
+    let es = search.wanted.now in
+    let track = early_track gap c.args.way in
+    let begin = c.args.stop.now.passing.from in
+    let n = gap.deadline - c.args.on - begin in
     let step = n / 16 + 1 in
-    let each : (k : ℕ) → k < 16 → get_or c.early_parts.result k 0 ≡ stay c.args.search.now.disk.now (early_to (early_track c.args.search.now.gap.now c.args.way) begin (begin + (k + 1) * step)) c.args.search.now.wanted.now = λ k less. subst (λ t. get_or c.early_parts.result k 0 ≡ stay c.args.search.now.disk.now (early_to t begin (begin + (k + 1) * step)) c.args.search.now.wanted.now) c.requires.track (c.early_parts.ensures.each k less) in record {
+    let each : (k : ℕ) → k < 16 → get_or c.early_parts.result k 0 ≡ stay disk (early_to track begin (begin + (k + 1) * step)) es =
+    λ k less. c.early_parts.ensures.each k less
+    ∙ gives disk (early_to track begin (begin + (k + 1) * step)) es c.args.stop.now c.requires.stop in record {
       some = omega arith;
       begin = c.requires.arrive;
       on = c.requires.on;
@@ -20,5 +31,6 @@ returns c =
       upto = omega (arith, over_all n, c.requires.in_time);
       close = omega (arith, sixteen n, c.requires.in_time);
       small = c.early_parts.ensures.small;
-      most = λ leave is. below_ceiling c.args.search.now.disk.now c.args.search.now.gap.now c.args.search.now.wanted.now c.args.way c.args.search.now.late.now c.early_parts.result begin c.args.on leave c.requires.search.late c.requires.arrive c.requires.on each is;
+      most = λ leave is. below_ceiling disk gap es c.args.way search.late.now c.early_parts.result begin c.args.on leave
+          c.requires.search.late c.requires.arrive c.requires.on each is;
     }

@@ -1,20 +1,43 @@
 use Rattle.std.proofs.Common.{◌+◌, ◌*◌, ◌∙◌, arith}
-use Rattle.fb_detour.specs.Bounds.{early_to}
-use Rattle.fb_detour.proofs.Ceilings.{stay-next, stay-done}
+use Rattle.fb_detour.specs.Bounds.{offer_gain}
+use Rattle.fb_detour.proofs.Offers.{all-of, sum-more, within-weight}
 use Rattle.fb_detour.proofs.parts.early_parts.Goals as goal
 
-pub loop-i-preserved : goal.loop-i-preserved
-loop-i-preserved c = λ k less.
-    let stop = c.args.stop.now in
-    stay-next c.args.disk.now (early_to stop.track stop.arrive (stop.arrive + (k + 1) * c.args.step)) stop.blocks c.loop-i.i _ _ c.get.result
-    c.get.ensures (c.add_entry.ensures k less) (c.requires.stop.on_disk c.loop-i.i c.get.result c.get.ensures) (c.loop-i.invariant k less)
+pub add_offer-requires-clause-in_turn : goal.add_offer-requires-clause-in_turn
+add_offer-requires-clause-in_turn c = c.requires.stop.in_turn c.loop-offer.offer-index _ c.loop-offer-test.true
 
-pub returns-clause-each : goal.returns-clause-each
-returns-clause-each c = λ k less.
+pub add_offer-requires-clause-room : goal.add_offer-requires-clause-room
+add_offer-requires-clause-room c = λ k less.
     let stop = c.args.stop.now in
-    c.add_up.ensures k less
-    ∙ stay-done c.args.disk.now (early_to stop.track stop.arrive (stop.arrive + (k + 1) * c.args.step)) c.args.wanted.now stop.blocks c.loop-i.i _ c.requires.stop.its
-    (omega (arith, c.loop-i-test.false, c.loop-i.auto.i-end, c.len-i-end.ensures.count)) (c.loop-i.invariant k less).1
+    let upto = stop.passing.from + (k + 1) * c.args.step in
+    let most = within-weight stop stop.passing.from upto c.loop-offer.offer-index c.requires.stop in
+    omega (arith, c.loop-offer.invariant k less, most, c.requires.stop.small)
 
-pub add_entry-requires-clause-fits : goal.add_entry-requires-clause-fits
-add_entry-requires-clause-fits c = c.requires.stop.on_disk c.loop-i.i c.get.result c.get.ensures
+pub loop-offer-preserved : goal.loop-offer-preserved
+loop-offer-preserved c = λ k less.
+    let stop = c.args.stop.now in
+    let gain = offer_gain stop.passing.rotation stop.passing.from (stop.passing.from + (k + 1) * c.args.step) in
+    sum-more gain stop.offers.now c.loop-offer.offer-index _ c.loop-offer-test.true
+    _ _ (c.loop-offer.invariant k less) (c.add_offer.ensures k less)
+
+pub add_up-requires : goal.add_up-requires
+add_up-requires c =
+    let stop = c.args.stop.now in record {
+      room = λ k less.
+          let upto = stop.passing.from + (k + 1) * c.args.step in
+          let most = within-weight stop stop.passing.from upto c.loop-offer.offer-index c.requires.stop in
+          omega (arith, c.loop-offer.invariant k less, most, c.requires.stop.small);
+    }
+
+pub returns : goal.returns
+returns c =
+    let stop = c.args.stop.now in record {
+      each = λ k less.
+          let gain = offer_gain stop.passing.rotation stop.passing.from (stop.passing.from + (k + 1) * c.args.step) in
+          c.add_up.ensures k less
+          ∙ (c.loop-offer.invariant k less ∙ all-of gain stop.offers.now c.loop-offer.offer-index c.loop-offer-test.false);
+      small = λ k less.
+          let upto = stop.passing.from + (k + 1) * c.args.step in
+          let most = within-weight stop stop.passing.from upto c.loop-offer.offer-index c.requires.stop in
+          omega (arith, c.add_up.ensures k less, c.loop-offer.invariant k less, most, c.requires.stop.small);
+    }

@@ -1,8 +1,10 @@
-use Rattle.std.proofs.Common.{◌≡◌, ◌+◌, ◌*◌, ◌<◌, ◌≤◌, ℕ, take}
+use Rattle.std.proofs.Common.{◌≡◌, ◌+◌, ◌*◌, ◌<◌, ℕ, take}
 use Rattle.std.specs.List.{sum_by}
-use Rattle.fb_detour.specs.Bounds.{stay_gain, early_to, sum_of_first}
+use Rattle.fb_detour.specs.Bounds.{offer_gain, sum_of_first}
 use Rattle.fb_detour.proofs.parts.early_parts.Given as goal
 
-abbrev pub invariant-loop-i : goal.invariant-loop-i
-invariant-loop-i l = (k : ℕ) → k < 16
-    → (sum_of_first (k + 1) l.parts ≤ 2048000 * l.i) × (sum_of_first (k + 1) l.parts ≡ sum_by (stay_gain l.disk (early_to l.stop.track l.stop.arrive (l.stop.arrive + (k + 1) * l.step))) (take l.i l.stop.blocks))
+abbrev pub invariant-loop-offer : goal.invariant-loop-offer
+invariant-loop-offer l =
+    let from = l.stop.passing.from in
+    (k : ℕ) → k < 16 → sum_of_first (k + 1) l.parts
+    ≡ sum_by (offer_gain l.stop.passing.rotation from (from + (k + 1) * l.step)) (take l.offer-index l.stop.offers.now)

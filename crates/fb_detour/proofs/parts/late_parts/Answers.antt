@@ -1,57 +1,81 @@
-use Rattle.std.proofs.Common.{ℕ, ◌+◌, ◌-◌, ◌*◌, ◌/◌, [], ◌∷◌, take, get_or, arith, refl}
-use Rattle.std.specs.List.{sum_by}
-use Rattle.fb_detour.specs.Bounds.{stay_gain, late_most}
-use Rattle.fb_detour.proofs.Arrays.{zeros}
-use Rattle.fb_detour.proofs.Ceilings.{stay-more, stay-done}
-use Rattle.fb_detour.proofs.Limits.{sums-fall}
+use Rattle.std.proofs.Common.{ℕ, ◌+◌, ◌-◌, ◌*◌, ◌/◌, ◌≤◌, [], ◌∷◌, take, get_or, length, arith, refl, subst}
+use Rattle.std.proofs.lemmas.List.{get_or-replicate}
+use Rattle.fb_wanted.specs.declared.offer.Offer.{Offer}
+use Rattle.fb_wanted.specs.States.{on_track}
+use Rattle.fb_detour.specs.Bounds.{offer_gain, late_most, IsStop}
+use Rattle.fb_detour.proofs.Offers.{gives, all-of, bound-more, none-more, take-le, sums-fall, within-more}
 use Rattle.fb_detour.proofs.parts.late_parts.Goals as goal
 
-pub loop-i-init : goal.loop-i-init
-loop-i-init c = (
-  λ k less. let none = zeros (0 ∷ 0 ∷ 0 ∷ 0 ∷ 0 ∷ 0 ∷ 0 ∷ 0 ∷ 0 ∷ 0 ∷ 0 ∷ 0 ∷ 0 ∷ 0 ∷ 0 ∷ 0 ∷ 0 ∷ 0 ∷ 0 ∷ 0 ∷ 0 ∷ 0 ∷ 0 ∷ 0 ∷ 0 ∷ 0 ∷ 0 ∷ 0 ∷ 0 ∷ 0 ∷ 0 ∷ 0 ∷ []) refl k in (omega (arith, none), omega (arith, none), omega (arith, none)),
-  λ k less. omega (arith, c.first_limits-limits.ensures k less),
-  omega arith,
-  omega (arith, c.first_limits-limits.ensures 0 (omega arith)),
-)
+pub loop-offer-init : goal.loop-offer-init
+loop-offer-init c = record {
+  parts = λ k less. omega arith;
+  small = λ k less. let none = get_or-replicate {A = ℕ} 32 k 0 0 less in omega (arith, none);
+  limits = λ k less. omega arith;
+  spread = λ k less. omega (arith, c.first_limits-limits.ensures k less);
+  end = omega arith;
+  start = omega (arith, c.first_limits-limits.ensures 0 (omega arith));
+}
 
-pub add_late-requires-clause-fits : goal.add_late-requires-clause-fits
-add_late-requires-clause-fits c = c.blocks_on-blocks.ensures.on_disk c.loop-i.i c.get-entry.result c.get-entry.ensures
+pub add_late-requires-clause-in_turn : goal.add_late-requires-clause-in_turn
+add_late-requires-clause-in_turn c = c.stop_at-stop.ensures.stop.ready.in_turn c.loop-offer.offer-index _ c.loop-offer-test.true
 
-pub loop-i-preserved : goal.loop-i-preserved
-loop-i-preserved c =
-    let disk = c.args.disk.now in
+pub add_late-requires-clause-room : goal.add_late-requires-clause-room
+add_late-requires-clause-room c = λ k less.
+    let ready = c.stop_at-stop.ensures.stop.ready in
+    let most = take-le (λ (offer : Offer). offer.worth) c.loop-offer.offer-index c.stop_at-stop.result.offers.now in
+    omega (arith, c.loop-offer.invariant.small k less, most, ready.weight, ready.small)
+
+pub loop-offer-preserved : goal.loop-offer-preserved
+loop-offer-preserved c =
     let gap = c.args.gap.now in
-    let xs = c.blocks_on-blocks.result in
-    let i = c.loop-i.i in
-    let entry = c.get-entry.result in
-    let sum = λ (from : ℕ). sum_by (stay_gain disk (late_most gap from)) (take i xs) in
-    let next = λ (from : ℕ). stay-more disk (late_most gap from) xs i (sum from) (stay_gain disk (late_most gap from) entry) entry c.get-entry.ensures refl refl in
-    let falls = λ (k : ℕ). sums-fall disk gap (get_or c.loop-i.limits k 0) (get_or c.add_late.new.limits k 0) (take i xs) disk.some_rotation (c.add_late.ensures.grow k) in (
-      λ k less. (
-        omega (arith, next (gap.now + k * ((gap.deadline - gap.now) / 32 + 1)), c.add_late.ensures.most k less, (c.loop-i.invariant.0 k less).0),
-        omega (arith, c.add_late.ensures.small k less, (c.loop-i.invariant.0 k less).1),
-        omega (arith, next (get_or c.add_late.new.limits k 0), falls k, c.add_late.ensures.limits k less, (c.loop-i.invariant.0 k less).2),
-      ),
-      λ k less. omega (arith, c.add_late.ensures.grow k, c.loop-i.invariant.1 k less),
-      omega (arith, next (get_or c.add_late.new.limits 32 0), falls 32, c.add_late.ensures.end, c.loop-i.invariant.2),
-      omega (arith, c.add_late.ensures.first, c.loop-i.invariant.3),
-    )
+    let stop = c.stop_at-stop.result in
+    let rotation = stop.passing.rotation in
+    let some = c.args.disk.now.some_rotation in
+    let offers = stop.offers.now in
+    let i = c.loop-offer.offer-index in
+    let within = c.loop-offer-test.true in
+    let so_far = c.loop-offer.invariant in
+    let added = c.add_late.ensures in
+    let limit = λ (k : ℕ). get_or c.add_late.new.limits k 0 in
+    let gain = λ (from : ℕ). offer_gain rotation from gap.deadline in
+    let falls = λ (k : ℕ). sums-fall rotation gap.deadline (get_or c.loop-offer.limits k 0) (limit k) (take i offers)
+    (omega (arith, some, c.stop_at-stop.ensures.stop.passing.rotation)) (added.grow k) in record {
+      parts = λ k less.
+          let from = gap.now + k * ((gap.deadline - gap.now) / 32 + 1) in
+          bound-more (gain from) offers i _ within _ _ (so_far.parts k less) (added.most k less);
+      small = λ k less. within-more (λ (offer : Offer). offer.worth) offers i _ within _ _ (so_far.small k less) (added.small k less);
+      limits = λ k less.
+          bound-more (gain (limit k)) offers i _ within (get_or c.loop-offer.parts k 0) _
+          (omega (arith, falls k, so_far.limits k less)) (added.limits k less);
+      spread = λ k less. omega (arith, added.grow k, so_far.spread k less);
+      end = none-more (gain (limit 32)) offers i _ within (omega (arith, falls 32, so_far.end)) added.end;
+      start = omega (arith, added.first, so_far.start);
+    }
 
 pub returns : goal.returns
 returns c =
     let disk = c.args.disk.now in
     let gap = c.args.gap.now in
-    let xs = c.blocks_on-blocks.result in
-    let n = c.loop-i.i in
-    let done = λ (from : ℕ). stay-done disk (late_most gap from) c.args.wanted.now xs n (sum_by (stay_gain disk (late_most gap from)) (take n xs)) c.blocks_on-blocks.ensures.its
-    (omega (arith, c.loop-i-test.false, c.loop-i.auto.i-end, c.len-i-end.ensures.count)) refl in record {
+    let es = c.args.wanted.now in
+    let stop = c.stop_at-stop.result in
+    let ready = c.stop_at-stop.ensures.stop.ready in
+    let its : IsStop disk (on_track gap.target es) stop =
+    subst (λ xs. IsStop disk xs stop) c.blocks_on-blocks.ensures.its c.stop_at-stop.ensures.stop in
+    let so_far = c.loop-offer.invariant in
+    let most = take-le (λ (offer : Offer). offer.worth) c.loop-offer.offer-index stop.offers.now in
+    let offers = stop.offers.now in
+    let i = c.loop-offer.offer-index in
+    let all : length offers ≤ i = c.loop-offer-test.false in
+    let done = λ (from : ℕ). all-of (offer_gain stop.passing.rotation from gap.deadline) offers i all in
+    let stays = λ (from : ℕ). gives disk (late_most gap from) es stop its in record {
       late = record {
         some = omega arith;
         from_now = omega arith;
-        each = λ k less. omega (arith, done (gap.now + k * ((gap.deadline - gap.now) / 32 + 1)), (c.loop-i.invariant.0 k less).0);
-        small = λ k less. omega (arith, (c.loop-i.invariant.0 k less).1, c.loop-i.auto.i-end, c.len-i-end.ensures.few);
-        start = c.loop-i.invariant.3;
-        limits = λ k less. omega (arith, done (get_or c.loop-i.limits k 0), (c.loop-i.invariant.0 k less).2);
-        end = omega (arith, done (get_or c.loop-i.limits 32 0), c.loop-i.invariant.2);
+        each = λ k less.
+            let from = gap.now + k * ((gap.deadline - gap.now) / 32 + 1) in omega (arith, done from, stays from, so_far.parts k less);
+        small = λ k less. omega (arith, so_far.small k less, most, ready.weight, ready.small);
+        start = so_far.start;
+        limits = λ k less. let from = get_or c.loop-offer.limits k 0 in omega (arith, done from, stays from, so_far.limits k less);
+        end = let from = get_or c.loop-offer.limits 32 0 in omega (arith, done from, stays from, so_far.end);
       };
     }

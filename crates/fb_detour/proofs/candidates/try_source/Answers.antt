@@ -1,0 +1,7 @@
+use Rattle.std.proofs.Common.{subst}
+use Rattle.fb_detour.specs.Bounds.{IsStop}
+use Rattle.fb_detour.proofs.candidates.try_source.Goals as goal
+
+pub ceilings_of-ceilings-requires-clause-stop : goal.ceilings_of-ceilings-requires-clause-stop
+ceilings_of-ceilings-requires-clause-stop c =
+    subst (λ xs. IsStop c.args.search.now.disk.now xs c.stop_at-stop.result) c.blocks_on-blocks.ensures.its c.stop_at-stop.ensures.stop
