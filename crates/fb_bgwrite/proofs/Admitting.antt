@@ -17,7 +17,7 @@ use Rattle.fb_bgwrite.specs.Blocks as puts
 -- ---- registering
 
 pub cut_more : (number index : ℕ) (before now : List Entry) (cut : Cut) (cuts rest : List Cut) (block : Block) → cuts ≡ cut ∷ rest
-    → block ≡ (let b : Block = record { task = number; index = index; lbn = cut.lbn; count = cut.count; track = cut.track; weight = 1 } in b) → now ≡ before ++ wanted_entry block ∷ []
+    → block ≡ (let b : Block = record { task = number; index = index; lbn = cut.lbn; count = cut.count; track = cut.track; weight = 1; sweep = cut.sweep } in b) → now ≡ before ++ wanted_entry block ∷ []
     → now ++ map wanted_entry (numbered number 1 (index + 1) rest) ≡ before ++ map wanted_entry (numbered number 1 index cuts)
 cut_more number index before now cut cuts rest block split is added =
     ap (λ es. es ++ map wanted_entry (numbered number 1 (index + 1) rest)) added

@@ -3,9 +3,9 @@ use Rattle.fb_bgwrite.proofs.Words.{BeatsRange, IsMost, Part, all_get, ◌≡◌
 use Rattle.fb_bgwrite.proofs.Words.{true, ◌==◌, Option, Some, slice_get, get_or, min, inl, inr, refl, sym, ap, ◌∙◌, subst, arith}
 use Rattle.fb_bgwrite.proofs.Words.{AllByRecursion, sum_by, cases_Bool, true≢false, nat_tests, sum_by-cons, Track, same_track}
 use Rattle.fb_bgwrite.proofs.Words.{IsTrackOf, IsSound, Disk, Deliver, Entry, after, entry_after, is_wanted, on_track, wanted_of}
-use Rattle.fb_bgwrite.proofs.Words.{Dwell, Gap, AreOnDisk, stay_gain, stay-of, Spill, Valued, passes, ArePending, Beats, IsValuedIf}
+use Rattle.fb_bgwrite.proofs.Words.{Dwell, Gap, AreOnDisk, stay_gain, stay-of, Spill, Valued, ArePending, Beats, IsValuedIf}
 use Rattle.fb_bgwrite.proofs.Words.{AreAtLeast, IsAtLeast, IsNoShorter, stay_of, value, all_of, some_one}
-use Rattle.fb_bgwrite.proofs.{Values.value_caught, Values.value_stay, Values.AreLight, Amended.track_on_disk}
+use Rattle.fb_bgwrite.proofs.{Values.passes, Values.value_caught, Values.value_stay, Values.AreLight, Amended.track_on_disk}
 use Rattle.fb_bgwrite.proofs.{Choices.light_on, Choices.nothing_beaten}
 
 -- one of the blocks is caught

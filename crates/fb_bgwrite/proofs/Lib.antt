@@ -1,6 +1,7 @@
 pub mod Words
 pub mod Sums
 pub mod Values
+pub mod Written
 pub mod Choices
 pub mod Depths
 pub mod Legs

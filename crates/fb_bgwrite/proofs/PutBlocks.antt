@@ -2,7 +2,7 @@
 use Rattle.fb_bgwrite.proofs.Words.{option_map, append-nil, slice_get-map, all_map, all_get, ◌≡◌, ◌⊎◌, ℕ, zero, suc, ◌+◌, ◌<◌, ◌≤◌}
 use Rattle.fb_bgwrite.proofs.Words.{List, [], ◌∷◌, ◌++◌, false, Some, slice_get, take, drop, map, length, refl, sym, ap, ◌∙◌, subst}
 use Rattle.fb_bgwrite.proofs.Words.{arith, inl, inr, append_assoc, ◌==◌, AllByRecursion, sum_by, nat_tests, map-append, sum_by-cons}
-use Rattle.fb_bgwrite.proofs.Words.{sum_by-append, Shape, places, Cut, IsOneTurn, cutting, track_at, Disk, all_weaker, Block}
+use Rattle.fb_bgwrite.proofs.Words.{sum_by-append, Shape, places, Cut, IsOneTurn, sweep_of, cutting, track_at, Disk, all_weaker, Block}
 use Rattle.fb_bgwrite.proofs.Words.{registered, numbered, all_append, all_left, FitsDisk, Put, share, AreApart, range_of, PutBlock}
 use Rattle.fb_bgwrite.proofs.Words.{blocks_from, sectors, block_range, is_shares, some_one}
 use Rattle.fb_puts.proofs.Sharing.{not_share}
@@ -49,6 +49,7 @@ all_numbered disk number n from end (cut ∷ cuts) on_disk are =
           on_disk = omega (arith, are.0, rise);
           track = are.3 ∙ ap (track_at disk.map) (sym are.0);
           one_turn = subst (λ at. IsOneTurn disk.map at cut.count) (sym are.0) are.5;
+          sweep = are.6 ∙ ap (λ at. sweep_of disk.map at cut.count) (sym are.0);
         };
         light = refl;
         task = refl;
@@ -76,7 +77,7 @@ module _ (instant : ℕ) where
   numbered_in_order : (disk : Disk) (number n from end : ℕ) (cuts : List Cut) → end ≤ length (places disk.map) → AreCuts disk.map 2048 from end cuts → AreInOrder (map put_block (numbered number 1 n cuts))
   numbered_in_order disk number n from end [] on_disk are = tt
   numbered_in_order disk number n from end (cut ∷ cuts) on_disk are =
-      let first : Block = record { task = number; index = n; lbn = cut.lbn; count = cut.count; track = cut.track; weight = 1 } in (
+      let first : Block = record { task = number; index = n; lbn = cut.lbn; count = cut.count; track = cut.track; weight = 1; sweep = cut.sweep } in (
         all_behind first (numbered number 1 (n + 1) cuts) (all_weaker (IsOf disk number (n + 1) (from + cut.count) end) (IsBefore first) (λ other is. first_before disk number n from end cut.count first other are.1 refl refl are.0 refl is)
             (numbered number 1 (n + 1) cuts) (all_numbered disk number (n + 1) (from + cut.count) end cuts on_disk are.4)),
         numbered_in_order disk number (n + 1) (from + cut.count) end cuts on_disk are.4,
@@ -186,7 +187,7 @@ order_left (x ∷ xs) ys order = (all_left (λ other. IsBefore x.block other.blo
 sum_cuts : (disk : Shape) (number n from end : ℕ) (cuts : List Cut) → AreCuts disk 2048 from end cuts → from + sectors (numbered number 1 n cuts) ≡ end
 sum_cuts disk number n from end [] are = omega (arith, are)
 sum_cuts disk number n from end (cut ∷ cuts) are =
-    let first : Block = record { task = number; index = n; lbn = cut.lbn; count = cut.count; track = cut.track; weight = 1 } in
+    let first : Block = record { task = number; index = n; lbn = cut.lbn; count = cut.count; track = cut.track; weight = 1; sweep = cut.sweep } in
     omega (arith, sum_by-cons (λ (b : Block). b.count) first (numbered number 1 (n + 1) cuts), sum_cuts disk number (n + 1) (from + cut.count) end cuts are.4)
 
 abbrev pub its_blocks : List PutBlock → List Block

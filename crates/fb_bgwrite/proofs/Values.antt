@@ -2,11 +2,31 @@
 use Rattle.fb_bgwrite.proofs.Words.{all_get, ◌≡◌, ℕ, ◌+◌, ◌*◌, ◌<◌, ◌≤◌, ◌⊎◌, List, [], ◌∷◌, Bool, true, false, Some, slice_get}
 use Rattle.fb_bgwrite.proofs.Words.{max, inl, inr, refl, sym, ap, ◌∙◌, subst, arith, if◌then◌else◌, filter, AllByRecursion, sum_by}
 use Rattle.fb_bgwrite.proofs.Words.{cases_Bool, cases_lt, nat_tests, sum_by-cons, same_track, Disk, Block, Entry, is_wanted}
-use Rattle.fb_bgwrite.proofs.Words.{wanted_of, Dwell, Gap, block_end, catches, AreOnDisk, FitsDisk, end-from-le, stay_gain}
-use Rattle.fb_bgwrite.proofs.Words.{and_false, Spill, stay_of, value, EndsAt, IsLast, passes, all_of, some_one}
+use Rattle.fb_bgwrite.proofs.Words.{◌&&◌, wanted_of, Dwell, Gap, block_end, catches, AreOnDisk, FitsDisk, stay_gain}
+use Rattle.fb_bgwrite.proofs.Words.{and_false, Spill, stay_of, value, all_of, some_one}
 use Rattle.fb_plan.proofs.Gains.{one_part}
 use Rattle.fb_detour.specs.Bounds.{stay}
 use Rattle.fb_bgwrite.proofs.{Sums.sum_le_on, Sums.sum_less}
+
+-- the block is pending, and passes whole in the stay
+abbrev pub passes : Disk → Dwell → Entry → Bool
+passes disk dwell entry = is_wanted entry.state && catches disk dwell entry.block
+
+-- one of these passes ends at this instant
+pub record EndsAt (disk : Disk) (dwell : Dwell) (entries : List Entry) (end : ℕ) : Type 0 where
+  pub index : ℕ
+  pub entry : Entry
+  pub stands : slice_get entries index ≡ Some entry
+  pub passing : passes disk dwell entry ≡ true
+  pub ends : block_end disk.map entry.block dwell.begin ≡ end
+
+-- the last of them ends at this instant
+pub record IsLast (disk : Disk) (dwell : Dwell) (entries : List Entry) (worth last : ℕ) : Type 0 where
+  pub from : dwell.begin ≤ last
+  pub upto : last ≤ dwell.end
+  pub each : (i : ℕ) (entry : Entry) → slice_get entries i ≡ Some entry → passes disk dwell entry ≡ true
+      → block_end disk.map entry.block dwell.begin ≤ last
+  pub reached : ((worth ≡ 0) × (last ≡ dwell.begin)) ⊎ EndsAt disk dwell entries last
 
 abbrev pub AreLight : List Entry → Type 0
 AreLight entries = AllByRecursion (λ entry. entry.block.weight ≡ 1) entries
@@ -96,68 +116,3 @@ less_before_last disk dwell entries last leave on_disk light is in_time less =
     is.stands) is.passing in
     let missed = missed_before disk dwell is.entry leave (omega (arith, is.ends, less)) in
     sum_less (stay_gain disk (upto dwell leave)) (stay_gain disk dwell) (no_less disk dwell leave dwell.end in_time) entries is.index is.entry is.stands (omega (arith, weighs, missed))
-
--- ---- the loop
-
--- the same as IsLast for the first of the entries
-pub record IsLastOf (disk : Disk) (dwell : Dwell) (entries : List Entry) (n worth last : ℕ) : Type 0 where
-  pub from : dwell.begin ≤ last
-  pub upto : last ≤ dwell.end
-  pub each : (i : ℕ) (entry : Entry) → i < n → slice_get entries i ≡ Some entry → passes disk dwell entry ≡ true → block_end disk.map entry.block dwell.begin ≤ last
-  pub reached : ((worth ≡ 0) × (last ≡ dwell.begin)) ⊎ EndsAt disk dwell entries last
-
-pub none_last : (disk : Disk) (dwell : Dwell) (entries : List Entry) → dwell.begin ≤ dwell.end → IsLastOf disk dwell entries 0 0 dwell.begin
-none_last disk dwell entries order = record { from = omega arith; upto = order; each = λ i entry less. absurd (omega (arith, less)); reached = inl (refl, refl) }
-
-one_entry : (entries : List Entry) (n : ℕ) (a b : Entry) → slice_get entries n ≡ Some a → slice_get entries n ≡ Some b → a ≡ b
-one_entry entries n a b at_a at_b = some_one a b (sym at_a ∙ at_b)
-
-ends_in_time : (disk : Disk) (dwell : Dwell) (e : Entry) → passes disk dwell e ≡ true → block_end disk.map e.block dwell.begin ≤ dwell.end
-ends_in_time disk dwell e passing = grind (arith, nat_tests)
-
-pub more_last : (disk : Disk) (dwell : Dwell) (entries : List Entry) (n worth last new_worth new_last : ℕ) (e : Entry) → slice_get entries n ≡ Some e
-    → new_worth ≡ worth + stay_gain disk dwell e → new_last ≡ (if passes disk dwell e then max last (block_end disk.map e.block dwell.begin) else last)
-    → IsLastOf disk dwell entries n worth last → IsLastOf disk dwell entries (n + 1) new_worth new_last
-more_last disk dwell entries n worth last new_worth new_last e at sum is_new is = elim (cases_Bool (passes disk dwell e)) [
-  | inl yes' ↦
-      let end = block_end disk.map e.block dwell.begin in
-      let new : new_last ≡ max last end = rw yes' at is_new in
-      let in_time = ends_in_time disk dwell e yes' in
-      record {
-        from = omega (arith, new, is.from);
-        upto = omega (arith, new, is.upto, in_time);
-        each = λ i entry less there passing. elim (cases_lt i n) [
-          | inl before ↦ omega (arith, is.each i entry before there passing, new)
-          | inr here ↦
-              let same : i ≡ n = omega (arith, less, here) in
-              let own = one_entry entries n e entry at (subst (λ k. slice_get entries k ≡ Some entry) same there) in
-              omega (arith, ap (λ (x : Entry). block_end disk.map x.block dwell.begin) own, new)
-        ];
-        reached = elim (cases_lt last end) [
-          | inl later ↦ inr (record { index = n; entry = e; stands = at; passing = yes'; ends = omega (arith, new, later) })
-          | inr earlier ↦ elim is.reached [
-            | inl none ↦ inr (record { index = n; entry = e; stands = at; passing = yes'; ends = omega (arith, new, earlier, none.1, end-from-le disk.map e.block dwell.begin) })
-            | inr some ↦ inr (record { index = some.index; entry = some.entry; stands = some.stands; passing = some.passing; ends = omega (arith, some.ends, new, earlier) })
-          ]
-        ];
-      }
-  | inr no' ↦
-      let new : new_last ≡ last = rw no' at is_new in
-      let none : stay_gain disk dwell e ≡ 0 = rw no' refl in
-      record {
-        from = omega (arith, new, is.from);
-        upto = omega (arith, new, is.upto);
-        each = λ i entry less there passing. elim (cases_lt i n) [
-          | inl before ↦ omega (arith, is.each i entry before there passing, new)
-          | inr here ↦
-              let same : i ≡ n = omega (arith, less, here) in
-              let own = one_entry entries n e entry at (subst (λ k. slice_get entries k ≡ Some entry) same there) in
-              let both : passes disk dwell e ≡ true = ap (passes disk dwell) own ∙ passing in
-              absurd (grind arith)
-        ];
-        reached = elim is.reached [
-          | inl nothing ↦ inl (omega (arith, sum, none, nothing.0), omega (arith, new, nothing.1))
-          | inr some ↦ inr (record { index = some.index; entry = some.entry; stands = some.stands; passing = some.passing; ends = omega (arith, some.ends, new) })
-        ];
-      }
-]

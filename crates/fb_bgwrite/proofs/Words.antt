@@ -16,11 +16,13 @@ pub use Rattle.std.proofs.lemmas.Option.{slice_get-get_or, slice_get-map, slice_
 pub use Rattle.std.proofs.lemmas.Result.{IfOk-weaker, on_ok_weaker}
 pub use Rattle.fb_units.specs.Rising.{IsRising}
 pub use Rattle.fb_units.specs.Tracks.{same_track}
+pub use Rattle.fb_units.specs.declared.types.Sweep.{Sweep}
 pub use Rattle.fb_units.specs.declared.types.Track.{Track}
 pub use Rattle.fb_geometry.specs.Places.{places}
 pub use Rattle.fb_geometry.specs.Shape.{IsTrackOf, Shape, cylinders_of, slots_at}
 pub use Rattle.fb_geometry.specs.Sound.{HasOwnPlaces, IsSound}
 pub use Rattle.fb_sectormap.specs.Cutting.{IsOneTurn}
+pub use Rattle.fb_sectormap.specs.Sweeps.{sweep_of}
 unfoldable pub use Rattle.fb_sectormap.specs.Cutting.{cutting}
 pub use Rattle.fb_sectormap.specs.Lookup.{track_at}
 unfoldable pub use Rattle.fb_sectormap.specs.Lookup.{place_at}
@@ -45,6 +47,8 @@ pub use Rattle.fb_wanted.specs.declared.block.Block.{Block}
 pub use Rattle.fb_wanted.specs.declared.block.Change.TheVariants.{Deliver}
 pub use Rattle.fb_wanted.specs.declared.block.Entry.{Entry}
 pub use Rattle.fb_wanted.specs.declared.block.State.TheVariants.{Delivered, Wanted}
+pub use Rattle.fb_wanted.specs.declared.offer.Offer.{Offer}
+pub use Rattle.fb_wanted.specs.Offers.{AreOffers}
 pub use Rattle.fb_rows.specs.declared.back.BackRow.{BackRow}
 pub use Rattle.fb_rows.specs.declared.back.BackRow.TheVariants.{Gap as GapLine, Idle as IdleLine}
 pub use Rattle.fb_rows.specs.declared.back.GapRow.{GapRow}
@@ -66,16 +70,18 @@ unfoldable pub use Rattle.fb_plan.specs.Order.{caught_of}
 pub use Rattle.fb_plan.specs.Ways.{AreOnDisk, FitsDisk}
 pub use Rattle.fb_plan.specs.declared.catching.Catch.{Catch}
 pub use Rattle.fb_plan.proofs.Ends.{begin-from-le, end-from-le}
+pub use Rattle.fb_plan.specs.declared.turning.Turning.{Turning}
+pub use Rattle.fb_plan.specs.Turns.{added, end_of, passes_by, AreInTurn, IsInTurn, IsTurning, Stands}
 pub use Rattle.fb_detour.specs.Bounds.{slots_within, stay_gain}
-pub use Rattle.fb_detour.proofs.Ceilings.{and_false, longer_stay, stay-next, stay-of, weight_of_stay}
+pub use Rattle.fb_detour.proofs.Ceilings.{and_false, longer_stay, stay-of, weight_of_stay}
 pub use Rattle.fb_report.proofs.Lines.{AreLines, length_lines, line_first, line_last, line_row}
 pub use Rattle.fb_report.proofs.Ranges.{all_get, drop_got, one_more}
 pub use Rattle.fb_bgwrite.specs.AmendedWay.{amended, amended_legs, kept, kept_legs, planned_legs, spill_legs}
 unfoldable pub use Rattle.fb_bgwrite.specs.AmendedWay.{timeline_with}
 pub use Rattle.fb_bgwrite.specs.Blocks.{PutBlock, is_pending, is_written, put_blocks, sectors, writes}
 unfoldable pub use Rattle.fb_bgwrite.specs.Blocks.{blocks_from, pending}
-pub use Rattle.fb_bgwrite.specs.Choosing.{AreLeast, ArePending, Beats, BeatsOn, BeatsRange, EndsAt, IsBestIf, IsEnough, IsGap, IsLast}
-pub use Rattle.fb_bgwrite.specs.Choosing.{IsMost, IsOnly, IsShare, IsValuedIf, Keeps, block_range, passes}
+pub use Rattle.fb_bgwrite.specs.Choosing.{AreLeast, ArePending, Beats, BeatsOn, BeatsRange, IsBestIf, IsEnough, IsGap, IsLastEnd}
+pub use Rattle.fb_bgwrite.specs.Choosing.{IsMost, IsOnly, IsShare, IsValuedIf, Keeps, OneEndsAt, block_range}
 pub use Rattle.fb_bgwrite.specs.Gaps.{HasNoFree, RunGap, delivers, gaps}
 pub use Rattle.fb_bgwrite.specs.Shortest.{AreAtLeast, IsAtLeast, IsNoShorter, IsUnder}
 pub use Rattle.fb_bgwrite.specs.Spilled.{AreGaps, AreOnce, IsGapOf, IsInTime, IsOfPut, IsSpillRun, fore_ranges, left_over, sectors_in}

@@ -1,5 +1,5 @@
 -- The search for the best spill of a gap: what is known of the best so far.
-use Rattle.std.specs.Prelude.{◌≡◌, ◌⊎◌, ℕ, ◌+◌, ◌*◌, ◌/◌, ◌^◌, ◌<◌, ◌≤◌, List, Bool, true, ◌&&◌, map, Option, Some, None, slice_get}
+use Rattle.std.specs.Prelude.{◌≡◌, ◌⊎◌, ℕ, ◌+◌, ◌*◌, ◌/◌, ◌^◌, ◌<◌, ◌≤◌, List, true, map, Option, Some, None, slice_get}
 use Rattle.std.specs.List.{AllByRecursion}
 use Rattle.fb_units.specs.declared.types.Track.{Track}
 use Rattle.fb_geometry.specs.Shape.{slots_at, IsTrackOf}
@@ -7,10 +7,10 @@ use Rattle.fb_seek.specs.Positioning.{pos}
 use Rattle.fb_service.specs.declared.disk.Disk.{Disk}
 use Rattle.fb_wanted.specs.declared.block.Block.{Block}
 use Rattle.fb_wanted.specs.declared.block.Entry.{Entry}
-use Rattle.fb_wanted.specs.States.{is_wanted}
-use Rattle.fb_rows.specs.declared.gap.Dwell.{Dwell}
+use Rattle.fb_wanted.specs.declared.offer.Offer.{Offer}
 use Rattle.fb_rows.specs.declared.gap.Gap.{Gap}
-use Rattle.fb_model.specs.Plans.{block_end, catches}
+use Rattle.fb_plan.specs.declared.turning.Turning.{Turning}
+use Rattle.fb_plan.specs.Turns.{end_of}
 use Rattle.fb_plan.specs.Ways.{AreOnDisk}
 use Rattle.fb_detour.specs.Bounds.{slots_within}
 use Rattle.fb_bgwrite.specs.declared.choice.Spill.{Spill}
@@ -102,21 +102,17 @@ abbrev pub IsBestIf : Disk → Gap → List Block → Option Valued → Type 0
 IsBestIf disk gap pending None = WritesNothing disk gap pending
 IsBestIf disk gap pending (Some best) = IsBest disk gap pending best.spill
 
--- the block is pending, and passes whole in the stay
-abbrev pub passes : Disk → Dwell → Entry → Bool
-passes disk dwell entry = is_wanted entry.state && catches disk dwell entry.block
-
--- one of these passes ends at this instant
-pub record EndsAt (disk : Disk) (dwell : Dwell) (entries : List Entry) (end : ℕ) : Type 0 where
+-- a sweep of one of the offers next ends at this instant
+pub record OneEndsAt (passing : Turning) (offers : List Offer) (end : ℕ) : Type 0 where
   pub index : ℕ
-  pub entry : Entry
-  pub stands : slice_get entries index ≡ Some entry
-  pub passing : passes disk dwell entry ≡ true
-  pub ends : block_end disk.map entry.block dwell.begin ≡ end
+  pub offer : Offer
+  pub stands : slice_get offers index ≡ Some offer
+  pub ends : end_of passing.rotation offer.sweep passing.from ≡ end
 
--- the last of them ends at this instant
-pub record IsLast (disk : Disk) (dwell : Dwell) (entries : List Entry) (worth last : ℕ) : Type 0 where
-  pub from : dwell.begin ≤ last
-  pub upto : last ≤ dwell.end
-  pub each : (i : ℕ) (entry : Entry) → slice_get entries i ≡ Some entry → passes disk dwell entry ≡ true → block_end disk.map entry.block dwell.begin ≤ last
-  pub reached : ((worth ≡ 0) × (last ≡ dwell.begin)) ⊎ EndsAt disk dwell entries last
+-- of the sweeps that end by the latest instant the last ends at this one, which is the first instant of all where none does
+pub record IsLastEnd (passing : Turning) (latest : ℕ) (offers : List Offer) (worth last : ℕ) : Type 0 where
+  pub from : passing.from ≤ last
+  pub upto : last ≤ latest
+  pub each : (i : ℕ) (offer : Offer) → slice_get offers i ≡ Some offer → end_of passing.rotation offer.sweep passing.from ≤ latest
+      → end_of passing.rotation offer.sweep passing.from ≤ last
+  pub reached : ((worth ≡ 0) × (last ≡ passing.from)) ⊎ OneEndsAt passing offers last

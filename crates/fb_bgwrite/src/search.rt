@@ -1,6 +1,6 @@
 // The search for the best spill of a gap. Ranges of cylinders are passed over where no spill can be
 // better than the best so far.
-ghost use Rattle.std.specs.Prelude.{◌≡◌, ◌+◌, ◌-◌, ◌*◌, ◌<◌, ◌≤◌, ◌^◌, ◌⊎◌, ℕ, List, false, true, max, if◌then◌else◌};
+ghost use Rattle.std.specs.Prelude.{◌≡◌, ◌+◌, ◌-◌, ◌*◌, ◌<◌, ◌≤◌, ◌^◌, ◌⊎◌, ℕ, List, false, true, length, max, if◌then◌else◌};
 ghost use Rattle.std.specs.List.{sum_by};
 ghost use Rattle.fb_geometry.specs.Shape.{slots_at, IsTrackOf};
 ghost use Rattle.fb_seek.specs.Positioning.{distance_of};
@@ -10,23 +10,23 @@ ghost use Rattle.fb_wanted.specs.Tracks.{wanted_weight};
 ghost use Rattle.fb_units.specs.declared.types.Track.{Track};
 ghost use Rattle.fb_service.specs.declared.disk.Disk.{Disk};
 ghost use Rattle.fb_rows.specs.declared.gap.Gap.{Gap};
-ghost use Rattle.fb_plan.specs.Ways.{AreOnDisk, FitsDisk};
-ghost use Rattle.fb_plan.specs.Turns.{IsOfDwell};
-ghost use Rattle.fb_model.specs.Plans.{block_end};
-ghost use Rattle.fb_detour.specs.Bounds.{slots_within, stay_gain};
+ghost use Rattle.fb_plan.specs.Ways.{AreOnDisk};
+ghost use Rattle.fb_plan.specs.Turns.{added, end_of, passes_by, AreInTurn, IsInTurn, Stands};
+ghost use Rattle.fb_detour.specs.Bounds.{slots_within};
 ghost use Rattle.fb_bgwrite.specs.declared.choice.Spill.{Spill};
-ghost use Rattle.fb_bgwrite.specs.Choosing.{AreLeast, ArePending, BeatsOn, BeatsRange, IsBestIf, IsEnough, IsGap, IsLast, IsMost, IsMostOn, IsOnly, IsShare, IsValuedIf, Keeps, passes};
+ghost use Rattle.fb_bgwrite.specs.Choosing.{AreLeast, ArePending, BeatsOn, BeatsRange, IsBestIf, IsEnough, IsGap, IsLastEnd};
+ghost use Rattle.fb_bgwrite.specs.Choosing.{IsMost, IsMostOn, IsOnly, IsShare, IsValuedIf, Keeps};
 ghost use Rattle.fb_bgwrite.specs.Shortest.{AreAtLeast};
 ghost use Rattle.fb_bgwrite.specs.Spilling.{value, IsSpill};
 
 use crate::choice::{Spill, Valued, better};
 use crate::pending::{Pending, least_on};
 use fb_detour::most_slots;
-use fb_plan::{Turning, Until, is_wanted};
-use fb_rows::{Dwell, Gap};
+use fb_plan::Turning;
+use fb_rows::Gap;
 use fb_service::Disk;
 use fb_units::{Ns, Track};
-use fb_wanted::{Entry, TrackBlocks};
+use fb_wanted::{Offer, TrackBlocks};
 
 // The most sectors of a block.
 const LONGEST: u32 = 2_048;
@@ -649,12 +649,8 @@ fn spill_on(
     if gap.deadline < begin + on {
         return None;
     }
-    let stay = Dwell {
-        track,
-        begin,
-        end: gap.deadline - on,
-    };
-    let written = written_in(disk, blocks, stay);
+    let passing = Turning::new(disk, begin);
+    let written = written_by(blocks.offers(), &passing, gap.deadline - on);
     if written.sectors == 0 {
         return None;
     }
@@ -667,39 +663,41 @@ fn spill_on(
     })
 }
 
-// What is written of a track's blocks in a stay there.
-fn written_in(disk: &Disk, blocks: &TrackBlocks, stay: Dwell) -> Written
-    requires blocks { AreOnDisk disk.now blocks.now }
-    requires order { stay.begin ≤ stay.end }
-    requires early { stay.begin ≤ 9 * 10 ^ 18 }
-    ensures sectors { result.sectors ≡ sum_by (stay_gain disk.now stay) blocks.now }
-    ensures last { IsLast disk.now stay blocks.now result.sectors result.last }
+// What is written of a track's offers in a stay there until the instant `latest`, in ns.
+fn written_by(offers: &[Offer], passing: &Turning, latest: Ns) -> Written
+    requires stands { Stands passing.now }
+    requires sweeps { AreInTurn passing.now.rotation offers.now }
+    requires order { passing.now.from ≤ latest }
+    requires few { length offers.now ≤ 16000000 }
+    ensures sectors { result.sectors ≡ sum_by (added (passes_by passing.now latest)) offers.now }
+    ensures last { IsLastEnd passing.now latest offers.now result.sectors result.last }
 {
-    let until = Turning::new(disk, blocks, stay.begin).until(disk, stay.end);
     let mut written = Written {
         sectors: 0,
-        last: stay.begin,
+        last: passing.from,
     };
-    for i in 0..blocks.len() {
-        written = with_entry(disk, stay, &until, blocks.get(i), written);
+    for offer in offers {
+        written = with_offer(*offer, passing, latest, written);
     }
     written
 }
 
-// The same with one more block.
-fn with_entry(disk: &Disk, stay: Dwell, until: &Until, entry: Entry, so_far: Written) -> Written
-    requires fits { FitsDisk disk.now entry.block }
-    requires until { IsOfDwell disk.now stay until.now }
+// The same with one more offer.
+fn with_offer(offer: Offer, passing: &Turning, latest: Ns, so_far: Written) -> Written
+    requires stands { Stands passing.now }
+    requires sweep { IsInTurn passing.now.rotation offer.sweep }
     requires room { so_far.sectors < 2 ^ 62 }
-    ensures sectors { result.sectors ≡ so_far.sectors + stay_gain disk.now stay entry }
-    ensures last { result.last ≡ (if passes disk.now stay entry then max so_far.last (block_end disk.now.map entry.block stay.begin) else so_far.last) }
+    ensures sectors { result.sectors ≡ so_far.sectors + added (passes_by passing.now latest) offer }
+    ensures last { result.last ≡ (if passes_by passing.now latest offer.sweep
+        then max so_far.last (end_of passing.now.rotation offer.sweep passing.now.from) else so_far.last) }
+    ensures small { result.sectors < so_far.sectors + 2 ^ 32 }
 {
-    if !is_wanted(entry.state) || !until.catches(disk, stay, entry.block) {
+    let end = passing.end(offer.sweep);
+    if latest < end {
         return so_far;
     }
-    let sectors = entry.block.weight as u64 * entry.block.count as u64;
     Written {
-        sectors: so_far.sectors + sectors,
-        last: so_far.last.max(until.passing.end(disk, entry.block)),
+        sectors: so_far.sectors + offer.worth as u64,
+        last: so_far.last.max(end),
     }
 }

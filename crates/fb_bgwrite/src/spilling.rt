@@ -252,7 +252,7 @@ fn register_blocks(
 
 // The put's block of this index.
 fn block_of(number: u32, index: u32, cut: Cut) -> Block
-    ensures { result ≡ record { task = number; index = index; lbn = cut.lbn; count = cut.count; track = cut.track; weight = 1 } }
+    ensures { result ≡ record { task = number; index = index; lbn = cut.lbn; count = cut.count; track = cut.track; weight = 1; sweep = cut.sweep } }
 {
     Block {
         task: number,
@@ -261,5 +261,6 @@ fn block_of(number: u32, index: u32, cut: Cut) -> Block
         count: cut.count,
         track: cut.track,
         weight: 1,
+        sweep: cut.sweep,
     }
 }

@@ -1,5 +1,5 @@
 use Rattle.fb_bgwrite.proofs.Words.{◌≡◌, ◌∷◌, ◌++◌, ◌≤◌, slice_get, take, ap, sym, ◌∙◌, arith, slice_index_or, Dwell, wanted_of, Catch}
-use Rattle.fb_bgwrite.proofs.Words.{caught_of, SpillLine, spill_row, slice_get-get_or}
+use Rattle.fb_bgwrite.proofs.Words.{Block, Sweep, Track, caught_of, SpillLine, spill_row, slice_get-get_or}
 use Rattle.fb_bgwrite.proofs.{Admitting.are_pending, Admitting.puts_kept, Catching.to_write, Catching.wrote_rows}
 use Rattle.fb_bgwrite.proofs.spilling.Spilling.write.Goals as goal
 
@@ -13,7 +13,10 @@ write_block-requires-clause-pending c =
     let l = c.loop-catch in
     let stay = c.stay_of-stay in
     let items = c.deref-catch-items.result.now in
-    let none : Catch = record { block = record { task = 0; index = 0; lbn = 0; count = 0; track = record { cylinder = 0; head = 0 }; weight = 0 }; begin = 0; end = 0 } in
+    let start : Track = record { cylinder = 0; head = 0 } in
+    let still : Sweep = record { begin = 0; length = 0 } in
+    let empty : Block = record { task = 0; index = 0; lbn = 0; count = 0; track = start; weight = 0; sweep = still } in
+    let none : Catch = record { block = empty; begin = 0; end = 0 } in
     let catch = slice_index_or items l.catch-index none in
     let are : items ≡ caught_of old.disk.now stay.result (wanted_of old.pending) = c.deref-catch-items.ensures.value ∙ c.in_ok-found.ensures.all in
     let at = ap (λ xs. slice_get xs l.catch-index) (sym are) ∙ slice_get-get_or items l.catch-index none c.loop-catch-test.true in
