@@ -2,7 +2,7 @@
 use Rattle.fb_fastq.proofs.Words.{◌≡◌, ℕ, ◌+◌, ◌<◌, ◌≤◌, ◌^◌, List, [], ◌∷◌, map, refl, sym, subst, arith, inl, inr}
 use Rattle.fb_fastq.proofs.Words.{◌⊎◌, Some, lookup, Less, BTreeMap, is_at, keys, IsStrictlySortedBy, Request, Track, Disk, Departure}
 use Rattle.fb_fastq.proofs.Words.{Visit, IsVisit, sptf, distance_of, track_at, Candidate, order, Waiting, Holds, AllHeld, IsAlong}
-use Rattle.fb_fastq.proofs.Words.{IsCandidate, IsBefore, Beats, BeatsOn, BeatsUntil, Stretch, Side, Above, Below, IsOn, IsNoFarther, IsReached}
+use Rattle.fb_fastq.proofs.Words.{IsCandidate, IsBefore, Beats, BeatsOn, BeatsUntil, Ray, Side, Above, Below, IsOn, IsNoFarther, IsReached}
 use Rattle.fb_fastq.proofs.Words.{IsNearer, AreThose, ◌*◌, length}
 use Rattle.fb_fastq.proofs.{Keys.here_equal, Keys.follows, Keys.not_at, Least.held_is_in, Sweeps.no_later_trans, Sweeps.is_one, Sweeps.farther, Swept.IsIn}
 use Rattle.fb_fastq.proofs.{Swept.all_of, Swept.all_unmapped, Swept.rises_sorted, Swept.IsNext, Swept.IsSwept, Swept.swept_begins}
@@ -26,17 +26,17 @@ held_value x (y ∷ ws) sorted (inr e) =
     let t = not_at y.0.0 y.0.1 x.0.0 x.0.1 less in
     rw t (held_value x ws sorted.1 e)
 
-module _ (disk : Disk) (from : Departure) (waiting : BTreeMap (ℕ × ℕ) Request) (first : Candidate) (stretch : Stretch) where
-  -- of a stretch all but those that are left are seen, and the best is no later than any of them
+module _ (disk : Disk) (from : Departure) (waiting : BTreeMap (ℕ × ℕ) Request) (first : Candidate) (ray : Ray) where
+  -- of a ray all but those that are left are seen, and the best is no later than any of them
   pub record IsWalk (best : Candidate) (left : List Waiting) : Type 0 where
     pub found : IsCandidate disk from.track from.instant waiting best
     pub before : IsBefore best first
-    pub swept : IsSwept spot (λ w. Holds waiting w.0 w.1 × IsOn stretch.side stretch.start w.0.0)
+    pub swept : IsSwept spot (λ w. Holds waiting w.0 w.1 × IsOn ray.side ray.start w.0.0)
         (λ w. Beats disk from.track from.instant best w.0 w.1) left
 
   pub walk_begins : (left : List Waiting) → IsCandidate disk from.track from.instant waiting first
       → IsStrictlySortedBy order (keys waiting)
-      → AreThose (λ w. IsOn stretch.side stretch.start w.0.0) waiting.entries left → IsWalk first left
+      → AreThose (λ w. IsOn ray.side ray.start w.0.0) waiting.entries left → IsWalk first left
   walk_begins left found sorted those = record {
     found = found;
     before = inr (refl, omega arith);
@@ -57,12 +57,12 @@ not_nearer : (side : Side) (lane spot other : ℕ) → lane ≤ spot → spot < 
 not_nearer Above lane spot other from below farther nearer = absurd (omega arith)
 not_nearer Below lane spot other from below farther nearer = absurd (omega arith)
 
-module _ {disk : Disk} {from : Departure} {waiting : BTreeMap (ℕ × ℕ) Request} {first : Candidate} {stretch : Stretch}
-    {best : Candidate} {left : List Waiting} (walk : IsWalk disk from waiting first stretch best left)
+module _ {disk : Disk} {from : Departure} {waiting : BTreeMap (ℕ × ℕ) Request} {first : Candidate} {ray : Ray}
+    {best : Candidate} {left : List Waiting} (walk : IsWalk disk from waiting first ray best left)
     (spots : AllHeld (λ key request. IsAlong disk request key.0) waiting)
-    (x : Waiting) (rest : List Waiting) (takes : Takes stretch.side left x rest) where
+    (x : Waiting) (rest : List Waiting) (takes : Takes ray.side left x rest) where
   next : IsNext spot x left rest
-  next = next_out spot stretch.side x left rest takes
+  next = next_out spot ray.side x left rest takes
 
   pub fewer_left : length rest < length left
   fewer_left = next.fewer
@@ -74,7 +74,7 @@ module _ {disk : Disk} {from : Departure} {waiting : BTreeMap (ℕ × ℕ) Reque
   -- the next one is seen
   pub walk_goes_on : (wait : ℕ) (new : Candidate) → wait ≡ sptf disk from.track from.instant x.1
       → (new ≡ best) ⊎ (new ≡ record { key = x.0; wait = wait }) → IsBefore new best
-      → IsBefore new (record { key = x.0; wait = wait }) → IsWalk disk from waiting first stretch new rest
+      → IsBefore new (record { key = x.0; wait = wait }) → IsWalk disk from waiting first ray new rest
   walk_goes_on wait new value is to_best to_next = record {
     found = is_one disk from.track from.instant waiting best (record { key = x.0; wait = wait }) new x.0 x.1 walk.found
         (walk.swept.inside x next.there).0 refl value is;
@@ -86,27 +86,27 @@ module _ {disk : Disk} {from : Departure} {waiting : BTreeMap (ℕ × ℕ) Reque
 
   module _ (visit : Visit) (start : visit.lane.start ≤ x.0.0) (end : x.0.0 < visit.lane.start + 2 ^ 30) where
     -- where the walk breaks off at its lane
-    pub walk_reaches : IsReached stretch.side stretch.start visit.lane.start
-    walk_reaches = reaches stretch.side stretch.start visit.lane.start x.0.0 start end (walk.swept.inside x next.there).1
+    pub walk_reaches : IsReached ray.side ray.start visit.lane.start
+    walk_reaches = reaches ray.side ray.start visit.lane.start x.0.0 start end (walk.swept.inside x next.there).1
 
-    pub walk_pauses : BeatsUntil disk from.track from.instant waiting best stretch (Some visit)
+    pub walk_pauses : BeatsUntil disk from.track from.instant waiting best ray (Some visit)
     walk_pauses = λ k r held on nearer. elim (walk.swept.seen (k, r) (held, on)) [
       | inl beaten ↦ beaten
-      | inr waits ↦ absurd (not_nearer stretch.side visit.lane.start x.0.0 k.0 start end
-          (next_nearest spot stretch.side x left rest takes walk.swept.rise (k, r) waits) nearer)
+      | inr waits ↦ absurd (not_nearer ray.side visit.lane.start x.0.0 k.0 start end
+          (next_nearest spot ray.side x left rest takes walk.swept.rise (k, r) waits) nearer)
     ]
 
     -- where the arm alone takes longer to its lane, and no others are nearer
-    pub walk_stops : IsNoFarther stretch.side (from.track.cylinder * 2 ^ 37) stretch.start → IsVisit disk from visit
+    pub walk_stops : IsNoFarther ray.side (from.track.cylinder * 2 ^ 37) ray.start → IsVisit disk from visit
         → ((now : ℕ) (r : Request) → distance_of from.track.cylinder visit.lane.track.cylinder ≤ away disk from r
         → best.wait < sptf disk from.track now r)
-        → BeatsOn disk from.track from.instant waiting best stretch
+        → BeatsOn disk from.track from.instant waiting best ray
     walk_stops outside is far k r held on =
         let same = is_there disk from visit is x.1 x.0.0 next_along start end in
         let here = walk.swept.inside x next.there in
         swept_stops spot walk.swept (λ w waits. inl (far from.instant w.1
         (subst (λ (t : Track). distance_of from.track.cylinder t.cylinder ≤ away disk from w.1) (sym same)
         (farther disk from.track from.instant waiting spots x.0 w.0 x.1 w.1 here.0 (walk.swept.inside w waits).0
-        stretch.side stretch.start outside here.1
-        (next_nearest spot stretch.side x left rest takes walk.swept.rise w waits)))))
+        ray.side ray.start outside here.1
+        (next_nearest spot ray.side x left rest takes walk.swept.rise w waits)))))
         (k, r) (held, on)

@@ -43,10 +43,10 @@ pub use Rattle.fb_fastq.specs.Turns.{turn}
 pub use Rattle.fb_fastq.specs.Visits.{IsVisit}
 pub use Rattle.fb_fastq.specs.declared.arrival.Arrival.{Arrival}
 pub use Rattle.fb_fastq.specs.declared.lanes.Lane.{Lane}
+pub use Rattle.fb_fastq.specs.declared.ray.Ray.{Ray}
 pub use Rattle.fb_fastq.specs.declared.rows.Pick.{Pick}
 pub use Rattle.fb_fastq.specs.declared.rows.Place.{Place}
 pub use Rattle.fb_fastq.specs.declared.side.Side.{Side}
 pub use Rattle.fb_fastq.specs.declared.side.Side.TheVariants.{Above, Below}
 pub use Rattle.fb_fastq.specs.declared.soonest.Candidate.{Candidate}
-pub use Rattle.fb_fastq.specs.declared.stretch.Stretch.{Stretch}
 pub use Rattle.fb_fastq.specs.declared.visit.Visit.{Visit}

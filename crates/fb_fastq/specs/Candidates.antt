@@ -5,8 +5,8 @@ use Rattle.fb_units.specs.declared.types.Track.{Track}
 use Rattle.fb_units.specs.declared.types.Request.{Request}
 use Rattle.fb_service.specs.declared.disk.Disk.{Disk}
 use Rattle.fb_model.specs.PlainReplay.{sptf}
+use Rattle.fb_fastq.specs.declared.ray.Ray.{Ray}
 use Rattle.fb_fastq.specs.declared.soonest.Candidate.{Candidate}
-use Rattle.fb_fastq.specs.declared.stretch.Stretch.{Stretch}
 use Rattle.fb_fastq.specs.declared.visit.Visit.{Visit}
 use Rattle.fb_fastq.specs.Sides.{IsOn, IsNearer}
 use Rattle.fb_fastq.specs.Joining.{Holds, AllHeld, IsNoLater}
@@ -29,13 +29,13 @@ Beats disk head now candidate key request = IsNoLater candidate.wait candidate.k
 abbrev pub BeatsBetween : Disk → Track → ℕ → BTreeMap (ℕ × ℕ) Request → Candidate → ℕ → ℕ → Type 0
 BeatsBetween disk head now waiting candidate start end = AllHeld (λ key request. start ≤ key.0 → key.0 < end → Beats disk head now candidate key request) waiting
 
--- it beats all that wait on a stretch
-abbrev pub BeatsOn : Disk → Track → ℕ → BTreeMap (ℕ × ℕ) Request → Candidate → Stretch → Type 0
-BeatsOn disk head now waiting candidate stretch = AllHeld (λ key request.
-    IsOn stretch.side stretch.start key.0 → Beats disk head now candidate key request) waiting
+-- it beats all that wait on a ray
+abbrev pub BeatsOn : Disk → Track → ℕ → BTreeMap (ℕ × ℕ) Request → Candidate → Ray → Type 0
+BeatsOn disk head now waiting candidate ray = AllHeld (λ key request.
+    IsOn ray.side ray.start key.0 → Beats disk head now candidate key request) waiting
 
 -- it beats all that wait there and are nearer than a lane, if there is one
-abbrev pub BeatsUntil : Disk → Track → ℕ → BTreeMap (ℕ × ℕ) Request → Candidate → Stretch → Option Visit → Type 0
-BeatsUntil disk head now waiting candidate stretch lane = AllHeld (λ key request.
-    IsOn stretch.side stretch.start key.0 → IfSome lane (λ visit. IsNearer stretch.side visit.lane.start key.0)
+abbrev pub BeatsUntil : Disk → Track → ℕ → BTreeMap (ℕ × ℕ) Request → Candidate → Ray → Option Visit → Type 0
+BeatsUntil disk head now waiting candidate ray lane = AllHeld (λ key request.
+    IsOn ray.side ray.start key.0 → IfSome lane (λ visit. IsNearer ray.side visit.lane.start key.0)
     → Beats disk head now candidate key request) waiting

@@ -4,7 +4,7 @@ use Rattle.std.specs.List.{filter}
 use Rattle.fb_fastq.specs.declared.side.Side.{Side}
 use Rattle.fb_fastq.specs.declared.side.Side.TheVariants.{Above, Below}
 
--- the one above, and the other below
+-- of two statements the one for this side
 abbrev pub on_side : Side → Type 0 → Type 0 → Type 0
 on_side Above above below = above
 on_side Below above below = below

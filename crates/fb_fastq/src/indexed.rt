@@ -61,8 +61,8 @@ impl<C: Choice> Queue for Indexed<C> {
     ghost serves_any = { λ q disk none. all_of_none (λ w. IsCylinderOf disk w.1 w.0.0) q.waiting none };
 
     fn add(&mut self, disk: &Disk, request: Request) -> Result<(), NoMemory> {
-        let spot = cylinder_of(disk, &request);
-        add(&mut self.waiting, spot, self.joined, request)?;
+        let cylinder = cylinder_of(disk, &request);
+        add(&mut self.waiting, cylinder, self.joined, request)?;
         self.joined += 1;
         Ok(())
     }

@@ -23,12 +23,12 @@ mod index;
 mod indexed;
 mod lanes;
 mod nearest;
+mod ray;
 mod ring;
 mod rows;
 mod side;
 mod soonest;
 mod sptf;
-mod stretch;
 mod upwards;
 mod visit;
 

@@ -15,8 +15,8 @@ ghost use Rattle.fb_fastq.specs.Candidates.{IsCandidate, IsBefore, BeatsBetween,
 
 use crate::index::{next_or_first, next_round};
 use crate::lanes::cylinder_start;
+use crate::ray::Ray;
 use crate::side::Side;
-use crate::stretch::Stretch;
 use crate::visit::{Visit, visit_to};
 use fb_service::{Departure, Disk, departure_from};
 use fb_units::{Ns, Request, Track};
@@ -93,31 +93,31 @@ fn soonest_of_lane(
     }
 }
 
-// The soonest of a candidate and of the requests of a stretch, as far as the first lane on which more than a few wait.
+// The soonest of a candidate and of the requests of a ray, as far as the first lane on which more than a few wait.
 fn walk(
     waiting: &BTreeMap<(u64, u64), Request>,
     disk: &Disk,
     from: Departure,
-    stretch: Stretch,
+    ray: Ray,
     any: Visit,
     first: Candidate,
 ) -> Walked
     requires spots { AllHeld (λ key request. IsAlong disk.now request key.0) waiting.now }
     requires from { IsDeparture disk.now from }
-    requires outside { IsNoFarther stretch.side (from.track.cylinder * 2 ^ 37) stretch.start }
+    requires outside { IsNoFarther ray.side (from.track.cylinder * 2 ^ 37) ray.start }
     requires any { IsVisit disk.now from any }
     requires first { IsCandidate disk.now from.track from.instant waiting.now first }
     ensures found { IsCandidate disk.now from.track from.instant waiting.now result.best }
     ensures first { IsBefore result.best first }
     ensures full { IfSome result.full (IsVisit disk.now from) }
-    ensures reached { IfSome result.full (λ visit. IsReached stretch.side stretch.start visit.lane.start) }
-    ensures least { BeatsUntil disk.now from.track from.instant waiting.now result.best stretch result.full }
+    ensures reached { IfSome result.full (λ visit. IsReached ray.side ray.start visit.lane.start) }
+    ensures least { BeatsUntil disk.now from.track from.instant waiting.now result.best ray result.full }
 {
     let mut best = first;
     let mut visit = any;
     let mut few = FEW;
-    let mut left = stretch.those_of(waiting);
-    while let Some((key, _)) = stretch.side.next(&mut left) {
+    let mut left = ray.those_of(waiting);
+    while let Some((key, _)) = ray.side.next(&mut left) {
         if visit.go_on(disk, &from, key.0) {
             if is_too_far(disk, from, &visit, best.wait) {
                 return Walked { best, full: None };
@@ -137,28 +137,28 @@ fn walk(
     Walked { best, full: None }
 }
 
-// The soonest of a candidate and of the requests of a stretch.
+// The soonest of a candidate and of the requests of a ray.
 fn soonest_on(
     waiting: &BTreeMap<(u64, u64), Request>,
     disk: &Disk,
     from: Departure,
-    stretch: Stretch,
+    ray: Ray,
     any: Visit,
     first: Candidate,
 ) -> Candidate
     requires spots { AllHeld (λ key request. IsAlong disk.now request key.0) waiting.now }
     requires from { IsDeparture disk.now from }
-    requires outside { IsNoFarther stretch.side (from.track.cylinder * 2 ^ 37) stretch.start }
+    requires outside { IsNoFarther ray.side (from.track.cylinder * 2 ^ 37) ray.start }
     requires any { IsVisit disk.now from any }
     requires first { IsCandidate disk.now from.track from.instant waiting.now first }
     ensures found { IsCandidate disk.now from.track from.instant waiting.now result }
     ensures first { IsBefore result first }
-    ensures least { BeatsOn disk.now from.track from.instant waiting.now result stretch }
+    ensures least { BeatsOn disk.now from.track from.instant waiting.now result ray }
 {
-    let mut walked = walk(waiting, disk, from, stretch, any, first);
+    let mut walked = walk(waiting, disk, from, ray, any, first);
     while let Some(visit) = walked.full {
         let best = soonest_of_lane(waiting, disk, &visit, walked.best);
-        let rest = stretch.beyond(&visit.lane);
+        let rest = ray.beyond(&visit.lane);
         walked = walk(waiting, disk, from, rest, visit, best);
     }
     walked.best
@@ -189,11 +189,11 @@ pub fn soonest_in_map(
     let (key, _) = next_or_first(waiting, start);
     let visit = visit_to(disk, &from, key.0);
     let wait = visit.wait(disk, key.0);
-    let above = Stretch {
+    let above = Ray {
         side: Side::Above,
         start,
     };
-    let below = Stretch {
+    let below = Ray {
         side: Side::Below,
         start,
     };

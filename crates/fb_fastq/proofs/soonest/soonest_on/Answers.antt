@@ -1,4 +1,4 @@
-use Rattle.fb_fastq.proofs.Words.{◌*◌, ◌^◌, ◌<◌, sym, subst, Stretch, IfSome, IsVisit, IsNoFarther, IsReached, BeatsUntil, beyond}
+use Rattle.fb_fastq.proofs.Words.{◌*◌, ◌^◌, ◌<◌, sym, subst, Ray, IfSome, IsVisit, IsNoFarther, IsReached, BeatsUntil, beyond}
 use Rattle.fb_fastq.proofs.Sweeps.{no_later_trans}
 use Rattle.fb_fastq.proofs.Breaks.{if_some, goes_on, reached_later, still_outside, left_of, less_left}
 use Rattle.fb_fastq.proofs.soonest.soonest_on.Goals as goal
@@ -9,19 +9,19 @@ loop-walked-preserved c =
     let head = c.args.from.track in
     let now = c.args.from.instant in
     let waiting = c.args.waiting.now in
-    let side = c.args.stretch.side in
-    let start = c.args.stretch.start in
+    let side = c.args.ray.side in
+    let start = c.args.ray.start in
     let old = c.loop-walked.walked.best in
     let visit = c.in-Some.visit in
     let is = subst (λ full. IfSome full (IsVisit disk c.args.from)) c.in-Some.is c.loop-walked.invariant.full in
     let reached = subst (λ full. IfSome full (λ v. IsReached side start v.lane.start)) c.in-Some.is c.loop-walked.invariant.reached in
-    let seen = subst (BeatsUntil disk head now waiting old c.args.stretch) c.in-Some.is c.loop-walked.invariant.seen in
+    let seen = subst (BeatsUntil disk head now waiting old c.args.ray) c.in-Some.is c.loop-walked.invariant.seen in
     let best = c.soonest_of_lane-best.result in
     let first = c.soonest_of_lane-best.ensures.first in
     let lane = c.soonest_of_lane-best.ensures.least c.args.from is in
     let new = c.walk-walked-in-Some.result in
     let more = c.walk-walked-in-Some.ensures in
-    let further = subst (λ (s : Stretch). IfSome new.full (λ v. IsReached s.side s.start v.lane.start)) c.beyond-rest.ensures
+    let further = subst (λ (s : Ray). IfSome new.full (λ v. IsReached s.side s.start v.lane.start)) c.beyond-rest.ensures
     more.reached in record {
       found = more.found;
       before = no_later_trans new.best.wait new.best.key.1 best.wait best.key.1 c.args.first.wait c.args.first.key.1 more.first
@@ -31,24 +31,24 @@ loop-walked-preserved c =
       reached = if_some (λ v. IsReached side (beyond side visit.lane.start) v.lane.start) (λ v. IsReached side start v.lane.start)
           new.full
           (λ v more. reached_later side start visit.lane.start v.lane.start reached more) further;
-      seen = goes_on disk head now waiting c.requires.spots old best new.best c.args.stretch
+      seen = goes_on disk head now waiting c.requires.spots old best new.best c.args.ray
           c.beyond-rest.result visit new.full first more.first
           c.beyond-rest.ensures seen lane more.least;
     }
 
 pub walk-walked-requires-in-Some-clause-outside : goal.walk-walked-requires-in-Some-clause-outside
 walk-walked-requires-in-Some-clause-outside c =
-    let side = c.args.stretch.side in
-    let start = c.args.stretch.start in
+    let side = c.args.ray.side in
+    let start = c.args.ray.start in
     let reached = subst (λ full. IfSome full (λ v. IsReached side start v.lane.start)) c.in-Some.is c.loop-walked.invariant.reached in
-    subst (λ (s : Stretch). IsNoFarther s.side (c.args.from.track.cylinder * 2 ^ 37) s.start) (sym c.beyond-rest.ensures)
+    subst (λ (s : Ray). IsNoFarther s.side (c.args.from.track.cylinder * 2 ^ 37) s.start) (sym c.beyond-rest.ensures)
     (still_outside side (c.args.from.track.cylinder * 2 ^ 37) start c.in-Some.visit.lane.start c.requires.outside reached)
 
 pub loop-walked-smaller : goal.loop-walked-smaller
 loop-walked-smaller c =
-    let side = c.args.stretch.side in
+    let side = c.args.ray.side in
     let new = c.walk-walked-in-Some.result.full in
     let is = subst (λ full. IfSome full (IsVisit c.args.disk.now c.args.from)) c.in-Some.is c.loop-walked.invariant.full in
-    let further = subst (λ (s : Stretch). IfSome new (λ v. IsReached s.side s.start v.lane.start)) c.beyond-rest.ensures
+    let further = subst (λ (s : Ray). IfSome new (λ v. IsReached s.side s.start v.lane.start)) c.beyond-rest.ensures
     c.walk-walked-in-Some.ensures.reached in
     subst (λ full. left_of side new < left_of side full) (sym c.in-Some.is) (less_left side c.in-Some.visit new is.lane.few further)

@@ -8,9 +8,9 @@ invariant-loop-walked l = record {
   found : IsCandidate l.disk l.from.track l.from.instant l.waiting l.walked.best;
   before : IsBefore l.walked.best l.fn.first;
   full : IfSome l.walked.full (IsVisit l.disk l.from);
-  reached : IfSome l.walked.full (λ visit. IsReached l.stretch.side l.stretch.start visit.lane.start);
-  seen : BeatsUntil l.disk l.from.track l.from.instant l.waiting l.walked.best l.stretch l.walked.full;
+  reached : IfSome l.walked.full (λ visit. IsReached l.ray.side l.ray.start visit.lane.start);
+  seen : BeatsUntil l.disk l.from.track l.from.instant l.waiting l.walked.best l.ray l.walked.full;
 }
 
 abbrev pub decreases-loop-walked : goal.decreases-loop-walked
-decreases-loop-walked l = left_of l.stretch.side l.walked.full
+decreases-loop-walked l = left_of l.ray.side l.walked.full

@@ -6,7 +6,7 @@ use Rattle.fb_fastq.proofs.soonest.walk.Goals as goal
 pub loop-key-init : goal.loop-key-init
 loop-key-init c = record {
   visit = c.requires.any;
-  walk = walk_begins c.args.disk.now c.args.from c.args.waiting.now c.args.first c.args.stretch c.those_of-left.result
+  walk = walk_begins c.args.disk.now c.args.from c.args.waiting.now c.args.first c.args.ray c.those_of-left.result
       c.requires.first c.those_of-left.ensures.ordered c.those_of-left.ensures.those;
 }
 
@@ -49,5 +49,5 @@ loop-key-smaller c =
 
 pub returns-clause-least : goal.returns-clause-least
 returns-clause-least c = λ k r held on nearer.
-    swept_ends spot c.loop-key.invariant.walk.swept (none_left c.args.stretch.side c.loop-key.left c.next.new.left c.in_default.ensures)
+    swept_ends spot c.loop-key.invariant.walk.swept (none_left c.args.ray.side c.loop-key.left c.next.new.left c.in_default.ensures)
     (k, r) (held, on)

@@ -6,7 +6,7 @@ use Rattle.fb_fastq.proofs.soonest.walk.Given as goal
 abbrev pub invariant-loop-key : goal.invariant-loop-key
 invariant-loop-key l = record {
   visit : IsVisit l.disk l.from l.visit;
-  walk : IsWalk l.disk l.from l.waiting l.fn.first l.stretch l.best l.left;
+  walk : IsWalk l.disk l.from l.waiting l.fn.first l.ray l.best l.left;
 }
 
 abbrev pub decreases-loop-key : goal.decreases-loop-key

@@ -1,5 +1,5 @@
 use Rattle.fb_fastq.proofs.Keys.{is_from, from_is, is_before, before_is}
-use Rattle.fb_fastq.proofs.stretch.Stretch.those_of.Goals as goal
+use Rattle.fb_fastq.proofs.ray.Ray.those_of.Goals as goal
 
 pub returns-in-Above-clause-those : goal.returns-in-Above-clause-those
 returns-in-Above-clause-those c = rw c.in-Above.is (record {

@@ -11,15 +11,17 @@ use fb_units::{Ns, Request};
 use std::collections::BTreeMap;
 use std::collections::btree_map::Range;
 
-/// The spots on one side, which are visited outwards: above those from the start on, and below those
-/// before it.
+/// The spots on one side of the arm from a start outwards: above those from the start on, and below
+/// those before it.
 #[derive(Clone, Copy)]
-pub struct Stretch {
+pub struct Ray {
+    /// The side of the arm.
     pub side: Side,
+    /// The spot at which they start, in ns along the lanes.
     pub start: Ns,
 }
 
-impl Stretch {
+impl Ray {
     /// The requests that wait there, in order of their spots.
     pub fn those_of<'a>(
         &self,
@@ -34,8 +36,8 @@ impl Stretch {
         }
     }
 
-    /// What of the stretch is farther out than a lane.
-    pub fn beyond(&self, lane: &Lane) -> Stretch
+    /// The spots of the ray that are farther out than a lane.
+    pub fn beyond(&self, lane: &Lane) -> Ray
         requires { lane.now.start ≤ 2 ^ 60 }
         ensures { result ≡ record { side = self.now.side; start = beyond self.now.side lane.now.start } }
     {
@@ -43,7 +45,7 @@ impl Stretch {
             Side::Above => lane.start + LANE,
             Side::Below => lane.start,
         };
-        Stretch {
+        Ray {
             side: self.side,
             start,
         }
