@@ -22,7 +22,7 @@ use crate::Outcome;
 use crate::policy::judge_by;
 use crate::reading::{ReplayFiles, Sources, read_inputs, read_printed};
 use crate::verdict_line::verdict_line;
-use crate::writing::write_text;
+use crate::writing::write_made;
 use fb_check::{Printed, Verdict};
 use fb_desk::{Desk, Input, Output};
 use fb_report::{Report, ReportLines, ReportsError, read_back, read_fore};
@@ -172,8 +172,5 @@ fn write_verdict<D: Desk>(alloc: Global, desk: &mut D, verdict: &Verdict) -> Res
     ensures calm { OnOk result (((D.seen desk.new).outputs Output.Fore).faults ≡ ((D.seen desk.old).outputs Output.Fore).faults) }
     ensures stops { IfErr result (StopsText Output.Fore (codes "-") (verdict_line verdict.now) (D.seen desk.old) (D.seen desk.new)) }
 {
-    match verdict_line(alloc, verdict) {
-        Ok(text) => write_text(desk, Output::Fore, "-", text.as_slice()),
-        Err(NoMemory) => Err(Outcome::NoMemory),
-    }
+    write_made(desk, Output::Fore, "-", verdict_line(alloc, verdict))
 }

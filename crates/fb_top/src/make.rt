@@ -20,7 +20,7 @@ ghost use Rattle.fb_top.specs.Written.{HoldsWhole, StopsText};
 use crate::Outcome;
 use crate::reading::read_disk;
 use crate::streams::write_whole;
-use crate::writing::write_text;
+use crate::writing::write_made;
 use fb_desk::{Desk, Failed, Output};
 use fb_maker::{Maker, made_calls, made_scripts_are_read, made_traces_are_read};
 use fb_sectormap::SectorMap;
@@ -116,8 +116,5 @@ fn write_calls<D: Desk>(
     ensures calm { OnOk result (((D.seen desk.new).outputs Output.MadeCalls).faults ≡ ((D.seen desk.old).outputs Output.MadeCalls).faults) }
     ensures stops { IfErr result (StopsText Output.MadeCalls name.now (script_text map.now) (D.seen desk.old) (D.seen desk.new)) }
 {
-    match made_calls(alloc, map) {
-        Ok(text) => write_text(desk, Output::MadeCalls, name, text.as_slice()),
-        Err(NoMemory) => Err(Outcome::NoMemory),
-    }
+    write_made(desk, Output::MadeCalls, name, made_calls(alloc, map))
 }

@@ -16,11 +16,10 @@ ghost use Rattle.fb_top.specs.Calm.{AreOutputsCalm};
 use crate::Outcome;
 use crate::lines::{BackLines, ForeLines};
 use crate::reading::ReplayFiles;
-use crate::writing::{write_lines, write_text};
+use crate::writing::{write_lines, write_made};
 use fb_desk::{Desk, Output};
 use fb_report::{Bytes, summary_text};
 use fb_rows::Run;
-use fb_units::NoMemory;
 use fb_words::ReplayWords;
 use std::alloc::Global;
 
@@ -90,10 +89,7 @@ fn write_summary<D: Desk>(alloc: Global, desk: &mut D, run: &Run) -> Result<(), 
     ensures calm { OnOk result (((D.seen desk.new).outputs Output.Fore).faults ≡ ((D.seen desk.old).outputs Output.Fore).faults) }
     ensures stops { IfErr result (StopsText Output.Fore (codes "-") (summary_text run.now) (D.seen desk.old) (D.seen desk.new)) }
 {
-    match summary_text(alloc, run) {
-        Ok(text) => write_text(desk, Output::Fore, "-", text.as_slice()),
-        Err(NoMemory) => Err(Outcome::NoMemory),
-    }
+    write_made(desk, Output::Fore, "-", summary_text(alloc, run))
 }
 
 // Writes the background report of a run under a name.

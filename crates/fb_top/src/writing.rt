@@ -1,5 +1,5 @@
 // Writes texts, whole or line by line, and the note.
-ghost use Rattle.std.specs.Prelude.{◌≡◌, false, IfErr, OnOk};
+ghost use Rattle.std.specs.Prelude.{◌≡◌, ◌≢◌, ℕ, List, false, Err, IfErr, IfOk, OnErr, OnOk};
 ghost use Rattle.fb_desk.specs.Calls.{ChangesOutput};
 ghost use Rattle.fb_report.specs.Printed.{IsReadBack};
 ghost use Rattle.fb_top.specs.Noted.{LeavesNote, TellsNote};
@@ -14,26 +14,33 @@ use fb_desk::{Desk, Failed, Output};
 use fb_units::NoMemory;
 use std::alloc::Global;
 
-/// Begins an output under a name, and writes a text to it.
+/// Begins an output under a name, and writes to it the text that was made.
 ///
-/// The error is the outcome: a call that writes failed.
-pub fn write_text<D: Desk>(
+/// The error is the outcome: a call that writes failed; or the text was not made, and nothing was
+/// begun.
+pub fn write_made<D: Desk>(
     desk: &mut D,
     which: Output,
     name: &str,
-    text: &[u8],
+    made: Result<Vec<u8>, NoMemory>,
 ) -> Result<(), Outcome>
     requires fresh { ((D.seen desk.old).outputs which).begun ≡ false }
     ensures only { ChangesOutput which (D.seen desk.old) (D.seen desk.new) }
-    ensures whole { OnOk result (HoldsWhole ((D.seen desk.new).outputs which) name.now text.now) }
+    ensures whole { (text : List ℕ) → IfOk made (λ bytes. bytes.items ≡ text) → OnOk result (HoldsWhole ((D.seen desk.new).outputs which) name.now text) }
     ensures calm { OnOk result (((D.seen desk.new).outputs which).faults ≡ ((D.seen desk.old).outputs which).faults) }
-    ensures stops { IfErr result (StopsText which name.now text.now (D.seen desk.old) (D.seen desk.new)) }
+    ensures stops { (text : List ℕ) → IfOk made (λ bytes. bytes.items ≡ text) → IfErr result (StopsText which name.now text (D.seen desk.old) (D.seen desk.new)) }
+    ensures memory { OnOk made (result ≢ Err Outcome.NoMemory) }
+    ensures unmade { OnErr made ((result ≡ Err Outcome.NoMemory) × (D.seen desk.new ≡ D.seen desk.old)) }
 {
+    let text = match made {
+        Ok(text) => text,
+        Err(NoMemory) => return Err(Outcome::NoMemory),
+    };
     match desk.begin_output(which, name) {
         Ok(()) => {}
         Err(Failed) => return Err(Outcome::WriteFault(which)),
     }
-    match write_whole(desk, which, text) {
+    match write_whole(desk, which, text.as_slice()) {
         Ok(()) => Ok(()),
         Err(Failed) => Err(Outcome::WriteFault(which)),
     }
