@@ -1,9 +1,9 @@
 -- The value of a spill is what its stay catches of the registered blocks.
 use Rattle.fb_bgwrite.proofs.Words.{all_get, ◌≡◌, ℕ, ◌+◌, ◌*◌, ◌<◌, ◌≤◌, ◌⊎◌, List, [], ◌∷◌, Bool, true, false, Some, slice_get}
-use Rattle.fb_bgwrite.proofs.Words.{max, inl, inr, refl, sym, ap, ◌∙◌, subst, arith, if◌then◌else◌, filter, AllByRecursion, sum_by}
-use Rattle.fb_bgwrite.proofs.Words.{cases_Bool, cases_lt, nat_tests, sum_by-cons, same_track, Disk, Block, Entry, is_wanted}
+use Rattle.fb_bgwrite.proofs.Words.{inl, inr, refl, ap, ◌∙◌, arith, if◌then◌else◌, filter, AllByRecursion, sum_by}
+use Rattle.fb_bgwrite.proofs.Words.{cases_Bool, nat_tests, sum_by-cons, same_track, Disk, Block, Entry, is_wanted}
 use Rattle.fb_bgwrite.proofs.Words.{◌&&◌, wanted_of, Dwell, Gap, block_end, catches, AreOnDisk, FitsDisk, stay_gain}
-use Rattle.fb_bgwrite.proofs.Words.{and_false, Spill, stay_of, value, all_of, some_one}
+use Rattle.fb_bgwrite.proofs.Words.{and_false, Spill, stay_of, value, all_of}
 use Rattle.fb_plan.proofs.Gains.{one_part}
 use Rattle.fb_detour.specs.Bounds.{stay}
 use Rattle.fb_bgwrite.proofs.{Sums.sum_le_on, Sums.sum_less}

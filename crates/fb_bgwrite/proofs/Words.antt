@@ -69,9 +69,9 @@ pub use Rattle.fb_plan.specs.Order.{catch_of, is_before, place_in}
 unfoldable pub use Rattle.fb_plan.specs.Order.{caught_of}
 pub use Rattle.fb_plan.specs.Ways.{AreOnDisk, FitsDisk}
 pub use Rattle.fb_plan.specs.declared.catching.Catch.{Catch}
-pub use Rattle.fb_plan.proofs.Ends.{begin-from-le, end-from-le}
+pub use Rattle.fb_plan.proofs.Ends.{begin-from-le}
 pub use Rattle.fb_plan.specs.declared.turning.Turning.{Turning}
-pub use Rattle.fb_plan.specs.Turns.{added, end_of, passes_by, AreInTurn, IsInTurn, IsTurning, Stands}
+pub use Rattle.fb_plan.specs.Turns.{IsTurning, added, end_of, passes_by}
 pub use Rattle.fb_detour.specs.Bounds.{slots_within, stay_gain}
 pub use Rattle.fb_detour.proofs.Ceilings.{and_false, longer_stay, stay-of, weight_of_stay}
 pub use Rattle.fb_report.proofs.Lines.{AreLines, length_lines, line_first, line_last, line_row}

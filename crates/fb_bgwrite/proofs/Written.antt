@@ -1,10 +1,11 @@
 -- What a stay writes is what its track offers to it.
-use Rattle.fb_bgwrite.proofs.Words.{◌≡◌, ℕ, suc, ◌+◌, ◌<◌, ◌≤◌, List, [], ◌∷◌, true, false, Some, slice_get, take, length, get_or, max, inl, inr}
-use Rattle.fb_bgwrite.proofs.Words.{refl, sym, ap, ◌∙◌, subst, arith, if◌then◌else◌, ◌⊎◌, sum_by, nat_le, cases_Bool, cases_lt, nat_tests}
-use Rattle.fb_bgwrite.proofs.Words.{and_parts, sum_by-cons, slice_get-get_or, slice_get_within, same_track, Sweep, Track, Disk, Block, Entry, is_wanted, on_track}
-use Rattle.fb_bgwrite.proofs.Words.{Offer, AreOffers, Dwell, block_end, AreOnDisk, FitsDisk, Turning, IsTurning, added, end_of, passes_by}
+use Rattle.fb_bgwrite.proofs.Words.{◌≡◌, ℕ, suc, ◌+◌, ◌<◌, ◌≤◌, List, [], ◌∷◌, true, false, Some, slice_get, length, max, inl, inr, refl}
+use Rattle.fb_bgwrite.proofs.Words.{sym, ap, ◌∙◌, subst, arith, if◌then◌else◌, ◌⊎◌, sum_by, nat_le, cases_lt, nat_tests, sum_by-cons}
+use Rattle.fb_bgwrite.proofs.Words.{slice_get_within, same_track, Sweep, Track, Disk, Block, Entry, is_wanted, on_track, Offer, AreOffers}
+use Rattle.fb_bgwrite.proofs.Words.{Dwell, block_end, AreOnDisk, FitsDisk, Turning, IsTurning, added, end_of, passes_by}
 use Rattle.fb_bgwrite.proofs.Words.{stay_gain, some_one, OneEndsAt, IsLastEnd}
-use Rattle.fb_plan.proofs.{Gains.adds, Gains.in_filter, Offered.block-of, Offered.entry-of, Offered.offer-of, Offered.sum-offered, Offered.wanted-at}
+use Rattle.fb_plan.proofs.{Gains.adds, Gains.in_filter}
+use Rattle.fb_plan.proofs.{Offered.block-of, Offered.entry-of, Offered.offer-of, Offered.sum-offered, Offered.wanted-at}
 use Rattle.fb_plan.proofs.Swept.{turning-end}
 use Rattle.fb_bgwrite.proofs.Values.{passes, EndsAt, IsLast}
 
@@ -27,7 +28,8 @@ module _ (passing : Turning) (latest : ℕ) (offers : List Offer) where
     reached = inl (refl, refl);
   }
 
-  pub all_last : (n worth last : ℕ) → length offers ≤ n → IsLastOf passing latest offers n worth last → IsLastEnd passing latest offers worth last
+  pub all_last : (n worth last : ℕ) → length offers ≤ n → IsLastOf passing latest offers n worth last
+      → IsLastEnd passing latest offers worth last
   all_last n worth last all is = record {
     from = is.from;
     upto = is.upto;
@@ -66,7 +68,9 @@ module _ (passing : Turning) (latest : ℕ) (offers : List Offer) where
             | inl later ↦ inr (record { index = n; offer = o; stands = at; ends = omega (arith, new, later) })
             | inr earlier ↦ elim is.reached [
               | inl none ↦ inr (record { index = n; offer = o; stands = at; ends = omega (arith, new, earlier, none.1) })
-              | inr some ↦ inr (record { index = some.index; offer = some.offer; stands = some.stands; ends = omega (arith, some.ends, new, earlier) })
+              | inr some ↦
+                  let end : ends some.offer ≡ new_last = omega (arith, some.ends, new, earlier) in
+                  inr (record { index = some.index; offer = some.offer; stands = some.stands; ends = end })
             ]
           ];
         }
@@ -97,14 +101,16 @@ module _ (passing : Turning) (latest : ℕ) (offers : List Offer) where
 
 -- ---- offers and blocks
 
-sum-agree : (f g : Entry → ℕ) (xs : List Entry) → ((i : ℕ) (e : Entry) → slice_get xs i ≡ Some e → f e ≡ g e) → sum_by f xs ≡ sum_by g xs
+sum-agree : (f g : Entry → ℕ) (xs : List Entry) → ((i : ℕ) (e : Entry) → slice_get xs i ≡ Some e → f e ≡ g e)
+    → sum_by f xs ≡ sum_by g xs
 sum-agree f g [] same = refl
 sum-agree f g (x ∷ xs) same =
     omega (arith, sum_by-cons f x xs, sum_by-cons g x xs, same 0 x refl, sum-agree f g xs (λ i e at. same (suc i) e at))
 
 -- a stay on a track from the turning's instant to the latest one, and what the blocks of this track offer
 module _ (disk : Disk) (track : Track) (latest : ℕ) (entries blocks : List Entry) (its : blocks ≡ on_track track entries)
-    (on : AreOnDisk disk blocks) (passing : Turning) (turns : IsTurning disk passing) (offers : List Offer) (are : AreOffers offers blocks) where
+    (on : AreOnDisk disk blocks) (passing : Turning) (turns : IsTurning disk passing) (offers : List Offer)
+    (are : AreOffers offers blocks) where
   abbrev stay : Dwell
   stay = record { track = track; begin = passing.from; end = latest }
 
@@ -127,7 +133,8 @@ module _ (disk : Disk) (track : Track) (latest : ℕ) (entries blocks : List Ent
   pub sum_of_stay : sum_by (added (passes_by passing latest)) offers ≡ sum_by (stay_gain disk stay) blocks
   sum_of_stay =
       sum-offered offers blocks are (passes_by passing latest)
-      ∙ sum-agree (adds (λ b. passes_by passing latest b.sweep)) (stay_gain disk stay) blocks (λ i e at. adds_as e (on i e at) (here i e at))
+      ∙ sum-agree (adds (λ b. passes_by passing latest b.sweep)) (stay_gain disk stay) blocks
+      (λ i e at. adds_as e (on i e at) (here i e at))
 
   module _ (worth last : ℕ) (is : IsLastEnd passing latest offers worth last) where
     by_last : (i : ℕ) (e : Entry) → slice_get blocks i ≡ Some e → passes disk stay e ≡ true → block_end disk.map e.block passing.from ≤ last

@@ -6,8 +6,9 @@ use Rattle.fb_bgwrite.proofs.search.spill_on.Goals as goal
 
 pub written_by-written-requires-clause-sweeps : goal.written_by-written-requires-clause-sweeps
 written_by-written-requires-clause-sweeps c =
-    let turning = c.new-passing.ensures.turning in
-    offers-in-turn c.offers.result.now c.args.blocks.now c.offers.ensures.its c.args.disk.now c.new-passing.result turning c.requires.on_disk
+    let passing = c.new-passing in
+    offers-in-turn c.offers.result.now c.args.blocks.now c.offers.ensures.its c.args.disk.now passing.result passing.ensures.turning
+    c.requires.on_disk
 
 pub returns-then-written-eq0-clause-tried : goal.returns-then-written-eq0-clause-tried
 returns-then-written-eq0-clause-tried c = λ leave is.

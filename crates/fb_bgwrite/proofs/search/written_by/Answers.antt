@@ -7,7 +7,11 @@ pub with_offer-written-requires-clause-sweep : goal.with_offer-written-requires-
 with_offer-written-requires-clause-sweep c = c.requires.sweeps c.loop-offer.offer-index _ c.loop-offer-test.true
 
 pub loop-offer-init : goal.loop-offer-init
-loop-offer-init c = record { room = omega arith; sum = refl; last = none_last c.args.passing.now c.args.latest c.args.offers.now c.requires.order }
+loop-offer-init c = record {
+  room = omega arith;
+  sum = refl;
+  last = none_last c.args.passing.now c.args.latest c.args.offers.now c.requires.order;
+}
 
 pub loop-offer-preserved : goal.loop-offer-preserved
 loop-offer-preserved c =
