@@ -64,13 +64,18 @@ small-more es e h light short = subst AreSmall (sym (blocks-more es e)) (λ i b 
   | inr new ↦ subst (λ c. (c.weight ≤ 1000) × (c.count ≤ 2048)) (sym new.1) (light, short)
 ])
 
+-- the block of an entry stands where the entry does
+pub block_there : (es : List Entry) (i : ℕ) (e : Entry) → slice_get es i ≡ Some e → slice_get (blocks_of es) i ≡ Some e.block
+block_there es i e at = slice_get-map (λ x. x.block) es i ∙ ap (option_map (λ x. x.block)) at
+
 -- the weight and the size of a registered block are within limits
-pub small_at : (es : List Entry) (i : ℕ) (e : Entry) → AreSmall (blocks_of es) → slice_get es i ≡ Some e → (e.block.weight ≤ 1000) × (e.block.count ≤ 2048)
-small_at es i e h at = h i e.block (slice_get-map (λ x. x.block) es i ∙ ap (option_map (λ x. x.block)) at)
+pub small_at : (es : List Entry) (i : ℕ) (e : Entry) → AreSmall (blocks_of es) → slice_get es i ≡ Some e
+    → (e.block.weight ≤ 1000) × (e.block.count ≤ 2048)
+small_at es i e h at = h i e.block (block_there es i e at)
 
 -- the k-th block of a task has the number k
 pub index_at : (es : List Entry) (task k : ℕ) (e : Entry) → AreInOrder (blocks_of es) → slice_get (filter (of_task task) es) k ≡ Some e → e.block.index ≡ k
-index_at es task k e h at = h task k e.block (ap (λ l. slice_get l k) (task-blocks task es) ∙ (slice_get-map (λ x. x.block) (filter (of_task task) es) k ∙ ap (option_map (λ x. x.block)) at))
+index_at es task k e h at = h task k e.block (ap (λ l. slice_get l k) (task-blocks task es) ∙ block_there (filter (of_task task) es) k e at)
 
 pub block_is : (task index : ℕ) (e : Entry) → is_block task index e ≡ true → (of_task task e ≡ true) × (e.block.index ≡ index)
 block_is task index e h = (grind (arith, nat_tests), grind (arith, nat_tests))

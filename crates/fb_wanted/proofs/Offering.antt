@@ -1,11 +1,10 @@
 -- What the wanted blocks of each track offer, after a block is registered or changes its state.
-use Rattle.std.proofs.Common.{◌≡◌, ℕ, ◌+◌, ◌-◌, ◌*◌, ◌<◌, ◌≤◌, ◌⊎◌, inl, inr, List, [], ◌∷◌, ◌++◌, Some, true, false, length, length-append, filter, set, slice_get, refl, ap, sym, ◌∙◌, arith, subst}
+use Rattle.std.proofs.Common.{◌≡◌, ℕ, ◌+◌, ◌-◌, ◌<◌, ◌≤◌, ◌⊎◌, inl, inr, List, [], ◌∷◌, ◌++◌, Some, true, false, length, length-append, filter, map, set, slice_get, get_or, refl, ap, sym, ◌∙◌, arith, subst}
 use Rattle.std.specs.List.{sum_by}
 use Rattle.std.proofs.lemmas.Bool.{cases_Bool, cases_eq, cases_lt, true≢false}
-use Rattle.std.proofs.lemmas.List.{length-map, length-set}
+use Rattle.std.proofs.lemmas.List.{length-map, length-set, map-append}
 use Rattle.std.proofs.lemmas.List.Sums.{sum_by-cons, sum_by_push, sum_by-swap_remove}
 use Rattle.std.proofs.lemmas.Option.{same_Some, slice_get_within, get_or_from_slice_get}
-use Rattle.fb_units.specs.declared.types.Sweep.{Sweep}
 use Rattle.fb_units.specs.declared.types.Track.{Track}
 use Rattle.fb_units.specs.Tracks.{same_track}
 use Rattle.fb_wanted.specs.declared.block.Block.{Block}
@@ -13,22 +12,17 @@ use Rattle.fb_wanted.specs.declared.block.Entry.{Entry}
 use Rattle.fb_wanted.specs.declared.block.State.{State}
 use Rattle.fb_wanted.specs.declared.block.State.TheVariants.{Wanted}
 use Rattle.fb_wanted.specs.declared.offer.Offer.{Offer}
-use Rattle.fb_wanted.specs.Offers.{AreOffers, offer_of}
+use Rattle.fb_wanted.specs.Offers.{AreSameBlocks, offer_of, offered_blocks, no_block}
 use Rattle.fb_wanted.specs.States.{is_wanted, on_track, wanted_of}
 use Rattle.fb_wanted.specs.Index.{OnTrack, places, of_track, no_offer, last_of, taken_out, with_offer, without_offer, offers_at, with_state, AreOffered, IsItsOffer, IsChanged}
 use Rattle.fb_wanted.proofs.Counted.{filter-le}
+use Rattle.fb_wanted.proofs.Found.{block_at, block_is, blocks_still, found_each}
 use Rattle.fb_wanted.proofs.Kept.{same_one, same_itself, changed_here, unchanged}
 use Rattle.fb_wanted.proofs.Numbers.{in_either}
 use Rattle.fb_wanted.proofs.Spots.{at_left, at_end, set_same, set_other, removed_within, removed_other, removed_at, last_at, state_other, state_at}
-use Rattle.fb_wanted.proofs.Standing.{length-places, length-with_state, places-with_state}
+use Rattle.fb_wanted.proofs.Standing.{length-places, length-with_state, blocks-with_state, places-with_state}
+use Rattle.fb_wanted.proofs.Sums.{sums-map}
 use Rattle.fb_wanted.proofs.Weights.{sum_wanted, by-append, by-with_state, by_elsewhere, by_unwanted, by_wanted}
-
--- what a measure is of a block and of an offer
-abbrev of_block : (Sweep → ℕ → ℕ) → Block → ℕ
-of_block measure b = measure b.sweep (b.weight * b.count)
-
-abbrev of_offer : (Sweep → ℕ → ℕ) → Offer → ℕ
-of_offer measure o = measure o.sweep o.worth
 
 turned_track : (a b : Track) → same_track a b ≡ true → same_track b a ≡ true
 turned_track a b h = ap (λ u. same_track b u) (same_one a b h) ∙ same_itself b
@@ -47,7 +41,7 @@ same_place p q a b h = ap (λ o. o.place) h
 pub offered_still : (es : List Entry) (was is : Track → List Offer) (spots : List ℕ) → AreOffered es was spots → ((t : Track)
     → is t ≡ was t) → AreOffered es is spots
 offered_still es was is spots h same = record {
-  sums = λ t. subst (λ l. AreOffers l (on_track t es)) (sym (same t)) (h.sums t);
+  sums = λ t. subst (λ l. AreSameBlocks (offered_blocks es l) (wanted_of (on_track t es))) (sym (same t)) (h.sums t);
   each = λ t i o at. h.each t i o (ap (λ l. slice_get l i) (sym (same t)) ∙ at);
   all = λ p e at yes'. let it = h.all p e at yes' in (it.0, it.1, ap (λ l. slice_get l it.0) (same e.block.track) ∙ it.2);
   one_each = h.one_each;
@@ -60,10 +54,10 @@ pub offered_pushed : (es : List Entry) (offers : Track → List Offer) (spots : 
 offered_pushed es offers spots e spot h un = record {
   sums = λ t measure. omega (
     arith,
+    ap (sum_by measure) (blocks_still es e (offers t) (found_each es offers spots t h)),
     h.sums t measure,
-    by-append (of_block measure) (of_track t) es (e ∷ []),
-    by_unwanted
-        (of_block measure) (of_track t) e un,
+    by-append measure (of_track t) es (e ∷ []),
+    by_unwanted measure (of_track t) e un,
   );
   each = λ t i o at. let its = h.each t i o at in
       record { entry = its.entry; there = at_left es e its.entry o.place its.there; on = its.on; wanted = its.wanted; spot_is = at_left spots spot i o.place its.spot_is };
@@ -77,6 +71,10 @@ offered_pushed es offers spots e spot h un = record {
 module _ (es : List Entry) (spots : List ℕ) (p : ℕ) (e : Entry) (s : State) (at : slice_get es p ≡ Some e) where
   abbrev pub turned : Entry
   turned = record { block = e.block; state = s }
+
+  -- offers are of the same blocks after the change
+  same_sum : (measure : Block → ℕ) (os : List Offer) → sum_by measure (offered_blocks (with_state s p es) os) ≡ sum_by measure (offered_blocks es os)
+  same_sum measure os = ap (λ bs. sum_by measure (map (λ o. get_or bs o.place no_block) os)) (blocks-with_state s p es)
 
   -- an entry after the change is the block itself, or as it was
   entry_is : (q : ℕ) (x : Entry) → slice_get (with_state s p es) q ≡ Some x → ((q ≡ p) × (turned ≡ x)) ⊎ ((q ≡ p → ⊥) ×
@@ -108,17 +106,15 @@ module _ (es : List Entry) (spots : List ℕ) (p : ℕ) (e : Entry) (s : State) 
       (with_state s p es) offers spots
   offered_alike offers h alike = record {
     sums = λ t measure.
-        let part : sum_wanted (of_block measure) (of_track t) (turned ∷ []) ≡ sum_wanted (of_block measure) (of_track t) (e ∷ [])
+        let part : sum_wanted measure (of_track t) (turned ∷ []) ≡ sum_wanted measure (of_track t) (e ∷ [])
         = elim (cases_Bool (same_track t e.block.track)) [
           | inl on ↦ elim (cases_Bool (is_wanted e.state)) [
-            | inl yes' ↦ by_wanted (of_block measure) (of_track t) turned on (alike ∙ yes') ∙ sym (by_wanted (of_block measure)
-                (of_track t) e on yes')
-            | inr no' ↦ by_unwanted (of_block measure) (of_track t) turned (alike ∙ no') ∙ sym (by_unwanted (of_block measure)
-                (of_track t) e no')
+            | inl yes' ↦ by_wanted measure (of_track t) turned on (alike ∙ yes') ∙ sym (by_wanted measure (of_track t) e on yes')
+            | inr no' ↦ by_unwanted measure (of_track t) turned (alike ∙ no') ∙ sym (by_unwanted measure (of_track t) e no')
           ]
-          | inr off ↦ by_elsewhere (of_block measure) (of_track t) turned off ∙ sym (by_elsewhere (of_block measure) (of_track t) e off)
+          | inr off ↦ by_elsewhere measure (of_track t) turned off ∙ sym (by_elsewhere measure (of_track t) e off)
         ] in
-        omega (arith, h.sums t measure, by-with_state (of_block measure) (of_track t) s p e es at, part);
+        omega (arith, same_sum measure (offers t), h.sums t measure, by-with_state measure (of_track t) s p e es at, part);
     each = λ t i o there. let its = h.each t i o there in elim (cases_eq o.place p) [
       | inl here ↦
           let one = same_Some e its.entry (sym at ∙ (ap (slice_get es) (sym here) ∙ its.there)) in
@@ -168,20 +164,26 @@ module _ (es : List Entry) (spots : List ℕ) (p : ℕ) (e : Entry) (s : State) 
     room : p < length spots
     room = omega (arith, slice_get_within es p e at, h.one_each)
 
-    given_sums : (t : Track) → AreOffers (offers_at new t) (on_track t (with_state s p es))
+    pushed_sum : (measure : Block → ℕ) (os : List Offer)
+        → sum_by measure (offered_blocks es (os ++ offer_of p e.block ∷ [])) ≡ sum_by measure (offered_blocks es os) + measure e.block
+    pushed_sum measure os = ap (sum_by measure) (map-append (λ o. block_at es o.place) os (offer_of p e.block ∷ []))
+        ∙ (sum_by_push measure (offered_blocks es os) (block_at es p)
+        ∙ ap (λ b. sum_by measure (offered_blocks es os) + measure b) (block_is es p e at))
+
+    given_sums : (t : Track) → AreSameBlocks (offered_blocks (with_state s p es) (offers_at new t)) (wanted_of (on_track t (with_state s p es)))
     given_sums t measure =
-        let change = by-with_state (of_block measure) (of_track t) s p e es at in
-        let none = by_unwanted (of_block measure) (of_track t) e un in
+        let same = same_sum measure (offers_at new t) in
+        let change = by-with_state measure (of_track t) s p e es at in
+        let none = by_unwanted measure (of_track t) e un in
         elim (cases_Bool (same_track track t)) [
           | inl here ↦
-              let own = by_wanted (of_block measure) (of_track t) turned (turned_track track t here) wanted in
-              let sums = ap (sum_by (of_offer measure)) (one_more t here) ∙ sum_by_push (of_offer measure) (offers_at tracks t)
-              (offer_of p e.block) in
-              omega (arith, sums, h.sums t measure, change, none, own)
+              let own = by_wanted measure (of_track t) turned (turned_track track t here) wanted in
+              let sums = ap (λ os. sum_by measure (offered_blocks es os)) (one_more t here) ∙ pushed_sum measure (offers_at tracks t) in
+              omega (arith, same, sums, h.sums t measure, change, none, own)
           | inr other ↦
-              let off = by_elsewhere (of_block measure) (of_track t) turned (turned_other track t other) in
-              let sums = ap (sum_by (of_offer measure)) (as_before t other) in
-              omega (arith, sums, h.sums t measure, change, none, off)
+              let off = by_elsewhere measure (of_track t) turned (turned_other track t other) in
+              let sums = ap (λ os. sum_by measure (offered_blocks es os)) (as_before t other) in
+              omega (arith, same, sums, h.sums t measure, change, none, off)
         ]
 
     old_its : (t : Track) (i : ℕ) (o : Offer) → slice_get (offers_at tracks t) i ≡ Some o → IsItsOffer (with_state s p es)
@@ -273,22 +275,29 @@ module _ (es : List Entry) (spots : List ℕ) (p : ℕ) (e : Entry) (s : State) 
       as_they_were : (t : Track) → same_track own_track t ≡ false → offers_at new t ≡ offers_at tracks t
       as_they_were t other = ap (λ o. o.offers) (unchanged tracks new own_track (without_offer i) changed t other)
 
-      taken_sums : (t : Track) → AreOffers (offers_at new t) (on_track t (with_state s p es))
+      rest_sum : (measure : Block → ℕ) → sum_by measure (offered_blocks es (taken_out i offers)) + measure e.block ≡ sum_by measure (offered_blocks es offers)
+      rest_sum measure =
+          let its = λ (o : Offer). measure (block_at es o.place) in
+          let own = ap its (get_or_from_slice_get offers i (offer_of p e.block) no_offer own_at) ∙ ap measure (block_is es p e at) in
+          ap (λ n. n + measure e.block) (sums-map measure (λ o. block_at es o.place) (taken_out i offers))
+          ∙ (ap (λ n. sum_by its (taken_out i offers) + n) (sym own)
+          ∙ (sum_by-swap_remove its offers i no_offer own_within ∙ sym (sums-map measure (λ o. block_at es o.place) offers)))
+
+      taken_sums : (t : Track) → AreSameBlocks (offered_blocks (with_state s p es) (offers_at new t)) (wanted_of (on_track t (with_state s p es)))
       taken_sums t measure =
-          let change = by-with_state (of_block measure) (of_track t) s p e es at in
-          let none = by_unwanted (of_block measure) (of_track t) turned un in
+          let same = same_sum measure (offers_at new t) in
+          let change = by-with_state measure (of_track t) s p e es at in
+          let none = by_unwanted measure (of_track t) turned un in
           elim (cases_Bool (same_track own_track t)) [
             | inl here ↦
-                let own = by_wanted (of_block measure) (of_track t) e (turned_track own_track t here) was in
-                let sums = ap (sum_by (of_offer measure)) (one_less t here) in
-                let rest = sum_by-swap_remove (of_offer measure) offers i no_offer own_within in
-                let its = ap (of_offer measure) (get_or_from_slice_get offers i (offer_of p e.block) no_offer own_at) in
-                let before = ap (λ u. sum_by (of_offer measure) (offers_at tracks u)) (same_one own_track t here) in
-                omega (arith, sums, rest, its, before, h.sums t measure, change, none, own)
+                let own = by_wanted measure (of_track t) e (turned_track own_track t here) was in
+                let sums = ap (λ os. sum_by measure (offered_blocks es os)) (one_less t here) in
+                let before = ap (λ u. sum_by measure (offered_blocks es (offers_at tracks u))) (same_one own_track t here) in
+                omega (arith, same, sums, rest_sum measure, before, h.sums t measure, change, none, own)
             | inr other ↦
-                let off = by_elsewhere (of_block measure) (of_track t) e (turned_other own_track t other) in
-                let sums = ap (sum_by (of_offer measure)) (as_they_were t other) in
-                omega (arith, sums, h.sums t measure, change, none, off)
+                let off = by_elsewhere measure (of_track t) e (turned_other own_track t other) in
+                let sums = ap (λ os. sum_by measure (offered_blocks es os)) (as_they_were t other) in
+                omega (arith, same, sums, h.sums t measure, change, none, off)
           ]
 
       -- an offer whose block is neither the one that changes nor the one whose offer is moved
@@ -405,23 +414,24 @@ ones : {X : Type 0} (xs : List X) → sum_by (λ x. 1) xs ≡ length xs
 ones [] = refl
 ones (x ∷ xs) = sum_by-cons (λ x. 1) x xs ∙ omega (arith, ones xs)
 
-length-offers : (t : Track) (offers : List Offer) (es : List Entry) → AreOffers offers (on_track t es) → length offers ≡ length
-    (wanted_of (on_track t es))
-length-offers t offers es h = sym (ones offers) ∙ (h (λ a b. 1) ∙ ones (wanted_of (on_track t es)))
+length-offers : (t : Track) (os : List Offer) (es : List Entry) → AreSameBlocks (offered_blocks es os) (wanted_of (on_track t es))
+    → length os ≡ length (wanted_of (on_track t es))
+length-offers t os es h =
+    sym (length-map os (λ o. block_at es o.place)) ∙ (sym (ones (offered_blocks es os)) ∙ (h (λ b. 1) ∙ ones (wanted_of (on_track t es))))
 
 wanted-le : (es : List Entry) → length (wanted_of es) ≤ length es
 wanted-le es = omega (arith, length-map (filter (λ e. is_wanted e.state) es) (λ e. e.block), filter-le (λ e. is_wanted e.state) es)
 
 -- there are no more offers than blocks
-pub offers-few : (t : Track) (offers : List Offer) (es : List Entry) → AreOffers offers (on_track t es) → length es ≤ 16000000
-    → length offers ≤ 16000000
-offers-few t offers es h few = omega (arith, length-offers t offers es h, wanted-le (on_track t es), filter-le (of_track t) es, few)
+pub offers-few : (t : Track) (os : List Offer) (es : List Entry) → AreSameBlocks (offered_blocks es os) (wanted_of (on_track t es))
+    → length es ≤ 16000000 → length os ≤ 16000000
+offers-few t os es h few = omega (arith, length-offers t os es h, wanted-le (on_track t es), filter-le (of_track t) es, few)
 
 -- a block of a track isn't wanted: there are fewer offers than blocks of the track
-pub offers-room : (es : List Entry) (p : ℕ) (e : Entry) (offers : List Offer) → slice_get es p ≡ Some e → is_wanted e.state ≡ false
-    → AreOffers offers (on_track e.block.track es)
-    → length offers < length (places (of_track e.block.track) es)
-offers-room es p e offers at un h =
+pub offers-room : (es : List Entry) (p : ℕ) (e : Entry) (os : List Offer) → slice_get es p ≡ Some e → is_wanted e.state ≡ false
+    → AreSameBlocks (offered_blocks es os) (wanted_of (on_track e.block.track es))
+    → length os < length (places (of_track e.block.track) es)
+offers-room es p e os at un h =
     let t = e.block.track in
     let own : Entry = record { block = e.block; state = Wanted } in
     let all = with_state Wanted p es in
@@ -432,11 +442,8 @@ offers-room es p e offers at un h =
     let count = ones (wanted_of (on_track t all)) in
     let is = ones (wanted_of (on_track t es)) in
     let same = sym (length-places (of_track t) all) ∙ ap length (places-with_state (λ b. same_track t b.track) Wanted p es) in
-    omega (arith, length-offers t offers es h, more, none, one, most, count, is, same)
+    omega (arith, length-offers t os es h, more, none, one, most, count, is, same)
 
 -- the entry that stands for none
 abbrev pub no_entry : Entry
-no_entry = record {
-  block = record { task = 0; index = 0; lbn = 0; count = 0; track = record { cylinder = 0; head = 0 }; weight = 0; sweep = record { begin = 0; length = 0 } };
-  state = Wanted;
-}
+no_entry = record { block = no_block; state = Wanted }

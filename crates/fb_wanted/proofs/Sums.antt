@@ -1,5 +1,7 @@
 -- Sums over the blocks, after a block changes its state.
-use Rattle.std.proofs.Common.{◌≡◌, ℕ, zero, suc, ◌+◌, ◌≤◌, List, [], ◌∷◌, Some, slice_get, ap, arith}
+use Rattle.std.proofs.Common.{◌≡◌, ℕ, zero, suc, ◌+◌, ◌≤◌, List, [], ◌∷◌, Some, map, slice_get, refl, ap, sym, ◌∙◌, arith}
+use Rattle.std.specs.List.{sum_by}
+use Rattle.std.proofs.lemmas.List.Sums.{sum_by-cons}
 use Rattle.std.proofs.lemmas.Option.{same_Some, none-some}
 use Rattle.fb_wanted.specs.declared.block.Entry.{Entry}
 use Rattle.fb_wanted.specs.declared.block.State.{State}
@@ -28,3 +30,8 @@ pub sum-le : (sum other : List Entry → ℕ) → ((x : Entry) (xs : List Entry)
     → sum [] ≤ other [] → ((x : Entry) → sum (x ∷ []) ≤ other (x ∷ [])) → (es : List Entry) → sum es ≤ other es
 sum-le sum other cons cons_other none one [] = none
 sum-le sum other cons cons_other none one (e ∷ es) = omega (arith, cons e es, cons_other e es, one e, sum-le sum other cons cons_other none one es)
+
+-- a sum over what a list is mapped to is one over the list
+pub sums-map : {X Y : Type 0} (f : Y → ℕ) (g : X → Y) (xs : List X) → sum_by f (map g xs) ≡ sum_by (λ x. f (g x)) xs
+sums-map f g [] = refl
+sums-map f g (x ∷ xs) = sum_by-cons f (g x) (map g xs) ∙ (ap (λ n. f (g x) + n) (sums-map f g xs) ∙ sym (sum_by-cons (λ y. f (g y)) x xs))

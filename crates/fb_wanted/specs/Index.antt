@@ -15,8 +15,8 @@ use Rattle.fb_wanted.specs.declared.tasks.OfTask.{OfTask}
 use Rattle.fb_wanted.specs.declared.offer.Offer.{Offer}
 use Rattle.fb_wanted.specs.declared.streaks.Streak.{Streak}
 use Rattle.fb_wanted.specs.Counting.{counts_of, no_counts, recounted}
-use Rattle.fb_wanted.specs.States.{shares, state_after, entry_after, is_wanted, on_track}
-use Rattle.fb_wanted.specs.Offers.{AreOffers, offer_of}
+use Rattle.fb_wanted.specs.States.{shares, state_after, entry_after, is_wanted, on_track, wanted_of}
+use Rattle.fb_wanted.specs.Offers.{AreSameBlocks, offer_of, offered_blocks}
 use Rattle.fb_wanted.specs.Numbering.{AreInOrder, AreSmall, blocks_of}
 use Rattle.fb_wanted.specs.Tracks.{wanted_weight}
 
@@ -172,9 +172,9 @@ pub record IsItsOffer (entries : List Entry) (spots : List ℕ) (track : Track) 
   pub wanted : is_wanted entry.state ≡ true
   pub spot_is : slice_get spots offer.place ≡ Some spot
 
--- the offers of each track are those of its wanted blocks, each of which stands at the block's spot
+-- the offers of each track are those of its wanted blocks, in some order, each of which stands at the block's spot
 pub record AreOffered (entries : List Entry) (offers : Track → List Offer) (spots : List ℕ) : Type 0 where
-  pub sums : (track : Track) → AreOffers (offers track) (on_track track entries)
+  pub sums : (track : Track) → AreSameBlocks (offered_blocks entries (offers track)) (wanted_of (on_track track entries))
   pub each : (track : Track) (i : ℕ) (offer : Offer) → slice_get (offers track) i ≡ Some offer → IsItsOffer entries spots track i offer
   pub all : (place : ℕ) (entry : Entry) → slice_get entries place ≡ Some entry → is_wanted entry.state ≡ true
       → (i : ℕ) × (slice_get spots place ≡ Some i) × (slice_get (offers entry.block.track) i ≡ Some (offer_of place entry.block))

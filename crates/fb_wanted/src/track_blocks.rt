@@ -2,18 +2,19 @@
 ghost use Rattle.std.specs.Prelude.{◌≡◌, ◌*◌, ◌≤◌, ◌<◌, List, Some, length, slice_get};
 ghost use Rattle.std.specs.List.{sum_by};
 ghost use Rattle.fb_wanted.specs.States.{on_track, wanted_of};
-ghost use Rattle.fb_wanted.specs.Offers.{AreOffers};
+ghost use Rattle.fb_wanted.specs.Offers.{AreOffers, AreSameBlocks, AreFound, offered_blocks};
 ghost use Rattle.fb_wanted.specs.Tracks.{wanted_weight};
 ghost use Rattle.fb_wanted.specs.Index.{places, of_track};
 
-use crate::{Entry, Offer};
+use crate::{Entry, Offer, WantedBlocks};
 use fb_units::Track;
 use std::marker::Model;
 
 /// The registered blocks of a track, in order of registration.
 ///
 /// Looking at one of them takes constant time. What the wanted ones offer lies side by side in memory,
-/// so looking at all of that is faster than looking at each block.
+/// so looking at all of that is faster than looking at each block. A walk over the wanted blocks
+/// costs nothing for blocks that aren't wanted.
 #[derive(Drop)]
 pub struct TrackBlocks<'a> {
     track: Track,
@@ -29,8 +30,8 @@ pub struct TrackBlocks<'a> {
 impl<'a> Model for TrackBlocks<'a> {
     ghost use Rattle.std.specs.Prelude.{◌≡◌, ◌*◌, ◌≤◌, List, length};
     ghost use Rattle.fb_wanted.specs.declared.block.Entry.{Entry};
-    ghost use Rattle.fb_wanted.specs.States.{on_track};
-    ghost use Rattle.fb_wanted.specs.Offers.{AreOffers};
+    ghost use Rattle.fb_wanted.specs.States.{on_track, wanted_of};
+    ghost use Rattle.fb_wanted.specs.Offers.{AreSameBlocks, AreFound, offered_blocks};
     ghost use Rattle.fb_wanted.specs.Tracks.{wanted_weight};
     ghost use Rattle.fb_wanted.specs.Index.{places, of_track};
 
@@ -42,7 +43,8 @@ impl<'a> Model for TrackBlocks<'a> {
         × (length t.entries.now ≤ 16000000)
         × (t.weight ≡ wanted_weight t.track t.entries.now)
         × (t.weight ≤ 16000000 * 2048000)
-        × AreOffers t.offers.now (on_track t.track t.entries.now) };
+        × AreSameBlocks (offered_blocks t.entries.now t.offers.now) (wanted_of (on_track t.track t.entries.now))
+        × AreFound t.entries.now t.offers.now };
 }
 
 impl<'a> TrackBlocks<'a> {
@@ -58,7 +60,8 @@ impl<'a> TrackBlocks<'a> {
         requires few { length entries.now ≤ 16000000 }
         requires weight { weight ≡ wanted_weight track entries.now }
         requires small { weight ≤ 16000000 * 2048000 }
-        requires offers { AreOffers offers.now (on_track track entries.now) }
+        requires blocks { AreSameBlocks (offered_blocks entries.now offers.now) (wanted_of (on_track track entries.now)) }
+        requires found { AreFound entries.now offers.now }
         ensures { result ≡ on_track track entries.now }
     {
         TrackBlocks {
@@ -102,5 +105,12 @@ impl<'a> TrackBlocks<'a> {
     {
         let _ = &self.entries;
         self.offers
+    }
+
+    /// The wanted blocks, in any order, that of their offers.
+    pub fn wanted(&self) -> WantedBlocks<'a>
+        ensures { AreSameBlocks result (wanted_of self.now) }
+    {
+        WantedBlocks::new(self.entries, self.offers)
     }
 }

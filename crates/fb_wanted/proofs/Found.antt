@@ -1,0 +1,94 @@
+-- Offers and their blocks, each found by its index among all registered ones.
+use Rattle.std.proofs.Common.{◌≡◌, ℕ, suc, ◌+◌, ◌*◌, ◌<◌, List, [], ◌∷◌, ◌++◌, Some, length, option_map, slice_get, get_or, refl, ap, sym, ◌∙◌, arith}
+use Rattle.std.specs.List.{sum_by}
+use Rattle.std.proofs.lemmas.List.{length-map}
+use Rattle.std.proofs.lemmas.List.Sums.{sum_by-cons}
+use Rattle.std.proofs.lemmas.Option.{same_Some, slice_get_within, slice_get-get_or, slice_get-map, get_or_from_slice_get}
+use Rattle.fb_units.specs.declared.types.Sweep.{Sweep}
+use Rattle.fb_units.specs.declared.types.Track.{Track}
+use Rattle.fb_wanted.specs.declared.block.Block.{Block}
+use Rattle.fb_wanted.specs.declared.block.Entry.{Entry}
+use Rattle.fb_wanted.specs.declared.offer.Offer.{Offer}
+use Rattle.fb_wanted.specs.Numbering.{blocks_of}
+use Rattle.fb_wanted.specs.Offers.{AreOffers, AreSameBlocks, AreFound, offer_of, offered_blocks, no_block}
+use Rattle.fb_wanted.specs.States.{on_track, wanted_of}
+use Rattle.fb_wanted.specs.Index.{AreOffered}
+use Rattle.fb_wanted.proofs.Kept.{same_one}
+use Rattle.fb_wanted.proofs.Numbers.{block_there, blocks-more}
+use Rattle.fb_wanted.proofs.Spots.{at_left}
+
+-- the block at an index among all
+abbrev pub block_at : List Entry → ℕ → Block
+block_at es place = get_or (blocks_of es) place no_block
+
+pub block_is : (es : List Entry) (p : ℕ) (e : Entry) → slice_get es p ≡ Some e → block_at es p ≡ e.block
+block_is es p e at = get_or_from_slice_get (blocks_of es) p e.block no_block (block_there es p e at)
+
+-- each offer of a track is what the block at its index offers
+pub found_each : (es : List Entry) (offers : Track → List Offer) (spots : List ℕ) (t : Track) → AreOffered es offers spots
+    → AreFound es (offers t)
+found_each es offers spots t h i o at =
+    let its = h.each t i o at in
+    let own = h.all o.place its.entry its.there its.wanted in
+    let same : own.0 ≡ i = same_Some own.0 i (sym own.1 ∙ its.spot_is) in
+    let here : slice_get (offers t) i ≡ Some (offer_of o.place its.entry.block)
+    = ap (slice_get (offers t)) (sym same) ∙ (ap (λ u. slice_get (offers u) own.0) (sym (same_one its.entry.block.track t its.on)) ∙ own.2) in
+    (its.entry.block, block_there es o.place its.entry its.there, same_Some o (offer_of o.place its.entry.block) (sym at ∙ here))
+
+-- with one more block the offers are still of the same blocks
+pub blocks_still : (es : List Entry) (e : Entry) (os : List Offer) → AreFound es os → offered_blocks (es ++ e ∷ []) os ≡ offered_blocks es os
+blocks_still es e [] found = refl
+blocks_still es e (o ∷ os) found =
+    let its = found 0 o refl in
+    let was = get_or_from_slice_get (blocks_of es) o.place its.0 no_block its.1 in
+    let there = ap (λ bs. slice_get bs o.place) (blocks-more es e) ∙ at_left (blocks_of es) e.block its.0 o.place its.1 in
+    let is = get_or_from_slice_get (blocks_of (es ++ e ∷ [])) o.place its.0 no_block there in
+    ap (λ b. b ∷ offered_blocks (es ++ e ∷ []) os) (is ∙ sym was)
+    ∙ ap (λ l. block_at es o.place ∷ l) (blocks_still es e os (λ i x at. found (suc i) x at))
+
+-- the offers add to each sum what their blocks do
+as_blocks : (measure : Sweep → ℕ → ℕ) (es : List Entry) (os : List Offer) → AreFound es os
+    → sum_by (λ (o : Offer). measure o.sweep o.worth) os ≡ sum_by (λ (b : Block). measure b.sweep (b.weight * b.count)) (offered_blocks es os)
+as_blocks measure es [] found = refl
+as_blocks measure es (o ∷ os) found =
+    let its = found 0 o refl in
+    let was = get_or_from_slice_get (blocks_of es) o.place its.0 no_block its.1 in
+    let one : measure o.sweep o.worth ≡ measure (block_at es o.place).sweep ((block_at es o.place).weight * (block_at es o.place).count)
+    = ap (λ (x : Offer). measure x.sweep x.worth) its.2 ∙ ap (λ (b : Block). measure b.sweep (b.weight * b.count)) (sym was) in
+    sum_by-cons (λ (x : Offer). measure x.sweep x.worth) o os
+    ∙ (ap (λ n. n + sum_by (λ (x : Offer). measure x.sweep x.worth) os) one
+    ∙ (ap (λ n. measure (block_at es o.place).sweep ((block_at es o.place).weight * (block_at es o.place).count) + n)
+    (as_blocks measure es os (λ i x at. found (suc i) x at))
+    ∙ sym (sum_by-cons (λ (b : Block). measure b.sweep (b.weight * b.count)) (block_at es o.place) (offered_blocks es os))))
+
+pub are_offers : (t : Track) (es : List Entry) (os : List Offer) → AreSameBlocks (offered_blocks es os) (wanted_of (on_track t es))
+    → AreFound es os → AreOffers os (on_track t es)
+are_offers t es os same found measure = as_blocks measure es os found ∙ same (λ b. measure b.sweep (b.weight * b.count))
+
+-- the i-th of the blocks of offers
+module _ (es : List Entry) (os : List Offer) (i : ℕ) (d : Offer) (found : AreFound es os) (room : i < length (offered_blocks es os)) where
+  pub offer_there : i < length os
+  offer_there = omega (arith, room, length-map os (λ o. block_at es o.place))
+
+  here : slice_get os i ≡ Some (get_or os i d)
+  here = slice_get-get_or os i d offer_there
+
+  its : (b : Block) × (slice_get (blocks_of es) (get_or os i d).place ≡ Some b) × (get_or os i d ≡ offer_of (get_or os i d).place b)
+  its = found i (get_or os i d) here
+
+  listed : slice_get (offered_blocks es os) i ≡ Some (block_at es (get_or os i d).place)
+  listed = slice_get-map (λ o. block_at es o.place) os i ∙ ap (option_map (λ o. block_at es o.place)) here
+
+  pub entry_there : (get_or os i d).place < length es
+  entry_there = omega (arith, slice_get_within (blocks_of es) (get_or os i d).place its.0 its.1, length-map es (λ e. e.block))
+
+  pub block_read : (e : Entry) → slice_get (offered_blocks es os) i ≡ Some (get_or es (get_or os i d).place e).block
+  block_read e =
+      let p = (get_or os i d).place in
+      listed ∙ ap (λ b. Some b) (block_is es p (get_or es p e) (slice_get-get_or es p e entry_there))
+
+  pub sweep_read : (b : Block) → slice_get (offered_blocks es os) i ≡ Some b → (get_or os i d).sweep ≡ b.sweep
+  sweep_read b at =
+      let p = (get_or os i d).place in
+      let same = sym (get_or_from_slice_get (blocks_of es) p its.0 no_block its.1) ∙ same_Some (block_at es p) b (sym listed ∙ at) in
+      ap (λ (o : Offer). o.sweep) its.2 ∙ ap (λ (x : Block). x.sweep) same
