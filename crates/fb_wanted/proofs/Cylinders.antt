@@ -14,12 +14,12 @@ greatest_still tracks was is h stay longer = record {
   there = omega (arith, h.there, longer);
 }
 
--- the bounds hold too of tracks with the same weights
+-- the bounds hold too of tracks with the same weights, if each cylinder has one
 pub greatest_same : (tracks new : List (List OnTrack)) (greatest : List ℕ) → AreGreatest tracks greatest
-    → ((t : Track) → (track_at new t).weight ≡ (track_at tracks t).weight) → length new ≡ length tracks → AreGreatest new greatest
-greatest_same tracks new greatest h same size = record {
+    → ((t : Track) → weight_kept new t ≡ weight_kept tracks t) → length new ≤ length greatest → AreGreatest new greatest
+greatest_same tracks new greatest h same there = record {
   weights = λ t. subst (λ n. n ≤ get_or greatest t.cylinder 0) (sym (same t)) (h.weights t);
-  there = omega (arith, h.there, size);
+  there = there;
 }
 
 -- the bounds after the weight of one track has changed

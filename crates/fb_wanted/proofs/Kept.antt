@@ -10,12 +10,13 @@ use Rattle.fb_wanted.specs.declared.block.Counts.{Counts}
 use Rattle.fb_wanted.specs.declared.tasks.OfTask.{OfTask}
 use Rattle.fb_wanted.specs.Counting.{counts_of, no_counts, recounted}
 use Rattle.fb_wanted.specs.Numbering.{AreInOrder, AreSmall, blocks_of, registered}
+use Rattle.fb_wanted.specs.States.{is_wanted}
 use Rattle.fb_wanted.specs.Tracks.{wanted_weight}
 use Rattle.fb_wanted.specs.Index.{OnTrack, of_task, of_track, places, grown, reweighed, no_blocks, grown_task, counted_anew, kept_of_task, track_at, weight_kept, offers_at, IsKept, IsChanged, with_state}
 use Rattle.fb_wanted.proofs.Standing.{length-with_state, items-with_state, blocks-with_state, places-with_state, places-more_yes, places-more_no}
 use Rattle.fb_wanted.proofs.Numbers.{numbered-more, small-more}
 use Rattle.fb_wanted.proofs.Counted.{counts-grown, counts-grown_other, counts-with_state, counts-with_other}
-use Rattle.fb_wanted.proofs.Weights.{weight-append, weight-with_state, weight_elsewhere, weight_at}
+use Rattle.fb_wanted.proofs.Weights.{weight-append, weight-with_state, weight_elsewhere, weight_unwanted, weight_at}
 
 pub same_one : (a b : Track) → same_track a b ≡ true → a ≡ b
 same_one a b h =
@@ -187,67 +188,49 @@ module _ (e : Entry) (es : List Entry) (tasks newtasks : List OfTask) (tracks ne
     | inr other ↦ changed ∙ rw other (kept ∙ more_other task other)
   ]
 
-  abbrev added : OnTrack → OnTrack
-  added = grown (length es) (wanted_weight e.block.track (e ∷ []))
-
   more_places : (t : Track) → (track_at tracks t).places ≡ places (of_track t) es
-      → IsChanged tracks new e.block.track (grown (length es) (wanted_weight e.block.track (e ∷ [])))
-      → (track_at new t).places ≡ places (of_track t) (es ++ e ∷ [])
+      → IsChanged tracks new e.block.track (grown (length es)) → (track_at new t).places ≡ places (of_track t) (es ++ e ∷ [])
   more_places t kept changed = elim (cases_Bool (same_track e.block.track t)) [
     | inl here ↦
         let on : same_track t e.block.track ≡ true = ap (λ u. same_track t u) (same_one e.block.track t here) ∙ same_itself t in
-        ap (λ o. o.places) (changed_here tracks new e.block.track added changed t here) ∙ (ap (λ l. l ++ length es ∷ []) kept ∙ sym
-        (places-more_yes (of_track t) es e on))
+        ap (λ o. o.places) (changed_here tracks new e.block.track (grown (length es)) changed t here)
+        ∙ (ap (λ l. l ++ length es ∷ []) kept ∙ sym (places-more_yes (of_track t) es e on))
     | inr other ↦
-        ap (λ o. o.places) (unchanged tracks new e.block.track added changed t other) ∙ (kept ∙ sym (places-more_no (of_track t) es e
-        (same_turned e.block.track t other)))
+        ap (λ o. o.places) (unchanged tracks new e.block.track (grown (length es)) changed t other)
+        ∙ (kept ∙ sym (places-more_no (of_track t) es e (same_turned e.block.track t other)))
   ]
 
-  more_weight : (t : Track) → weight_kept tracks t ≡ wanted_weight t es
-      → IsChanged tracks new e.block.track (grown (length es) (wanted_weight e.block.track (e ∷ [])))
-      → weight_kept new t ≡ wanted_weight t (es ++ e ∷ [])
-  more_weight t kept changed = elim (cases_Bool (same_track e.block.track t)) [
-    | inl here ↦
-        let gained = ap (λ u. wanted_weight u (e ∷ [])) (same_one e.block.track t here) in
-        let is : weight_kept new t ≡ weight_kept tracks t + wanted_weight e.block.track (e ∷ []) = ap (λ o. o.weight)
-        (changed_here tracks new e.block.track added changed t here) in
-        omega (arith, is, kept, gained, weight-append t es (e ∷ []))
-    | inr other ↦
-        let off = same_turned e.block.track t other in
-        let is : weight_kept new t ≡ weight_kept tracks t = ap (λ o. o.weight) (unchanged tracks new e.block.track added changed t other) in
-        omega (arith, is, kept, weight-append t es (e ∷ []), weight_elsewhere t e off)
-  ]
+  more_weight : (t : Track) → is_wanted e.state ≡ false → weight_kept tracks t ≡ wanted_weight t es
+      → IsChanged tracks new e.block.track (grown (length es)) → weight_kept new t ≡ wanted_weight t (es ++ e ∷ [])
+  more_weight t un kept changed =
+      let same = changed_weight tracks new e.block.track (grown (length es)) (λ o. refl) changed t in
+      omega (arith, same, kept, weight-append t es (e ∷ []), weight_unwanted t e un)
 
-  pub kept_more : IsKept es tasks tracks → e.block.index ≡ registered e.block.task (blocks_of es) → length es < 16000000
-      → e.block.weight ≤ 1000 → e.block.count ≤ 2048
+  kept_more : IsKept es tasks tracks → e.block.index ≡ registered e.block.task (blocks_of es) → length es < 16000000
+      → e.block.weight ≤ 1000 → e.block.count ≤ 2048 → is_wanted e.state ≡ false
       → ((task : ℕ) → get_or newtasks task no_blocks ≡ (if e.block.task == task then grown_task (length es) e
       (get_or tasks task no_blocks) else get_or tasks task no_blocks))
-      → ((t : Track) → track_at new t ≡ (if same_track e.block.track t then grown (length es) (wanted_weight e.block.track (e ∷ []))
-      (track_at tracks t) else track_at tracks t))
-      → IsKept (es ++ e ∷ []) newtasks new
-  kept_more h free room light short by_task by_track = record {
+      → IsChanged tracks new e.block.track (grown (length es)) → IsKept (es ++ e ∷ []) newtasks new
+  kept_more h free room light short un by_task by_track = record {
     in_order = numbered-more es e h.in_order free;
     few = omega (arith, room, length-append es (e ∷ []));
     small = small-more es e h.small light short;
     index = record {
       by_task = λ task. more_of_task task (h.index.by_task task) (by_task task);
       by_track = λ t. more_places t (h.index.by_track t) by_track;
-      by_weight = λ t. more_weight t (h.index.by_weight t) by_track;
+      by_weight = λ t. more_weight t un (h.index.by_weight t) by_track;
     };
   }
 
-  -- the indexes after a block is added at the end
+  -- the indexes after a block is added at the end that isn't wanted
   pub kept_pushed : (items : List Entry) (place : ℕ) → items ≡ es ++ e ∷ [] → place ≡ length es
       → IsKept es tasks tracks → e.block.index ≡ registered e.block.task (blocks_of es) → length es < 16000000
-      → e.block.weight ≤ 1000 → e.block.count ≤ 2048
+      → e.block.weight ≤ 1000 → e.block.count ≤ 2048 → is_wanted e.state ≡ false
       → ((task : ℕ) → get_or newtasks task no_blocks ≡ (if e.block.task == task then grown_task place e
       (get_or tasks task no_blocks) else get_or tasks task no_blocks))
-      → ((t : Track) → track_at new t ≡ (if same_track e.block.track t then grown place (wanted_weight e.block.track (e ∷ []))
-      (track_at tracks t) else track_at tracks t))
-      → IsKept items newtasks new
-  kept_pushed items place list is h free room light short by_task by_track =
-      subst (λ l. IsKept l newtasks new) (sym list) (kept_more h free room light short
+      → IsChanged tracks new e.block.track (grown place) → IsKept items newtasks new
+  kept_pushed items place list is h free room light short un by_task by_track =
+      subst (λ l. IsKept l newtasks new) (sym list) (kept_more h free room light short un
       (subst (λ p. (task : ℕ) → get_or newtasks task no_blocks ≡ (if e.block.task == task then grown_task p e
       (get_or tasks task no_blocks) else get_or tasks task no_blocks)) is by_task)
-      (subst (λ p. (t : Track) → track_at new t ≡ (if same_track e.block.track t then grown p (wanted_weight e.block.track (e ∷ []))
-      (track_at tracks t) else track_at tracks t)) is by_track))
+      (subst (λ p. IsChanged tracks new e.block.track (grown p)) is by_track))

@@ -87,6 +87,9 @@ weight-with_state t s n e es at = by-with_state (λ (b : Block). b.weight * b.co
 pub weight_elsewhere : (t : Track) (e : Entry) → same_track t e.block.track ≡ false → wanted_weight t (e ∷ []) ≡ 0
 weight_elsewhere t e other = by_elsewhere (λ (b : Block). b.weight * b.count) (of_track t) e other
 
+pub weight_unwanted : (t : Track) (e : Entry) → is_wanted e.state ≡ false → wanted_weight t (e ∷ []) ≡ 0
+weight_unwanted t e un = by_unwanted (λ (b : Block). b.weight * b.count) (of_track t) e un
+
 pub weight_at : (t : Track) (n : ℕ) (e : Entry) (es : List Entry) → slice_get es n ≡ Some e → wanted_weight t (e ∷ []) ≤ wanted_weight t es
 weight_at t n e es at = by_at (λ (b : Block). b.weight * b.count) (of_track t) n e es at
 

@@ -61,9 +61,9 @@ pub record OnTrack : Type 0 where
 abbrev pub no_block_on : OnTrack
 no_block_on = record { places = []; weight = 0; offers = [] }
 
--- a track with one more block, which isn't offered
-abbrev pub grown : ℕ → ℕ → OnTrack → OnTrack
-grown place weight on = record { places = on.places ++ place ∷ []; weight = on.weight + weight; offers = on.offers }
+-- a track with one more block, which isn't wanted
+abbrev pub grown : ℕ → OnTrack → OnTrack
+grown place on = record { places = on.places ++ place ∷ []; weight = on.weight; offers = on.offers }
 
 -- a track whose weight is without `lost` and with `gained`
 abbrev pub reweighed : ℕ → ℕ → OnTrack → OnTrack

@@ -1,5 +1,5 @@
 // The index of the registered blocks of one cylinder's tracks.
-ghost use Rattle.std.specs.Prelude.{◌≡◌, ℕ, ◌≤◌, ◌<◌, ◌+◌, ◌-◌, ◌^◌, ◌==◌, ◌∷◌, ◌++◌, [], List, IfSome, IfNone, IfOk, OnOk, OnErr, length, get_or, if◌then◌else◌};
+ghost use Rattle.std.specs.Prelude.{◌≡◌, ℕ, ◌≤◌, ◌<◌, ◌+◌, ◌-◌, ◌^◌, ◌==◌, ◌∷◌, ◌++◌, [], List, IfSome, IfNone, OnOk, OnErr, length, get_or, if◌then◌else◌};
 ghost use Rattle.fb_wanted.specs.Index.{grown, reweighed, with_offer, without_offer, last_of, no_block_on, IsHeadChanged};
 
 use crate::Offer;
@@ -23,26 +23,18 @@ impl Model for Heads {
     ghost view = { λ h. h.items.items };
 }
 
-// Adds a block to a track, and returns the wanted weight of the track afterwards. Out of memory,
-// it returns `NoMemory` and no track has changed.
-fn add_to(
-    tracks: &mut Vec<OnTrack>,
-    alloc: Global,
-    head: u32,
-    place: u32,
-    weight: u64,
-) -> Result<u64, NoMemory>
-    requires { (get_or tracks.old.items head no_block_on).weight + weight < 2 ^ 64 }
-    ensures ok { OnOk result (IsHeadChanged tracks.old.items tracks.new.items head (grown place weight)) }
-    ensures weight { IfOk result (λ kept. kept ≡ (get_or tracks.new.items head no_block_on).weight) }
+// Adds a block that isn't wanted to a track. Out of memory, it returns `NoMemory` and no track has
+// changed.
+fn add_to(tracks: &mut Vec<OnTrack>, alloc: Global, head: u32, place: u32) -> Result<(), NoMemory>
+    ensures ok { OnOk result (IsHeadChanged tracks.old.items tracks.new.items head (grown place)) }
     ensures err { OnErr result ((h : ℕ) → get_or tracks.new.items h no_block_on ≡ get_or tracks.old.items h no_block_on) }
 {
     let head = head as usize;
     for _ in tracks.len()..head + 1 {
         tracks.push(OnTrack::new(alloc))?;
     }
-    tracks[head].add(place, weight)?;
-    Ok(tracks[head].weight())
+    tracks[head].add(place)?;
+    Ok(())
 }
 
 // Takes `lost` from the wanted weight of a track and adds `gained`, and returns the weight
@@ -81,21 +73,13 @@ impl Heads {
         }
     }
 
-    /// Adds a block to the track of a head, and returns the wanted weight of the track afterwards.
-    /// Out of memory, it returns `NoMemory` and no track has changed.
-    pub fn add(
-        &mut self,
-        alloc: Global,
-        head: u32,
-        place: u32,
-        weight: u64,
-    ) -> Result<u64, NoMemory>
-        requires { (get_or self.old head no_block_on).weight + weight < 2 ^ 64 }
-        ensures ok { OnOk result (IsHeadChanged self.old self.new head (grown place weight)) }
-        ensures weight { IfOk result (λ kept. kept ≡ (get_or self.new head no_block_on).weight) }
+    /// Adds a block that isn't wanted to the track of a head. Out of memory, it returns `NoMemory`
+    /// and no track has changed.
+    pub fn add(&mut self, alloc: Global, head: u32, place: u32) -> Result<(), NoMemory>
+        ensures ok { OnOk result (IsHeadChanged self.old self.new head (grown place)) }
         ensures err { OnErr result ((h : ℕ) → get_or self.new h no_block_on ≡ get_or self.old h no_block_on) }
     {
-        add_to(&mut self.items, alloc, head, place, weight)
+        add_to(&mut self.items, alloc, head, place)
     }
 
     /// Takes `lost` from the wanted weight of a head's track and adds `gained`, and returns the

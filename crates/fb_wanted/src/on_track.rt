@@ -42,18 +42,15 @@ impl OnTrack {
         }
     }
 
-    /// Adds a block without an offer. Out of memory, it returns `NoMemory` and nothing has changed.
-    pub fn add(&mut self, place: u32, weight: u64) -> Result<(), NoMemory>
-        requires { self.old.weight + weight < 2 ^ 64 }
-        ensures ok { OnOk result (self.new ≡ grown place weight self.old) }
+    /// Adds a block that isn't wanted. Out of memory, it returns `NoMemory` and nothing has changed.
+    pub fn add(&mut self, place: u32) -> Result<(), NoMemory>
+        ensures ok { OnOk result (self.new ≡ grown place self.old) }
         ensures err { OnErr result (self.new ≡ self.old) }
     {
         let blocks = self.places.len() + 1;
         self.offers
             .reserve(blocks.saturating_sub(self.offers.len()))?;
-        self.places.push(place)?;
-        self.weight += weight;
-        Ok(())
+        self.places.push(place)
     }
 
     /// Takes `lost` from the wanted weight and adds `gained`.

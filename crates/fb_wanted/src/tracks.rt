@@ -1,5 +1,5 @@
 // The index of the registered blocks by track.
-ghost use Rattle.std.specs.Prelude.{◌≡◌, ℕ, ◌≤◌, ◌<◌, ◌+◌, ◌-◌, ◌^◌, ◌∷◌, ◌++◌, [], List, IfSome, IfNone, IfOk, OnOk, OnErr, length, get_or, if◌then◌else◌};
+ghost use Rattle.std.specs.Prelude.{◌≡◌, ℕ, ◌≤◌, ◌<◌, ◌+◌, ◌-◌, ◌^◌, ◌∷◌, ◌++◌, [], List, IfSome, IfNone, OnOk, OnErr, length, get_or, if◌then◌else◌};
 ghost use Rattle.fb_units.specs.declared.types.Track.{Track};
 ghost use Rattle.fb_units.specs.Tracks.{same_track};
 ghost use Rattle.fb_wanted.specs.Index.{track_at, offers_at, weight_kept, last_of, no_block_on, IsThere, IsChanged};
@@ -64,23 +64,15 @@ impl Tracks {
         }
     }
 
-    /// Adds a block to a track, and returns the wanted weight of the track afterwards. Out of
-    /// memory, it returns `NoMemory` and no track has changed.
-    pub fn add(
-        &mut self,
-        alloc: Global,
-        track: Track,
-        place: u32,
-        weight: u64,
-    ) -> Result<u64, NoMemory>
-        requires { weight_kept self.old track + weight < 2 ^ 64 }
-        ensures ok { OnOk result (IsChanged self.old self.new track (grown place weight)) }
-        ensures weight { IfOk result (λ kept. kept ≡ weight_kept self.new track) }
+    /// Adds a block that isn't wanted to a track. Out of memory, it returns `NoMemory` and no track
+    /// has changed.
+    pub fn add(&mut self, alloc: Global, track: Track, place: u32) -> Result<(), NoMemory>
+        ensures ok { OnOk result (IsChanged self.old self.new track (grown place)) }
         ensures err { OnErr result ((t : Track) → track_at self.new t ≡ track_at self.old t) }
         ensures no_longer { (n : ℕ) → length self.old ≤ n → track.cylinder < n → length self.new ≤ n }
     {
         add_cylinders(&mut self.cylinders, alloc, track.cylinder)?;
-        self.cylinders[track.cylinder as usize].add(alloc, track.head, place, weight)
+        self.cylinders[track.cylinder as usize].add(alloc, track.head, place)
     }
 
     /// Takes `lost` from the wanted weight of a track and adds `gained`, and returns the weight

@@ -1,6 +1,6 @@
 // The registered blocks, in order of registration, with their indexes by task, by track, by
 // cylinder, by band of cylinders, by chunk and by region of LBNs.
-ghost use Rattle.std.specs.Prelude.{◌≡◌, List, suc, Bool, true, false, ◌+◌, ◌-◌, ◌<◌, ◌≤◌, ℕ, [], ◌∷◌, ◌++◌, ◌*◌, ◌/◌, length, filter, map, IfOk, OnOk, OnErr, IfSome, IfNone, Some, slice_get, get_or, ◌==◌, if◌then◌else◌};
+ghost use Rattle.std.specs.Prelude.{◌≡◌, List, suc, Bool, true, false, ◌+◌, ◌-◌, ◌<◌, ◌≤◌, ℕ, [], ◌∷◌, ◌++◌, ◌*◌, ◌/◌, length, filter, map, OnOk, OnErr, IfSome, IfNone, Some, slice_get, get_or, ◌==◌, if◌then◌else◌};
 ghost use Rattle.fb_wanted.specs.declared.block.Block.{Block};
 ghost use Rattle.fb_wanted.specs.declared.block.Entry.{Entry};
 ghost use Rattle.fb_wanted.specs.States.{after, shares, entry_after, is_abortable, is_wanted, wanted_unless, on_track, is_block};
@@ -9,7 +9,7 @@ ghost use Rattle.fb_wanted.specs.Counting.{counts_of, sum_of, Fit};
 ghost use Rattle.fb_wanted.specs.Tracks.{wanted_weight};
 ghost use Rattle.fb_wanted.specs.Depth.{depth_at};
 ghost use Rattle.fb_wanted.specs.Near.{near_of, SharesNone};
-ghost use Rattle.fb_wanted.specs.Index.{places, of_task, lbns, region_of, HasChanged, IsStable, IsWithin, changed_where, with_state, change_nth, track_at, grown, weight_kept, no_blocks, grown_task, IsChanged};
+ghost use Rattle.fb_wanted.specs.Index.{places, of_task, lbns, region_of, HasChanged, IsStable, IsWithin, changed_where, with_state, change_nth, track_at, grown, no_blocks, grown_task, IsChanged};
 ghost use Rattle.fb_units.specs.declared.types.Track.{Track};
 ghost use Rattle.fb_units.specs.Tracks.{same_track};
 
@@ -89,33 +89,28 @@ impl Model for Wanted {
         × AreOffered w.entries.items (offers_at w.tracks) w.spots.items };
 }
 
-// Adds a block that is to be registered to the indexes by task and by track, and returns the wanted
-// weight of its track afterwards. Out of memory, it returns `NoMemory` and no index has changed.
+// Adds a block that is to be registered, and isn't wanted yet, to the indexes by task and by track.
+// Out of memory, it returns `NoMemory` and no index has changed.
 fn add_to_index(
     tasks: &mut Vec<OfTask>,
     tracks: &mut Tracks,
     alloc: Global,
     place: u32,
     entry: Entry,
-) -> Result<u64, NoMemory>
-    requires light { entry.block.weight ≤ 1000 }
-    requires short { entry.block.count ≤ 2048 }
-    requires room { weight_kept tracks.old entry.block.track ≤ 16000000 * 2048000 }
-    requires few { Fit (sum_of (get_or tasks.old.items entry.block.task no_blocks).counts (counts_of entry.block.task (entry ∷ []))) }
+) -> Result<(), NoMemory>
+    requires { Fit (sum_of (get_or tasks.old.items entry.block.task no_blocks).counts (counts_of entry.block.task (entry ∷ []))) }
     ensures tasks { OnOk result ((k : ℕ) → get_or tasks.new.items k no_blocks ≡ (if entry.block.task == k then grown_task place entry (get_or tasks.old.items k no_blocks) else get_or tasks.old.items k no_blocks)) }
-    ensures tracks { let weight = wanted_weight entry.block.track (entry ∷ []) in
-        OnOk result (IsChanged tracks.old tracks.new entry.block.track (grown place weight)) }
-    ensures weight { IfOk result (λ kept. kept ≡ weight_kept tracks.new entry.block.track) }
+    ensures tracks { OnOk result (IsChanged tracks.old tracks.new entry.block.track (grown place)) }
     ensures tasks_stay { OnErr result ((k : ℕ) → get_or tasks.new.items k no_blocks ≡ get_or tasks.old.items k no_blocks) }
     ensures no_longer { (n : ℕ) → length tracks.old ≤ n → entry.block.track.cylinder < n → length tracks.new ≤ n }
     ensures tracks_stay { OnErr result ((t : Track) → track_at tracks.new t ≡ track_at tracks.old t) }
 {
     let block = entry.block;
     add_place(tasks, alloc, block.task, place)?;
-    match tracks.add(alloc, block.track, place, weight_of(entry)) {
-        Ok(weight) => {
+    match tracks.add(alloc, block.track, place) {
+        Ok(()) => {
             recount(tasks, block.task, no_counts(), counts_of(entry));
-            Ok(weight)
+            Ok(())
         }
         Err(error) => {
             take_place_back(tasks, block.task);
@@ -315,8 +310,7 @@ impl Wanted {
         add_bands(&mut self.depths, band, NO_DEPTH)?;
         note_streak(&mut self.streaks, block.task, streak, begins_streak)?;
         match add_to_index(&mut self.tasks, &mut self.tracks, self.alloc, place, entry) {
-            Ok(weight) => {
-                update_greatest(&mut self.greatest, &self.tracks, block.track, weight, 0);
+            Ok(()) => {
                 deepen(&mut self.depths, band, block);
                 self.longest = self.longest.max(block.count);
                 self.spots.push(0)?;

@@ -1,8 +1,7 @@
-use Rattle.std.proofs.Common.{◌≡◌, ℕ, List, Some, false, ◌<◌, ◌≤◌, ◌-◌, get_or, arith, ◌∙◌, ◌++◌, ◌∷◌, [], ap, sym, refl, subst, length, filter, slice_get}
+use Rattle.std.proofs.Common.{◌≡◌, ℕ, List, Some, false, ◌<◌, ◌-◌, arith, ◌∙◌, ◌++◌, ◌∷◌, [], ap, sym, refl, subst, length, filter, slice_get}
 use Rattle.std.proofs.lemmas.List.{length-map}
 use Rattle.fb_wanted.specs.declared.block.Block.{Block}
 use Rattle.fb_wanted.specs.declared.block.Entry.{Entry}
-use Rattle.fb_wanted.specs.Tracks.{wanted_weight}
 use Rattle.fb_wanted.specs.Near.{near_of, AreNear}
 use Rattle.fb_wanted.specs.Numbering.{blocks_of, registered}
 use Rattle.fb_wanted.specs.Depth.{AreDeep}
@@ -10,10 +9,10 @@ use Rattle.fb_wanted.specs.Index.{of_task, lbns, grown, offers_at, AreNoted, Are
 use Rattle.fb_wanted.specs.declared.block.State.TheVariants.{Suspended}
 use Rattle.fb_wanted.proofs.Offering.{offered_still, offered_pushed}
 use Rattle.fb_wanted.proofs.Numbers.{task-blocks}
-use Rattle.fb_wanted.proofs.Reading.{counts_room, weight_small}
-use Rattle.fb_wanted.proofs.Kept.{kept_pushed, changed_offers}
+use Rattle.fb_wanted.proofs.Reading.{counts_room}
+use Rattle.fb_wanted.proofs.Kept.{kept_pushed, changed_weight, changed_offers}
 use Rattle.fb_wanted.proofs.Noting.{noted_more, noted_back, short_more}
-use Rattle.fb_wanted.proofs.Cylinders.{greatest_still, others_within, greatest_settled}
+use Rattle.fb_wanted.proofs.Cylinders.{greatest_still, greatest_same}
 use Rattle.fb_wanted.proofs.Deep.{deep_room, deep_still, deep_pushed}
 use Rattle.fb_wanted.proofs.Nearby.{near_pushed, near_still}
 use Rattle.fb_wanted.proofs.wanted.Wanted.add.Goals as goal
@@ -24,29 +23,8 @@ its_number block es free = free ∙ (ap length (task-blocks block.task es) ∙ l
 pub begins_streak-begins_streak-requires : goal.begins_streak-begins_streak-requires
 begins_streak-begins_streak-requires c = its_number c.args.block c.args.self.now c.requires.numbered
 
-pub add_to_index-requires-clause-room : goal.add_to_index-requires-clause-room
-add_to_index-requires-clause-room c = weight_small c.self.inside.entries.items c.self.inside.tasks.items c.self.inside.tracks c.self.invariant.0 c.args.block.track
-
-pub add_to_index-requires-clause-few : goal.add_to_index-requires-clause-few
-add_to_index-requires-clause-few c = counts_room c.self.inside.entries.items c.self.inside.tasks.items c.self.inside.tracks c.self.invariant.0 c.args.block.task (record { block = c.args.block; state = Suspended }) _ refl
-
-pub update_greatest-requires : goal.update_greatest-requires
-update_greatest-requires c =
-    let items = c.self.inside.entries.items in
-    let task = c.args.block.task in
-    let entry : Entry = record { block = c.args.block; state = Suspended } in
-    let free = c.requires.numbered ∙ ap (λ es. registered task (blocks_of es)) (sym c.self.view_is) in
-    let room = subst (λ es. length es < 16000000) (sym c.self.view_is) c.requires.room in
-    let place = c.len-place.ensures ∙ c.self.inside.entries.ok.0 in
-    let roomy = greatest_still c.self.inside.tracks c.self.inside.greatest c.add_room.new.self c.self.invariant.2 c.in_ok-add_room.ensures.stay c.in_ok-add_room.ensures.longer in
-    let kept = kept_pushed entry items c.self.inside.tasks.items c.add_to_index.new.tasks.items c.self.inside.tracks c.add_to_index.new.tracks (items ++ entry ∷ []) c.len-place.result refl place c.self.invariant.0 free room c.requires.light c.requires.short
-    c.in-Ok.ensures.tasks c.in-Ok.ensures.tracks in
-    record {
-      weight = c.in-Ok.ensures.weight;
-      there = c.in_ok-add_room.ensures.there;
-      small = weight_small (items ++ entry ∷ []) c.add_to_index.new.tasks.items c.add_to_index.new.tracks kept;
-      others = others_within c.self.inside.tracks c.add_to_index.new.tracks c.args.block.track (grown c.len-place.result (wanted_weight c.args.block.track (entry ∷ []))) c.add_room.new.self roomy c.in-Ok.ensures.tracks;
-    }
+pub add_to_index-requires : goal.add_to_index-requires
+add_to_index-requires c = counts_room c.self.inside.entries.items c.self.inside.tasks.items c.self.inside.tracks c.self.invariant.0 c.args.block.task (record { block = c.args.block; state = Suspended }) _ refl
 
 pub deepen-requires-clause-room : goal.deepen-requires-clause-room
 deepen-requires-clause-room c =
@@ -68,14 +46,15 @@ invariant_of-self-in-Ok c =
     let next = its_number c.args.block items free in
     let roomy = greatest_still c.self.inside.tracks c.self.inside.greatest c.add_room.new.self c.self.invariant.2 c.in_ok-add_room.ensures.stay c.in_ok-add_room.ensures.longer in (
       kept_pushed entry items c.self.inside.tasks.items c.add_to_index.new.tasks.items c.self.inside.tracks c.add_to_index.new.tracks c.push-in-Ok.new.self.items c.len-place.result list place c.self.invariant.0 free room c.requires.light c.requires.short
-          c.in-Ok.ensures.tasks c.in-Ok.ensures.tracks,
+          refl c.in-Ok.ensures.tasks c.in-Ok.ensures.tracks,
       subst (λ l. AreNoted l c.note_streak.new.streaks) (sym list)
           (noted_more items task c.region_of.result c.args.block.index c.self.inside.streaks c.note_streak.new.streaks c.begins_streak-begins_streak.result c.self.invariant.1 next c.in_ok-note_streak.ensures.stay c.in_ok-note_streak.ensures.more entry refl (sym c.region_of.ensures)
           c.in_ok-note_streak.ensures.noted
           (λ old. let it = c.begins_streak-begins_streak.ensures.same old in (it.0, it.1, ap (λ es. slice_get (lbns task es) (c.args.block.index - 1)) c.self.view_is ∙ it.2, it.3 ∙ sym c.region_of.ensures))
           (λ new i before to at same. c.begins_streak-begins_streak.ensures.new new i before to (ap (λ es. slice_get (lbns task es) i) (sym c.self.view_is) ∙ at) (same ∙ c.region_of.ensures))),
-      greatest_settled c.self.inside.tracks c.add_to_index.new.tracks c.args.block.track (grown c.len-place.result (wanted_weight c.args.block.track (entry ∷ []))) c.add_room.new.self roomy c.in-Ok.ensures.tracks
-          c.update_greatest.new.greatest (c.in-Ok.ensures.no_longer (length c.add_room.new.self) roomy.there c.in_ok-add_room.ensures.there) c.update_greatest.ensures.length c.update_greatest.ensures.weights,
+      greatest_same c.self.inside.tracks c.add_to_index.new.tracks c.add_room.new.self roomy
+          (changed_weight c.self.inside.tracks c.add_to_index.new.tracks c.args.block.track (grown c.len-place.result) (λ o. refl) c.in-Ok.ensures.tracks)
+          (c.in-Ok.ensures.no_longer (length c.add_room.new.self) roomy.there c.in_ok-add_room.ensures.there),
       deep_pushed items c.push-in-Ok.new.self.items entry c.band_of-band.result c.add_bands.new.bands.items c.deepen.new.depths.items list c.band_of-band.ensures c.requires.light
           (deep_still items c.self.inside.depths.items c.add_bands.new.bands.items c.self.invariant.3 c.in_ok-add_bands.ensures.stay) c.deepen.ensures,
       near_pushed items c.push-in-Ok.new.self.items entry c.self.inside.near c.note.new.notes c.chunk_of-chunk.result c.is_new_near-is_new.result list c.self.invariant.4 c.in_ok-note.ensures.stay c.chunk_of-chunk.ensures
@@ -85,7 +64,7 @@ invariant_of-self-in-Ok c =
           (subst (λ l. AreOffered (items ++ entry ∷ []) (offers_at c.add_to_index.new.tracks) l) (sym spots)
           (offered_pushed items (offers_at c.add_to_index.new.tracks) c.self.inside.spots.items entry 0
           (offered_still items (offers_at c.self.inside.tracks) (offers_at c.add_to_index.new.tracks) c.self.inside.spots.items c.self.invariant.6
-          (changed_offers c.self.inside.tracks c.add_to_index.new.tracks c.args.block.track (grown c.len-place.result (wanted_weight c.args.block.track (entry ∷ []))) (λ o. refl) c.in-Ok.ensures.tracks)) refl)),
+          (changed_offers c.self.inside.tracks c.add_to_index.new.tracks c.args.block.track (grown c.len-place.result) (λ o. refl) c.in-Ok.ensures.tracks)) refl)),
     )
 
 -- out of memory for the index by task or by track: what was noted is taken back
@@ -111,10 +90,8 @@ invariant_of-self-in-Err c =
       subst (λ es. AreNoted es c.forget_streak.new.streaks) list
           (noted_back items c.args.block.task c.region_of.result c.args.block.index c.self.inside.streaks c.note_streak.new.streaks c.begins_streak-begins_streak.result c.self.invariant.1 next c.in_ok-note_streak.ensures.stay c.in_ok-note_streak.ensures.more
           c.forget_streak.new.streaks c.forget_streak.ensures.gone c.forget_streak.ensures.only c.forget_streak.ensures.others),
-      record {
-        weights = λ t. subst (λ on. on.weight ≤ get_or c.add_room.new.self t.cylinder 0) (sym (stay.tracks_stay t)) (roomy.weights t);
-        there = stay.no_longer (length c.add_room.new.self) roomy.there c.in_ok-add_room.ensures.there;
-      },
+      greatest_same c.self.inside.tracks c.add_to_index.new.tracks c.add_room.new.self roomy (λ t. ap (λ o. o.weight) (stay.tracks_stay t))
+          (stay.no_longer (length c.add_room.new.self) roomy.there c.in_ok-add_room.ensures.there),
       subst (λ es. AreDeep es c.add_bands.new.bands.items) list (deep_still items c.self.inside.depths.items c.add_bands.new.bands.items c.self.invariant.3 c.in_ok-add_bands.ensures.stay),
       subst (λ es. AreNear es c.note.new.notes) list (near_still items c.self.inside.near c.note.new.notes c.self.invariant.4 c.in_ok-note.ensures.stay),
       subst (AreShort c.self.inside.longest) list c.self.invariant.5,

@@ -79,7 +79,7 @@ update_greatest-requires c =
     let here = slice_get_read items (length items) c.args.place c.index-entry.result.now refl there c.index-entry.ensures in
     let mid = c.reoffer.new.tracks in
     let kept_mid = kept_still items c.self.inside.tasks.items c.self.inside.tracks mid c.self.invariant.0 c.reoffer.ensures.places c.reoffer.ensures.weights in
-    let greatest_mid = greatest_same c.self.inside.tracks mid c.self.inside.greatest c.self.invariant.2 c.reoffer.ensures.weights c.reoffer.ensures.length in
+    let greatest_mid = greatest_same c.self.inside.tracks mid c.self.inside.greatest c.self.invariant.2 c.reoffer.ensures.weights (omega (arith, c.reoffer.ensures.length, c.self.invariant.2.there)) in
     let kept = kept_set c.args.state c.args.place c.index-entry.result.now items mid c.reweigh-weight.new.self here c.self.inside.tasks.items c.recount.new.tasks.items c.counts_of.result c.counts_of-2.result
     c.weight_of-lost.result c.weight_of-gained.result kept_mid c.counts_of.ensures c.counts_of-2.ensures c.weight_of-lost.ensures.value c.weight_of-gained.ensures.value c.recount.ensures c.reweigh-weight.ensures.tracks in
     record {
@@ -98,7 +98,7 @@ invariant_of-self c =
     let here = slice_get_read items (length items) c.args.place c.index-entry.result.now refl there c.index-entry.ensures in
     let mid = c.reoffer.new.tracks in
     let kept_mid = kept_still items c.self.inside.tasks.items c.self.inside.tracks mid c.self.invariant.0 c.reoffer.ensures.places c.reoffer.ensures.weights in
-    let greatest_mid = greatest_same c.self.inside.tracks mid c.self.inside.greatest c.self.invariant.2 c.reoffer.ensures.weights c.reoffer.ensures.length in
+    let greatest_mid = greatest_same c.self.inside.tracks mid c.self.inside.greatest c.self.invariant.2 c.reoffer.ensures.weights (omega (arith, c.reoffer.ensures.length, c.self.invariant.2.there)) in
     let change = reweighed c.weight_of-lost.result c.weight_of-gained.result in
     let track = c.index-entry.result.now.block.track in
     let offered = subst (λ l. AreOffered (with_state c.args.state c.args.place l)
