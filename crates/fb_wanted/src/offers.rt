@@ -4,7 +4,6 @@ ghost use Rattle.fb_units.specs.declared.types.Track.{Track};
 ghost use Rattle.fb_units.specs.Tracks.{same_track};
 ghost use Rattle.fb_wanted.specs.Numbering.{AreSmall, blocks_of};
 ghost use Rattle.fb_wanted.specs.Offers.{offer_of};
-ghost use Rattle.fb_wanted.specs.States.{is_wanted};
 ghost use Rattle.fb_wanted.specs.Index.{track_at, offers_at, with_offer, without_offer, last_of, with_state, places, of_track};
 ghost use Rattle.fb_wanted.specs.Index.{AreOffered, IsChanged, IsThere};
 
@@ -12,15 +11,6 @@ use crate::offer::offer_of;
 use crate::tracks::Tracks;
 use crate::{Block, Entry, State};
 use fb_units::Track;
-
-fn is_wanted(state: State) -> bool
-    ensures { result ≡ is_wanted state }
-{
-    match state {
-        State::Wanted => true,
-        _ => false,
-    }
-}
 
 // Offers a block that isn't offered.
 fn give(tracks: &mut Tracks, spots: &mut Vec<u32>, place: u32, block: Block)
@@ -73,11 +63,11 @@ pub fn reoffer(
     ensures length { length tracks.new ≡ length tracks.old }
 {
     let entry = entries[place as usize];
-    if is_wanted(entry.state) {
-        if !is_wanted(state) {
+    if entry.state.is_wanted() {
+        if !state.is_wanted() {
             take_away(tracks, spots, entry.block.track, spots[place as usize]);
         }
-    } else if is_wanted(state) {
+    } else if state.is_wanted() {
         give(tracks, spots, place, entry.block);
     }
 }
