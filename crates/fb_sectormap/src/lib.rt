@@ -5,7 +5,7 @@
 //! of all places that hold data; LBNs rise with the cylinder; the cutting of a range is one
 //! definition, and each block passes whole within one rotation. So they work with LBNs alone, and
 //! ask nobody for zones, spares or defects. Only `SectorMap::new` allocates. Nothing here knows of
-//! time.
+//! instants.
 #![tactic(auto)]
 
 mod cut;
