@@ -1,5 +1,5 @@
 // Sectors that follow one another in a turn of a track, with their LBNs.
-ghost use Rattle.std.specs.Prelude.{◌≡◌, ◌+◌, ◌-◌, ◌*◌, ◌%◌, ◌<◌, length};
+ghost use Rattle.std.specs.Prelude.{◌≡◌, ◌↔◌, ◌+◌, ◌-◌, ◌*◌, ◌%◌, ◌<◌, ◌≤◌, length, true};
 ghost use Rattle.fb_geometry.specs.Shape.{slots_at, IsTrackOf};
 ghost use Rattle.fb_geometry.specs.Places.{places};
 ghost use Rattle.fb_sectormap.specs.Lookup.{place_at};
@@ -17,6 +17,15 @@ pub struct Span {
     pub first: u64,
     /// The place of the first sector, and how many sectors there are.
     pub stretch: Stretch,
+}
+
+impl Span {
+    /// Whether it has this sector.
+    pub fn has(&self, lbn: u64) -> bool
+        ensures { (result ≡ true) ↔ ((self.now.first ≤ lbn) × (lbn < self.now.first + self.now.stretch.count)) }
+    {
+        self.first <= lbn && lbn - self.first < self.stretch.count as u64
+    }
 }
 
 // The number modulo n, for a number less than twice n.
@@ -48,7 +57,7 @@ impl SectorMap {
         ensures track { IsTrackOf self.now result.track }
         ensures slot { result.slot < slots_at self.now.zones result.track.cylinder }
     {
-        if lbn < span.first || lbn - span.first >= span.stretch.count as u64 {
+        if !span.has(lbn) {
             return self.place(lbn);
         }
         let place = span.stretch.place;
