@@ -1,11 +1,11 @@
 -- The upper bounds of the weights of tracks, by cylinder and by band.
-use Rattle.std.proofs.Common.{◌≡◌, ℕ, ◌/◌, ◌<◌, ◌≤◌, inl, inr, List, false, if◌then◌else◌, length, get_or, set, refl, ap, sym, ◌∙◌, arith, subst}
+use Rattle.std.proofs.Common.{◌≡◌, ℕ, ◌/◌, ◌<◌, ◌≤◌, inl, inr, List, false, length, get_or, set, refl, ap, sym, ◌∙◌, arith, subst}
 use Rattle.std.proofs.lemmas.Bool.{cases_eq}
 use Rattle.std.proofs.lemmas.Grind.{get_or-set_at}
 use Rattle.std.proofs.lemmas.List.{get_or-set_other, length-set}
 use Rattle.fb_units.specs.declared.types.Track.{Track}
 use Rattle.fb_units.specs.Tracks.{same_track}
-use Rattle.fb_wanted.specs.Index.{OnTrack, track_at, weight_kept, AreGreatest, AreBands}
+use Rattle.fb_wanted.specs.Index.{OnTrack, track_at, weight_kept, AreGreatest, AreBands, IsChanged}
 
 -- the bounds hold too with room for more cylinders
 pub greatest_still : (tracks : List (List OnTrack)) (was is : List ℕ) → AreGreatest tracks was → ((c : ℕ) → get_or is c 0 ≡ get_or was c 0) → length was ≤ length is → AreGreatest tracks is
@@ -24,7 +24,7 @@ greatest_same tracks new greatest h same there = record {
 
 -- the bounds after the weight of one track has changed
 module _ (old new : List (List OnTrack)) (track : Track) (change : OnTrack → OnTrack) (was : List ℕ) (h : AreGreatest old was)
-    (changed : (t : Track) → track_at new t ≡ (if same_track track t then change (track_at old t) else track_at old t)) where
+    (changed : IsChanged old new track change) where
   elsewhere : (t : Track) → same_track track t ≡ false → track_at new t ≡ track_at old t
   elsewhere t other = changed t ∙ rw other refl
 

@@ -1,5 +1,5 @@
 -- The indexes beside the list of registered blocks, after a block is registered or changes its state.
-use Rattle.std.proofs.Common.{◌≡◌, ℕ, ◌+◌, ◌-◌, ◌<◌, ◌≤◌, inl, inr, ◌==◌, List, [], ◌∷◌, ◌++◌, Some, true, false, if◌then◌else◌, length, length-append, slice_get, get_or, set, refl, ap, sym, ◌∙◌, arith, subst}
+use Rattle.std.proofs.Common.{◌≡◌, ℕ, ◌+◌, ◌-◌, ◌<◌, ◌≤◌, inl, inr, ◌==◌, List, [], ◌∷◌, ◌++◌, Some, true, false, length, length-append, slice_get, get_or, set, refl, ap, sym, ◌∙◌, arith, subst}
 use Rattle.std.proofs.lemmas.Bool.{cases_Bool}
 use Rattle.std.proofs.lemmas.Bool.Decides.{nat_tests}
 use Rattle.fb_units.specs.declared.types.Track.{Track}
@@ -12,7 +12,7 @@ use Rattle.fb_wanted.specs.Counting.{counts_of, no_counts, recounted}
 use Rattle.fb_wanted.specs.Numbering.{AreInOrder, AreSmall, blocks_of, registered}
 use Rattle.fb_wanted.specs.States.{is_wanted}
 use Rattle.fb_wanted.specs.Tracks.{wanted_weight}
-use Rattle.fb_wanted.specs.Index.{OnTrack, of_task, of_track, places, grown, reweighed, no_blocks, grown_task, counted_anew, kept_of_task, track_at, weight_kept, offers_at, IsKept, IsChanged, with_state}
+use Rattle.fb_wanted.specs.Index.{OnTrack, of_task, of_track, places, grown, reweighed, no_blocks, grown_task, counted_anew, kept_of_task, track_at, weight_kept, offers_at, IsKept, IsChanged, IsTaskChanged, with_state}
 use Rattle.fb_wanted.proofs.Standing.{length-with_state, items-with_state, blocks-with_state, places-with_state, places-more_yes, places-more_no}
 use Rattle.fb_wanted.proofs.Numbers.{numbered-more, small-more}
 use Rattle.fb_wanted.proofs.Counted.{counts-grown, counts-grown_other, counts-with_state, counts-with_other}
@@ -117,12 +117,9 @@ module _ (s : State) (n : ℕ) (e : Entry) (es : List Entry) (tracks new : List 
   kept_other : (task : ℕ) → (e.block.task == task) ≡ false → kept_of_task task es ≡ kept_of_task task (with_state s n es)
   kept_other task other = same_blocks _ _ (sym (places-with_state (λ b. b.task == task) s n es)) (counts-with_other task s n e es at other)
 
-  pub kept_turned : (tasks more : List OfTask) → IsKept es tasks tracks
-      → ((k : ℕ) → get_or more k no_blocks ≡ (if e.block.task == k then counted_anew (counts_of e.block.task (e ∷ []))
-      (counts_of e.block.task (turned ∷ [])) (get_or tasks k no_blocks) else get_or tasks k no_blocks))
-      → ((t : Track) → track_at new t ≡ (if same_track e.block.track t then reweighed (wanted_weight e.block.track (e ∷ []))
-      (wanted_weight e.block.track (turned ∷ [])) (track_at tracks t) else track_at tracks t))
-      → IsKept (with_state s n es) more new
+  kept_turned : (tasks more : List OfTask) → IsKept es tasks tracks
+      → IsTaskChanged tasks more e.block.task (counted_anew (counts_of e.block.task (e ∷ [])) (counts_of e.block.task (turned ∷ [])))
+      → IsChanged tracks new e.block.track change → IsKept (with_state s n es) more new
   kept_turned tasks more h counted changed = record {
     in_order = subst AreInOrder (sym (blocks-with_state s n es)) h.in_order;
     few = omega (arith, length-with_state s n es, h.few);
@@ -145,27 +142,13 @@ module _ (s : State) (n : ℕ) (e : Entry) (es : List Entry) (tracks new : List 
 
   -- the indexes after a block is written with its new state
   pub kept_set : (tasks more : List OfTask) (was is : Counts) (lost gained : ℕ) → IsKept es tasks tracks
-      → was ≡ counts_of e.block.task (e ∷ []) → is ≡ counts_of e.block.task (turned ∷ []) → lost ≡ wanted_weight e.block.track
-      (e ∷ []) → gained ≡ wanted_weight e.block.track (turned ∷ [])
-      → ((k : ℕ) → get_or more k no_blocks ≡ (if e.block.task == k then counted_anew was is
-      (get_or tasks k no_blocks) else get_or tasks k no_blocks))
-      → ((t : Track) → track_at new t ≡ (if same_track e.block.track t then reweighed lost gained
-      (track_at tracks t) else track_at tracks t))
+      → was ≡ counts_of e.block.task (e ∷ []) → is ≡ counts_of e.block.task (turned ∷ [])
+      → lost ≡ wanted_weight e.block.track (e ∷ []) → gained ≡ wanted_weight e.block.track (turned ∷ [])
+      → IsTaskChanged tasks more e.block.task (counted_anew was is) → IsChanged tracks new e.block.track (reweighed lost gained)
       → IsKept (set es n turned) more new
   kept_set tasks more was is lost gained h before after loses gains counted changed =
-      let counts : (k : ℕ) → get_or more k no_blocks ≡ (if e.block.task == k then counted_anew (counts_of e.block.task (e ∷ []))
-      (counts_of e.block.task (turned ∷ [])) (get_or tasks k no_blocks) else get_or tasks k no_blocks)
-      = λ k. counted k
-      ∙ (ap (λ x. if e.block.task == k then counted_anew x is (get_or tasks k no_blocks) else get_or tasks k no_blocks) before
-      ∙ ap (λ x. if e.block.task == k then counted_anew (counts_of e.block.task (e ∷ [])) x
-      (get_or tasks k no_blocks) else get_or tasks k no_blocks) after) in
-      let weights : (t : Track) → track_at new t ≡ (if same_track e.block.track t then reweighed (wanted_weight e.block.track
-      (e ∷ [])) (wanted_weight e.block.track (turned ∷ [])) (track_at tracks t) else track_at tracks t)
-      = λ t. changed t
-      ∙ (ap (λ l. if same_track e.block.track t then reweighed l gained (track_at tracks t) else track_at tracks t) loses
-      ∙ ap (λ g. if same_track e.block.track t then reweighed (wanted_weight e.block.track (e ∷ [])) g
-      (track_at tracks t) else track_at tracks t) gains) in
-      subst (λ l. IsKept l more new) (sym (items-with_state s n e es at)) (kept_turned tasks more h counts weights)
+      subst (λ l. IsKept l more new) (sym (items-with_state s n e es at))
+      (kept_turned tasks more h (λ k. counted k ∙ rw (before, after) refl) (λ t. changed t ∙ rw (loses, gains) refl))
 
 module _ (e : Entry) (es : List Entry) (tasks newtasks : List OfTask) (tracks new : List (List OnTrack)) where
   more_own : (task : ℕ) (blocks : OfTask) → (e.block.task == task) ≡ true → blocks ≡ kept_of_task task es → grown_task
@@ -180,12 +163,11 @@ module _ (e : Entry) (es : List Entry) (tasks newtasks : List OfTask) (tracks ne
   more_other task other = same_blocks _ _ (sym (places-more_no (of_task task) es e other)) (counts-grown_other task es e other)
 
   more_of_task : (task : ℕ) → get_or tasks task no_blocks ≡ kept_of_task task es
-      → get_or newtasks task no_blocks ≡ (if e.block.task == task then grown_task (length es) e
-      (get_or tasks task no_blocks) else get_or tasks task no_blocks)
+      → IsTaskChanged tasks newtasks e.block.task (grown_task (length es) e)
       → get_or newtasks task no_blocks ≡ kept_of_task task (es ++ e ∷ [])
   more_of_task task kept changed = elim (cases_Bool (e.block.task == task)) [
-    | inl own ↦ changed ∙ rw own (more_own task (get_or tasks task no_blocks) own kept)
-    | inr other ↦ changed ∙ rw other (kept ∙ more_other task other)
+    | inl own ↦ changed task ∙ rw own (more_own task (get_or tasks task no_blocks) own kept)
+    | inr other ↦ changed task ∙ rw other (kept ∙ more_other task other)
   ]
 
   more_places : (t : Track) → (track_at tracks t).places ≡ places (of_track t) es
@@ -208,15 +190,14 @@ module _ (e : Entry) (es : List Entry) (tasks newtasks : List OfTask) (tracks ne
 
   kept_more : IsKept es tasks tracks → e.block.index ≡ registered e.block.task (blocks_of es) → length es < 16000000
       → e.block.weight ≤ 1000 → e.block.count ≤ 2048 → is_wanted e.state ≡ false
-      → ((task : ℕ) → get_or newtasks task no_blocks ≡ (if e.block.task == task then grown_task (length es) e
-      (get_or tasks task no_blocks) else get_or tasks task no_blocks))
+      → IsTaskChanged tasks newtasks e.block.task (grown_task (length es) e)
       → IsChanged tracks new e.block.track (grown (length es)) → IsKept (es ++ e ∷ []) newtasks new
   kept_more h free room light short un by_task by_track = record {
     in_order = numbered-more es e h.in_order free;
     few = omega (arith, room, length-append es (e ∷ []));
     small = small-more es e h.small light short;
     index = record {
-      by_task = λ task. more_of_task task (h.index.by_task task) (by_task task);
+      by_task = λ task. more_of_task task (h.index.by_task task) by_task;
       by_track = λ t. more_places t (h.index.by_track t) by_track;
       by_weight = λ t. more_weight t un (h.index.by_weight t) by_track;
     };
@@ -226,11 +207,9 @@ module _ (e : Entry) (es : List Entry) (tasks newtasks : List OfTask) (tracks ne
   pub kept_pushed : (items : List Entry) (place : ℕ) → items ≡ es ++ e ∷ [] → place ≡ length es
       → IsKept es tasks tracks → e.block.index ≡ registered e.block.task (blocks_of es) → length es < 16000000
       → e.block.weight ≤ 1000 → e.block.count ≤ 2048 → is_wanted e.state ≡ false
-      → ((task : ℕ) → get_or newtasks task no_blocks ≡ (if e.block.task == task then grown_task place e
-      (get_or tasks task no_blocks) else get_or tasks task no_blocks))
+      → IsTaskChanged tasks newtasks e.block.task (grown_task place e)
       → IsChanged tracks new e.block.track (grown place) → IsKept items newtasks new
   kept_pushed items place list is h free room light short un by_task by_track =
       subst (λ l. IsKept l newtasks new) (sym list) (kept_more h free room light short un
-      (subst (λ p. (task : ℕ) → get_or newtasks task no_blocks ≡ (if e.block.task == task then grown_task p e
-      (get_or tasks task no_blocks) else get_or tasks task no_blocks)) is by_task)
+      (subst (λ p. IsTaskChanged tasks newtasks e.block.task (grown_task p e)) is by_task)
       (subst (λ p. IsChanged tracks new e.block.track (grown p)) is by_track))

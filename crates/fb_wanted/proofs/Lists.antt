@@ -1,5 +1,5 @@
 -- Lists of lists.
-use Rattle.std.proofs.Common.{◌≡◌, ℕ, ◌≤◌, inl, inr, ◌==◌, List, [], ◌∷◌, true, false, Result, Ok, Err, OnErr, if◌then◌else◌, get_or, refl, ap, ◌∙◌, arith}
+use Rattle.std.proofs.Common.{◌≡◌, ℕ, ◌≤◌, inl, inr, ◌==◌, List, [], ◌∷◌, true, false, Result, Ok, Err, OnErr, get_or, refl, ap, ◌∙◌, arith}
 use Rattle.std.specs.Ordering.{is_gt}
 use Rattle.std.proofs.lemmas.Bool.{cases_Bool}
 use Rattle.std.proofs.lemmas.Bool.Decides.{nat_tests}
@@ -7,7 +7,7 @@ use Rattle.fb_wanted.specs.declared.block.Counts.{Counts}
 use Rattle.fb_wanted.specs.declared.block.Entry.{Entry}
 use Rattle.fb_wanted.specs.declared.tasks.OfTask.{OfTask}
 use Rattle.fb_wanted.specs.Counting.{counts_of, no_counts}
-use Rattle.fb_wanted.specs.Index.{pair_cmp, no_blocks, joined, counted_anew, grown_task}
+use Rattle.fb_wanted.specs.Index.{IsTaskChanged, pair_cmp, no_blocks, joined, counted_anew, grown_task}
 
 pub on_err : {T E P : Type 0} (r : Result T E) → P → OnErr r P
 on_err (Ok x) p = tt
@@ -15,8 +15,8 @@ on_err (Err e) p = p
 
 -- if the index that was added last to a task is removed again, all tasks are as before
 pub taken_back : (old one two : List OfTask) (n place : ℕ)
-    → ((k : ℕ) → get_or one k no_blocks ≡ (if n == k then joined place (get_or old k no_blocks) else get_or old k no_blocks))
-    → ((blocks : OfTask) (last : ℕ) → get_or one n no_blocks ≡ joined last blocks → (k : ℕ) → get_or two k no_blocks ≡ (if n == k then blocks else get_or one k no_blocks))
+    → IsTaskChanged old one n (joined place)
+    → ((blocks : OfTask) (last : ℕ) → get_or one n no_blocks ≡ joined last blocks → IsTaskChanged one two n (λ _. blocks))
     → (k : ℕ) → get_or two k no_blocks ≡ get_or old k no_blocks
 taken_back old one two n place added back k =
     let itself : (n == n) ≡ true = grind (arith, nat_tests) in
@@ -27,10 +27,9 @@ taken_back old one two n place added back k =
     ]
 
 -- the index of a block is added to its task, and the block is counted
-pub joined_counted : (old one two : List OfTask) (place : ℕ) (e : Entry) (lost gained : Counts) → lost ≡ no_counts → gained ≡ counts_of e.block.task (e ∷ [])
-    → ((k : ℕ) → get_or one k no_blocks ≡ (if e.block.task == k then joined place (get_or old k no_blocks) else get_or old k no_blocks))
-    → ((k : ℕ) → get_or two k no_blocks ≡ (if e.block.task == k then counted_anew lost gained (get_or one k no_blocks) else get_or one k no_blocks))
-    → (k : ℕ) → get_or two k no_blocks ≡ (if e.block.task == k then grown_task place e (get_or old k no_blocks) else get_or old k no_blocks)
+pub joined_counted : (old one two : List OfTask) (place : ℕ) (e : Entry) (lost gained : Counts) → lost ≡ no_counts
+    → gained ≡ counts_of e.block.task (e ∷ []) → IsTaskChanged old one e.block.task (joined place)
+    → IsTaskChanged one two e.block.task (counted_anew lost gained) → IsTaskChanged old two e.block.task (grown_task place e)
 joined_counted old one two place e lost gained none more added counted k = elim (cases_Bool (e.block.task == k)) [
   | inl here ↦
       let blocks = joined place (get_or old k no_blocks) in

@@ -47,6 +47,11 @@ counted_anew lost gained blocks = record { places = blocks.places; counts = reco
 abbrev pub grown_task : ℕ → Entry → OfTask → OfTask
 grown_task place entry blocks = counted_anew no_counts (counts_of entry.block.task (entry ∷ [])) (joined place blocks)
 
+-- what is kept of a task has changed so, and of no other task
+abbrev pub IsTaskChanged : List OfTask → List OfTask → ℕ → (OfTask → OfTask) → Type 0
+IsTaskChanged old new task change = (k : ℕ)
+    → get_or new k no_blocks ≡ (if task == k then change (get_or old k no_blocks) else get_or old k no_blocks)
+
 -- what the index has for a task
 abbrev pub kept_of_task : ℕ → List Entry → OfTask
 kept_of_task task entries = record { places = places (of_task task) entries; counts = counts_of task entries }

@@ -1,7 +1,7 @@
 // The index of the registered blocks by task.
-ghost use Rattle.std.specs.Prelude.{◌≡◌, ℕ, ◌<◌, ◌∷◌, ◌++◌, [], List, length, get_or, OnOk, OnErr, if◌then◌else◌, ◌==◌};
+ghost use Rattle.std.specs.Prelude.{◌≡◌, ℕ, ◌<◌, length, get_or, OnOk, OnErr};
 ghost use Rattle.fb_wanted.specs.Counting.{sum_of, AreNoMore, Fit};
-ghost use Rattle.fb_wanted.specs.Index.{no_blocks, joined, counted_anew};
+ghost use Rattle.fb_wanted.specs.Index.{IsTaskChanged, no_blocks, joined, counted_anew};
 
 use crate::Counts;
 use crate::counting::{no_counts, recounted};
@@ -26,7 +26,7 @@ pub fn add_place(
     task: u32,
     place: u32,
 ) -> Result<(), NoMemory>
-    ensures ok { OnOk result ((k : ℕ) → get_or tasks.new.items k no_blocks ≡ (if task == k then joined place (get_or tasks.old.items k no_blocks) else get_or tasks.old.items k no_blocks)) }
+    ensures ok { OnOk result (IsTaskChanged tasks.old.items tasks.new.items task (joined place)) }
     ensures there { OnOk result (task < length tasks.new.items) }
     ensures err { OnErr result ((k : ℕ) → get_or tasks.new.items k no_blocks ≡ get_or tasks.old.items k no_blocks) }
 {
@@ -43,7 +43,8 @@ pub fn add_place(
 
 /// Removes the last index of the task.
 pub fn take_place_back(tasks: &mut Vec<OfTask>, task: u32)
-    ensures { (blocks : OfTask) (last : ℕ) → get_or tasks.old.items task no_blocks ≡ joined last blocks → (k : ℕ) → get_or tasks.new.items k no_blocks ≡ (if task == k then blocks else get_or tasks.old.items k no_blocks) }
+    ensures { (blocks : OfTask) (last : ℕ) → get_or tasks.old.items task no_blocks ≡ joined last blocks
+        → IsTaskChanged tasks.old.items tasks.new.items task (λ _. blocks) }
 {
     let task = task as usize;
     if task < tasks.len() {
@@ -56,7 +57,7 @@ pub fn recount(tasks: &mut Vec<OfTask>, task: u32, lost: Counts, gained: Counts)
     requires there { task < length tasks.old.items }
     requires part { AreNoMore lost (get_or tasks.old.items task no_blocks).counts }
     requires room { Fit (sum_of (get_or tasks.old.items task no_blocks).counts gained) }
-    ensures { (k : ℕ) → get_or tasks.new.items k no_blocks ≡ (if task == k then counted_anew lost gained (get_or tasks.old.items k no_blocks) else get_or tasks.old.items k no_blocks) }
+    ensures { IsTaskChanged tasks.old.items tasks.new.items task (counted_anew lost gained) }
 {
     let blocks = &mut tasks[task as usize];
     blocks.counts = recounted(blocks.counts, lost, gained);

@@ -9,7 +9,7 @@ ghost use Rattle.fb_wanted.specs.Counting.{counts_of, sum_of, Fit};
 ghost use Rattle.fb_wanted.specs.Tracks.{wanted_weight};
 ghost use Rattle.fb_wanted.specs.Depth.{depth_at};
 ghost use Rattle.fb_wanted.specs.Near.{near_of, SharesNone};
-ghost use Rattle.fb_wanted.specs.Index.{places, of_task, lbns, region_of, HasChanged, IsStable, IsWithin, changed_where, with_state, change_nth, track_at, grown, no_blocks, grown_task, IsChanged};
+ghost use Rattle.fb_wanted.specs.Index.{places, of_task, lbns, region_of, HasChanged, IsStable, IsWithin, changed_where, with_state, change_nth, track_at, grown, no_blocks, grown_task, IsChanged, IsTaskChanged};
 ghost use Rattle.fb_units.specs.declared.types.Track.{Track};
 ghost use Rattle.fb_units.specs.Tracks.{same_track};
 
@@ -99,7 +99,7 @@ fn add_to_index(
     entry: Entry,
 ) -> Result<(), NoMemory>
     requires { Fit (sum_of (get_or tasks.old.items entry.block.task no_blocks).counts (counts_of entry.block.task (entry ∷ []))) }
-    ensures tasks { OnOk result ((k : ℕ) → get_or tasks.new.items k no_blocks ≡ (if entry.block.task == k then grown_task place entry (get_or tasks.old.items k no_blocks) else get_or tasks.old.items k no_blocks)) }
+    ensures tasks { OnOk result (IsTaskChanged tasks.old.items tasks.new.items entry.block.task (grown_task place entry)) }
     ensures tracks { OnOk result (IsChanged tracks.old tracks.new entry.block.track (grown place)) }
     ensures tasks_stay { OnErr result ((k : ℕ) → get_or tasks.new.items k no_blocks ≡ get_or tasks.old.items k no_blocks) }
     ensures no_longer { (n : ℕ) → length tracks.old ≤ n → entry.block.track.cylinder < n → length tracks.new ≤ n }
