@@ -15,7 +15,7 @@ use Rattle.fb_wanted.specs.States.{on_track, wanted_of}
 use Rattle.fb_wanted.specs.Index.{AreOffered}
 use Rattle.fb_wanted.proofs.Kept.{same_one}
 use Rattle.fb_wanted.proofs.Numbers.{block_there, blocks-more}
-use Rattle.fb_wanted.proofs.Spots.{at_left}
+use Rattle.fb_wanted.proofs.Elements.{at_left}
 
 -- the block at an index among all
 abbrev pub block_at : List Entry → ℕ → Block
@@ -25,12 +25,12 @@ pub block_is : (es : List Entry) (p : ℕ) (e : Entry) → slice_get es p ≡ So
 block_is es p e at = get_or_from_slice_get (blocks_of es) p e.block no_block (block_there es p e at)
 
 -- each offer of a track is what the block at its index offers
-pub found_each : (es : List Entry) (offers : Track → List Offer) (spots : List ℕ) (t : Track) → AreOffered es offers spots
+pub found_each : (es : List Entry) (offers : Track → List Offer) (indexes : List ℕ) (t : Track) → AreOffered es offers indexes
     → AreFound es (offers t)
-found_each es offers spots t h i o at =
+found_each es offers indexes t h i o at =
     let its = h.each t i o at in
     let own = h.all o.place its.entry its.there its.wanted in
-    let same : own.0 ≡ i = same_Some own.0 i (sym own.1 ∙ its.spot_is) in
+    let same : own.0 ≡ i = same_Some own.0 i (sym own.1 ∙ its.index_is) in
     let here : slice_get (offers t) i ≡ Some (offer_of o.place its.entry.block)
     = ap (slice_get (offers t)) (sym same) ∙ (ap (λ u. slice_get (offers u) own.0) (sym (same_one its.entry.block.track t its.on)) ∙ own.2) in
     (its.entry.block, block_there es o.place its.entry its.there, same_Some o (offer_of o.place its.entry.block) (sym at ∙ here))

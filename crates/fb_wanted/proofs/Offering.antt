@@ -19,7 +19,7 @@ use Rattle.fb_wanted.proofs.Counted.{filter-le}
 use Rattle.fb_wanted.proofs.Found.{block_at, block_is, blocks_still, found_each}
 use Rattle.fb_wanted.proofs.Kept.{same_one, same_itself, changed_here, unchanged}
 use Rattle.fb_wanted.proofs.Numbers.{in_either}
-use Rattle.fb_wanted.proofs.Spots.{at_left, at_end, set_same, set_other, removed_within, removed_other, removed_at, last_at, state_other, state_at}
+use Rattle.fb_wanted.proofs.Elements.{at_left, at_end, set_same, set_other, removed_within, removed_other, removed_at, last_at, state_other, state_at}
 use Rattle.fb_wanted.proofs.Standing.{length-places, length-with_state, blocks-with_state, places-with_state}
 use Rattle.fb_wanted.proofs.Sums.{sums-map}
 use Rattle.fb_wanted.proofs.Weights.{sum_wanted, by-append, by-with_state, by_elsewhere, by_unwanted, by_wanted}
@@ -38,9 +38,9 @@ same_place : (p q : ℕ) (a b : Block) → offer_of p a ≡ offer_of q b → p �
 same_place p q a b h = ap (λ o. o.place) h
 
 -- the offers hold with other tracks that have the same ones
-pub offered_still : (es : List Entry) (was is : Track → List Offer) (spots : List ℕ) → AreOffered es was spots → ((t : Track)
-    → is t ≡ was t) → AreOffered es is spots
-offered_still es was is spots h same = record {
+pub offered_still : (es : List Entry) (was is : Track → List Offer) (indexes : List ℕ) → AreOffered es was indexes → ((t : Track)
+    → is t ≡ was t) → AreOffered es is indexes
+offered_still es was is indexes h same = record {
   sums = λ t. subst (λ l. AreSameBlocks (offered_blocks es l) (wanted_of (on_track t es))) (sym (same t)) (h.sums t);
   each = λ t i o at. h.each t i o (ap (λ l. slice_get l i) (sym (same t)) ∙ at);
   all = λ p e at yes'. let it = h.all p e at yes' in (it.0, it.1, ap (λ l. slice_get l it.0) (same e.block.track) ∙ it.2);
@@ -48,27 +48,27 @@ offered_still es was is spots h same = record {
 }
 
 -- one more block, which isn't wanted
-pub offered_pushed : (es : List Entry) (offers : Track → List Offer) (spots : List ℕ) (e : Entry) (spot : ℕ)
-    → AreOffered es offers spots → is_wanted e.state ≡ false
-    → AreOffered (es ++ e ∷ []) offers (spots ++ spot ∷ [])
-offered_pushed es offers spots e spot h un = record {
+pub offered_pushed : (es : List Entry) (offers : Track → List Offer) (indexes : List ℕ) (e : Entry) (index : ℕ)
+    → AreOffered es offers indexes → is_wanted e.state ≡ false
+    → AreOffered (es ++ e ∷ []) offers (indexes ++ index ∷ [])
+offered_pushed es offers indexes e index h un = record {
   sums = λ t measure. omega (
     arith,
-    ap (sum_by measure) (blocks_still es e (offers t) (found_each es offers spots t h)),
+    ap (sum_by measure) (blocks_still es e (offers t) (found_each es offers indexes t h)),
     h.sums t measure,
     by-append measure (of_track t) es (e ∷ []),
     by_unwanted measure (of_track t) e un,
   );
   each = λ t i o at. let its = h.each t i o at in
-      record { entry = its.entry; there = at_left es e its.entry o.place its.there; on = its.on; wanted = its.wanted; spot_is = at_left spots spot i o.place its.spot_is };
+      record { entry = its.entry; there = at_left es e its.entry o.place its.there; on = its.on; wanted = its.wanted; index_is = at_left indexes index i o.place its.index_is };
   all = λ p x at yes'. elim (in_either es e x p at) [
-    | inl old ↦ let it = h.all p x old.1 yes' in (it.0, at_left spots spot it.0 p it.1, it.2)
+    | inl old ↦ let it = h.all p x old.1 yes' in (it.0, at_left indexes index it.0 p it.1, it.2)
     | inr last ↦ absurd (true≢false (sym yes' ∙ (ap (λ y. is_wanted y.state) last.1 ∙ un)))
   ];
-  one_each = omega (arith, h.one_each, length-append es (e ∷ []), length-append spots (spot ∷ []));
+  one_each = omega (arith, h.one_each, length-append es (e ∷ []), length-append indexes (index ∷ []));
 }
 
-module _ (es : List Entry) (spots : List ℕ) (p : ℕ) (e : Entry) (s : State) (at : slice_get es p ≡ Some e) where
+module _ (es : List Entry) (indexes : List ℕ) (p : ℕ) (e : Entry) (s : State) (at : slice_get es p ≡ Some e) where
   abbrev pub turned : Entry
   turned = record { block = e.block; state = s }
 
@@ -85,25 +85,25 @@ module _ (es : List Entry) (spots : List ℕ) (p : ℕ) (e : Entry) (s : State) 
   ]
 
   -- the offer of another block is still that of its block
-  its_still : (t : Track) (i : ℕ) (o : Offer) (more : List ℕ) → (o.place ≡ p → ⊥) → slice_get more o.place ≡ slice_get spots o.place
-      → IsItsOffer es spots t i o → IsItsOffer (with_state s p es) more t i o
-  its_still t i o more other spot its = record {
+  its_still : (t : Track) (i : ℕ) (o : Offer) (more : List ℕ) → (o.place ≡ p → ⊥) → slice_get more o.place ≡ slice_get indexes o.place
+      → IsItsOffer es indexes t i o → IsItsOffer (with_state s p es) more t i o
+  its_still t i o more other index its = record {
     entry = its.entry;
     there = state_other s p o.place es other ∙ its.there;
     on = its.on;
     wanted = its.wanted;
-    spot_is = spot ∙ its.spot_is;
+    index_is = index ∙ its.index_is;
   }
 
   -- the offer of a wanted block isn't that of one which isn't wanted
-  not_its : (t : Track) (i : ℕ) (o : Offer) → is_wanted e.state ≡ false → IsItsOffer es spots t i o → o.place ≡ p → ⊥
+  not_its : (t : Track) (i : ℕ) (o : Offer) → is_wanted e.state ≡ false → IsItsOffer es indexes t i o → o.place ≡ p → ⊥
   not_its t i o un its same =
       let one = same_Some e its.entry (sym at ∙ (ap (slice_get es) (sym same) ∙ its.there)) in
       true≢false (sym its.wanted ∙ (ap (λ x. is_wanted x.state) (sym one) ∙ un))
 
   -- a change that makes no block wanted, or unwanted
-  pub offered_alike : (offers : Track → List Offer) → AreOffered es offers spots → is_wanted s ≡ is_wanted e.state → AreOffered
-      (with_state s p es) offers spots
+  pub offered_alike : (offers : Track → List Offer) → AreOffered es offers indexes → is_wanted s ≡ is_wanted e.state → AreOffered
+      (with_state s p es) offers indexes
   offered_alike offers h alike = record {
     sums = λ t measure.
         let part : sum_wanted measure (of_track t) (turned ∷ []) ≡ sum_wanted measure (of_track t) (e ∷ [])
@@ -123,9 +123,9 @@ module _ (es : List Entry) (spots : List ℕ) (p : ℕ) (e : Entry) (s : State) 
             there = ap (slice_get (with_state s p es)) here ∙ state_at s p e es at;
             on = ap (λ x. same_track x.block.track t) one ∙ its.on;
             wanted = alike ∙ (ap (λ x. is_wanted x.state) one ∙ its.wanted);
-            spot_is = its.spot_is;
+            index_is = its.index_is;
           }
-      | inr other ↦ its_still t i o spots other refl its
+      | inr other ↦ its_still t i o indexes other refl its
     ];
     all = λ q x there yes'. elim (entry_is q x there) [
       | inl here ↦
@@ -133,7 +133,7 @@ module _ (es : List Entry) (spots : List ℕ) (p : ℕ) (e : Entry) (s : State) 
           let it = h.all p e at was in
           let block = ap (λ y. y.block) here.1 in (
             it.0,
-            ap (slice_get spots) here.0 ∙ it.1,
+            ap (slice_get indexes) here.0 ∙ it.1,
             ap (λ b. slice_get (offers b.track) it.0) (sym block) ∙ (it.2 ∙ (ap (λ b. Some (offer_of p b)) block ∙ ap (λ k. Some
                 (offer_of k x.block)) (sym here.0))),
           )
@@ -143,14 +143,14 @@ module _ (es : List Entry) (spots : List ℕ) (p : ℕ) (e : Entry) (s : State) 
   }
 
   -- the block isn't offered yet, and is wanted from now on: its offer stands behind the others
-  module _ (tracks new : List (List OnTrack)) (h : AreOffered es (offers_at tracks) spots) (un : is_wanted e.state ≡ false)
+  module _ (tracks new : List (List OnTrack)) (h : AreOffered es (offers_at tracks) indexes) (un : is_wanted e.state ≡ false)
       (wanted : is_wanted s ≡ true)
       (changed : IsChanged tracks new e.block.track (with_offer (offer_of p e.block))) where
     abbrev pub track : Track
     track = e.block.track
 
-    abbrev pub spot : ℕ
-    spot = length (offers_at tracks track)
+    abbrev pub index : ℕ
+    index = length (offers_at tracks track)
 
     one_more : (t : Track) → same_track track t ≡ true → offers_at new t ≡ offers_at tracks t ++ offer_of p e.block ∷ []
     one_more t here = ap (λ o. o.offers) (changed_here tracks new track (with_offer (offer_of p e.block)) changed t here)
@@ -158,10 +158,10 @@ module _ (es : List Entry) (spots : List ℕ) (p : ℕ) (e : Entry) (s : State) 
     as_before : (t : Track) → same_track track t ≡ false → offers_at new t ≡ offers_at tracks t
     as_before t other = ap (λ o. o.offers) (unchanged tracks new track (with_offer (offer_of p e.block)) changed t other)
 
-    spot_of : (t : Track) → same_track track t ≡ true → length (offers_at tracks t) ≡ spot
-    spot_of t here = ap (λ u. length (offers_at tracks u)) (sym (same_one track t here))
+    index_of : (t : Track) → same_track track t ≡ true → length (offers_at tracks t) ≡ index
+    index_of t here = ap (λ u. length (offers_at tracks u)) (sym (same_one track t here))
 
-    room : p < length spots
+    room : p < length indexes
     room = omega (arith, slice_get_within es p e at, h.one_each)
 
     pushed_sum : (measure : Block → ℕ) (os : List Offer)
@@ -187,27 +187,27 @@ module _ (es : List Entry) (spots : List ℕ) (p : ℕ) (e : Entry) (s : State) 
         ]
 
     old_its : (t : Track) (i : ℕ) (o : Offer) → slice_get (offers_at tracks t) i ≡ Some o → IsItsOffer (with_state s p es)
-        (set spots p spot) t i o
+        (set indexes p index) t i o
     old_its t i o there =
         let its = h.each t i o there in
         let other = not_its t i o un its in
-        its_still t i o (set spots p spot) other (set_other spots p o.place spot other) its
+        its_still t i o (set indexes p index) other (set_other indexes p o.place index other) its
 
     given_its : (t : Track) (i : ℕ) (o : Offer) → slice_get (offers_at new t) i ≡ Some o → IsItsOffer (with_state s p es)
-        (set spots p spot) t i o
+        (set indexes p index) t i o
     given_its t i o there = elim (cases_Bool (same_track track t)) [
       | inl here ↦ elim (in_either (offers_at tracks t) (offer_of p e.block) o i (ap (λ l. slice_get l i) (sym (one_more t here))
           ∙ there)) [
             | inl old ↦ old_its t i o old.1
             | inr last ↦
                 let place : o.place ≡ p = ap (λ x. x.place) last.1 in
-                let is : i ≡ spot = last.0 ∙ spot_of t here in
+                let is : i ≡ index = last.0 ∙ index_of t here in
                 record {
                   entry = turned;
                   there = ap (slice_get (with_state s p es)) place ∙ state_at s p e es at;
                   on = here;
                   wanted = wanted;
-                  spot_is = ap (slice_get (set spots p spot)) place ∙ (set_same spots p spot room ∙ ap (λ k. Some k) (sym is));
+                  index_is = ap (slice_get (set indexes p index)) place ∙ (set_same indexes p index room ∙ ap (λ k. Some k) (sym is));
                 }
           ]
       | inr other ↦ old_its t i o (ap (λ l. slice_get l i) (sym (as_before t other)) ∙ there)
@@ -219,29 +219,29 @@ module _ (es : List Entry) (spots : List ℕ) (p : ℕ) (e : Entry) (s : State) 
       | inr other ↦ ap (λ l. slice_get l i) (as_before t other) ∙ there
     ]
 
-    pub offered_given : AreOffered (with_state s p es) (offers_at new) (set spots p spot)
+    pub offered_given : AreOffered (with_state s p es) (offers_at new) (set indexes p index)
     offered_given = record {
       sums = given_sums;
       each = given_its;
       all = λ q x there yes'. elim (entry_is q x there) [
         | inl here ↦
             let block = ap (λ y. y.block) here.1 in
-            let last = ap (λ l. slice_get l spot) (one_more track (same_itself track)) ∙ at_end (offers_at tracks track)
+            let last = ap (λ l. slice_get l index) (one_more track (same_itself track)) ∙ at_end (offers_at tracks track)
             (offer_of p e.block) in (
-              spot,
-              ap (slice_get (set spots p spot)) here.0 ∙ set_same spots p spot room,
-              ap (λ b. slice_get (offers_at new b.track) spot) (sym block) ∙ (last ∙ (ap (λ b. Some (offer_of p b)) block ∙ ap
+              index,
+              ap (slice_get (set indexes p index)) here.0 ∙ set_same indexes p index room,
+              ap (λ b. slice_get (offers_at new b.track) index) (sym block) ∙ (last ∙ (ap (λ b. Some (offer_of p b)) block ∙ ap
                   (λ k. Some (offer_of k x.block)) (sym here.0))),
             )
         | inr other ↦ let it = h.all q x other.1 yes' in
-            (it.0, set_other spots p q spot other.0 ∙ it.1, still_there x.block.track it.0 (offer_of q x.block) it.2)
+            (it.0, set_other indexes p q index other.0 ∙ it.1, still_there x.block.track it.0 (offer_of q x.block) it.2)
       ];
-      one_each = length-set spots p spot ∙ (h.one_each ∙ sym (length-with_state s p es));
+      one_each = length-set indexes p index ∙ (h.one_each ∙ sym (length-with_state s p es));
     }
 
   -- the block is offered
-  module _ (tracks : List (List OnTrack)) (i : ℕ) (h : AreOffered es (offers_at tracks) spots) (was : is_wanted e.state ≡ true)
-      (spot_is : slice_get spots p ≡ Some i) where
+  module _ (tracks : List (List OnTrack)) (i : ℕ) (h : AreOffered es (offers_at tracks) indexes) (was : is_wanted e.state ≡ true)
+      (index_is : slice_get indexes p ≡ Some i) where
     abbrev pub own_track : Track
     own_track = e.block.track
 
@@ -252,7 +252,7 @@ module _ (es : List Entry) (spots : List ℕ) (p : ℕ) (e : Entry) (s : State) 
     moved = last_of offers
 
     own_at : slice_get offers i ≡ Some (offer_of p e.block)
-    own_at = let it = h.all p e at was in ap (slice_get offers) (same_Some i it.0 (sym spot_is ∙ it.1)) ∙ it.2
+    own_at = let it = h.all p e at was in ap (slice_get offers) (same_Some i it.0 (sym index_is ∙ it.1)) ∙ it.2
 
     own_within : i < length offers
     own_within = slice_get_within offers i (offer_of p e.block) own_at
@@ -260,11 +260,11 @@ module _ (es : List Entry) (spots : List ℕ) (p : ℕ) (e : Entry) (s : State) 
     moved_at : slice_get offers (length offers - 1) ≡ Some moved
     moved_at = last_at offers i no_offer (omega (arith, own_within))
 
-    moved_its : IsItsOffer es spots own_track (length offers - 1) moved
+    moved_its : IsItsOffer es indexes own_track (length offers - 1) moved
     moved_its = h.each own_track (length offers - 1) moved moved_at
 
-    pub moved_there : moved.place < length spots
-    moved_there = slice_get_within spots moved.place (length offers - 1) moved_its.spot_is
+    pub moved_there : moved.place < length indexes
+    moved_there = slice_get_within indexes moved.place (length offers - 1) moved_its.index_is
 
     -- it isn't wanted any more: the last offer of its track stands where its own did
     module _ (new : List (List OnTrack)) (un : is_wanted s ≡ false) (changed : IsChanged tracks new e.block.track (without_offer i)) where
@@ -301,28 +301,28 @@ module _ (es : List Entry) (spots : List ℕ) (p : ℕ) (e : Entry) (s : State) 
           ]
 
       -- an offer whose block is neither the one that changes nor the one whose offer is moved
-      other_its : (t : Track) (j : ℕ) (o : Offer) → (o.place ≡ p → ⊥) → (o.place ≡ moved.place → ⊥) → IsItsOffer es spots t j o
-          → IsItsOffer (with_state s p es) (set spots moved.place i) t j o
-      other_its t j o not_own not_moved its = its_still t j o (set spots moved.place i) not_own
-          (set_other spots moved.place o.place i not_moved) its
+      other_its : (t : Track) (j : ℕ) (o : Offer) → (o.place ≡ p → ⊥) → (o.place ≡ moved.place → ⊥) → IsItsOffer es indexes t j o
+          → IsItsOffer (with_state s p es) (set indexes moved.place i) t j o
+      other_its t j o not_own not_moved its = its_still t j o (set indexes moved.place i) not_own
+          (set_other indexes moved.place o.place i not_moved) its
 
-      -- a block with another spot is another
-      apart : (q : ℕ) (j k : ℕ) → slice_get spots q ≡ Some j → (place : ℕ) → slice_get spots place ≡ Some k → (j ≡ k → ⊥) → place ≡ q → ⊥
-      apart q j k here place there ne same = ne (same_Some j k (sym here ∙ (ap (slice_get spots) (sym same) ∙ there)))
+      -- a block with another index is another
+      apart : (q : ℕ) (j k : ℕ) → slice_get indexes q ≡ Some j → (place : ℕ) → slice_get indexes place ≡ Some k → (j ≡ k → ⊥) → place ≡ q → ⊥
+      apart q j k here place there ne same = ne (same_Some j k (sym here ∙ (ap (slice_get indexes) (sym same) ∙ there)))
 
       -- a block of another track is another
-      elsewhere : (t u : Track) (j k : ℕ) (a b : Offer) → IsItsOffer es spots t j a → IsItsOffer es spots u k b
+      elsewhere : (t u : Track) (j k : ℕ) (a b : Offer) → IsItsOffer es indexes t j a → IsItsOffer es indexes u k b
           → same_track u t ≡ false → a.place ≡ b.place → ⊥
       elsewhere t u j k a b its other ne same =
           let one = same_Some its.entry other.entry (sym its.there ∙ (ap (slice_get es) same ∙ other.there)) in
           let on : same_track other.entry.block.track t ≡ true = ap (λ x. same_track x.block.track t) (sym one) ∙ its.on in
           true≢false (sym (ap (λ v. same_track v t) (sym (same_one other.entry.block.track u other.on)) ∙ on) ∙ ne)
 
-      own_its : IsItsOffer es spots own_track i (offer_of p e.block)
+      own_its : IsItsOffer es indexes own_track i (offer_of p e.block)
       own_its = h.each own_track i (offer_of p e.block) own_at
 
       taken_its : (t : Track) (j : ℕ) (o : Offer) → slice_get (offers_at new t) j ≡ Some o → IsItsOffer (with_state s p es)
-          (set spots moved.place i) t j o
+          (set indexes moved.place i) t j o
       taken_its t j o there = elim (cases_Bool (same_track own_track t)) [
         | inl here ↦
             let at_j = ap (λ l. slice_get l j) (sym (one_less t here)) ∙ there in
@@ -331,21 +331,21 @@ module _ (es : List Entry) (spots : List ℕ) (p : ℕ) (e : Entry) (s : State) 
               | inl same ↦
                   let is : moved ≡ o = same_Some moved o (sym (removed_at offers i no_offer (omega (arith, low, same))) ∙ (ap
                   (slice_get (taken_out i offers)) (sym same) ∙ at_j)) in
-                  let not_own : moved.place ≡ p → ⊥ = apart p i (length offers - 1) spot_is moved.place moved_its.spot_is (λ e. absurd
+                  let not_own : moved.place ≡ p → ⊥ = apart p i (length offers - 1) index_is moved.place moved_its.index_is (λ e. absurd
                   (omega (arith, e, low, same))) in
-                  subst (λ x. IsItsOffer (with_state s p es) (set spots moved.place i) t j x) is (record {
+                  subst (λ x. IsItsOffer (with_state s p es) (set indexes moved.place i) t j x) is (record {
                     entry = moved_its.entry;
                     there = state_other s p moved.place es not_own ∙ moved_its.there;
                     on = ap (λ u. same_track moved_its.entry.block.track u) (sym (same_one own_track t here)) ∙ moved_its.on;
                     wanted = moved_its.wanted;
-                    spot_is = set_same spots moved.place i moved_there ∙ ap (λ k. Some k) (sym same);
+                    index_is = set_same indexes moved.place i moved_there ∙ ap (λ k. Some k) (sym same);
                   })
               | inr ne ↦
                   let old : slice_get (offers_at tracks t) j ≡ Some o = ap (λ u. slice_get (offers_at tracks u) j) (sym
                   (same_one own_track t here)) ∙ (sym (removed_other offers i no_offer j ne low) ∙ at_j) in
                   let its = h.each t j o old in
-                  other_its t j o (apart p i j spot_is o.place its.spot_is (λ e. ne (sym e)))
-                  (apart moved.place (length offers - 1) j moved_its.spot_is o.place its.spot_is (λ e. absurd (omega (arith, e, low)))) its
+                  other_its t j o (apart p i j index_is o.place its.index_is (λ e. ne (sym e)))
+                  (apart moved.place (length offers - 1) j moved_its.index_is o.place its.index_is (λ e. absurd (omega (arith, e, low)))) its
             ]
         | inr other ↦
             let its = h.each t j o (ap (λ l. slice_get l j) (sym (as_they_were t other)) ∙ there) in
@@ -353,9 +353,9 @@ module _ (es : List Entry) (spots : List ℕ) (p : ℕ) (e : Entry) (s : State) 
             (length offers - 1) o moved its moved_its other) its
       ]
 
-      -- another block that is wanted stands at its spot afterwards
+      -- another block that is wanted stands at its index afterwards
       taken_there : (q : ℕ) (x : Entry) → (q ≡ p → ⊥) → slice_get es q ≡ Some x → is_wanted x.state ≡ true
-          → (j : ℕ) × (slice_get (set spots moved.place i) q ≡ Some j) × (slice_get (offers_at new x.block.track) j ≡ Some
+          → (j : ℕ) × (slice_get (set indexes moved.place i) q ≡ Some j) × (slice_get (offers_at new x.block.track) j ≡ Some
           (offer_of q x.block))
       taken_there q x not_own there yes' =
           let it = h.all q x there yes' in
@@ -378,12 +378,12 @@ module _ (es : List Entry) (spots : List ℕ) (p : ℕ) (e : Entry) (s : State) 
                             (not_i (omega (arith, past, own_within, last)))
                       ] in (
                         i,
-                        ap (slice_get (set spots moved.place i)) (sym place) ∙ set_same spots moved.place i moved_there,
+                        ap (slice_get (set indexes moved.place i)) (sym place) ∙ set_same indexes moved.place i moved_there,
                         ap (λ l. slice_get l i) (one_less x.block.track here) ∙ (removed_at offers i no_offer room ∙ ap (λ o. Some o) is),
                       )
                   | inr ne ↦ (
                     k,
-                    set_other spots moved.place q i (apart moved.place (length offers - 1) k moved_its.spot_is q it.1 (λ e. ne
+                    set_other indexes moved.place q i (apart moved.place (length offers - 1) k moved_its.index_is q it.1 (λ e. ne
                         (sym e))) ∙ it.1,
                     ap (λ l. slice_get l k) (one_less x.block.track here) ∙ (removed_other offers i no_offer k not_i (elim (cases_lt
                         (k + 1) (length offers)) [ inl less ↦ less | inr past ↦ absurd (ne (omega (arith, past, low))) ]) ∙ was_at),
@@ -392,13 +392,13 @@ module _ (es : List Entry) (spots : List ℕ) (p : ℕ) (e : Entry) (s : State) 
             | inr other ↦
                 let its = h.each x.block.track k (offer_of q x.block) it.2 in (
                   k,
-                  set_other spots moved.place q i (elsewhere x.block.track own_track k (length offers - 1)
+                  set_other indexes moved.place q i (elsewhere x.block.track own_track k (length offers - 1)
                       (offer_of q x.block) moved its moved_its other) ∙ it.1,
                   ap (λ l. slice_get l k) (as_they_were x.block.track other) ∙ it.2,
                 )
           ]
 
-      pub offered_taken : AreOffered (with_state s p es) (offers_at new) (set spots moved.place i)
+      pub offered_taken : AreOffered (with_state s p es) (offers_at new) (set indexes moved.place i)
       offered_taken = record {
         sums = taken_sums;
         each = taken_its;
@@ -406,7 +406,7 @@ module _ (es : List Entry) (spots : List ℕ) (p : ℕ) (e : Entry) (s : State) 
           | inl here ↦ absurd (true≢false (sym yes' ∙ (ap (λ y. is_wanted y.state) (sym here.1) ∙ un)))
           | inr other ↦ taken_there q x other.0 other.1 yes'
         ];
-        one_each = length-set spots moved.place i ∙ (h.one_each ∙ sym (length-with_state s p es));
+        one_each = length-set indexes moved.place i ∙ (h.one_each ∙ sym (length-with_state s p es));
       }
 
 -- as many offers as wanted blocks

@@ -11,7 +11,7 @@ use Rattle.fb_wanted.specs.declared.streaks.Streak.{Streak}
 use Rattle.fb_wanted.specs.Index.{of_task, lbns, region_of, key_of, streak_cmp, IsInStreak, BeginsStreak, AreNoted, AreShort, with_state}
 use Rattle.fb_wanted.proofs.Standing.{get_some}
 use Rattle.fb_wanted.proofs.Numbers.{in_either}
-use Rattle.fb_wanted.proofs.Spots.{at_left, at_end}
+use Rattle.fb_wanted.proofs.Elements.{at_left, at_end}
 
 -- the LBN of the k-th block of a task
 pub lbn_at : (task : ℕ) (es : List Entry) (k : ℕ) (e : Entry) → slice_get (filter (of_task task) es) k ≡ Some e → slice_get (lbns task es) k ≡ Some e.block.lbn

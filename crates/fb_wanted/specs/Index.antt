@@ -88,11 +88,11 @@ last_of offers = get_or offers (length offers - 1) no_offer
 
 -- the offers without the one at an index, where the last one stands then
 abbrev pub taken_out : ℕ → List Offer → List Offer
-taken_out spot offers = swap_remove offers spot no_offer
+taken_out index offers = swap_remove offers index no_offer
 
 -- a track without the offer at an index
 abbrev pub without_offer : ℕ → OnTrack → OnTrack
-without_offer spot on = record { places = on.places; weight = on.weight; offers = taken_out spot on.offers }
+without_offer index on = record { places = on.places; weight = on.weight; offers = taken_out index on.offers }
 
 -- what stands for a track in lists by cylinder and by head
 abbrev pub track_at : List (List OnTrack) → Track → OnTrack
@@ -169,21 +169,21 @@ weight_kept tracks track = (track_at tracks track).weight
 abbrev pub offers_at : List (List OnTrack) → Track → List Offer
 offers_at tracks track = (track_at tracks track).offers
 
--- an offer is that of a wanted block of the track, and the block's spot is where the offer stands
-pub record IsItsOffer (entries : List Entry) (spots : List ℕ) (track : Track) (spot : ℕ) (offer : Offer) : Type 0 where
+-- an offer is that of a wanted block of the track, and it stands at the index that is noted for this block
+pub record IsItsOffer (entries : List Entry) (indexes : List ℕ) (track : Track) (index : ℕ) (offer : Offer) : Type 0 where
   pub entry : Entry
   pub there : slice_get entries offer.place ≡ Some entry
   pub on : same_track entry.block.track track ≡ true
   pub wanted : is_wanted entry.state ≡ true
-  pub spot_is : slice_get spots offer.place ≡ Some spot
+  pub index_is : slice_get indexes offer.place ≡ Some index
 
--- the offers of each track are those of its wanted blocks, in some order, each of which stands at the block's spot
-pub record AreOffered (entries : List Entry) (offers : Track → List Offer) (spots : List ℕ) : Type 0 where
+-- the offers of each track are those of its wanted blocks, in some order, and each stands at the index that is noted for its block
+pub record AreOffered (entries : List Entry) (offers : Track → List Offer) (indexes : List ℕ) : Type 0 where
   pub sums : (track : Track) → AreSameBlocks (offered_blocks entries (offers track)) (wanted_of (on_track track entries))
-  pub each : (track : Track) (i : ℕ) (offer : Offer) → slice_get (offers track) i ≡ Some offer → IsItsOffer entries spots track i offer
+  pub each : (track : Track) (i : ℕ) (offer : Offer) → slice_get (offers track) i ≡ Some offer → IsItsOffer entries indexes track i offer
   pub all : (place : ℕ) (entry : Entry) → slice_get entries place ≡ Some entry → is_wanted entry.state ≡ true
-      → (i : ℕ) × (slice_get spots place ≡ Some i) × (slice_get (offers entry.block.track) i ≡ Some (offer_of place entry.block))
-  pub one_each : length spots ≡ length entries
+      → (i : ℕ) × (slice_get indexes place ≡ Some i) × (slice_get (offers entry.block.track) i ≡ Some (offer_of place entry.block))
+  pub one_each : length indexes ≡ length entries
 
 -- no track has more wanted weight than the bound of its cylinder, and each cylinder in the index has a bound
 pub record AreGreatest (tracks : List (List OnTrack)) (greatest : List ℕ) : Type 0 where

@@ -100,20 +100,20 @@ impl Heads {
         requires room { length (get_or self.old head no_block_on).offers < length (get_or self.old head no_block_on).places }
         requires few { length (get_or self.old head no_block_on).offers < 2 ^ 32 }
         ensures tracks { IsHeadChanged self.old self.new head (with_offer offer) }
-        ensures spot { result ≡ length (get_or self.old head no_block_on).offers }
+        ensures index { result ≡ length (get_or self.old head no_block_on).offers }
     {
         self.items[head as usize].offer(offer)
     }
 
     /// Takes an offer of a head's track away, by its index there, to which the last offer is moved;
     /// returns the index of that one's block among all registered ones.
-    pub fn withdraw(&mut self, head: u32, spot: u32) -> u32
+    pub fn withdraw(&mut self, head: u32, index: u32) -> u32
         requires there { head < length self.old }
-        requires spot { spot < length (get_or self.old head no_block_on).offers }
-        ensures tracks { IsHeadChanged self.old self.new head (without_offer spot) }
+        requires index { index < length (get_or self.old head no_block_on).offers }
+        ensures tracks { IsHeadChanged self.old self.new head (without_offer index) }
         ensures moved { result ≡ (last_of (get_or self.old head no_block_on).offers).place }
     {
-        self.items[head as usize].withdraw(spot)
+        self.items[head as usize].withdraw(index)
     }
 
     /// The registered blocks of a head's track; none if there is no place for it yet.

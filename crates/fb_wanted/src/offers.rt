@@ -13,40 +13,40 @@ use crate::{Block, Entry, State};
 use fb_units::Track;
 
 // Offers a block that isn't offered.
-fn give(tracks: &mut Tracks, spots: &mut Vec<u32>, place: u32, block: Block)
+fn give(tracks: &mut Tracks, offer_indexes: &mut Vec<u32>, place: u32, block: Block)
     requires there { IsThere tracks.old block.track }
     requires room { length (offers_at tracks.old block.track) < length (track_at tracks.old block.track).places }
     requires few { length (offers_at tracks.old block.track) < 2 ^ 32 }
-    requires spot { place < length spots.old.items }
+    requires index { place < length offer_indexes.old.items }
     requires light { block.weight ≤ 1000 }
     requires short { block.count ≤ 2048 }
     ensures tracks { IsChanged tracks.old tracks.new block.track (with_offer (offer_of place block)) }
-    ensures spots { spots.new.items ≡ set spots.old.items place (length (offers_at tracks.old block.track)) }
+    ensures indexes { offer_indexes.new.items ≡ set offer_indexes.old.items place (length (offers_at tracks.old block.track)) }
     ensures length { length tracks.new ≡ length tracks.old }
 {
-    let spot = tracks.offer(block.track, offer_of(place, block));
-    spots[place as usize] = spot;
+    let index = tracks.offer(block.track, offer_of(place, block));
+    offer_indexes[place as usize] = index;
 }
 
-// Takes the offer of a block away, which has the index `spot` among those of its track.
-fn take_away(tracks: &mut Tracks, spots: &mut Vec<u32>, track: Track, spot: u32)
+// Takes an offer of a track away, by its index there.
+fn take_away(tracks: &mut Tracks, offer_indexes: &mut Vec<u32>, track: Track, index: u32)
     requires there { IsThere tracks.old track }
-    requires spot { spot < length (offers_at tracks.old track) }
-    requires moved { (last_of (offers_at tracks.old track)).place < length spots.old.items }
-    ensures tracks { IsChanged tracks.old tracks.new track (without_offer spot) }
-    ensures spots { spots.new.items ≡ set spots.old.items (last_of (offers_at tracks.old track)).place spot }
+    requires index { index < length (offers_at tracks.old track) }
+    requires moved { (last_of (offers_at tracks.old track)).place < length offer_indexes.old.items }
+    ensures tracks { IsChanged tracks.old tracks.new track (without_offer index) }
+    ensures indexes { offer_indexes.new.items ≡ set offer_indexes.old.items (last_of (offers_at tracks.old track)).place index }
     ensures length { length tracks.new ≡ length tracks.old }
 {
-    let moved = tracks.withdraw(track, spot);
-    spots[moved as usize] = spot;
+    let moved = tracks.withdraw(track, index);
+    offer_indexes[moved as usize] = index;
 }
 
 /// Brings the offers up to date for a block that comes into another state. The entries are those
-/// before; for each of them `spots` has the index of its offer among those of its track, if it is
-/// wanted.
+/// before; for each of them `offer_indexes` has the index of its offer among those of its track, if
+/// it is wanted.
 pub fn reoffer(
     tracks: &mut Tracks,
-    spots: &mut Vec<u32>,
+    offer_indexes: &mut Vec<u32>,
     entries: &[Entry],
     place: u32,
     state: State,
@@ -56,8 +56,8 @@ pub fn reoffer(
     requires few { length entries.now ≤ 16000000 }
     requires places { (t : Track) → (track_at tracks.old t).places ≡ places (of_track t) entries.now }
     requires tracks { (e : Entry) → slice_get entries.now place ≡ Some e → IsThere tracks.old e.block.track }
-    requires offered { AreOffered entries.now (offers_at tracks.old) spots.old.items }
-    ensures offered { AreOffered (with_state state place entries.now) (offers_at tracks.new) spots.new.items }
+    requires offered { AreOffered entries.now (offers_at tracks.old) offer_indexes.old.items }
+    ensures offered { AreOffered (with_state state place entries.now) (offers_at tracks.new) offer_indexes.new.items }
     ensures places { (t : Track) → (track_at tracks.new t).places ≡ (track_at tracks.old t).places }
     ensures weights { (t : Track) → (track_at tracks.new t).weight ≡ (track_at tracks.old t).weight }
     ensures length { length tracks.new ≡ length tracks.old }
@@ -65,9 +65,14 @@ pub fn reoffer(
     let entry = entries[place as usize];
     if entry.state.is_wanted() {
         if !state.is_wanted() {
-            take_away(tracks, spots, entry.block.track, spots[place as usize]);
+            take_away(
+                tracks,
+                offer_indexes,
+                entry.block.track,
+                offer_indexes[place as usize],
+            );
         }
     } else if state.is_wanted() {
-        give(tracks, spots, place, entry.block);
+        give(tracks, offer_indexes, place, entry.block);
     }
 }

@@ -67,24 +67,24 @@ impl OnTrack {
         requires room { length self.old.offers < length self.old.places }
         requires few { length self.old.offers < 2 ^ 32 }
         ensures offers { self.new ≡ with_offer offer self.old }
-        ensures spot { result ≡ length self.old.offers }
+        ensures index { result ≡ length self.old.offers }
     {
-        let spot = self.offers.len() as u32;
+        let index = self.offers.len() as u32;
         match self.offers.push(offer) {
-            Ok(()) => spot,
+            Ok(()) => index,
             Err(_) => unreachable!(),
         }
     }
 
     /// Takes an offer away, by its index, to which the last offer is moved; returns the index of that
     /// one's block among all registered ones.
-    pub fn withdraw(&mut self, spot: u32) -> u32
-        requires { spot < length self.old.offers }
-        ensures offers { self.new ≡ without_offer spot self.old }
+    pub fn withdraw(&mut self, index: u32) -> u32
+        requires { index < length self.old.offers }
+        ensures offers { self.new ≡ without_offer index self.old }
         ensures moved { result ≡ (last_of self.old.offers).place }
     {
         let last = self.offers[self.offers.len() - 1];
-        self.offers.swap_remove(spot as usize);
+        self.offers.swap_remove(index as usize);
         last.place
     }
 

@@ -94,7 +94,7 @@ impl Tracks {
         requires room { length (offers_at self.old track) < length (track_at self.old track).places }
         requires few { length (offers_at self.old track) < 2 ^ 32 }
         ensures tracks { IsChanged self.old self.new track (with_offer offer) }
-        ensures spot { result ≡ length (offers_at self.old track) }
+        ensures index { result ≡ length (offers_at self.old track) }
         ensures length { length self.new ≡ length self.old }
     {
         self.cylinders[track.cylinder as usize].offer(track.head, offer)
@@ -102,14 +102,14 @@ impl Tracks {
 
     /// Takes an offer of a track away, by its index there, to which the last offer is moved; returns
     /// the index of that one's block among all registered ones.
-    pub fn withdraw(&mut self, track: Track, spot: u32) -> u32
+    pub fn withdraw(&mut self, track: Track, index: u32) -> u32
         requires there { IsThere self.old track }
-        requires spot { spot < length (offers_at self.old track) }
-        ensures tracks { IsChanged self.old self.new track (without_offer spot) }
+        requires index { index < length (offers_at self.old track) }
+        ensures tracks { IsChanged self.old self.new track (without_offer index) }
         ensures moved { result ≡ (last_of (offers_at self.old track)).place }
         ensures length { length self.new ≡ length self.old }
     {
-        self.cylinders[track.cylinder as usize].withdraw(track.head, spot)
+        self.cylinders[track.cylinder as usize].withdraw(track.head, index)
     }
 
     /// The registered blocks of a track; none if there is no place for it yet.

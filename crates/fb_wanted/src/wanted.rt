@@ -61,7 +61,7 @@ pub struct Wanted {
     tracks: Tracks,
     streaks: BTreeSet<(u32, u64, u32)>,
     // For each wanted block the index of its offer among those of its track.
-    spots: Vec<u32>,
+    offer_indexes: Vec<u32>,
     // No block has more sectors.
     longest: u32,
     near: BTreeSet<(u32, u32)>,
@@ -86,7 +86,7 @@ impl Model for Wanted {
         × AreDeep w.entries.items w.depths.items
         × AreNear w.entries.items w.near
         × AreShort w.longest w.entries.items
-        × AreOffered w.entries.items (offers_at w.tracks) w.spots.items };
+        × AreOffered w.entries.items (offers_at w.tracks) w.offer_indexes.items };
 }
 
 // Adds a block that is to be registered, and isn't wanted yet, to the indexes by task and by track.
@@ -162,7 +162,7 @@ impl Wanted {
         let entry = self.entries[place as usize];
         reoffer(
             &mut self.tracks,
-            &mut self.spots,
+            &mut self.offer_indexes,
             &self.entries,
             place,
             state,
@@ -304,7 +304,7 @@ impl Wanted {
         let place = self.entries.len() as u32;
         let band = band_of(block);
         self.entries.reserve(1)?;
-        self.spots.reserve(1)?;
+        self.offer_indexes.reserve(1)?;
         note(&mut self.near, chunk, block.task, is_new)?;
         self.greatest.add_room(block.track.cylinder)?;
         add_bands(&mut self.depths, band, NO_DEPTH)?;
@@ -313,7 +313,7 @@ impl Wanted {
             Ok(()) => {
                 deepen(&mut self.depths, band, block);
                 self.longest = self.longest.max(block.count);
-                self.spots.push(0)?;
+                self.offer_indexes.push(0)?;
                 self.entries.push(entry)?;
                 Ok(())
             }
@@ -334,7 +334,7 @@ impl Wanted {
             tasks: Vec::new(alloc),
             tracks: Tracks::new(alloc),
             streaks: BTreeSet::new(alloc),
-            spots: Vec::new(alloc),
+            offer_indexes: Vec::new(alloc),
             longest: 0,
             near: BTreeSet::new(alloc),
             greatest: Greatest::new(alloc),

@@ -8,14 +8,14 @@ use Rattle.fb_wanted.proofs.offers.reoffer.Goals as goal
 pub take_away-requires-clause-moved : goal.take_away-requires-clause-moved
 take_away-requires-clause-moved c =
     let es = c.args.entries.now in
-    let spots = c.args.spots.now.items in
+    let indexes = c.args.offer_indexes.now.items in
     let p = c.args.place in
     let h = c.requires.offered in
-    let room : p < length spots = omega (arith, c.requires.there, h.one_each) in
-    let spot = slice_get_read spots (length spots) p c.index.result.now refl room c.index.ensures in
-    moved_there es spots p (get_or es p no_entry) c.args.state
+    let room : p < length indexes = omega (arith, c.requires.there, h.one_each) in
+    let index = slice_get_read indexes (length indexes) p c.index.result.now refl room c.index.ensures in
+    moved_there es indexes p (get_or es p no_entry) c.args.state
     (slice_get-get_or es p no_entry c.requires.there) c.args.tracks.now c.index.result.now h (sym c.is_wanted.ensures
-    ∙ c.if-is_wanted.true) spot
+    ∙ c.if-is_wanted.true) index
 
 pub give-requires-clause-there : goal.give-requires-clause-there
 give-requires-clause-there c = c.requires.tracks (get_or c.args.entries.now c.args.place no_entry)
@@ -49,16 +49,16 @@ give-requires-clause-short c =
 pub returns-then-not-is_wanted-clause-offered : goal.returns-then-not-is_wanted-clause-offered
 returns-then-not-is_wanted-clause-offered c =
     let es = c.args.entries.now in
-    let spots = c.args.spots.now.items in
+    let indexes = c.args.offer_indexes.now.items in
     let p = c.args.place in
     let h = c.requires.offered in
-    let room : p < length spots = omega (arith, c.requires.there, h.one_each) in
-    let spot = slice_get_read spots (length spots) p c.index.result.now refl room c.index.ensures in
+    let room : p < length indexes = omega (arith, c.requires.there, h.one_each) in
+    let index = slice_get_read indexes (length indexes) p c.index.result.now refl room c.index.ensures in
     let un = sym c.is_wanted-then-is_wanted.ensures ∙ c.if-not-is_wanted.true in
-    subst (λ l. AreOffered (with_state c.args.state p es) (offers_at c.take_away.new.tracks) l) (sym c.take_away.ensures.spots)
-    (offered_taken es spots p (get_or es p no_entry) c.args.state
+    subst (λ l. AreOffered (with_state c.args.state p es) (offers_at c.take_away.new.tracks) l) (sym c.take_away.ensures.indexes)
+    (offered_taken es indexes p (get_or es p no_entry) c.args.state
     (slice_get-get_or es p no_entry c.requires.there) c.args.tracks.now c.index.result.now h (sym c.is_wanted.ensures
-    ∙ c.if-is_wanted.true) spot
+    ∙ c.if-is_wanted.true) index
     c.take_away.new.tracks un c.take_away.ensures.tracks)
 
 pub returns-else-not-is_wanted-clause-offered : goal.returns-else-not-is_wanted-clause-offered
@@ -66,7 +66,7 @@ returns-else-not-is_wanted-clause-offered c =
     let es = c.args.entries.now in
     let p = c.args.place in
     let yes' = sym c.is_wanted-then-is_wanted.ensures ∙ c.if-not-is_wanted.false in
-    offered_alike es c.args.spots.now.items p (get_or es p no_entry) c.args.state (slice_get-get_or es p no_entry c.requires.there)
+    offered_alike es c.args.offer_indexes.now.items p (get_or es p no_entry) c.args.state (slice_get-get_or es p no_entry c.requires.there)
     (offers_at c.args.tracks.now) c.requires.offered
     (yes' ∙ sym (sym c.is_wanted.ensures ∙ c.if-is_wanted.true))
 
@@ -74,8 +74,8 @@ pub returns-then-is_wanted-2-clause-offered : goal.returns-then-is_wanted-2-clau
 returns-then-is_wanted-2-clause-offered c =
     let es = c.args.entries.now in
     let p = c.args.place in
-    subst (λ l. AreOffered (with_state c.args.state p es) (offers_at c.give.new.tracks) l) (sym c.give.ensures.spots)
-    (offered_given es c.args.spots.now.items p (get_or es p no_entry) c.args.state
+    subst (λ l. AreOffered (with_state c.args.state p es) (offers_at c.give.new.tracks) l) (sym c.give.ensures.indexes)
+    (offered_given es c.args.offer_indexes.now.items p (get_or es p no_entry) c.args.state
     (slice_get-get_or es p no_entry c.requires.there) c.args.tracks.now c.give.new.tracks c.requires.offered
     (sym c.is_wanted.ensures ∙ c.if-is_wanted.false) (sym c.is_wanted-else-is_wanted.ensures ∙ c.if-is_wanted-2.true) c.give.ensures.tracks)
 
@@ -83,6 +83,6 @@ pub returns-else-is_wanted-2-clause-offered : goal.returns-else-is_wanted-2-clau
 returns-else-is_wanted-2-clause-offered c =
     let es = c.args.entries.now in
     let p = c.args.place in
-    offered_alike es c.args.spots.now.items p (get_or es p no_entry) c.args.state (slice_get-get_or es p no_entry c.requires.there)
+    offered_alike es c.args.offer_indexes.now.items p (get_or es p no_entry) c.args.state (slice_get-get_or es p no_entry c.requires.there)
     (offers_at c.args.tracks.now) c.requires.offered
     ((sym c.is_wanted-else-is_wanted.ensures ∙ c.if-is_wanted-2.false) ∙ sym (sym c.is_wanted.ensures ∙ c.if-is_wanted.false))

@@ -41,7 +41,7 @@ invariant_of-self-in-Ok c =
     let free = c.requires.numbered ∙ ap (λ es. registered task (blocks_of es)) (sym c.self.view_is) in
     let room = subst (λ es. length es < 16000000) (sym c.self.view_is) c.requires.room in
     let list = c.in_ok-push-in-Ok-2.ensures.items ∙ ap (λ l. l ++ entry ∷ []) c.in_ok-reserve.ensures.items in
-    let spots = c.in_ok-push-in-Ok.ensures.items ∙ ap (λ l. l ++ 0 ∷ []) c.in_ok-reserve-2.ensures.items in
+    let indexes = c.in_ok-push-in-Ok.ensures.items ∙ ap (λ l. l ++ 0 ∷ []) c.in_ok-reserve-2.ensures.items in
     let place = c.len-place.ensures ∙ c.self.inside.entries.ok.0 in
     let next = its_number c.args.block items free in
     let roomy = greatest_still c.self.inside.tracks c.self.inside.greatest c.add_room.new.self c.self.invariant.2 c.in_ok-add_room.ensures.stay c.in_ok-add_room.ensures.longer in (
@@ -61,9 +61,9 @@ invariant_of-self-in-Ok c =
           c.in_ok-note.ensures.noted (subst (λ es. c.is_new_near-is_new.result ≡ false → (i : ℕ) × (before : Block) × (slice_get (blocks_of es) i ≡ Some before) × (near_of before ≡ near_of c.args.block)) (sym c.self.view_is) c.is_new_near-is_new.ensures),
       subst (AreShort c.max-self-inside.result) (sym list) (short_more items entry c.self.inside.longest c.max-self-inside.result c.self.invariant.5 (omega (arith, c.max-self-inside.ensures)) (omega (arith, c.max-self-inside.ensures))),
       subst (λ l. AreOffered l (offers_at c.add_to_index.new.tracks) c.push.new.self.items) (sym list)
-          (subst (λ l. AreOffered (items ++ entry ∷ []) (offers_at c.add_to_index.new.tracks) l) (sym spots)
-          (offered_pushed items (offers_at c.add_to_index.new.tracks) c.self.inside.spots.items entry 0
-          (offered_still items (offers_at c.self.inside.tracks) (offers_at c.add_to_index.new.tracks) c.self.inside.spots.items c.self.invariant.6
+          (subst (λ l. AreOffered (items ++ entry ∷ []) (offers_at c.add_to_index.new.tracks) l) (sym indexes)
+          (offered_pushed items (offers_at c.add_to_index.new.tracks) c.self.inside.offer_indexes.items entry 0
+          (offered_still items (offers_at c.self.inside.tracks) (offers_at c.add_to_index.new.tracks) c.self.inside.offer_indexes.items c.self.invariant.6
           (changed_offers c.self.inside.tracks c.add_to_index.new.tracks c.args.block.track (grown c.len-place.result) (λ o. refl) c.in-Ok.ensures.tracks)) refl)),
     )
 
@@ -97,5 +97,5 @@ invariant_of-self-in-Err c =
       subst (AreShort c.self.inside.longest) list c.self.invariant.5,
       subst (λ es. AreOffered es (offers_at c.add_to_index.new.tracks) c.reserve-2.new.self.items) list
           (subst (λ l. AreOffered items (offers_at c.add_to_index.new.tracks) l) (sym c.in_ok-reserve-2.ensures.items)
-          (offered_still items (offers_at c.self.inside.tracks) (offers_at c.add_to_index.new.tracks) c.self.inside.spots.items c.self.invariant.6 (λ t. ap (λ o. o.offers) (stay.tracks_stay t)))),
+          (offered_still items (offers_at c.self.inside.tracks) (offers_at c.add_to_index.new.tracks) c.self.inside.offer_indexes.items c.self.invariant.6 (λ t. ap (λ o. o.offers) (stay.tracks_stay t)))),
     )

@@ -43,7 +43,7 @@ new-requires-clause-blocks c = read (AreThose c.args.track) c.as_slice.result.no
 pub new-requires-clause-found : goal.new-requires-clause-found
 new-requires-clause-found c = read AreFound c.as_slice.result.now c.self.inside.entries.items c.offers.result.now
     (offers_at c.self.inside.tracks c.args.track) c.as_slice.ensures.value (c.offers.ensures ∙ ap (λ o. o.offers) c.in-Some.ensures.some)
-    (found_each c.self.inside.entries.items (offers_at c.self.inside.tracks) c.self.inside.spots.items c.args.track c.self.invariant.6)
+    (found_each c.self.inside.entries.items (offers_at c.self.inside.tracks) c.self.inside.offer_indexes.items c.args.track c.self.invariant.6)
 
 pub new-requires-in-None-clause-its : goal.new-requires-in-None-clause-its
 new-requires-in-None-clause-its c =

@@ -3,7 +3,7 @@ use Rattle.fb_wanted.specs.declared.block.Entry.{Entry}
 use Rattle.fb_wanted.specs.declared.block.State.TheVariants.{Suspended, Wanted}
 use Rattle.fb_wanted.specs.States.{wanted_unless}
 use Rattle.fb_wanted.specs.Index.{with_state}
-use Rattle.fb_wanted.proofs.Spots.{state_last}
+use Rattle.fb_wanted.proofs.Elements.{state_last}
 use Rattle.fb_wanted.proofs.wanted.Wanted.register.Goals as goal
 
 pub returns-then-not-suspended-clause-ok : goal.returns-then-not-suspended-clause-ok

@@ -27,7 +27,7 @@ reoffer-requires c =
       places = λ t. kept.index.by_track t ∙ ap (places (of_track t)) is;
       tracks = λ e at. its_track_there items c.self.inside.tasks.items c.self.inside.tracks kept c.args.place e (ap
           (λ l. slice_get l c.args.place) is ∙ at);
-      offered = subst (λ l. AreOffered l (offers_at c.self.inside.tracks) c.self.inside.spots.items) is c.self.invariant.6;
+      offered = subst (λ l. AreOffered l (offers_at c.self.inside.tracks) c.self.inside.offer_indexes.items) is c.self.invariant.6;
     }
 
 pub weight_of-lost-requires : goal.weight_of-lost-requires
@@ -102,7 +102,7 @@ invariant_of-self c =
     let change = reweighed c.weight_of-lost.result c.weight_of-gained.result in
     let track = c.index-entry.result.now.block.track in
     let offered = subst (λ l. AreOffered (with_state c.args.state c.args.place l)
-    (offers_at mid) c.reoffer.new.spots.items) c.deref.ensures.value c.reoffer.ensures.offered in
+    (offers_at mid) c.reoffer.new.offer_indexes.items) c.deref.ensures.value c.reoffer.ensures.offered in
     let same = items-with_state c.args.state c.args.place c.index-entry.result.now items here in (
       kept_set c.args.state c.args.place c.index-entry.result.now items mid c.reweigh-weight.new.self here c.self.inside.tasks.items c.recount.new.tasks.items c.counts_of.result c.counts_of-2.result
           c.weight_of-lost.result c.weight_of-gained.result kept_mid c.counts_of.ensures c.counts_of-2.ensures c.weight_of-lost.ensures.value c.weight_of-gained.ensures.value c.recount.ensures
@@ -117,9 +117,9 @@ invariant_of-self c =
           (near-with_state c.args.state c.args.place items c.self.inside.near c.self.invariant.4),
       subst (AreShort c.self.inside.longest) (sym same)
           (short-with_state c.self.inside.longest c.args.state c.args.place items c.self.invariant.5),
-      subst (λ l. AreOffered l (offers_at c.reweigh-weight.new.self) c.reoffer.new.spots.items) (sym same)
+      subst (λ l. AreOffered l (offers_at c.reweigh-weight.new.self) c.reoffer.new.offer_indexes.items) (sym same)
           (offered_still (with_state c.args.state c.args.place items) (offers_at mid)
-          (offers_at c.reweigh-weight.new.self) c.reoffer.new.spots.items offered
+          (offers_at c.reweigh-weight.new.self) c.reoffer.new.offer_indexes.items offered
           (changed_offers mid c.reweigh-weight.new.self track change (λ o. refl) c.reweigh-weight.ensures.tracks)),
     )
 
