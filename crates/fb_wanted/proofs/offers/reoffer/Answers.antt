@@ -17,34 +17,23 @@ take_away-requires-clause-moved c =
     (slice_get-get_or es p no_entry c.requires.there) c.args.tracks.now c.index.result.now h (sym c.is_wanted.ensures
     ∙ c.if-is_wanted.true) index
 
-pub give-requires-clause-there : goal.give-requires-clause-there
-give-requires-clause-there c = c.requires.tracks (get_or c.args.entries.now c.args.place no_entry)
-    (slice_get-get_or c.args.entries.now c.args.place no_entry c.requires.there)
-
-pub give-requires-clause-room : goal.give-requires-clause-room
-give-requires-clause-room c =
+pub give-requires : goal.give-requires
+give-requires c =
     let es = c.args.entries.now in
     let e = get_or es c.args.place no_entry in
     let t = e.block.track in
-    let room = offers-room es c.args.place e (offers_at c.args.tracks.now t)
-    (slice_get-get_or es c.args.place no_entry c.requires.there) (sym c.is_wanted.ensures ∙ c.if-is_wanted.false)
-    (c.requires.offered.sums t) in
-    omega (arith, room, ap length (c.requires.places t))
-
-pub give-requires-clause-few : goal.give-requires-clause-few
-give-requires-clause-few c =
-    let t = (get_or c.args.entries.now c.args.place no_entry).block.track in
-    omega (arith, offers-few t (offers_at c.args.tracks.now t) c.args.entries.now (c.requires.offered.sums t) c.requires.few)
-
-pub give-requires-clause-light : goal.give-requires-clause-light
-give-requires-clause-light c =
-    let es = c.args.entries.now in (small_at es c.args.place (get_or es c.args.place no_entry) c.requires.small
-    (slice_get-get_or es c.args.place no_entry c.requires.there)).0
-
-pub give-requires-clause-short : goal.give-requires-clause-short
-give-requires-clause-short c =
-    let es = c.args.entries.now in (small_at es c.args.place (get_or es c.args.place no_entry) c.requires.small
-    (slice_get-get_or es c.args.place no_entry c.requires.there)).1
+    let at = slice_get-get_or es c.args.place no_entry c.requires.there in
+    let own = c.requires.offered.sums t in
+    let small = small_at es c.args.place e c.requires.small at in
+    let un = sym c.is_wanted.ensures ∙ c.if-is_wanted.false in
+    record {
+      there = c.requires.tracks e at;
+      room = omega (arith, offers-room es c.args.place e (offers_at c.args.tracks.now t) at un own, ap length (c.requires.places t));
+      few = omega (arith, offers-few t (offers_at c.args.tracks.now t) es own c.requires.few);
+      index = omega (arith, c.requires.there, c.requires.offered.one_each);
+      light = small.0;
+      short = small.1;
+    }
 
 pub returns-then-not-is_wanted-clause-offered : goal.returns-then-not-is_wanted-clause-offered
 returns-then-not-is_wanted-clause-offered c =
