@@ -1,4 +1,5 @@
-use Rattle.std.proofs.Common.{◌≡◌, ◌∙◌, List, [], ap, sym, subst, arith}
+use Rattle.std.proofs.Common.{◌≡◌, ◌∙◌, List, [], length, ap, sym, subst, arith}
+use Rattle.std.proofs.lemmas.Option.{none-some}
 use Rattle.fb_units.specs.declared.types.Track.{Track}
 use Rattle.fb_wanted.specs.declared.block.Entry.{Entry}
 use Rattle.fb_wanted.specs.declared.offer.Offer.{Offer}
@@ -17,45 +18,40 @@ read P es items os offers same same_offers h = subst (λ l. P es l) (sym same_of
 abbrev AreThose : Track → List Entry → List Offer → Type 0
 AreThose t es os = AreSameBlocks (offered_blocks es os) (wanted_of (on_track t es))
 
-pub new-requires-clause-its : goal.new-requires-clause-its
-new-requires-clause-its c = c.places.ensures
-    ∙ ((track_kept c.self.inside.entries.items c.self.inside.tasks.items c.self.inside.tracks c.self.invariant.0 c.args.track c.in-Some.on.now c.in-Some.ensures.some).0
-    ∙ ap (places (of_track c.args.track)) (sym c.as_slice.ensures.value))
+pub new-requires : goal.new-requires
+new-requires c =
+    let self = c.self.inside in
+    let es = self.entries.items in
+    let t = c.args.track in
+    let is = c.as_slice.ensures.value in
+    let on = c.in-Some.ensures.some in
+    let kept = track_kept es self.tasks.items self.tracks c.self.invariant.0 t c.in-Some.on.now on in
+    let most = track_weight es self.tasks.items self.tracks c.self.invariant.0 t c.in-Some.on.now on in
+    let same = c.offers.ensures ∙ ap (λ o. o.offers) on in
+    let found = found_each es (offers_at self.tracks) self.offer_indexes.items t c.self.invariant.6 in
+    record {
+      its = c.places.ensures ∙ (kept.0 ∙ ap (places (of_track t)) (sym is));
+      few = omega (arith, ap length is, c.self.invariant.0.few);
+      weight = c.weight.ensures ∙ (kept.1 ∙ ap (wanted_weight t) (sym is));
+      small = omega (arith, c.weight.ensures, most);
+      blocks = read (AreThose t) c.as_slice.result.now es c.offers.result.now (offers_at self.tracks t) is same (c.self.invariant.6.sums t);
+      found = read AreFound c.as_slice.result.now es c.offers.result.now (offers_at self.tracks t) is same found;
+    }
 
-pub new-requires-clause-weight : goal.new-requires-clause-weight
-new-requires-clause-weight c = c.weight.ensures ∙
-    ((track_kept c.self.inside.entries.items c.self.inside.tasks.items c.self.inside.tracks c.self.invariant.0 c.args.track c.in-Some.on.now c.in-Some.ensures.some).1
-    ∙ ap (wanted_weight c.args.track) (sym c.as_slice.ensures.value))
-
-pub new-requires-clause-small : goal.new-requires-clause-small
-new-requires-clause-small c =
-    omega (
-      arith,
-      c.weight.ensures,
-      track_weight c.self.inside.entries.items c.self.inside.tasks.items c.self.inside.tracks c.self.invariant.0 c.args.track c.in-Some.on.now c.in-Some.ensures.some,
-    )
-
-pub new-requires-clause-blocks : goal.new-requires-clause-blocks
-new-requires-clause-blocks c = read (AreThose c.args.track) c.as_slice.result.now c.self.inside.entries.items c.offers.result.now
-    (offers_at c.self.inside.tracks c.args.track) c.as_slice.ensures.value (c.offers.ensures ∙ ap (λ o. o.offers) c.in-Some.ensures.some)
-    (c.self.invariant.6.sums c.args.track)
-
-pub new-requires-clause-found : goal.new-requires-clause-found
-new-requires-clause-found c = read AreFound c.as_slice.result.now c.self.inside.entries.items c.offers.result.now
-    (offers_at c.self.inside.tracks c.args.track) c.as_slice.ensures.value (c.offers.ensures ∙ ap (λ o. o.offers) c.in-Some.ensures.some)
-    (found_each c.self.inside.entries.items (offers_at c.self.inside.tracks) c.self.inside.offer_indexes.items c.args.track c.self.invariant.6)
-
-pub new-requires-in-None-clause-its : goal.new-requires-in-None-clause-its
-new-requires-in-None-clause-its c =
-    (track_kept c.self.inside.entries.items c.self.inside.tasks.items c.self.inside.tracks c.self.invariant.0 c.args.track no_block_on c.in-None.ensures.none).0
-    ∙ ap (places (of_track c.args.track)) (sym c.as_slice-in-None.ensures.value)
-
-pub new-requires-in-None-clause-weight : goal.new-requires-in-None-clause-weight
-new-requires-in-None-clause-weight c =
-    (track_kept c.self.inside.entries.items c.self.inside.tasks.items c.self.inside.tracks c.self.invariant.0 c.args.track no_block_on c.in-None.ensures.none).1
-    ∙ ap (wanted_weight c.args.track) (sym c.as_slice-in-None.ensures.value)
-
-pub new-requires-in-None-clause-blocks : goal.new-requires-in-None-clause-blocks
-new-requires-in-None-clause-blocks c = read (AreThose c.args.track) c.as_slice-in-None.result.now c.self.inside.entries.items []
-    (offers_at c.self.inside.tracks c.args.track) c.as_slice-in-None.ensures.value (ap (λ o. o.offers) c.in-None.ensures.none)
-    (c.self.invariant.6.sums c.args.track)
+pub new-requires-in-None : goal.new-requires-in-None
+new-requires-in-None c =
+    let self = c.self.inside in
+    let es = self.entries.items in
+    let t = c.args.track in
+    let slice = c.as_slice-in-None.result.now in
+    let is = c.as_slice-in-None.ensures.value in
+    let on = c.in-None.ensures.none in
+    let kept = track_kept es self.tasks.items self.tracks c.self.invariant.0 t no_block_on on in
+    record {
+      its = kept.0 ∙ ap (places (of_track t)) (sym is);
+      few = omega (arith, ap length is, c.self.invariant.0.few);
+      weight = kept.1 ∙ ap (wanted_weight t) (sym is);
+      small = omega arith;
+      blocks = read (AreThose t) slice es [] (offers_at self.tracks t) is (ap (λ o. o.offers) on) (c.self.invariant.6.sums t);
+      found = λ i offer at. absurd (none-some offer at);
+    }
