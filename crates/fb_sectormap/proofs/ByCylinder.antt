@@ -1,5 +1,6 @@
 -- Sectors are numbered cylinder by cylinder.
-use Rattle.std.proofs.Common.{◌≡◌, ℕ, zero, suc, ◌+◌, ◌-◌, ◌*◌, ◌<◌, ◌≤◌, ◌^◌, List, [], ◌∷◌, length, refl, ap, sym, ◌∙◌, arith, inl, inr, Some}
+use Rattle.std.proofs.Common.{◌≡◌, ℕ, zero, suc, ◌+◌, ◌-◌, ◌*◌, ◌<◌, ◌≤◌, ◌^◌, List, [], ◌∷◌, length, refl, ap, sym, ◌∙◌, arith, inl, inr}
+use Rattle.std.proofs.Common.{Some}
 use Rattle.std.specs.Prelude.{slice_get}
 use Rattle.std.specs.List.{flat_map, range_with_len}
 use Rattle.std.proofs.lemmas.Bool.{cases_lt}
@@ -18,10 +19,12 @@ module _ (disk : Shape) (sound : IsSound disk) where
   pub follow : AreFollowing 0 disk.zones
   follow = following 0 0 disk.zones sound.contiguous sound.some_cylinders
 
-  pub list-by_zone : (i : ℕ) (zone : Zone) (cylinder : ℕ) → IsCylinderOf disk i zone cylinder → data_list_at disk cylinder ≡ data_list disk zone cylinder
+  pub list-by_zone : (i : ℕ) (zone : Zone) (cylinder : ℕ) → IsCylinderOf disk i zone cylinder
+      → data_list_at disk cylinder ≡ data_list disk zone cylinder
   list-by_zone i zone cylinder h = list_in_zone disk 0 disk.zones i cylinder zone follow h.zone_is h.from h.upto
 
-  pub size-by_zone : (i : ℕ) (zone : Zone) (cylinder : ℕ) → IsCylinderOf disk i zone cylinder → length (data_list_at disk cylinder) ≡ cylinder_size disk zone
+  pub size-by_zone : (i : ℕ) (zone : Zone) (cylinder : ℕ) → IsCylinderOf disk i zone cylinder
+      → length (data_list_at disk cylinder) ≡ cylinder_size disk zone
   size-by_zone i zone cylinder h = ap length (list-by_zone i zone cylinder h) ∙ sound.equal i zone cylinder h
 
   -- the zone of a cylinder
@@ -42,7 +45,9 @@ module _ (disk : Shape) (sound : IsSound disk) where
 
   pub places-by_cylinder : places disk ≡ flat_map (data_list_at disk) (range_with_len 0 (cylinders_of disk.zones))
   unfolding places
-  places-by_cylinder = by_cylinder disk 0 disk.zones follow ∙ ap (λ n. flat_map (data_list_at disk) (range_with_len 0 n)) (let whole : cylinders_of disk.zones - 0 ≡ cylinders_of disk.zones = omega arith in whole)
+  places-by_cylinder = by_cylinder disk 0 disk.zones follow
+      ∙ ap (λ n. flat_map (data_list_at disk) (range_with_len 0 n)) (let whole : cylinders_of disk.zones - 0 ≡ cylinders_of disk.zones =
+      omega arith in whole)
 
   pub count-is : length (places disk) ≡ sectors_before disk (cylinders_of disk.zones)
   unfolding sectors_before
@@ -57,45 +62,60 @@ module _ (disk : Shape) (sound : IsSound disk) where
   before-rise a b h = before-rises (data_list_at disk) a b h
 
   -- the sectors before a cylinder of a zone, or before the one behind it
-  pub before-in_zone : (i : ℕ) (zone : Zone) (cylinder : ℕ) → slice_get disk.zones i ≡ Some zone → zone.first ≤ cylinder → cylinder ≤ zone.last + 1
+  pub before-in_zone : (i : ℕ) (zone : Zone) (cylinder : ℕ) → slice_get disk.zones i ≡ Some zone → zone.first ≤ cylinder
+      → cylinder ≤ zone.last + 1
       → sectors_before disk cylinder ≡ sectors_before disk zone.first + (cylinder - zone.first) * cylinder_size disk zone
   unfolding sectors_before
   before-in_zone i zone cylinder at from upto =
       before-upto (data_list_at disk) zone.first (cylinder - zone.first) cylinder (omega arith)
-      ∙ ap (λ n. sectors_before disk zone.first + n) (length-same (data_list_at disk) zone.first (cylinder - zone.first) (cylinder_size disk zone)
+      ∙ ap (λ n. sectors_before disk zone.first + n)
+      (length-same (data_list_at disk) zone.first (cylinder - zone.first) (cylinder_size disk zone)
       (λ c low high. size-by_zone i zone c (record { zone_is = at; from = low; upto = omega arith })))
 
-  pub at_sector : (cylinder j lbn : ℕ) → cylinder < cylinders_of disk.zones → j < length (data_list_at disk cylinder) → lbn ≡ sectors_before disk cylinder + j
+  pub at_sector : (cylinder j lbn : ℕ) → cylinder < cylinders_of disk.zones → j < length (data_list_at disk cylinder)
+      → lbn ≡ sectors_before disk cylinder + j
       → slice_get (places disk) lbn ≡ slice_get (data_list_at disk cylinder) j
   unfolding sectors_before
-  at_sector cylinder j lbn on_disk inside e = ap (λ xs. slice_get xs lbn) places-by_cylinder ∙ in_part (data_list_at disk) (cylinders_of disk.zones) cylinder j lbn on_disk inside e
+  at_sector cylinder j lbn on_disk inside e = ap (λ xs. slice_get xs lbn) places-by_cylinder
+      ∙ in_part (data_list_at disk) (cylinders_of disk.zones) cylinder j lbn on_disk inside e
 
   -- each sector has a cylinder
   pub by_parts : (lbn : ℕ) → lbn < length (places disk) → IsIn (data_list_at disk) (cylinders_of disk.zones) lbn
   unfolding sectors_before
   by_parts lbn h = some_part (data_list_at disk) (cylinders_of disk.zones) lbn (omega (arith, count-is))
 
-  pub own-at : (cylinder j : ℕ) (place : Place) → cylinder < cylinders_of disk.zones → slice_get (data_list_at disk cylinder) j ≡ Some place → LiesOn disk cylinder place
+  pub own-at : (cylinder j : ℕ) (place : Place) → cylinder < cylinders_of disk.zones → slice_get (data_list_at disk cylinder) j ≡ Some place
+      → LiesOn disk cylinder place
   own-at cylinder j place h at =
       let by = by_zone cylinder h in
-      sound.own by.index by.zone cylinder j place by.holds (ap (λ xs. slice_get xs j) (sym (list-by_zone by.index by.zone cylinder by.holds)) ∙ at)
+      sound.own by.index by.zone cylinder j place by.holds
+      (ap (λ xs. slice_get xs j) (sym (list-by_zone by.index by.zone cylinder by.holds)) ∙ at)
 
   pub size-few : (cylinder : ℕ) → cylinder < cylinders_of disk.zones → length (data_list_at disk cylinder) ≤ 640000
   size-few cylinder h =
       let by = by_zone cylinder h in
-      omega (arith, size-by_zone by.index by.zone cylinder by.holds, size_most disk.layout disk by.zone sound.few_heads (sound.few_slots by.index by.zone by.holds.zone_is))
+      omega (
+        arith,
+        size-by_zone by.index by.zone cylinder by.holds,
+        size_most disk.layout disk by.zone sound.few_heads (sound.few_slots by.index by.zone by.holds.zone_is),
+      )
 
   -- at most 10^12 sectors are on the cylinders before one
   pub before-few : (cylinder : ℕ) → cylinder ≤ cylinders_of disk.zones → sectors_before disk cylinder ≤ 10 ^ 12
   unfolding sectors_before
-  before-few cylinder h = omega (arith, length-most (data_list_at disk) 0 cylinder 640000 (λ c low high. size-few c (omega arith)), sound.few_cylinders)
+  before-few cylinder h = omega (
+    arith,
+    length-most (data_list_at disk) 0 cylinder 640000 (λ c low high. size-few c (omega arith)),
+    sound.few_cylinders,
+  )
 
   pub count-few : length (places disk) ≤ 10 ^ 12
   count-few = omega (arith, count-is, before-few (cylinders_of disk.zones) (omega arith))
 
   -- ---- places
 
-  pub placed : (cylinder j lbn : ℕ) (place : Place) → IsSectorOf disk cylinder j lbn → slice_get (data_list_at disk cylinder) j ≡ Some place → IsAt disk lbn place
+  pub placed : (cylinder j lbn : ℕ) (place : Place) → IsSectorOf disk cylinder j lbn → slice_get (data_list_at disk cylinder) j ≡ Some place
+      → IsAt disk lbn place
   placed cylinder j lbn place h at = at_sector cylinder j lbn h.on_disk h.inside h.number ∙ at
 
   -- each sector has a place, on its cylinder
@@ -136,7 +156,8 @@ module _ (disk : Shape) (sound : IsSound disk) where
   cylinder-of lbn h = ap (λ place. place.track.cylinder) (has_place lbn h).placed_at ∙ (has_place lbn h).lies.cylinder_is
 
   -- a sector with a lesser LBN isn't on a greater cylinder
-  before_later : (a b cylinder other sector sector' : ℕ) → IsSectorOf disk cylinder sector a → IsSectorOf disk other sector' b → a ≤ b → cylinder ≤ other
+  before_later : (a b cylinder other sector sector' : ℕ) → IsSectorOf disk cylinder sector a → IsSectorOf disk other sector' b → a ≤ b
+      → cylinder ≤ other
   before_later a b cylinder other sector sector' h k le = elim (cases_lt other cylinder) [
     | inl less ↦ absurd (omega (arith, h.number, k.number, k.inside, before_next other, before-rise (other + 1) cylinder (omega arith)))
     | inr more ↦ more
@@ -146,11 +167,17 @@ module _ (disk : Shape) (sound : IsSound disk) where
   cylinders-rise a b le below =
       let first = has_place a (omega arith) in
       let later = has_place b below in
-      omega (arith, cylinder-of a (omega arith), cylinder-of b below, before_later a b first.cylinder later.cylinder first.sector later.sector first.is later.is le)
+      omega (
+        arith,
+        cylinder-of a (omega arith),
+        cylinder-of b below,
+        before_later a b first.cylinder later.cylinder first.sector later.sector first.is later.is le,
+      )
 
   -- a cylinder has sectors
   some-sectors : (cylinder : ℕ) → cylinder < cylinders_of disk.zones → 0 < length (data_list_at disk cylinder)
-  some-sectors cylinder h = let by = by_zone cylinder h in omega (arith, size-by_zone by.index by.zone cylinder by.holds, sound.some_data by.index by.zone by.holds.zone_is)
+  some-sectors cylinder h = let by = by_zone cylinder h in
+      omega (arith, size-by_zone by.index by.zone cylinder by.holds, sound.some_data by.index by.zone by.holds.zone_is)
 
   pub first-is : (cylinder : ℕ) → cylinder < cylinders_of disk.zones → IsFirstOf disk cylinder (sectors_before disk cylinder)
   first-is cylinder h =
@@ -158,7 +185,8 @@ module _ (disk : Shape) (sound : IsSound disk) where
       let upto = before-rise (cylinder + 1) (cylinders_of disk.zones) (omega arith) in
       let on_disk : sectors_before disk cylinder < length (places disk) = omega (arith, before_next cylinder, count-is) in
       let place = some_get (data_list_at disk cylinder) 0 some in
-      let at = place_is (sectors_before disk cylinder) place.0 (at_sector cylinder 0 (sectors_before disk cylinder) h some (omega arith) ∙ place.1) in
+      let at = place_is (sectors_before disk cylinder) place.0 (at_sector cylinder 0 (sectors_before disk cylinder) h some (omega arith)
+      ∙ place.1) in
       record {
         on_disk = on_disk;
         here = ap (λ place. place.track.cylinder) at ∙ (own-at cylinder 0 place.0 h place.1).cylinder_is;
@@ -174,7 +202,8 @@ module _ (disk : Shape) (sound : IsSound disk) where
       omega (arith, first.least (sectors_before disk cylinder) least.on_disk least.here, least.least lbn first.on_disk first.here)
 
   -- a place that is in no cylinder's list has no sector
-  pub not_placed : (place : Place) → ((j : ℕ) → slice_get (data_list_at disk place.track.cylinder) j ≡ Some place → ⊥) → (lbn : ℕ) → IsAt disk lbn place → ⊥
+  pub not_placed : (place : Place) → ((j : ℕ) → slice_get (data_list_at disk place.track.cylinder) j ≡ Some place → ⊥) → (lbn : ℕ)
+      → IsAt disk lbn place → ⊥
   not_placed place none lbn at =
       let found = has_place lbn (slice_get_within (places disk) lbn place at) in
       let same : found.place ≡ place = sym found.placed_at ∙ place_is lbn place at in
@@ -182,7 +211,8 @@ module _ (disk : Shape) (sound : IsSound disk) where
       none found.sector (ap (λ c. slice_get (data_list_at disk c) found.sector) (sym cylinder) ∙ (found.listed ∙ ap Some same))
 
   -- a place in a cylinder's list, counted from the cylinder's first sector
-  pub numbered : (first j : ℕ) (place : Place) → place.track.cylinder < cylinders_of disk.zones → IsFirstOf disk place.track.cylinder first → slice_get (data_list_at disk place.track.cylinder) j ≡ Some place
+  pub numbered : (first j : ℕ) (place : Place) → place.track.cylinder < cylinders_of disk.zones → IsFirstOf disk place.track.cylinder first
+      → slice_get (data_list_at disk place.track.cylinder) j ≡ Some place
       → (first + j < 2 ^ 64) × IsAt disk (first + j) place
   numbered first j place on_disk is listed =
       let cylinder = place.track.cylinder in

@@ -33,15 +33,18 @@ some_same x y e = cc
 itself : (place : Place) → same_place place place ≡ true
 itself place =
     and_from (same_track place.track place.track) (place.slot == place.slot)
-    (and_from (place.track.cylinder == place.track.cylinder) (place.track.head == place.track.head) (eq-eqb place.track.cylinder place.track.cylinder refl) (eq-eqb place.track.head place.track.head refl))
+    (and_from (place.track.cylinder == place.track.cylinder) (place.track.head == place.track.head)
+    (eq-eqb place.track.cylinder place.track.cylinder refl) (eq-eqb place.track.head place.track.head refl))
     (eq-eqb place.slot place.slot refl)
 
 -- a place that equals none of a list is nowhere in it
 nowhere : (places : List Place) (place : Place) → list_any (same_place place) places ≡ false → (i : ℕ) → slice_get places i ≡ Some place → ⊥
 nowhere [] place none i at = none_some place at
 nowhere (other ∷ places) place none zero at =
-    true≢false (sym (itself place) ∙ (ap (same_place place) (sym (some_same other place at)) ∙ (or_parts (same_place place other) (list_any (same_place place) places) none).0))
-nowhere (other ∷ places) place none (suc i) at = nowhere places place (or_parts (same_place place other) (list_any (same_place place) places) none).1 i at
+    true≢false (sym (itself place) ∙ (ap (same_place place) (sym (some_same other place at))
+    ∙ (or_parts (same_place place other) (list_any (same_place place) places) none).0))
+nowhere (other ∷ places) place none (suc i) at =
+    nowhere places place (or_parts (same_place place other) (list_any (same_place place) places) none).1 i at
 
 pub hold_nothing : HoldNothing
 unfolding places

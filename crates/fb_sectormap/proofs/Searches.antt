@@ -1,7 +1,8 @@
 -- Searches among the starts of zones.
 use denote.Ref.{Bor}
 use denote.Param.Members.{Mut}
-use Rattle.std.proofs.Common.{◌≡◌, ℕ, zero, suc, ◌+◌, ◌-◌, ◌*◌, ◌/◌, ◌<◌, ◌≤◌, List, length, map, get_or, Bool, true, false, refl, ap, sym, ◌∙◌, subst, arith, inl, inr, Some, option_map}
+use Rattle.std.proofs.Common.{◌≡◌, ℕ, zero, suc, ◌+◌, ◌-◌, ◌*◌, ◌/◌, ◌<◌, ◌≤◌, List, length, map, get_or, Bool, true, false, refl, ap, sym}
+use Rattle.std.proofs.Common.{◌∙◌, subst, arith, inl, inr, Some, option_map}
 use Rattle.std.specs.Prelude.{slice_get, nat_le}
 use Rattle.std.specs.Fn.{ComputesKey, Called}
 use Rattle.std.specs.List.Sorted.{IsPartitionPoint, IsPartitionedBy, IsNonDecreasingBy}
@@ -25,10 +26,12 @@ module _ (disk : Shape) (sound : IsSound disk) (starts : List ZoneStart) (are : 
 
   pub start_at : (i : ℕ) (zone : Zone) (d : ZoneStart) → slice_get disk.zones i ≡ Some zone → get_or starts i d ≡ start_of disk zone
   start_at i zone d at = ap (λ xs. get_or xs i d) are
-      ∙ get_or_from_slice_get (map (start_of disk) disk.zones) i (start_of disk zone) d (slice_get-map (start_of disk) disk.zones i ∙ ap (option_map (start_of disk)) at)
+      ∙ get_or_from_slice_get (map (start_of disk) disk.zones) i (start_of disk zone) d (slice_get-map (start_of disk) disk.zones i
+      ∙ ap (option_map (start_of disk)) at)
 
   -- a number that rises with the cylinders
-  module _ (key : ZoneStart → ℕ) (upto : ℕ → ℕ) (is : (zone : Zone) → key (start_of disk zone) ≡ upto zone.first) (rises : (a b : ℕ) → a ≤ b → upto a ≤ upto b) where
+  module _ (key : ZoneStart → ℕ) (upto : ℕ → ℕ) (is : (zone : Zone) → key (start_of disk zone) ≡ upto zone.first) (rises : (a b : ℕ) → a ≤ b
+      → upto a ≤ upto b) where
     key_at : (i : ℕ) (d : ZoneStart) → i < length starts → key (get_or starts i d) ≡ upto (border 0 disk.zones i)
     key_at i d h =
         let zone = zone_get disk.zones i (omega (arith, length-starts)) in
@@ -49,37 +52,57 @@ module _ (disk : Shape) (sound : IsSound disk) (starts : List ZoneStart) (are : 
       pub from : upto zone.first ≤ x
       pub behind : x < upto (zone.last + 1)
 
-    pub some_point : (x i : ℕ) → IsPartitionPoint (λ start. nat_le (key start) x ≡ true) (λ start. nat_le (key start) x ≡ false) starts i → upto 0 ≤ x → 0 < i
+    pub some_point : (x i : ℕ) → IsPartitionPoint (λ start. nat_le (key start) x ≡ true) (λ start. nat_le (key start) x ≡ false) starts i
+        → upto 0 ≤ x → 0 < i
     some_point x zero at low =
         let zone = zone_get disk.zones 0 sound.some_zones in
         let d = start_of disk zone.0 in
-        absurd (omega (arith, leb-false (key (get_or starts 0 d)) x (at.1 0 d (omega arith) (omega (arith, length-starts, sound.some_zones))), key_at 0 d (omega (arith, length-starts, sound.some_zones))))
+        absurd (omega (
+          arith,
+          leb-false (key (get_or starts 0 d)) x
+              (at.1 0 d (omega arith) (omega (arith, length-starts, sound.some_zones))),
+          key_at 0 d (omega (arith, length-starts, sound.some_zones)),
+        ))
     some_point x (suc i) at low = omega arith
 
-    pub found : (x i : ℕ) → IsPartitionPoint (λ start. nat_le (key start) x ≡ true) (λ start. nat_le (key start) x ≡ false) starts (suc i) → suc i ≤ length starts → x < upto (cylinders_of disk.zones) → IsFound x i
+    pub found : (x i : ℕ) → IsPartitionPoint (λ start. nat_le (key start) x ≡ true) (λ start. nat_le (key start) x ≡ false) starts (suc i)
+        → suc i ≤ length starts → x < upto (cylinders_of disk.zones) → IsFound x i
     found x i at bound high =
         let zone = zone_get disk.zones i (omega (arith, length-starts)) in
         let d = start_of disk zone.0 in
         let next : x < upto (border 0 disk.zones (suc i)) = elim (cases_lt (suc i) (length starts)) [
           | inl more ↦ omega (arith, leb-false (key (get_or starts (suc i) d)) x (at.1 (suc i) d (omega arith) more), key_at (suc i) d more)
-          | inr last ↦ omega (arith, high, ap upto (ap (border 0 disk.zones) (let all : suc i ≡ length disk.zones = omega (arith, length-starts) in all) ∙ last_border 0 disk.zones sound.some_zones))
+          | inr last ↦ omega (
+            arith,
+            high,
+            ap upto
+                (ap (border 0 disk.zones) (let all : suc i ≡ length disk.zones = omega (arith, length-starts) in all)
+                ∙ last_border 0 disk.zones sound.some_zones),
+          )
         ] in
         record {
           zone = zone.0;
           at = zone.1;
-          from = omega (arith, leb-true (key (get_or starts i d)) x (at.0 i d (omega arith) (omega arith)), key_at i d (omega arith), ap upto (first_is 0 disk.zones i zone.0 (follow disk sound) zone.1));
+          from = omega (
+            arith,
+            leb-true (key (get_or starts i d)) x (at.0 i d (omega arith) (omega arith)),
+            key_at i d (omega arith),
+            ap upto (first_is 0 disk.zones i zone.0 (follow disk sound) zone.1),
+          );
           behind = omega (arith, next, ap upto (next_border 0 disk.zones i zone.0 zone.1));
         }
 
 -- ---- the sector that a number names in its zone
 
-tells_zone : (disk : Shape) → IsSound disk → (i : ℕ) (zone : Zone) (lbn : ℕ) → slice_get disk.zones i ≡ Some zone → sectors_before disk zone.first ≤ lbn → lbn < sectors_before disk (zone.last + 1) → TellsSector disk (start_of disk zone) lbn
+tells_zone : (disk : Shape) → IsSound disk → (i : ℕ) (zone : Zone) (lbn : ℕ) → slice_get disk.zones i ≡ Some zone
+    → sectors_before disk zone.first ≤ lbn → lbn < sectors_before disk (zone.last + 1) → TellsSector disk (start_of disk zone) lbn
 tells_zone disk sound i zone lbn at from below =
     let size = cylinder_size disk zone in
     let behind = lbn - sectors_before disk zone.first in
     let some : 0 < size = sound.some_data i zone at in
     let cylinders = sound.some_cylinders i zone at in
-    let short : behind < (zone.last + 1 - zone.first) * size = omega (arith, before-in_zone disk sound i zone (zone.last + 1) at (omega arith) (omega arith)) in
+    let short : behind < (zone.last + 1 - zone.first) * size =
+    omega (arith, before-in_zone disk sound i zone (zone.last + 1) at (omega arith) (omega arith)) in
     let quotient : behind / size < zone.last + 1 - zone.first = div_below behind size (zone.last + 1 - zone.first) some short in
     let upto : zone.first + behind / size ≤ zone.last = omega arith in
     let whole = before-in_zone disk sound i zone (zone.first + behind / size) at (omega arith) (omega arith) in
@@ -89,12 +112,17 @@ tells_zone disk sound i zone lbn at from below =
       few = omega (arith, upto_last disk sound i zone at, sound.few_cylinders);
       sector = record {
         on_disk = omega (arith, upto_last disk sound i zone at);
-        inside = omega (arith, size-by_zone disk sound i zone (zone.first + behind / size) (record { zone_is = at; from = omega arith; upto = upto }));
+        inside = omega (
+          arith,
+          size-by_zone disk sound i zone (zone.first + behind / size)
+              (record { zone_is = at; from = omega arith; upto = upto }),
+        );
         number = let steps : zone.first + behind / size - zone.first ≡ behind / size = omega arith in omega (arith, rw steps at whole);
       };
     }
 
-tells_first : (disk : Shape) → IsSound disk → (i : ℕ) (zone : Zone) (cylinder : ℕ) → slice_get disk.zones i ≡ Some zone → zone.first ≤ cylinder → cylinder < zone.last + 1 → TellsFirst disk (start_of disk zone) cylinder
+tells_first : (disk : Shape) → IsSound disk → (i : ℕ) (zone : Zone) (cylinder : ℕ) → slice_get disk.zones i ≡ Some zone
+    → zone.first ≤ cylinder → cylinder < zone.last + 1 → TellsFirst disk (start_of disk zone) cylinder
 tells_first disk sound i zone cylinder at from below =
     let first = before-in_zone disk sound i zone cylinder at from (omega arith) in
     record {
@@ -107,43 +135,79 @@ tells_first disk sound i zone cylinder at from below =
 
 module _ (disk : Shape) (starts : List ZoneStart) (count : ℕ) (mapped : IsMapped disk starts count) where
   by_lbn-rises : IsNonDecreasingBy (λ start. start.lbn) starts
-  by_lbn-rises = starts-rise disk mapped.sound starts mapped.starts_are (λ start. start.lbn) (sectors_before disk) (λ zone. refl) (before-rise disk mapped.sound)
+  by_lbn-rises = starts-rise disk mapped.sound starts mapped.starts_are (λ start. start.lbn) (sectors_before disk) (λ zone. refl)
+      (before-rise disk mapped.sound)
 
   by_cylinder-rises : IsNonDecreasingBy (λ start. start.cylinder) starts
-  by_cylinder-rises = starts-rise disk mapped.sound starts mapped.starts_are (λ start. start.cylinder) (λ cylinder. cylinder) (λ zone. refl) (λ a b h. h)
+  by_cylinder-rises = starts-rise disk mapped.sound starts mapped.starts_are (λ start. start.cylinder) (λ cylinder. cylinder) (λ zone. refl)
+      (λ a b h. h)
 
-  finds-lbn : (lbn i : ℕ) (d : ZoneStart) → IsPartitionPoint (λ start. nat_le start.lbn lbn ≡ true) (λ start. nat_le start.lbn lbn ≡ false) starts i → i ≤ length starts → lbn < length (places disk)
+  finds-lbn : (lbn i : ℕ) (d : ZoneStart) → IsPartitionPoint (λ start. nat_le start.lbn lbn ≡ true) (λ start. nat_le start.lbn lbn ≡ false)
+      starts i → i ≤ length starts → lbn < length (places disk)
       → (0 < i) × TellsSector disk (get_or starts (i - 1) d) lbn
   unfolding sectors_before
-  finds-lbn lbn zero d at bound below = absurd (omega (arith, some_point disk mapped.sound starts mapped.starts_are (λ start. start.lbn) (sectors_before disk) (λ zone. refl) (before-rise disk mapped.sound) lbn zero at (omega arith)))
+  finds-lbn lbn zero d at bound below = absurd
+      (omega (
+        arith,
+        some_point disk mapped.sound starts mapped.starts_are (λ start. start.lbn) (sectors_before disk) (λ zone. refl)
+            (before-rise disk mapped.sound) lbn zero at (omega arith),
+      ))
   finds-lbn lbn (suc i) d at bound below =
-      let zone = found disk mapped.sound starts mapped.starts_are (λ start. start.lbn) (sectors_before disk) (λ zone. refl) (before-rise disk mapped.sound) lbn i at bound (omega (arith, count-is disk mapped.sound)) in
-      let index : suc i - 1 ≡ i = omega arith in
-      (omega arith, subst (λ start. TellsSector disk start lbn) (sym (ap (λ k. get_or starts k d) index ∙ start_at disk mapped.sound starts mapped.starts_are i zone.zone d zone.at)) (tells_zone disk mapped.sound i zone.zone lbn zone.at zone.from zone.behind))
+      let zone = found disk mapped.sound starts mapped.starts_are (λ start. start.lbn) (sectors_before disk) (λ zone. refl)
+      (before-rise disk mapped.sound) lbn i at bound (omega (arith, count-is disk mapped.sound)) in
+      let index : suc i - 1 ≡ i = omega arith in (
+        omega arith,
+        subst (λ start. TellsSector disk start lbn)
+            (sym (ap (λ k. get_or starts k d) index ∙ start_at disk mapped.sound starts mapped.starts_are i zone.zone d zone.at))
+            (tells_zone disk mapped.sound i zone.zone lbn zone.at zone.from zone.behind),
+      )
 
-  finds-cylinder : (cylinder i : ℕ) (d : ZoneStart) → IsPartitionPoint (λ start. nat_le start.cylinder cylinder ≡ true) (λ start. nat_le start.cylinder cylinder ≡ false) starts i → i ≤ length starts
+  finds-cylinder : (cylinder i : ℕ) (d : ZoneStart)
+      → IsPartitionPoint (λ start. nat_le start.cylinder cylinder ≡ true) (λ start. nat_le start.cylinder cylinder ≡ false) starts i
+      → i ≤ length starts
       → cylinder < cylinders_of disk.zones → (0 < i) × TellsFirst disk (get_or starts (i - 1) d) cylinder
-  finds-cylinder cylinder zero d at bound below = absurd (omega (arith, some_point disk mapped.sound starts mapped.starts_are (λ start. start.cylinder) (λ cylinder. cylinder) (λ zone. refl) (λ a b h. h) cylinder zero at (omega arith)))
+  finds-cylinder cylinder zero d at bound below =
+      absurd (omega (
+        arith,
+        some_point disk mapped.sound starts mapped.starts_are (λ start. start.cylinder) (λ cylinder. cylinder)
+            (λ zone. refl) (λ a b h. h) cylinder zero at (omega arith),
+      ))
   finds-cylinder cylinder (suc i) d at bound below =
-      let zone = found disk mapped.sound starts mapped.starts_are (λ start. start.cylinder) (λ cylinder. cylinder) (λ zone. refl) (λ a b h. h) cylinder i at bound below in
-      let index : suc i - 1 ≡ i = omega arith in
-      (omega arith, subst (λ start. TellsFirst disk start cylinder) (sym (ap (λ k. get_or starts k d) index ∙ start_at disk mapped.sound starts mapped.starts_are i zone.zone d zone.at)) (tells_first disk mapped.sound i zone.zone cylinder zone.at zone.from zone.behind))
+      let zone = found disk mapped.sound starts mapped.starts_are (λ start. start.cylinder) (λ cylinder. cylinder) (λ zone. refl)
+      (λ a b h. h) cylinder i at bound below in
+      let index : suc i - 1 ≡ i = omega arith in (
+        omega arith,
+        subst (λ start. TellsFirst disk start cylinder)
+            (sym (ap (λ k. get_or starts k d) index ∙ start_at disk mapped.sound starts mapped.starts_are i zone.zone d zone.at))
+            (tells_first disk mapped.sound i zone.zone cylinder zone.at zone.from zone.behind),
+      )
 
-mapped_as : (seen disk : Shape) (items starts : List ZoneStart) (count : ℕ) → IsMapped seen items count → seen ≡ disk → starts ≡ items → IsMapped disk starts count
-mapped_as seen disk items starts count mapped same are = subst (λ xs. IsMapped disk xs count) (sym are) (subst (λ d. IsMapped d items count) same mapped)
+mapped_as : (seen disk : Shape) (items starts : List ZoneStart) (count : ℕ) → IsMapped seen items count → seen ≡ disk → starts ≡ items
+    → IsMapped disk starts count
+mapped_as seen disk items starts count mapped same are =
+    subst (λ xs. IsMapped disk xs count) (sym are) (subst (λ d. IsMapped d items count) same mapped)
 
 -- the same for the searches of the code, in which closures make the tests
-module _ {F : Type 0} {g : Mut F (Bor ZoneStart × Unit {0}) Bool} {f : F} (seen disk : Shape) (items starts : List ZoneStart) (count : ℕ) (mapped : IsMapped seen items count) (same : seen ≡ disk) (are : starts ≡ items) where
+module _ {F : Type 0} {g : Mut F (Bor ZoneStart × Unit {0}) Bool} {f : F} (seen disk : Shape) (items starts : List ZoneStart) (count : ℕ)
+    (mapped : IsMapped seen items count) (same : seen ≡ disk) (are : starts ≡ items) where
   pub lbn-searched : (lbn i : ℕ) (d : ZoneStart) → i ≤ length starts → lbn < length (places disk)
-      → ((q : ZoneStart → Bool) → ComputesKey g q f → IsPartitionedBy q starts → IsPartitionPoint (λ start. q start ≡ true) (λ start. q start ≡ false) starts i)
+      → ((q : ZoneStart → Bool) → ComputesKey g q f → IsPartitionedBy q starts
+      → IsPartitionPoint (λ start. q start ≡ true) (λ start. q start ≡ false) starts i)
       → ((a : Bor ZoneStart × Unit {0}) (r : Bool) (f' : F) → Called g f a r f' → (r ≡ nat_le a.0.now.lbn lbn) × (f' ≡ f))
       → (0 < i) × TellsSector disk (get_or starts (i - 1) d) lbn
   lbn-searched lbn i d bound below clause each =
-      finds-lbn disk starts count (mapped_as seen disk items starts count mapped same are) lbn i d (IsPartitionPoint-from_clause (λ start. nat_le start.lbn lbn) starts i clause (IsPartitionedBy-leb (λ start. start.lbn) starts lbn (by_lbn-rises disk starts count (mapped_as seen disk items starts count mapped same are))) each) bound below
+      finds-lbn disk starts count (mapped_as seen disk items starts count mapped same are) lbn i d
+      (IsPartitionPoint-from_clause (λ start. nat_le start.lbn lbn) starts i clause
+      (IsPartitionedBy-leb (λ start. start.lbn) starts lbn
+      (by_lbn-rises disk starts count (mapped_as seen disk items starts count mapped same are))) each) bound below
 
   pub cylinder-searched : (cylinder i : ℕ) (d : ZoneStart) → i ≤ length starts → cylinder < cylinders_of disk.zones
-      → ((q : ZoneStart → Bool) → ComputesKey g q f → IsPartitionedBy q starts → IsPartitionPoint (λ start. q start ≡ true) (λ start. q start ≡ false) starts i)
+      → ((q : ZoneStart → Bool) → ComputesKey g q f → IsPartitionedBy q starts
+      → IsPartitionPoint (λ start. q start ≡ true) (λ start. q start ≡ false) starts i)
       → ((a : Bor ZoneStart × Unit {0}) (r : Bool) (f' : F) → Called g f a r f' → (r ≡ nat_le a.0.now.cylinder cylinder) × (f' ≡ f))
       → (0 < i) × TellsFirst disk (get_or starts (i - 1) d) cylinder
   cylinder-searched cylinder i d bound below clause each =
-      finds-cylinder disk starts count (mapped_as seen disk items starts count mapped same are) cylinder i d (IsPartitionPoint-from_clause (λ start. nat_le start.cylinder cylinder) starts i clause (IsPartitionedBy-leb (λ start. start.cylinder) starts cylinder (by_cylinder-rises disk starts count (mapped_as seen disk items starts count mapped same are))) each) bound below
+      finds-cylinder disk starts count (mapped_as seen disk items starts count mapped same are) cylinder i d
+      (IsPartitionPoint-from_clause (λ start. nat_le start.cylinder cylinder) starts i clause
+      (IsPartitionedBy-leb (λ start. start.cylinder) starts cylinder
+      (by_cylinder-rises disk starts count (mapped_as seen disk items starts count mapped same are))) each) bound below

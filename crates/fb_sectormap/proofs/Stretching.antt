@@ -11,7 +11,8 @@ use Rattle.fb_sectormap.specs.Lookup.{IsAt, place_at, neighbour}
 use Rattle.fb_sectormap.specs.Cylinders.{IsSectorOf}
 use Rattle.fb_sectormap.proofs.ByCylinder.{at_sector, own-at, place_is}
 
-module _ (disk : Shape) (sound : IsSound disk) (cylinder j lbn : ℕ) (stretch : Stretch) (is : IsSectorOf disk cylinder j lbn) (goes : IsStretch disk cylinder j stretch) where
+module _ (disk : Shape) (sound : IsSound disk) (cylinder j lbn : ℕ) (stretch : Stretch) (is : IsSectorOf disk cylinder j lbn)
+    (goes : IsStretch disk cylinder j stretch) where
   pub on_cylinder : stretch.place.track.cylinder ≡ cylinder
   on_cylinder = (own-at disk sound cylinder j stretch.place is.on_disk goes.first).cylinder_is
 
@@ -31,5 +32,6 @@ module _ (disk : Shape) (sound : IsSound disk) (cylinder j lbn : ℕ) (stretch :
   pub within-disk : lbn + stretch.count ≤ length (places disk)
   within-disk =
       let last : stretch.count - 1 < stretch.count = omega (arith, goes.some) in
-      let below = slice_get_within (places disk) (lbn + (stretch.count - 1)) (neighbour disk stretch.place (stretch.count - 1)) (at-on (stretch.count - 1) last) in
+      let below = slice_get_within (places disk) (lbn + (stretch.count - 1)) (neighbour disk stretch.place (stretch.count - 1))
+      (at-on (stretch.count - 1) last) in
       omega (arith, goes.some)

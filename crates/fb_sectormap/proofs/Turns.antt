@@ -12,10 +12,12 @@ use Rattle.fb_sectormap.specs.Lookup.{place_at, neighbour}
 use Rattle.fb_sectormap.specs.Cutting.{is_later}
 
 itself : (track : Track) → same_track track track ≡ true
-itself track = and_from (track.cylinder == track.cylinder) (track.head == track.head) (eq-eqb track.cylinder track.cylinder refl) (eq-eqb track.head track.head refl)
+itself track = and_from (track.cylinder == track.cylinder) (track.head == track.head) (eq-eqb track.cylinder track.cylinder refl)
+    (eq-eqb track.head track.head refl)
 
 -- a track's offset is one of its slots
-offset-below : (zones : List Zone) (heads : ℕ) (track : Track) → 0 < slots_at zones track.cylinder → offset_at zones heads track < slots_at zones track.cylinder
+offset-below : (zones : List Zone) (heads : ℕ) (track : Track) → 0 < slots_at zones track.cylinder
+    → offset_at zones heads track < slots_at zones track.cylinder
 offset-below [] heads track some = absurd (omega arith)
 offset-below (zone ∷ zones) heads track some = elim (cases_Bool (nat_le track.cylinder zone.last)) [
   | inl here ↦ let sectors : 0 < zone.sectors = rw here at some in rw here (mod-lt _ sectors)
@@ -23,7 +25,8 @@ offset-below (zone ∷ zones) heads track some = elim (cases_Bool (nat_le track.
 ]
 
 -- a slot i slots on comes i slots later in the turn, as long as the turn doesn't end
-round : (slot i slots offset : ℕ) → 0 < slots → offset ≤ slots → (slot + slots - offset) % slots + i < slots → ((slot + i) % slots + slots - offset) % slots ≡ (slot + slots - offset) % slots + i
+round : (slot i slots offset : ℕ) → 0 < slots → offset ≤ slots → (slot + slots - offset) % slots + i < slots
+    → ((slot + i) % slots + slots - offset) % slots ≡ (slot + slots - offset) % slots + i
 round slot i slots offset some low inside =
     ap (λ x. x % slots) (let one : (slot + i) % slots + slots - offset ≡ (slot + i) % slots + (slots - offset) = omega arith in one)
     ∙ mod-add-mod (slot + i) slots (slots - offset)
@@ -32,7 +35,8 @@ round slot i slots offset some low inside =
     ∙ mod-eq_of_lt inside
 
 module _ (disk : Shape) (lbn : ℕ) (place : Place) (count : ℕ) (slot : place.slot < slots_at disk.zones place.track.cylinder)
-    (next : (i : ℕ) → i < count → place_at disk (lbn + i) ≡ neighbour disk place i) (one_turn : turn_position disk place + count ≤ slots_at disk.zones place.track.cylinder) where
+    (next : (i : ℕ) → i < count → place_at disk (lbn + i) ≡ neighbour disk place i)
+    (one_turn : turn_position disk place + count ≤ slots_at disk.zones place.track.cylinder) where
   turn-of : (i : ℕ) → i < count → turn_position disk (neighbour disk place i) ≡ turn_position disk place + i
   turn-of i less =
       let slots = slots_at disk.zones place.track.cylinder in
@@ -43,10 +47,13 @@ module _ (disk : Shape) (lbn : ℕ) (place : Place) (count : ℕ) (slot : place.
   -- each sector of the stretch comes by later than the one before it
   pub later-within : (i : ℕ) → 0 < i → i < count → is_later disk (place_at disk (lbn + i - 1)) (place_at disk (lbn + i)) ≡ true
   later-within i some less =
-      let before : place_at disk (lbn + i - 1) ≡ neighbour disk place (i - 1) = ap (place_at disk) (omega arith) ∙ next (i - 1) (omega arith) in
+      let before : place_at disk (lbn + i - 1) ≡ neighbour disk place (i - 1) = ap (place_at disk) (omega arith)
+      ∙ next (i - 1) (omega arith) in
       ap (λ p. is_later disk p (place_at disk (lbn + i))) before ∙ ap (is_later disk (neighbour disk place (i - 1))) (next i less)
-      ∙ and_from (same_track place.track place.track) (nat_lt (turn_position disk (neighbour disk place (i - 1))) (turn_position disk (neighbour disk place i)))
-      (itself place.track) (lt-ltb (turn_position disk (neighbour disk place (i - 1))) (turn_position disk (neighbour disk place i)) (omega (arith, turn-of (i - 1) (omega arith), turn-of i less)))
+      ∙ and_from (same_track place.track place.track)
+      (nat_lt (turn_position disk (neighbour disk place (i - 1))) (turn_position disk (neighbour disk place i)))
+      (itself place.track) (lt-ltb (turn_position disk (neighbour disk place (i - 1))) (turn_position disk (neighbour disk place i))
+      (omega (arith, turn-of (i - 1) (omega arith), turn-of i less)))
 
   -- if sectors up to the stretch come by in one turn, so do they with those of the stretch
   pub later-through : (first length more : ℕ) → first + length ≡ lbn → more ≤ count
@@ -56,19 +63,24 @@ module _ (disk : Shape) (lbn : ℕ) (place : Place) (count : ℕ) (slot : place.
   later-through first length more e few upto here i some less = elim (cases_lt i length) [
     | inl early ↦ upto i some early
     | inr late ↦ elim (cases_lt length i) [
-      | inl behind ↦ ap (λ x. is_later disk (place_at disk x) (place_at disk (first + i))) (let same : first + i - 1 ≡ lbn + (i - length) - 1 = omega arith in same)
-          ∙ ap (λ x. is_later disk (place_at disk (lbn + (i - length) - 1)) (place_at disk x)) (let same : first + i ≡ lbn + (i - length) = omega arith in same)
+      | inl behind ↦ ap (λ x. is_later disk (place_at disk x) (place_at disk (first + i)))
+          (let same : first + i - 1 ≡ lbn + (i - length) - 1 = omega arith in same)
+          ∙ ap (λ x. is_later disk (place_at disk (lbn + (i - length) - 1)) (place_at disk x)) (let same : first + i ≡ lbn + (i - length) =
+          omega arith in same)
           ∙ later-within (i - length) (omega arith) (omega arith)
-      | inr same ↦ ap (λ x. is_later disk (place_at disk x) (place_at disk (first + i))) (let before : first + i - 1 ≡ lbn - 1 = omega arith in before)
+      | inr same ↦ ap (λ x. is_later disk (place_at disk x) (place_at disk (first + i))) (let before : first + i - 1 ≡ lbn - 1 =
+          omega arith in before)
           ∙ ap (λ x. is_later disk (place_at disk (lbn - 1)) (place_at disk x)) (let at : first + i ≡ lbn = omega arith in at)
           ∙ here
     ]
   ]
 
   -- the same from any sector of the stretch on
-  pub later-inside : (first : ℕ) → lbn ≤ first → (i : ℕ) → 0 < i → first - lbn + i < count → is_later disk (place_at disk (first + i - 1)) (place_at disk (first + i)) ≡ true
+  pub later-inside : (first : ℕ) → lbn ≤ first → (i : ℕ) → 0 < i → first - lbn + i < count
+      → is_later disk (place_at disk (first + i - 1)) (place_at disk (first + i)) ≡ true
   later-inside first from i some less =
       let before : first + i - 1 ≡ lbn + (first - lbn + i) - 1 = omega arith in
       let here : first + i ≡ lbn + (first - lbn + i) = omega arith in
-      ap (λ x. is_later disk (place_at disk x) (place_at disk (first + i))) before ∙ ap (λ x. is_later disk (place_at disk (lbn + (first - lbn + i) - 1)) (place_at disk x)) here
+      ap (λ x. is_later disk (place_at disk x) (place_at disk (first + i))) before
+      ∙ ap (λ x. is_later disk (place_at disk (lbn + (first - lbn + i) - 1)) (place_at disk x)) here
       ∙ later-within (first - lbn + i) (omega arith) less

@@ -1,5 +1,6 @@
 -- A range is cut into blocks, each of which passes whole in one turn of a track.
-use Rattle.std.specs.Prelude.{◌≡◌, ℕ, zero, suc, ◌+◌, ◌-◌, ◌%◌, ◌<◌, List, [], ◌∷◌, Bool, true, ◌&&◌, ◌||◌, not, ◌==◌, nat_lt, if◌then◌else◌}
+use Rattle.std.specs.Prelude.{◌≡◌, ℕ, zero, suc, ◌+◌, ◌-◌, ◌%◌, ◌<◌, List, [], ◌∷◌, Bool, true, ◌&&◌, ◌||◌, not, ◌==◌, nat_lt}
+use Rattle.std.specs.Prelude.{if◌then◌else◌}
 use Rattle.fb_units.specs.declared.types.Place.{Place}
 use Rattle.fb_units.specs.Tracks.{same_track}
 use Rattle.fb_geometry.specs.Shape.{Shape, turn_position}

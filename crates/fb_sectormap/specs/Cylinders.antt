@@ -37,7 +37,8 @@ pub record TellsSector (disk : Shape) (start : ZoneStart) (lbn : ℕ) : Type 0 w
   pub from : start.lbn ≤ lbn
   pub some : 0 < start.cylinder_sectors
   pub few : start.cylinder + (lbn - start.lbn) / start.cylinder_sectors ≤ 10 ^ 6
-  pub sector : IsSectorOf disk (start.cylinder + (lbn - start.lbn) / start.cylinder_sectors) ((lbn - start.lbn) % start.cylinder_sectors) lbn
+  pub sector : IsSectorOf disk
+      (start.cylinder + (lbn - start.lbn) / start.cylinder_sectors) ((lbn - start.lbn) % start.cylinder_sectors) lbn
 
 -- from the start of a zone follows the first sector of a cylinder
 pub record TellsFirst (disk : Shape) (start : ZoneStart) (cylinder : ℕ) : Type 0 where

@@ -16,7 +16,15 @@ outline layout spares cylinder_spares defects grown = record {
   layout = layout;
   rotation = 1200;
   heads = 2;
-  zones = record { first = 0; last = 3; sectors = 12; track_skew = 0; cylinder_skew = 0; spares = spares; cylinder_spares = cylinder_spares } ∷ [];
+  zones = record {
+    first = 0;
+    last = 3;
+    sectors = 12;
+    track_skew = 0;
+    cylinder_skew = 0;
+    spares = spares;
+    cylinder_spares = cylinder_spares;
+  } ∷ [];
   defects = defects;
   grown = grown;
 }
@@ -57,5 +65,6 @@ block lbn sweep = record { lbn = lbn; count = 2; track = track 0 1; sweep = swee
 
 -- a sector that has moved to a spare ends its block, since the next one comes by before it
 abbrev pub CutBehindMoved : Type 0
-CutBehindMoved = IsAt remapped 15 (place 0 1 3) × IsAt remapped 16 (place 0 1 10) × IsAt remapped 17 (place 0 1 5) × IsAt remapped 18 (place 0 1 6)
+CutBehindMoved = IsAt remapped 15 (place 0 1 3) × IsAt remapped 16 (place 0 1 10) × IsAt remapped 17 (place 0 1 5)
+    × IsAt remapped 18 (place 0 1 6)
     × (cutting remapped 20 15 4 ≡ block 15 (record { begin = 300; length = 800 }) ∷ block 17 (record { begin = 500; length = 200 }) ∷ [])

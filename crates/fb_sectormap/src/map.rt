@@ -140,7 +140,9 @@ impl SectorMap {
         requires cylinder { track.cylinder < cylinders_of self.now.zones }
         requires head { track.head < self.now.heads }
         requires slot { slot < slots_at self.now.zones track.cylinder }
-        ensures found { MatchOption result ((lbn : ℕ) → IsAt self.now lbn (record { track = track; slot = slot }) → ⊥) (λ lbn. IsAt self.now lbn (record { track = track; slot = slot })) }
+        ensures found { MatchOption result
+            ((lbn : ℕ) → IsAt self.now lbn (record { track = track; slot = slot }) → ⊥)
+            (λ lbn. IsAt self.now lbn (record { track = track; slot = slot })) }
     {
         let sector = self.geometry.sector_of_slot(track, slot)?;
         Some(self.first_of(track.cylinder) + sector as u64)

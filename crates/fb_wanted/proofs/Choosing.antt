@@ -1,5 +1,6 @@
 -- Changes of those blocks of a task whose numbers are chosen.
-use Rattle.std.proofs.Common.{◌≡◌, ℕ, zero, suc, ◌⊎◌, inl, inr, ◌==◌, ◌||◌, List, [], ◌∷◌, Bool, true, false, Some, if◌then◌else◌, filter, map, slice_get, refl, ap, sym, ◌∙◌, arith}
+use Rattle.std.proofs.Common.{◌≡◌, ℕ, zero, suc, ◌⊎◌, inl, inr, ◌==◌, ◌||◌, List, [], ◌∷◌, Bool, true, false, Some, if◌then◌else◌, filter}
+use Rattle.std.proofs.Common.{map, slice_get, refl, ap, sym, ◌∙◌, arith}
 use Rattle.std.proofs.lemmas.Bool.{cases_Bool}
 use Rattle.std.proofs.lemmas.Bool.Decides.{nat_tests}
 use Rattle.fb_wanted.specs.declared.block.Change.{Change}
@@ -27,7 +28,8 @@ none_chosen task change (e ∷ es) = ap (λ l. e ∷ l) (none_chosen task change
 
 -- each block is chosen, or left as it is by the change
 pub all_chosen : (chosen : ℕ → Bool) (task : ℕ) (change : Change) (es : List Entry)
-    → ((i : ℕ) (e : Entry) → slice_get es i ≡ Some e → (chosen e.block.index ≡ true) ⊎ (entry_after task change e ≡ e)) → changed_where chosen task change es ≡ after task change es
+    → ((i : ℕ) (e : Entry) → slice_get es i ≡ Some e → (chosen e.block.index ≡ true) ⊎ (entry_after task change e ≡ e))
+    → changed_where chosen task change es ≡ after task change es
 all_chosen chosen task change [] each = refl
 all_chosen chosen task change (e ∷ es) each =
     let rest = all_chosen chosen task change es (λ i x at. each (suc i) x at) in
@@ -39,7 +41,8 @@ all_chosen chosen task change (e ∷ es) each =
       ]
     ]
 
-pub blocks_stay : (chosen : ℕ → Bool) (task : ℕ) (change : Change) (es : List Entry) → blocks_of (changed_where chosen task change es) ≡ blocks_of es
+pub blocks_stay : (chosen : ℕ → Bool) (task : ℕ) (change : Change) (es : List Entry)
+    → blocks_of (changed_where chosen task change es) ≡ blocks_of es
 blocks_stay chosen task change [] = refl
 blocks_stay chosen task change (e ∷ es) = elim (cases_Bool (chosen e.block.index)) [
   | inl own ↦ rw own (ap (λ l. e.block ∷ l) (blocks_stay chosen task change es))
@@ -54,11 +57,14 @@ lbns-blocks task (e ∷ es) = elim (cases_Bool (e.block.task == task)) [
   | inr other ↦ rw other (lbns-blocks task es)
 ]
 
-pub lbns_stay : (chosen : ℕ → Bool) (task other : ℕ) (change : Change) (es : List Entry) → lbns other (changed_where chosen task change es) ≡ lbns other es
+pub lbns_stay : (chosen : ℕ → Bool) (task other : ℕ) (change : Change) (es : List Entry)
+    → lbns other (changed_where chosen task change es) ≡ lbns other es
 lbns_stay chosen task other change es = lbns-blocks other (changed_where chosen task change es)
-    ∙ (ap (λ bs. map (λ block. block.lbn) (filter (λ block. block.task == other) bs)) (blocks_stay chosen task change es) ∙ sym (lbns-blocks other es))
+    ∙ (ap (λ bs. map (λ block. block.lbn) (filter (λ block. block.task == other) bs)) (blocks_stay chosen task change es)
+    ∙ sym (lbns-blocks other es))
 
-nth_same : (p : Entry → Bool) (f g : Entry → Entry) (k : ℕ) (es : List Entry) → ((e : Entry) → slice_get (filter p es) k ≡ Some e → f e ≡ g e) → change_nth p f k es ≡ change_nth p g k es
+nth_same : (p : Entry → Bool) (f g : Entry → Entry) (k : ℕ) (es : List Entry)
+    → ((e : Entry) → slice_get (filter p es) k ≡ Some e → f e ≡ g e) → change_nth p f k es ≡ change_nth p g k es
 nth_same p f g k [] same = refl
 nth_same p f g zero (e ∷ es) same = elim (cases_Bool (p e)) [
   | inl yes' ↦ rw yes' (ap (λ x. x ∷ es) (same e (rw yes' refl)))
@@ -70,19 +76,24 @@ nth_same p f g (suc k) (e ∷ es) same = elim (cases_Bool (p e)) [
 ]
 
 -- to change the k-th block of a task is to choose number k
-nth_chosen : (task k : ℕ) (change : Change) (es : List Entry) → AreInOrder (blocks_of es) → change_nth (of_task task) (entry_after task change) k es ≡ changed_where (λ i. i == k) task change es
+nth_chosen : (task k : ℕ) (change : Change) (es : List Entry) → AreInOrder (blocks_of es)
+    → change_nth (of_task task) (entry_after task change) k es ≡ changed_where (λ i. i == k) task change es
 nth_chosen task k change es in_order =
     let one = λ (e : Entry). if e.block.index == k then entry_after task change e else e in
     nth_same (of_task task) (entry_after task change) one k es (λ e at.
     let is = index_at es task k e in_order at in
     let here : (e.block.index == k) ≡ true = grind (arith, nat_tests) in rw here refl)
     ∙ nth_alone (of_task task) one k es
-    (λ e other. elim (cases_Bool (e.block.index == k)) [ inl here ↦ rw here (others_after task change e other) | inr not_here ↦ rw not_here refl ])
+    (λ e other. elim (cases_Bool (e.block.index == k)) [
+      | inl here ↦ rw here (others_after task change e other)
+      | inr not_here ↦ rw not_here refl
+    ])
     (λ j e at ne.
     let is = index_at es task j e in_order at in
     let not_here : (e.block.index == k) ≡ false = grind (arith, nat_tests) in rw not_here refl)
 
-stable_after : (task : ℕ) (change : Change) (e : Entry) → IsStable change → entry_after task change (entry_after task change e) ≡ entry_after task change e
+stable_after : (task : ℕ) (change : Change) (e : Entry) → IsStable change
+    → entry_after task change (entry_after task change e) ≡ entry_after task change e
 stable_after task change e stable = elim (cases_Bool (e.block.task == task)) [
   | inl own ↦ rw own (ap (λ (s : State). let x : Entry = record { block = e.block; state = s } in x) (stable e.block e.state))
   | inr other ↦ rw other refl
@@ -90,13 +101,17 @@ stable_after task change e stable = elim (cases_Bool (e.block.task == task)) [
 
 -- one more block is changed
 pub one_more : (chosen : ℕ → Bool) (task k : ℕ) (change : Change) (es : List Entry) → AreInOrder (blocks_of es) → IsStable change
-    → change_nth (of_task task) (entry_after task change) k (changed_where chosen task change es) ≡ changed_where (λ i. chosen i || (i == k)) task change es
+    → change_nth (of_task task) (entry_after task change) k (changed_where chosen task change es)
+    ≡ changed_where (λ i. chosen i || (i == k)) task change es
 one_more chosen task k change es in_order stable =
     let f = entry_after task change in
     nth_chosen task k change (changed_where chosen task change es) (rw (blocks_stay chosen task change es) in_order)
     ∙ (twice (λ e. if e.block.index == k then f e else e) (λ e. if chosen e.block.index then f e else e) es
     ∙ same_map _ _ es (λ e. elim (cases_Bool (chosen e.block.index)) [
-      | inl own ↦ rw own (elim (cases_Bool (e.block.index == k)) [ inl here ↦ rw here (stable_after task change e stable) | inr not_here ↦ rw not_here refl ])
+      | inl own ↦ rw own (elim (cases_Bool (e.block.index == k)) [
+        | inl here ↦ rw here (stable_after task change e stable)
+        | inr not_here ↦ rw not_here refl
+      ])
       | inr other ↦ rw other refl
     ]))
 

@@ -1,5 +1,6 @@
 -- The counts of a task, as a block is added or comes into another state.
-use Rattle.std.proofs.Common.{◌≡◌, ℕ, ◌+◌, ◌≤◌, ◌==◌, inl, inr, List, [], ◌∷◌, ◌++◌, true, false, Bool, length, length-append, filter, slice_get, Some, refl, ap, ◌∙◌, arith}
+use Rattle.std.proofs.Common.{◌≡◌, ℕ, ◌+◌, ◌≤◌, ◌==◌, inl, inr, List, [], ◌∷◌, ◌++◌, true, false, Bool, length, length-append, filter}
+use Rattle.std.proofs.Common.{slice_get, Some, refl, ap, ◌∙◌, arith}
 use Rattle.std.proofs.lemmas.Bool.{cases_Bool}
 use Rattle.std.proofs.lemmas.List.Elements.{filter-append}
 use Rattle.fb_wanted.specs.declared.block.Counts.{Counts}
@@ -16,7 +17,8 @@ use Rattle.fb_wanted.proofs.Sums.{sum-with_state, sum_at}
 pub same_counts : (a b : Counts) → a.registered ≡ b.registered → a.delivered ≡ b.delivered → a.aborted ≡ b.aborted → a ≡ b
 same_counts a b x y z = rw (x, y, z) refl
 
-filtered-append : (p q : Entry → Bool) (xs ys : List Entry) → length (filter p (filter q (xs ++ ys))) ≡ length (filter p (filter q xs)) + length (filter p (filter q ys))
+filtered-append : (p q : Entry → Bool) (xs ys : List Entry)
+    → length (filter p (filter q (xs ++ ys))) ≡ length (filter p (filter q xs)) + length (filter p (filter q ys))
 filtered-append p q xs ys = ap (λ l. length (filter p l)) (filter-append q xs ys)
     ∙ (ap length (filter-append p (filter q xs) (filter q ys)) ∙ length-append (filter p (filter q xs)) (filter p (filter q ys)))
 
@@ -31,10 +33,14 @@ counts-append task xs ys =
 -- no more elements pass a test than there are
 pub filter-le : (p : Entry → Bool) (xs : List Entry) → length (filter p xs) ≤ length xs
 filter-le p [] = omega arith
-filter-le p (x ∷ xs) = elim (cases_Bool (p x)) [ inl yes' ↦ rw yes' (omega (arith, filter-le p xs)) | inr no' ↦ rw no' (omega (arith, filter-le p xs)) ]
+filter-le p (x ∷ xs) = elim (cases_Bool (p x)) [
+  | inl yes' ↦ rw yes' (omega (arith, filter-le p xs))
+  | inr no' ↦ rw no' (omega (arith, filter-le p xs))
+]
 
 -- no more are delivered or aborted than there are
-pub counts-few : (task : ℕ) (es : List Entry) → ((counts_of task es).registered ≤ length es) × ((counts_of task es).delivered ≤ length es) × ((counts_of task es).aborted ≤ length es)
+pub counts-few : (task : ℕ) (es : List Entry)
+    → ((counts_of task es).registered ≤ length es) × ((counts_of task es).delivered ≤ length es) × ((counts_of task es).aborted ≤ length es)
 counts-few task es =
     let registered = filter-le (λ e. e.block.task == task) es in
     let delivered = filter-le (λ e. is_delivered e.state) (of_task task es) in
@@ -50,16 +56,20 @@ counts-cons task x xs = counts-append task (x ∷ []) xs
 -- if nothing is lost and nothing gained, the counts are the same
 pub recounted_none : (lost gained counts : Counts) → lost ≡ no_counts → gained ≡ no_counts → counts ≡ recounted lost gained counts
 recounted_none lost gained counts x y =
-    same_counts _ _ (omega (arith, ap (λ n. n.registered) x, ap (λ n. n.registered) y)) (omega (arith, ap (λ n. n.delivered) x, ap (λ n. n.delivered) y)) (omega (arith, ap (λ n. n.aborted) x, ap (λ n. n.aborted) y))
+    same_counts _ _ (omega (arith, ap (λ n. n.registered) x, ap (λ n. n.registered) y))
+    (omega (arith, ap (λ n. n.delivered) x, ap (λ n. n.delivered) y)) (omega (arith, ap (λ n. n.aborted) x, ap (λ n. n.aborted) y))
 
 -- one more block is counted
-pub counts-grown : (task : ℕ) (es : List Entry) (e : Entry) → recounted no_counts (counts_of task (e ∷ [])) (counts_of task es) ≡ counts_of task (es ++ e ∷ [])
+pub counts-grown : (task : ℕ) (es : List Entry) (e : Entry)
+    → recounted no_counts (counts_of task (e ∷ [])) (counts_of task es) ≡ counts_of task (es ++ e ∷ [])
 counts-grown task es e =
     let all = counts-append task es (e ∷ []) in
-    same_counts _ _ (omega (arith, ap (λ n. n.registered) all)) (omega (arith, ap (λ n. n.delivered) all)) (omega (arith, ap (λ n. n.aborted) all))
+    same_counts _ _ (omega (arith, ap (λ n. n.registered) all)) (omega (arith, ap (λ n. n.delivered) all))
+    (omega (arith, ap (λ n. n.aborted) all))
 
 -- the counts of one block are part of those of all
-pub counts_at : (task n : ℕ) (e : Entry) (es : List Entry) → slice_get es n ≡ Some e → AreNoMore (counts_of task (e ∷ [])) (counts_of task es)
+pub counts_at : (task n : ℕ) (e : Entry) (es : List Entry) → slice_get es n ≡ Some e
+    → AreNoMore (counts_of task (e ∷ [])) (counts_of task es)
 counts_at task n e es at = (
   sum_at (λ xs. (counts_of task xs).registered) (λ x xs. ap (λ a. a.registered) (counts-cons task x xs)) n e es at,
   sum_at (λ xs. (counts_of task xs).delivered) (λ x xs. ap (λ a. a.delivered) (counts-cons task x xs)) n e es at,
@@ -67,22 +77,41 @@ counts_at task n e es at = (
 )
 
 -- one more block of another task doesn't change the counts
-pub counts-grown_other : (task : ℕ) (es : List Entry) (e : Entry) → (e.block.task == task) ≡ false → counts_of task es ≡ counts_of task (es ++ e ∷ [])
-counts-grown_other task es e other = recounted_none no_counts _ (counts_of task es) refl (counts_elsewhere task e other) ∙ counts-grown task es e
+pub counts-grown_other : (task : ℕ) (es : List Entry) (e : Entry) → (e.block.task == task) ≡ false
+    → counts_of task es ≡ counts_of task (es ++ e ∷ [])
+counts-grown_other task es e other = recounted_none no_counts _ (counts_of task es) refl (counts_elsewhere task e other)
+    ∙ counts-grown task es e
 
 module _ (task : ℕ) (s : State) (n : ℕ) (e : Entry) (es : List Entry) (at : slice_get es n ≡ Some e) where
   -- when a block changes its state, the counts lose its part before and gain its part after
-  pub counts-with_state : recounted (counts_of task (e ∷ [])) (counts_of task (record { block = e.block; state = s } ∷ [])) (counts_of task es) ≡ counts_of task (with_state s n es)
+  pub counts-with_state : recounted (counts_of task (e ∷ [])) (counts_of task (record { block = e.block; state = s } ∷ []))
+      (counts_of task es) ≡ counts_of task (with_state s n es)
   counts-with_state =
       let part = counts_at task n e es at in
       same_counts _ _
-      (omega (arith, part.0, sum-with_state (λ xs. (counts_of task xs).registered) (λ x xs. ap (λ a. a.registered) (counts-cons task x xs)) s n e es at))
-      (omega (arith, part.1, sum-with_state (λ xs. (counts_of task xs).delivered) (λ x xs. ap (λ a. a.delivered) (counts-cons task x xs)) s n e es at))
-      (omega (arith, part.2, sum-with_state (λ xs. (counts_of task xs).aborted) (λ x xs. ap (λ a. a.aborted) (counts-cons task x xs)) s n e es at))
+      (omega (
+        arith,
+        part.0,
+        sum-with_state (λ xs. (counts_of task xs).registered) (λ x xs. ap (λ a. a.registered) (counts-cons task x xs))
+            s n e es at,
+      ))
+      (omega (
+        arith,
+        part.1,
+        sum-with_state (λ xs. (counts_of task xs).delivered) (λ x xs. ap (λ a. a.delivered) (counts-cons task x xs)) s
+            n e es at,
+      ))
+      (omega (
+        arith,
+        part.2,
+        sum-with_state (λ xs. (counts_of task xs).aborted) (λ x xs. ap (λ a. a.aborted) (counts-cons task x xs)) s n e
+            es at,
+      ))
 
   -- a block of another task doesn't change the counts
   pub counts-with_other : (e.block.task == task) ≡ false → counts_of task es ≡ counts_of task (with_state s n es)
-  counts-with_other other = recounted_none _ _ (counts_of task es) (counts_elsewhere task e other) (counts_elsewhere task (record { block = e.block; state = s }) other) ∙ counts-with_state
+  counts-with_other other = recounted_none _ _ (counts_of task es) (counts_elsewhere task e other)
+      (counts_elsewhere task (record { block = e.block; state = s }) other) ∙ counts-with_state
 
 open_not_aborted : (s : State) → is_open s ≡ true → is_aborted s ≡ false
 open_not_aborted Wanted h = refl
@@ -91,7 +120,9 @@ open_not_aborted Delivered h = refl
 open_not_aborted Aborted h = grind arith
 
 -- after an abort so many more blocks of the task are aborted as it changes
-pub aborted-after : (task first count : ℕ) (es : List Entry) → (counts_of task (after task (Abort first count) es)).aborted ≡ (counts_of task es).aborted + length (filter (is_abortable task first count) es)
+pub aborted-after : (task first count : ℕ) (es : List Entry)
+    → (counts_of task (after task (Abort first count) es)).aborted
+    ≡ (counts_of task es).aborted + length (filter (is_abortable task first count) es)
 aborted-after task first count [] = refl
 aborted-after task first count (e ∷ es) =
     let rest = aborted-after task first count es in
@@ -99,9 +130,15 @@ aborted-after task first count (e ∷ es) =
       | inl own ↦ elim (cases_Bool (shares first count e.block)) [
         | inl inside ↦ elim (cases_Bool (is_open e.state)) [
           | inl unread ↦ rw (own, inside, unread, open_not_aborted e.state unread) (omega (arith, rest))
-          | inr over ↦ elim (cases_Bool (is_aborted e.state)) [ inl was ↦ rw (own, inside, over, was) (omega (arith, rest)) | inr not_aborted ↦ rw (own, inside, over, not_aborted) rest ]
+          | inr over ↦ elim (cases_Bool (is_aborted e.state)) [
+            | inl was ↦ rw (own, inside, over, was) (omega (arith, rest))
+            | inr not_aborted ↦ rw (own, inside, over, not_aborted) rest
+          ]
         ]
-        | inr outside ↦ elim (cases_Bool (is_aborted e.state)) [ inl was ↦ rw (own, outside, was) (omega (arith, rest)) | inr not_aborted ↦ rw (own, outside, not_aborted) rest ]
+        | inr outside ↦ elim (cases_Bool (is_aborted e.state)) [
+          | inl was ↦ rw (own, outside, was) (omega (arith, rest))
+          | inr not_aborted ↦ rw (own, outside, not_aborted) rest
+        ]
       ]
       | inr other ↦ rw other rest
     ]

@@ -8,7 +8,8 @@ use Rattle.fb_units.specs.Tracks.{same_track}
 use Rattle.fb_wanted.specs.Index.{OnTrack, track_at, weight_kept, AreGreatest, AreBands, IsChanged}
 
 -- the bounds hold too with room for more cylinders
-pub greatest_still : (tracks : List (List OnTrack)) (was is : List ℕ) → AreGreatest tracks was → ((c : ℕ) → get_or is c 0 ≡ get_or was c 0) → length was ≤ length is → AreGreatest tracks is
+pub greatest_still : (tracks : List (List OnTrack)) (was is : List ℕ) → AreGreatest tracks was → ((c : ℕ) → get_or is c 0 ≡ get_or was c 0)
+    → length was ≤ length is → AreGreatest tracks is
 greatest_still tracks was is h stay longer = record {
   weights = λ t. subst (λ n. weight_kept tracks t ≤ n) (sym (stay t.cylinder)) (h.weights t);
   there = omega (arith, h.there, longer);
@@ -31,13 +32,16 @@ module _ (old new : List (List OnTrack)) (track : Track) (change : OnTrack → O
   pub others_within : (t : Track) → same_track track t ≡ false → weight_kept new t ≤ get_or was t.cylinder 0
   others_within t other = subst (λ k. k.weight ≤ get_or was t.cylinder 0) (sym (elsewhere t other)) (h.weights t)
 
-  pub greatest_settled : (is : List ℕ) → length new ≤ length was → length is ≡ length was → ((t : Track) → weight_kept new t ≤ get_or is t.cylinder 0) → AreGreatest new is
+  pub greatest_settled : (is : List ℕ) → length new ≤ length was → length is ≡ length was
+      → ((t : Track) → weight_kept new t ≤ get_or is t.cylinder 0) → AreGreatest new is
   greatest_settled is room size weights = record { weights = weights; there = omega (arith, room, size) }
 
 -- the bounds of bands hold after the bound of a cylinder and that of its band have changed
-pub bands_set : (cylinders bands : List ℕ) (c weight greatest : ℕ) → AreBands cylinders bands → c < length cylinders → weight ≤ 32768000000000
+pub bands_set : (cylinders bands : List ℕ) (c weight greatest : ℕ) → AreBands cylinders bands → c < length cylinders
+    → weight ≤ 32768000000000
     → ((k : ℕ) → k / 64 ≡ c / 64 → get_or (set cylinders c weight) k 0 ≤ greatest)
-    → ((most : ℕ) → get_or bands (c / 64) 0 ≤ most → weight ≤ most → ((k : ℕ) → get_or (set cylinders c weight) k 0 ≤ most) → greatest ≤ most)
+    → ((most : ℕ) → get_or bands (c / 64) 0 ≤ most → weight ≤ most → ((k : ℕ) → get_or (set cylinders c weight) k 0 ≤ most)
+    → greatest ≤ most)
     → AreBands (set cylinders c weight) (set bands (c / 64) greatest)
 bands_set cylinders bands c weight greatest h room light each least =
     let there = h.there c room in
@@ -49,10 +53,19 @@ bands_set cylinders bands c weight greatest h room light each least =
     record {
       each = λ k. elim (cases_eq (k / 64) (c / 64)) [
         | inl here ↦ omega (arith, get_or-set_at bands (c / 64) (k / 64) greatest 0 here there, each k here)
-        | inr other ↦ omega (arith, get_or-set_other bands (c / 64) (k / 64) greatest 0 other, get_or-set_other cylinders c k weight 0 (λ same. other (ap (λ x. x / 64) same)), h.each k)
+        | inr other ↦ omega (
+          arith,
+          get_or-set_other bands (c / 64) (k / 64) greatest 0 other,
+          get_or-set_other cylinders c k weight 0 (λ same. other (ap (λ x. x / 64) same)),
+          h.each k,
+        )
       ];
       small = λ b. elim (cases_eq b (c / 64)) [
-        | inl here ↦ omega (arith, get_or-set_at bands (c / 64) b greatest 0 here there, least 32768000000000 (h.small (c / 64)) light within)
+        | inl here ↦ omega (
+          arith,
+          get_or-set_at bands (c / 64) b greatest 0 here there,
+          least 32768000000000 (h.small (c / 64)) light within,
+        )
         | inr other ↦ omega (arith, get_or-set_other bands (c / 64) b greatest 0 other, h.small b)
       ];
       there = λ k lt. omega (arith, h.there k (omega (arith, length-set cylinders c weight, lt)), length-set bands (c / 64) greatest);

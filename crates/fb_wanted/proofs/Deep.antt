@@ -1,5 +1,6 @@
 -- The upper bounds of the depth of a sector, by band.
-use Rattle.std.proofs.Common.{◌≡◌, ℕ, ◌+◌, ◌/◌, ◌<◌, ◌≤◌, inl, inr, ◌==◌, List, [], ◌∷◌, ◌++◌, Some, Bool, nat_le, true, false, if◌then◌else◌, length, length-append, filter, slice_get, get_or, set, refl, ap, sym, ◌∙◌, arith, subst}
+use Rattle.std.proofs.Common.{◌≡◌, ℕ, ◌+◌, ◌/◌, ◌<◌, ◌≤◌, inl, inr, ◌==◌, List, [], ◌∷◌, ◌++◌, Some, Bool, nat_le, true, false}
+use Rattle.std.proofs.Common.{if◌then◌else◌, length, length-append, filter, slice_get, get_or, set, refl, ap, sym, ◌∙◌, arith, subst}
 use Rattle.std.specs.List.{sum_by}
 use Rattle.std.proofs.lemmas.Bool.{cases_Bool}
 use Rattle.std.proofs.lemmas.Bool.Decides.{nat_tests}
@@ -22,10 +23,12 @@ of_band band entry = band_of entry.block == band
 
 -- the depth of a sector among the blocks that pass a test
 module _ (p : Entry → Bool) (lbn : ℕ) where
-  depth-append : (xs ys : List Entry) → sum_by (weight_on lbn) (filter p (xs ++ ys)) ≡ sum_by (weight_on lbn) (filter p xs) + sum_by (weight_on lbn) (filter p ys)
+  depth-append : (xs ys : List Entry) → sum_by (weight_on lbn) (filter p (xs ++ ys))
+      ≡ sum_by (weight_on lbn) (filter p xs) + sum_by (weight_on lbn) (filter p ys)
   depth-append xs ys = ap (sum_by (weight_on lbn)) (filter-append p xs ys) ∙ sum_by-append (weight_on lbn) (filter p xs) (filter p ys)
 
-  depth-cons : (e : Entry) (es : List Entry) → sum_by (weight_on lbn) (filter p (e ∷ es)) ≡ sum_by (weight_on lbn) (filter p (e ∷ [])) + sum_by (weight_on lbn) (filter p es)
+  depth-cons : (e : Entry) (es : List Entry)
+      → sum_by (weight_on lbn) (filter p (e ∷ es)) ≡ sum_by (weight_on lbn) (filter p (e ∷ [])) + sum_by (weight_on lbn) (filter p es)
   depth-cons e es = depth-append (e ∷ []) es
 
   depth_there : (e : Entry) → p e ≡ true → sum_by (weight_on lbn) (filter p (e ∷ [])) ≡ weight_on lbn e
@@ -46,16 +49,19 @@ one_le t lbn e = elim (cases_Bool (same_track t e.block.track)) [
 ]
 
 pub depth-le_band : (t : Track) (lbn : ℕ) (es : List Entry) → depth_at t lbn es ≤ band_depth (t.cylinder / 64) lbn es
-depth-le_band t lbn es = sum-le (depth_at t lbn) (band_depth (t.cylinder / 64) lbn) (depth-cons (of_track t) lbn) (depth-cons (of_band (t.cylinder / 64)) lbn) (omega arith) (one_le t lbn) es
+depth-le_band t lbn es = sum-le (depth_at t lbn) (band_depth (t.cylinder / 64) lbn) (depth-cons (of_track t) lbn)
+    (depth-cons (of_band (t.cylinder / 64)) lbn) (omega arith) (one_le t lbn) es
 
 -- a change of a block's state doesn't change depths
-depth-with_state : (band lbn : ℕ) (s : State) (n : ℕ) (e : Entry) (es : List Entry) → slice_get es n ≡ Some e → band_depth band lbn (with_state s n es) ≡ band_depth band lbn es
+depth-with_state : (band lbn : ℕ) (s : State) (n : ℕ) (e : Entry) (es : List Entry) → slice_get es n ≡ Some e
+    → band_depth band lbn (with_state s n es) ≡ band_depth band lbn es
 depth-with_state band lbn s n e es at =
     let same : band_depth band lbn (record { block = e.block; state = s } ∷ []) ≡ band_depth band lbn (e ∷ [])
     = elim (cases_Bool (of_band band e)) [ inl here ↦ rw here refl | inr other ↦ rw other refl ] in
     omega (arith, same, sum-with_state (band_depth band lbn) (depth-cons (of_band band) lbn) s n e es at)
 
-pub deep_set : (s : State) (n : ℕ) (e : Entry) (es : List Entry) (depths : List Depth) → slice_get es n ≡ Some e → AreDeep es depths → AreDeep (set es n (record { block = e.block; state = s })) depths
+pub deep_set : (s : State) (n : ℕ) (e : Entry) (es : List Entry) (depths : List Depth) → slice_get es n ≡ Some e → AreDeep es depths
+    → AreDeep (set es n (record { block = e.block; state = s })) depths
 deep_set s n e es depths at h = subst (λ l. AreDeep l depths) (sym (items-with_state s n e es at)) (record {
   bounds = λ band.
       let bound = h.bounds band in
@@ -67,28 +73,33 @@ deep_set s n e es depths at h = subst (λ l. AreDeep l depths) (sym (items-with_
 })
 
 -- the bounds hold too with more bands that have no block
-pub deep_still : (es : List Entry) (depths new : List Depth) → AreDeep es depths → ((k : ℕ) → get_or new k no_depth ≡ get_or depths k no_depth) → AreDeep es new
+pub deep_still : (es : List Entry) (depths new : List Depth) → AreDeep es depths
+    → ((k : ℕ) → get_or new k no_depth ≡ get_or depths k no_depth) → AreDeep es new
 deep_still es depths new h stay = record { bounds = λ band. subst (IsDeep band es) (sym (stay band)) (h.bounds band) }
 
 -- the weight of one more block still fits in the 64 bits of a bound
-pub deep_room : (es : List Entry) (depths : List Depth) (band weight : ℕ) → AreDeep es depths → length es < 16000000 → weight ≤ 1000 → (get_or depths band no_depth).most + weight < 18446744073709551616
+pub deep_room : (es : List Entry) (depths : List Depth) (band weight : ℕ) → AreDeep es depths → length es < 16000000 → weight ≤ 1000
+    → (get_or depths band no_depth).most + weight < 18446744073709551616
 deep_room es depths band weight h few light = omega (arith, (h.bounds band).small, few, light)
 
 -- the bound after one more block is registered
 module _ (band : ℕ) (es : List Entry) (e : Entry) (d : Depth) (h : IsDeep band es d) where
   room : (lbn : ℕ) → e.block.lbn ≤ lbn → band_depth band lbn es + spare_for e.block d ≤ d.most
   room lbn from = elim (cases_Bool (nat_le (d.first + d.count) e.block.lbn)) [
-    | inl behind ↦ let past : d.first + d.count ≤ e.block.lbn = grind (arith, nat_tests) in rw behind (h.behind lbn (omega (arith, past, from)))
+    | inl behind ↦ let past : d.first + d.count ≤ e.block.lbn = grind (arith, nat_tests) in
+        rw behind (h.behind lbn (omega (arith, past, from)))
     | inr other ↦ rw other (omega (arith, h.most lbn))
   ]
 
   deep_here : of_band band e ≡ true → e.block.weight ≤ 1000 → IsDeep band (es ++ e ∷ []) (deepened e.block d)
   deep_here its light =
       let more : (lbn w : ℕ) → weight_on lbn e ≡ w → band_depth band lbn (es ++ e ∷ []) ≡ band_depth band lbn es + w
-      = λ lbn w is. depth-append (of_band band) lbn es (e ∷ []) ∙ ap (λ x. band_depth band lbn es + x) (depth_there (of_band band) lbn e its ∙ is) in
+      = λ lbn w is. depth-append (of_band band) lbn es (e ∷ [])
+      ∙ ap (λ x. band_depth band lbn es + x) (depth_there (of_band band) lbn e its ∙ is) in
       record {
         most = λ lbn. elim (cases_Bool (is_in lbn e.block)) [
-          | inl inside ↦ let from : e.block.lbn ≤ lbn = grind (arith, nat_tests) in omega (arith, more lbn e.block.weight (rw inside refl), room lbn from)
+          | inl inside ↦ let from : e.block.lbn ≤ lbn = grind (arith, nat_tests) in
+              omega (arith, more lbn e.block.weight (rw inside refl), room lbn from)
           | inr outside ↦ omega (arith, more lbn 0 (rw outside refl), h.most lbn)
         ];
         behind = λ lbn past.
@@ -108,7 +119,8 @@ module _ (band : ℕ) (es : List Entry) (e : Entry) (d : Depth) (h : IsDeep band
         small = omega (arith, length-append es (e ∷ []), h.small);
       }
 
-pub deep_pushed : (es items : List Entry) (e : Entry) (band : ℕ) (depths new : List Depth) → items ≡ es ++ e ∷ [] → band ≡ band_of e.block → e.block.weight ≤ 1000 → AreDeep es depths
+pub deep_pushed : (es items : List Entry) (e : Entry) (band : ℕ) (depths new : List Depth) → items ≡ es ++ e ∷ [] → band ≡ band_of e.block
+    → e.block.weight ≤ 1000 → AreDeep es depths
     → ((k : ℕ) → get_or new k no_depth ≡ (if band == k then deepened e.block (get_or depths k no_depth) else get_or depths k no_depth))
     → AreDeep items new
 deep_pushed es items e band depths new list its light h changed = subst (λ l. AreDeep l new) (sym list) (record {

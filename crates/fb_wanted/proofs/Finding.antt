@@ -1,5 +1,6 @@
 -- The blocks of a task that share a sector with a range lie in streaks that begin near it.
-use Rattle.std.proofs.Common.{◌≡◌, ℕ, ◌+◌, ◌-◌, ◌*◌, ◌^◌, ◌<◌, ◌≤◌, ◌⊎◌, inl, inr, List, Bool, true, Some, length, slice_get, refl, ap, sym, ◌∙◌, arith}
+use Rattle.std.proofs.Common.{◌≡◌, ℕ, ◌+◌, ◌-◌, ◌*◌, ◌^◌, ◌<◌, ◌≤◌, ◌⊎◌, inl, inr, List, Bool, true, Some, length, slice_get, refl, ap, sym}
+use Rattle.std.proofs.Common.{◌∙◌, arith}
 use Rattle.std.specs.BTreeSet.{BTreeSet, contains}
 use Rattle.std.proofs.lemmas.Bool.{cases_Bool, cases_lt}
 use Rattle.std.proofs.lemmas.Bool.Decides.{nat_tests}
@@ -9,7 +10,8 @@ use Rattle.fb_wanted.specs.declared.block.Entry.{Entry}
 use Rattle.fb_wanted.specs.declared.streaks.Streak.{Streak}
 use Rattle.fb_wanted.specs.States.{shares, after}
 use Rattle.fb_wanted.specs.Numbering.{AreInOrder, blocks_of}
-use Rattle.fb_wanted.specs.Index.{of_task, lbns, region_of, IsUpTo, IsInStreak, BeginsStreak, AreNoted, AreShort, IsWithin, changed_where, key_of, streak_cmp}
+use Rattle.fb_wanted.specs.Index.{of_task, lbns, region_of, IsUpTo, IsInStreak, BeginsStreak, AreNoted, AreShort, IsWithin, changed_where}
+use Rattle.fb_wanted.specs.Index.{key_of, streak_cmp}
 use Rattle.fb_wanted.proofs.Standing.{among}
 use Rattle.fb_wanted.proofs.Numbers.{index_at}
 use Rattle.fb_wanted.proofs.OfTask.{own_after, others_after}

@@ -1,5 +1,6 @@
 -- Offers and their blocks, each found by its index among all registered ones.
-use Rattle.std.proofs.Common.{◌≡◌, ℕ, suc, ◌+◌, ◌*◌, ◌<◌, List, [], ◌∷◌, ◌++◌, Some, length, option_map, slice_get, get_or, refl, ap, sym, ◌∙◌, arith}
+use Rattle.std.proofs.Common.{◌≡◌, ℕ, suc, ◌+◌, ◌*◌, ◌<◌, List, [], ◌∷◌, ◌++◌, Some, length, option_map, slice_get, get_or, refl, ap, sym}
+use Rattle.std.proofs.Common.{◌∙◌, arith}
 use Rattle.std.specs.List.{sum_by}
 use Rattle.std.proofs.lemmas.List.{length-map}
 use Rattle.std.proofs.lemmas.List.Sums.{sum_by-cons}
@@ -32,11 +33,13 @@ found_each es offers indexes t h i o at =
     let own = h.all o.place its.entry its.there its.wanted in
     let same : own.0 ≡ i = same_Some own.0 i (sym own.1 ∙ its.index_is) in
     let here : slice_get (offers t) i ≡ Some (offer_of o.place its.entry.block)
-    = ap (slice_get (offers t)) (sym same) ∙ (ap (λ u. slice_get (offers u) own.0) (sym (same_one its.entry.block.track t its.on)) ∙ own.2) in
+    = ap (slice_get (offers t)) (sym same) ∙ (ap (λ u. slice_get (offers u) own.0) (sym (same_one its.entry.block.track t its.on))
+    ∙ own.2) in
     (its.entry.block, block_there es o.place its.entry its.there, same_Some o (offer_of o.place its.entry.block) (sym at ∙ here))
 
 -- with one more block the offers are still of the same blocks
-pub blocks_still : (es : List Entry) (e : Entry) (os : List Offer) → AreFound es os → offered_blocks (es ++ e ∷ []) os ≡ offered_blocks es os
+pub blocks_still : (es : List Entry) (e : Entry) (os : List Offer) → AreFound es os
+    → offered_blocks (es ++ e ∷ []) os ≡ offered_blocks es os
 blocks_still es e [] found = refl
 blocks_still es e (o ∷ os) found =
     let its = found 0 o refl in
@@ -48,7 +51,8 @@ blocks_still es e (o ∷ os) found =
 
 -- the offers add to each sum what their blocks do
 as_blocks : (measure : Sweep → ℕ → ℕ) (es : List Entry) (os : List Offer) → AreFound es os
-    → sum_by (λ (o : Offer). measure o.sweep o.worth) os ≡ sum_by (λ (b : Block). measure b.sweep (b.weight * b.count)) (offered_blocks es os)
+    → sum_by (λ (o : Offer). measure o.sweep o.worth) os
+    ≡ sum_by (λ (b : Block). measure b.sweep (b.weight * b.count)) (offered_blocks es os)
 as_blocks measure es [] found = refl
 as_blocks measure es (o ∷ os) found =
     let its = found 0 o refl in

@@ -1,5 +1,6 @@
 -- The indexes beside the list of registered blocks, after a block is registered or changes its state.
-use Rattle.std.proofs.Common.{◌≡◌, ℕ, ◌+◌, ◌-◌, ◌<◌, ◌≤◌, inl, inr, ◌==◌, List, [], ◌∷◌, ◌++◌, Some, true, false, length, length-append, slice_get, get_or, set, refl, ap, sym, ◌∙◌, arith, subst}
+use Rattle.std.proofs.Common.{◌≡◌, ℕ, ◌+◌, ◌-◌, ◌<◌, ◌≤◌, inl, inr, ◌==◌, List, [], ◌∷◌, ◌++◌, Some, true, false, length, length-append}
+use Rattle.std.proofs.Common.{slice_get, get_or, set, refl, ap, sym, ◌∙◌, arith, subst}
 use Rattle.std.proofs.lemmas.Bool.{cases_Bool}
 use Rattle.std.proofs.lemmas.Bool.Decides.{nat_tests}
 use Rattle.fb_units.specs.declared.types.Track.{Track}
@@ -12,8 +13,10 @@ use Rattle.fb_wanted.specs.Counting.{counts_of, no_counts, recounted}
 use Rattle.fb_wanted.specs.Numbering.{AreInOrder, AreSmall, blocks_of, registered}
 use Rattle.fb_wanted.specs.States.{is_wanted}
 use Rattle.fb_wanted.specs.Tracks.{wanted_weight}
-use Rattle.fb_wanted.specs.Index.{OnTrack, of_task, of_track, places, grown, reweighed, no_blocks, grown_task, counted_anew, kept_of_task, track_at, weight_kept, offers_at, IsKept, IsChanged, IsTaskChanged, with_state}
-use Rattle.fb_wanted.proofs.Standing.{length-with_state, items-with_state, blocks-with_state, places-with_state, places-more_yes, places-more_no}
+use Rattle.fb_wanted.specs.Index.{OnTrack, of_task, of_track, places, grown, reweighed, no_blocks, grown_task, counted_anew, kept_of_task}
+use Rattle.fb_wanted.specs.Index.{track_at, weight_kept, offers_at, IsKept, IsChanged, IsTaskChanged, with_state}
+use Rattle.fb_wanted.proofs.Standing.{length-with_state, items-with_state, blocks-with_state, places-with_state, places-more_yes}
+use Rattle.fb_wanted.proofs.Standing.{places-more_no}
 use Rattle.fb_wanted.proofs.Numbers.{numbered-more, small-more}
 use Rattle.fb_wanted.proofs.Counted.{counts-grown, counts-grown_other, counts-with_state, counts-with_other}
 use Rattle.fb_wanted.proofs.Weights.{weight-append, weight-with_state, weight_elsewhere, weight_unwanted, weight_at}

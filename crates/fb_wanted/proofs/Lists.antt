@@ -22,7 +22,8 @@ taken_back old one two n place added back k =
     let itself : (n == n) ≡ true = grind (arith, nat_tests) in
     let last : get_or one n no_blocks ≡ joined place (get_or old n no_blocks) = added n ∙ rw itself refl in
     elim (cases_Bool (n == k)) [
-      | inl here ↦ let same : n ≡ k = grind (arith, nat_tests) in back (get_or old n no_blocks) place last k ∙ rw here (ap (λ j. get_or old j no_blocks) same)
+      | inl here ↦ let same : n ≡ k = grind (arith, nat_tests) in back (get_or old n no_blocks) place last k
+          ∙ rw here (ap (λ j. get_or old j no_blocks) same)
       | inr other ↦ back (get_or old n no_blocks) place last k ∙ rw other (added k ∙ rw other refl)
     ]
 
@@ -33,7 +34,8 @@ pub joined_counted : (old one two : List OfTask) (place : ℕ) (e : Entry) (lost
 joined_counted old one two place e lost gained none more added counted k = elim (cases_Bool (e.block.task == k)) [
   | inl here ↦
       let blocks = joined place (get_or old k no_blocks) in
-      counted k ∙ rw here (ap (counted_anew lost gained) (added k ∙ rw here refl) ∙ (ap (λ x. counted_anew x gained blocks) none ∙ ap (λ x. counted_anew no_counts x blocks) more))
+      counted k ∙ rw here (ap (counted_anew lost gained) (added k ∙ rw here refl)
+      ∙ (ap (λ x. counted_anew x gained blocks) none ∙ ap (λ x. counted_anew no_counts x blocks) more))
   | inr other ↦ counted k ∙ rw other (added k ∙ rw other refl)
 ]
 
@@ -43,5 +45,6 @@ from_pair task from j h = grind (arith, nat_tests)
 pub seconds_rise : (task other i j : ℕ) → is_gt (pair_cmp (other, i) (task, j)) ≡ false → other ≡ task → i ≤ j
 seconds_rise task other i j h same = grind (arith, nat_tests)
 
-pub first_stays : (task from other i j : ℕ) → is_gt (pair_cmp (task, from) (other, i)) ≡ false → is_gt (pair_cmp (other, i) (task, j)) ≡ false → other ≡ task
+pub first_stays : (task from other i j : ℕ) → is_gt (pair_cmp (task, from) (other, i)) ≡ false
+    → is_gt (pair_cmp (other, i) (task, j)) ≡ false → other ≡ task
 first_stays task from other i j up down = grind (arith, nat_tests)

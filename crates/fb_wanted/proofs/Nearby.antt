@@ -17,14 +17,17 @@ pub near-with_state : (s : State) (n : ℕ) (es : List Entry) (near : BTreeSet (
 near-with_state s n es near h i block at = h i block (ap (λ bs. slice_get bs i) (sym (blocks-with_state s n es)) ∙ at)
 
 -- what is noted besides changes nothing
-pub near_still : (es : List Entry) (near new : BTreeSet (ℕ × ℕ)) → AreNear es near → ((k : ℕ × ℕ) → contains pair_cmp near k ≡ true → contains pair_cmp new k ≡ true) → AreNear es new
+pub near_still : (es : List Entry) (near new : BTreeSet (ℕ × ℕ)) → AreNear es near
+    → ((k : ℕ × ℕ) → contains pair_cmp near k ≡ true → contains pair_cmp new k ≡ true) → AreNear es new
 near_still es near new h stay i block at = stay (near_of block) (h i block at)
 
 -- a block more, which begins where one of its task does or is noted
-pub near_pushed : (es items : List Entry) (e : Entry) (near new : BTreeSet (ℕ × ℕ)) (chunk : ℕ) (is_new : Bool) → items ≡ es ++ e ∷ [] → AreNear es near
+pub near_pushed : (es items : List Entry) (e : Entry) (near new : BTreeSet (ℕ × ℕ)) (chunk : ℕ) (is_new : Bool) → items ≡ es ++ e ∷ []
+    → AreNear es near
     → ((k : ℕ × ℕ) → contains pair_cmp near k ≡ true → contains pair_cmp new k ≡ true) → chunk ≡ chunk_of e.block.lbn
     → (is_new ≡ true → contains pair_cmp new (chunk, e.block.task) ≡ true)
-    → (is_new ≡ false → (i : ℕ) × (before : Block) × (slice_get (blocks_of es) i ≡ Some before) × (near_of before ≡ near_of e.block)) → AreNear items new
+    → (is_new ≡ false → (i : ℕ) × (before : Block) × (slice_get (blocks_of es) i ≡ Some before) × (near_of before ≡ near_of e.block))
+    → AreNear items new
 near_pushed es items e near new chunk is_new list h stay is noted before = subst (λ l. AreNear l new) (sym list) (λ i block at.
     elim (in_either (blocks_of es) e.block block i (ap (λ bs. slice_get bs i) (sym (blocks-more es e)) ∙ at)) [
       | inl old ↦ stay (near_of block) (h i block old.1)

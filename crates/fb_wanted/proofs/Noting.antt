@@ -1,5 +1,6 @@
 -- What is noted of streaks as a block is registered.
-use Rattle.std.proofs.Common.{◌≡◌, ℕ, suc, ◌-◌, ◌<◌, ◌≤◌, ◌⊎◌, inl, inr, ◌==◌, List, [], ◌∷◌, ◌++◌, Bool, true, false, Some, length, filter, slice_get, refl, ap, sym, ◌∙◌, arith, subst}
+use Rattle.std.proofs.Common.{◌≡◌, ℕ, suc, ◌-◌, ◌<◌, ◌≤◌, ◌⊎◌, inl, inr, ◌==◌, List, [], ◌∷◌, ◌++◌, Bool, true, false, Some, length, filter}
+use Rattle.std.proofs.Common.{slice_get, refl, ap, sym, ◌∙◌, arith, subst}
 use Rattle.std.specs.BTreeSet.{BTreeSet, contains}
 use Rattle.std.proofs.lemmas.Bool.{cases_Bool, true≢false}
 use Rattle.std.proofs.lemmas.Bool.Decides.{nat_tests}
@@ -15,7 +16,8 @@ none_yet : (xs : List ℕ) (streak : Streak) → streak.index ≡ length xs → 
 none_yet xs streak is h = omega (arith, is, slice_get_within xs streak.index h.lbn h.at)
 
 -- no block is longer than the longest when one more follows
-pub short_more : (es : List Entry) (e : Entry) (old new : ℕ) → AreShort old es → old ≤ new → e.block.count ≤ new → AreShort new (es ++ e ∷ [])
+pub short_more : (es : List Entry) (e : Entry) (old new : ℕ) → AreShort old es → old ≤ new → e.block.count ≤ new
+    → AreShort new (es ++ e ∷ [])
 short_more es e old new h more short i x at = elim (in_either es e x i at) [
   | inl there ↦ let few = h i x there.1 in omega (arith, few, more)
   | inr last ↦ omega (arith, short, ap (λ y. y.block.count) last.1)
@@ -24,16 +26,19 @@ short_more es e old new h more short i x at = elim (in_either es e x i at) [
 same_triple : (a b c d e f : ℕ) → a ≡ b → c ≡ d → e ≡ f → ◌≡◌ {A = ℕ × ℕ × ℕ} (a, c, e) (b, d, f)
 same_triple a b c d e f x y z = rw (x, y, z) refl
 
-module _ (es : List Entry) (task region index : ℕ) (old noted : BTreeSet (ℕ × ℕ × ℕ)) (begins : Bool) (h : AreNoted es old) (next : index ≡ length (filter (of_task task) es))
+module _ (es : List Entry) (task region index : ℕ) (old noted : BTreeSet (ℕ × ℕ × ℕ)) (begins : Bool) (h : AreNoted es old)
+    (next : index ≡ length (filter (of_task task) es))
     (stay : (k : ℕ × ℕ × ℕ) → contains streak_cmp old k ≡ true → contains streak_cmp noted k ≡ true)
-    (more : (k : ℕ × ℕ × ℕ) → contains streak_cmp noted k ≡ true → (contains streak_cmp old k ≡ true) ⊎ ((begins ≡ true) × (k ≡ (task, region, index)))) where
+    (more : (k : ℕ × ℕ × ℕ) → contains streak_cmp noted k ≡ true
+    → (contains streak_cmp old k ≡ true) ⊎ ((begins ≡ true) × (k ≡ (task, region, index)))) where
   at_end : index ≡ length (lbns task es)
   at_end = next ∙ sym (length-lbns task es)
 
   -- what was noted, and taken back
   pub noted_back : (back : BTreeSet (ℕ × ℕ × ℕ)) → contains streak_cmp back (task, region, index) ≡ false
       → ((k : ℕ × ℕ × ℕ) → contains streak_cmp back k ≡ true → contains streak_cmp noted k ≡ true)
-      → ((k : ℕ × ℕ × ℕ) → contains streak_cmp noted k ≡ true → (contains streak_cmp back k ≡ true) ⊎ (k ≡ (task, region, index))) → AreNoted es back
+      → ((k : ℕ × ℕ × ℕ) → contains streak_cmp noted k ≡ true → (contains streak_cmp back k ≡ true) ⊎ (k ≡ (task, region, index)))
+      → AreNoted es back
   noted_back back gone only others t streak = (
     λ has. elim (more (key_of t streak) (only (key_of t streak) has)) [
       | inl was ↦ (h t streak).0 was
@@ -49,9 +54,11 @@ module _ (es : List Entry) (task region index : ℕ) (old noted : BTreeSet (ℕ 
   )
 
   -- after the block is registered that begins a streak, or lies in the region of the one before it
-  pub noted_more : (e : Entry) → e.block.task ≡ task → region_of e.block.lbn ≡ region → (begins ≡ true → contains streak_cmp noted (task, region, index) ≡ true)
+  pub noted_more : (e : Entry) → e.block.task ≡ task → region_of e.block.lbn ≡ region
+      → (begins ≡ true → contains streak_cmp noted (task, region, index) ≡ true)
       → (begins ≡ false → (last : ℕ) × (0 < index) × (slice_get (lbns task es) (index - 1) ≡ Some last) × (region_of last ≡ region))
-      → (begins ≡ true → (i before : ℕ) → suc i ≡ index → slice_get (lbns task es) i ≡ Some before → region_of before ≡ region → ⊥) → AreNoted (es ++ e ∷ []) noted
+      → (begins ≡ true → (i before : ℕ) → suc i ≡ index → slice_get (lbns task es) i ≡ Some before → region_of before ≡ region → ⊥)
+      → AreNoted (es ++ e ∷ []) noted
   noted_more e same_task its_region is last fresh t streak = elim (cases_Bool (e.block.task == t)) [
     | inl own ↦
         let here : t ≡ task = grind (arith, nat_tests, same_task) in
@@ -59,15 +66,20 @@ module _ (es : List Entry) (task region index : ℕ) (old noted : BTreeSet (ℕ 
         let end : index ≡ length (lbns t es) = at_end ∙ ap (λ x. length (lbns x es)) (sym here) in (
           λ has. subst (λ l. BeginsStreak l streak) (sym list) (elim (more (key_of t streak) has) [
             | inl was ↦ streaks_stay (lbns t es) e.block.lbn streak ((h t streak).0 was)
-            | inr new ↦ last_begins (lbns t es) e.block.lbn streak (ap (λ (k : ℕ × ℕ × ℕ). k.2) new.1 ∙ end) (ap (λ (k : ℕ × ℕ × ℕ). k.1) new.1 ∙ sym its_region) (λ i before next_to at same.
-                fresh new.0 i before (next_to ∙ ap (λ (k : ℕ × ℕ × ℕ). k.2) new.1) (ap (λ x. slice_get (lbns x es) i) (sym here) ∙ at) (same ∙ ap (λ (k : ℕ × ℕ × ℕ). k.1) new.1))
+            | inr new ↦ last_begins (lbns t es) e.block.lbn streak (ap (λ (k : ℕ × ℕ × ℕ). k.2) new.1 ∙ end)
+                (ap (λ (k : ℕ × ℕ × ℕ). k.1) new.1 ∙ sym its_region) (λ i before next_to at same.
+                fresh new.0 i before (next_to ∙ ap (λ (k : ℕ × ℕ × ℕ). k.2) new.1) (ap (λ x. slice_get (lbns x es) i) (sym here) ∙ at) (same
+                ∙ ap (λ (k : ℕ × ℕ × ℕ). k.1) new.1))
           ]),
           λ streaks. elim (streak_or_last (lbns t es) e.block.lbn streak (subst (λ l. BeginsStreak l streak) list streaks)) [
             | inl old_streak ↦ stay (key_of t streak) ((h t streak).1 old_streak)
             | inr new ↦ elim (cases_Bool begins) [
               | inl yes' ↦
-                  ap (contains streak_cmp noted) (same_triple t task streak.region region streak.index index here (new.1 ∙ its_region) (new.0 ∙ sym end)) ∙ is yes'
-              | inr no' ↦ let before = last no' in absurd (new.2 (index - 1) before.0 (omega (arith, before.1, new.0, end)) (ap (λ x. slice_get (lbns x es) (index - 1)) here ∙ before.2) (before.3 ∙ sym (new.1 ∙ its_region)))
+                  ap (contains streak_cmp noted) (same_triple t task streak.region region streak.index index here (new.1 ∙ its_region)
+                  (new.0 ∙ sym end)) ∙ is yes'
+              | inr no' ↦ let before = last no' in absurd
+                  (new.2 (index - 1) before.0 (omega (arith, before.1, new.0, end)) (ap (λ x. slice_get (lbns x es) (index - 1)) here
+                  ∙ before.2) (before.3 ∙ sym (new.1 ∙ its_region)))
             ]
           ],
         )
@@ -75,7 +87,8 @@ module _ (es : List Entry) (task region index : ℕ) (old noted : BTreeSet (ℕ 
         let list = lbns-other t es e other in (
           λ has. subst (λ l. BeginsStreak l streak) (sym list) (elim (more (key_of t streak) has) [
             | inl was ↦ (h t streak).0 was
-            | inr new ↦ let same : t ≡ task = ap (λ (k : ℕ × ℕ × ℕ). k.0) new.1 in absurd (true≢false (sym (grind (arith, nat_tests, same, same_task)) ∙ other))
+            | inr new ↦ let same : t ≡ task = ap (λ (k : ℕ × ℕ × ℕ). k.0) new.1 in
+                absurd (true≢false (sym (grind (arith, nat_tests, same, same_task)) ∙ other))
           ]),
           λ streaks. stay (key_of t streak) ((h t streak).1 (subst (λ l. BeginsStreak l streak) list streaks)),
         )

@@ -1,5 +1,6 @@
 -- The numbers of blocks in their tasks.
-use Rattle.std.proofs.Common.{◌≡◌, ℕ, zero, suc, ◌<◌, ◌≤◌, ◌⊎◌, inl, inr, ◌==◌, List, [], ◌∷◌, ◌++◌, Bool, true, Some, if◌then◌else◌, length, append-nil, filter, slice_get, get_or, take, refl, ap, sym, ◌∙◌, arith, subst, option_map}
+use Rattle.std.proofs.Common.{◌≡◌, ℕ, zero, suc, ◌<◌, ◌≤◌, ◌⊎◌, inl, inr, ◌==◌, List, [], ◌∷◌, ◌++◌, Bool, true, Some, if◌then◌else◌}
+use Rattle.std.proofs.Common.{length, append-nil, filter, slice_get, get_or, take, refl, ap, sym, ◌∙◌, arith, subst, option_map}
 use Rattle.std.proofs.lemmas.Bool.{cases_Bool}
 use Rattle.std.proofs.lemmas.Bool.Decides.{nat_tests}
 use Rattle.std.proofs.lemmas.List.Elements.{filter-append}
@@ -12,14 +13,19 @@ use Rattle.fb_wanted.specs.Index.{of_task, places}
 use Rattle.fb_wanted.proofs.Standing.{among}
 
 -- an element of a list with one more at the end is in the list, or it is the new one
-pub in_either : {X : Type 0} (xs : List X) (y x : X) (i : ℕ) → slice_get (xs ++ y ∷ []) i ≡ Some x → ((i < length xs) × (slice_get xs i ≡ Some x)) ⊎ ((i ≡ length xs) × (x ≡ y))
+pub in_either : {X : Type 0} (xs : List X) (y x : X) (i : ℕ) → slice_get (xs ++ y ∷ []) i ≡ Some x
+    → ((i < length xs) × (slice_get xs i ≡ Some x)) ⊎ ((i ≡ length xs) × (x ≡ y))
 in_either [] y x zero h = inr (refl, grind arith)
 in_either [] y x (suc i) h = absurd (grind arith)
 in_either (z ∷ zs) y x zero h = inl (omega arith, h)
-in_either (z ∷ zs) y x (suc i) h = elim (in_either zs y x i h) [ inl k ↦ inl (omega (arith, k.0), k.1) | inr k ↦ inr (omega (arith, k.0), k.1) ]
+in_either (z ∷ zs) y x (suc i) h = elim (in_either zs y x i h) [
+  | inl k ↦ inl (omega (arith, k.0), k.1)
+  | inr k ↦ inr (omega (arith, k.0), k.1)
+]
 
 -- the index of an element that passes a test among those that pass
-pub filter_at : {X : Type 0} (p : X → Bool) (xs : List X) (k : ℕ) (d : X) → k < length xs → p (get_or xs k d) ≡ true → slice_get (filter p xs) (length (filter p (take k xs))) ≡ Some (get_or xs k d)
+pub filter_at : {X : Type 0} (p : X → Bool) (xs : List X) (k : ℕ) (d : X) → k < length xs → p (get_or xs k d) ≡ true
+    → slice_get (filter p xs) (length (filter p (take k xs))) ≡ Some (get_or xs k d)
 filter_at p [] k d h yes' = absurd (omega arith)
 filter_at p (x ∷ xs) zero d h pass = rw pass refl
 filter_at p (x ∷ xs) (suc k) d h pass = elim (cases_Bool (p x)) [
@@ -45,20 +51,24 @@ in_order-more bs b h new task k block at =
     elim (cases_Bool (b.task == task)) [
       | inl own ↦
           let same : b.task ≡ task = grind (arith, nat_tests) in
-          let list : filter (λ other. other.task == task) (bs ++ b ∷ []) ≡ filter (λ other. other.task == task) bs ++ b ∷ [] = split ∙ ap (λ v. filter (λ other. other.task == task) bs ++ (if v then b ∷ [] else [])) own in
+          let list : filter (λ other. other.task == task) (bs ++ b ∷ []) ≡ filter (λ other. other.task == task) bs ++ b ∷ [] = split
+          ∙ ap (λ v. filter (λ other. other.task == task) bs ++ (if v then b ∷ [] else [])) own in
           elim (in_either (filter (λ other. other.task == task) bs) b block k (ap (λ l. slice_get l k) (sym list) ∙ at)) [
             | inl old ↦ h task k block old.1
             | inr last ↦ ap (λ c. c.index) last.1 ∙ (new ∙ (ap (λ t. registered t bs) same ∙ sym last.0))
           ]
       | inr other ↦
-          let list : filter (λ other. other.task == task) (bs ++ b ∷ []) ≡ filter (λ other. other.task == task) bs = split ∙ (ap (λ v. filter (λ other. other.task == task) bs ++ (if v then b ∷ [] else [])) other ∙ append-nil _) in
+          let list : filter (λ other. other.task == task) (bs ++ b ∷ []) ≡ filter (λ other. other.task == task) bs = split
+          ∙ (ap (λ v. filter (λ other. other.task == task) bs ++ (if v then b ∷ [] else [])) other ∙ append-nil _) in
           h task k block (ap (λ l. slice_get l k) (sym list) ∙ at)
     ]
 
-pub numbered-more : (es : List Entry) (e : Entry) → AreInOrder (blocks_of es) → e.block.index ≡ registered e.block.task (blocks_of es) → AreInOrder (blocks_of (es ++ e ∷ []))
+pub numbered-more : (es : List Entry) (e : Entry) → AreInOrder (blocks_of es) → e.block.index ≡ registered e.block.task (blocks_of es)
+    → AreInOrder (blocks_of (es ++ e ∷ []))
 numbered-more es e h new = subst AreInOrder (sym (blocks-more es e)) (in_order-more (blocks_of es) e.block h new)
 
-pub small-more : (es : List Entry) (e : Entry) → AreSmall (blocks_of es) → e.block.weight ≤ 1000 → e.block.count ≤ 2048 → AreSmall (blocks_of (es ++ e ∷ []))
+pub small-more : (es : List Entry) (e : Entry) → AreSmall (blocks_of es) → e.block.weight ≤ 1000 → e.block.count ≤ 2048
+    → AreSmall (blocks_of (es ++ e ∷ []))
 small-more es e h light short = subst AreSmall (sym (blocks-more es e)) (λ i b at. elim (in_either (blocks_of es) e.block b i at) [
   | inl old ↦ h i b old.1
   | inr new ↦ subst (λ c. (c.weight ≤ 1000) × (c.count ≤ 2048)) (sym new.1) (light, short)
@@ -74,14 +84,16 @@ pub small_at : (es : List Entry) (i : ℕ) (e : Entry) → AreSmall (blocks_of e
 small_at es i e h at = h i e.block (block_there es i e at)
 
 -- the k-th block of a task has the number k
-pub index_at : (es : List Entry) (task k : ℕ) (e : Entry) → AreInOrder (blocks_of es) → slice_get (filter (of_task task) es) k ≡ Some e → e.block.index ≡ k
+pub index_at : (es : List Entry) (task k : ℕ) (e : Entry) → AreInOrder (blocks_of es) → slice_get (filter (of_task task) es) k ≡ Some e
+    → e.block.index ≡ k
 index_at es task k e h at = h task k e.block (ap (λ l. slice_get l k) (task-blocks task es) ∙ block_there (filter (of_task task) es) k e at)
 
 pub block_is : (task index : ℕ) (e : Entry) → is_block task index e ≡ true → (of_task task e ≡ true) × (e.block.index ≡ index)
 block_is task index e h = (grind (arith, nat_tests), grind (arith, nat_tests))
 
 -- the block with a number in its task is found at that index among the blocks of the task
-pub found : (es : List Entry) (task index i : ℕ) (e : Entry) → AreInOrder (blocks_of es) → slice_get es i ≡ Some e → is_block task index e ≡ true
+pub found : (es : List Entry) (task index i : ℕ) (e : Entry) → AreInOrder (blocks_of es) → slice_get es i ≡ Some e
+    → is_block task index e ≡ true
     → (slice_get (places (of_task task) es) index ≡ Some i) × (slice_get (filter (of_task task) es) index ≡ Some e)
 found es task index i e h at is =
     let own = block_is task index e is in

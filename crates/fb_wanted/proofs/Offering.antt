@@ -1,5 +1,6 @@
 -- What the wanted blocks of each track offer, after a block is registered or changes its state.
-use Rattle.std.proofs.Common.{◌≡◌, ℕ, ◌+◌, ◌-◌, ◌<◌, ◌≤◌, ◌⊎◌, inl, inr, List, [], ◌∷◌, ◌++◌, Some, true, false, length, length-append, filter, map, set, slice_get, get_or, refl, ap, sym, ◌∙◌, arith, subst}
+use Rattle.std.proofs.Common.{◌≡◌, ℕ, ◌+◌, ◌-◌, ◌<◌, ◌≤◌, ◌⊎◌, inl, inr, List, [], ◌∷◌, ◌++◌, Some, true, false, length, length-append}
+use Rattle.std.proofs.Common.{filter, map, set, slice_get, get_or, refl, ap, sym, ◌∙◌, arith, subst}
 use Rattle.std.specs.List.{sum_by}
 use Rattle.std.proofs.lemmas.Bool.{cases_Bool, cases_eq, cases_lt, true≢false}
 use Rattle.std.proofs.lemmas.List.{length-map, length-set, map-append}
@@ -14,12 +15,14 @@ use Rattle.fb_wanted.specs.declared.block.State.TheVariants.{Wanted}
 use Rattle.fb_wanted.specs.declared.offer.Offer.{Offer}
 use Rattle.fb_wanted.specs.Offers.{AreSameBlocks, offer_of, offered_blocks, no_block}
 use Rattle.fb_wanted.specs.States.{is_wanted, on_track, wanted_of}
-use Rattle.fb_wanted.specs.Index.{OnTrack, places, of_track, no_offer, last_of, taken_out, with_offer, without_offer, offers_at, with_state, AreOffered, IsItsOffer, IsChanged}
+use Rattle.fb_wanted.specs.Index.{OnTrack, places, of_track, no_offer, last_of, taken_out, with_offer, without_offer, offers_at, with_state}
+use Rattle.fb_wanted.specs.Index.{AreOffered, IsItsOffer, IsChanged}
 use Rattle.fb_wanted.proofs.Counted.{filter-le}
 use Rattle.fb_wanted.proofs.Found.{block_at, block_is, blocks_still, found_each}
 use Rattle.fb_wanted.proofs.Kept.{same_one, same_itself, changed_here, unchanged}
 use Rattle.fb_wanted.proofs.Numbers.{in_either}
-use Rattle.fb_wanted.proofs.Elements.{at_left, at_end, set_same, set_other, removed_within, removed_other, removed_at, last_at, state_other, state_at}
+use Rattle.fb_wanted.proofs.Elements.{at_left, at_end, set_same, set_other, removed_within, removed_other, removed_at, last_at, state_other}
+use Rattle.fb_wanted.proofs.Elements.{state_at}
 use Rattle.fb_wanted.proofs.Standing.{length-places, length-with_state, blocks-with_state, places-with_state}
 use Rattle.fb_wanted.proofs.Sums.{sums-map}
 use Rattle.fb_wanted.proofs.Weights.{sum_wanted, by-append, by-with_state, by_elsewhere, by_unwanted, by_wanted}
@@ -60,7 +63,14 @@ offered_pushed es offers indexes e index h un = record {
     by_unwanted measure (of_track t) e un,
   );
   each = λ t i o at. let its = h.each t i o at in
-      record { entry = its.entry; there = at_left es e its.entry o.place its.there; on = its.on; wanted = its.wanted; index_is = at_left indexes index i o.place its.index_is };
+      record {
+        entry = its.entry;
+        there = at_left es e its.entry o.place its.there;
+        on = its.on;
+        wanted = its.wanted;
+        index_is =
+            at_left indexes index i o.place its.index_is;
+      };
   all = λ p x at yes'. elim (in_either es e x p at) [
     | inl old ↦ let it = h.all p x old.1 yes' in (it.0, at_left indexes index it.0 p it.1, it.2)
     | inr last ↦ absurd (true≢false (sym yes' ∙ (ap (λ y. is_wanted y.state) last.1 ∙ un)))
@@ -73,7 +83,8 @@ module _ (es : List Entry) (indexes : List ℕ) (p : ℕ) (e : Entry) (s : State
   turned = record { block = e.block; state = s }
 
   -- offers are of the same blocks after the change
-  same_sum : (measure : Block → ℕ) (os : List Offer) → sum_by measure (offered_blocks (with_state s p es) os) ≡ sum_by measure (offered_blocks es os)
+  same_sum : (measure : Block → ℕ) (os : List Offer)
+      → sum_by measure (offered_blocks (with_state s p es) os) ≡ sum_by measure (offered_blocks es os)
   same_sum measure os = ap (λ bs. sum_by measure (map (λ o. get_or bs o.place no_block) os)) (blocks-with_state s p es)
 
   -- an entry after the change is the block itself, or as it was
@@ -170,7 +181,8 @@ module _ (es : List Entry) (indexes : List ℕ) (p : ℕ) (e : Entry) (s : State
         ∙ (sum_by_push measure (offered_blocks es os) (block_at es p)
         ∙ ap (λ b. sum_by measure (offered_blocks es os) + measure b) (block_is es p e at))
 
-    given_sums : (t : Track) → AreSameBlocks (offered_blocks (with_state s p es) (offers_at new t)) (wanted_of (on_track t (with_state s p es)))
+    given_sums : (t : Track) → AreSameBlocks (offered_blocks (with_state s p es) (offers_at new t))
+        (wanted_of (on_track t (with_state s p es)))
     given_sums t measure =
         let same = same_sum measure (offers_at new t) in
         let change = by-with_state measure (of_track t) s p e es at in
@@ -275,7 +287,8 @@ module _ (es : List Entry) (indexes : List ℕ) (p : ℕ) (e : Entry) (s : State
       as_they_were : (t : Track) → same_track own_track t ≡ false → offers_at new t ≡ offers_at tracks t
       as_they_were t other = ap (λ o. o.offers) (unchanged tracks new own_track (without_offer i) changed t other)
 
-      rest_sum : (measure : Block → ℕ) → sum_by measure (offered_blocks es (taken_out i offers)) + measure e.block ≡ sum_by measure (offered_blocks es offers)
+      rest_sum : (measure : Block → ℕ) → sum_by measure (offered_blocks es (taken_out i offers)) + measure e.block
+          ≡ sum_by measure (offered_blocks es offers)
       rest_sum measure =
           let its = λ (o : Offer). measure (block_at es o.place) in
           let own = ap its (get_or_from_slice_get offers i (offer_of p e.block) no_offer own_at) ∙ ap measure (block_is es p e at) in
@@ -283,7 +296,8 @@ module _ (es : List Entry) (indexes : List ℕ) (p : ℕ) (e : Entry) (s : State
           ∙ (ap (λ n. sum_by its (taken_out i offers) + n) (sym own)
           ∙ (sum_by-swap_remove its offers i no_offer own_within ∙ sym (sums-map measure (λ o. block_at es o.place) offers)))
 
-      taken_sums : (t : Track) → AreSameBlocks (offered_blocks (with_state s p es) (offers_at new t)) (wanted_of (on_track t (with_state s p es)))
+      taken_sums : (t : Track) → AreSameBlocks (offered_blocks (with_state s p es) (offers_at new t))
+          (wanted_of (on_track t (with_state s p es)))
       taken_sums t measure =
           let same = same_sum measure (offers_at new t) in
           let change = by-with_state measure (of_track t) s p e es at in
@@ -307,7 +321,8 @@ module _ (es : List Entry) (indexes : List ℕ) (p : ℕ) (e : Entry) (s : State
           (set_other indexes moved.place o.place i not_moved) its
 
       -- a block with another index is another
-      apart : (q : ℕ) (j k : ℕ) → slice_get indexes q ≡ Some j → (place : ℕ) → slice_get indexes place ≡ Some k → (j ≡ k → ⊥) → place ≡ q → ⊥
+      apart : (q : ℕ) (j k : ℕ) → slice_get indexes q ≡ Some j → (place : ℕ) → slice_get indexes place ≡ Some k → (j ≡ k → ⊥) → place ≡ q
+          → ⊥
       apart q j k here place there ne same = ne (same_Some j k (sym here ∙ (ap (slice_get indexes) (sym same) ∙ there)))
 
       -- a block of another track is another
@@ -345,7 +360,8 @@ module _ (es : List Entry) (indexes : List ℕ) (p : ℕ) (e : Entry) (s : State
                   (same_one own_track t here)) ∙ (sym (removed_other offers i no_offer j ne low) ∙ at_j) in
                   let its = h.each t j o old in
                   other_its t j o (apart p i j index_is o.place its.index_is (λ e. ne (sym e)))
-                  (apart moved.place (length offers - 1) j moved_its.index_is o.place its.index_is (λ e. absurd (omega (arith, e, low)))) its
+                  (apart moved.place (length offers - 1) j moved_its.index_is o.place its.index_is (λ e. absurd (omega (arith, e, low))))
+                  its
             ]
         | inr other ↦
             let its = h.each t j o (ap (λ l. slice_get l j) (sym (as_they_were t other)) ∙ there) in

@@ -1,5 +1,6 @@
 -- What the indexes say of a task and of a track.
-use Rattle.std.proofs.Common.{◌≡◌, ℕ, ◌<◌, ◌≤◌, inl, inr, List, [], ◌∷◌, Some, true, length, filter, slice_get, get_or, ◌*◌, refl, ap, sym, ◌∙◌, arith}
+use Rattle.std.proofs.Common.{◌≡◌, ℕ, ◌<◌, ◌≤◌, inl, inr, List, [], ◌∷◌, Some, true, length, filter, slice_get, get_or, ◌*◌, refl, ap, sym}
+use Rattle.std.proofs.Common.{◌∙◌, arith}
 use Rattle.std.proofs.lemmas.Bool.{cases_lt}
 use Rattle.std.proofs.lemmas.Bool.Decides.{nat_tests}
 use Rattle.std.proofs.lemmas.List.{get_or_past}
@@ -18,10 +19,12 @@ use Rattle.fb_wanted.proofs.Kept.{same_itself}
 use Rattle.fb_wanted.proofs.Weights.{weight_at, weight-le}
 
 module _ (es : List Entry) (tasks : List OfTask) (tracks : List (List OnTrack)) (h : IsKept es tasks tracks) where
-  task_length : (task : ℕ) (blocks : OfTask) → blocks ≡ get_or tasks task no_blocks → length blocks.places ≡ length (filter (of_task task) es)
+  task_length : (task : ℕ) (blocks : OfTask) → blocks ≡ get_or tasks task no_blocks
+      → length blocks.places ≡ length (filter (of_task task) es)
   task_length task blocks at = ap (λ b. length b.places) (at ∙ h.index.by_task task) ∙ length-places (of_task task) es
 
-  pub task_count : (task n : ℕ) (blocks : OfTask) → n ≡ length blocks.places → blocks ≡ get_or tasks task no_blocks → (n ≤ 16000000) × (n ≡ length (filter (of_task task) es))
+  pub task_count : (task n : ℕ) (blocks : OfTask) → n ≡ length blocks.places → blocks ≡ get_or tasks task no_blocks
+      → (n ≤ 16000000) × (n ≡ length (filter (of_task task) es))
   task_count task n blocks is at =
       let same : n ≡ length (filter (of_task task) es) = is ∙ task_length task blocks at in
       (omega (arith, same, filter-le (of_task task) es, h.few), same)
@@ -35,7 +38,8 @@ module _ (es : List Entry) (tasks : List OfTask) (tracks : List (List OnTrack)) 
     | inr past ↦ absurd (omega (arith, no_task task past, lt))
   ]
 
-  pub task_place : (task k : ℕ) (blocks : OfTask) → blocks ≡ get_or tasks task no_blocks → k < length (filter (of_task task) es) → k < length blocks.places
+  pub task_place : (task k : ℕ) (blocks : OfTask) → blocks ≡ get_or tasks task no_blocks → k < length (filter (of_task task) es)
+      → k < length blocks.places
   task_place task k blocks at lt = omega (arith, task_length task blocks at, lt)
 
   -- the counts in the index are those of the task
@@ -52,17 +56,20 @@ module _ (es : List Entry) (tasks : List OfTask) (tracks : List (List OnTrack)) 
       let place = among (of_task e.block.task) es n e at own in
       task_there e.block.task place.0 (slice_get_within (filter (of_task e.block.task) es) place.0 e place.2)
 
-  pub counts_part : (n : ℕ) (e : Entry) (lost : Counts) → slice_get es n ≡ Some e → lost ≡ counts_of e.block.task (e ∷ []) → AreNoMore lost (get_or tasks e.block.task no_blocks).counts
+  pub counts_part : (n : ℕ) (e : Entry) (lost : Counts) → slice_get es n ≡ Some e → lost ≡ counts_of e.block.task (e ∷ [])
+      → AreNoMore lost (get_or tasks e.block.task no_blocks).counts
   counts_part n e lost at is = rw (is, kept_counts e.block.task) (counts_at e.block.task n e es at)
 
   -- the counts of a task with one more block fit in their 32 bits
-  pub counts_room : (task : ℕ) (e : Entry) (gained : Counts) → gained ≡ counts_of task (e ∷ []) → Fit (sum_of (get_or tasks task no_blocks).counts gained)
+  pub counts_room : (task : ℕ) (e : Entry) (gained : Counts) → gained ≡ counts_of task (e ∷ [])
+      → Fit (sum_of (get_or tasks task no_blocks).counts gained)
   counts_room task e gained is =
       let one = counts-few task (e ∷ []) in
       let all = counts-few task es in
       rw (is, kept_counts task) (omega (arith, one.0, all.0, h.few), omega (arith, one.1, all.1, h.few), omega (arith, one.2, all.2, h.few))
 
-  pub track_kept : (t : Track) (on : OnTrack) → on ≡ track_at tracks t → (on.places ≡ places (of_track t) es) × (on.weight ≡ wanted_weight t es)
+  pub track_kept : (t : Track) (on : OnTrack) → on ≡ track_at tracks t
+      → (on.places ≡ places (of_track t) es) × (on.weight ≡ wanted_weight t es)
   track_kept t on at = (ap (λ o. o.places) at ∙ h.index.by_track t, ap (λ o. o.weight) at ∙ h.index.by_weight t)
 
   pub track_weight : (t : Track) (on : OnTrack) → on ≡ track_at tracks t → on.weight ≤ 16000000 * 2048000
@@ -75,7 +82,8 @@ module _ (es : List Entry) (tasks : List OfTask) (tracks : List (List OnTrack)) 
   weight_small t = omega (arith, weight_read t, weight-le t es h.small, h.few)
 
   -- the weight of a block is part of that of its track
-  pub weight_part : (n : ℕ) (e : Entry) (lost : ℕ) → slice_get es n ≡ Some e → lost ≡ wanted_weight e.block.track (e ∷ []) → lost ≤ weight_kept tracks e.block.track
+  pub weight_part : (n : ℕ) (e : Entry) (lost : ℕ) → slice_get es n ≡ Some e → lost ≡ wanted_weight e.block.track (e ∷ [])
+      → lost ≤ weight_kept tracks e.block.track
   weight_part n e lost at is = omega (arith, is, weight_read e.block.track, weight_at e.block.track n e es at)
 
   track_length : (t : Track) → length (track_at tracks t).places ≡ length (on_track t es)

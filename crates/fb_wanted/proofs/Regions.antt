@@ -1,5 +1,6 @@
 -- The streaks of a task's blocks.
-use Rattle.std.proofs.Common.{◌≡◌, ◌≤◌, ◌↔◌, ℕ, zero, suc, ◌⊎◌, inl, inr, ◌==◌, List, [], ◌∷◌, ◌++◌, true, false, Some, length, filter, slice_get, refl, ap, sym, ◌∙◌, arith, subst, option_map}
+use Rattle.std.proofs.Common.{◌≡◌, ◌≤◌, ◌↔◌, ℕ, zero, suc, ◌⊎◌, inl, inr, ◌==◌, List, [], ◌∷◌, ◌++◌, true, false, Some, length, filter}
+use Rattle.std.proofs.Common.{slice_get, refl, ap, sym, ◌∙◌, arith, subst, option_map}
 use Rattle.std.specs.BTreeSet.{BTreeSet, contains}
 use Rattle.std.proofs.lemmas.Bool.{cases_Bool, cases_lt, true≢false}
 use Rattle.std.proofs.lemmas.Bool.Decides.{nat_tests}
@@ -14,7 +15,8 @@ use Rattle.fb_wanted.proofs.Numbers.{in_either}
 use Rattle.fb_wanted.proofs.Elements.{at_left, at_end}
 
 -- the LBN of the k-th block of a task
-pub lbn_at : (task : ℕ) (es : List Entry) (k : ℕ) (e : Entry) → slice_get (filter (of_task task) es) k ≡ Some e → slice_get (lbns task es) k ≡ Some e.block.lbn
+pub lbn_at : (task : ℕ) (es : List Entry) (k : ℕ) (e : Entry) → slice_get (filter (of_task task) es) k ≡ Some e
+    → slice_get (lbns task es) k ≡ Some e.block.lbn
 lbn_at task es k e at = slice_get-map (λ x. x.block.lbn) (filter (of_task task) es) k ∙ ap (option_map (λ x. x.block.lbn)) at
 
 pub length-lbns : (task : ℕ) (es : List Entry) → length (lbns task es) ≡ length (filter (of_task task) es)
@@ -29,10 +31,14 @@ lbns-with_state task s (suc n) (e ∷ es) = elim (cases_Bool (e.block.task == ta
   | inr other ↦ rw other (lbns-with_state task s n es)
 ]
 
-pub noted-with_state : (s : State) (n : ℕ) (es : List Entry) (streaks : BTreeSet (ℕ × ℕ × ℕ)) → AreNoted es streaks → AreNoted (with_state s n es) streaks
-noted-with_state s n es streaks h task streak = subst (λ l. (contains streak_cmp streaks (key_of task streak) ≡ true) ↔ BeginsStreak l streak) (sym (lbns-with_state task s n es)) (h task streak)
+pub noted-with_state : (s : State) (n : ℕ) (es : List Entry) (streaks : BTreeSet (ℕ × ℕ × ℕ)) → AreNoted es streaks
+    → AreNoted (with_state s n es) streaks
+noted-with_state s n es streaks h task streak =
+    subst (λ l. (contains streak_cmp streaks (key_of task streak) ≡ true) ↔ BeginsStreak l streak) (sym (lbns-with_state task s n es))
+    (h task streak)
 
-pub lbns-own : (task : ℕ) (es : List Entry) (e : Entry) → (e.block.task == task) ≡ true → lbns task (es ++ e ∷ []) ≡ lbns task es ++ e.block.lbn ∷ []
+pub lbns-own : (task : ℕ) (es : List Entry) (e : Entry) → (e.block.task == task) ≡ true
+    → lbns task (es ++ e ∷ []) ≡ lbns task es ++ e.block.lbn ∷ []
 lbns-own task [] e own = rw own refl
 lbns-own task (x ∷ es) e own = elim (cases_Bool (x.block.task == task)) [
   | inl yes' ↦ rw yes' (ap (λ l. x.block.lbn ∷ l) (lbns-own task es e own))
@@ -60,8 +66,16 @@ streaks_stay xs y streak h = record {
 
 -- the last LBN begins a streak, or it is none that is new
 pub last_begins : (xs : List ℕ) (y : ℕ) (streak : Streak) → streak.index ≡ length xs → streak.region ≡ region_of y
-    → ((i before : ℕ) → suc i ≡ streak.index → slice_get xs i ≡ Some before → region_of before ≡ streak.region → ⊥) → BeginsStreak (xs ++ y ∷ []) streak
-last_begins [] y streak here region anew = record { lbn = y; at = ap (slice_get (y ∷ [])) here; region = sym region; anew = λ i before next at. absurd (omega (arith, next, here)) }
+    → ((i before : ℕ) → suc i ≡ streak.index → slice_get xs i ≡ Some before → region_of before ≡ streak.region → ⊥)
+    → BeginsStreak (xs ++ y ∷ []) streak
+last_begins [] y streak here region anew =
+    record {
+      lbn = y;
+      at = ap (slice_get (y ∷ [])) here;
+      region = sym region;
+      anew =
+          λ i before next at. absurd (omega (arith, next, here));
+    }
 last_begins (x ∷ xs) y streak here region anew = record {
   lbn = y;
   at = ap (slice_get ((x ∷ xs) ++ y ∷ [])) here ∙ at_end (x ∷ xs) y;
@@ -72,21 +86,33 @@ last_begins (x ∷ xs) y streak here region anew = record {
   ];
 }
 
-pub streak_or_last : (xs : List ℕ) (y : ℕ) (streak : Streak) → BeginsStreak (xs ++ y ∷ []) streak → BeginsStreak xs streak ⊎ ((streak.index ≡ length xs) × (streak.region ≡ region_of y)
+pub streak_or_last : (xs : List ℕ) (y : ℕ) (streak : Streak) → BeginsStreak (xs ++ y ∷ []) streak
+    → BeginsStreak xs streak ⊎ ((streak.index ≡ length xs) × (streak.region ≡ region_of y)
     × ((i before : ℕ) → suc i ≡ streak.index → slice_get xs i ≡ Some before → region_of before ≡ streak.region → ⊥))
 streak_or_last xs y streak h = elim (in_either xs y h.lbn streak.index h.at) [
-  | inl old ↦ inl (record { lbn = h.lbn; at = old.1; region = h.region; anew = λ i before next at. h.anew i before next (at_left xs y before i at) })
+  | inl old ↦ inl (record {
+    lbn = h.lbn;
+    at = old.1;
+    region = h.region;
+    anew =
+        λ i before next at. h.anew i before next (at_left xs y before i at);
+  })
   | inr last ↦ inr (last.0, sym h.region ∙ ap region_of last.1, λ i before next at. h.anew i before next (at_left xs y before i at))
 ]
 
 -- each block lies in a streak
-pub streak_of : (xs : List ℕ) (k lbn : ℕ) → slice_get xs k ≡ Some lbn → (streak : Streak) × BeginsStreak xs streak × (streak.region ≡ region_of lbn) × IsInStreak xs streak k
+pub streak_of : (xs : List ℕ) (k lbn : ℕ) → slice_get xs k ≡ Some lbn
+    → (streak : Streak) × BeginsStreak xs streak × (streak.region ≡ region_of lbn) × IsInStreak xs streak k
 streak_of xs zero lbn at =
     let streak : Streak = record { region = region_of lbn; index = 0 } in (
       streak,
       record { lbn = lbn; at = at; region = refl; anew = λ i before next there. absurd (omega (arith, next)) },
       refl,
-      (omega arith, λ j other low high there. ap region_of (same_Some other lbn (sym there ∙ (ap (slice_get xs) (omega (arith, high)) ∙ at)))),
+      (
+        omega arith,
+        λ j other low high there. ap region_of
+            (same_Some other lbn (sym there ∙ (ap (slice_get xs) (omega (arith, high)) ∙ at))),
+      ),
     )
 streak_of xs (suc k) lbn at =
     let before = get_some xs k (omega (arith, slice_get_within xs (suc k) lbn at)) in
@@ -101,7 +127,8 @@ streak_of xs (suc k) lbn at =
               omega (arith, r.3.0),
               λ j other low high there. elim (cases_lt j (suc k)) [
                 | inl less ↦ r.3.1 j other low (omega (arith, less)) there
-                | inr most ↦ ap region_of (same_Some other lbn (sym there ∙ (ap (slice_get xs) (omega (arith, most, high)) ∙ at))) ∙ sym region
+                | inr most ↦ ap region_of (same_Some other lbn (sym there ∙ (ap (slice_get xs) (omega (arith, most, high)) ∙ at)))
+                    ∙ sym region
               ],
             ),
           )
@@ -117,7 +144,11 @@ streak_of xs (suc k) lbn at =
                   absurd (true≢false (sym (grind (arith, nat_tests)) ∙ other));
             },
             refl,
-            (omega arith, λ j last low high there. ap region_of (same_Some last lbn (sym there ∙ (ap (slice_get xs) (omega (arith, low, high)) ∙ at)))),
+            (
+              omega arith,
+              λ j last low high there. ap region_of
+                  (same_Some last lbn (sym there ∙ (ap (slice_get xs) (omega (arith, low, high)) ∙ at))),
+            ),
           )
     ]
 

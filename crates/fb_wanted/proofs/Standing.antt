@@ -1,5 +1,6 @@
 -- The indexes of blocks among the registered ones.
-use Rattle.std.proofs.Common.{◌≡◌, ℕ, zero, suc, ◌<◌, ◌≤◌, inl, inr, List, [], ◌∷◌, ◌++◌, Bool, true, false, Some, if◌then◌else◌, set, length, filter, map, slice_get, get_or, refl, ap, sym, ◌∙◌, arith, subst}
+use Rattle.std.proofs.Common.{◌≡◌, ℕ, zero, suc, ◌<◌, ◌≤◌, inl, inr, List, [], ◌∷◌, ◌++◌, Bool, true, false, Some, if◌then◌else◌, set}
+use Rattle.std.proofs.Common.{length, filter, map, slice_get, get_or, refl, ap, sym, ◌∙◌, arith, subst}
 use Rattle.std.proofs.lemmas.Bool.{cases_Bool}
 use Rattle.std.proofs.lemmas.List.{length-map, map-append}
 use Rattle.std.proofs.lemmas.Option.{same_Some, none-some, slice_get_within, slice_get-get_or}
@@ -16,7 +17,8 @@ length-places p (e ∷ es) = elim (cases_Bool (p e)) [
   | inr no' ↦ rw no' (length-map (places p es) (λ n. suc n) ∙ length-places p es)
 ]
 
-pub places-more_yes : (p : Entry → Bool) (es : List Entry) (e : Entry) → p e ≡ true → places p (es ++ e ∷ []) ≡ places p es ++ length es ∷ []
+pub places-more_yes : (p : Entry → Bool) (es : List Entry) (e : Entry) → p e ≡ true
+    → places p (es ++ e ∷ []) ≡ places p es ++ length es ∷ []
 places-more_yes p [] e pass = rw pass refl
 places-more_yes p (x ∷ es) e pass =
     let rest = ap (map (λ n. suc n)) (places-more_yes p es e pass) ∙ map-append (λ n. suc n) (places p es) (length es ∷ []) in
@@ -51,14 +53,16 @@ get_some (x ∷ xs) zero h = (x, refl)
 get_some (x ∷ xs) (suc k) h = get_some xs k (omega arith)
 
 -- the entry at the k-th index is the k-th that passes the test
-at_step : (p : Entry → Bool) (x : Entry) (es : List Entry) (b : Bool) (k j : ℕ) → ((i n : ℕ) → slice_get (places p es) i ≡ Some n → slice_get (filter p es) i ≡ slice_get es n)
+at_step : (p : Entry → Bool) (x : Entry) (es : List Entry) (b : Bool) (k j : ℕ)
+    → ((i n : ℕ) → slice_get (places p es) i ≡ Some n → slice_get (filter p es) i ≡ slice_get es n)
     → slice_get (if b then 0 ∷ map (λ n. suc n) (places p es) else map (λ n. suc n) (places p es)) k ≡ Some j
     → slice_get (if b then x ∷ filter p es else filter p es) k ≡ slice_get (x ∷ es) j
 at_step p x es true zero j rest h = ap (slice_get (x ∷ es)) (same_Some 0 j h)
 at_step p x es true (suc k) j rest h = let r = raised (places p es) k j h in rest k r.0 r.1 ∙ ap (slice_get (x ∷ es)) (sym r.2)
 at_step p x es false k j rest h = let r = raised (places p es) k j h in rest k r.0 r.1 ∙ ap (slice_get (x ∷ es)) (sym r.2)
 
-pub at_place : (p : Entry → Bool) (es : List Entry) (k j : ℕ) → slice_get (places p es) k ≡ Some j → slice_get (filter p es) k ≡ slice_get es j
+pub at_place : (p : Entry → Bool) (es : List Entry) (k j : ℕ) → slice_get (places p es) k ≡ Some j
+    → slice_get (filter p es) k ≡ slice_get es j
 at_place p [] k j h = absurd (none-some j h)
 at_place p (x ∷ es) k j h = at_step p x es (p x) k j (at_place p es) h
 
@@ -74,17 +78,20 @@ place_within p es k j h =
 pub place_there : (p : Entry → Bool) (es : List Entry) (ps : List ℕ) (k : ℕ) → ps ≡ places p es → k < length (filter p es) → k < length ps
 place_there p es ps k same lt = omega (arith, lt, ap length same, length-places p es)
 
-pub place_at : (p : Entry → Bool) (es : List Entry) (ps : List ℕ) (k : ℕ) → ps ≡ places p es → k < length (filter p es) → slice_get (places p es) k ≡ Some (get_or ps k 0)
+pub place_at : (p : Entry → Bool) (es : List Entry) (ps : List ℕ) (k : ℕ) → ps ≡ places p es → k < length (filter p es)
+    → slice_get (places p es) k ≡ Some (get_or ps k 0)
 place_at p es ps k same lt = ap (λ l. slice_get l k) (sym same) ∙ slice_get-get_or ps k 0 (place_there p es ps k same lt)
 
 -- the k-th entry that passes is the entry at the k-th index
-pub read_at : (p : Entry → Bool) (es : List Entry) (ps : List ℕ) (k : ℕ) (d : Entry) → ps ≡ places p es → k < length (filter p es) → slice_get (filter p es) k ≡ Some (get_or es (get_or ps k 0) d)
+pub read_at : (p : Entry → Bool) (es : List Entry) (ps : List ℕ) (k : ℕ) (d : Entry) → ps ≡ places p es → k < length (filter p es)
+    → slice_get (filter p es) k ≡ Some (get_or es (get_or ps k 0) d)
 read_at p es ps k d same lt =
     let at = place_at p es ps k same lt in
     at_place p es k (get_or ps k 0) at ∙ slice_get-get_or es (get_or ps k 0) d (place_within p es k (get_or ps k 0) at)
 
 -- an entry that passes is found among those that pass
-pub among : (p : Entry → Bool) (es : List Entry) (j : ℕ) (e : Entry) → slice_get es j ≡ Some e → p e ≡ true → (k : ℕ) × (slice_get (places p es) k ≡ Some j) × (slice_get (filter p es) k ≡ Some e)
+pub among : (p : Entry → Bool) (es : List Entry) (j : ℕ) (e : Entry) → slice_get es j ≡ Some e → p e ≡ true
+    → (k : ℕ) × (slice_get (places p es) k ≡ Some j) × (slice_get (filter p es) k ≡ Some e)
 among p [] j e h pass = absurd (none-some e h)
 among p (x ∷ es) zero e h pass = let hit = ap p (same_Some x e h) ∙ pass in (0, rw hit refl, rw hit h)
 among p (x ∷ es) (suc j) e h pass =
@@ -107,15 +114,19 @@ blocks-with_state s zero (e ∷ es) = refl
 blocks-with_state s (suc n) (e ∷ es) = ap (λ l. e.block ∷ l) (blocks-with_state s n es)
 
 -- a change of state doesn't change the indexes that pass a test of the block alone
-pub places-with_state : (p : Block → Bool) (s : State) (n : ℕ) (es : List Entry) → places (λ e. p e.block) (with_state s n es) ≡ places (λ e. p e.block) es
+pub places-with_state : (p : Block → Bool) (s : State) (n : ℕ) (es : List Entry)
+    → places (λ e. p e.block) (with_state s n es) ≡ places (λ e. p e.block) es
 places-with_state p s n [] = refl
 places-with_state p s zero (e ∷ es) = refl
-places-with_state p s (suc n) (e ∷ es) = ap (λ ps. if p e.block then 0 ∷ map (λ k. suc k) ps else map (λ k. suc k) ps) (places-with_state p s n es)
+places-with_state p s (suc n) (e ∷ es) =
+    ap (λ ps. if p e.block then 0 ∷ map (λ k. suc k) ps else map (λ k. suc k) ps) (places-with_state p s n es)
 
 -- writing an entry with its new state changes the state alone
-pub items-with_state : (s : State) (n : ℕ) (e : Entry) (es : List Entry) → slice_get es n ≡ Some e → set es n (record { block = e.block; state = s }) ≡ with_state s n es
+pub items-with_state : (s : State) (n : ℕ) (e : Entry) (es : List Entry) → slice_get es n ≡ Some e
+    → set es n (record { block = e.block; state = s }) ≡ with_state s n es
 items-with_state s n e [] h = absurd (none-some e h)
-items-with_state s zero e (x ∷ es) h = let same = same_Some x e h in ap (λ (y : Entry). let z : Entry = record { block = y.block; state = s } in z ∷ es) (sym same)
+items-with_state s zero e (x ∷ es) h = let same = same_Some x e h in
+    ap (λ (y : Entry). let z : Entry = record { block = y.block; state = s } in z ∷ es) (sym same)
 items-with_state s (suc n) e (x ∷ es) h = ap (λ l. x ∷ l) (items-with_state s n e es h)
 
 -- changing the state at the k-th index is the change of the k-th entry that passes
@@ -127,7 +138,8 @@ nth_step : (p : Entry → Bool) (f : Entry → Entry) (s : State) (x e : Entry) 
 nth_step p f s x e es true zero j rest is new h at =
     let first : j ≡ 0 = sym (same_Some 0 j h) in
     let same : x ≡ e = same_Some x e (ap (slice_get (x ∷ es)) (sym first) ∙ at) in
-    rw (first, is) (ap (λ y. y ∷ es) (ap (λ (y : Entry). let z : Entry = record { block = y.block; state = s } in z) same ∙ (sym new ∙ ap f (sym same))))
+    rw (first, is) (ap (λ y. y ∷ es) (ap (λ (y : Entry). let z : Entry = record { block = y.block; state = s } in z) same
+    ∙ (sym new ∙ ap f (sym same))))
 nth_step p f s x e es true (suc k) j rest is new h at =
     let r = raised (places p es) k j h in
     rw (r.2, is) (ap (λ l. x ∷ l) (rest k r.0 r.1 (ap (slice_get (x ∷ es)) (sym r.2) ∙ at)))
@@ -138,7 +150,8 @@ nth_step p f s x e es false (suc k) j rest is new h at =
     let r = raised (places p es) (suc k) j h in
     rw (r.2, is) (ap (λ l. x ∷ l) (rest (suc k) r.0 r.1 (ap (slice_get (x ∷ es)) (sym r.2) ∙ at)))
 
-pub nth_turned : (p : Entry → Bool) (f : Entry → Entry) (s : State) (e : Entry) (es : List Entry) (k j : ℕ) → f e ≡ record { block = e.block; state = s }
+pub nth_turned : (p : Entry → Bool) (f : Entry → Entry) (s : State) (e : Entry) (es : List Entry) (k j : ℕ)
+    → f e ≡ record { block = e.block; state = s }
     → slice_get (places p es) k ≡ Some j → slice_get es j ≡ Some e → with_state s j es ≡ change_nth p f k es
 nth_turned p f s e [] k j new h at = refl
 nth_turned p f s e (x ∷ es) k j new h at = nth_step p f s x e es (p x) k j (λ i n. nth_turned p f s e es i n new) refl new h at
@@ -148,10 +161,12 @@ pub first_none : (p : Entry → Bool) (f : Entry → Entry) (es : List Entry) �
 first_none p f [] = refl
 first_none p f (e ∷ es) = refl
 
-pub first_one_more : (p : Entry → Bool) (f : Entry → Entry) → ((e : Entry) → p (f e) ≡ p e) → (es : List Entry) (k : ℕ) → change_nth p f k (change_first p f k es) ≡ change_first p f (suc k) es
+pub first_one_more : (p : Entry → Bool) (f : Entry → Entry) → ((e : Entry) → p (f e) ≡ p e) → (es : List Entry) (k : ℕ)
+    → change_nth p f k (change_first p f k es) ≡ change_first p f (suc k) es
 first_one_more p f stays [] k = refl
 first_one_more p f stays (e ∷ es) zero =
-    let rest : change_nth p f 0 es ≡ change_first p f 1 es = ap (change_nth p f 0) (sym (first_none p f es)) ∙ first_one_more p f stays es 0 in
+    let rest : change_nth p f 0 es ≡ change_first p f 1 es = ap (change_nth p f 0) (sym (first_none p f es))
+    ∙ first_one_more p f stays es 0 in
     elim (cases_Bool (p e)) [
       | inl yes' ↦ rw yes' (ap (λ l. f e ∷ l) (sym (first_none p f es)))
       | inr no' ↦ rw no' (ap (λ l. e ∷ l) rest)
@@ -161,7 +176,8 @@ first_one_more p f stays (e ∷ es) (suc k) = elim (cases_Bool (p e)) [
   | inr no' ↦ rw (no', no') (ap (λ l. e ∷ l) (first_one_more p f stays es (suc k)))
 ]
 
-pub passing-first : (p : Entry → Bool) (f : Entry → Entry) → ((e : Entry) → p (f e) ≡ p e) → (es : List Entry) (k : ℕ) → length (filter p (change_first p f k es)) ≡ length (filter p es)
+pub passing-first : (p : Entry → Bool) (f : Entry → Entry) → ((e : Entry) → p (f e) ≡ p e) → (es : List Entry) (k : ℕ)
+    → length (filter p (change_first p f k es)) ≡ length (filter p es)
 passing-first p f stays [] k = refl
 passing-first p f stays (e ∷ es) zero = refl
 passing-first p f stays (e ∷ es) (suc k) = elim (cases_Bool (p e)) [
@@ -169,7 +185,8 @@ passing-first p f stays (e ∷ es) (suc k) = elim (cases_Bool (p e)) [
   | inr no' ↦ rw (no', no') (passing-first p f stays es (suc k))
 ]
 
-pub first_all : (p : Entry → Bool) (f : Entry → Entry) → ((e : Entry) → p e ≡ false → f e ≡ e) → (es : List Entry) (k : ℕ) → length (filter p es) ≤ k → change_first p f k es ≡ map f es
+pub first_all : (p : Entry → Bool) (f : Entry → Entry) → ((e : Entry) → p e ≡ false → f e ≡ e) → (es : List Entry) (k : ℕ)
+    → length (filter p es) ≤ k → change_first p f k es ≡ map f es
 first_all p f others [] k le = refl
 first_all p f others (e ∷ es) zero le = elim (cases_Bool (p e)) [
   | inl yes' ↦ let more : length (filter p (e ∷ es)) ≡ suc (length (filter p es)) = rw yes' refl in absurd (omega (arith, more, le))
@@ -178,7 +195,8 @@ first_all p f others (e ∷ es) zero le = elim (cases_Bool (p e)) [
       ap (λ l. e ∷ l) (sym (first_none p f es) ∙ first_all p f others es 0 none) ∙ ap (λ x. x ∷ map f es) (sym (others e no'))
 ]
 first_all p f others (e ∷ es) (suc k) le = elim (cases_Bool (p e)) [
-  | inl yes' ↦ let more : length (filter p (e ∷ es)) ≡ suc (length (filter p es)) = rw yes' refl in rw yes' (ap (λ l. f e ∷ l) (first_all p f others es k (omega (arith, more, le))))
+  | inl yes' ↦ let more : length (filter p (e ∷ es)) ≡ suc (length (filter p es)) = rw yes' refl in
+      rw yes' (ap (λ l. f e ∷ l) (first_all p f others es k (omega (arith, more, le))))
   | inr no' ↦
       let fewer : length (filter p es) ≤ suc k = subst (λ b. length (if b then e ∷ filter p es else filter p es) ≤ suc k) no' le in
       rw no' (ap (λ l. e ∷ l) (first_all p f others es (suc k) fewer) ∙ ap (λ x. x ∷ map f es) (sym (others e no')))
@@ -192,7 +210,8 @@ both_tests p q within (e ∷ es) = elim (cases_Bool (p e)) [
   | inr no' ↦ rw (no', within e no') (both_tests p q within es)
 ]
 
-passes_step : (p : Entry → Bool) (x : Entry) (es : List Entry) (b : Bool) (k : ℕ) (e : Entry) → p x ≡ b → ((i : ℕ) (y : Entry) → slice_get (filter p es) i ≡ Some y → p y ≡ true)
+passes_step : (p : Entry → Bool) (x : Entry) (es : List Entry) (b : Bool) (k : ℕ) (e : Entry) → p x ≡ b
+    → ((i : ℕ) (y : Entry) → slice_get (filter p es) i ≡ Some y → p y ≡ true)
     → slice_get (if b then x ∷ filter p es else filter p es) k ≡ Some e → p e ≡ true
 passes_step p x es true zero e is rest h = ap p (sym (same_Some x e h)) ∙ is
 passes_step p x es true (suc k) e is rest h = rest k e h
@@ -203,27 +222,34 @@ passes p [] k e h = absurd (none-some e h)
 passes p (x ∷ es) k e h = passes_step p x es (p x) k e refl (passes p es) h
 
 -- if no other entry is changed, changing the k-th is changing all
-all_stay : (p : Entry → Bool) (f : Entry → Entry) (es : List Entry) → ((e : Entry) → p e ≡ false → f e ≡ e) → ((j : ℕ) (e : Entry) → slice_get (filter p es) j ≡ Some e → f e ≡ e) → es ≡ map f es
+all_stay : (p : Entry → Bool) (f : Entry → Entry) (es : List Entry) → ((e : Entry) → p e ≡ false → f e ≡ e)
+    → ((j : ℕ) (e : Entry) → slice_get (filter p es) j ≡ Some e → f e ≡ e) → es ≡ map f es
 all_stay p f [] others own = refl
 all_stay p f (x ∷ es) others own = elim (cases_Bool (p x)) [
-  | inl yes' ↦ ap (λ y. y ∷ es) (sym (own 0 x (rw yes' refl))) ∙ ap (λ l. f x ∷ l) (all_stay p f es others (λ j e at. own (suc j) e (rw yes' at)))
+  | inl yes' ↦ ap (λ y. y ∷ es) (sym (own 0 x (rw yes' refl)))
+      ∙ ap (λ l. f x ∷ l) (all_stay p f es others (λ j e at. own (suc j) e (rw yes' at)))
   | inr no' ↦ ap (λ y. y ∷ es) (sym (others x no')) ∙ ap (λ l. f x ∷ l) (all_stay p f es others (λ j e at. own j e (rw no' at)))
 ]
 
-pub nth_alone : (p : Entry → Bool) (f : Entry → Entry) (k : ℕ) (es : List Entry) → ((e : Entry) → p e ≡ false → f e ≡ e) → ((j : ℕ) (e : Entry) → slice_get (filter p es) j ≡ Some e → (j ≡ k → ⊥) → f e ≡ e)
+pub nth_alone : (p : Entry → Bool) (f : Entry → Entry) (k : ℕ) (es : List Entry) → ((e : Entry) → p e ≡ false → f e ≡ e)
+    → ((j : ℕ) (e : Entry) → slice_get (filter p es) j ≡ Some e → (j ≡ k → ⊥) → f e ≡ e)
     → change_nth p f k es ≡ map f es
 nth_alone p f k [] others own = refl
 nth_alone p f zero (x ∷ es) others own = elim (cases_Bool (p x)) [
   | inl yes' ↦ rw yes' (ap (λ l. f x ∷ l) (all_stay p f es others (λ j e at. own (suc j) e (rw yes' at) (λ same. omega arith))))
-  | inr no' ↦ rw no' (ap (λ y. y ∷ change_nth p f 0 es) (sym (others x no')) ∙ ap (λ l. f x ∷ l) (nth_alone p f 0 es others (λ j e at. own j e (rw no' at))))
+  | inr no' ↦ rw no' (ap (λ y. y ∷ change_nth p f 0 es) (sym (others x no'))
+      ∙ ap (λ l. f x ∷ l) (nth_alone p f 0 es others (λ j e at. own j e (rw no' at))))
 ]
 nth_alone p f (suc k) (x ∷ es) others own = elim (cases_Bool (p x)) [
-  | inl yes' ↦ rw yes' (ap (λ y. y ∷ change_nth p f k es) (sym (own 0 x (rw yes' refl) (λ same. omega arith))) ∙ ap (λ l. f x ∷ l) (nth_alone p f k es others (λ j e at ne. own (suc j) e (rw yes' at) (λ same. ne (omega arith)))))
-  | inr no' ↦ rw no' (ap (λ y. y ∷ change_nth p f (suc k) es) (sym (others x no')) ∙ ap (λ l. f x ∷ l) (nth_alone p f (suc k) es others (λ j e at. own j e (rw no' at))))
+  | inl yes' ↦ rw yes' (ap (λ y. y ∷ change_nth p f k es) (sym (own 0 x (rw yes' refl) (λ same. omega arith)))
+      ∙ ap (λ l. f x ∷ l) (nth_alone p f k es others (λ j e at ne. own (suc j) e (rw yes' at) (λ same. ne (omega arith)))))
+  | inr no' ↦ rw no' (ap (λ y. y ∷ change_nth p f (suc k) es) (sym (others x no'))
+      ∙ ap (λ l. f x ∷ l) (nth_alone p f (suc k) es others (λ j e at. own j e (rw no' at))))
 ]
 
 -- a change of one entry leaves as many that pass
-pub passing-nth : (p : Entry → Bool) (f : Entry → Entry) → ((e : Entry) → p (f e) ≡ p e) → (k : ℕ) (es : List Entry) → length (filter p (change_nth p f k es)) ≡ length (filter p es)
+pub passing-nth : (p : Entry → Bool) (f : Entry → Entry) → ((e : Entry) → p (f e) ≡ p e) → (k : ℕ) (es : List Entry)
+    → length (filter p (change_nth p f k es)) ≡ length (filter p es)
 passing-nth p f stays k [] = refl
 passing-nth p f stays zero (e ∷ es) = elim (cases_Bool (p e)) [
   | inl yes' ↦ rw (yes', stays e ∙ yes') refl
@@ -235,7 +261,8 @@ passing-nth p f stays (suc k) (e ∷ es) = elim (cases_Bool (p e)) [
 ]
 
 -- a change that leaves the k-th entry as it is changes nothing
-pub nth_stays : (p : Entry → Bool) (f : Entry → Entry) (k : ℕ) (es : List Entry) → ((e : Entry) → slice_get (filter p es) k ≡ Some e → f e ≡ e) → change_nth p f k es ≡ es
+pub nth_stays : (p : Entry → Bool) (f : Entry → Entry) (k : ℕ) (es : List Entry)
+    → ((e : Entry) → slice_get (filter p es) k ≡ Some e → f e ≡ e) → change_nth p f k es ≡ es
 nth_stays p f k [] same = refl
 nth_stays p f zero (e ∷ es) same = elim (cases_Bool (p e)) [
   | inl yes' ↦ rw yes' (ap (λ x. x ∷ es) (same e (rw yes' refl)))

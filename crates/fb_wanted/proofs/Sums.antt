@@ -26,10 +26,12 @@ module _ (sum : List Entry → ℕ) (cons : (x : Entry) (xs : List Entry) → su
   sum_at (suc n) e (x ∷ es) at = omega (arith, cons x es, sum_at n e es at)
 
 -- a sum whose parts are no greater is no greater
-pub sum-le : (sum other : List Entry → ℕ) → ((x : Entry) (xs : List Entry) → sum (x ∷ xs) ≡ sum (x ∷ []) + sum xs) → ((x : Entry) (xs : List Entry) → other (x ∷ xs) ≡ other (x ∷ []) + other xs)
+pub sum-le : (sum other : List Entry → ℕ) → ((x : Entry) (xs : List Entry) → sum (x ∷ xs) ≡ sum (x ∷ []) + sum xs)
+    → ((x : Entry) (xs : List Entry) → other (x ∷ xs) ≡ other (x ∷ []) + other xs)
     → sum [] ≤ other [] → ((x : Entry) → sum (x ∷ []) ≤ other (x ∷ [])) → (es : List Entry) → sum es ≤ other es
 sum-le sum other cons cons_other none one [] = none
-sum-le sum other cons cons_other none one (e ∷ es) = omega (arith, cons e es, cons_other e es, one e, sum-le sum other cons cons_other none one es)
+sum-le sum other cons cons_other none one (e ∷ es) =
+    omega (arith, cons e es, cons_other e es, one e, sum-le sum other cons cons_other none one es)
 
 -- a sum over what a list is mapped to is one over the list
 pub sums-map : {X Y : Type 0} (f : Y → ℕ) (g : X → Y) (xs : List X) → sum_by f (map g xs) ≡ sum_by (λ x. f (g x)) xs

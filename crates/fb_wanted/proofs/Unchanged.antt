@@ -25,13 +25,20 @@ fate Aborted = given_up refl refl refl
 
 closed_stays : (task first count : ℕ) (e : Entry) → is_open e.state ≡ false → entry_after task (Abort first count) e ≡ e
 closed_stays task first count e closed = elim (cases_Bool (e.block.task == task)) [
-  | inl own ↦ elim (cases_Bool (shares first count e.block)) [ inl inside ↦ rw (own, inside, closed) refl | inr outside ↦ rw (own, outside) refl ]
+  | inl own ↦ elim (cases_Bool (shares first count e.block)) [
+    | inl inside ↦ rw (own, inside, closed) refl
+    | inr outside ↦ rw (own, outside) refl
+  ]
   | inr other ↦ others_after task (Abort first count) e other
 ]
 
-unread_stays : (task first count : ℕ) (suspended : Bool) (e : Entry) → is_delivered e.state ≡ false → entry_after task (Rewant first count suspended) e ≡ e
+unread_stays : (task first count : ℕ) (suspended : Bool) (e : Entry) → is_delivered e.state ≡ false
+    → entry_after task (Rewant first count suspended) e ≡ e
 unread_stays task first count suspended e not_read = elim (cases_Bool (e.block.task == task)) [
-  | inl own ↦ elim (cases_Bool (shares first count e.block)) [ inl inside ↦ rw (own, inside, not_read) refl | inr outside ↦ rw (own, outside) refl ]
+  | inl own ↦ elim (cases_Bool (shares first count e.block)) [
+    | inl inside ↦ rw (own, inside, not_read) refl
+    | inr outside ↦ rw (own, outside) refl
+  ]
   | inr other ↦ others_after task (Rewant first count suspended) e other
 ]
 
@@ -63,7 +70,8 @@ closed_few task (e ∷ es) =
     ]
 
 -- an abort changes nothing in a task all of whose blocks are delivered or aborted
-pub none_open : (task first count : ℕ) (es : List Entry) → (counts_of task es).delivered + (counts_of task es).aborted ≡ (counts_of task es).registered → after task (Abort first count) es ≡ es
+pub none_open : (task first count : ℕ) (es : List Entry)
+    → (counts_of task es).delivered + (counts_of task es).aborted ≡ (counts_of task es).registered → after task (Abort first count) es ≡ es
 none_open task first count [] all = refl
 none_open task first count (e ∷ es) all =
     let few = closed_few task es in
@@ -77,21 +85,25 @@ none_open task first count (e ∷ es) all =
             absurd (omega (arith, all, few, r, d, a, ap (λ n. n.registered) alone, ap (λ n. n.delivered) alone, ap (λ n. n.aborted) alone))
         | read o x y ↦
             let alone : counts_of task (e ∷ []) ≡ one 1 1 0 = rw (own, x, y) refl in
-            let rest = none_open task first count es (omega (arith, all, r, d, a, ap (λ n. n.registered) alone, ap (λ n. n.delivered) alone, ap (λ n. n.aborted) alone)) in
+            let rest = none_open task first count es
+            (omega (arith, all, r, d, a, ap (λ n. n.registered) alone, ap (λ n. n.delivered) alone, ap (λ n. n.aborted) alone)) in
             ap (λ x. x ∷ after task (Abort first count) es) (closed_stays task first count e o) ∙ ap (λ l. e ∷ l) rest
         | given_up o x y ↦
             let alone : counts_of task (e ∷ []) ≡ one 1 0 1 = rw (own, x, y) refl in
-            let rest = none_open task first count es (omega (arith, all, r, d, a, ap (λ n. n.registered) alone, ap (λ n. n.delivered) alone, ap (λ n. n.aborted) alone)) in
+            let rest = none_open task first count es
+            (omega (arith, all, r, d, a, ap (λ n. n.registered) alone, ap (λ n. n.delivered) alone, ap (λ n. n.aborted) alone)) in
             ap (λ x. x ∷ after task (Abort first count) es) (closed_stays task first count e o) ∙ ap (λ l. e ∷ l) rest
       ]
       | inr other ↦
           let alone : counts_of task (e ∷ []) ≡ one 0 0 0 = rw other refl in
-          let rest = none_open task first count es (omega (arith, all, r, d, a, ap (λ n. n.registered) alone, ap (λ n. n.delivered) alone, ap (λ n. n.aborted) alone)) in
+          let rest = none_open task first count es
+          (omega (arith, all, r, d, a, ap (λ n. n.registered) alone, ap (λ n. n.delivered) alone, ap (λ n. n.aborted) alone)) in
           ap (λ x. x ∷ after task (Abort first count) es) (others_after task (Abort first count) e other) ∙ ap (λ l. e ∷ l) rest
     ]
 
 -- a want again changes nothing in a task none of whose blocks is delivered
-pub none_delivered : (task first count : ℕ) (suspended : Bool) (es : List Entry) → (counts_of task es).delivered ≡ 0 → after task (Rewant first count suspended) es ≡ es
+pub none_delivered : (task first count : ℕ) (suspended : Bool) (es : List Entry) → (counts_of task es).delivered ≡ 0
+    → after task (Rewant first count suspended) es ≡ es
 none_delivered task first count suspended [] none = refl
 none_delivered task first count suspended (e ∷ es) none =
     let rest = none_delivered task first count suspended es (omega (arith, none, delivered task e es)) in
@@ -100,7 +112,9 @@ none_delivered task first count suspended (e ∷ es) none =
         | inl was ↦
             let alone : (counts_of task (e ∷ [])).delivered ≡ 1 = rw (own, was) refl in
             absurd (omega (arith, none, delivered task e es, alone))
-        | inr not_read ↦ ap (λ x. x ∷ after task (Rewant first count suspended) es) (unread_stays task first count suspended e not_read) ∙ ap (λ l. e ∷ l) rest
+        | inr not_read ↦ ap (λ x. x ∷ after task (Rewant first count suspended) es) (unread_stays task first count suspended e not_read)
+            ∙ ap (λ l. e ∷ l) rest
       ]
-      | inr other ↦ ap (λ x. x ∷ after task (Rewant first count suspended) es) (others_after task (Rewant first count suspended) e other) ∙ ap (λ l. e ∷ l) rest
+      | inr other ↦ ap (λ x. x ∷ after task (Rewant first count suspended) es) (others_after task (Rewant first count suspended) e other)
+          ∙ ap (λ l. e ∷ l) rest
     ]

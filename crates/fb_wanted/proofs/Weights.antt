@@ -1,5 +1,6 @@
 -- Sums over the wanted blocks of a track, or over any that pass a test.
-use Rattle.std.proofs.Common.{◌≡◌, ℕ, suc, ◌+◌, ◌*◌, ◌≤◌, inl, inr, List, [], ◌∷◌, ◌++◌, Some, Bool, true, false, length, filter, slice_get, refl, ap, ◌∙◌, arith}
+use Rattle.std.proofs.Common.{◌≡◌, ℕ, suc, ◌+◌, ◌*◌, ◌≤◌, inl, inr, List, [], ◌∷◌, ◌++◌, Some, Bool, true, false, length, filter, slice_get}
+use Rattle.std.proofs.Common.{refl, ap, ◌∙◌, arith}
 use Rattle.std.specs.List.{sum_by}
 use Rattle.std.proofs.lemmas.Bool.{cases_Bool}
 use Rattle.std.proofs.lemmas.List.Elements.{filter-append}
@@ -42,7 +43,8 @@ module _ (f : Block → ℕ) (p : Entry → Bool) where
 
   -- the sum loses the block's part before and gains its part after
   pub by-with_state : (s : State) (n : ℕ) (e : Entry) (es : List Entry) → slice_get es n ≡ Some e
-      → sum_wanted f p (with_state s n es) + sum_wanted f p (e ∷ []) ≡ sum_wanted f p es + sum_wanted f p (record { block = e.block; state = s } ∷ [])
+      → sum_wanted f p (with_state s n es) + sum_wanted f p (e ∷ [])
+      ≡ sum_wanted f p es + sum_wanted f p (record { block = e.block; state = s } ∷ [])
   by-with_state s n e es at = sum-with_state (sum_wanted f p) by-cons s n e es at
 
   pub by_elsewhere : (e : Entry) → p e ≡ false → sum_wanted f p (e ∷ []) ≡ 0
@@ -81,7 +83,8 @@ pub weight-append : (t : Track) (xs ys : List Entry) → wanted_weight t (xs ++ 
 weight-append t xs ys = by-append (λ (b : Block). b.weight * b.count) (of_track t) xs ys
 
 pub weight-with_state : (t : Track) (s : State) (n : ℕ) (e : Entry) (es : List Entry) → slice_get es n ≡ Some e
-    → wanted_weight t (with_state s n es) + wanted_weight t (e ∷ []) ≡ wanted_weight t es + wanted_weight t (record { block = e.block; state = s } ∷ [])
+    → wanted_weight t (with_state s n es) + wanted_weight t (e ∷ [])
+    ≡ wanted_weight t es + wanted_weight t (record { block = e.block; state = s } ∷ [])
 weight-with_state t s n e es at = by-with_state (λ (b : Block). b.weight * b.count) (of_track t) s n e es at
 
 pub weight_elsewhere : (t : Track) (e : Entry) → same_track t e.block.track ≡ false → wanted_weight t (e ∷ []) ≡ 0

@@ -1,5 +1,6 @@
 -- The indexes that are kept beside the list of registered blocks.
-use Rattle.std.specs.Prelude.{◌≡◌, ◌↔◌, ◌⊎◌, ℕ, zero, suc, ◌+◌, ◌-◌, ◌*◌, ◌/◌, ◌≤◌, ◌<◌, ◌==◌, Bool, true, false, List, [], ◌∷◌, ◌++◌, Some, length, map, filter, get_or, slice_get, if◌then◌else◌}
+use Rattle.std.specs.Prelude.{◌≡◌, ◌↔◌, ◌⊎◌, ℕ, zero, suc, ◌+◌, ◌-◌, ◌*◌, ◌/◌, ◌≤◌, ◌<◌, ◌==◌, Bool, true, false, List, [], ◌∷◌, ◌++◌, Some}
+use Rattle.std.specs.Prelude.{length, map, filter, get_or, slice_get, if◌then◌else◌}
 use Rattle.std.specs.List.{swap_remove}
 use Rattle.std.specs.Ordering.{nat_cmp, ordering_then}
 use Rattle.std.specs.declared.cmp.Ordering.{Ordering}
@@ -144,7 +145,8 @@ IsUpTo a b = (a.region < b.region) ⊎ ((a.region ≡ b.region) × (a.index ≤ 
 
 -- from the streak's first block up to number i, each block of these LBNs begins in the streak's region
 abbrev pub IsInStreak : List ℕ → Streak → ℕ → Type 0
-IsInStreak lbns streak i = (streak.index ≤ i) × ((j lbn : ℕ) → streak.index ≤ j → j ≤ i → slice_get lbns j ≡ Some lbn → region_of lbn ≡ streak.region)
+IsInStreak lbns streak i = (streak.index ≤ i)
+    × ((j lbn : ℕ) → streak.index ≤ j → j ≤ i → slice_get lbns j ≡ Some lbn → region_of lbn ≡ streak.region)
 
 -- the streak begins with its first block: that one begins in the streak's region, and the block before it doesn't
 pub record BeginsStreak (lbns : List ℕ) (streak : Streak) : Type 0 where
@@ -155,7 +157,8 @@ pub record BeginsStreak (lbns : List ℕ) (streak : Streak) : Type 0 where
 
 -- what is noted are the streaks of the tasks
 abbrev pub AreNoted : List Entry → BTreeSet (ℕ × ℕ × ℕ) → Type 0
-AreNoted entries streaks = (task : ℕ) (streak : Streak) → (contains streak_cmp streaks (key_of task streak) ≡ true) ↔ BeginsStreak (lbns task entries) streak
+AreNoted entries streaks = (task : ℕ) (streak : Streak)
+    → (contains streak_cmp streaks (key_of task streak) ≡ true) ↔ BeginsStreak (lbns task entries) streak
 
 -- no block has more sectors than the longest
 abbrev pub AreShort : ℕ → List Entry → Type 0
@@ -202,7 +205,8 @@ IsWithin change first count = (block : Block) (state : State) → shares first c
 
 -- a second change of this kind changes nothing
 abbrev pub IsStable : Change → Type 0
-IsStable change = (block : Block) (state : State) → state_after change block (state_after change block state) ≡ state_after change block state
+IsStable change = (block : Block) (state : State)
+    → state_after change block (state_after change block state) ≡ state_after change block state
 
 -- what holds of the registered blocks and their indexes
 pub record IsKept (entries : List Entry) (tasks : List OfTask) (tracks : List (List OnTrack)) : Type 0 where
@@ -227,14 +231,16 @@ change_nth test change (suc k) (e ∷ es) = e ∷ change_nth test change (if tes
 abbrev pub change_first : (Entry → Bool) → (Entry → Entry) → ℕ → List Entry → List Entry
 change_first test change k [] = []
 change_first test change zero (e ∷ es) = e ∷ es
-change_first test change (suc k) (e ∷ es) = if test e then change e ∷ change_first test change k es else e ∷ change_first test change (suc k) es
+change_first test change (suc k) (e ∷ es) =
+    if test e then change e ∷ change_first test change k es else e ∷ change_first test change (suc k) es
 
 -- all registered blocks after a change of those of a task whose numbers are chosen
 abbrev pub changed_where : (ℕ → Bool) → ℕ → Change → List Entry → List Entry
 changed_where chosen task change entries = map (λ entry. if chosen entry.block.index then entry_after task change entry else entry) entries
 
 -- beside the chosen blocks of a task at least those of a streak are changed
-pub record HasChanged (task : ℕ) (change : Change) (streak : Streak) (entries : List Entry) (chosen : ℕ → Bool) (new : List Entry) : Type 0 where
+pub record HasChanged (task : ℕ) (change : Change) (streak : Streak) (entries : List Entry)
+    (chosen : ℕ → Bool) (new : List Entry) : Type 0 where
   pub more : ℕ → Bool
   pub is : new ≡ changed_where more task change entries
   pub kept : (k : ℕ) → chosen k ≡ true → more k ≡ true

@@ -17,8 +17,10 @@ near_of block = (chunk_of block.lbn, block.task)
 
 -- each block is noted by its chunk and its task
 abbrev pub AreNear : List Entry → BTreeSet (ℕ × ℕ) → Type 0
-AreNear entries near = (i : ℕ) (block : Block) → slice_get (blocks_of entries) i ≡ Some block → contains pair_cmp near (near_of block) ≡ true
+AreNear entries near = (i : ℕ) (block : Block) → slice_get (blocks_of entries) i ≡ Some block
+    → contains pair_cmp near (near_of block) ≡ true
 
 -- the task has no block that shares a sector with the range
 abbrev pub SharesNone : ℕ → ℕ → ℕ → List Entry → Type 0
-SharesNone first count task entries = (i : ℕ) (entry : Entry) → slice_get entries i ≡ Some entry → entry.block.task ≡ task → shares first count entry.block ≡ false
+SharesNone first count task entries = (i : ℕ) (entry : Entry) → slice_get entries i ≡ Some entry → entry.block.task ≡ task
+    → shares first count entry.block ≡ false

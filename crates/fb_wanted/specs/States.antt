@@ -52,13 +52,17 @@ wanted_unless suspended = if suspended then Suspended else Wanted
 abbrev pub state_after : Change → Block → State → State
 state_after (Abort first count) block state = if shares first count block && is_open state then Aborted else state
 state_after (Deliver index) block state = if block.index == index then Delivered else state
-state_after (Rewant first count suspended) block state = if shares first count block && is_delivered state then wanted_unless suspended else state
+state_after (Rewant first count suspended) block state =
+    if shares first count block && is_delivered state then wanted_unless suspended else state
 state_after Suspend block state = if is_wanted state then Suspended else state
 state_after Resume block state = if is_suspended state then Wanted else state
 
 -- a registered block after a change of a task's blocks: only blocks of that task change
 abbrev pub entry_after : ℕ → Change → Entry → Entry
-entry_after task change entry = record { block = entry.block; state = if entry.block.task == task then state_after change entry.block entry.state else entry.state }
+entry_after task change entry = record {
+  block = entry.block;
+  state = if entry.block.task == task then state_after change entry.block entry.state else entry.state;
+}
 
 -- all registered blocks after a change of a task's blocks
 abbrev pub after : ℕ → Change → List Entry → List Entry

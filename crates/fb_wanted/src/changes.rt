@@ -2,7 +2,8 @@
 ghost use Rattle.std.specs.Prelude.{◌≡◌, ℕ, List, false, length, filter};
 ghost use Rattle.fb_wanted.specs.declared.block.Entry.{Entry};
 ghost use Rattle.fb_wanted.specs.Counting.{counts_of};
-ghost use Rattle.fb_wanted.specs.States.{shares, is_wanted, is_suspended, is_delivered, is_open, wanted_unless, state_after, after, entry_after, is_block};
+ghost use Rattle.fb_wanted.specs.States.{shares, is_wanted, is_suspended, is_delivered, is_open, wanted_unless, state_after, after};
+ghost use Rattle.fb_wanted.specs.States.{entry_after, is_block};
 ghost use Rattle.fb_units.specs.Tracks.{same_track};
 
 use crate::{Block, Change, Counts, State};

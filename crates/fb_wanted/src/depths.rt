@@ -47,7 +47,8 @@ fn spare_for(block: Block, depth: Depth) -> u32
 pub fn deepen(depths: &mut Vec<Depth>, band: u32, block: Block)
     requires there { band < length depths.old.items }
     requires room { (get_or depths.old.items band no_depth).most + block.weight < 2 ^ 64 }
-    ensures { (k : ℕ) → get_or depths.new.items k no_depth ≡ (if band == k then deepened block (get_or depths.old.items k no_depth) else get_or depths.old.items k no_depth) }
+    ensures { (k : ℕ) → get_or depths.new.items k no_depth
+        ≡ (if band == k then deepened block (get_or depths.old.items k no_depth) else get_or depths.old.items k no_depth) }
 {
     let depth = &mut depths[band as usize];
     let spare = spare_for(block, *depth);

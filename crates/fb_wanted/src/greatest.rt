@@ -46,7 +46,8 @@ fn greatest_of(numbers: &[u64], from: usize, end: usize) -> u64
 fn greatest_anew(cylinders: &[u64], band: u32, greatest: u64, was: u64, now: u64) -> u64
     requires { (c : ℕ) → c / 64 ≡ band → (get_or cylinders.now c 0 ≤ greatest) ⊎ (get_or cylinders.now c 0 ≤ now) }
     ensures each { (c : ℕ) → c / 64 ≡ band → get_or cylinders.now c 0 ≤ result }
-    ensures least { (most : ℕ) → now ≤ most → (was < greatest → greatest ≤ most) → ((c : ℕ) → c / 64 ≡ band → get_or cylinders.now c 0 ≤ most) → result ≤ most }
+    ensures least { (most : ℕ) → now ≤ most → (was < greatest → greatest ≤ most)
+        → ((c : ℕ) → c / 64 ≡ band → get_or cylinders.now c 0 ≤ most) → result ≤ most }
 {
     if now >= greatest {
         return now;
@@ -130,7 +131,8 @@ pub fn update_greatest(
     requires small { (t : Track) → weight_kept tracks.now t ≤ 16000000 * 2048000 }
     requires others { (t : Track) → same_track track t ≡ false → weight_kept tracks.now t ≤ get_or greatest.old t.cylinder 0 }
     ensures weights { (t : Track) → weight_kept tracks.now t ≤ get_or greatest.new t.cylinder 0 }
-    ensures least { get_or greatest.old track.cylinder 0 ≤ weight + lost → (most : ℕ) → ((t : Track) → t.cylinder ≡ track.cylinder → weight_kept tracks.now t ≤ most) → get_or greatest.new track.cylinder 0 ≤ most }
+    ensures least { get_or greatest.old track.cylinder 0 ≤ weight + lost → (most : ℕ)
+        → ((t : Track) → t.cylinder ≡ track.cylinder → weight_kept tracks.now t ≤ most) → get_or greatest.new track.cylinder 0 ≤ most }
     ensures elsewhere { (c : ℕ) → (c ≡ track.cylinder → ⊥) → get_or greatest.new c 0 ≡ get_or greatest.old c 0 }
     ensures length { length greatest.new ≡ length greatest.old }
 {

@@ -1,5 +1,6 @@
 // The index of the registered blocks of one cylinder's tracks.
-ghost use Rattle.std.specs.Prelude.{◌≡◌, ℕ, ◌≤◌, ◌<◌, ◌+◌, ◌-◌, ◌^◌, ◌==◌, ◌∷◌, ◌++◌, [], List, IfSome, IfNone, OnOk, OnErr, length, get_or, if◌then◌else◌};
+ghost use Rattle.std.specs.Prelude.{◌≡◌, ℕ, ◌≤◌, ◌<◌, ◌+◌, ◌-◌, ◌^◌, ◌==◌, ◌∷◌, ◌++◌, [], List, IfSome, IfNone, OnOk, OnErr, length};
+ghost use Rattle.std.specs.Prelude.{get_or, if◌then◌else◌};
 ghost use Rattle.fb_wanted.specs.Index.{grown, reweighed, with_offer, without_offer, last_of, no_block_on, IsHeadChanged};
 
 use crate::Offer;

@@ -27,7 +27,8 @@ pub fn chunk_of(lbn: u64) -> u32
 pub fn next_near(near: &BTreeSet<(u32, u32)>, first: u64, count: u64, from: u32, end: u32) -> u32
     requires { from ≤ end }
     ensures order { (from ≤ result) × (result ≤ end) }
-    ensures others { (block : Block) → contains pair_cmp near.now (near_of block) ≡ true → block.count ≤ 2048 → from ≤ block.task → block.task < result → shares first count block ≡ false }
+    ensures others { (block : Block) → contains pair_cmp near.now (near_of block) ≡ true → block.count ≤ 2048 → from ≤ block.task
+        → block.task < result → shares first count block ≡ false }
 {
     let low = chunk_of(first.saturating_sub(CHUNK - 1));
     let high = chunk_of(first.saturating_add(count).saturating_sub(1));

@@ -36,7 +36,8 @@ pub fn note_streak(
     is_streak: bool,
 ) -> Result<(), NoMemory>
     ensures stay { (k : ℕ × ℕ × ℕ) → contains streak_cmp streaks.old k ≡ true → contains streak_cmp streaks.new k ≡ true }
-    ensures more { (k : ℕ × ℕ × ℕ) → contains streak_cmp streaks.new k ≡ true → (contains streak_cmp streaks.old k ≡ true) ⊎ ((is_streak ≡ true) × (k ≡ key_of task streak)) }
+    ensures more { (k : ℕ × ℕ × ℕ) → contains streak_cmp streaks.new k ≡ true
+        → (contains streak_cmp streaks.old k ≡ true) ⊎ ((is_streak ≡ true) × (k ≡ key_of task streak)) }
     ensures noted { OnOk result (is_streak ≡ true → contains streak_cmp streaks.new (key_of task streak) ≡ true) }
     ensures err { OnErr result (streaks.new ≡ streaks.old) }
 {
@@ -50,7 +51,8 @@ pub fn note_streak(
 pub fn forget_streak(streaks: &mut BTreeSet<(u32, u64, u32)>, task: u32, streak: Streak)
     ensures gone { contains streak_cmp streaks.new (key_of task streak) ≡ false }
     ensures only { (k : ℕ × ℕ × ℕ) → contains streak_cmp streaks.new k ≡ true → contains streak_cmp streaks.old k ≡ true }
-    ensures others { (k : ℕ × ℕ × ℕ) → contains streak_cmp streaks.old k ≡ true → (contains streak_cmp streaks.new k ≡ true) ⊎ (k ≡ key_of task streak) }
+    ensures others { (k : ℕ × ℕ × ℕ) → contains streak_cmp streaks.old k ≡ true
+        → (contains streak_cmp streaks.new k ≡ true) ⊎ (k ≡ key_of task streak) }
 {
     streaks.remove(&(task, streak.region, streak.index));
 }
@@ -59,7 +61,8 @@ pub fn forget_streak(streaks: &mut BTreeSet<(u32, u64, u32)>, task: u32, streak:
 pub fn next_streak(streaks: &BTreeSet<(u32, u64, u32)>, task: u32, from: Streak) -> Option<Streak>
     ensures found { IfSome result (λ streak. contains streak_cmp streaks.now (key_of task streak) ≡ true) }
     ensures from { IfSome result (λ streak. IsUpTo from streak) }
-    ensures first { IfSome result (λ streak. (other : Streak) → IsUpTo from other → contains streak_cmp streaks.now (key_of task other) ≡ true → IsUpTo streak other) }
+    ensures first { IfSome result (λ streak. (other : Streak) → IsUpTo from other
+        → contains streak_cmp streaks.now (key_of task other) ≡ true → IsUpTo streak other) }
     ensures none { IfNone result ((other : Streak) → IsUpTo from other → contains streak_cmp streaks.now (key_of task other) ≡ false) }
 {
     match streaks.range((task, from.region, from.index)..).next() {

@@ -1,6 +1,7 @@
 // The registered blocks, in order of registration, with their indexes by task, by track, by
 // cylinder, by band of cylinders, by chunk and by region of LBNs.
-ghost use Rattle.std.specs.Prelude.{◌≡◌, List, suc, Bool, true, false, ◌+◌, ◌-◌, ◌<◌, ◌≤◌, ℕ, [], ◌∷◌, ◌++◌, ◌*◌, ◌/◌, length, filter, map, OnOk, OnErr, IfSome, IfNone, Some, slice_get, get_or, ◌==◌, if◌then◌else◌};
+ghost use Rattle.std.specs.Prelude.{◌≡◌, List, suc, Bool, true, false, ◌+◌, ◌-◌, ◌<◌, ◌≤◌, ℕ, [], ◌∷◌, ◌++◌, ◌*◌, ◌/◌, length, filter, map};
+ghost use Rattle.std.specs.Prelude.{OnOk, OnErr, IfSome, IfNone, Some, slice_get, get_or, ◌==◌, if◌then◌else◌};
 ghost use Rattle.fb_wanted.specs.declared.block.Block.{Block};
 ghost use Rattle.fb_wanted.specs.declared.block.Entry.{Entry};
 ghost use Rattle.fb_wanted.specs.States.{after, shares, entry_after, is_abortable, is_wanted, wanted_unless, on_track, is_block};
@@ -9,7 +10,8 @@ ghost use Rattle.fb_wanted.specs.Counting.{counts_of, sum_of, Fit};
 ghost use Rattle.fb_wanted.specs.Tracks.{wanted_weight};
 ghost use Rattle.fb_wanted.specs.Depth.{depth_at};
 ghost use Rattle.fb_wanted.specs.Near.{near_of, SharesNone};
-ghost use Rattle.fb_wanted.specs.Index.{places, of_task, lbns, region_of, HasChanged, IsStable, IsWithin, changed_where, with_state, change_nth, track_at, grown, no_blocks, grown_task, IsChanged, IsTaskChanged};
+ghost use Rattle.fb_wanted.specs.Index.{places, of_task, lbns, region_of, HasChanged, IsStable, IsWithin, changed_where, with_state};
+ghost use Rattle.fb_wanted.specs.Index.{change_nth, track_at, grown, no_blocks, grown_task, IsChanged, IsTaskChanged};
 ghost use Rattle.fb_units.specs.declared.types.Track.{Track};
 ghost use Rattle.fb_units.specs.Tracks.{same_track};
 
@@ -213,8 +215,10 @@ impl Wanted {
     // in another region than the block of its task before it.
     fn begins_streak(&self, block: Block) -> bool
         requires { block.index ≡ length (filter (of_task block.task) self.now) }
-        ensures new { result ≡ true → (i last : ℕ) → suc i ≡ block.index → slice_get (lbns block.task self.now) i ≡ Some last → region_of last ≡ region_of block.lbn → ⊥ }
-        ensures same { result ≡ false → (last : ℕ) × (0 < block.index) × (slice_get (lbns block.task self.now) (block.index - 1) ≡ Some last) × (region_of last ≡ region_of block.lbn) }
+        ensures new { result ≡ true → (i last : ℕ) → suc i ≡ block.index → slice_get (lbns block.task self.now) i ≡ Some last
+            → region_of last ≡ region_of block.lbn → ⊥ }
+        ensures same { result ≡ false → (last : ℕ) × (0 < block.index)
+            × (slice_get (lbns block.task self.now) (block.index - 1) ≡ Some last) × (region_of last ≡ region_of block.lbn) }
     {
         if block.index == 0 {
             return true;
@@ -226,7 +230,8 @@ impl Wanted {
     // Whether a block that is to be registered begins in another chunk than the one registered last,
     // or is another task's; else its chunk and its task are noted.
     fn is_new_near(&self, block: Block) -> bool
-        ensures { result ≡ false → (i : ℕ) × (before : Block) × (slice_get (blocks_of self.now) i ≡ Some before) × (near_of before ≡ near_of block) }
+        ensures { result ≡ false → (i : ℕ) × (before : Block) × (slice_get (blocks_of self.now) i ≡ Some before)
+            × (near_of before ≡ near_of block) }
     {
         let count = self.entries.len();
         if count == 0 {
@@ -243,7 +248,8 @@ impl Wanted {
     fn change_streak(&mut self, task: u32, streak: Streak, first: u64, count: u64, change: Change)
         requires within { IsWithin change first count }
         requires stable { IsStable change }
-        ensures { (es : List Entry) (chosen : ℕ → Bool) → self.old ≡ changed_where chosen task change es → HasChanged task change streak es chosen self.new }
+        ensures { (es : List Entry) (chosen : ℕ → Bool) → self.old ≡ changed_where chosen task change es
+            → HasChanged task change streak es chosen self.new }
     {
         let _ = &self.entries;
         for k in streak.index..self.registered_by(task) {

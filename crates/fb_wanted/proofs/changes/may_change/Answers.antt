@@ -12,4 +12,5 @@ returns-in-Abort c = λ same task es is.
 pub returns-in-Rewant : goal.returns-in-Rewant
 returns-in-Rewant c = λ same task es is.
     let none : c.args.counts.delivered ≡ 0 = grind (arith, nat_tests, same) in
-    rw c.in-Rewant.is (none_delivered task c.in-Rewant.first c.in-Rewant.count c.in-Rewant.suspended es (omega (arith, none, ap (λ n. n.delivered) is)))
+    rw c.in-Rewant.is (none_delivered task c.in-Rewant.first c.in-Rewant.count c.in-Rewant.suspended es
+    (omega (arith, none, ap (λ n. n.delivered) is)))

@@ -23,10 +23,12 @@ returns-else-pair-first-clause-none c = λ j from. elim (cases_Bool (contains pa
   | inl has ↦
       let first = (c.range.ensures.in_range tt).2 (c.args.first, j) (from_pair c.args.first c.args.from j from, tt) has in
       let down = subst (λ ks. IfSome (slice_get ks 0) (λ k. IsLeBy pair_cmp k (c.args.first, j))) c.in-Some.ensures.steps first in
-      let begin = subst (λ ks. IfSome (slice_get ks 0) (λ k. is_gt (pair_cmp (c.args.first, c.args.from) k) ≡ false)) c.in-Some.ensures.steps (IfSome_then (slice_get c.range.result 0) (c.range.ensures.in_range tt).1 (λ k x. x.0.0)) in
+      let begin = subst (λ ks. IfSome (slice_get ks 0) (λ k. is_gt (pair_cmp (c.args.first, c.args.from) k) ≡ false))
+      c.in-Some.ensures.steps (IfSome_then (slice_get c.range.result 0) (c.range.ensures.in_range tt).1 (λ k x. x.0.0)) in
       absurd (c.if-pair-first.false (first_stays c.args.first c.args.from c.in-Some.pair.now.0 c.in-Some.pair.now.1 j begin down))
   | inr none ↦ none
 ]
 
 pub returns-in-None-clause-none : goal.returns-in-None-clause-none
-returns-in-None-clause-none c = λ j from. (c.range.ensures.in_range tt).5 c.in-None.ensures.steps.0 (c.args.first, j) (from_pair c.args.first c.args.from j from, tt)
+returns-in-None-clause-none c = λ j from. (c.range.ensures.in_range tt).5 c.in-None.ensures.steps.0 (c.args.first, j)
+    (from_pair c.args.first c.args.from j from, tt)

@@ -9,4 +9,5 @@ still true old h = refl
 still false old h = h
 
 pub returns-in_ok-insert-clause-stay : goal.returns-in_ok-insert-clause-stay
-returns-in_ok-insert-clause-stay c = λ k has. c.in_ok-insert.ensures.updates.0 k ∙ still (is_at (pair_cmp (c.args.first, c.args.second)) k) (contains pair_cmp c.args.notes.now k) has
+returns-in_ok-insert-clause-stay c = λ k has. c.in_ok-insert.ensures.updates.0 k
+    ∙ still (is_at (pair_cmp (c.args.first, c.args.second)) k) (contains pair_cmp c.args.notes.now k) has

@@ -35,14 +35,17 @@ returns-clause-first c =
     let k = c.turn_length-count.result in
     let most = c.if-count-left.most in
     let within : most ≤ c.args.count = elim c.if-count-left.branch [ then-count-left w ↦ omega arith | else-count-left w ↦ omega arith ] in
-    let small : most ≤ c.args.block - first % c.args.block = elim c.if-count-left.branch [ then-count-left w ↦ omega arith | else-count-left w ↦ omega arith ] in
+    let small : most ≤ c.args.block - first % c.args.block =
+    elim c.if-count-left.branch [ then-count-left w ↦ omega arith | else-count-left w ↦ omega arith ] in
     let rest = cutting disk c.args.block (first + k) (c.args.count - k) in
-    let track : track_at disk first ≡ c.place_near-place.result.track = ap (λ (p : Place). p.track) (sym c.place_near-place.ensures.value) in
+    let track : track_at disk first ≡ c.place_near-place.result.track =
+    ap (λ (p : Place). p.track) (sym c.place_near-place.ensures.value) in
     first_cut-is disk c.args.block first c.args.count most k c.requires.block within small
     (λ less. elim c.if-count-left.branch [ then-count-left w ↦ omega arith | else-count-left w ↦ omega arith ])
     c.turn_length-count.ensures.some c.turn_length-count.ensures.bound c.turn_length-count.ensures.goes_on c.turn_length-count.ensures.ends
     ∙ ap (λ (t : Track). record { lbn = first; count = k; track = t; sweep = sweep_of disk first k } ∷ rest) track
-    ∙ ap (λ (s : Sweep). record { lbn = first; count = k; track = c.place_near-place.result.track; sweep = s } ∷ rest) (sym (returns-clause-sweep c))
+    ∙ ap (λ (s : Sweep). record { lbn = first; count = k; track = c.place_near-place.result.track; sweep = s } ∷ rest)
+    (sym (returns-clause-sweep c))
 
 pub returns-clause-one_turn : goal.returns-clause-one_turn
 returns-clause-one_turn c = one_turn-from c.args.self.now c.args.first c.turn_length-count.result c.turn_length-count.ensures.goes_on

@@ -12,7 +12,9 @@ returns c =
     let sound : IsSound disk = subst IsSound c.self.view_is c.self.invariant.sound in
     let at = c.by_cylinder-at in
     let place = c.sector_place.result in
-    let listed : slice_get (data_list_at disk at.result.cylinder) at.result.sector ≡ Some place = subst (λ (d : Shape). slice_get (data_list_at d at.result.cylinder) at.result.sector ≡ Some place) c.self.view_is c.sector_place.ensures in
+    let listed : slice_get (data_list_at disk at.result.cylinder) at.result.sector ≡ Some place =
+    subst (λ (d : Shape). slice_get (data_list_at d at.result.cylinder) at.result.sector ≡ Some place) c.self.view_is
+    c.sector_place.ensures in
     let placed_at = placed disk sound at.result.cylinder at.result.sector c.args.lbn place at.ensures listed in
     let lies = own-at disk sound at.result.cylinder at.result.sector place at.ensures.on_disk listed in
     record {

@@ -11,13 +11,19 @@ pub overflow_add-result : goal.overflow_add-result
 overflow_add-result c =
     let at = c.by_cylinder-at in
     let size : c.cylinder_sectors.result ≡ length (data_list_at c.args.self.now at.result.cylinder) =
-    subst (λ (d : Shape). c.cylinder_sectors.result ≡ length (data_list_at d at.result.cylinder)) c.self.view_is c.cylinder_sectors.ensures.value in
-    omega (arith, end_fits c.args.self.now (subst IsSound c.self.view_is c.self.invariant.sound) at.result.cylinder at.result.sector c.args.lbn at.ensures c.requires c.cylinder_sectors.result size)
+    subst (λ (d : Shape). c.cylinder_sectors.result ≡ length (data_list_at d at.result.cylinder)) c.self.view_is
+    c.cylinder_sectors.ensures.value in
+    omega (
+      arith,
+      end_fits c.args.self.now (subst IsSound c.self.view_is c.self.invariant.sound) at.result.cylinder at.result.sector
+          c.args.lbn at.ensures c.requires c.cylinder_sectors.result size,
+    )
 
 pub returns-clause-cylinder : goal.returns-clause-cylinder
 returns-clause-cylinder c =
     let at = c.by_cylinder-at in
-    c.cylinder.ensures.number ∙ sym (cylinder_of_sector c.args.self.now (subst IsSound c.self.view_is c.self.invariant.sound) at.result.cylinder at.result.sector c.args.lbn at.ensures c.requires)
+    c.cylinder.ensures.number ∙ sym (cylinder_of_sector c.args.self.now (subst IsSound c.self.view_is c.self.invariant.sound)
+    at.result.cylinder at.result.sector c.args.lbn at.ensures c.requires)
 
 pub returns-clause-run : goal.returns-clause-run
 returns-clause-run c =
@@ -28,9 +34,11 @@ returns-clause-run c =
     let first = c.args.lbn - at.result.sector in
     let number = c.cylinder.ensures.number in
     let size : c.cylinder_sectors.result ≡ length (data_list_at disk at.result.cylinder) =
-    subst (λ (d : Shape). c.cylinder_sectors.result ≡ length (data_list_at d at.result.cylinder)) c.self.view_is c.cylinder_sectors.ensures.value in
+    subst (λ (d : Shape). c.cylinder_sectors.result ≡ length (data_list_at d at.result.cylinder)) c.self.view_is
+    c.cylinder_sectors.ensures.value in
     let starts : first ≡ sectors_before disk on.number = omega (arith, at.ensures.number, ap (sectors_before disk) number) in
-    let ends : first + c.cylinder_sectors.result ≡ first + length (data_list_at disk on.number) = omega (arith, size, ap (λ n. length (data_list_at disk n)) number) in
+    let ends : first + c.cylinder_sectors.result ≡ first + length (data_list_at disk on.number) =
+    omega (arith, size, ap (λ n. length (data_list_at disk n)) number) in
     let looked : IsLookedUp disk on = subst (λ (d : Shape). IsLookedUp d on) c.self.view_is c.cylinder.ensures.looked_up in
     record {
       looked_up = looked;

@@ -13,7 +13,8 @@ loop-length-init c =
       bound = omega (arith, c.min-length.ensures);
       span = is;
       end = λ less. omega (arith, c.min-length.ensures, c.requires.from, c.requires.before);
-      goes_on = λ i some less. later-inside c.args.self.now span.first span.stretch.place span.stretch.count is.slot is.next is.one_turn c.args.first c.requires.from i some (omega (arith, c.min-length.ensures));
+      goes_on = λ i some less. later-inside c.args.self.now span.first span.stretch.place span.stretch.count is.slot is.next is.one_turn
+          c.args.first c.requires.from i some (omega (arith, c.min-length.ensures));
     }
 
 pub loop-length-preserved : goal.loop-length-preserved
@@ -28,9 +29,11 @@ loop-length-preserved c =
       bound = omega (arith, c.min-length-in-loop-length.ensures, c.loop-length-test.true);
       span = is;
       end = λ less. omega (arith, c.min-length-in-loop-length.ensures, c.span.ensures.first);
-      goes_on = later-through disk next.first next.stretch.place next.stretch.count is.slot is.next is.one_turn c.args.first l.length c.min-length-in-loop-length.result
+      goes_on = later-through disk next.first next.stretch.place next.stretch.count is.slot is.next is.one_turn c.args.first l.length
+          c.min-length-in-loop-length.result
           (sym c.span.ensures.first) (omega (arith, c.min-length-in-loop-length.ensures)) l.invariant.goes_on
-          (ap (λ at. is_later disk (place_at disk at) (place_at disk next.first)) (let last : next.first - 1 ≡ c.args.first + (l.length - 1) = omega (arith, c.span.ensures.first, l.invariant.some) in last)
+          (ap (λ at. is_later disk (place_at disk at) (place_at disk next.first))
+          (let last : next.first - 1 ≡ c.args.first + (l.length - 1) = omega (arith, c.span.ensures.first, l.invariant.some) in last)
           ∙ ap (λ p. is_later disk p (place_at disk next.first)) (sym c.place_near-before.ensures.value)
           ∙ ap (is_later disk c.place_near-before.result) (sym is.first)
           ∙ sym c.is_later.ensures ∙ c.if-not-is_later.false);

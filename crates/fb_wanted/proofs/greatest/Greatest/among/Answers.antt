@@ -6,4 +6,5 @@ returns-then-end-from-lt-BAND-clause-small c = c.greatest_of.ensures.least 32768
     omega (arith, ap (λ xs. get_or xs i 0) c.deref.ensures.value, c.self.invariant.each i, c.self.invariant.small (i / 64)))
 
 pub returns-clause-small : goal.returns-clause-small
-returns-clause-small c = c.greatest_of-2.ensures.least 32768000000000 (λ b from lt. omega (arith, ap (λ xs. get_or xs b 0) c.deref-2.ensures.value, c.self.invariant.small b))
+returns-clause-small c = c.greatest_of-2.ensures.least 32768000000000
+    (λ b from lt. omega (arith, ap (λ xs. get_or xs b 0) c.deref-2.ensures.value, c.self.invariant.small b))

@@ -12,9 +12,11 @@ pub bounds-self-inside-self-inside : goal.bounds-self-inside-self-inside
 bounds-self-inside-self-inside c =
     let test = of_track c.self.inside.track in
     let room = subst (λ es. c.args.i < length es) (sym c.self.view_is) c.requires in
-    place_within test c.self.inside.entries.now c.args.i (get_or c.self.inside.at.now c.args.i 0) (place_at test c.self.inside.entries.now c.self.inside.at.now c.args.i c.self.invariant.0 room)
+    place_within test c.self.inside.entries.now c.args.i (get_or c.self.inside.at.now c.args.i 0)
+    (place_at test c.self.inside.entries.now c.self.inside.at.now c.args.i c.self.invariant.0 room)
 
 pub returns : goal.returns
 returns c =
     let room = subst (λ es. c.args.i < length es) (sym c.self.view_is) c.requires in
-    ap (λ es. slice_get es c.args.i) (sym c.self.view_is) ∙ read_at (of_track c.self.inside.track) c.self.inside.entries.now c.self.inside.at.now c.args.i _ c.self.invariant.0 room
+    ap (λ es. slice_get es c.args.i) (sym c.self.view_is)
+    ∙ read_at (of_track c.self.inside.track) c.self.inside.entries.now c.self.inside.at.now c.args.i _ c.self.invariant.0 room

@@ -10,7 +10,8 @@ overflow_cast-result c =
     omega (arith, count, filter-le (of_track c.self.inside.track) c.self.inside.entries.now, c.self.invariant.1)
 
 pub returns-clause-count : goal.returns-clause-count
-returns-clause-count c = ap length c.self.invariant.0 ∙ (length-places (of_track c.self.inside.track) c.self.inside.entries.now ∙ ap length c.self.view_is)
+returns-clause-count c = ap length c.self.invariant.0
+    ∙ (length-places (of_track c.self.inside.track) c.self.inside.entries.now ∙ ap length c.self.view_is)
 
 pub returns-clause-few : goal.returns-clause-few
 returns-clause-few c =

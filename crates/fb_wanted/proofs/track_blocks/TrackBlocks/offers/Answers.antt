@@ -7,7 +7,8 @@ use Rattle.fb_wanted.proofs.track_blocks.TrackBlocks.offers.Goals as goal
 pub returns-clause-its : goal.returns-clause-its
 returns-clause-its c =
     let self = c.self.inside in
-    subst (AreOffers self.offers.now) c.self.view_is (are_offers self.track self.entries.now self.offers.now c.self.invariant.4 c.self.invariant.5)
+    subst (AreOffers self.offers.now) c.self.view_is
+    (are_offers self.track self.entries.now self.offers.now c.self.invariant.4 c.self.invariant.5)
 
 pub returns-clause-few : goal.returns-clause-few
 returns-clause-few c =

@@ -1,4 +1,5 @@
-use Rattle.std.proofs.Common.{◌≡◌, ℕ, List, Some, false, ◌<◌, ◌-◌, arith, ◌∙◌, ◌++◌, ◌∷◌, [], ap, sym, refl, subst, length, filter, slice_get}
+use Rattle.std.proofs.Common.{◌≡◌, ℕ, List, Some, false, ◌<◌, ◌-◌, arith, ◌∙◌, ◌++◌, ◌∷◌, [], ap, sym, refl, subst, length, filter}
+use Rattle.std.proofs.Common.{slice_get}
 use Rattle.std.proofs.lemmas.List.{length-map}
 use Rattle.fb_wanted.specs.declared.block.Block.{Block}
 use Rattle.fb_wanted.specs.declared.block.Entry.{Entry}
@@ -17,14 +18,16 @@ use Rattle.fb_wanted.proofs.Deep.{deep_room, deep_still, deep_pushed}
 use Rattle.fb_wanted.proofs.Nearby.{near_pushed, near_still}
 use Rattle.fb_wanted.proofs.wanted.Wanted.add.Goals as goal
 
-its_number : (block : Block) (es : List Entry) → block.index ≡ registered block.task (blocks_of es) → block.index ≡ length (filter (of_task block.task) es)
+its_number : (block : Block) (es : List Entry) → block.index ≡ registered block.task (blocks_of es)
+    → block.index ≡ length (filter (of_task block.task) es)
 its_number block es free = free ∙ (ap length (task-blocks block.task es) ∙ length-map (filter (of_task block.task) es) (λ e. e.block))
 
 pub begins_streak-begins_streak-requires : goal.begins_streak-begins_streak-requires
 begins_streak-begins_streak-requires c = its_number c.args.block c.args.self.now c.requires.numbered
 
 pub add_to_index-requires : goal.add_to_index-requires
-add_to_index-requires c = counts_room c.self.inside.entries.items c.self.inside.tasks.items c.self.inside.tracks c.self.invariant.0 c.args.block.task (record { block = c.args.block; state = Suspended }) _ refl
+add_to_index-requires c = counts_room c.self.inside.entries.items c.self.inside.tasks.items c.self.inside.tracks c.self.invariant.0
+    c.args.block.task (record { block = c.args.block; state = Suspended }) _ refl
 
 pub deepen-requires-clause-room : goal.deepen-requires-clause-room
 deepen-requires-clause-room c =
@@ -46,27 +49,47 @@ invariant_of-self-in-Ok c =
     let indexes = c.in_ok-push-in-Ok.ensures.items ∙ ap (λ l. l ++ 0 ∷ []) c.in_ok-reserve-2.ensures.items in
     let place = c.len-place.ensures ∙ self.entries.ok.0 in
     let next = its_number c.args.block items free in
-    let roomy = greatest_still self.tracks self.greatest c.add_room.new.self c.self.invariant.2 c.in_ok-add_room.ensures.stay c.in_ok-add_room.ensures.longer in (
-      kept_pushed entry items self.tasks.items c.add_to_index.new.tasks.items self.tracks c.add_to_index.new.tracks c.push-in-Ok.new.self.items c.len-place.result list place c.self.invariant.0 free room c.requires.light c.requires.short
+    let roomy = greatest_still self.tracks self.greatest c.add_room.new.self c.self.invariant.2 c.in_ok-add_room.ensures.stay
+    c.in_ok-add_room.ensures.longer in (
+      kept_pushed entry items self.tasks.items c.add_to_index.new.tasks.items self.tracks c.add_to_index.new.tracks
+          c.push-in-Ok.new.self.items c.len-place.result list place c.self.invariant.0 free room c.requires.light c.requires.short
           refl c.in-Ok.ensures.tasks c.in-Ok.ensures.tracks,
       subst (λ l. AreNoted l c.note_streak.new.streaks) (sym list)
-          (noted_more items task c.region_of.result c.args.block.index self.streaks c.note_streak.new.streaks c.begins_streak-begins_streak.result c.self.invariant.1 next c.in_ok-note_streak.ensures.stay c.in_ok-note_streak.ensures.more entry refl (sym c.region_of.ensures)
+          (noted_more items task c.region_of.result c.args.block.index self.streaks c.note_streak.new.streaks
+          c.begins_streak-begins_streak.result c.self.invariant.1 next c.in_ok-note_streak.ensures.stay c.in_ok-note_streak.ensures.more
+          entry refl (sym c.region_of.ensures)
           c.in_ok-note_streak.ensures.noted
-          (λ old. let it = c.begins_streak-begins_streak.ensures.same old in (it.0, it.1, ap (λ es. slice_get (lbns task es) (c.args.block.index - 1)) c.self.view_is ∙ it.2, it.3 ∙ sym c.region_of.ensures))
-          (λ new i before to at same. c.begins_streak-begins_streak.ensures.new new i before to (ap (λ es. slice_get (lbns task es) i) (sym c.self.view_is) ∙ at) (same ∙ c.region_of.ensures))),
+          (λ old. let it = c.begins_streak-begins_streak.ensures.same old in (
+            it.0,
+            it.1,
+            ap (λ es. slice_get (lbns task es) (c.args.block.index - 1)) c.self.view_is ∙ it.2,
+            it.3
+                ∙ sym c.region_of.ensures,
+          ))
+          (λ new i before to at same. c.begins_streak-begins_streak.ensures.new new i before to
+          (ap (λ es. slice_get (lbns task es) i) (sym c.self.view_is) ∙ at) (same ∙ c.region_of.ensures))),
       greatest_same self.tracks c.add_to_index.new.tracks c.add_room.new.self roomy
-          (changed_weight self.tracks c.add_to_index.new.tracks c.args.block.track (grown c.len-place.result) (λ o. refl) c.in-Ok.ensures.tracks)
+          (changed_weight self.tracks c.add_to_index.new.tracks c.args.block.track (grown c.len-place.result) (λ o. refl)
+          c.in-Ok.ensures.tracks)
           (c.in-Ok.ensures.no_longer (length c.add_room.new.self) roomy.there c.in_ok-add_room.ensures.there),
-      deep_pushed items c.push-in-Ok.new.self.items entry c.band_of-band.result c.add_bands.new.bands.items c.deepen.new.depths.items list c.band_of-band.ensures c.requires.light
-          (deep_still items self.depths.items c.add_bands.new.bands.items c.self.invariant.3 c.in_ok-add_bands.ensures.stay) c.deepen.ensures,
-      near_pushed items c.push-in-Ok.new.self.items entry self.near c.note.new.notes c.chunk_of-chunk.result c.is_new_near-is_new.result list c.self.invariant.4 c.in_ok-note.ensures.stay c.chunk_of-chunk.ensures
-          c.in_ok-note.ensures.noted (subst (λ es. c.is_new_near-is_new.result ≡ false → (i : ℕ) × (before : Block) × (slice_get (blocks_of es) i ≡ Some before) × (near_of before ≡ near_of c.args.block)) (sym c.self.view_is) c.is_new_near-is_new.ensures),
-      subst (AreShort c.max-self-inside.result) (sym list) (short_more items entry self.longest c.max-self-inside.result c.self.invariant.5 (omega (arith, c.max-self-inside.ensures)) (omega (arith, c.max-self-inside.ensures))),
+      deep_pushed items c.push-in-Ok.new.self.items entry c.band_of-band.result c.add_bands.new.bands.items c.deepen.new.depths.items list
+          c.band_of-band.ensures c.requires.light
+          (deep_still items self.depths.items c.add_bands.new.bands.items c.self.invariant.3 c.in_ok-add_bands.ensures.stay)
+          c.deepen.ensures,
+      near_pushed items c.push-in-Ok.new.self.items entry self.near c.note.new.notes c.chunk_of-chunk.result c.is_new_near-is_new.result
+          list c.self.invariant.4 c.in_ok-note.ensures.stay c.chunk_of-chunk.ensures
+          c.in_ok-note.ensures.noted (subst (λ es. c.is_new_near-is_new.result ≡ false
+          → (i : ℕ) × (before : Block) × (slice_get (blocks_of es) i ≡ Some before) × (near_of before ≡ near_of c.args.block))
+          (sym c.self.view_is) c.is_new_near-is_new.ensures),
+      subst (AreShort c.max-self-inside.result) (sym list)
+          (short_more items entry self.longest c.max-self-inside.result c.self.invariant.5 (omega (arith, c.max-self-inside.ensures))
+          (omega (arith, c.max-self-inside.ensures))),
       subst (λ l. AreOffered l (offers_at c.add_to_index.new.tracks) c.push.new.self.items) (sym list)
           (subst (λ l. AreOffered (items ++ entry ∷ []) (offers_at c.add_to_index.new.tracks) l) (sym indexes)
           (offered_pushed items (offers_at c.add_to_index.new.tracks) self.offer_indexes.items entry 0
           (offered_still items (offers_at self.tracks) (offers_at c.add_to_index.new.tracks) self.offer_indexes.items c.self.invariant.6
-          (changed_offers self.tracks c.add_to_index.new.tracks c.args.block.track (grown c.len-place.result) (λ o. refl) c.in-Ok.ensures.tracks)) refl)),
+          (changed_offers self.tracks c.add_to_index.new.tracks c.args.block.track (grown c.len-place.result) (λ o. refl)
+          c.in-Ok.ensures.tracks)) refl)),
     )
 
 -- out of memory for the index by task or by track: what was noted is taken back
@@ -79,7 +102,8 @@ invariant_of-self-in-Err c =
     let stay = c.in-Err.ensures in
     let free = c.requires.numbered ∙ ap (λ es. registered c.args.block.task (blocks_of es)) (sym c.self.view_is) in
     let next = its_number c.args.block items free in
-    let roomy = greatest_still self.tracks self.greatest c.add_room.new.self c.self.invariant.2 c.in_ok-add_room.ensures.stay c.in_ok-add_room.ensures.longer in (
+    let roomy = greatest_still self.tracks self.greatest c.add_room.new.self c.self.invariant.2 c.in_ok-add_room.ensures.stay
+    c.in_ok-add_room.ensures.longer in (
       subst (λ es. IsKept es c.add_to_index.new.tasks.items c.add_to_index.new.tracks) list (record {
         in_order = old.in_order;
         few = old.few;
@@ -91,14 +115,18 @@ invariant_of-self-in-Err c =
         };
       }),
       subst (λ es. AreNoted es c.forget_streak.new.streaks) list
-          (noted_back items c.args.block.task c.region_of.result c.args.block.index self.streaks c.note_streak.new.streaks c.begins_streak-begins_streak.result c.self.invariant.1 next c.in_ok-note_streak.ensures.stay c.in_ok-note_streak.ensures.more
+          (noted_back items c.args.block.task c.region_of.result c.args.block.index self.streaks c.note_streak.new.streaks
+          c.begins_streak-begins_streak.result c.self.invariant.1 next c.in_ok-note_streak.ensures.stay c.in_ok-note_streak.ensures.more
           c.forget_streak.new.streaks c.forget_streak.ensures.gone c.forget_streak.ensures.only c.forget_streak.ensures.others),
       greatest_same self.tracks c.add_to_index.new.tracks c.add_room.new.self roomy (λ t. ap (λ o. o.weight) (stay.tracks_stay t))
           (stay.no_longer (length c.add_room.new.self) roomy.there c.in_ok-add_room.ensures.there),
-      subst (λ es. AreDeep es c.add_bands.new.bands.items) list (deep_still items self.depths.items c.add_bands.new.bands.items c.self.invariant.3 c.in_ok-add_bands.ensures.stay),
-      subst (λ es. AreNear es c.note.new.notes) list (near_still items self.near c.note.new.notes c.self.invariant.4 c.in_ok-note.ensures.stay),
+      subst (λ es. AreDeep es c.add_bands.new.bands.items) list
+          (deep_still items self.depths.items c.add_bands.new.bands.items c.self.invariant.3 c.in_ok-add_bands.ensures.stay),
+      subst (λ es. AreNear es c.note.new.notes) list
+          (near_still items self.near c.note.new.notes c.self.invariant.4 c.in_ok-note.ensures.stay),
       subst (AreShort self.longest) list c.self.invariant.5,
       subst (λ es. AreOffered es (offers_at c.add_to_index.new.tracks) c.reserve-2.new.self.items) list
           (subst (λ l. AreOffered items (offers_at c.add_to_index.new.tracks) l) (sym c.in_ok-reserve-2.ensures.items)
-          (offered_still items (offers_at self.tracks) (offers_at c.add_to_index.new.tracks) self.offer_indexes.items c.self.invariant.6 (λ t. ap (λ o. o.offers) (stay.tracks_stay t)))),
+          (offered_still items (offers_at self.tracks) (offers_at c.add_to_index.new.tracks) self.offer_indexes.items c.self.invariant.6
+          (λ t. ap (λ o. o.offers) (stay.tracks_stay t)))),
     )

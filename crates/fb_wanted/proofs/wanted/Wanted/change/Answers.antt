@@ -27,4 +27,5 @@ pub returns : goal.returns
 returns c =
     let test = of_task c.args.task in
     let step = entry_after c.args.task c.args.change in
-    c.loop-k.invariant ∙ first_all test step (others_after c.args.task c.args.change) c.args.self.now c.loop-k.k (omega (arith, c.loop-k-test.false, c.registered_by-k-end.ensures))
+    c.loop-k.invariant ∙ first_all test step (others_after c.args.task c.args.change) c.args.self.now c.loop-k.k
+    (omega (arith, c.loop-k-test.false, c.registered_by-k-end.ensures))

@@ -17,6 +17,9 @@ returns c =
     let test = of_task c.args.task in
     let place = c.place_of-place.result in
     let entry = c.entry_at-entry.result in
-    let own = passes test entries c.args.k entry (at_place test entries c.args.k place c.place_of-place.ensures ∙ c.entry_at-entry.ensures) in
+    let own = passes test entries c.args.k entry (at_place test entries c.args.k place c.place_of-place.ensures
+    ∙ c.entry_at-entry.ensures) in
     c.set_state.ensures
-    ∙ nth_turned test (entry_after c.args.task c.args.change) c.state_after.result entry entries c.args.k place (own_after c.args.task c.args.change entry c.state_after.result own c.state_after.ensures) c.place_of-place.ensures c.entry_at-entry.ensures
+    ∙ nth_turned test (entry_after c.args.task c.args.change) c.state_after.result entry entries c.args.k place
+    (own_after c.args.task c.args.change entry c.state_after.result own c.state_after.ensures) c.place_of-place.ensures
+    c.entry_at-entry.ensures

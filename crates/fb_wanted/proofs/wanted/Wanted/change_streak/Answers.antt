@@ -13,7 +13,11 @@ use Rattle.fb_wanted.proofs.wanted.Wanted.change_streak.Goals.{then-shares, else
 use Rattle.fb_wanted.proofs.wanted.Wanted.change_streak.Goals as goal
 
 pub loop-k-init : goal.loop-k-init
-loop-k-init c = record { changed = λ es chosen same. (chosen, same, λ j own. own, λ j low high. absurd (omega (arith, low, high))); size = refl }
+loop-k-init c = record {
+  changed = λ es chosen same. (chosen, same, λ j own. own, λ j low high. absurd (omega (arith, low, high)));
+  size =
+      refl;
+}
 
 pub entry_of-requires : goal.entry_of-requires
 entry_of-requires c = omega (arith, c.loop-k.invariant.size, c.loop-k-test.true, c.registered_by-k-end.ensures)
@@ -30,13 +34,16 @@ loop-k-preserved c =
       | then-shares w ↦ w.self-is ∙ w.change_block.ensures
       | else-shares w ↦ w.self-is ∙ sym (nth_stays test step k c.loop-k.self (λ e at.
           let same = same_Some c.entry_of.result e (sym c.entry_of.ensures ∙ at) in
-          let outside : shares c.args.first c.args.count e.block ≡ false = ap (λ x. shares c.args.first c.args.count x.block) (sym same) ∙ (sym c.shares.ensures ∙ w.if-shares.false) in
-          own_after c.args.task c.args.change e e.state (passes test c.loop-k.self k e at) (sym (c.requires.within e.block e.state outside))))
+          let outside : shares c.args.first c.args.count e.block ≡ false = ap (λ x. shares c.args.first c.args.count x.block) (sym same)
+          ∙ (sym c.shares.ensures ∙ w.if-shares.false) in
+          own_after c.args.task c.args.change e e.state (passes test c.loop-k.self k e at)
+          (sym (c.requires.within e.block e.state outside))))
     ] in
     record {
       changed = λ es chosen same.
           let now = c.loop-k.invariant.changed es chosen same in
-          let in_order = subst AreInOrder (ap blocks_of (c.self.view_is ∙ same) ∙ blocks_stay chosen c.args.task c.args.change es) c.self.invariant.0.in_order in (
+          let in_order = subst AreInOrder (ap blocks_of (c.self.view_is ∙ same) ∙ blocks_stay chosen c.args.task c.args.change es)
+          c.self.invariant.0.in_order in (
             λ j. now.0 j || (j == k),
             turned ∙ (ap (change_nth test step k) now.1 ∙ one_more now.0 c.args.task k c.args.change es in_order c.requires.stable),
             λ j own. rw (now.2 j own) refl,
@@ -59,8 +66,11 @@ returns-then-region_of-streak c = λ es chosen same.
       own = λ k within streak. elim (cases_lt k c.loop-k.k) [
         | inl before ↦ now.3 k streak.0 before
         | inr not_before ↦
-            let at = ap (λ l. slice_get l c.loop-k.k) (sym (ap (lbns c.args.task) now.1 ∙ lbns_stay now.0 c.args.task c.args.task c.args.change es)) ∙ lbn_at c.args.task c.loop-k.self c.loop-k.k c.entry_of.result c.entry_of.ensures in
-            absurd (c.if-region_of-streak.true (c.region_of.ensures ∙ streak.1 c.loop-k.k c.entry_of.result.block.lbn c.loop-k.auto.k not_before at))
+            let at = ap (λ l. slice_get l c.loop-k.k)
+            (sym (ap (lbns c.args.task) now.1 ∙ lbns_stay now.0 c.args.task c.args.task c.args.change es))
+            ∙ lbn_at c.args.task c.loop-k.self c.loop-k.k c.entry_of.result c.entry_of.ensures in
+            absurd (c.if-region_of-streak.true (c.region_of.ensures
+            ∙ streak.1 c.loop-k.k c.entry_of.result.block.lbn c.loop-k.auto.k not_before at))
       ];
     }
 
@@ -69,4 +79,17 @@ returns c = λ es chosen same.
     let now = c.loop-k.invariant.changed es chosen same in
     let length-now = length-lbns c.args.task c.args.self.now in
     let length-es = ap length (ap (lbns c.args.task) same ∙ lbns_stay chosen c.args.task c.args.task c.args.change es) in
-    record { more = now.0; is = now.1; kept = now.2; own = λ k within streak. now.3 k streak.0 (omega (arith, within, length-now, length-es, c.loop-k-test.false, c.registered_by-k-end.ensures)) }
+    record {
+      more = now.0;
+      is = now.1;
+      kept = now.2;
+      own =
+          λ k within streak. now.3 k streak.0 (omega (
+            arith,
+            within,
+            length-now,
+            length-es,
+            c.loop-k-test.false,
+            c.registered_by-k-end.ensures,
+          ));
+    }

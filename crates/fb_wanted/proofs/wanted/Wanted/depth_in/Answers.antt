@@ -8,7 +8,8 @@ returns-clause-deep c = λ track lbn its.
     let items = c.self.inside.entries.items in
     let most = c.most_in.ensures ∙ ap (λ xs. (get_or xs c.args.band no_depth).most) c.deref.ensures.value in
     let band = ap (λ b. band_depth b lbn items) its in
-    let le : depth_at track lbn items ≤ c.most_in.result = omega (arith, most, (c.self.invariant.3.bounds c.args.band).most lbn, band, depth-le_band track lbn items) in
+    let le : depth_at track lbn items ≤ c.most_in.result =
+    omega (arith, most, (c.self.invariant.3.bounds c.args.band).most lbn, band, depth-le_band track lbn items) in
     subst (λ es. depth_at track lbn es ≤ c.most_in.result) c.self.view_is le
 
 pub returns-clause-small : goal.returns-clause-small

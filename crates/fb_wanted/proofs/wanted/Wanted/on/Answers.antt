@@ -12,7 +12,8 @@ use Rattle.fb_wanted.proofs.Reading.{track_kept, track_weight}
 use Rattle.fb_wanted.proofs.wanted.Wanted.on.Goals as goal
 
 -- what holds of the entries and the offers holds of the lists that are read from them
-read : (P : List Entry → List Offer → Type 0) (es items : List Entry) (os offers : List Offer) → es ≡ items → os ≡ offers → P items offers → P es os
+read : (P : List Entry → List Offer → Type 0) (es items : List Entry) (os offers : List Offer) → es ≡ items → os ≡ offers → P items offers
+    → P es os
 read P es items os offers same same_offers h = subst (λ l. P es l) (sym same_offers) (subst (λ l. P l offers) (sym same) h)
 
 abbrev AreThose : Track → List Entry → List Offer → Type 0

@@ -7,20 +7,24 @@ use Rattle.fb_wanted.proofs.wanted.Wanted.place_of.Goals as goal
 pub index-requires : goal.index-requires
 index-requires c =
     let room = subst (λ es. c.args.k < length (filter (of_task c.args.task) es)) (sym c.self.view_is) c.requires in
-    let there = task_there c.self.inside.entries.items c.self.inside.tasks.items c.self.inside.tracks c.self.invariant.0 c.args.task c.args.k room in
+    let there = task_there c.self.inside.entries.items c.self.inside.tasks.items c.self.inside.tracks c.self.invariant.0 c.args.task
+    c.args.k room in
     omega (arith, there, c.self.inside.tasks.ok.0)
 
 pub get-requires : goal.get-requires
 get-requires c =
     let room = subst (λ es. c.args.k < length (filter (of_task c.args.task) es)) (sym c.self.view_is) c.requires in
-    let there = task_there c.self.inside.entries.items c.self.inside.tasks.items c.self.inside.tracks c.self.invariant.0 c.args.task c.args.k room in
+    let there = task_there c.self.inside.entries.items c.self.inside.tasks.items c.self.inside.tracks c.self.invariant.0 c.args.task
+    c.args.k room in
     let at = c.index.ensures ∙ get_or_default c.self.inside.tasks.items c.args.task c.index.result.now no_blocks there in
-    task_place c.self.inside.entries.items c.self.inside.tasks.items c.self.inside.tracks c.self.invariant.0 c.args.task c.args.k c.index.result.now at room
+    task_place c.self.inside.entries.items c.self.inside.tasks.items c.self.inside.tracks c.self.invariant.0 c.args.task c.args.k
+    c.index.result.now at room
 
 pub returns : goal.returns
 returns c =
     let room = subst (λ es. c.args.k < length (filter (of_task c.args.task) es)) (sym c.self.view_is) c.requires in
-    let there = task_there c.self.inside.entries.items c.self.inside.tasks.items c.self.inside.tracks c.self.invariant.0 c.args.task c.args.k room in
+    let there = task_there c.self.inside.entries.items c.self.inside.tasks.items c.self.inside.tracks c.self.invariant.0 c.args.task
+    c.args.k room in
     let at = c.index.ensures ∙ get_or_default c.self.inside.tasks.items c.args.task c.index.result.now no_blocks there in
     ap (λ es. slice_get (places (of_task c.args.task) es) c.args.k) (sym c.self.view_is)
     ∙ (ap (λ blocks. slice_get blocks.places c.args.k) (sym (at ∙ c.self.invariant.0.index.by_task c.args.task)) ∙ c.get.ensures)

@@ -1,7 +1,7 @@
 use Rattle.std.proofs.Common.{◌≡◌, ◌<◌, ◌≤◌, Some, set, slice_get, ◌∙◌, ap, sym, subst, refl, length, arith}
 use Rattle.std.proofs.lemmas.Option.{slice_get_read}
 use Rattle.fb_wanted.specs.declared.block.Entry.{Entry}
-use Rattle.fb_wanted.specs.Index.{OnTrack, with_state, reweighed, places, of_track, offers_at, AreGreatest, AreNoted, AreShort, AreOffered, IsKept}
+use Rattle.fb_wanted.specs.Index.{with_state, reweighed, places, of_track, offers_at, AreGreatest, AreNoted, AreShort, AreOffered, IsKept}
 use Rattle.fb_wanted.specs.Numbering.{AreSmall, blocks_of}
 use Rattle.fb_wanted.specs.Near.{AreNear}
 use Rattle.fb_wanted.proofs.Standing.{items-with_state}
@@ -82,7 +82,8 @@ reweigh-weight-requires c =
     let after = (goal.at.reweigh-weight-requires c).After-reoffer in
     record {
       there = its_track_there items tasks tracks (mid after) c.args.place entry (here after);
-      part = weight_part items tasks tracks (mid after) c.args.place entry c.weight_of-lost.result (here after) c.weight_of-lost.ensures.value;
+      part = weight_part items tasks tracks (mid after) c.args.place entry c.weight_of-lost.result (here after)
+          c.weight_of-lost.ensures.value;
       room = omega (arith, weight_small items tasks tracks (mid after) entry.block.track, c.weight_of-gained.ensures.small);
     }
 
@@ -92,7 +93,8 @@ kept : (c : After-reweigh-weight) → slice_get c.self.inside.entries.items c.ar
     → IsKept (set c.self.inside.entries.items c.args.place (record { block = c.index-entry.result.now.block; state = c.args.state }))
     c.recount.new.tasks.items c.reweigh-weight.new.self
 kept c at h = kept_set c.args.state c.args.place c.index-entry.result.now c.self.inside.entries.items
-    c.reoffer.new.tracks c.reweigh-weight.new.self at c.self.inside.tasks.items c.recount.new.tasks.items c.counts_of.result c.counts_of-2.result
+    c.reoffer.new.tracks c.reweigh-weight.new.self at c.self.inside.tasks.items c.recount.new.tasks.items c.counts_of.result
+    c.counts_of-2.result
     c.weight_of-lost.result c.weight_of-gained.result h c.counts_of.ensures c.counts_of-2.ensures
     c.weight_of-lost.ensures.value c.weight_of-gained.ensures.value c.recount.ensures c.reweigh-weight.ensures.tracks
 
@@ -124,7 +126,8 @@ invariant_of-self c =
     let new = c.reweigh-weight.new.self in
     let change = reweighed c.weight_of-lost.result c.weight_of-gained.result in
     let indexes = c.reoffer.new.offer_indexes.items in
-    let offered = subst (λ l. AreOffered (with_state state place l) (offers_at old) indexes) c.deref.ensures.value c.reoffer.ensures.offered in
+    let offered = subst (λ l. AreOffered (with_state state place l) (offers_at old) indexes) c.deref.ensures.value
+    c.reoffer.ensures.offered in
     let same = sym (items-with_state state place entry items (here after)) in (
       kept (goal.at.invariant_of-self c).After-reweigh-weight (here after) (mid after),
       subst (λ l. AreNoted l self.streaks) same (noted-with_state state place items self.streaks c.self.invariant.1),

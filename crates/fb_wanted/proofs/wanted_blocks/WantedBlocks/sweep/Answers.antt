@@ -13,4 +13,5 @@ pub returns : goal.returns
 returns c = λ block at.
     let self = c.self.inside in
     let room = subst (λ bs. c.args.i < length bs) (sym c.self.view_is) c.requires in
-    sweep_read self.entries.now self.offers.now c.args.i _ c.self.invariant.0 room block (ap (λ bs. slice_get bs c.args.i) c.self.view_is ∙ at)
+    sweep_read self.entries.now self.offers.now c.args.i _ c.self.invariant.0 room block (ap (λ bs. slice_get bs c.args.i) c.self.view_is
+    ∙ at)
