@@ -31,8 +31,11 @@ same_one a b h =
 pub same_itself : (a : Track) → same_track a a ≡ true
 same_itself a = grind (arith, nat_tests)
 
-same_turned : (a b : Track) → same_track a b ≡ false → same_track b a ≡ false
-same_turned a b h = grind (arith, nat_tests)
+pub turned_track : (a b : Track) → same_track a b ≡ true → same_track b a ≡ true
+turned_track a b h = grind (arith, nat_tests)
+
+pub turned_other : (a b : Track) → same_track a b ≡ false → same_track b a ≡ false
+turned_other a b h = grind (arith, nat_tests)
 
 -- what the index has for two tasks is equal if each part is
 same_blocks : (a b : OfTask) → a.places ≡ b.places → a.counts ≡ b.counts → a ≡ b
@@ -103,7 +106,7 @@ module _ (s : State) (n : ℕ) (e : Entry) (es : List Entry) (tracks new : List 
 
   weight_other : (t : Track) (w : ℕ) → same_track e.block.track t ≡ false → w ≡ wanted_weight t es → w ≡ wanted_weight t (with_state s n es)
   weight_other t w other kept =
-      let off = same_turned e.block.track t other in
+      let off = turned_other e.block.track t other in
       let lost = weight_elsewhere t e off in
       let gained = weight_elsewhere t turned off in
       let change = weight-with_state t s n e es at in
@@ -177,12 +180,12 @@ module _ (e : Entry) (es : List Entry) (tasks newtasks : List OfTask) (tracks ne
       → IsChanged tracks new e.block.track (grown (length es)) → (track_at new t).places ≡ places (of_track t) (es ++ e ∷ [])
   more_places t kept changed = elim (cases_Bool (same_track e.block.track t)) [
     | inl here ↦
-        let on : same_track t e.block.track ≡ true = ap (λ u. same_track t u) (same_one e.block.track t here) ∙ same_itself t in
+        let on = turned_track e.block.track t here in
         ap (λ o. o.places) (changed_here tracks new e.block.track (grown (length es)) changed t here)
         ∙ (ap (λ l. l ++ length es ∷ []) kept ∙ sym (places-more_yes (of_track t) es e on))
     | inr other ↦
         ap (λ o. o.places) (unchanged tracks new e.block.track (grown (length es)) changed t other)
-        ∙ (kept ∙ sym (places-more_no (of_track t) es e (same_turned e.block.track t other)))
+        ∙ (kept ∙ sym (places-more_no (of_track t) es e (turned_other e.block.track t other)))
   ]
 
   more_weight : (t : Track) → is_wanted e.state ≡ false → weight_kept tracks t ≡ wanted_weight t es

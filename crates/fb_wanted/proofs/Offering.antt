@@ -19,22 +19,13 @@ use Rattle.fb_wanted.specs.Index.{OnTrack, places, of_track, no_offer, last_of, 
 use Rattle.fb_wanted.specs.Index.{AreOffered, IsItsOffer, IsChanged}
 use Rattle.fb_wanted.proofs.Counted.{filter-le}
 use Rattle.fb_wanted.proofs.Found.{block_at, block_is, blocks_still, found_each}
-use Rattle.fb_wanted.proofs.Kept.{same_one, same_itself, changed_here, unchanged}
+use Rattle.fb_wanted.proofs.Kept.{same_one, same_itself, turned_track, turned_other, changed_here, unchanged}
 use Rattle.fb_wanted.proofs.Numbers.{in_either}
 use Rattle.fb_wanted.proofs.Elements.{at_left, at_end, set_same, set_other, removed_within, removed_other, removed_at, last_at, state_other}
 use Rattle.fb_wanted.proofs.Elements.{state_at}
 use Rattle.fb_wanted.proofs.Standing.{length-places, length-with_state, blocks-with_state, places-with_state}
 use Rattle.fb_wanted.proofs.Sums.{sums-map}
 use Rattle.fb_wanted.proofs.Weights.{sum_wanted, by-append, by-with_state, by_elsewhere, by_unwanted, by_wanted}
-
-turned_track : (a b : Track) → same_track a b ≡ true → same_track b a ≡ true
-turned_track a b h = ap (λ u. same_track b u) (same_one a b h) ∙ same_itself b
-
-turned_other : (a b : Track) → same_track a b ≡ false → same_track b a ≡ false
-turned_other a b h = elim (cases_Bool (same_track b a)) [
-  | inl same ↦ absurd (true≢false (sym (turned_track b a same) ∙ h))
-  | inr other ↦ other
-]
 
 -- an offer is the same block's alone
 same_place : (p q : ℕ) (a b : Block) → offer_of p a ≡ offer_of q b → p ≡ q

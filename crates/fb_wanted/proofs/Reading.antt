@@ -14,7 +14,7 @@ use Rattle.fb_wanted.specs.States.{on_track}
 use Rattle.fb_wanted.specs.Tracks.{wanted_weight}
 use Rattle.fb_wanted.specs.Index.{OnTrack, places, of_task, of_track, track_at, weight_kept, IsThere, IsKept, no_blocks, no_block_on}
 use Rattle.fb_wanted.proofs.Standing.{length-places, among}
-use Rattle.fb_wanted.proofs.Counted.{filter-le, counts_at, counts-few}
+use Rattle.fb_wanted.proofs.Counted.{counts_at, counts-few}
 use Rattle.fb_wanted.proofs.Kept.{same_itself}
 use Rattle.fb_wanted.proofs.Weights.{weight_at, weight-le}
 
@@ -23,13 +23,7 @@ module _ (es : List Entry) (tasks : List OfTask) (tracks : List (List OnTrack)) 
       → length blocks.places ≡ length (filter (of_task task) es)
   task_length task blocks at = ap (λ b. length b.places) (at ∙ h.index.by_task task) ∙ length-places (of_task task) es
 
-  pub task_count : (task n : ℕ) (blocks : OfTask) → n ≡ length blocks.places → blocks ≡ get_or tasks task no_blocks
-      → (n ≤ 16000000) × (n ≡ length (filter (of_task task) es))
-  task_count task n blocks is at =
-      let same : n ≡ length (filter (of_task task) es) = is ∙ task_length task blocks at in
-      (omega (arith, same, filter-le (of_task task) es, h.few), same)
-
-  pub no_task : (task : ℕ) → length tasks ≤ task → 0 ≡ length (filter (of_task task) es)
+  no_task : (task : ℕ) → length tasks ≤ task → 0 ≡ length (filter (of_task task) es)
   no_task task past = task_length task no_blocks (sym (get_or_past tasks task no_blocks past))
 
   pub task_there : (task k : ℕ) → k < length (filter (of_task task) es) → task < length tasks

@@ -126,10 +126,7 @@ impl Wanted {
     fn registered_by(&self, task: u32) -> u32
         ensures { result ≡ length (filter (of_task task) self.now) }
     {
-        match self.tasks.get(task as usize) {
-            Some(of_task) => of_task.places.len() as u32,
-            None => 0,
-        }
+        self.counts(task).registered
     }
 
     // The index, among all registered blocks, of the k-th block of the task.
@@ -422,8 +419,7 @@ impl Wanted {
         requires { (e : Entry) × (i : ℕ) × (slice_get self.now i ≡ Some e) × (is_block task index e ≡ true) }
         ensures { (e : Entry) (i : ℕ) → slice_get self.now i ≡ Some e → is_block task index e ≡ true → e.state ≡ result }
     {
-        let _ = &self.entries;
-        self.entry_of(task, index).state
+        self.entry(task, index).state
     }
 
     /// A registered block with its state, by its task and its number there.
