@@ -61,9 +61,6 @@ module _ (disk : Disk) (early late : Dwell) (first second : Turning) (f : IsTurn
   abbrev early_end : Block → Bool
   early_end b = nat_le (block_end disk.map b early.begin) early.end
 
-  abbrev late_end : Block → Bool
-  late_end b = nat_le (block_end disk.map b late.begin) late.end
-
   by-either : (e : Entry) → FitsDisk disk e.block → same_track early.track e.block.track ≡ true
       → same_track late.track e.block.track ≡ true → adds (λ b. in_early b.sweep || in_late b.sweep) e ≡ gain_by disk early late e
   by-either e fits y z =

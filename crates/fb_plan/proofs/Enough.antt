@@ -9,7 +9,6 @@ use Rattle.fb_units.specs.Tracks.{same_track}
 use Rattle.fb_service.specs.declared.disk.Disk.{Disk}
 use Rattle.fb_wanted.specs.declared.block.Block.{Block}
 use Rattle.fb_rows.specs.declared.gap.Gap.{Gap}
-use Rattle.fb_rows.specs.declared.gap.Plan.{Plan}
 use Rattle.fb_model.specs.Plans.{block_end, is_caught, value}
 use Rattle.fb_plan.specs.declared.way.Way.{Way}
 use Rattle.fb_plan.specs.declared.way.Way.TheVariants.{Source, Over}
@@ -109,10 +108,6 @@ all_covered : (disk : Disk) (gap : Gap) (way : Way) (v u : ℕ) (bs : List Block
 all_covered disk gap way v u [] some le h = tt
 all_covered disk gap way v u (b ∷ bs) some le h = (λ k. caught-by disk gap way v b ∙ either_covered disk gap way v u b some le h.0 (sym (caught-by disk gap way u b) ∙ k), all_covered disk gap way v u bs some le h.1)
 
-pub value-le : (disk : Disk) (gap : Gap) (wanted : List Block) (p q : Plan) → AllByRecursion (λ b. is_caught disk gap p b ≡ true → is_caught disk gap q b ≡ true) wanted → value disk gap wanted p ≤ value disk gap wanted q
-unfolding value
-value-le disk gap wanted p q h = sum-le (λ b. b.weight * b.count) (is_caught disk gap p) (is_caught disk gap q) wanted h
-
 values : (disk : Disk) (gap : Gap) (way : Way) (wanted : List Block) (v u : ℕ)
     → AllByRecursion (λ block. is_caught disk gap (plan_by way u) block ≡ true → is_caught disk gap (plan_by way v) block ≡ true) wanted
     → value disk gap wanted (plan_by way u) ≤ value disk gap wanted (plan_by way v)
@@ -125,22 +120,3 @@ pub enough : (disk : Disk) (gap : Gap) (way : Way) (wanted : List Block) (u : �
 enough disk gap way wanted u some le =
     let s = stands_for disk (early_track gap way) (arrival disk gap way) u wanted le in
     (s.0, s.1, values disk gap way wanted s.0 u (all_covered disk gap way s.0 u wanted some s.1.upto s.1.same))
-
-pub and_left : (a b : Bool) → a && b ≡ true → a ≡ true
-and_left true b h = refl
-and_left false b h = h
-
--- no plan of a way is worth more than all blocks of its track and what the target gives from the arrival on
-may_catch : (disk : Disk) (gap : Gap) (way : Way) (u : ℕ) (b : Block) → 0 < disk.map.rotation → arrival disk gap way ≤ u
-    → covered disk gap way u b ≡ true → same_track (early_track gap way) b.track || passes disk gap.target (arrival disk gap way + move_on disk gap way) gap.deadline b ≡ true
-may_catch disk gap way u b some le h = either_true _ _ _ _ (λ k. and_left (same_track (early_track gap way) b.track) (nat_le (block_end disk.map b (arrival disk gap way)) u) k) (late-le disk gap way (arrival disk gap way) u b some le) h
-
-all_may : (disk : Disk) (gap : Gap) (way : Way) (u : ℕ) (bs : List Block) → 0 < disk.map.rotation → arrival disk gap way ≤ u
-    → AllByRecursion (λ b. is_caught disk gap (plan_by way u) b ≡ true → same_track (early_track gap way) b.track || passes disk gap.target (arrival disk gap way + move_on disk gap way) gap.deadline b ≡ true) bs
-all_may disk gap way u [] some le = tt
-all_may disk gap way u (b ∷ bs) some le = (λ k. may_catch disk gap way u b some le (sym (caught-by disk gap way u b) ∙ k), all_may disk gap way u bs some le)
-
-pub ceiling : (disk : Disk) (gap : Gap) (way : Way) (wanted : List Block) (u : ℕ) → 0 < disk.map.rotation → arrival disk gap way ≤ u
-    → value disk gap wanted (plan_by way u) ≤ sum_by (λ b. b.weight * b.count) (filter (λ b. same_track (early_track gap way) b.track || passes disk gap.target (arrival disk gap way + move_on disk gap way) gap.deadline b) wanted)
-unfolding value
-ceiling disk gap way wanted u some le = sum-le (λ b. b.weight * b.count) (is_caught disk gap (plan_by way u)) (λ b. same_track (early_track gap way) b.track || passes disk gap.target (arrival disk gap way + move_on disk gap way) gap.deadline b) wanted (all_may disk gap way u wanted some le)

@@ -1,11 +1,11 @@
 -- What the best so far has passed.
-use Rattle.std.proofs.Common.{◌≡◌, inl, inr, ℕ, ◌+◌, ◌<◌, ◌≤◌, List, true, false}
+use Rattle.std.proofs.Common.{◌≡◌, inl, inr, ℕ, ◌+◌, ◌<◌, ◌≤◌, List, true}
 use Rattle.std.proofs.Common.{Some, slice_get, get_or, length, arith, sym, ap, ◌∙◌, subst}
 use Rattle.std.proofs.lemmas.Bool.{cases_lt}
 use Rattle.std.proofs.lemmas.Option.{slice_get_within, slice_get-get_or}
 use Rattle.fb_units.specs.declared.types.Track.{Track}
 use Rattle.fb_units.specs.Tracks.{same_track}
-use Rattle.fb_geometry.specs.Shape.{cylinders_of, IsTrackOf}
+use Rattle.fb_geometry.specs.Shape.{cylinders_of}
 use Rattle.fb_service.specs.declared.disk.Disk.{Disk}
 use Rattle.fb_wanted.specs.declared.block.Block.{Block}
 use Rattle.fb_wanted.specs.declared.block.Entry.{Entry}
@@ -16,11 +16,10 @@ use Rattle.fb_rows.specs.declared.gap.Gap.{Gap}
 use Rattle.fb_rows.specs.declared.gap.Plan.{Plan}
 use Rattle.fb_rows.specs.declared.gap.Plan.TheVariants.{Direct, Detour}
 use Rattle.fb_model.specs.Plans.{block_end, value, early_dwell, IsPlan, IsDetour}
-use Rattle.fb_plan.specs.declared.choice.Scored.{Scored}
 use Rattle.fb_plan.specs.declared.way.Way.{Way}
 use Rattle.fb_plan.specs.declared.way.Way.TheVariants.{Source, Over}
 use Rattle.fb_plan.specs.declared.turning.Turning.{Turning}
-use Rattle.fb_plan.specs.Ways.{plan_by, early_track, arrival, move_on, AreOnDisk, Beats, IsOver, IsScored, IsWay}
+use Rattle.fb_plan.specs.Ways.{plan_by, early_track, arrival, move_on, AreOnDisk, Beats}
 use Rattle.fb_plan.specs.declared.sides.Sides.{Sides}
 use Rattle.fb_plan.specs.Turns.{AreSides, IsTurning, end_of, stay_of}
 use Rattle.fb_plan.proofs.Enough.{enough}
@@ -38,18 +37,9 @@ in_track track es i b at on =
     let k = to_filter (λ (x : Entry). same_track track x.block.track) es r.0 r.1 r.2 here in
     (k.0, r.1, k.1, r.3, r.4)
 
-pub way-source : (disk : Disk) (gap : Gap) → IsWay disk gap Source
-way-source disk gap = λ leave a b. (a, b)
-
-pub way-over : (disk : Disk) (gap : Gap) (track : Track) → IsTrackOf disk.map track → same_track track gap.source ≡ false → same_track track gap.target ≡ false → IsWay disk gap (Over track)
-way-over disk gap track on source target = λ leave a b. record { on_disk = on; not_source = source; not_target = target; after_arrival = a; in_time = b }
-
 pub bounds : (disk : Disk) (gap : Gap) (way : Way) (u : ℕ) → IsPlan disk gap (plan_by way u) → (arrival disk gap way ≤ u) × (u + move_on disk gap way ≤ gap.deadline)
 bounds disk gap Source u is = is
 bounds disk gap (Over track) u is = (is.after_arrival, is.in_time)
-
-pub over-beats : (disk : Disk) (gap : Gap) (wanted : List Block) (a b : Scored) → IsScored disk gap wanted a → IsScored disk gap wanted b → IsOver a b → Beats disk gap wanted a.plan b.plan
-over-beats disk gap wanted a b x y h = elim h [ inl l ↦ inl (omega (arith, x.score, y.score)) | inr e ↦ inr (sym y.score ∙ (e.0 ∙ x.score), e.1) ]
 
 pub leave-beats : (disk : Disk) (gap : Gap) (wanted : List Block) (way : Way) (v u : ℕ) → v ≤ u → value disk gap wanted (plan_by way u) ≤ value disk gap wanted (plan_by way v)
     → Beats disk gap wanted (plan_by way v) (plan_by way u)
