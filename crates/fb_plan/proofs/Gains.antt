@@ -22,12 +22,14 @@ pub some-one : {X : Type 0} (x y : X) → Some x ≡ Some y → x ≡ y
 some-one x y h = grind arith
 
 first_or : {X : Type 0} (p : X → Bool) (y : X) (ys : List X) (i : ℕ) (x : X) → p y ≡ true → slice_get (y ∷ filter p ys) i ≡ Some x
-    → ((k : ℕ) → slice_get (filter p ys) k ≡ Some x → (j : ℕ) × (slice_get ys j ≡ Some x) × (p x ≡ true)) → (j : ℕ) × (slice_get (y ∷ ys) j ≡ Some x) × (p x ≡ true)
+    → ((k : ℕ) → slice_get (filter p ys) k ≡ Some x → (j : ℕ) × (slice_get ys j ≡ Some x) × (p x ≡ true))
+    → (j : ℕ) × (slice_get (y ∷ ys) j ≡ Some x) × (p x ≡ true)
 first_or p y ys zero x t h rest = (zero, h, ap p (sym (some-one y x h)) ∙ t)
 first_or p y ys (suc i) x t h rest = let r = rest i h in (suc r.0, r.1, r.2)
 
 -- what passes the test stands in the list
-pub in_filter : {X : Type 0} (p : X → Bool) (xs : List X) (i : ℕ) (x : X) → slice_get (filter p xs) i ≡ Some x → (j : ℕ) × (slice_get xs j ≡ Some x) × (p x ≡ true)
+pub in_filter : {X : Type 0} (p : X → Bool) (xs : List X) (i : ℕ) (x : X) → slice_get (filter p xs) i ≡ Some x
+    → (j : ℕ) × (slice_get xs j ≡ Some x) × (p x ≡ true)
 in_filter p [] zero x h = absurd (grind arith)
 in_filter p [] (suc i) x h = absurd (grind arith)
 in_filter p (y ∷ ys) i x h = elim (cases_Bool (p y)) [
@@ -47,7 +49,8 @@ sums c [] = refl
 sums c (e ∷ es) = elim (cases_Bool (is_wanted e.state)) [
   | inl w ↦ elim (cases_Bool (c e.block)) [
     | inl y ↦
-        let left : sum_by worth (filter c (wanted_of (e ∷ es))) ≡ worth e.block + sum_by worth (filter c (wanted_of es)) = rw (w, y) (sum_by-cons worth e.block (filter c (wanted_of es))) in
+        let left : sum_by worth (filter c (wanted_of (e ∷ es))) ≡ worth e.block + sum_by worth (filter c (wanted_of es)) =
+            rw (w, y) (sum_by-cons worth e.block (filter c (wanted_of es))) in
         let one : adds c e ≡ worth e.block = rw (w, y) refl in
         omega (arith, left, sum_by-cons (adds c) e es, one, sums c es)
     | inr n ↦
@@ -61,19 +64,22 @@ sums c (e ∷ es) = elim (cases_Bool (is_wanted e.state)) [
       omega (arith, left, sum_by-cons (adds c) e es, one, sums c es)
 ]
 
-pub value-gain : (disk : Disk) (gap : Gap) (plan : Plan) (es : List Entry) → value disk gap (wanted_of es) plan ≡ sum_by (gain disk gap plan) es
+pub value-gain : (disk : Disk) (gap : Gap) (plan : Plan) (es : List Entry)
+    → value disk gap (wanted_of es) plan ≡ sum_by (gain disk gap plan) es
 unfolding value
 value-gain disk gap plan es = sums (is_caught disk gap plan) es
 
 -- a sum needs only those that add to it
-pub one_part : (g : Entry → ℕ) (p : Entry → Bool) → ((e : Entry) → p e ≡ false → g e ≡ 0) → (es : List Entry) → sum_by g es ≡ sum_by g (filter p es)
+pub one_part : (g : Entry → ℕ) (p : Entry → Bool) → ((e : Entry) → p e ≡ false → g e ≡ 0) → (es : List Entry)
+    → sum_by g es ≡ sum_by g (filter p es)
 one_part g p none [] = refl
 one_part g p none (e ∷ es) = elim (cases_Bool (p e)) [
   | inl y ↦ rw y (omega (arith, sum_by-cons g e es, sum_by-cons g e (filter p es), one_part g p none es))
   | inr n ↦ rw n (omega (arith, sum_by-cons g e es, none e n, one_part g p none es))
 ]
 
-two_parts : (g : Entry → ℕ) (p q : Entry → Bool) → ((e : Entry) → p e ≡ true → q e ≡ true → ⊥) → ((e : Entry) → p e ≡ false → q e ≡ false → g e ≡ 0) → (es : List Entry)
+two_parts : (g : Entry → ℕ) (p q : Entry → Bool) → ((e : Entry) → p e ≡ true → q e ≡ true → ⊥)
+    → ((e : Entry) → p e ≡ false → q e ≡ false → g e ≡ 0) → (es : List Entry)
     → sum_by g es ≡ sum_by g (filter p es) + sum_by g (filter q es)
 two_parts g p q apart none [] = refl
 two_parts g p q apart none (e ∷ es) = elim (cases_Bool (p e)) [
@@ -91,11 +97,13 @@ and_false : (b : Bool) → b && false ≡ false
 and_false true = refl
 and_false false = refl
 
-not_caught : (disk : Disk) (gap : Gap) (plan : Plan) (b : Block) → same_track (track_of gap plan) b.track ≡ false → same_track gap.target b.track ≡ false → is_caught disk gap plan b ≡ false
+not_caught : (disk : Disk) (gap : Gap) (plan : Plan) (b : Block) → same_track (track_of gap plan) b.track ≡ false
+    → same_track gap.target b.track ≡ false → is_caught disk gap plan b ≡ false
 not_caught disk gap (Direct u) b h k = rw (h, k) refl
 not_caught disk gap (Detour c u) b h k = rw (h, k) refl
 
-no_gain : (disk : Disk) (gap : Gap) (plan : Plan) (e : Entry) → same_track (track_of gap plan) e.block.track ≡ false → same_track gap.target e.block.track ≡ false → gain disk gap plan e ≡ 0
+no_gain : (disk : Disk) (gap : Gap) (plan : Plan) (e : Entry) → same_track (track_of gap plan) e.block.track ≡ false
+    → same_track gap.target e.block.track ≡ false → gain disk gap plan e ≡ 0
 no_gain disk gap plan e h k = rw (not_caught disk gap plan e.block h k, and_false (is_wanted e.state)) refl
 
 -- tracks are told apart by their numbers
@@ -108,21 +116,28 @@ track_over a b x h k = grind (arith, nat_tests)
 pub value-one : (disk : Disk) (gap : Gap) (plan : Plan) (es : List Entry) → same_track (track_of gap plan) gap.target ≡ true
     → value disk gap (wanted_of es) plan ≡ sum_by (gain disk gap plan) (on_track (track_of gap plan) es)
 value-one disk gap plan es same = value-gain disk gap plan es
-    ∙ one_part (gain disk gap plan) (λ e. same_track (track_of gap plan) e.block.track) (λ e n. no_gain disk gap plan e n (track_over (track_of gap plan) gap.target e.block.track same n)) es
+    ∙ one_part (gain disk gap plan) (λ e. same_track (track_of gap plan) e.block.track)
+    (λ e n. no_gain disk gap plan e n (track_over (track_of gap plan) gap.target e.block.track same n)) es
 
 pub value-two : (disk : Disk) (gap : Gap) (plan : Plan) (es : List Entry) → same_track (track_of gap plan) gap.target ≡ false
-    → value disk gap (wanted_of es) plan ≡ sum_by (gain disk gap plan) (on_track (track_of gap plan) es) + sum_by (gain disk gap plan) (on_track gap.target es)
+    → value disk gap (wanted_of es) plan
+    ≡ sum_by (gain disk gap plan) (on_track (track_of gap plan) es) + sum_by (gain disk gap plan) (on_track gap.target es)
 value-two disk gap plan es other = value-gain disk gap plan es
     ∙ two_parts (gain disk gap plan) (λ e. same_track (track_of gap plan) e.block.track) (λ e. same_track gap.target e.block.track)
-    (λ e y z. true≢false (sym (track_of_both (track_of gap plan) gap.target e.block.track y z) ∙ other)) (λ e n z. no_gain disk gap plan e n z) es
+    (λ e y z. true≢false (sym (track_of_both (track_of gap plan) gap.target e.block.track y z) ∙ other))
+    (λ e n z. no_gain disk gap plan e n z) es
 
-pub sum-one : (disk : Disk) (gap : Gap) (plan : Plan) (es : List Entry) (track : Track) (sum : ℕ) → track ≡ track_of gap plan → same_track track gap.target ≡ true
+pub sum-one : (disk : Disk) (gap : Gap) (plan : Plan) (es : List Entry) (track : Track) (sum : ℕ) → track ≡ track_of gap plan
+    → same_track track gap.target ≡ true
     → sum ≡ sum_by (gain disk gap plan) (on_track track es) → sum ≡ value disk gap (wanted_of es) plan
 sum-one disk gap plan es track sum e same s =
-    s ∙ (ap (λ t. sum_by (gain disk gap plan) (on_track t es)) e ∙ sym (value-one disk gap plan es (subst (λ t. same_track t gap.target ≡ true) e same)))
+    s ∙ (ap (λ t. sum_by (gain disk gap plan) (on_track t es)) e
+        ∙ sym (value-one disk gap plan es (subst (λ t. same_track t gap.target ≡ true) e same)))
 
-pub sum-two : (disk : Disk) (gap : Gap) (plan : Plan) (es : List Entry) (track : Track) (sum other : ℕ) → track ≡ track_of gap plan → same_track track gap.target ≡ false
-    → sum ≡ sum_by (gain disk gap plan) (on_track track es) → other ≡ sum_by (gain disk gap plan) (on_track gap.target es) → sum + other ≡ value disk gap (wanted_of es) plan
+pub sum-two : (disk : Disk) (gap : Gap) (plan : Plan) (es : List Entry) (track : Track) (sum other : ℕ) → track ≡ track_of gap plan
+    → same_track track gap.target ≡ false
+    → sum ≡ sum_by (gain disk gap plan) (on_track track es) → other ≡ sum_by (gain disk gap plan) (on_track gap.target es)
+    → sum + other ≡ value disk gap (wanted_of es) plan
 sum-two disk gap plan es track sum other e apart s o =
     let two = value-two disk gap plan es (subst (λ t. same_track t gap.target ≡ false) e apart) in
     let first = s ∙ ap (λ t. sum_by (gain disk gap plan) (on_track t es)) e in
@@ -136,9 +151,12 @@ own-track : (disk : Disk) (gap : Gap) (plan : Plan) → (early_dwell disk gap pl
 own-track disk gap (Direct u) = refl
 own-track disk gap (Detour c u) = refl
 
-module _ (disk : Disk) (gap : Gap) (plan : Plan) (es : List Entry) (early late : Dwell) (p : early ≡ early_dwell disk gap plan) (q : late ≡ late_dwell disk gap plan) where
+module _ (disk : Disk) (gap : Gap) (plan : Plan) (es : List Entry) (early late : Dwell) (p : early ≡ early_dwell disk gap plan)
+    (q : late ≡ late_dwell disk gap plan) where
   by-dwells : (xs ys : List Entry) (sum : ℕ) → xs ≡ ys → sum ≡ sum_by (gain_by disk early late) xs → sum ≡ sum_by (gain disk gap plan) ys
-  by-dwells xs ys sum same s = s ∙ (ap (λ d. sum_by (gain_by disk d late) xs) p ∙ (ap (λ d. sum_by (gain_by disk (early_dwell disk gap plan) d) xs) q ∙ ap (sum_by (gain disk gap plan)) same))
+  by-dwells xs ys sum same s = s
+      ∙ (ap (λ d. sum_by (gain_by disk d late) xs) p
+      ∙ (ap (λ d. sum_by (gain_by disk (early_dwell disk gap plan) d) xs) q ∙ ap (sum_by (gain disk gap plan)) same))
 
   its-track : early.track ≡ track_of gap plan
   its-track = ap (λ (d : Dwell). d.track) p ∙ own-track disk gap plan
@@ -147,11 +165,15 @@ module _ (disk : Disk) (gap : Gap) (plan : Plan) (es : List Entry) (early late :
   its-blocks xs same = same ∙ ap (λ (d : Dwell). on_track d.track es) (sym p)
 
   -- a plan's value by the blocks of one track, or of both
-  pub value-by-one : (xs : List Entry) (sum : ℕ) → xs ≡ on_track (early_dwell disk gap plan).track es → same_track early.track gap.target ≡ true
+  pub value-by-one : (xs : List Entry) (sum : ℕ) → xs ≡ on_track (early_dwell disk gap plan).track es
+      → same_track early.track gap.target ≡ true
       → sum ≡ sum_by (gain_by disk early late) xs → sum ≡ value disk gap (wanted_of es) plan
-  value-by-one xs sum same one s = sum-one disk gap plan es early.track sum its-track one (by-dwells xs (on_track early.track es) sum (its-blocks xs same) s)
+  value-by-one xs sum same one s =
+      sum-one disk gap plan es early.track sum its-track one (by-dwells xs (on_track early.track es) sum (its-blocks xs same) s)
 
-  pub value-by-two : (xs ys : List Entry) (sum other : ℕ) → xs ≡ on_track (early_dwell disk gap plan).track es → ys ≡ on_track gap.target es → same_track early.track gap.target ≡ false
-      → sum ≡ sum_by (gain_by disk early late) xs → other ≡ sum_by (gain_by disk early late) ys → sum + other ≡ value disk gap (wanted_of es) plan
+  pub value-by-two : (xs ys : List Entry) (sum other : ℕ) → xs ≡ on_track (early_dwell disk gap plan).track es → ys ≡ on_track gap.target es
+      → same_track early.track gap.target ≡ false
+      → sum ≡ sum_by (gain_by disk early late) xs → other ≡ sum_by (gain_by disk early late) ys
+      → sum + other ≡ value disk gap (wanted_of es) plan
   value-by-two xs ys sum other same target two s o = sum-two disk gap plan es early.track sum other its-track two
       (by-dwells xs (on_track early.track es) sum (its-blocks xs same) s) (by-dwells ys (on_track gap.target es) other target o)

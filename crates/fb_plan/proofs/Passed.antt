@@ -37,13 +37,16 @@ in_track track es i b at on =
     let k = to_filter (λ (x : Entry). same_track track x.block.track) es r.0 r.1 r.2 here in
     (k.0, r.1, k.1, r.3, r.4)
 
-pub bounds : (disk : Disk) (gap : Gap) (way : Way) (u : ℕ) → IsPlan disk gap (plan_by way u) → (arrival disk gap way ≤ u) × (u + move_on disk gap way ≤ gap.deadline)
+pub bounds : (disk : Disk) (gap : Gap) (way : Way) (u : ℕ) → IsPlan disk gap (plan_by way u)
+    → (arrival disk gap way ≤ u) × (u + move_on disk gap way ≤ gap.deadline)
 bounds disk gap Source u is = is
 bounds disk gap (Over track) u is = (is.after_arrival, is.in_time)
 
-pub leave-beats : (disk : Disk) (gap : Gap) (wanted : List Block) (way : Way) (v u : ℕ) → v ≤ u → value disk gap wanted (plan_by way u) ≤ value disk gap wanted (plan_by way v)
+pub leave-beats : (disk : Disk) (gap : Gap) (wanted : List Block) (way : Way) (v u : ℕ) → v ≤ u
+    → value disk gap wanted (plan_by way u) ≤ value disk gap wanted (plan_by way v)
     → Beats disk gap wanted (plan_by way v) (plan_by way u)
-leave-beats disk gap wanted way v u le values = elim (cases_lt (value disk gap wanted (plan_by way u)) (value disk gap wanted (plan_by way v))) [
+leave-beats disk gap wanted way v u le values =
+    elim (cases_lt (value disk gap wanted (plan_by way u)) (value disk gap wanted (plan_by way v))) [
   | inl l ↦ inl l
   | inr m ↦ inr (omega arith, later-leave way v u le)
 ]
@@ -51,7 +54,8 @@ leave-beats disk gap wanted way v u le values = elim (cases_lt (value disk gap w
 -- all leaves of a way, when the arrival and the ends of passages were tried
 pub all_leaves : (disk : Disk) (gap : Gap) (way : Way) (es : List Entry) (best : Plan) (u : ℕ) → 0 < disk.map.rotation
     → Beats disk gap (wanted_of es) best (plan_by way (arrival disk gap way))
-    → ((k : ℕ) (e : Entry) → slice_get (on_track (early_track gap way) es) k ≡ Some e → is_wanted e.state ≡ true → block_end disk.map e.block (arrival disk gap way) + move_on disk gap way ≤ gap.deadline
+    → ((k : ℕ) (e : Entry) → slice_get (on_track (early_track gap way) es) k ≡ Some e → is_wanted e.state ≡ true
+    → block_end disk.map e.block (arrival disk gap way) + move_on disk gap way ≤ gap.deadline
     → Beats disk gap (wanted_of es) best (plan_by way (block_end disk.map e.block (arrival disk gap way))))
     → IsPlan disk gap (plan_by way u) → Beats disk gap (wanted_of es) best (plan_by way u)
 all_leaves disk gap way es best u some first each is =
@@ -61,10 +65,12 @@ all_leaves disk gap way es best u some first each is =
       | inl e ↦ subst (λ x. Beats disk gap (wanted_of es) best (plan_by way x)) (sym e) first
       | inr q ↦
           let k = in_track (early_track gap way) es q.0 q.1 q.2 q.3 in
-          let end : block_end disk.map k.1.block (arrival disk gap way) ≡ v.0 = ap (λ b. block_end disk.map b (arrival disk gap way)) k.3 ∙ sym q.4 in
+          let end : block_end disk.map k.1.block (arrival disk gap way) ≡ v.0 = ap (λ b. block_end disk.map b (arrival disk gap way)) k.3
+              ∙ sym q.4 in
           subst (λ x. Beats disk gap (wanted_of es) best (plan_by way x)) end (each k.0 k.1 k.2 k.4 (omega (arith, w.1, v.1.upto, end)))
     ] in
-    beats-trans disk gap (wanted_of es) best (plan_by way v.0) (plan_by way u) better (leave-beats disk gap (wanted_of es) way v.0 u v.1.upto v.2)
+    beats-trans disk gap (wanted_of es) best (plan_by way v.0) (plan_by way u) better
+        (leave-beats disk gap (wanted_of es) way v.0 u v.1.upto v.2)
 
 -- when the head leaves as the sweep of an offer ends
 abbrev pub leave_at : Turning → Offer → ℕ
@@ -138,23 +144,29 @@ pub tracks-more : (disk : Disk) (gap : Gap) (wanted : List Block) (new old : Pla
     → (h leave : ℕ) → h < n + 1 → IsDetour disk gap (at h) leave → Beats disk gap wanted new (Detour (at h) leave)
 tracks-more disk gap wanted new old at n keeps this before h leave less is = elim (cases_lt h n) [
   | inl l ↦ beats-trans disk gap wanted new old (Detour (at h) leave) keeps (before h leave l is)
-  | inr m ↦ let same : n ≡ h = omega arith in subst (λ x. IsDetour disk gap (at x) leave → Beats disk gap wanted new (Detour (at x) leave)) same (this leave) is
+  | inr m ↦ let same : n ≡ h = omega arith in
+      subst (λ x. IsDetour disk gap (at x) leave → Beats disk gap wanted new (Detour (at x) leave)) same (this leave) is
 ]
 
 -- all plans of the gap
 pub all_plans : (disk : Disk) (gap : Gap) (wanted : List Block) (best : Plan) (n : ℕ) → cylinders_of disk.map.zones ≤ n
     → ((leave : ℕ) → IsPlan disk gap (Direct leave) → Beats disk gap wanted best (Direct leave))
-    → ((c h leave : ℕ) → c < n → IsDetour disk gap (record { cylinder = c; head = h }) leave → Beats disk gap wanted best (Detour (record { cylinder = c; head = h }) leave))
+    → ((c h leave : ℕ) → c < n → IsDetour disk gap (record { cylinder = c; head = h }) leave
+    → Beats disk gap wanted best (Detour (record { cylinder = c; head = h }) leave))
     → (q : Plan) → IsPlan disk gap q → Beats disk gap wanted best q
 all_plans disk gap wanted best n all direct detour (Direct leave) is = direct leave is
-all_plans disk gap wanted best n all direct detour (Detour track leave) is = detour track.cylinder track.head leave (omega (arith, is.on_disk.cylinder)) is
+all_plans disk gap wanted best n all direct detour (Detour track leave) is =
+    detour track.cylinder track.head leave (omega (arith, is.on_disk.cylinder)) is
 
 -- the sides of a way are those of each of its plans
-sides-way : (disk : Disk) (gap : Gap) (way : Way) (leave : ℕ) (es : List Entry) (sides : Sides) → AreSides disk gap.target es (stay_of disk gap way) sides
+sides-way : (disk : Disk) (gap : Gap) (way : Way) (leave : ℕ) (es : List Entry) (sides : Sides)
+    → AreSides disk gap.target es (stay_of disk gap way) sides
     → AreSides disk gap.target es (early_dwell disk gap (plan_by way leave)) sides
 sides-way disk gap Source leave es sides h = record { early = h.early; late = h.late; passing = h.passing; from = h.from }
 sides-way disk gap (Over track) leave es sides h = record { early = h.early; late = h.late; passing = h.passing; from = h.from }
 
-pub sides-by : (disk : Disk) (gap : Gap) (way : Way) (leave : ℕ) (plan : Plan) (es : List Entry) (sides : Sides) → plan ≡ plan_by way leave → AreSides disk gap.target es (stay_of disk gap way) sides
+pub sides-by : (disk : Disk) (gap : Gap) (way : Way) (leave : ℕ) (plan : Plan) (es : List Entry) (sides : Sides) → plan ≡ plan_by way leave
+    → AreSides disk gap.target es (stay_of disk gap way) sides
     → AreSides disk gap.target es (early_dwell disk gap plan) sides
-sides-by disk gap way leave plan es sides same h = subst (λ p. AreSides disk gap.target es (early_dwell disk gap p) sides) (sym same) (sides-way disk gap way leave es sides h)
+sides-by disk gap way leave plan es sides same h =
+    subst (λ p. AreSides disk gap.target es (early_dwell disk gap p) sides) (sym same) (sides-way disk gap way leave es sides h)
