@@ -29,19 +29,19 @@ pub record IsInTurn (rotation : ℕ) (sweep : Sweep) : Type 0 where
   pub begin : sweep.begin < rotation
   pub length : sweep.length ≤ rotation
 
--- the angle is that at which the platter stands at the instant
+-- where a platter stands at an instant up to 9 * 10 ^ 18: `at` is its angle then, and a rotation takes at most a second
 pub record Stands (turning : Turning) : Type 0 where
   pub early : turning.from ≤ 9 * 10 ^ 18
   pub short : turning.rotation ≤ 10 ^ 9
   pub at : turning.at ≡ turning.from % turning.rotation
 
--- the platter is that of the disk
+-- where the platter of this disk, which is sound, stands at the instant
 pub record IsTurning (disk : Disk) (turning : Turning) : Type 0 where
   pub stands : Stands turning
   pub rotation : turning.rotation ≡ disk.map.rotation
   pub sound : IsSound disk.map
 
--- the blocks of a dwell's track and of the target, and where the platter stands at the begin of the dwell
+-- the sides of a dwell are the registered blocks of its track, those of the target, and where the disk's platter stands as it begins
 pub record AreSides (disk : Disk) (target : Track) (entries : List Entry) (dwell : Dwell) (sides : Sides) : Type 0 where
   pub early : sides.early ≡ on_track dwell.track entries
   pub late : sides.late ≡ on_track target entries

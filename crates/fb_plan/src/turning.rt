@@ -10,9 +10,10 @@ use fb_units::{Ns, Sweep};
 pub struct Turning {
     /// The instant, in ns.
     pub from: Ns,
-    // The angle at which the platter stands then, and a rotation, in ns.
-    at: Ns,
-    rotation: Ns,
+    /// The angle at which the platter stands then, in ns from angle 0 on; less than a rotation.
+    pub at: Ns,
+    /// A rotation, in ns; at most a second.
+    pub rotation: Ns,
 }
 
 impl Turning {
