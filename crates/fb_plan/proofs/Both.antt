@@ -13,18 +13,20 @@ use Rattle.fb_wanted.specs.declared.block.Block.{Block}
 use Rattle.fb_wanted.specs.declared.block.Entry.{Entry}
 use Rattle.fb_wanted.specs.declared.offer.Offer.{Offer}
 use Rattle.fb_wanted.specs.Offers.{AreOffers}
-use Rattle.fb_wanted.specs.States.{on_track, wanted_of}
+use Rattle.fb_wanted.specs.States.{wanted_of}
 use Rattle.fb_rows.specs.declared.gap.Gap.{Gap}
 use Rattle.fb_rows.specs.declared.gap.Plan.{Plan}
 use Rattle.fb_rows.specs.declared.gap.Plan.TheVariants.{Direct, Detour}
 use Rattle.fb_rows.specs.declared.gap.Dwell.{Dwell}
 use Rattle.fb_model.specs.Plans.{block_end, value, early_dwell, late_dwell}
+use Rattle.fb_plan.specs.declared.dwell_pair.DwellPair.{DwellPair}
+use Rattle.fb_plan.specs.declared.sides.Sides.{Sides}
 use Rattle.fb_plan.specs.declared.turning.Turning.{Turning}
 use Rattle.fb_plan.specs.Ways.{FitsDisk, AreOnDisk}
-use Rattle.fb_plan.specs.Turns.{IsTurning, passes_by, added}
+use Rattle.fb_plan.specs.Turns.{AreSides, IsTurning, passes_by, added}
 use Rattle.fb_plan.proofs.Gains.{adds, gain_by, in_filter, value-by-one, value-by-two}
 use Rattle.fb_plan.proofs.Offered.{sum-offered}
-use Rattle.fb_plan.proofs.Swept.{turning-end}
+use Rattle.fb_plan.proofs.Swept.{passes-as}
 
 sum-agree : (f g : Entry → ℕ) (xs : List Entry) → ((i : ℕ) (e : Entry) → slice_get xs i ≡ Some e → f e ≡ g e) → sum_by f xs ≡ sum_by g xs
 sum-agree f g [] same = refl
@@ -44,73 +46,81 @@ its-target : (disk : Disk) (gap : Gap) (plan : Plan) → (late_dwell disk gap pl
 its-target disk gap (Direct u) = refl
 its-target disk gap (Detour c u) = refl
 
--- a block passes in a dwell as its sweep does
-passes-as : (disk : Disk) (dwell : Dwell) (turning : Turning) (b : Block) → IsTurning disk turning → turning.from ≡ dwell.begin
-    → FitsDisk disk b → passes_by turning dwell.end b.sweep ≡ nat_le (block_end disk.map b dwell.begin) dwell.end
-passes-as disk dwell turning b h from fits =
-    ap (λ x. nat_le x dwell.end) (turning-end disk turning b h fits ∙ ap (block_end disk.map b) from)
-
-module _ (disk : Disk) (early late : Dwell) (first second : Turning) (f : IsTurning disk first) (s : IsTurning disk second)
-    (first_from : first.from ≡ early.begin) (second_from : second.from ≡ late.begin) where
+module _ (disk : Disk) (gap : Gap) (plan : Plan) (es : List Entry) (pair : DwellPair) (sides : Sides) (late : Turning)
+    (p : pair.early ≡ early_dwell disk gap plan) (q : pair.late ≡ late_dwell disk gap plan)
+    (are : AreSides disk gap.target es (early_dwell disk gap plan) sides) (turns : IsTurning disk late)
+    (from : late.from ≡ pair.late.begin) where
   abbrev in_early : Sweep → Bool
-  in_early sweep = passes_by first early.end sweep
+  in_early sweep = passes_by sides.passing pair.early.end sweep
 
   abbrev in_late : Sweep → Bool
-  in_late sweep = passes_by second late.end sweep
+  in_late sweep = passes_by late pair.late.end sweep
 
   abbrev early_end : Block → Bool
-  early_end b = nat_le (block_end disk.map b early.begin) early.end
+  early_end b = nat_le (block_end disk.map b pair.early.begin) pair.early.end
 
-  by-either : (e : Entry) → FitsDisk disk e.block → same_track early.track e.block.track ≡ true
-      → same_track late.track e.block.track ≡ true → adds (λ b. in_early b.sweep || in_late b.sweep) e ≡ gain_by disk early late e
+  passes-early : (b : Block) → FitsDisk disk b → in_early b.sweep ≡ early_end b
+  passes-early b fits = passes-as disk sides.passing b are.passing fits pair.early (are.from ∙ ap (λ (d : Dwell). d.begin) (sym p))
+
+  passes-late : (b : Block) → FitsDisk disk b → in_late b.sweep ≡ nat_le (block_end disk.map b pair.late.begin) pair.late.end
+  passes-late b fits = passes-as disk late b turns fits pair.late from
+
+  by-either : (e : Entry) → FitsDisk disk e.block → same_track pair.early.track e.block.track ≡ true
+      → same_track pair.late.track e.block.track ≡ true
+      → adds (λ b. in_early b.sweep || in_late b.sweep) e ≡ gain_by disk pair.early pair.late e
   by-either e fits y z =
-      ap (λ x. adds (λ b. x || in_late e.block.sweep) e) (passes-as disk early first e.block f first_from fits)
-      ∙ (ap (λ x. adds (λ b. early_end e.block || x) e) (passes-as disk late second e.block s second_from fits) ∙ rw (y, z) refl)
+      ap (λ x. adds (λ b. x || in_late e.block.sweep) e) (passes-early e.block fits)
+      ∙ (ap (λ x. adds (λ b. early_end e.block || x) e) (passes-late e.block fits) ∙ rw (y, z) refl)
 
-  by-early : (e : Entry) → FitsDisk disk e.block → same_track early.track e.block.track ≡ true
-      → same_track late.track e.block.track ≡ false → adds (λ b. in_early b.sweep) e ≡ gain_by disk early late e
+  by-early : (e : Entry) → FitsDisk disk e.block → same_track pair.early.track e.block.track ≡ true
+      → same_track pair.late.track e.block.track ≡ false → adds (λ b. in_early b.sweep) e ≡ gain_by disk pair.early pair.late e
   by-early e fits y z =
-      ap (λ x. adds (λ b. x) e) (passes-as disk early first e.block f first_from fits)
+      ap (λ x. adds (λ b. x) e) (passes-early e.block fits)
       ∙ elim (cases_Bool (early_end e.block)) [ inl t ↦ rw (y, z, t) refl | inr n ↦ rw (y, z, n) refl ]
 
-  by-late : (e : Entry) → FitsDisk disk e.block → same_track early.track e.block.track ≡ false
-      → same_track late.track e.block.track ≡ true → adds (λ b. in_late b.sweep) e ≡ gain_by disk early late e
-  by-late e fits y z = ap (λ x. adds (λ b. x) e) (passes-as disk late second e.block s second_from fits) ∙ rw (y, z) refl
+  by-late : (e : Entry) → FitsDisk disk e.block → same_track pair.early.track e.block.track ≡ false
+      → same_track pair.late.track e.block.track ≡ true → adds (λ b. in_late b.sweep) e ≡ gain_by disk pair.early pair.late e
+  by-late e fits y z = ap (λ x. adds (λ b. x) e) (passes-late e.block fits) ∙ rw (y, z) refl
 
-  module _ (gap : Gap) (plan : Plan) (es : List Entry) (p : early ≡ early_dwell disk gap plan) (q : late ≡ late_dwell disk gap plan)
-      (xs : List Entry) (offers : List Offer) (its : xs ≡ on_track (early_dwell disk gap plan).track es) (on : AreOnDisk disk xs)
-      (are : AreOffers offers xs) where
-    target-is : late.track ≡ gap.target
-    target-is = ap (λ (d : Dwell). d.track) q ∙ its-target disk gap plan
+  target-is : pair.late.track ≡ gap.target
+  target-is = ap (λ (d : Dwell). d.track) q ∙ its-target disk gap plan
 
-    on-early : (i : ℕ) (e : Entry) → slice_get xs i ≡ Some e → same_track early.track e.block.track ≡ true
-    on-early i e at =
-        let track = (early_dwell disk gap plan).track in
-        let listed = in_filter (λ (x : Entry). same_track track x.block.track) es i e (ap (λ l. slice_get l i) (sym its) ∙ at) in
-        subst (λ (d : Dwell). same_track d.track e.block.track ≡ true) (sym p) listed.2
+  on-early : (i : ℕ) (e : Entry) → slice_get sides.early i ≡ Some e → same_track pair.early.track e.block.track ≡ true
+  on-early i e at =
+      let track = (early_dwell disk gap plan).track in
+      let listed = in_filter (λ (x : Entry). same_track track x.block.track) es i e (ap (λ l. slice_get l i) (sym are.early) ∙ at) in
+      subst (λ (d : Dwell). same_track d.track e.block.track ≡ true) (sym p) listed.2
 
+  on-late : (i : ℕ) (e : Entry) → slice_get sides.late i ≡ Some e → same_track pair.late.track e.block.track ≡ true
+  on-late i e at =
+      let here = ap (λ l. slice_get l i) (sym are.late) ∙ at in
+      let listed = in_filter (λ (x : Entry). same_track gap.target x.block.track) es i e here in
+      subst (λ t. same_track t e.block.track ≡ true) (sym target-is) listed.2
+
+  module _ (on : AreOnDisk disk sides.early) (offers : List Offer) (offered : AreOffers offers sides.early) where
     -- where the early dwell is on the target, both catch there
-    pub value-in-either : (sum : ℕ) → same_track early.track gap.target ≡ true
+    pub value-in-either : (sum : ℕ) → same_track pair.early.track gap.target ≡ true
         → sum ≡ sum_by (added (λ sweep. in_early sweep || in_late sweep)) offers → sum ≡ value disk gap (wanted_of es) plan
     value-in-either sum one is =
-        let at_late : same_track early.track late.track ≡ true = subst (λ t. same_track early.track t ≡ true) (sym target-is) one in
-        value-by-one disk gap plan es early late p q xs sum its one
-        (is ∙ (sum-offered offers xs are (λ sweep. in_early sweep || in_late sweep)
-        ∙ sum-agree (adds (λ b. in_early b.sweep || in_late b.sweep)) (gain_by disk early late) xs
-        (λ i e at. by-either e (on i e at) (on-early i e at) (onto early.track late.track e.block.track at_late (on-early i e at)))))
+        let at_late : same_track pair.early.track pair.late.track ≡ true =
+            subst (λ t. same_track pair.early.track t ≡ true) (sym target-is) one in
+        value-by-one disk gap plan es pair.early pair.late p q sides.early sum are.early one
+        (is ∙ (sum-offered offers sides.early offered (λ sweep. in_early sweep || in_late sweep)
+        ∙ sum-agree (adds (λ b. in_early b.sweep || in_late b.sweep)) (gain_by disk pair.early pair.late) sides.early (λ i e at.
+        by-either e (on i e at) (on-early i e at) (onto pair.early.track pair.late.track e.block.track at_late (on-early i e at)))))
 
     -- else each dwell catches on its own track
-    pub value-of-both : (ys : List Entry) (others : List Offer) → ys ≡ on_track gap.target es → AreOnDisk disk ys → AreOffers others ys
-        → (sum other : ℕ) → same_track early.track gap.target ≡ false → sum ≡ sum_by (added in_early) offers
+    pub value-of-both : AreOnDisk disk sides.late → (others : List Offer) → AreOffers others sides.late
+        → (sum other : ℕ) → same_track pair.early.track gap.target ≡ false → sum ≡ sum_by (added in_early) offers
         → other ≡ sum_by (added in_late) others → sum + other ≡ value disk gap (wanted_of es) plan
-    value-of-both ys others theirs on' are' sum other two is is' =
-        let apart : same_track early.track late.track ≡ false = subst (λ t. same_track early.track t ≡ false) (sym target-is) two in
-        let on-late : (i : ℕ) (e : Entry) → slice_get ys i ≡ Some e → same_track late.track e.block.track ≡ true = λ i e at.
-        let here = ap (λ l. slice_get l i) (sym theirs) ∙ at in
-        let listed = in_filter (λ (x : Entry). same_track gap.target x.block.track) es i e here in
-        subst (λ t. same_track t e.block.track ≡ true) (sym target-is) listed.2 in
-        value-by-two disk gap plan es early late p q xs ys sum other its theirs two
-        (is ∙ (sum-offered offers xs are in_early ∙ sum-agree (adds (λ b. in_early b.sweep)) (gain_by disk early late) xs
-        (λ i e at. by-early e (on i e at) (on-early i e at) (not_onto early.track late.track e.block.track apart (on-early i e at)))))
-        (is' ∙ (sum-offered others ys are' in_late ∙ sum-agree (adds (λ b. in_late b.sweep)) (gain_by disk early late) ys
-        (λ i e at. by-late e (on' i e at) (not_from early.track late.track e.block.track apart (on-late i e at)) (on-late i e at))))
+    value-of-both on' others offered' sum other two is is' =
+        let apart : same_track pair.early.track pair.late.track ≡ false =
+            subst (λ t. same_track pair.early.track t ≡ false) (sym target-is) two in
+        let apart-on = λ (x : Track). not_onto pair.early.track pair.late.track x apart in
+        let apart-from = λ (x : Track). not_from pair.early.track pair.late.track x apart in
+        let gain = gain_by disk pair.early pair.late in
+        value-by-two disk gap plan es pair.early pair.late p q sides.early sides.late sum other are.early are.late two
+        (is ∙ (sum-offered offers sides.early offered in_early ∙ sum-agree (adds (λ b. in_early b.sweep)) gain sides.early
+        (λ i e at. by-early e (on i e at) (on-early i e at) (apart-on e.block.track (on-early i e at)))))
+        (is' ∙ (sum-offered others sides.late offered' in_late ∙ sum-agree (adds (λ b. in_late b.sweep)) gain sides.late
+        (λ i e at. by-late e (on' i e at) (apart-from e.block.track (on-late i e at)) (on-late i e at))))

@@ -37,37 +37,49 @@ in_filter p (y ∷ ys) i x h = elim (cases_Bool (p y)) [
   | inr f ↦ let r = in_filter p ys i x (rw f at h) in (suc r.0, r.1, r.2)
 ]
 
-abbrev worth : Block → ℕ
-worth b = b.weight * b.count
-
 -- what an entry adds, if it's wanted and its block passes the test
 abbrev pub adds : (Block → Bool) → Entry → ℕ
 adds c e = if is_wanted e.state && c e.block then e.block.weight * e.block.count else 0
 
-sums : (c : Block → Bool) (es : List Entry) → sum_by worth (filter c (wanted_of es)) ≡ sum_by (adds c) es
-sums c [] = refl
-sums c (e ∷ es) = elim (cases_Bool (is_wanted e.state)) [
-  | inl w ↦ elim (cases_Bool (c e.block)) [
-    | inl y ↦
-        let left : sum_by worth (filter c (wanted_of (e ∷ es))) ≡ worth e.block + sum_by worth (filter c (wanted_of es)) =
-            rw (w, y) (sum_by-cons worth e.block (filter c (wanted_of es))) in
-        let one : adds c e ≡ worth e.block = rw (w, y) refl in
-        omega (arith, left, sum_by-cons (adds c) e es, one, sums c es)
-    | inr n ↦
-        let left : sum_by worth (filter c (wanted_of (e ∷ es))) ≡ sum_by worth (filter c (wanted_of es)) = rw (w, n) refl in
-        let one : adds c e ≡ 0 = rw (w, n) refl in
-        omega (arith, left, sum_by-cons (adds c) e es, one, sums c es)
-  ]
+-- a sum over those that pass a test
+pub chosen-sum : {X : Type 0} (p : X → Bool) (f : X → ℕ) (xs : List X)
+    → sum_by f (filter p xs) ≡ sum_by (λ x. if p x then f x else 0) xs
+chosen-sum p f [] = refl
+chosen-sum p f (x ∷ xs) = elim (cases_Bool (p x)) [
+  | inl yes' ↦
+      let left : sum_by f (filter p (x ∷ xs)) ≡ f x + sum_by f (filter p xs) = rw yes' (sum_by-cons f x (filter p xs)) in
+      let one : (if p x then f x else 0) ≡ f x = rw yes' refl in
+      omega (arith, left, sum_by-cons (λ y. if p y then f y else 0) x xs, one, chosen-sum p f xs)
+  | inr no' ↦
+      let left : sum_by f (filter p (x ∷ xs)) ≡ sum_by f (filter p xs) = rw no' refl in
+      let one : (if p x then f x else 0) ≡ 0 = rw no' refl in
+      omega (arith, left, sum_by-cons (λ y. if p y then f y else 0) x xs, one, chosen-sum p f xs)
+]
+
+-- what a wanted block adds, if it passes the test
+abbrev pub given : (Block → Bool) → Block → ℕ
+given c b = if c b then b.weight * b.count else 0
+
+-- the wanted blocks that pass a test add what their entries do
+pub of-wanted : (c : Block → Bool) (es : List Entry) → sum_by (given c) (wanted_of es) ≡ sum_by (adds c) es
+of-wanted c [] = refl
+of-wanted c (e ∷ es) = elim (cases_Bool (is_wanted e.state)) [
+  | inl w ↦
+      let left : sum_by (given c) (wanted_of (e ∷ es)) ≡ given c e.block + sum_by (given c) (wanted_of es) =
+      rw w (sum_by-cons (given c) e.block (wanted_of es)) in
+      let one : adds c e ≡ given c e.block = rw w refl in
+      omega (arith, left, sum_by-cons (adds c) e es, one, of-wanted c es)
   | inr n ↦
-      let left : sum_by worth (filter c (wanted_of (e ∷ es))) ≡ sum_by worth (filter c (wanted_of es)) = rw n refl in
+      let left : sum_by (given c) (wanted_of (e ∷ es)) ≡ sum_by (given c) (wanted_of es) = rw n refl in
       let one : adds c e ≡ 0 = rw n refl in
-      omega (arith, left, sum_by-cons (adds c) e es, one, sums c es)
+      omega (arith, left, sum_by-cons (adds c) e es, one, of-wanted c es)
 ]
 
 pub value-gain : (disk : Disk) (gap : Gap) (plan : Plan) (es : List Entry)
     → value disk gap (wanted_of es) plan ≡ sum_by (gain disk gap plan) es
 unfolding value
-value-gain disk gap plan es = sums (is_caught disk gap plan) es
+value-gain disk gap plan es =
+    chosen-sum (is_caught disk gap plan) (λ b. b.weight * b.count) (wanted_of es) ∙ of-wanted (is_caught disk gap plan) es
 
 -- a sum needs only those that add to it
 pub one_part : (g : Entry → ℕ) (p : Entry → Bool) → ((e : Entry) → p e ≡ false → g e ≡ 0) → (es : List Entry)

@@ -17,7 +17,7 @@ use Rattle.fb_wanted.proofs.Numbers.{filter_at}
 use Rattle.fb_plan.specs.declared.turning.Turning.{Turning}
 use Rattle.fb_plan.specs.Ways.{AreOnDisk}
 use Rattle.fb_plan.specs.Turns.{IsInTurn, AreInTurn, IsTurning, added}
-use Rattle.fb_plan.proofs.Gains.{adds, in_filter, some-one}
+use Rattle.fb_plan.proofs.Gains.{adds, in_filter, of-wanted, some-one}
 use Rattle.fb_plan.proofs.Swept.{turning-in}
 
 -- ---- how many pass a test is a sum, which shows whether one does
@@ -62,11 +62,11 @@ length-blocks : (es : List Entry) → length (map (λ (x : Entry). x.block) es) 
 length-blocks [] = refl
 length-blocks (e ∷ es) = rw (length-blocks es) refl
 
-pub to_filter : (p : Entry → Bool) (es : List Entry) (j : ℕ) (e : Entry) → slice_get es j ≡ Some e → p e ≡ true
-    → (k : ℕ) × (slice_get (filter p es) k ≡ Some e)
-to_filter p es j e at pass =
-    let same = get_or_from_slice_get es j e e at in
-    (length (filter p (take j es)), filter_at p es j e (slice_get_within es j e at) (ap p same ∙ pass) ∙ ap Some same)
+pub to_filter : {X : Type 0} (p : X → Bool) (xs : List X) (j : ℕ) (x : X) → slice_get xs j ≡ Some x → p x ≡ true
+    → (k : ℕ) × (slice_get (filter p xs) k ≡ Some x)
+to_filter p xs j x at pass =
+    let same = get_or_from_slice_get xs j x x at in
+    (length (filter p (take j xs)), filter_at p xs j x (slice_get_within xs j x at) (ap p same ∙ pass) ∙ ap Some same)
 
 -- a wanted block is that of an entry
 pub entry-of : (es : List Entry) (i : ℕ) (b : Block) → slice_get (wanted_of es) i ≡ Some b
@@ -89,23 +89,6 @@ wanted-at es k e at on =
     let wanted = filter (λ (x : Entry). is_wanted x.state) es in
     let j = to_filter (λ (x : Entry). is_wanted x.state) es k e at on in
     (j.0, slice_get-map (λ (x : Entry). x.block) wanted j.0 ∙ ap (option_map (λ (x : Entry). x.block)) j.1)
-
-abbrev given : (Block → Bool) → Block → ℕ
-given c b = if c b then b.weight * b.count else 0
-
-of-wanted : (c : Block → Bool) (es : List Entry) → sum_by (given c) (wanted_of es) ≡ sum_by (adds c) es
-of-wanted c [] = refl
-of-wanted c (e ∷ es) = elim (cases_Bool (is_wanted e.state)) [
-  | inl w ↦
-      let left : sum_by (given c) (wanted_of (e ∷ es)) ≡ given c e.block + sum_by (given c) (wanted_of es) =
-      rw w (sum_by-cons (given c) e.block (wanted_of es)) in
-      let one : adds c e ≡ given c e.block = rw w refl in
-      omega (arith, left, sum_by-cons (adds c) e es, one, of-wanted c es)
-  | inr n ↦
-      let left : sum_by (given c) (wanted_of (e ∷ es)) ≡ sum_by (given c) (wanted_of es) = rw n refl in
-      let one : adds c e ≡ 0 = rw n refl in
-      omega (arith, left, sum_by-cons (adds c) e es, one, of-wanted c es)
-]
 
 -- ---- offers
 

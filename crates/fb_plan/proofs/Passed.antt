@@ -12,6 +12,7 @@ use Rattle.fb_wanted.specs.declared.block.Entry.{Entry}
 use Rattle.fb_wanted.specs.declared.offer.Offer.{Offer}
 use Rattle.fb_wanted.specs.Offers.{AreOffers}
 use Rattle.fb_wanted.specs.States.{is_wanted, on_track, wanted_of}
+use Rattle.fb_rows.specs.declared.gap.Dwell.{Dwell}
 use Rattle.fb_rows.specs.declared.gap.Gap.{Gap}
 use Rattle.fb_rows.specs.declared.gap.Plan.{Plan}
 use Rattle.fb_rows.specs.declared.gap.Plan.TheVariants.{Direct, Detour}
@@ -157,6 +158,11 @@ pub all_plans : (disk : Disk) (gap : Gap) (wanted : List Block) (best : Plan) (n
 all_plans disk gap wanted best n all direct detour (Direct leave) is = direct leave is
 all_plans disk gap wanted best n all direct detour (Detour track leave) is =
     detour track.cylinder track.head leave (omega (arith, is.on_disk.cylinder)) is
+
+-- the sides of equal dwells are the same
+pub sides-at : {disk : Disk} {target : Track} {es : List Entry} {dwell other : Dwell} {sides : Sides} → dwell ≡ other
+    → AreSides disk target es dwell sides → AreSides disk target es other sides
+sides-at {disk} {target} {es} {dwell} {other} {sides} same h = subst (λ d. AreSides disk target es d sides) same h
 
 -- the sides of a way are those of each of its plans
 sides-way : (disk : Disk) (gap : Gap) (way : Way) (leave : ℕ) (es : List Entry) (sides : Sides)

@@ -1,5 +1,5 @@
 -- A block passes as its sweep does.
-use Rattle.std.proofs.Common.{◌≡◌, ℕ, ◌+◌, ◌-◌, ◌*◌, ◌%◌, ◌<◌, ◌≤◌, refl, ap, sym, ◌∙◌, subst, length, arith}
+use Rattle.std.proofs.Common.{◌≡◌, ℕ, ◌+◌, ◌-◌, ◌*◌, ◌%◌, ◌<◌, ◌≤◌, refl, ap, sym, ◌∙◌, subst, length, nat_le, arith}
 use Rattle.std.proofs.Math.Nat.{mod-add-mod, mod-lt}
 use Rattle.std.proofs.lemmas.Nat.{div_below, mul-le}
 use Rattle.fb_units.specs.declared.types.Place.{Place}
@@ -15,10 +15,11 @@ use Rattle.fb_sectormap.proofs.ByCylinder.{has_place}
 use Rattle.fb_service.specs.declared.disk.Disk.{Disk}
 use Rattle.fb_service.specs.Passing.{begin_from}
 use Rattle.fb_wanted.specs.declared.block.Block.{Block}
+use Rattle.fb_rows.specs.declared.gap.Dwell.{Dwell}
 use Rattle.fb_model.specs.Plans.{block_begin, block_end}
 use Rattle.fb_plan.specs.declared.turning.Turning.{Turning}
 use Rattle.fb_plan.specs.Ways.{FitsDisk}
-use Rattle.fb_plan.specs.Turns.{begin_of, end_of, IsInTurn, IsTurning}
+use Rattle.fb_plan.specs.Turns.{begin_of, end_of, passes_by, IsInTurn, IsTurning}
 use Rattle.fb_plan.proofs.Ends.{wait-rest}
 
 -- the platter stands at the angle after the wait for it
@@ -97,3 +98,8 @@ module _ (disk : Disk) (turning : Turning) (block : Block) (h : IsTurning disk t
 
   pub turning-end : end_of turning.rotation block.sweep turning.from ≡ block_end disk.map block turning.from
   turning-end = ap (λ r. end_of r block.sweep turning.from) h.rotation ∙ sym (end-by-sweep disk block turning.from fits)
+
+  -- it passes in a dwell as its sweep does
+  pub passes-as : (dwell : Dwell) → turning.from ≡ dwell.begin
+      → passes_by turning dwell.end block.sweep ≡ nat_le (block_end disk.map block dwell.begin) dwell.end
+  passes-as dwell from = ap (λ x. nat_le x dwell.end) (turning-end ∙ ap (block_end disk.map block) from)

@@ -1,5 +1,4 @@
-use Rattle.std.proofs.Common.{◌∙◌, ap, sym}
-use Rattle.fb_rows.specs.declared.gap.Dwell.{Dwell}
+use Rattle.std.proofs.Common.{◌∙◌, sym}
 use Rattle.fb_plan.proofs.Both.{value-in-either, value-of-both}
 use Rattle.fb_plan.proofs.Offered.{offers-in-turn}
 use Rattle.fb_plan.proofs.sums.value_by.Goals as goal
@@ -31,26 +30,19 @@ value_until-requires-clause-sweeps c =
 
 pub returns-then-is_same : goal.returns-then-is_same
 returns-then-is_same c =
-    let sides = c.args.sides.now in
     let pair = c.dwells-pair in
     let late = c.new-late in
     let offers = c.offers-offers in
-    let from = c.requires.sides.from ∙ ap (λ (d : Dwell). d.begin) (sym pair.ensures.early) in
-    value-in-either c.args.disk.now pair.result.early pair.result.late sides.passing late.result c.requires.sides.passing
-    late.ensures.turning from late.ensures.from c.args.gap.now c.args.plan c.args.wanted.now pair.ensures.early pair.ensures.late
-    sides.early offers.result.now c.requires.sides.early c.requires.early offers.ensures.its c.value_in_either.result
-    (sym c.is_same.ensures ∙ c.if-is_same.true) c.value_in_either.ensures
+    value-in-either c.args.disk.now c.args.gap.now c.args.plan c.args.wanted.now pair.result c.args.sides.now late.result
+    pair.ensures.early pair.ensures.late c.requires.sides late.ensures.turning late.ensures.from c.requires.early offers.result.now
+    offers.ensures.its c.value_in_either.result (sym c.is_same.ensures ∙ c.if-is_same.true) c.value_in_either.ensures
 
 pub returns : goal.returns
 returns c =
-    let sides = c.args.sides.now in
     let pair = c.dwells-pair in
     let late = c.new-late in
     let offers = c.offers-offers in
-    let from = c.requires.sides.from ∙ ap (λ (d : Dwell). d.begin) (sym pair.ensures.early) in
-    value-of-both c.args.disk.now pair.result.early pair.result.late sides.passing late.result c.requires.sides.passing
-    late.ensures.turning from late.ensures.from c.args.gap.now c.args.plan c.args.wanted.now pair.ensures.early pair.ensures.late
-    sides.early offers.result.now c.requires.sides.early c.requires.early offers.ensures.its
-    sides.late c.offers.result.now c.requires.sides.late c.requires.late c.offers.ensures.its
-    c.value_until-sum.result c.value_until.result (sym c.is_same.ensures ∙ c.if-is_same.false)
-    c.value_until-sum.ensures.value c.value_until.ensures.value
+    value-of-both c.args.disk.now c.args.gap.now c.args.plan c.args.wanted.now pair.result c.args.sides.now late.result
+    pair.ensures.early pair.ensures.late c.requires.sides late.ensures.turning late.ensures.from c.requires.early offers.result.now
+    offers.ensures.its c.requires.late c.offers.result.now c.offers.ensures.its c.value_until-sum.result c.value_until.result
+    (sym c.is_same.ensures ∙ c.if-is_same.false) c.value_until-sum.ensures.value c.value_until.ensures.value
