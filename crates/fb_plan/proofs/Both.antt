@@ -103,7 +103,7 @@ module _ (disk : Disk) (gap : Gap) (plan : Plan) (es : List Entry) (pair : Dwell
         → sum ≡ sum_by (added (λ sweep. in_early sweep || in_late sweep)) offers → sum ≡ value disk gap (wanted_of es) plan
     value-in-either sum one is =
         let at_late : same_track pair.early.track pair.late.track ≡ true =
-            subst (λ t. same_track pair.early.track t ≡ true) (sym target-is) one in
+        subst (λ t. same_track pair.early.track t ≡ true) (sym target-is) one in
         value-by-one disk gap plan es pair.early pair.late p q sides.early sum are.early one
         (is ∙ (sum-offered offers sides.early offered (λ sweep. in_early sweep || in_late sweep)
         ∙ sum-agree (adds (λ b. in_early b.sweep || in_late b.sweep)) (gain_by disk pair.early pair.late) sides.early (λ i e at.
@@ -115,7 +115,7 @@ module _ (disk : Disk) (gap : Gap) (plan : Plan) (es : List Entry) (pair : Dwell
         → other ≡ sum_by (added in_late) others → sum + other ≡ value disk gap (wanted_of es) plan
     value-of-both on' others offered' sum other two is is' =
         let apart : same_track pair.early.track pair.late.track ≡ false =
-            subst (λ t. same_track pair.early.track t ≡ false) (sym target-is) two in
+        subst (λ t. same_track pair.early.track t ≡ false) (sym target-is) two in
         let apart-on = λ (x : Track). not_onto pair.early.track pair.late.track x apart in
         let apart-from = λ (x : Track). not_from pair.early.track pair.late.track x apart in
         let gain = gain_by disk pair.early pair.late in

@@ -144,7 +144,7 @@ pub sum-one : (disk : Disk) (gap : Gap) (plan : Plan) (es : List Entry) (track :
     → sum ≡ sum_by (gain disk gap plan) (on_track track es) → sum ≡ value disk gap (wanted_of es) plan
 sum-one disk gap plan es track sum e same s =
     s ∙ (ap (λ t. sum_by (gain disk gap plan) (on_track t es)) e
-        ∙ sym (value-one disk gap plan es (subst (λ t. same_track t gap.target ≡ true) e same)))
+    ∙ sym (value-one disk gap plan es (subst (λ t. same_track t gap.target ≡ true) e same)))
 
 pub sum-two : (disk : Disk) (gap : Gap) (plan : Plan) (es : List Entry) (track : Track) (sum other : ℕ) → track ≡ track_of gap plan
     → same_track track gap.target ≡ false

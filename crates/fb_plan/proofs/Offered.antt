@@ -1,5 +1,5 @@
 -- Offers are those of the wanted blocks: each has its block, each block its offer, and sums over both are the same.
-use Rattle.std.proofs.Common.{◌≡◌, ℕ, zero, suc, ◌+◌, ◌*◌, ◌<◌, ◌==◌, List, [], ◌∷◌, Bool, true, ◌&&◌, Some, slice_get}
+use Rattle.std.proofs.Common.{◌≡◌, ℕ, zero, suc, ◌<◌, ◌==◌, List, [], ◌∷◌, Bool, true, ◌&&◌, Some, slice_get}
 use Rattle.std.proofs.Common.{get_or, filter, length, map, option_map, take, inl, inr, refl, arith, sym, ap, ◌∙◌, subst, if◌then◌else◌}
 use Rattle.std.specs.List.{sum_by}
 use Rattle.std.proofs.lemmas.Bool.{cases_Bool, and_parts, and_from, eqb-true, eq-eqb}

@@ -1,54 +1,50 @@
 -- What a dwell catches is caught on its track.
-use Rattle.std.proofs.Common.{◌≡◌, inl, inr, ℕ, ◌+◌, List, [], ◌∷◌, ◌++◌, false, Some, slice_get, filter, map, length, take, refl, sym, ap}
-use Rattle.std.proofs.Common.{◌∙◌}
-use Rattle.std.proofs.Math.Seq.{take-length}
+use Rattle.std.proofs.Common.{◌≡◌, inl, inr, ℕ, ◌+◌, List, [], ◌∷◌, ◌++◌, true, false, Some, slice_get, filter, map, take}
+use Rattle.std.proofs.Common.{cond, nat_le, refl, sym, ap, ◌∙◌}
 use Rattle.std.proofs.lemmas.Bool.{cases_Bool}
-use Rattle.std.proofs.lemmas.List.{take_more}
+use Rattle.std.proofs.lemmas.List.{append-nil, map-append}
+use Rattle.std.proofs.lemmas.List.Elements.{filter_more}
 use Rattle.std.proofs.lemmas.Option.{slice_get_within, get_or_from_slice_get}
+use Rattle.fb_units.specs.declared.types.Sweep.{Sweep}
 use Rattle.fb_units.specs.Tracks.{same_track}
 use Rattle.fb_service.specs.declared.disk.Disk.{Disk}
+use Rattle.fb_wanted.specs.declared.block.Block.{Block}
 use Rattle.fb_wanted.specs.declared.block.Entry.{Entry}
 use Rattle.fb_wanted.specs.States.{is_wanted, on_track, wanted_of}
 use Rattle.fb_rows.specs.declared.gap.Dwell.{Dwell}
-use Rattle.fb_model.specs.Plans.{catches}
-use Rattle.fb_plan.specs.declared.catching.Catch.{Catch}
-use Rattle.fb_plan.specs.Order.{in_order, catch_of, caught_alone, caught_of}
+use Rattle.fb_model.specs.Plans.{catches, block_end}
+use Rattle.fb_plan.specs.declared.turning.Turning.{Turning}
+use Rattle.fb_plan.specs.Order.{catch_of, caught_among}
+use Rattle.fb_plan.specs.Turns.{passes_by, IsTurning}
+use Rattle.fb_plan.specs.Ways.{FitsDisk}
+use Rattle.fb_plan.proofs.Swept.{passes-as}
 
--- what a dwell catches of registered blocks, in their order
-abbrev pub caught_among : Disk → Dwell → List Entry → List Catch
-caught_among disk dwell es = map (catch_of disk dwell) (filter (catches disk dwell) (wanted_of es))
+-- a dwell catches a block of its track whose sweep passes by its end
+pub catches-by : (disk : Disk) (dwell : Dwell) (turning : Turning) (b : Block) (sweep : Sweep) → IsTurning disk turning
+    → turning.from ≡ dwell.begin → FitsDisk disk b → same_track dwell.track b.track ≡ true → sweep ≡ b.sweep
+    → passes_by turning dwell.end sweep ≡ catches disk dwell b
+catches-by disk dwell turning b sweep turns from fits on is =
+    let all : catches disk dwell b ≡ nat_le (block_end disk.map b dwell.begin) dwell.end = rw on refl in
+    ap (passes_by turning dwell.end) is ∙ (passes-as disk turning b turns fits dwell from ∙ sym all)
 
-one_more : (disk : Disk) (dwell : Dwell) (es : List Entry) (e : Entry)
-    → caught_among disk dwell (es ++ e ∷ []) ≡ caught_among disk dwell es ++ caught_among disk dwell (e ∷ [])
-one_more disk dwell [] e = refl
-one_more disk dwell (x ∷ es) e = elim (cases_Bool (is_wanted x.state)) [
-  | inl w ↦ elim (cases_Bool (catches disk dwell x.block)) [
-    | inl y ↦ rw (w, y) (ap (λ cs. catch_of disk dwell x.block ∷ cs) (one_more disk dwell es e))
-    | inr n ↦ rw (w, n) (one_more disk dwell es e)
-  ]
-  | inr n ↦ rw n (one_more disk dwell es e)
-]
+-- of one block more it is this catch more, or nothing more
+module _ (disk : Disk) (dwell : Dwell) (bs : List Block) (i : ℕ) (b : Block) (at : slice_get bs i ≡ Some b) where
+  one_more : caught_among disk dwell (take (i + 1) bs)
+      ≡ caught_among disk dwell (take i bs) ++ map (catch_of disk dwell) (cond (catches disk dwell b) (b ∷ []) [])
+  one_more =
+      ap (map (catch_of disk dwell)) (filter_more (catches disk dwell) bs i b (slice_get_within bs i b at)
+      ∙ ap (λ x. filter (catches disk dwell) (take i bs) ++ cond (catches disk dwell x) (x ∷ []) []) (get_or_from_slice_get bs i b b at))
+      ∙ map-append (catch_of disk dwell) (filter (catches disk dwell) (take i bs)) (cond (catches disk dwell b) (b ∷ []) [])
 
-alone : (disk : Disk) (dwell : Dwell) (e : Entry) → caught_among disk dwell (e ∷ []) ≡ caught_alone disk dwell e
-alone disk dwell e = elim (cases_Bool (is_wanted e.state)) [
-  | inl w ↦ elim (cases_Bool (catches disk dwell e.block)) [
-    | inl y ↦ rw (w, y) refl
-    | inr n ↦ rw (w, n) refl
-  ]
-  | inr n ↦ rw n refl
-]
+  pub caught-more : catches disk dwell b ≡ true
+      → caught_among disk dwell (take i bs) ++ catch_of disk dwell b ∷ [] ≡ caught_among disk dwell (take (i + 1) bs)
+  caught-more yes' = sym (one_more ∙ rw yes' refl)
 
-pub caught_more : (disk : Disk) (dwell : Dwell) (xs : List Entry) (i : ℕ) (e : Entry) (old new : List Catch) → slice_get xs i ≡ Some e
-    → new ≡ old ++ caught_alone disk dwell e → old ≡ caught_among disk dwell (take i xs) → new ≡ caught_among disk dwell (take (i + 1) xs)
-caught_more disk dwell xs i e old new at added so_far =
-    let next : take (i + 1) xs ≡ take i xs ++ e ∷ [] = take_more xs i e (slice_get_within xs i e at)
-        ∙ ap (λ x. take i xs ++ x ∷ []) (get_or_from_slice_get xs i e e at) in
-    added ∙ ap (λ cs. cs ++ caught_alone disk dwell e) so_far
-        ∙ sym (ap (caught_among disk dwell) next ∙ one_more disk dwell (take i xs) e
-        ∙ ap (λ cs. caught_among disk dwell (take i xs) ++ cs) (alone disk dwell e))
+  pub caught-no-more : catches disk dwell b ≡ false → caught_among disk dwell (take i bs) ≡ caught_among disk dwell (take (i + 1) bs)
+  caught-no-more no' = sym (one_more ∙ rw no' (append-nil (caught_among disk dwell (take i bs))))
 
-on_its_track : (disk : Disk) (dwell : Dwell) (es : List Entry)
-    → caught_among disk dwell (on_track dwell.track es) ≡ caught_among disk dwell es
+pub on_its_track : (disk : Disk) (dwell : Dwell) (es : List Entry)
+    → caught_among disk dwell (wanted_of (on_track dwell.track es)) ≡ caught_among disk dwell (wanted_of es)
 on_its_track disk dwell [] = refl
 on_its_track disk dwell (e ∷ es) = elim (cases_Bool (same_track dwell.track e.block.track)) [
   | inl on ↦ elim (cases_Bool (is_wanted e.state)) [
@@ -65,12 +61,3 @@ on_its_track disk dwell (e ∷ es) = elim (cases_Bool (same_track dwell.track e.
         | inr n ↦ rw (off, n) (on_its_track disk dwell es)
       ]
 ]
-
-pub caught_whole : (disk : Disk) (dwell : Dwell) (es xs : List Entry) (found : List Catch) (n : ℕ) → xs ≡ on_track dwell.track es
-    → n ≡ length xs
-    → found ≡ caught_among disk dwell (take n xs) → in_order found ≡ caught_of disk dwell (wanted_of es)
-unfolding caught_of
-caught_whole disk dwell es xs found n same e f =
-    let all : found ≡ caught_among disk dwell es = f ∙ ap (λ k. caught_among disk dwell (take k xs)) e
-        ∙ ap (caught_among disk dwell) (take-length xs ∙ same) ∙ on_its_track disk dwell es in
-    ap in_order all

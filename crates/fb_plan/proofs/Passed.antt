@@ -48,9 +48,9 @@ pub leave-beats : (disk : Disk) (gap : Gap) (wanted : List Block) (way : Way) (v
     → Beats disk gap wanted (plan_by way v) (plan_by way u)
 leave-beats disk gap wanted way v u le values =
     elim (cases_lt (value disk gap wanted (plan_by way u)) (value disk gap wanted (plan_by way v))) [
-  | inl l ↦ inl l
-  | inr m ↦ inr (omega arith, later-leave way v u le)
-]
+      | inl l ↦ inl l
+      | inr m ↦ inr (omega arith, later-leave way v u le)
+    ]
 
 -- all leaves of a way, when the arrival and the ends of passages were tried
 pub all_leaves : (disk : Disk) (gap : Gap) (way : Way) (es : List Entry) (best : Plan) (u : ℕ) → 0 < disk.map.rotation
@@ -67,11 +67,11 @@ all_leaves disk gap way es best u some first each is =
       | inr q ↦
           let k = in_track (early_track gap way) es q.0 q.1 q.2 q.3 in
           let end : block_end disk.map k.1.block (arrival disk gap way) ≡ v.0 = ap (λ b. block_end disk.map b (arrival disk gap way)) k.3
-              ∙ sym q.4 in
+          ∙ sym q.4 in
           subst (λ x. Beats disk gap (wanted_of es) best (plan_by way x)) end (each k.0 k.1 k.2 k.4 (omega (arith, w.1, v.1.upto, end)))
     ] in
     beats-trans disk gap (wanted_of es) best (plan_by way v.0) (plan_by way u) better
-        (leave-beats disk gap (wanted_of es) way v.0 u v.1.upto v.2)
+    (leave-beats disk gap (wanted_of es) way v.0 u v.1.upto v.2)
 
 -- when the head leaves as the sweep of an offer ends
 abbrev pub leave_at : Turning → Offer → ℕ

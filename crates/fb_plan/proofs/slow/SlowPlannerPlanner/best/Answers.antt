@@ -27,6 +27,10 @@ returns c =
     let blocks = wanted_of c.args.wanted.now in
     let best = c.loop-cylinder.best.plan in
     let all = c.loop-cylinder.invariant in
-    let end : cylinders_of disk.map.zones ≤ c.loop-cylinder.cylinder = omega (arith, c.loop-cylinder-test.false,
-        c.cylinders-cylinder-end.ensures.value, ap (λ (d : Shape). cylinders_of d.zones) c.geometry.ensures) in
+    let end : cylinders_of disk.map.zones ≤ c.loop-cylinder.cylinder = omega (
+      arith,
+      c.loop-cylinder-test.false,
+      c.cylinders-cylinder-end.ensures.value,
+      ap (λ (d : Shape). cylinders_of d.zones) c.geometry.ensures,
+    ) in
     best-of disk gap blocks best all.0.plan (all_plans disk gap blocks best c.loop-cylinder.cylinder end all.1 all.2)
