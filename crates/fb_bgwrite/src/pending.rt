@@ -13,7 +13,7 @@ ghost use Rattle.fb_bgwrite.specs.Shortest.{AreAtLeast};
 ghost use Rattle.fb_bgwrite.specs.Standing.{wanted_entry};
 
 use crate::shortest::{NONE, Shortest};
-use fb_plan::{Catch, blocks_on, caught, is_wanted};
+use fb_plan::{Catch, blocks_on, caught};
 use fb_rows::Dwell;
 use fb_service::Disk;
 use fb_units::{NoMemory, Track};
@@ -53,7 +53,7 @@ pub fn least_on(blocks: &TrackBlocks, start: u32) -> u32
     let mut least = start;
     for i in 0..blocks.len() {
         let entry = blocks.get(i);
-        if is_wanted(entry.state) {
+        if entry.state.is_wanted() {
             least = least.min(entry.block.count);
         }
     }

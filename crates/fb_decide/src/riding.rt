@@ -11,7 +11,7 @@ ghost use Rattle.fb_decide.specs.Turn.{IsTurnOn, served_in};
 
 use crate::background::Background;
 use crate::turn::Turn;
-use fb_plan::{Catch, is_wanted, put_in_order};
+use fb_plan::{Catch, put_in_order};
 use fb_rows::How;
 use fb_service::{Disk, Extent, Passage, nth_passage};
 use fb_store::Store;
@@ -108,7 +108,7 @@ fn add_ride(
     ensures { OnOk result (found.new.items ≡ found.old.items ++ ride_alone (all_passages_of disk.now.map extents.now) extent.now request entry) }
 {
     let block = entry.block;
-    if !is_wanted(entry.state) {
+    if !entry.state.is_wanted() {
         return Ok(());
     }
     if begins_in(extent, block) && lies_in(request, block) {
