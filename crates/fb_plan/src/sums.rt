@@ -3,7 +3,7 @@ ghost use Rattle.std.specs.Prelude.{◌≡◌, ◌+◌, ◌*◌, ◌≤◌, ◌<
 ghost use Rattle.std.specs.List.{sum_by};
 ghost use Rattle.fb_units.specs.Tracks.{same_track};
 ghost use Rattle.fb_model.specs.Plans.{value, early_dwell, IsPlan};
-ghost use Rattle.fb_wanted.specs.States.{is_wanted, wanted_of};
+ghost use Rattle.fb_wanted.specs.States.{wanted_of};
 ghost use Rattle.fb_plan.specs.Ways.{AreOnDisk, IsGap};
 ghost use Rattle.fb_plan.specs.Turns.{Stands, IsInTurn, AreInTurn, AreSides, passes_by, passes_in_either, added};
 
@@ -12,19 +12,7 @@ use crate::{DwellPair, Turning, dwells};
 use fb_rows::{Gap, Plan};
 use fb_service::Disk;
 use fb_units::{Ns, Track};
-use fb_wanted::{Offer, State, Wanted};
-
-/// Whether a block in this state may be delivered.
-pub fn is_wanted(state: State) -> bool
-    ensures { result ≡ is_wanted state }
-{
-    match state {
-        State::Wanted => true,
-        State::Suspended => false,
-        State::Delivered => false,
-        State::Aborted => false,
-    }
-}
+use fb_wanted::{Offer, Wanted};
 
 // What an offer adds if its passage ends by the instant `latest`, in ns.
 fn gain(offer: Offer, passing: &Turning, latest: Ns) -> u64
