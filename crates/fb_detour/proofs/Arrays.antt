@@ -1,14 +1,7 @@
 -- Arrays whose parts are written one after another.
-use Rattle.std.proofs.Common.{◌≡◌, ℕ, ◌+◌, ◌*◌, ◌/◌, ◌<◌, ◌≤◌, inl, inr, take, if◌then◌else◌, List, [], ◌∷◌, true, false, ◌==◌, zero, suc, get_or, length, refl, arith, ap, ◌∙◌, sym, subst}
-use Rattle.std.specs.Prelude.{nat_lt}
-use Rattle.std.specs.List.{slice_set, list_all}
-use Rattle.std.proofs.lemmas.Bool.{cases_lt, and_parts, eqb-true}
-use Rattle.std.proofs.lemmas.List.{get_or-set_same, get_or-set_other}
-use Rattle.std.proofs.lemmas.Nat.{div-add-mod'}
-use Rattle.std.proofs.lemmas.Bool.Decides.{nat_tests}
-use Rattle.std.proofs.lemmas.List.Sums.{sum_by-cons}
-use Rattle.std.proofs.Math.Nat.{mod-lt}
-use Rattle.fb_detour.specs.Bounds.{sum_of_first}
+use Rattle.fb_detour.proofs.Words.{◌≡◌, ℕ, ◌+◌, ◌*◌, ◌/◌, ◌<◌, ◌≤◌, inl, inr, take, if◌then◌else◌, List, [], ◌∷◌, true, false, ◌==◌, zero}
+use Rattle.fb_detour.proofs.Words.{suc, get_or, length, refl, arith, ap, ◌∙◌, sym, subst, nat_lt, slice_set, list_all, cases_lt, and_parts}
+use Rattle.fb_detour.proofs.Words.{eqb-true, get_or-set_same, get_or-set_other, div-add-mod', nat_tests, sum_by-cons, mod-lt, sum_of_first}
 
 -- parts that are all zero
 pub zeros : (xs : List ℕ) → list_all (λ x. x == 0) xs ≡ true → (k : ℕ) → get_or xs k 0 ≡ 0

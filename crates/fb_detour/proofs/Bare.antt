@@ -1,16 +1,6 @@
 -- Gaps of a disk on which nothing is wanted.
-use Rattle.std.proofs.Common.{◌≤◌, List, arith}
-use Rattle.fb_units.specs.declared.types.Track.{Track}
-use Rattle.fb_geometry.specs.Shape.{IsTrackOf}
-use Rattle.fb_service.specs.declared.disk.Disk.{Disk}
-use Rattle.fb_wanted.specs.declared.block.Entry.{Entry}
-use Rattle.fb_wanted.specs.States.{wanted_of}
-use Rattle.fb_wanted.specs.Tracks.{wanted_weight}
-use Rattle.fb_rows.specs.declared.gap.Gap.{Gap}
-use Rattle.fb_rows.specs.declared.gap.Plan.{Plan}
-use Rattle.fb_rows.specs.declared.gap.Plan.TheVariants.{Direct, Detour}
-use Rattle.fb_model.specs.Plans.{value, early_dwell, late_dwell, IsPlan, IsNoLater, IsBest}
-use Rattle.fb_plan.specs.Ways.{IsGap}
+use Rattle.fb_detour.proofs.Words.{◌≤◌, List, arith, Track, IsTrackOf, Disk, Entry, wanted_of, wanted_weight, Gap, Plan, Direct, Detour}
+use Rattle.fb_detour.proofs.Words.{value, early_dwell, late_dwell, IsPlan, IsNoLater, IsBest, IsGap}
 use Rattle.fb_detour.proofs.Ceilings.{two_stays, weight_of_stay}
 
 module _ (disk : Disk) (gap : Gap) (es : List Entry) (is_gap : IsGap disk gap) (bare : (track : Track) → IsTrackOf disk.map track → wanted_weight track es ≤ 0) where

@@ -1,26 +1,10 @@
 -- No plan is worth more than its two stays.
-use Rattle.std.proofs.Common.{◌≡◌, ℕ, ◌+◌, ◌*◌, ◌<◌, ◌≤◌, inl, inr, take, List, [], ◌∷◌, Bool, true, false, ◌&&◌, ◌||◌, Some}
-use Rattle.std.proofs.Common.{slice_get, refl, arith, ap, ◌∙◌, if◌then◌else◌}
-use Rattle.std.specs.List.{sum_by}
-use Rattle.std.proofs.lemmas.Bool.{cases_Bool}
-use Rattle.std.proofs.lemmas.Bool.Decides.{nat_tests}
-use Rattle.std.proofs.lemmas.List.Sums.{sum_by-cons, sum_by_more}
-use Rattle.std.proofs.lemmas.Option.{slice_get_within, get_or_from_slice_get}
-use Rattle.fb_units.specs.Tracks.{same_track}
-use Rattle.fb_service.specs.declared.disk.Disk.{Disk}
-use Rattle.fb_wanted.specs.declared.block.Block.{Block}
-use Rattle.fb_wanted.specs.declared.block.Entry.{Entry}
-use Rattle.fb_wanted.specs.States.{is_wanted, on_track, wanted_of}
-use Rattle.fb_wanted.specs.Tracks.{wanted_weight}
-use Rattle.fb_rows.specs.declared.gap.Dwell.{Dwell}
-use Rattle.fb_rows.specs.declared.gap.Gap.{Gap}
-use Rattle.fb_rows.specs.declared.gap.Plan.{Plan}
-use Rattle.fb_model.specs.Plans.{catches, value, early_dwell, late_dwell, block_end}
-use Rattle.std.proofs.lemmas.Nat.{mul-le}
-use Rattle.fb_plan.specs.Ways.{gain, FitsDisk}
-use Rattle.fb_plan.proofs.Ends.{end-le}
+use Rattle.fb_detour.proofs.Words.{◌≡◌, ℕ, ◌+◌, ◌*◌, ◌<◌, ◌≤◌, inl, inr, take, List, [], ◌∷◌, Bool, true, false, ◌&&◌, ◌||◌, Some}
+use Rattle.fb_detour.proofs.Words.{slice_get, refl, arith, ap, ◌∙◌, if◌then◌else◌, sum_by, cases_Bool, nat_tests, sum_by-cons, sum_by_more}
+use Rattle.fb_detour.proofs.Words.{slice_get_within, get_or_from_slice_get, same_track, Disk, Block, Entry, is_wanted, on_track, wanted_of}
+use Rattle.fb_detour.proofs.Words.{wanted_weight, Dwell, Gap, Plan, catches, value, early_dwell, late_dwell, block_end, mul-le, gain}
+use Rattle.fb_detour.proofs.Words.{FitsDisk, end-le, stay_gain, stay}
 use Rattle.fb_plan.proofs.Gains.{value-gain, one_part}
-use Rattle.fb_detour.specs.Bounds.{stay_gain, stay}
 
 -- the sum so far and one block more
 pub stay-more : (disk : Disk) (dwell : Dwell) (xs : List Entry) (i sum more : ℕ) (e : Entry) → slice_get xs i ≡ Some e → more ≡ stay_gain disk dwell e

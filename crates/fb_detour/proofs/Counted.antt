@@ -1,13 +1,7 @@
 -- Sectors that have a share of their own each are no more than the shares.
-use Rattle.std.proofs.Common.{◌≡◌, ℕ, zero, suc, ◌+◌, ◌*◌, ◌<◌, ◌≤◌, ◌⊎◌, inl, inr, List, [], ◌∷◌, true, false, refl, arith, ap, sym, ◌∙◌, if◌then◌else◌}
-use Rattle.std.specs.Prelude.{nat_lt, ◌==◌}
-use Rattle.std.specs.List.{sum_by, AllByRecursion}
-use Rattle.std.proofs.lemmas.Bool.{cases_Bool, cases_lt}
-use Rattle.std.proofs.lemmas.Bool.Decides.{nat_tests}
-use Rattle.std.proofs.lemmas.List.Sums.{sum_by-cons}
-use Rattle.std.proofs.lemmas.Nat.{mul-le}
-use Rattle.fb_wanted.specs.declared.block.Entry.{Entry}
-use Rattle.fb_wanted.specs.Depth.{is_in, weight_on}
+use Rattle.fb_detour.proofs.Words.{◌≡◌, ℕ, zero, suc, ◌+◌, ◌*◌, ◌<◌, ◌≤◌, ◌⊎◌, inl, inr, List, [], ◌∷◌, true, false, refl, arith, ap, sym}
+use Rattle.fb_detour.proofs.Words.{◌∙◌, if◌then◌else◌, nat_lt, ◌==◌, sum_by, AllByRecursion, cases_Bool, cases_lt, nat_tests, sum_by-cons}
+use Rattle.fb_detour.proofs.Words.{mul-le, Entry, is_in, weight_on}
 
 -- how many of n sectors from lbn on have a share, and how many have a lesser one
 abbrev having : (ℕ → ℕ) → ℕ → ℕ → ℕ → ℕ

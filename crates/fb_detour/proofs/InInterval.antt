@@ -1,12 +1,6 @@
 -- Into which interval of the time on a track a passage goes.
-use Rattle.std.proofs.Common.{◌≡◌, ℕ, ◌+◌, ◌-◌, ◌*◌, ◌/◌, ◌<◌, ◌≤◌, if◌then◌else◌, inl, inr, arith, ap, ◌∙◌}
-use Rattle.std.specs.Prelude.{nat_le, nat_lt}
-use Rattle.std.proofs.lemmas.Bool.{cases_lt}
-use Rattle.std.proofs.lemmas.Bool.Decides.{nat_tests}
-use Rattle.std.proofs.Math.Nat.{div-lt_iff_lt-mul}
-use Rattle.fb_wanted.specs.declared.offer.Offer.{Offer}
-use Rattle.fb_plan.specs.Turns.{end_of}
-use Rattle.fb_detour.specs.Bounds.{offer_gain}
+use Rattle.fb_detour.proofs.Words.{◌≡◌, ℕ, ◌+◌, ◌-◌, ◌*◌, ◌/◌, ◌<◌, ◌≤◌, if◌then◌else◌, inl, inr, arith, ap, ◌∙◌, nat_le, nat_lt, cases_lt}
+use Rattle.fb_detour.proofs.Words.{nat_tests, div-lt_iff_lt-mul, Offer, end_of, offer_gain}
 
 -- an instant comes by the end of the first interval that isn't over before it, and of each later one
 pub by_interval : (begin end step k : ℕ) → begin ≤ end → 0 < step

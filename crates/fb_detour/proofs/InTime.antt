@@ -1,15 +1,6 @@
 -- No stay catches more than what can pass in its time.
-use Rattle.std.proofs.Common.{ℕ, zero, suc, ◌-◌, ◌*◌, ◌/◌, ◌^◌, ◌<◌, ◌≤◌, ◌≡◌, List, arith}
-use Rattle.std.proofs.lemmas.Nat.{le-div, mul-le}
-use Rattle.std.proofs.Math.Nat.{div-mul-le_self}
-use Rattle.fb_units.specs.declared.types.Track.{Track}
-use Rattle.fb_geometry.specs.Shape.{slots_at}
-use Rattle.fb_geometry.specs.Sound.{IsSound, HasOwnPlaces}
-use Rattle.fb_service.specs.declared.disk.Disk.{Disk}
-use Rattle.fb_wanted.specs.declared.block.Entry.{Entry}
-use Rattle.fb_wanted.specs.Depth.{depth_at}
-use Rattle.fb_plan.specs.Ways.{AreOnDisk}
-use Rattle.fb_detour.specs.Bounds.{stay, early_to, slots_within}
+use Rattle.fb_detour.proofs.Words.{ℕ, zero, suc, ◌-◌, ◌*◌, ◌/◌, ◌^◌, ◌<◌, ◌≤◌, ◌≡◌, List, arith, le-div, mul-le, div-mul-le_self, Track}
+use Rattle.fb_detour.proofs.Words.{slots_at, IsSound, HasOwnPlaces, Disk, Entry, depth_at, AreOnDisk, stay, early_to, slots_within}
 use Rattle.fb_detour.proofs.Packing.{packing}
 
 pub some_share : (rotation slots : ℕ) → 0 < slots → slots ≤ rotation → 0 < rotation / slots

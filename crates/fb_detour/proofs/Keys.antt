@@ -1,15 +1,7 @@
 -- Numbers that stand for the parts of a range of cylinders, each with an upper bound on its detours.
-use Rattle.std.proofs.Common.{◌≡◌, ℕ, ◌+◌, ◌-◌, ◌*◌, ◌/◌, ◌%◌, ◌<◌, ◌≤◌, inl, inr, min, List, get_or, arith, ap, subst, sym, ◌∙◌}
-use Rattle.std.proofs.lemmas.Bool.{cases_lt, cases_order}
-use Rattle.std.proofs.lemmas.Nat.{div-add-mod'}
-use Rattle.std.proofs.Math.Nat.{mod-lt}
-use Rattle.fb_service.specs.declared.disk.Disk.{Disk}
-use Rattle.fb_wanted.specs.declared.block.Block.{Block}
-use Rattle.fb_rows.specs.declared.gap.Gap.{Gap}
-use Rattle.fb_rows.specs.declared.gap.Plan.{Plan}
-use Rattle.fb_plan.specs.declared.choice.Scored.{Scored}
-use Rattle.fb_plan.specs.Ways.{Beats, IsScored}
-use Rattle.fb_detour.specs.Bounds.{BeatsRange, IsCeiling, IsKey}
+use Rattle.fb_detour.proofs.Words.{◌≡◌, ℕ, ◌+◌, ◌-◌, ◌*◌, ◌/◌, ◌%◌, ◌<◌, ◌≤◌, inl, inr, min, List, get_or, arith, ap, subst, sym, ◌∙◌}
+use Rattle.fb_detour.proofs.Words.{cases_lt, cases_order, div-add-mod', mod-lt, Disk, Block, Gap, Plan, Scored, Beats, IsScored, BeatsRange}
+use Rattle.fb_detour.proofs.Words.{IsCeiling, IsKey}
 use Rattle.fb_detour.proofs.Ranges.{range-kept}
 use Rattle.fb_detour.proofs.Limits.{steps_below}
 

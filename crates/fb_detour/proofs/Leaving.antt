@@ -1,19 +1,8 @@
 -- No plan of a way is worth more than its ceiling.
-use Rattle.std.proofs.Common.{◌≡◌, ℕ, ◌+◌, ◌-◌, ◌*◌, ◌/◌, ◌<◌, ◌≤◌, min, inl, inr, List, get_or, refl, arith}
-use Rattle.std.proofs.lemmas.Bool.{cases_lt}
-use Rattle.std.proofs.lemmas.Nat.{div-add-mod'}
-use Rattle.std.proofs.Math.Nat.{mod-lt, mul-le-mul_right}
-use Rattle.fb_service.specs.declared.disk.Disk.{Disk}
-use Rattle.fb_wanted.specs.declared.block.Entry.{Entry}
-use Rattle.fb_wanted.specs.States.{wanted_of}
-use Rattle.fb_rows.specs.declared.gap.Gap.{Gap}
-use Rattle.fb_model.specs.Plans.{value, early_dwell, late_dwell, IsPlan}
-use Rattle.fb_plan.specs.declared.way.Way.{Way}
+use Rattle.fb_detour.proofs.Words.{◌≡◌, ℕ, ◌+◌, ◌-◌, ◌*◌, ◌/◌, ◌<◌, ◌≤◌, min, inl, inr, List, get_or, refl, arith, cases_lt, div-add-mod'}
+use Rattle.fb_detour.proofs.Words.{mod-lt, mul-le-mul_right, Disk, Entry, wanted_of, Gap, value, early_dwell, late_dwell, IsPlan, Way}
+use Rattle.fb_detour.proofs.Words.{plan_by, early_track, arrival, move_on, bounds, LateParts, stay, early_to, late_most, IsLate, part_at}
 use Rattle.fb_plan.specs.declared.way.Way.TheVariants.{Source, Over}
-use Rattle.fb_plan.specs.Ways.{plan_by, early_track, arrival, move_on}
-use Rattle.fb_plan.proofs.Passed.{bounds}
-use Rattle.fb_detour.specs.declared.parts.LateParts.{LateParts}
-use Rattle.fb_detour.specs.Bounds.{stay, early_to, late_most, IsLate, part_at}
 use Rattle.fb_detour.proofs.Arrays.{over_all}
 use Rattle.fb_detour.proofs.Ceilings.{two_stays, longer_stay}
 use Rattle.fb_detour.proofs.Ways.{late-part}

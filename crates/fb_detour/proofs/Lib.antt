@@ -1,3 +1,4 @@
+pub mod Words
 pub mod Ceilings
 pub mod Ways
 pub mod Ranges

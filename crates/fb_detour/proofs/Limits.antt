@@ -1,16 +1,7 @@
 -- Limits: from each of them on the target gives no more than the part that it belongs to.
-use Rattle.std.proofs.Common.{◌≡◌, ℕ, zero, suc, ◌+◌, ◌-◌, ◌*◌, ◌/◌, ◌<◌, ◌≤◌, inl, inr, List, false, get_or, length, arith, ap}
-use Rattle.std.proofs.Common.{subst, if◌then◌else◌}
-use Rattle.std.specs.Prelude.{nat_le}
-use Rattle.std.specs.List.{slice_set}
-use Rattle.std.proofs.lemmas.Bool.{cases_lt, cases_order}
-use Rattle.std.proofs.lemmas.Bool.Decides.{nat_tests}
-use Rattle.std.proofs.lemmas.List.{get_or-set_same, get_or-set_other}
-use Rattle.std.proofs.lemmas.Nat.{div-add-mod', mul-le}
-use Rattle.std.proofs.Math.Nat.{div-mul-le_self, mod-lt}
-use Rattle.fb_wanted.specs.declared.offer.Offer.{Offer}
-use Rattle.fb_plan.specs.Turns.{end_of}
-use Rattle.fb_detour.specs.Bounds.{offer_gain}
+use Rattle.fb_detour.proofs.Words.{◌≡◌, ℕ, zero, suc, ◌+◌, ◌-◌, ◌*◌, ◌/◌, ◌<◌, ◌≤◌, inl, inr, List, false, get_or, length, arith, ap, subst}
+use Rattle.fb_detour.proofs.Words.{if◌then◌else◌, nat_le, slice_set, cases_lt, cases_order, nat_tests, get_or-set_same, get_or-set_other}
+use Rattle.fb_detour.proofs.Words.{div-add-mod', mul-le, div-mul-le_self, mod-lt, Offer, end_of, offer_gain}
 
 -- the quotient of a number below so many steps is less than that
 pub steps_below : (n step m : ℕ) → n < m * step → n / step < m

@@ -1,11 +1,6 @@
 -- Offers whose passage ends too late for a stay.
-use Rattle.std.proofs.Common.{◌≡◌, ℕ, ◌+◌, ◌-◌, ◌<◌, ◌≤◌, take, List, [], ◌∷◌, get_or, length, arith}
-use Rattle.std.specs.List.{sum_by}
-use Rattle.std.proofs.lemmas.Bool.Decides.{nat_tests}
-use Rattle.std.proofs.lemmas.List.Sums.{sum_by-cons, sum_by_more}
-use Rattle.fb_wanted.specs.declared.offer.Offer.{Offer}
-use Rattle.fb_detour.specs.declared.stop.Stop.{Stop}
-use Rattle.fb_detour.specs.Bounds.{offer_gain, offered, missed, IsReady}
+use Rattle.fb_detour.proofs.Words.{◌≡◌, ℕ, ◌+◌, ◌-◌, ◌<◌, ◌≤◌, take, List, [], ◌∷◌, get_or, length, arith, sum_by, nat_tests, sum_by-cons}
+use Rattle.fb_detour.proofs.Words.{sum_by_more, Offer, Stop, offer_gain, offered, missed, IsReady}
 use Rattle.fb_detour.proofs.Offers.{take-le}
 
 sums-two : (f g h : Offer → ℕ) → ((o : Offer) → f o + g o ≡ h o) → (os : List Offer) → sum_by f os + sum_by g os ≡ sum_by h os

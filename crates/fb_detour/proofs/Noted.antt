@@ -1,17 +1,7 @@
 -- The leaves that are noted as tried.
-use Rattle.std.proofs.Common.{ℕ, ◌<◌, inl, inr, List, get_or, length, sym, subst}
-use Rattle.std.proofs.lemmas.Bool.{cases_eq}
+use Rattle.fb_detour.proofs.Words.{ℕ, ◌<◌, inl, inr, List, get_or, length, sym, subst, cases_eq, get_or-set_other, slice_set, Disk, Block}
+use Rattle.fb_detour.proofs.Words.{Gap, Plan, Way, Beats, plan_by, IsBeaten, beats-trans}
 use Rattle.std.proofs.lemmas.Grind.{get_or-set_at}
-use Rattle.std.proofs.lemmas.List.{get_or-set_other}
-use Rattle.std.specs.List.{slice_set}
-use Rattle.fb_service.specs.declared.disk.Disk.{Disk}
-use Rattle.fb_wanted.specs.declared.block.Block.{Block}
-use Rattle.fb_rows.specs.declared.gap.Gap.{Gap}
-use Rattle.fb_rows.specs.declared.gap.Plan.{Plan}
-use Rattle.fb_plan.specs.declared.way.Way.{Way}
-use Rattle.fb_plan.specs.Ways.{Beats, plan_by}
-use Rattle.fb_detour.specs.Bounds.{IsBeaten}
-use Rattle.fb_plan.proofs.Ties.{beats-trans}
 
 module _ (disk : Disk) (gap : Gap) (way : Way) (wanted : List Block) where
   -- no leave that is noted is better than the best so far

@@ -1,26 +1,11 @@
 -- What a track offers is what its wanted blocks can give.
-use Rattle.std.proofs.Common.{◌≡◌, ℕ, zero, suc, ◌+◌, ◌<◌, ◌≤◌, inl, inr, take, List, [], ◌∷◌, Bool, true, false, Some, slice_get}
-use Rattle.std.proofs.Common.{get_or, length, refl, arith, ap, ◌∙◌, if◌then◌else◌}
-use Rattle.std.specs.Prelude.{nat_le}
-use Rattle.std.specs.List.{sum_by, AllByRecursion}
-use Rattle.std.proofs.lemmas.Bool.{cases_Bool, cases_lt}
-use Rattle.std.proofs.lemmas.Bool.Decides.{nat_tests}
-use Rattle.std.proofs.lemmas.List.Sums.{sum_by-cons, sum_by_more}
-use Rattle.std.proofs.lemmas.List.{take_all}
-use Rattle.fb_units.specs.Tracks.{same_track}
-use Rattle.fb_service.specs.declared.disk.Disk.{Disk}
-use Rattle.fb_wanted.specs.declared.block.Block.{Block}
-use Rattle.fb_wanted.specs.declared.block.Entry.{Entry}
-use Rattle.fb_wanted.specs.declared.offer.Offer.{Offer}
-use Rattle.fb_wanted.specs.States.{is_wanted, on_track, wanted_of}
-use Rattle.fb_rows.specs.declared.gap.Dwell.{Dwell}
-use Rattle.fb_plan.specs.Ways.{FitsDisk}
-use Rattle.fb_plan.specs.Turns.{end_of}
-use Rattle.fb_plan.proofs.Ends.{next-le}
+use Rattle.fb_detour.proofs.Words.{◌≡◌, ℕ, zero, suc, ◌+◌, ◌<◌, ◌≤◌, inl, inr, take, List, [], ◌∷◌, Bool, true, false, Some, slice_get}
+use Rattle.fb_detour.proofs.Words.{get_or, length, refl, arith, ap, ◌∙◌, if◌then◌else◌, nat_le, sum_by, AllByRecursion, cases_Bool}
+use Rattle.fb_detour.proofs.Words.{cases_lt, nat_tests, sum_by-cons, sum_by_more, take_all, same_track, Disk, Block, Entry, Offer}
+use Rattle.fb_detour.proofs.Words.{is_wanted, on_track, wanted_of, Dwell, FitsDisk, end_of, next-le, Stop, offer_gain, stay, stay_gain}
+use Rattle.fb_detour.proofs.Words.{IsReady, IsStop}
 use Rattle.fb_plan.proofs.Gains.{in_filter}
 use Rattle.fb_plan.proofs.Swept.{end-by-sweep}
-use Rattle.fb_detour.specs.declared.stop.Stop.{Stop}
-use Rattle.fb_detour.specs.Bounds.{offer_gain, stay, stay_gain, IsReady, IsStop}
 use Rattle.fb_detour.proofs.Ceilings.{worth, sums-le}
 
 pub all_of : (P : Entry → Type 0) (es : List Entry) → ((k : ℕ) (e : Entry) → slice_get es k ≡ Some e → P e) → AllByRecursion P es

@@ -1,28 +1,10 @@
 -- A stay catches no more than the sectors that can pass while it lasts.
-use Rattle.std.proofs.Common.{◌≡◌, ℕ, zero, suc, ◌+◌, ◌-◌, ◌*◌, ◌/◌, ◌<◌, ◌≤◌, inl, inr, List, true, ◌&&◌, Some, length, arith}
-use Rattle.std.proofs.Common.{ap, sym, subst, ◌∙◌, if◌then◌else◌}
-use Rattle.std.specs.Prelude.{nat_le}
-use Rattle.std.proofs.lemmas.Bool.{cases_Bool, and_parts, leb-true}
-use Rattle.std.proofs.lemmas.Option.{slice_get-get_or}
-use Rattle.std.proofs.lemmas.Nat.{le-div}
-use Rattle.std.proofs.Math.Nat.{div-mul-le_self}
-use Rattle.fb_units.specs.declared.types.Place.{Place}
-use Rattle.fb_units.specs.declared.types.Track.{Track}
-use Rattle.fb_units.specs.Tracks.{same_track}
-use Rattle.fb_geometry.specs.Shape.{Shape, slots_at}
-use Rattle.fb_geometry.specs.Places.{places}
-use Rattle.fb_geometry.specs.Sound.{IsSound, HasOwnPlaces}
+use Rattle.fb_detour.proofs.Words.{◌≡◌, ℕ, zero, suc, ◌+◌, ◌-◌, ◌*◌, ◌/◌, ◌<◌, ◌≤◌, inl, inr, List, true, ◌&&◌, Some, length, arith, ap}
+use Rattle.fb_detour.proofs.Words.{sym, subst, ◌∙◌, if◌then◌else◌, nat_le, cases_Bool, and_parts, leb-true, slice_get-get_or, le-div}
+use Rattle.fb_detour.proofs.Words.{div-mul-le_self, Place, Track, same_track, Shape, slots_at, places, IsSound, HasOwnPlaces, IsAt}
+use Rattle.fb_detour.proofs.Words.{place_at, Disk, begin_from, same_tracks, Entry, is_wanted, on_track, depth_at, catches, block_end}
+use Rattle.fb_detour.proofs.Words.{FitsDisk, AreOnDisk, stay, stay_gain, early_to, slots_within}
 use Rattle.fb_geometry.proofs.Laws.{all-filter}
-use Rattle.fb_sectormap.specs.Lookup.{IsAt, place_at}
-use Rattle.fb_service.specs.declared.disk.Disk.{Disk}
-use Rattle.fb_service.specs.Passing.{begin_from}
-use Rattle.fb_service.proofs.Joining.{same_tracks}
-use Rattle.fb_wanted.specs.declared.block.Entry.{Entry}
-use Rattle.fb_wanted.specs.States.{is_wanted, on_track}
-use Rattle.fb_wanted.specs.Depth.{depth_at}
-use Rattle.fb_model.specs.Plans.{catches, block_end}
-use Rattle.fb_plan.specs.Ways.{FitsDisk, AreOnDisk}
-use Rattle.fb_detour.specs.Bounds.{stay, stay_gain, early_to, slots_within}
 use Rattle.fb_detour.proofs.Ceilings.{sums-le}
 use Rattle.fb_detour.proofs.Offers.{all_of}
 use Rattle.fb_detour.proofs.Counted.{no_more}

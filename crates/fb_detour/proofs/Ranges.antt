@@ -1,21 +1,9 @@
 -- Ranges of cylinders.
-use Rattle.std.proofs.Common.{◌≡◌, ℕ, ◌+◌, ◌-◌, ◌<◌, ◌≤◌, ◌==◌, min, max, inl, inr, List, Bool, true, false, arith, sym, subst}
-use Rattle.std.proofs.lemmas.Bool.{cases_Bool, cases_lt}
-use Rattle.std.proofs.lemmas.Bool.Decides.{nat_tests}
-use Rattle.fb_units.specs.declared.types.Track.{Track}
-use Rattle.fb_units.specs.Tracks.{same_track}
+use Rattle.fb_detour.proofs.Words.{◌≡◌, ℕ, ◌+◌, ◌-◌, ◌<◌, ◌≤◌, ◌==◌, min, max, inl, inr, List, Bool, true, false, arith, sym, subst}
+use Rattle.fb_detour.proofs.Words.{cases_Bool, cases_lt, nat_tests, Track, same_track, seek, distance_of, pos, Disk, Block, Gap, Plan}
+use Rattle.fb_detour.proofs.Words.{Detour, IsDetour, IsTrackBefore, Beats, beats-trans, distance_to, BeatsOver, BeatsRange}
 use Rattle.fb_seek.specs.Mechanics.{Mechanics}
 use Rattle.fb_seek.specs.Rising.{SeeksRise}
-use Rattle.fb_seek.specs.Positioning.{seek, distance_of, pos}
-use Rattle.fb_service.specs.declared.disk.Disk.{Disk}
-use Rattle.fb_wanted.specs.declared.block.Block.{Block}
-use Rattle.fb_rows.specs.declared.gap.Gap.{Gap}
-use Rattle.fb_rows.specs.declared.gap.Plan.{Plan}
-use Rattle.fb_rows.specs.declared.gap.Plan.TheVariants.{Detour}
-use Rattle.fb_model.specs.Plans.{IsDetour, IsTrackBefore}
-use Rattle.fb_plan.specs.Ways.{Beats}
-use Rattle.fb_plan.proofs.Ties.{beats-trans}
-use Rattle.fb_detour.specs.Bounds.{distance_to, BeatsOver, BeatsRange}
 
 same_cylinder : (a b : Track) → same_track a b ≡ true → distance_of a.cylinder b.cylinder ≡ 0
 same_cylinder a b h = grind (arith, nat_tests)

@@ -1,12 +1,7 @@
 -- What passes once a rotation comes round once a rotation.
-use Rattle.std.proofs.Common.{◌≡◌, ℕ, ◌+◌, ◌-◌, ◌*◌, ◌/◌, ◌%◌, ◌<◌, ◌≤◌, inl, inr, arith, ap, sym, ◌∙◌}
-use Rattle.std.proofs.lemmas.Bool.{cases_lt}
-use Rattle.std.proofs.lemmas.Nat.{div-add-mod'}
-use Rattle.std.proofs.Math.Nat.{mod-lt, mul-le-mul_right, add-mul-mod_self_right}
+use Rattle.fb_detour.proofs.Words.{◌≡◌, ℕ, ◌+◌, ◌-◌, ◌*◌, ◌/◌, ◌%◌, ◌<◌, ◌≤◌, inl, inr, arith, ap, sym, ◌∙◌, cases_lt, div-add-mod', mod-lt}
+use Rattle.fb_detour.proofs.Words.{mul-le-mul_right, add-mul-mod_self_right, wait_least, begin_of, end_of, wait-rest}
 use Rattle.fb_units.specs.declared.types.Sweep.{Sweep}
-use Rattle.fb_units.proofs.Waits.{wait_least}
-use Rattle.fb_plan.specs.Turns.{begin_of, end_of}
-use Rattle.fb_plan.proofs.Ends.{wait-rest}
 
 -- from an instant at an angle to a later one at it, at least a rotation passes
 round-later : (r x y : ℕ) → x % r ≡ y % r → x < y → x + r ≤ y

@@ -1,13 +1,8 @@
 -- How many slots the tracks of a range of cylinders have at most.
-use Rattle.std.proofs.Common.{◌≡◌, ℕ, ◌+◌, ◌-◌, ◌<◌, ◌≤◌, max, inl, inr, List, Some, true, false, refl, drop, slice_get, length, arith, ap, ◌∙◌, if◌then◌else◌}
-use Rattle.std.specs.Prelude.{nat_le}
-use Rattle.std.proofs.lemmas.Bool.{cases_lt}
-use Rattle.std.proofs.lemmas.Bool.Decides.{nat_tests}
-use Rattle.std.proofs.lemmas.List.{drop_more}
+use Rattle.fb_detour.proofs.Words.{◌≡◌, ℕ, ◌+◌, ◌-◌, ◌<◌, ◌≤◌, max, inl, inr, List, Some, true, false, refl, drop, slice_get, length, arith}
+use Rattle.fb_detour.proofs.Words.{ap, ◌∙◌, if◌then◌else◌, nat_le, cases_lt, nat_tests, drop_more, slice_get_within, get_or_from_slice_get}
+use Rattle.fb_detour.proofs.Words.{Zone, slots_at}
 use Rattle.std.proofs.Math.ListN.{drop_of_length-le}
-use Rattle.std.proofs.lemmas.Option.{slice_get_within, get_or_from_slice_get}
-use Rattle.fb_geometry.specs.declared.zone.Zone.{Zone}
-use Rattle.fb_geometry.specs.Shape.{slots_at}
 
 -- the slots of a track are no more than the most so far, or than those of the zones to come
 abbrev pub AreMost : List Zone → ℕ → ℕ → ℕ → ℕ → Type 0

@@ -1,20 +1,8 @@
 -- Two slots of a track don't begin to pass within the least length of a slot.
-use Rattle.std.proofs.Common.{◌≡◌, ℕ, suc, ◌+◌, ◌-◌, ◌*◌, ◌/◌, ◌%◌, ◌<◌, ◌≤◌, List, [], ◌∷◌, Some, refl, ap, sym, ◌∙◌, ◌⊎◌, inl, inr, arith}
-use Rattle.std.specs.Prelude.{nat_le, slice_get}
-use Rattle.std.proofs.Math.Nat.{mod-lt}
-use Rattle.std.proofs.lemmas.Nat.{le-div, div-add-mod'}
-use Rattle.std.proofs.lemmas.Bool.{cases_Bool, cases_lt, cases_order}
-use Rattle.fb_units.specs.declared.types.Place.{Place}
-use Rattle.fb_units.specs.declared.types.Track.{Track}
-use Rattle.fb_units.specs.Wait.{wait}
-use Rattle.fb_units.proofs.Waits.{wait_least, least_unique, least_of, reaches_ahead, reaches_over}
-use Rattle.fb_geometry.specs.declared.zone.Zone.{Zone}
-use Rattle.fb_geometry.specs.Shape.{Shape, slots_at}
-use Rattle.fb_geometry.specs.Sound.{IsSound}
-use Rattle.fb_geometry.specs.Angles.{slot_begin}
-use Rattle.fb_service.specs.declared.disk.Disk.{Disk}
-use Rattle.fb_service.specs.Passing.{begin_from}
-use Rattle.fb_service.proofs.Turning.{over, later-after, in-turn}
+use Rattle.fb_detour.proofs.Words.{◌≡◌, ℕ, suc, ◌+◌, ◌-◌, ◌*◌, ◌/◌, ◌%◌, ◌<◌, ◌≤◌, List, [], ◌∷◌, Some, refl, ap, sym, ◌∙◌, ◌⊎◌, inl, inr}
+use Rattle.fb_detour.proofs.Words.{arith, nat_le, slice_get, mod-lt, le-div, div-add-mod', cases_Bool, cases_lt, cases_order, Place, Track}
+use Rattle.fb_detour.proofs.Words.{wait, wait_least, least_unique, least_of, reaches_ahead, reaches_over, Zone, Shape, slots_at, IsSound}
+use Rattle.fb_detour.proofs.Words.{slot_begin, Disk, begin_from, over, later-after, in-turn}
 
 -- ---- numbers
 

@@ -1,22 +1,8 @@
 -- What no detour over a track can exceed.
-use Rattle.std.proofs.Common.{◌≡◌, ℕ, ◌+◌, ◌-◌, ◌<◌, ◌≤◌, ◌*◌, ◌/◌, ◌⊎◌, min, inl, inr, List, false, refl, arith}
-use Rattle.std.proofs.lemmas.Bool.{cases_lt}
-use Rattle.std.proofs.Math.Nat.{div-mul-le_self, mul-le-mul_right}
-use Rattle.fb_units.specs.declared.types.Track.{Track}
-use Rattle.fb_seek.specs.Positioning.{pos}
-use Rattle.fb_service.specs.declared.disk.Disk.{Disk}
-use Rattle.fb_wanted.specs.declared.block.Block.{Block}
-use Rattle.fb_wanted.specs.declared.block.Entry.{Entry}
-use Rattle.fb_wanted.specs.States.{wanted_of}
-use Rattle.fb_wanted.specs.Tracks.{wanted_weight}
-use Rattle.fb_rows.specs.declared.gap.Gap.{Gap}
-use Rattle.fb_rows.specs.declared.gap.Plan.{Plan}
-use Rattle.fb_rows.specs.declared.gap.Plan.TheVariants.{Detour}
-use Rattle.fb_model.specs.Plans.{value, early_dwell, late_dwell, IsDetour, IsNoLater, IsTrackBefore}
-use Rattle.fb_plan.specs.declared.choice.Scored.{Scored}
-use Rattle.fb_detour.specs.declared.parts.LateParts.{LateParts}
-use Rattle.fb_plan.specs.Ways.{IsScored, Beats}
-use Rattle.fb_detour.specs.Bounds.{stay, early_to, late_most, IsEnough, IsLate, part_at}
+use Rattle.fb_detour.proofs.Words.{◌≡◌, ℕ, ◌+◌, ◌-◌, ◌<◌, ◌≤◌, ◌*◌, ◌/◌, ◌⊎◌, min, inl, inr, List, false, refl, arith, cases_lt}
+use Rattle.fb_detour.proofs.Words.{div-mul-le_self, mul-le-mul_right, Track, pos, Disk, Block, Entry, wanted_of, wanted_weight, Gap, Plan}
+use Rattle.fb_detour.proofs.Words.{Detour, value, early_dwell, late_dwell, IsDetour, IsNoLater, IsTrackBefore, Scored, LateParts, IsScored}
+use Rattle.fb_detour.proofs.Words.{Beats, stay, early_to, late_most, IsEnough, IsLate, part_at}
 use Rattle.fb_detour.proofs.Ranges.{not_itself}
 use Rattle.fb_detour.proofs.Ceilings.{two_stays, longer_stay, weight_of_stay}
 

@@ -1,31 +1,14 @@
 -- The sectors of a block pass, each for the least length of a slot, before the block has passed.
-use Rattle.std.proofs.Common.{◌≡◌, ℕ, zero, suc, ◌+◌, ◌-◌, ◌*◌, ◌/◌, ◌%◌, ◌<◌, ◌≤◌, List, [], ◌∷◌, length, refl, ap, sym, subst, ◌∙◌, inl, inr, arith}
-use Rattle.std.specs.Prelude.{nat_le, nat_lt}
-use Rattle.std.proofs.Math.Nat.{mod-add-mod, mod-eq_of_lt, mod-lt, add-mod_right, mul-add-mod_self_right}
-use Rattle.std.proofs.lemmas.Nat.{div-add-mod'}
-use Rattle.std.proofs.lemmas.Bool.{cases_Bool, cases_lt, and_parts, ltb-true}
-use Rattle.fb_units.specs.declared.types.Place.{Place}
-use Rattle.fb_units.specs.declared.types.Track.{Track}
-use Rattle.fb_units.specs.Tracks.{same_track}
-use Rattle.fb_units.specs.Wait.{wait}
-use Rattle.fb_units.proofs.Waits.{wait_least, least_unique, least_of}
-use Rattle.fb_geometry.specs.declared.zone.Zone.{Zone}
-use Rattle.fb_geometry.specs.Shape.{Shape, IsTrackOf, slots_at, offset_at, turn_position}
-use Rattle.fb_geometry.specs.Places.{places}
-use Rattle.fb_geometry.specs.Sound.{IsSound}
-use Rattle.fb_geometry.specs.Angles.{slot_begin}
-use Rattle.fb_sectormap.specs.Lookup.{place_at, track_at, neighbour}
+use Rattle.fb_detour.proofs.Words.{◌≡◌, ℕ, zero, suc, ◌+◌, ◌-◌, ◌*◌, ◌/◌, ◌%◌, ◌<◌, ◌≤◌, List, [], ◌∷◌, length, refl, ap, sym, subst, ◌∙◌}
+use Rattle.fb_detour.proofs.Words.{inl, inr, arith, nat_le, nat_lt, mod-add-mod, mod-eq_of_lt, mod-lt, add-mod_right}
+use Rattle.fb_detour.proofs.Words.{mul-add-mod_self_right, div-add-mod', cases_Bool, cases_lt, and_parts, ltb-true, Place, Track}
+use Rattle.fb_detour.proofs.Words.{same_track, wait, wait_least, least_unique, least_of, Zone, Shape, IsTrackOf, slots_at, offset_at}
+use Rattle.fb_detour.proofs.Words.{turn_position, places, IsSound, slot_begin, place_at, track_at, neighbour, Disk, begin_angle, end_angle}
+use Rattle.fb_detour.proofs.Words.{begin_from, turned, over, later-after, within-turn, slot-is, in-turn, same_tracks, Block, block_end}
+use Rattle.fb_detour.proofs.Words.{FitsDisk, next-le}
 use Rattle.fb_sectormap.specs.Cutting.{IsOneTurn, is_later}
 use Rattle.fb_sectormap.proofs.ByCylinder.{has_place}
-use Rattle.fb_service.specs.declared.disk.Disk.{Disk}
-use Rattle.fb_service.specs.Passing.{begin_angle, end_angle, begin_from, turned}
-use Rattle.fb_service.proofs.Turning.{over, later-after, within-turn, slot-is, in-turn}
-use Rattle.fb_service.proofs.Joining.{same_tracks}
 use Rattle.fb_service.proofs.Unbroken.{at_angle, neighbour-begins}
-use Rattle.fb_wanted.specs.declared.block.Block.{Block}
-use Rattle.fb_model.specs.Plans.{block_end}
-use Rattle.fb_plan.specs.Ways.{FitsDisk}
-use Rattle.fb_plan.proofs.Ends.{next-le}
 use Rattle.fb_detour.proofs.Spread.{apart, slots_short}
 
 -- ---- where sectors are

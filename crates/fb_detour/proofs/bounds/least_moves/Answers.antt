@@ -1,5 +1,4 @@
-use Rattle.std.proofs.Common.{arith, ap}
-use Rattle.fb_seek.specs.Positioning.{seek}
+use Rattle.fb_detour.proofs.Words.{arith, ap, seek}
 use Rattle.fb_detour.proofs.Ranges.{way-there, way-on}
 use Rattle.fb_detour.proofs.bounds.least_moves.Goals as goal
 

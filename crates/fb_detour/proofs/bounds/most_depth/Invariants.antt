@@ -1,6 +1,4 @@
-use Rattle.std.proofs.Common.{◌*◌, ◌/◌, ◌<◌, ◌≤◌, ℕ}
-use Rattle.fb_units.specs.declared.types.Track.{Track}
-use Rattle.fb_wanted.specs.Depth.{depth_at}
+use Rattle.fb_detour.proofs.Words.{◌*◌, ◌/◌, ◌<◌, ◌≤◌, ℕ, Track, depth_at}
 use Rattle.fb_detour.proofs.bounds.most_depth.Given as goal
 
 abbrev pub invariant-loop-band : goal.invariant-loop-band

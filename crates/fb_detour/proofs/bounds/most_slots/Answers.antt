@@ -1,6 +1,4 @@
-use Rattle.std.proofs.Common.{arith, ap, sym, ◌∙◌, max, slice_get}
-use Rattle.std.specs.Prelude.{nat_le}
-use Rattle.fb_geometry.specs.Shape.{Shape}
+use Rattle.fb_detour.proofs.Words.{arith, ap, sym, ◌∙◌, max, slice_get, nat_le, Shape}
 use Rattle.fb_detour.proofs.Offers.{if-le-n}
 use Rattle.fb_detour.proofs.Slots.{zone-more, zone-last}
 use Rattle.fb_detour.proofs.bounds.most_slots.Goals as goal

@@ -1,4 +1,4 @@
-use Rattle.std.proofs.Common.{◌≤◌}
+use Rattle.fb_detour.proofs.Words.{◌≤◌}
 use Rattle.fb_detour.proofs.Slots.{AreMost}
 use Rattle.fb_detour.proofs.bounds.most_slots.Given as goal
 

@@ -1,11 +1,5 @@
-use Rattle.std.proofs.Common.{arith, refl, sym, subst, get_or, ◌∙◌}
-use Rattle.std.proofs.lemmas.Option.{slice_get-get_or}
-use Rattle.fb_wanted.specs.States.{wanted_of}
-use Rattle.fb_plan.specs.Ways.{plan_by, Beats}
-use Rattle.fb_plan.proofs.Offered.{offers-in-turn}
-use Rattle.fb_plan.proofs.Passed.{bounds, offers-more, way_done}
-use Rattle.fb_plan.proofs.Ties.{beats-self, beats-trans}
-use Rattle.fb_detour.specs.Bounds.{IsBeaten}
+use Rattle.fb_detour.proofs.Words.{arith, refl, sym, subst, get_or, ◌∙◌, slice_get-get_or, wanted_of, plan_by, Beats, offers-in-turn}
+use Rattle.fb_detour.proofs.Words.{bounds, offers-more, way_done, beats-self, beats-trans, IsBeaten}
 use Rattle.fb_detour.proofs.candidates.try_each.Goals as goal
 
 pub try_leave-best-requires-clause-after : goal.try_leave-best-requires-clause-after

@@ -1,8 +1,4 @@
-use Rattle.std.proofs.Common.{arith, sym, subst}
-use Rattle.fb_model.specs.Plans.{IsPlan}
-use Rattle.fb_wanted.specs.States.{wanted_of}
-use Rattle.fb_plan.specs.Ways.{Beats, plan_by}
-use Rattle.fb_plan.proofs.Passed.{sides-by}
+use Rattle.fb_detour.proofs.Words.{arith, sym, subst, IsPlan, wanted_of, Beats, plan_by, sides-by}
 use Rattle.fb_detour.proofs.Leaving.{from_now}
 use Rattle.fb_detour.proofs.Ways.{no_better_plan}
 use Rattle.fb_detour.proofs.candidates.try_leave.Goals as goal

@@ -1,6 +1,4 @@
-use Rattle.std.proofs.Common.{subst}
-use Rattle.fb_rows.specs.declared.gap.Dwell.{Dwell}
-use Rattle.fb_plan.specs.Turns.{AreSides}
+use Rattle.fb_detour.proofs.Words.{subst, Dwell, AreSides}
 use Rattle.fb_detour.proofs.candidates.try_leaves.Goals as goal
 
 pub try_each-requires-clause-sides : goal.try_each-requires-clause-sides

@@ -1,7 +1,4 @@
-use Rattle.fb_wanted.specs.States.{wanted_of}
-use Rattle.fb_plan.specs.Ways.{IsScored, Beats}
-use Rattle.fb_plan.proofs.Passed.{AreTried}
-use Rattle.fb_detour.specs.Bounds.{AreNotes}
+use Rattle.fb_detour.proofs.Words.{wanted_of, IsScored, Beats, AreTried, AreNotes}
 use Rattle.fb_detour.proofs.candidates.try_noted.Given as goal
 
 abbrev pub invariant-loop-offer : goal.invariant-loop-offer

@@ -1,5 +1,4 @@
-use Rattle.std.proofs.Common.{arith}
-use Rattle.fb_wanted.specs.States.{wanted_of}
+use Rattle.fb_detour.proofs.Words.{arith, wanted_of}
 use Rattle.fb_detour.proofs.Noted.{notes-kept, notes-more}
 use Rattle.fb_detour.proofs.candidates.try_once.Goals as goal
 

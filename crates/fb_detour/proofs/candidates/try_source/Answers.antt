@@ -1,5 +1,4 @@
-use Rattle.std.proofs.Common.{subst}
-use Rattle.fb_detour.specs.Bounds.{IsStop}
+use Rattle.fb_detour.proofs.Words.{subst, IsStop}
 use Rattle.fb_detour.proofs.candidates.try_source.Goals as goal
 
 pub ceilings_of-ceilings-requires-clause-stop : goal.ceilings_of-ceilings-requires-clause-stop

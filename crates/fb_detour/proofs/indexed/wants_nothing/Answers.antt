@@ -1,6 +1,4 @@
-use Rattle.std.proofs.Common.{ap, ◌∙◌, ◌≤◌, arith}
-use Rattle.std.proofs.lemmas.Bool.Decides.{nat_tests}
-use Rattle.fb_geometry.specs.Shape.{cylinders_of}
+use Rattle.fb_detour.proofs.Words.{ap, ◌∙◌, ◌≤◌, arith, nat_tests, cylinders_of}
 use Rattle.fb_detour.proofs.Bare.{at_once}
 use Rattle.fb_detour.proofs.indexed.wants_nothing.Goals as goal
 

@@ -1,6 +1,4 @@
-use Rattle.std.proofs.Common.{ℕ, arith, ◌≡◌, ◌∙◌, ◌<◌, ◌+◌, ◌-◌, ◌*◌, ◌/◌, get_or}
-use Rattle.fb_plan.specs.Ways.{early_track}
-use Rattle.fb_detour.specs.Bounds.{stay, early_to}
+use Rattle.fb_detour.proofs.Words.{ℕ, arith, ◌≡◌, ◌∙◌, ◌<◌, ◌+◌, ◌-◌, ◌*◌, ◌/◌, get_or, early_track, stay, early_to}
 use Rattle.fb_detour.proofs.Arrays.{over_all, sixteen}
 use Rattle.fb_detour.proofs.Leaving.{below_ceiling}
 use Rattle.fb_detour.proofs.Offers.{gives}

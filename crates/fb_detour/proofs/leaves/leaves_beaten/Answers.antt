@@ -1,5 +1,4 @@
-use Rattle.std.proofs.Common.{arith, ap, ◌≡◌, ◌+◌, ◌*◌, get_or}
-use Rattle.std.proofs.lemmas.Nat.{mul-le}
+use Rattle.fb_detour.proofs.Words.{arith, ap, ◌≡◌, ◌+◌, ◌*◌, get_or, mul-le}
 use Rattle.fb_detour.proofs.Ways.{interval_beaten, late-part}
 use Rattle.fb_detour.proofs.leaves.leaves_beaten.Goals as goal
 

@@ -1,8 +1,4 @@
-use Rattle.std.proofs.Common.{◌+◌, ◌*◌, ◌<◌, ℕ}
-use Rattle.fb_wanted.specs.States.{wanted_of}
-use Rattle.fb_rows.specs.declared.gap.Plan.TheVariants.{Detour}
-use Rattle.fb_model.specs.Plans.{IsDetour}
-use Rattle.fb_plan.specs.Ways.{Beats}
+use Rattle.fb_detour.proofs.Words.{◌+◌, ◌*◌, ◌<◌, ℕ, wanted_of, Detour, IsDetour, Beats}
 use Rattle.fb_detour.proofs.leaves.leaves_beaten.Given as goal
 
 abbrev pub invariant-loop-k : goal.invariant-loop-k

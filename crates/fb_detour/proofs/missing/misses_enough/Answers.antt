@@ -1,4 +1,4 @@
-use Rattle.std.proofs.Common.{arith, ◌+◌, ◌-◌}
+use Rattle.fb_detour.proofs.Words.{arith, ◌+◌, ◌-◌}
 use Rattle.fb_detour.proofs.Missed.{missed-more, missed-so-far}
 use Rattle.fb_detour.proofs.missing.misses_enough.Goals as goal
 

@@ -1,6 +1,4 @@
-use Rattle.std.proofs.Common.{◌≡◌, ◌+◌, take}
-use Rattle.std.specs.List.{sum_by}
-use Rattle.fb_detour.specs.Bounds.{missed}
+use Rattle.fb_detour.proofs.Words.{◌≡◌, ◌+◌, take, sum_by, missed}
 use Rattle.fb_detour.proofs.missing.misses_enough.Given as goal
 
 abbrev pub invariant-loop-offer : goal.invariant-loop-offer

@@ -1,5 +1,4 @@
-use Rattle.std.proofs.Common.{◌≡◌, ◌+◌, ◌*◌, get_or, nat_le, if◌then◌else◌, arith, ◌∙◌}
-use Rattle.std.proofs.lemmas.List.{length-set}
+use Rattle.fb_detour.proofs.Words.{◌≡◌, ◌+◌, ◌*◌, get_or, nat_le, if◌then◌else◌, arith, ◌∙◌, length-set}
 use Rattle.fb_detour.proofs.Arrays.{set-below, set-above}
 use Rattle.fb_detour.proofs.parts.add_last.Goals as goal
 

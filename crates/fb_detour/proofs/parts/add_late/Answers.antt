@@ -1,7 +1,5 @@
-use Rattle.std.proofs.Common.{◌≡◌, ◌+◌, ◌-◌, ◌*◌, ◌≤◌, ◌∙◌, ap, true, get_or, nat_le, inl, inr, arith, if◌then◌else◌}
-use Rattle.std.proofs.lemmas.Bool.{cases_lt}
-use Rattle.std.proofs.lemmas.Bool.Decides.{nat_tests}
-use Rattle.fb_detour.specs.Bounds.{late_step}
+use Rattle.fb_detour.proofs.Words.{◌≡◌, ◌+◌, ◌-◌, ◌*◌, ◌≤◌, ◌∙◌, ap, true, get_or, nat_le, inl, inr, arith, if◌then◌else◌, cases_lt}
+use Rattle.fb_detour.proofs.Words.{nat_tests, late_step}
 use Rattle.fb_detour.proofs.Offers.{if-le-n, offer-worth}
 use Rattle.fb_detour.proofs.Limits.{behind_last, beyond_all}
 use Rattle.fb_detour.proofs.parts.add_late.Goals as goal

@@ -1,5 +1,4 @@
-use Rattle.std.proofs.Common.{◌+◌, ◌-◌, ◌/◌, ◌<◌, ◌≤◌, get_or, length, refl, arith}
-use Rattle.std.proofs.lemmas.List.{get_or-set_other}
+use Rattle.fb_detour.proofs.Words.{◌+◌, ◌-◌, ◌/◌, ◌<◌, ◌≤◌, get_or, length, refl, arith, get_or-set_other}
 use Rattle.fb_detour.proofs.Limits.{steps_below, raised, raised-behind}
 use Rattle.fb_detour.proofs.parts.add_limit.Goals as goal
 

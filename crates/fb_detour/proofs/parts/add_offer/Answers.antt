@@ -1,7 +1,4 @@
-use Rattle.std.proofs.Common.{arith, ap, refl, ◌≡◌, ◌∙◌, ◌+◌, ◌-◌, ◌/◌, false, nat_lt, if◌then◌else◌}
-use Rattle.std.proofs.lemmas.Bool.Decides.{nat_tests}
-use Rattle.fb_plan.specs.Turns.{end_of}
-use Rattle.fb_detour.specs.Bounds.{sum_of_first}
+use Rattle.fb_detour.proofs.Words.{arith, ap, refl, ◌≡◌, ◌∙◌, ◌+◌, ◌-◌, ◌/◌, false, nat_lt, if◌then◌else◌, nat_tests, end_of, sum_of_first}
 use Rattle.fb_detour.proofs.Arrays.{sum-set}
 use Rattle.fb_detour.proofs.InInterval.{gain-interval}
 use Rattle.fb_detour.proofs.parts.add_offer.Goals as goal

@@ -1,5 +1,4 @@
-use Rattle.std.proofs.Common.{◌≡◌, ◌+◌, ◌<◌, ◌≤◌, ℕ, get_or, length}
-use Rattle.fb_detour.specs.Bounds.{sum_of_first}
+use Rattle.fb_detour.proofs.Words.{◌≡◌, ◌+◌, ◌<◌, ◌≤◌, ℕ, get_or, length, sum_of_first}
 use Rattle.fb_detour.proofs.parts.add_up.Given as goal
 
 abbrev pub invariant-loop-k : goal.invariant-loop-k

@@ -1,5 +1,4 @@
-use Rattle.std.proofs.Common.{◌+◌, ◌*◌, ◌∙◌, arith}
-use Rattle.fb_detour.specs.Bounds.{offer_gain}
+use Rattle.fb_detour.proofs.Words.{◌+◌, ◌*◌, ◌∙◌, arith, offer_gain}
 use Rattle.fb_detour.proofs.Offers.{all-of, sum-more, within-weight}
 use Rattle.fb_detour.proofs.parts.early_parts.Goals as goal
 

@@ -1,6 +1,4 @@
-use Rattle.std.proofs.Common.{◌≡◌, ◌+◌, ◌*◌, ◌<◌, ℕ, take}
-use Rattle.std.specs.List.{sum_by}
-use Rattle.fb_detour.specs.Bounds.{offer_gain, sum_of_first}
+use Rattle.fb_detour.proofs.Words.{◌≡◌, ◌+◌, ◌*◌, ◌<◌, ℕ, take, sum_by, offer_gain, sum_of_first}
 use Rattle.fb_detour.proofs.parts.early_parts.Given as goal
 
 abbrev pub invariant-loop-offer : goal.invariant-loop-offer

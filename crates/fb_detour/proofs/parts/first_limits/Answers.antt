@@ -1,6 +1,5 @@
-use Rattle.std.proofs.Common.{◌≡◌, ◌+◌, ◌-◌, ◌*◌, arith, ap, refl, ◌∙◌}
+use Rattle.fb_detour.proofs.Words.{◌≡◌, ◌+◌, ◌-◌, ◌*◌, arith, ap, refl, ◌∙◌, length-set}
 use Rattle.std.proofs.Math.ListN.{replicate}
-use Rattle.std.proofs.lemmas.List.{length-set}
 use Rattle.fb_detour.proofs.Arrays.{set-below}
 use Rattle.fb_detour.proofs.Limits.{first_limit}
 use Rattle.fb_detour.proofs.parts.first_limits.Goals as goal

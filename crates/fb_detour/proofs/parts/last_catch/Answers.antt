@@ -1,8 +1,4 @@
-use Rattle.std.proofs.Common.{arith, ap, sym, ◌≡◌, ◌<◌, ◌∙◌, ◌*◌, ◌/◌, ◌-◌}
-use Rattle.std.proofs.Math.Nat.{div-mul-le_self}
-use Rattle.fb_geometry.specs.Shape.{Shape}
-use Rattle.fb_plan.specs.Turns.{end_of}
-use Rattle.fb_plan.proofs.Ends.{next-le}
+use Rattle.fb_detour.proofs.Words.{arith, ap, sym, ◌≡◌, ◌<◌, ◌∙◌, ◌*◌, ◌/◌, ◌-◌, div-mul-le_self, Shape, end_of, next-le}
 use Rattle.fb_detour.proofs.Rounds.{last_instant}
 use Rattle.fb_detour.proofs.parts.last_catch.Goals as goal
 

@@ -1,8 +1,5 @@
-use Rattle.std.proofs.Common.{ℕ, ◌+◌, ◌-◌, ◌*◌, ◌/◌, ◌≤◌, [], ◌∷◌, take, get_or, length, arith, refl, subst}
-use Rattle.std.proofs.lemmas.List.{get_or-replicate}
-use Rattle.fb_wanted.specs.declared.offer.Offer.{Offer}
-use Rattle.fb_wanted.specs.States.{on_track}
-use Rattle.fb_detour.specs.Bounds.{offer_gain, late_most, IsStop}
+use Rattle.fb_detour.proofs.Words.{ℕ, ◌+◌, ◌-◌, ◌*◌, ◌/◌, ◌≤◌, [], ◌∷◌, take, get_or, length, arith, refl, subst, get_or-replicate, Offer}
+use Rattle.fb_detour.proofs.Words.{on_track, offer_gain, late_most, IsStop}
 use Rattle.fb_detour.proofs.Offers.{gives, all-of, bound-more, none-more, take-le, sums-fall, within-more}
 use Rattle.fb_detour.proofs.parts.late_parts.Goals as goal
 

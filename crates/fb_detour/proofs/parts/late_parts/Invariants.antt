@@ -1,7 +1,4 @@
-use Rattle.std.proofs.Common.{◌≡◌, ◌+◌, ◌-◌, ◌*◌, ◌<◌, ◌≤◌, ℕ, get_or, take}
-use Rattle.std.specs.List.{sum_by}
-use Rattle.fb_wanted.specs.declared.offer.Offer.{Offer}
-use Rattle.fb_detour.specs.Bounds.{offer_gain}
+use Rattle.fb_detour.proofs.Words.{◌≡◌, ◌+◌, ◌-◌, ◌*◌, ◌<◌, ◌≤◌, ℕ, get_or, take, sum_by, Offer, offer_gain}
 use Rattle.fb_detour.proofs.parts.late_parts.Given as goal
 
 abbrev pub invariant-loop-offer : goal.invariant-loop-offer

@@ -1,6 +1,4 @@
-use Rattle.std.proofs.Common.{◌≡◌, arith}
-use Rattle.fb_wanted.specs.States.{wanted_of}
-use Rattle.fb_plan.proofs.Ties.{beats-self, beats-trans}
+use Rattle.fb_detour.proofs.Words.{◌≡◌, arith, wanted_of, beats-self, beats-trans}
 use Rattle.fb_detour.proofs.Ways.{not_better}
 use Rattle.fb_detour.proofs.Ranges.{first-of}
 use Rattle.fb_detour.proofs.Keys.{its-ceiling, its-part, part-more, parts-beaten, parts-done}

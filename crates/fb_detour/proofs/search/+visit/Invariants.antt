@@ -1,6 +1,4 @@
-use Rattle.std.proofs.Common.{◌≡◌, ◌-◌, ◌<◌, ℕ, get_or}
-use Rattle.fb_wanted.specs.States.{wanted_of}
-use Rattle.fb_plan.specs.Ways.{IsScored, Beats}
+use Rattle.fb_detour.proofs.Words.{◌≡◌, ◌-◌, ◌<◌, ℕ, get_or, wanted_of, IsScored, Beats}
 use Rattle.fb_detour.proofs.Keys.{AreDone}
 use Rattle.fb_detour.proofs.search.+visit.Given as goal
 

@@ -1,8 +1,4 @@
-use Rattle.std.proofs.Common.{◌+◌, ◌-◌, ◌*◌, ◌∙◌, arith}
-use Rattle.std.proofs.lemmas.List.{length-set}
-use Rattle.std.proofs.lemmas.Nat.{mul-le}
-use Rattle.fb_wanted.specs.States.{wanted_of}
-use Rattle.fb_detour.specs.Bounds.{IsKey}
+use Rattle.fb_detour.proofs.Words.{◌+◌, ◌-◌, ◌*◌, ◌∙◌, arith, length-set, mul-le, wanted_of, IsKey}
 use Rattle.fb_detour.proofs.Arrays.{set-below}
 use Rattle.fb_detour.proofs.Keys.{key-of}
 use Rattle.fb_detour.proofs.search.keys_of.Goals as goal

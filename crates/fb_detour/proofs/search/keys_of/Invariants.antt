@@ -1,6 +1,4 @@
-use Rattle.std.proofs.Common.{◌≡◌, ◌<◌, ℕ, get_or, length}
-use Rattle.fb_wanted.specs.States.{wanted_of}
-use Rattle.fb_detour.specs.Bounds.{IsKey}
+use Rattle.fb_detour.proofs.Words.{◌≡◌, ◌<◌, ℕ, get_or, length, wanted_of, IsKey}
 use Rattle.fb_detour.proofs.search.keys_of.Given as goal
 
 abbrev pub invariant-loop-j : goal.invariant-loop-j

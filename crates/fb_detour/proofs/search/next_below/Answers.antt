@@ -1,5 +1,4 @@
-use Rattle.std.proofs.Common.{◌≡◌, arith, inl, inr, ap, get_or}
-use Rattle.std.proofs.lemmas.Bool.{cases_lt}
+use Rattle.fb_detour.proofs.Words.{◌≡◌, arith, inl, inr, ap, get_or, cases_lt}
 use Rattle.fb_detour.proofs.search.next_below.Goals as goal
 
 pub loop-j-preserved : goal.loop-j-preserved

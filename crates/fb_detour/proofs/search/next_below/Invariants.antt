@@ -1,4 +1,4 @@
-use Rattle.std.proofs.Common.{◌≡◌, ◌<◌, ◌≤◌, ℕ, get_or}
+use Rattle.fb_detour.proofs.Words.{◌≡◌, ◌<◌, ◌≤◌, ℕ, get_or}
 use Rattle.fb_detour.proofs.search.next_below.Given as goal
 
 abbrev pub invariant-loop-j : goal.invariant-loop-j

@@ -1,8 +1,4 @@
-use Rattle.std.proofs.Common.{arith, ap}
-use Rattle.fb_geometry.specs.Shape.{Shape}
-use Rattle.fb_wanted.specs.States.{wanted_of}
-use Rattle.fb_plan.proofs.Ties.{beats-trans}
-use Rattle.fb_plan.proofs.Passed.{tracks-more}
+use Rattle.fb_detour.proofs.Words.{arith, ap, Shape, wanted_of, beats-trans, tracks-more}
 use Rattle.fb_detour.proofs.Ranges.{cylinder-done}
 use Rattle.fb_detour.proofs.search.try_cylinder.Goals as goal
 

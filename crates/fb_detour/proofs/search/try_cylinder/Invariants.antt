@@ -1,7 +1,4 @@
-use Rattle.std.proofs.Common.{◌<◌, ℕ}
-use Rattle.fb_wanted.specs.States.{wanted_of}
-use Rattle.fb_plan.specs.Ways.{IsScored, Beats}
-use Rattle.fb_detour.specs.Bounds.{BeatsOver}
+use Rattle.fb_detour.proofs.Words.{◌<◌, ℕ, wanted_of, IsScored, Beats, BeatsOver}
 use Rattle.fb_detour.proofs.search.try_cylinder.Given as goal
 
 abbrev pub invariant-loop-head : goal.invariant-loop-head

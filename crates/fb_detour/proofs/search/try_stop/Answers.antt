@@ -1,6 +1,4 @@
-use Rattle.std.proofs.Common.{arith, ap, subst, ◌∙◌, ◌≡◌, ◌+◌, ◌-◌}
-use Rattle.fb_wanted.specs.States.{on_track, wanted_of}
-use Rattle.fb_detour.specs.Bounds.{stay, early_to, offered, IsEnough, IsStop}
+use Rattle.fb_detour.proofs.Words.{arith, ap, subst, ◌∙◌, ◌≡◌, ◌+◌, ◌-◌, on_track, wanted_of, stay, early_to, offered, IsEnough, IsStop}
 use Rattle.fb_detour.proofs.Offers.{gives}
 use Rattle.fb_detour.proofs.Ways.{not_better, by_interval, late-part}
 use Rattle.fb_detour.proofs.Ranges.{not_itself}

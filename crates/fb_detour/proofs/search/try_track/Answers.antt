@@ -1,7 +1,4 @@
-use Rattle.std.proofs.Common.{arith, ap, ◌*◌, ◌≤◌}
-use Rattle.std.specs.List.{sum_by}
-use Rattle.fb_wanted.specs.States.{wanted_of}
-use Rattle.fb_wanted.specs.Tracks.{wanted_weight}
+use Rattle.fb_detour.proofs.Words.{arith, ap, ◌*◌, ◌≤◌, sum_by, wanted_of, wanted_weight}
 use Rattle.fb_detour.proofs.Ways.{not_better}
 use Rattle.fb_detour.proofs.Ranges.{not_itself}
 use Rattle.fb_detour.proofs.search.try_track.Goals as goal

@@ -1,4 +1,4 @@
-use Rattle.std.proofs.Common.{◌-◌, ◌<◌}
+use Rattle.fb_detour.proofs.Words.{◌-◌, ◌<◌}
 use Rattle.fb_detour.proofs.search.width_of.Given as goal
 
 abbrev pub invariant-loop-width : goal.invariant-loop-width

@@ -1,5 +1,4 @@
-use Rattle.std.proofs.Common.{arith, ◌*◌}
-use Rattle.std.proofs.lemmas.Nat.{le-div, mul-le}
+use Rattle.fb_detour.proofs.Words.{arith, ◌*◌, le-div, mul-le}
 use Rattle.fb_detour.proofs.steps.caught_in.Goals as goal
 
 pub overflow_mul-passing : goal.overflow_mul-passing

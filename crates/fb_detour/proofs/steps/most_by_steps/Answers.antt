@@ -1,8 +1,4 @@
-use Rattle.std.proofs.Common.{arith, ap, inl, inr, false, ◌≡◌, ◌+◌, ◌-◌, get_or}
-use Rattle.std.proofs.lemmas.Bool.{cases_lt}
-use Rattle.std.proofs.lemmas.Nat.{mul-le}
-use Rattle.fb_seek.specs.Positioning.{pos}
-use Rattle.fb_detour.specs.Bounds.{stay, early_to}
+use Rattle.fb_detour.proofs.Words.{arith, ap, inl, inr, false, ◌≡◌, ◌+◌, ◌-◌, get_or, cases_lt, mul-le, pos, stay, early_to}
 use Rattle.fb_detour.proofs.Ceilings.{weight_of_stay}
 use Rattle.fb_detour.proofs.Ways.{worth_from}
 use Rattle.fb_detour.proofs.steps.most_by_steps.Goals as goal

@@ -1,11 +1,4 @@
-use Rattle.std.proofs.Common.{◌+◌, ◌*◌, ◌<◌, ◌≤◌, ℕ, get_or}
-use Rattle.fb_units.specs.declared.types.Track.{Track}
-use Rattle.fb_seek.specs.Positioning.{pos}
-use Rattle.fb_wanted.specs.States.{wanted_of}
-use Rattle.fb_wanted.specs.Tracks.{wanted_weight}
-use Rattle.fb_rows.specs.declared.gap.Plan.TheVariants.{Detour}
-use Rattle.fb_model.specs.Plans.{value, IsDetour}
-use Rattle.fb_detour.specs.Bounds.{IsReach}
+use Rattle.fb_detour.proofs.Words.{◌+◌, ◌*◌, ◌<◌, ◌≤◌, ℕ, get_or, Track, pos, wanted_of, wanted_weight, Detour, value, IsDetour, IsReach}
 use Rattle.fb_detour.proofs.steps.most_by_steps.Given as goal
 
 abbrev pub invariant-loop-k : goal.invariant-loop-k

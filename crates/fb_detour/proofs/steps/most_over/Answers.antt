@@ -1,5 +1,4 @@
-use Rattle.std.proofs.Common.{arith, ap}
-use Rattle.fb_detour.specs.Bounds.{stay, late_most}
+use Rattle.fb_detour.proofs.Words.{arith, ap, stay, late_most}
 use Rattle.fb_detour.proofs.Ways.{by_weight}
 use Rattle.fb_detour.proofs.steps.most_over.Goals as goal
 

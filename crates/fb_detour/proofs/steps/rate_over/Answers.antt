@@ -1,7 +1,5 @@
-use Rattle.std.proofs.Common.{◌≡◌, ◌*◌, ◌/◌, ◌≤◌, ◌^◌, ap, arith, subst, ◌∙◌}
+use Rattle.fb_detour.proofs.Words.{◌≡◌, ◌*◌, ◌/◌, ◌≤◌, ◌^◌, ap, arith, subst, ◌∙◌, IsSound, HasOwnPlaces, Shape}
 use Rattle.std.proofs.lemmas.Grind.{div_ceil_times}
-use Rattle.fb_geometry.specs.Sound.{IsSound, HasOwnPlaces}
-use Rattle.fb_geometry.specs.Shape.{Shape}
 use Rattle.fb_detour.proofs.InTime.{some_share, within_rate}
 use Rattle.fb_detour.proofs.steps.rate_over.Goals as goal
 

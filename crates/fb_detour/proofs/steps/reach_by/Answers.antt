@@ -1,6 +1,4 @@
-use Rattle.std.proofs.Common.{◌≡◌, ◌+◌, ap, arith}
-use Rattle.fb_seek.specs.Positioning.{distance_of, seek}
-use Rattle.fb_detour.specs.Bounds.{distance_to}
+use Rattle.fb_detour.proofs.Words.{◌≡◌, ◌+◌, ap, arith, distance_of, seek, distance_to}
 use Rattle.fb_detour.proofs.Ranges.{way-there, way-on}
 use Rattle.fb_detour.proofs.steps.reach_by.Goals as goal
 

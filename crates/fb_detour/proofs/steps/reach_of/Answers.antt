@@ -1,4 +1,4 @@
-use Rattle.std.proofs.Common.{arith}
+use Rattle.fb_detour.proofs.Words.{arith}
 use Rattle.fb_detour.proofs.steps.reach_of.Goals as goal
 
 pub returns : goal.returns

@@ -1,5 +1,4 @@
-use Rattle.std.proofs.Common.{◌∙◌, sym}
-use Rattle.fb_plan.proofs.Offered.{offers-in-turn}
+use Rattle.fb_detour.proofs.Words.{◌∙◌, sym, offers-in-turn}
 use Rattle.fb_detour.proofs.stop.stop_at.Goals as goal
 
 pub returns-clause-stop : goal.returns-clause-stop
