@@ -83,27 +83,25 @@ fn try_leave(
     try_plan(search.disk, search.wanted, search.gap, sides, plan, best)
 }
 
-// Into how many parts a rotation is divided to note which leaves were tried.
+// Into how many parts two rotations are divided to note which leaves were tried.
 const NOTED: usize = 1_024;
 
-// The number of the part of a rotation in which the head leaves, counted from its arrival.
+// The number of the part of two rotations in which the head leaves, counted from its arrival: what next
+// passes from then on ends within these. So leaves share a note only if less than a part lies between them.
 fn part_of(disk: &Disk, ceilings: &Ceilings, leave: Ns) -> usize
     ensures { result < 1024 }
 {
     let rotation = disk.map.geometry().rotation();
-    let mut angle = leave.saturating_sub(ceilings.begin);
-    if angle >= rotation {
-        angle -= rotation;
-    }
-    let part = rotation / NOTED as u64 + 1;
-    (angle / part).min(NOTED as u64 - 1) as usize
+    let part = 2 * rotation / NOTED as u64 + 1;
+    let stay = leave.saturating_sub(ceilings.begin);
+    (stay / part).min(NOTED as u64 - 1) as usize
 }
 
 // No leave: it is later than all.
 const NEVER: Ns = Ns::MAX;
 
-// The best plan so far, and for each part of a rotation the leave that was tried there last. Blocks of many
-// tasks that end in one slot share a leave.
+// The best plan so far, and for each part of two rotations the leave that was tried there last. Blocks of
+// many tasks that end in one slot share a leave.
 #[derive(Clone, Copy)]
 struct Tried {
     best: Scored,
