@@ -1,5 +1,6 @@
 // The planner that passes over tracks which can't be better.
 ghost use Rattle.std.specs.Prelude.{◌≡◌, true};
+ghost use Rattle.fb_rows.specs.declared.gap.Gap.{Gap};
 ghost use Rattle.fb_rows.specs.declared.gap.Plan.{Plan};
 ghost use Rattle.fb_wanted.specs.States.{wanted_of};
 ghost use Rattle.fb_model.specs.Plans.{IsBest};
@@ -28,19 +29,17 @@ impl IndexedPlanner {
     }
 }
 
-// True only if no block is wanted. Then the direct plan that leaves at once is the best, as the first in the
-// order of ties.
-fn wants_nothing(disk: &Disk, wanted: &Wanted, gap: &Gap) -> bool
-    requires gap { IsGap disk.now gap.now }
-    ensures { result ≡ true → IsBest disk.now gap.entry.now (wanted_of wanted.now) (Plan.Direct gap.entry.now.now) }
+// True only if no block is wanted. Then the direct plan that leaves at once is the best of each gap, as the
+// first in the order of ties.
+fn wants_nothing(disk: &Disk, wanted: &Wanted) -> bool
+    ensures { result ≡ true → (gap : Gap) → IsGap disk.now gap → IsBest disk.now gap (wanted_of wanted.now) (Plan.Direct gap.now) }
 {
-    let _ = gap;
     wanted.greatest_weight_in(0, disk.map.geometry().cylinders()) == 0
 }
 
 impl Planner for IndexedPlanner {
     fn best(&self, disk: &Disk, wanted: &Wanted, gap: &Gap) -> Plan {
-        if wants_nothing(disk, wanted, gap) {
+        if wants_nothing(disk, wanted) {
             return Plan::Direct { leave: gap.now };
         }
         let late = late_parts(disk, wanted, gap);
