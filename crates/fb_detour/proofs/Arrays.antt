@@ -1,13 +1,7 @@
 -- Arrays whose parts are written one after another.
-use Rattle.fb_detour.proofs.Words.{◌≡◌, ℕ, ◌+◌, ◌*◌, ◌/◌, ◌<◌, ◌≤◌, inl, inr, take, if◌then◌else◌, List, [], ◌∷◌, true, false, ◌==◌, zero}
-use Rattle.fb_detour.proofs.Words.{suc, get_or, length, refl, arith, ap, ◌∙◌, sym, subst, nat_lt, slice_set, list_all, cases_lt, and_parts}
-use Rattle.fb_detour.proofs.Words.{eqb-true, get_or-set_same, get_or-set_other, div-add-mod', nat_tests, sum_by-cons, mod-lt, sum_of_first}
-
--- parts that are all zero
-pub zeros : (xs : List ℕ) → list_all (λ x. x == 0) xs ≡ true → (k : ℕ) → get_or xs k 0 ≡ 0
-zeros [] all k = refl
-zeros (x ∷ xs) all zero = eqb-true x 0 (and_parts (x == 0) (list_all (λ x. x == 0) xs) all).0
-zeros (x ∷ xs) all (suc k) = zeros xs (and_parts (x == 0) (list_all (λ x. x == 0) xs) all).1 k
+use Rattle.fb_detour.proofs.Words.{List, [], ap, arith, false, get_or, if◌then◌else◌, inl, inr, length, nat_lt, subst, suc, sym, take, true}
+use Rattle.fb_detour.proofs.Words.{zero, ℕ, ◌*◌, ◌+◌, ◌/◌, ◌<◌, ◌∙◌, ◌∷◌, ◌≡◌, ◌≤◌, mod-lt, cases_lt, nat_tests, get_or-set_other}
+use Rattle.fb_detour.proofs.Words.{get_or-set_same, sum_by-cons, div-add-mod', slice_set, sum_of_first}
 
 module _ (P : ℕ → ℕ → Type 0) (xs : List ℕ) (k v : ℕ) where
   -- the parts so far and one more

@@ -1,6 +1,6 @@
 -- Gaps of a disk on which nothing is wanted.
-use Rattle.fb_detour.proofs.Words.{◌≤◌, List, arith, Track, IsTrackOf, Disk, Entry, wanted_of, wanted_weight, Gap, Plan, Direct, Detour}
-use Rattle.fb_detour.proofs.Words.{value, early_dwell, late_dwell, IsPlan, IsNoLater, IsBest, IsGap}
+use Rattle.fb_detour.proofs.Words.{List, arith, ◌≤◌, Track, IsTrackOf, Disk, wanted_of, wanted_weight, Entry, Gap, Plan, Detour, Direct}
+use Rattle.fb_detour.proofs.Words.{IsBest, IsNoLater, IsPlan, early_dwell, late_dwell, value, IsGap}
 use Rattle.fb_detour.proofs.Ceilings.{two_stays, weight_of_stay}
 
 module _ (disk : Disk) (gap : Gap) (es : List Entry) (is_gap : IsGap disk gap) (bare : (track : Track) → IsTrackOf disk.map track → wanted_weight track es ≤ 0) where

@@ -1,7 +1,7 @@
 -- Sectors that have a share of their own each are no more than the shares.
-use Rattle.fb_detour.proofs.Words.{◌≡◌, ℕ, zero, suc, ◌+◌, ◌*◌, ◌<◌, ◌≤◌, ◌⊎◌, inl, inr, List, [], ◌∷◌, true, false, refl, arith, ap, sym}
-use Rattle.fb_detour.proofs.Words.{◌∙◌, if◌then◌else◌, nat_lt, ◌==◌, sum_by, AllByRecursion, cases_Bool, cases_lt, nat_tests, sum_by-cons}
-use Rattle.fb_detour.proofs.Words.{mul-le, Entry, is_in, weight_on}
+use Rattle.fb_detour.proofs.Words.{List, [], ap, arith, false, if◌then◌else◌, inl, inr, nat_lt, refl, suc, sym, true, zero, ℕ, ◌*◌, ◌+◌}
+use Rattle.fb_detour.proofs.Words.{◌<◌, ◌==◌, ◌∙◌, ◌∷◌, ◌≡◌, ◌≤◌, ◌⊎◌, cases_Bool, cases_lt, nat_tests, sum_by-cons, mul-le, AllByRecursion}
+use Rattle.fb_detour.proofs.Words.{sum_by, is_in, weight_on, Entry}
 
 -- how many of n sectors from lbn on have a share, and how many have a lesser one
 abbrev having : (ℕ → ℕ) → ℕ → ℕ → ℕ → ℕ

@@ -1,9 +1,9 @@
 -- Into which interval of the time on a track a passage goes.
-use Rattle.fb_detour.proofs.Words.{◌≡◌, ℕ, ◌+◌, ◌-◌, ◌*◌, ◌/◌, ◌<◌, ◌≤◌, if◌then◌else◌, inl, inr, arith, ap, ◌∙◌, nat_le, nat_lt, cases_lt}
-use Rattle.fb_detour.proofs.Words.{nat_tests, div-lt_iff_lt-mul, Offer, end_of, offer_gain}
+use Rattle.fb_detour.proofs.Words.{ap, arith, if◌then◌else◌, inl, inr, nat_le, nat_lt, ℕ, ◌*◌, ◌+◌, ◌-◌, ◌/◌, ◌<◌, ◌∙◌, ◌≡◌, ◌≤◌}
+use Rattle.fb_detour.proofs.Words.{div-lt_iff_lt-mul, cases_lt, nat_tests, Offer, added, end_of, passes_by, Turning}
 
 -- an instant comes by the end of the first interval that isn't over before it, and of each later one
-pub by_interval : (begin end step k : ℕ) → begin ≤ end → 0 < step
+by_interval : (begin end step k : ℕ) → begin ≤ end → 0 < step
     → nat_lt ((end - begin - 1) / step) (k + 1) ≡ nat_le end (begin + (k + 1) * step)
 by_interval begin end step k later some =
     let over = div-lt_iff_lt-mul {x = end - begin - 1} {y = k + 1} some in
@@ -16,9 +16,11 @@ by_interval begin end step k later some =
       ] in grind (arith, nat_tests)
     ]
 
--- what an offer gives up to the end of an interval
-pub gain-interval : (rotation from past step k : ℕ) (o : Offer) → past ≡ end_of rotation o.sweep from - from - 1 → 0 < step
-    → (if nat_lt (past / step) (k + 1) then o.worth else 0) ≡ offer_gain rotation from (from + (k + 1) * step) o
-gain-interval rotation from past step k o is some =
+-- what an offer adds up to the end of an interval
+pub gain-interval : (passing : Turning) (past step k : ℕ) (o : Offer)
+    → past ≡ end_of passing.rotation o.sweep passing.from - passing.from - 1 → 0 < step
+    → (if nat_lt (past / step) (k + 1) then o.worth else 0) ≡ added (passes_by passing (passing.from + (k + 1) * step)) o
+gain-interval passing past step k o is some =
     ap (λ n. if nat_lt (n / step) (k + 1) then o.worth else 0) is
-    ∙ ap (λ b. if b then o.worth else 0) (by_interval from (end_of rotation o.sweep from) step k (omega arith) some)
+    ∙ ap (λ b. if b then o.worth else 0)
+    (by_interval passing.from (end_of passing.rotation o.sweep passing.from) step k (omega arith) some)

@@ -1,6 +1,6 @@
 -- No stay catches more than what can pass in its time.
-use Rattle.fb_detour.proofs.Words.{ℕ, zero, suc, ◌-◌, ◌*◌, ◌/◌, ◌^◌, ◌<◌, ◌≤◌, ◌≡◌, List, arith, le-div, mul-le, div-mul-le_self, Track}
-use Rattle.fb_detour.proofs.Words.{slots_at, IsSound, HasOwnPlaces, Disk, Entry, depth_at, AreOnDisk, stay, early_to, slots_within}
+use Rattle.fb_detour.proofs.Words.{List, arith, suc, zero, ℕ, ◌*◌, ◌-◌, ◌/◌, ◌<◌, ◌^◌, ◌≡◌, ◌≤◌, div-mul-le_self, le-div, mul-le, Track}
+use Rattle.fb_detour.proofs.Words.{slots_at, HasOwnPlaces, IsSound, Disk, depth_at, Entry, AreOnDisk, early_to, slots_within, stay}
 use Rattle.fb_detour.proofs.Packing.{packing}
 
 pub some_share : (rotation slots : ℕ) → 0 < slots → slots ≤ rotation → 0 < rotation / slots

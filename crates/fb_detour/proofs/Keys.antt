@@ -1,68 +1,75 @@
 -- Numbers that stand for the parts of a range of cylinders, each with an upper bound on its detours.
-use Rattle.fb_detour.proofs.Words.{◌≡◌, ℕ, ◌+◌, ◌-◌, ◌*◌, ◌/◌, ◌%◌, ◌<◌, ◌≤◌, inl, inr, min, List, get_or, arith, ap, subst, sym, ◌∙◌}
-use Rattle.fb_detour.proofs.Words.{cases_lt, cases_order, div-add-mod', mod-lt, Disk, Block, Gap, Plan, Scored, Beats, IsScored, BeatsRange}
-use Rattle.fb_detour.proofs.Words.{IsCeiling, IsKey}
-use Rattle.fb_detour.proofs.Ranges.{range-kept}
+use Rattle.fb_detour.proofs.Words.{List, ap, arith, get_or, inl, inr, min, subst, sym, ℕ, ◌%◌, ◌*◌, ◌+◌, ◌-◌, ◌/◌, ◌<◌, ◌≡◌, ◌≤◌, mod-lt}
+use Rattle.fb_detour.proofs.Words.{cases_lt, cases_order, div-add-mod', Plan, Scored, BeatsTracks, IsCeiling, IsFound, IsKey, IsNoWorse}
+use Rattle.fb_detour.proofs.Words.{Search}
 use Rattle.fb_detour.proofs.Limits.{steps_below}
+use Rattle.fb_detour.proofs.Ranges.{range-kept}
 
-module _ (disk : Disk) (gap : Gap) (wanted : List Block) (from end width : ℕ) where
+-- the number is one of them
+abbrev pub IsAmong : List ℕ → ℕ → Type 0
+IsAmong keys key = (i : ℕ) × (i < 8) × (get_or keys i 0 ≡ key)
+
+module _ (search : Search) (from end width : ℕ) where
+  -- where the part of an index ends
+  abbrev pub end_of_part : ℕ → ℕ
+  end_of_part j = min end (from + j * width + width)
+
+  -- the best so far is at least as good as each detour over the part
+  abbrev pub BeatsPart : Plan → ℕ → Type 0
+  BeatsPart best j = BeatsTracks search best (from + j * width) (end_of_part j)
+
   -- the number of a part with this bound
-  pub key-of : (j most upto : ℕ) → j < 8 → most ≤ 2 * (16000000 * 2048000) → upto ≡ min end (from + j * width + width) → IsCeiling disk gap wanted (from + j * width) upto most
-      → IsKey disk gap wanted from end width j (most * 8 + (8 - j))
+  pub key-of : (j most upto : ℕ) → j < 8 → most ≤ 2 * (16000000 * 2048000) → upto ≡ end_of_part j
+      → IsCeiling search (from + j * width) upto most → IsKey search from end width j (most * 8 + (8 - j))
   key-of j most upto less light at ceiling =
-      let rest : (most * 8 + (8 - j) - 1) % 8 ≡ 7 - j = omega (arith, less) in
-      let bound : most ≡ (most * 8 + (8 - j) - 1) / 8 = omega (arith, less) in
-      record {
+      let bound : most ≡ (most * 8 + (8 - j) - 1) / 8 = omega (arith, less) in record {
         some = omega (arith, less);
         small = omega (arith, light);
-        part = rest;
-        ceiling = subst (λ m. IsCeiling disk gap wanted (from + j * width) (min end (from + j * width + width)) m) bound
-            (subst (λ u. IsCeiling disk gap wanted (from + j * width) u most) at ceiling);
+        part = omega (arith, less);
+        ceiling = subst (IsCeiling search (from + j * width) (end_of_part j)) bound
+            (subst (λ u. IsCeiling search (from + j * width) u most) at ceiling);
       }
 
   -- each part whose number is above this one is beaten
   abbrev pub AreDone : List ℕ → Plan → ℕ → Type 0
-  AreDone keys best key = (j : ℕ) → j < 8 → key < get_or keys j 0 → BeatsRange disk gap wanted best (from + j * width) (min end (from + j * width + width))
+  AreDone keys best key = (j : ℕ) → j < 8 → key < get_or keys j 0 → BeatsPart best j
 
-  module _ (keys : List ℕ) (are : (j : ℕ) → j < 8 → IsKey disk gap wanted from end width j (get_or keys j 0)) where
+  module _ (keys : List ℕ) (are : (j : ℕ) → j < 8 → IsKey search from end width j (get_or keys j 0)) where
     -- the part of a number
-    pub part-of : (i key : ℕ) → i < 8 → get_or keys i 0 ≡ key → i ≡ 7 - (key - 1) % 8
+    part-of : (i key : ℕ) → i < 8 → get_or keys i 0 ≡ key → i ≡ 7 - (key - 1) % 8
     part-of i key less is = omega (arith, less, (are i less).part, ap (λ k. (k - 1) % 8) is)
 
-    -- its bound, and what is beaten, from the number alone
-    pub its-ceiling : (i key upto : ℕ) → i < 8 → get_or keys i 0 ≡ key → upto ≡ min end (from + (7 - (key - 1) % 8) * width + width)
-        → IsCeiling disk gap wanted (from + (7 - (key - 1) % 8) * width) upto ((key - 1) / 8)
-    its-ceiling i key upto less is at =
-        subst (λ u. IsCeiling disk gap wanted (from + (7 - (key - 1) % 8) * width) u ((key - 1) / 8)) (sym at)
-        (subst (λ n. IsCeiling disk gap wanted (from + n * width) (min end (from + n * width + width)) ((key - 1) / 8)) (part-of i key less is)
-        (subst (λ k. IsCeiling disk gap wanted (from + i * width) (min end (from + i * width + width)) ((k - 1) / 8)) is (are i less).ceiling))
-
-    pub its-part : (best : Plan) (i key upto : ℕ) → i < 8 → get_or keys i 0 ≡ key → upto ≡ min end (from + (7 - (key - 1) % 8) * width + width)
-        → BeatsRange disk gap wanted best (from + (7 - (key - 1) % 8) * width) upto → BeatsRange disk gap wanted best (from + i * width) (min end (from + i * width + width))
-    its-part best i key upto less is at beaten =
-        subst (λ n. BeatsRange disk gap wanted best (from + n * width) (min end (from + n * width + width))) (sym (part-of i key less is))
-        (subst (λ u. BeatsRange disk gap wanted best (from + (7 - (key - 1) % 8) * width) u) at beaten)
+    -- its bound, from the number alone
+    pub its-ceiling : (key upto : ℕ) → IsAmong keys key → upto ≡ end_of_part (7 - (key - 1) % 8)
+        → IsCeiling search (from + (7 - (key - 1) % 8) * width) upto ((key - 1) / 8)
+    its-ceiling key upto its at =
+        let bounded : ℕ → ℕ → Type 0 = λ j most. IsCeiling search (from + j * width) (end_of_part j) most in
+        subst (λ u. IsCeiling search (from + (7 - (key - 1) % 8) * width) u ((key - 1) / 8)) (sym at)
+        (subst (λ j. bounded j ((key - 1) / 8)) (part-of its.0 key its.1 its.2)
+        (subst (λ k. bounded its.0 ((k - 1) / 8)) its.2 (are its.0 its.1).ceiling))
 
     -- a part more, and the numbers down to the next one
-    pub part-more : (best old : Plan) (i key next : ℕ) → i < 8 → get_or keys i 0 ≡ key → ((j : ℕ) → j < 8 → get_or keys j 0 < key → get_or keys j 0 ≤ next)
-        → Beats disk gap wanted best old → AreDone keys old key → BeatsRange disk gap wanted best (from + i * width) (min end (from + i * width + width)) → AreDone keys best next
-    part-more best old i key next less is greatest keeps done this j small above = elim (cases_order key (get_or keys j 0)) [
-      | inl same ↦
-          let one : i ≡ j = part-of i key less is ∙ sym (part-of j key small (sym same)) in
-          subst (λ k. BeatsRange disk gap wanted best (from + k * width) (min end (from + k * width + width))) one this
-      | inr (inl greater) ↦ range-kept disk gap wanted best old (from + j * width) (min end (from + j * width + width)) keeps (done j small greater)
+    pub part-more : (best old : Plan) (key next upto : ℕ) → IsAmong keys key → upto ≡ end_of_part (7 - (key - 1) % 8)
+        → ((j : ℕ) → j < 8 → get_or keys j 0 < key → get_or keys j 0 ≤ next) → IsNoWorse search best old → AreDone keys old key
+        → BeatsTracks search best (from + (7 - (key - 1) % 8) * width) upto → AreDone keys best next
+    part-more best old key next upto its at greatest keeps done this j small above = elim (cases_order key (get_or keys j 0)) [
+      | inl same ↦ subst (BeatsPart best) (sym (part-of j key small (sym same)))
+          (subst (BeatsTracks search best (from + (7 - (key - 1) % 8) * width)) at this)
+      | inr (inl greater) ↦ range-kept search best old (from + j * width) (end_of_part j) keeps (done j small greater)
       | inr (inr lesser) ↦ absurd (omega (arith, greatest j small lesser, above))
     ]
 
     -- the parts whose bounds are less than the best so far, and with them all
-    pub parts-beaten : (best : Scored) (key : ℕ) → IsScored disk gap wanted best → AreDone keys best.plan key → (key - 1) / 8 < best.value → AreDone keys best.plan 0
+    pub parts-beaten : (best : Scored) (key : ℕ) → IsFound search best → AreDone keys best.plan key → (key - 1) / 8 < best.value
+        → AreDone keys best.plan 0
     parts-beaten best key scored done less j small some = elim (cases_lt key (get_or keys j 0)) [
       | inl above ↦ done j small above
-      | inr below ↦ λ track low high leave is. inl (omega (arith, scored.score, (are j small).ceiling track leave low high is, below, less))
+      | inr below ↦ λ track low high leave is.
+          inl (omega (arith, scored.score, (are j small).ceiling track leave low high is, below, less))
     ]
 
     -- all parts
-    pub parts-done : (best : Plan) → 0 < width → end ≤ from + 8 * width → AreDone keys best 0 → BeatsRange disk gap wanted best from end
+    pub parts-done : (best : Plan) → 0 < width → end ≤ from + 8 * width → AreDone keys best 0 → BeatsTracks search best from end
     parts-done best some whole done track low high =
         let j = (track.cylinder - from) / width in
         let less : j < 8 = steps_below (track.cylinder - from) width 8 (omega (arith, low, high, whole)) in

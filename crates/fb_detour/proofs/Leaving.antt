@@ -1,10 +1,10 @@
 -- No plan of a way is worth more than its ceiling.
-use Rattle.fb_detour.proofs.Words.{◌≡◌, ℕ, ◌+◌, ◌-◌, ◌*◌, ◌/◌, ◌<◌, ◌≤◌, min, inl, inr, List, get_or, refl, arith, cases_lt, div-add-mod'}
-use Rattle.fb_detour.proofs.Words.{mod-lt, mul-le-mul_right, Disk, Entry, wanted_of, Gap, value, early_dwell, late_dwell, IsPlan, Way}
-use Rattle.fb_detour.proofs.Words.{plan_by, early_track, arrival, move_on, bounds, LateParts, stay, early_to, late_most, IsLate, part_at}
-use Rattle.fb_plan.specs.declared.way.Way.TheVariants.{Source, Over}
+use Rattle.fb_detour.proofs.Words.{List, arith, get_or, inl, inr, min, refl, ℕ, ◌*◌, ◌+◌, ◌-◌, ◌/◌, ◌<◌, ◌≡◌, ◌≤◌, mod-lt, mul-le-mul_right}
+use Rattle.fb_detour.proofs.Words.{cases_lt, div-add-mod', Disk, Entry, Gap, IsPlan, early_dwell, late_dwell, bounds, arrival, early_track}
+use Rattle.fb_detour.proofs.Words.{move_on, plan_by, Over, Source, IsLate, early_to, late_most, part_at, value_in, stay, Search, LateParts}
+use Rattle.fb_plan.specs.declared.way.Way.{Way}
 use Rattle.fb_detour.proofs.Arrays.{over_all}
-use Rattle.fb_detour.proofs.Ceilings.{two_stays, longer_stay}
+use Rattle.fb_detour.proofs.Ceilings.{longer_stay, two_stays}
 use Rattle.fb_detour.proofs.Ways.{late-part}
 
 -- the interval in which the head leaves ends no sooner
@@ -21,28 +21,53 @@ in_interval n past le =
       | inr more ↦ absurd (let most = mul-le-mul_right step more in omega (arith, whole, over, le, most))
     ]
 
-module _ (disk : Disk) (gap : Gap) (es : List Entry) where
-  early_stay : (way : Way) (leave begin upto : ℕ) → begin ≡ arrival disk gap way → leave ≤ upto → stay disk (early_dwell disk gap (plan_by way leave)) es ≤ stay disk (early_to (early_track gap way) begin upto) es
-  early_stay Source leave begin upto b le = longer_stay disk (early_dwell disk gap (plan_by Source leave)) (early_to gap.source begin upto) es disk.some_rotation refl (omega (arith, b)) le
-  early_stay (Over track) leave begin upto b le = longer_stay disk (early_dwell disk gap (plan_by (Over track) leave)) (early_to track begin upto) es disk.some_rotation refl (omega (arith, b)) le
+module _ (search : Search) where
+  abbrev disk : Disk
+  disk = search.disk.now
 
-  late_stay : (way : Way) (leave on : ℕ) → on ≡ move_on disk gap way → stay disk (late_dwell disk gap (plan_by way leave)) es ≤ stay disk (late_most gap (leave + on)) es
-  late_stay Source leave on o = longer_stay disk (late_dwell disk gap (plan_by Source leave)) (late_most gap (leave + on)) es disk.some_rotation refl (omega (arith, o)) (omega arith)
-  late_stay (Over track) leave on o = longer_stay disk (late_dwell disk gap (plan_by (Over track) leave)) (late_most gap (leave + on)) es disk.some_rotation refl (omega (arith, o)) (omega arith)
+  abbrev gap : Gap
+  gap = search.gap.now
+
+  abbrev entries : List Entry
+  entries = search.wanted.now
+
+  early_stay : (way : Way) (leave begin upto : ℕ) → begin ≡ arrival disk gap way → leave ≤ upto
+      → stay disk (early_dwell disk gap (plan_by way leave)) entries ≤ stay disk (early_to (early_track gap way) begin upto) entries
+  early_stay Source leave begin upto b le = longer_stay disk (early_dwell disk gap (plan_by Source leave))
+      (early_to gap.source begin upto) entries disk.some_rotation refl (omega (arith, b)) le
+  early_stay (Over track) leave begin upto b le = longer_stay disk (early_dwell disk gap (plan_by (Over track) leave))
+      (early_to track begin upto) entries disk.some_rotation refl (omega (arith, b)) le
+
+  late_stay : (way : Way) (leave on : ℕ) → on ≡ move_on disk gap way
+      → stay disk (late_dwell disk gap (plan_by way leave)) entries ≤ stay disk (late_most gap (leave + on)) entries
+  late_stay Source leave on o = longer_stay disk (late_dwell disk gap (plan_by Source leave)) (late_most gap (leave + on)) entries
+      disk.some_rotation refl (omega (arith, o)) (omega arith)
+  late_stay (Over track) leave on o = longer_stay disk (late_dwell disk gap (plan_by (Over track) leave)) (late_most gap (leave + on))
+      entries disk.some_rotation refl (omega (arith, o)) (omega arith)
 
   pub from_now : (way : Way) → gap.now ≤ arrival disk gap way
   from_now Source = omega arith
   from_now (Over track) = omega arith
 
-  pub below_ceiling : (way : Way) (late : LateParts) (parts : List ℕ) (begin on leave : ℕ) → IsLate disk gap es late → begin ≡ arrival disk gap way → on ≡ move_on disk gap way
-      → ((k : ℕ) → k < 16 → get_or parts k 0 ≡ stay disk (early_to (early_track gap way) begin (begin + (k + 1) * ((gap.deadline - on - begin) / 16 + 1))) es)
-      → IsPlan disk gap (plan_by way leave)
-      → value disk gap (wanted_of es) (plan_by way leave) ≤ get_or parts (min ((leave - begin) / ((gap.deadline - on - begin) / 16 + 1)) 15) 0 + part_at late (leave + on)
+  pub below_ceiling : (way : Way) (late : LateParts) (parts : List ℕ) (begin on leave : ℕ) → IsLate disk gap entries late
+      → begin ≡ arrival disk gap way → on ≡ move_on disk gap way
+      → ((k : ℕ) → k < 16 → get_or parts k 0
+      ≡ stay disk (early_to (early_track gap way) begin (begin + (k + 1) * ((gap.deadline - on - begin) / 16 + 1))) entries)
+      → IsPlan disk gap (plan_by way leave) → value_in search (plan_by way leave)
+      ≤ get_or parts (min ((leave - begin) / ((gap.deadline - on - begin) / 16 + 1)) 15) 0 + part_at late (leave + on)
   below_ceiling way late parts begin on leave is-late b o each is =
       let n = gap.deadline - on - begin in
       let step = n / 16 + 1 in
       let k = min ((leave - begin) / step) 15 in
       let within = bounds disk gap way leave is in
-      let upto : leave ≤ begin + (k + 1) * step = omega (arith, in_interval n (leave - begin) (omega (arith, within.0, within.1, b, o)), within.0, b) in
-      let target = late-part disk gap es late (leave + on) is-late (omega (arith, from_now way, within.0)) in
-      omega (arith, two_stays disk gap (plan_by way leave) es, early_stay way leave begin (begin + (k + 1) * step) b upto, late_stay way leave on o, each k (omega arith), target)
+      let near = in_interval n (leave - begin) (omega (arith, within.0, within.1, b, o)) in
+      let upto : leave ≤ begin + (k + 1) * step = omega (arith, near, within.0, b) in
+      let target = late-part search late (leave + on) is-late (omega (arith, from_now way, within.0)) in
+      omega (
+        arith,
+        two_stays disk gap (plan_by way leave) entries,
+        early_stay way leave begin (begin + (k + 1) * step) b upto,
+        late_stay way leave on o,
+        each k (omega arith),
+        target,
+      )

@@ -1,5 +1,6 @@
 pub mod Words
 pub mod Ceilings
+pub mod Found
 pub mod Ways
 pub mod Ranges
 pub mod Arrays

@@ -1,7 +1,11 @@
 -- Limits: from each of them on the target gives no more than the part that it belongs to.
-use Rattle.fb_detour.proofs.Words.{◌≡◌, ℕ, zero, suc, ◌+◌, ◌-◌, ◌*◌, ◌/◌, ◌<◌, ◌≤◌, inl, inr, List, false, get_or, length, arith, ap, subst}
-use Rattle.fb_detour.proofs.Words.{if◌then◌else◌, nat_le, slice_set, cases_lt, cases_order, nat_tests, get_or-set_same, get_or-set_other}
-use Rattle.fb_detour.proofs.Words.{div-add-mod', mul-le, div-mul-le_self, mod-lt, Offer, end_of, offer_gain}
+use Rattle.fb_detour.proofs.Words.{List, ap, arith, false, get_or, if◌then◌else◌, inl, inr, length, nat_le, subst, suc, zero, ℕ, ◌*◌, ◌+◌}
+use Rattle.fb_detour.proofs.Words.{◌-◌, ◌/◌, ◌<◌, ◌≡◌, ◌≤◌, div-mul-le_self, mod-lt, cases_lt, cases_order, nat_tests, get_or-set_other}
+use Rattle.fb_detour.proofs.Words.{get_or-set_same, div-add-mod', mul-le, slice_set, Offer, Gap, end_of, Turning, late_gain}
+
+-- fewer times a number is no more
+pub fewer_times : (k n m : ℕ) → k < n → k * m ≤ n * m
+fewer_times k n m less = mul-le k m n m (omega arith) (omega arith)
 
 -- the quotient of a number below so many steps is less than that
 pub steps_below : (n step m : ℕ) → n < m * step → n / step < m
@@ -14,14 +18,15 @@ steps_below n step m less = elim (cases_lt (n / step) m) [
 module _ (xs : List ℕ) (i v : ℕ) (within : i < length xs) (more : get_or xs i 0 ≤ v) where
   pub raised : (k : ℕ) → get_or xs k 0 ≤ get_or (slice_set xs i v) k 0
   raised k = elim (cases_order i k) [
-    | inl same ↦ subst (λ j. get_or xs j 0 ≤ get_or (slice_set xs i v) j 0) same (omega (arith, get_or-set_same xs i v 0 within, more))
+    | inl same ↦
+        subst (λ j. get_or xs j 0 ≤ get_or (slice_set xs i v) j 0) same (omega (arith, get_or-set_same xs i v 0 within, more))
     | inr (inl less) ↦ omega (arith, get_or-set_other xs i k v 0 (λ e. absurd (omega (arith, less, e))))
     | inr (inr over) ↦ omega (arith, get_or-set_other xs i k v 0 (λ e. absurd (omega (arith, over, e))))
   ]
 
   -- a number lies before each limit that is behind its part
-  pub raised-behind : (last begin step k : ℕ) → begin ≤ last → 0 < step → i ≡ (last - begin) / step + 1 → last < v → begin + (k - 1) * step ≤ get_or xs k 0 → last < begin + k * step
-      → last < get_or (slice_set xs i v) k 0
+  pub raised-behind : (last begin step k : ℕ) → begin ≤ last → 0 < step → i ≡ (last - begin) / step + 1 → last < v
+      → begin + (k - 1) * step ≤ get_or xs k 0 → last < begin + k * step → last < get_or (slice_set xs i v) k 0
   raised-behind last begin step k order some at less spread part = elim (cases_order i k) [
     | inl same ↦ subst (λ j. last < get_or (slice_set xs i v) j 0) same (omega (arith, get_or-set_same xs i v 0 within, less))
     | inr (inl later) ↦
@@ -30,7 +35,9 @@ module _ (xs : List ℕ) (i v : ℕ) (within : i < length xs) (more : get_or xs 
         let far = mul-le i step (k - 1) step (omega (arith, later)) (omega arith) in
         let near : i * step ≡ (last - begin) / step * step + step = rw at (omega arith) in
         omega (arith, get_or-set_other xs i k v 0 (λ e. absurd (omega (arith, later, e))), whole, rest, far, near, spread)
-    | inr (inr sooner) ↦ absurd (omega (arith, mul-le k step ((last - begin) / step) step (omega (arith, sooner, at)) (omega arith), div-mul-le_self (last - begin) step, order, part))
+    | inr (inr sooner) ↦
+        let far = mul-le k step ((last - begin) / step) step (omega (arith, sooner, at)) (omega arith) in
+        absurd (omega (arith, far, div-mul-le_self (last - begin) step, order, part))
   ]
 
 -- the first limits
@@ -38,20 +45,16 @@ pub first_limit : (xs : List ℕ) (begin step : ℕ) → get_or xs 0 0 ≡ begin
 first_limit xs begin step first zero less = omega (arith, first)
 first_limit xs begin step first (suc j) less = absurd (omega (arith, less))
 
-module _ (rotation now deadline : ℕ) (offer : Offer) where
-  -- what ends too late adds nothing
-  too_late : (from : ℕ) → deadline < end_of rotation offer.sweep from → offer_gain rotation from deadline offer ≡ 0
-  too_late from late =
-      let missed : nat_le (end_of rotation offer.sweep from) deadline ≡ false = grind (arith, nat_tests) in
+-- what is behind the last instant at which an offer can be caught adds nothing
+pub behind_last : (passing : Turning) (gap : Gap) (offer : Offer) (last from : ℕ)
+    → ((t : ℕ) → gap.now ≤ t → end_of passing.rotation offer.sweep t ≤ gap.deadline → t ≤ last) → gap.now ≤ from → last < from
+    → late_gain passing gap from offer ≡ 0
+behind_last passing gap offer last from catches after behind = elim (cases_lt gap.deadline (end_of passing.rotation offer.sweep from)) [
+  | inl late ↦
+      let missed : nat_le (end_of passing.rotation offer.sweep from) gap.deadline ≡ false = grind (arith, nat_tests) in
       ap (λ b. if b then offer.worth else 0) missed
-
-  -- nor does what is behind the last instant at which it can be caught
-  pub behind_last : (last from : ℕ) → ((t : ℕ) → now ≤ t → end_of rotation offer.sweep t ≤ deadline → t ≤ last) → now ≤ from → last < from
-      → offer_gain rotation from deadline offer ≡ 0
-  behind_last last from catches after behind = elim (cases_lt deadline (end_of rotation offer.sweep from)) [
-    | inl late ↦ too_late from late
-    | inr caught ↦ absurd (omega (arith, catches from after caught, behind))
-  ]
+  | inr caught ↦ absurd (omega (arith, catches from after caught, behind))
+]
 
 -- thirty-two steps of a bit more than a thirty-second go over the whole
 pub beyond_all : (n : ℕ) → n < 32 * (n / 32 + 1)

@@ -1,25 +1,25 @@
 -- Offers whose passage ends too late for a stay.
-use Rattle.fb_detour.proofs.Words.{◌≡◌, ℕ, ◌+◌, ◌-◌, ◌<◌, ◌≤◌, take, List, [], ◌∷◌, get_or, length, arith, sum_by, nat_tests, sum_by-cons}
-use Rattle.fb_detour.proofs.Words.{sum_by_more, Offer, Stop, offer_gain, offered, missed, IsReady}
-use Rattle.fb_detour.proofs.Offers.{take-le}
+use Rattle.fb_detour.proofs.Words.{arith, get_or, inl, inr, length, take, ℕ, ◌+◌, ◌-◌, ◌<◌, ◌≡◌, ◌≤◌, cases_Bool, sum_by-le-sum_by}
+use Rattle.fb_detour.proofs.Words.{sum_by-take-le, sum_by_more, sum_by, Offer, added, passes_by, Turning, IsReady, missed, offered, Stop}
+use Rattle.fb_detour.proofs.Ceilings.{sum-of-both}
 
-sums-two : (f g h : Offer → ℕ) → ((o : Offer) → f o + g o ≡ h o) → (os : List Offer) → sum_by f os + sum_by g os ≡ sum_by h os
-sums-two f g h same [] = omega arith
-sums-two f g h same (o ∷ os) = omega (arith, sum_by-cons f o os, sum_by-cons g o os, sum_by-cons h o os, same o, sums-two f g h same os)
-
-either : (rotation from upto : ℕ) (o : Offer) → offer_gain rotation from upto o + missed rotation from upto o ≡ o.worth
-either rotation from upto o = grind (arith, nat_tests)
+either : (passing : Turning) (upto : ℕ) (o : Offer) → added (passes_by passing upto) o + missed passing upto o ≤ o.worth
+either passing upto o = elim (cases_Bool (passes_by passing upto o.sweep)) [
+  | inl by ↦ rw by (omega arith)
+  | inr late ↦ rw late (omega arith)
+]
 
 module _ (stop : Stop) (upto : ℕ) (ready : IsReady stop) where
   abbrev misses : Offer → ℕ
-  misses = missed stop.passing.rotation stop.passing.from upto
+  misses = missed stop.passing upto
 
   -- what is left of a stop's weight when the offers so far that come too late are taken off
   pub missed-so-far : (n : ℕ) → offered stop upto + sum_by misses (take n stop.offers.now) ≤ stop.weight
   missed-so-far n =
-      let gain = offer_gain stop.passing.rotation stop.passing.from upto in
-      let all = sums-two gain misses (λ (o : Offer). o.worth) (either stop.passing.rotation stop.passing.from upto) stop.offers.now in
-      omega (arith, all, take-le misses n stop.offers.now, ready.weight)
+      let gain = added (passes_by stop.passing upto) in
+      let offers = stop.offers.now in
+      let both = sum_by-le-sum_by (λ (o : Offer). gain o + misses o) (λ o. o.worth) offers (either stop.passing upto) in
+      omega (arith, both, sum-of-both gain misses offers, sum_by-take-le misses offers n, ready.weight)
 
   -- one offer more
   pub missed-more : (i most less : ℕ) (d : Offer) → i < length stop.offers.now → less ≡ misses (get_or stop.offers.now i d)

@@ -1,12 +1,12 @@
 -- What a track offers is what its wanted blocks can give.
-use Rattle.fb_detour.proofs.Words.{◌≡◌, ℕ, zero, suc, ◌+◌, ◌<◌, ◌≤◌, inl, inr, take, List, [], ◌∷◌, Bool, true, false, Some, slice_get}
-use Rattle.fb_detour.proofs.Words.{get_or, length, refl, arith, ap, ◌∙◌, if◌then◌else◌, nat_le, sum_by, AllByRecursion, cases_Bool}
-use Rattle.fb_detour.proofs.Words.{cases_lt, nat_tests, sum_by-cons, sum_by_more, take_all, same_track, Disk, Block, Entry, Offer}
-use Rattle.fb_detour.proofs.Words.{is_wanted, on_track, wanted_of, Dwell, FitsDisk, end_of, next-le, Stop, offer_gain, stay, stay_gain}
-use Rattle.fb_detour.proofs.Words.{IsReady, IsStop}
+use Rattle.fb_detour.proofs.Words.{Bool, List, Some, [], ap, arith, false, get_or, if◌then◌else◌, inl, inr, length, nat_le, refl, slice_get}
+use Rattle.fb_detour.proofs.Words.{suc, take, true, ℕ, ◌*◌, ◌+◌, ◌<◌, ◌∙◌, ◌∷◌, ◌≡◌, ◌≤◌, cases_Bool, cases_lt, nat_tests, take_all}
+use Rattle.fb_detour.proofs.Words.{sum_by-cons, sum_by-le-sum_by, sum_by-take-le, sum_by_more, AllByRecursion, sum_by, same_track, Sweep}
+use Rattle.fb_detour.proofs.Words.{Disk, is_wanted, on_track, wanted_of, Block, Entry, Offer, Dwell, Gap, next-le, added, end_of, passes_by}
+use Rattle.fb_detour.proofs.Words.{FitsDisk, Turning, IsReady, IsStop, late_gain, stay_gain, turned_to, stay, Stop}
 use Rattle.fb_plan.proofs.Gains.{in_filter}
 use Rattle.fb_plan.proofs.Swept.{end-by-sweep}
-use Rattle.fb_detour.proofs.Ceilings.{worth, sums-le}
+use Rattle.fb_detour.proofs.Ceilings.{if-le-n, worth}
 
 pub all_of : (P : Entry → Type 0) (es : List Entry) → ((k : ℕ) (e : Entry) → slice_get es k ≡ Some e → P e) → AllByRecursion P es
 all_of P [] each = tt
@@ -41,13 +41,13 @@ module _ (disk : Disk) (dwell : Dwell) where
 
   -- a stop's offers give to a stay what it catches of the track's blocks
   pub gives : (es : List Entry) (stop : Stop) → IsStop disk (on_track dwell.track es) stop
-      → sum_by (offer_gain stop.passing.rotation dwell.begin dwell.end) stop.offers.now ≡ stay disk dwell es
+      → sum_by (added (passes_by (turned_to stop.passing dwell.begin) dwell.end)) stop.offers.now ≡ stay disk dwell es
   unfolding stay
   gives es stop is =
       let its = on_track dwell.track es in
       let all = all_of (λ e. stay_gain disk dwell e ≡ (if is_wanted e.state then by_sweep e.block else 0)) its
       (λ k e at. on_its_track e (is.on_disk k e at) (in_filter (λ x. same_track dwell.track x.block.track) es k e at).2) in
-      ap (λ r. sum_by (offer_gain r dwell.begin dwell.end) stop.offers.now) is.passing.rotation
+      ap (λ r. sum_by (added (λ sweep. nat_le (end_of r sweep dwell.begin) dwell.end)) stop.offers.now) is.passing.rotation
       ∙ (is.its (λ sweep n. if nat_le (end_of disk.map.rotation sweep dwell.begin) dwell.end then n else 0)
       ∙ over_entries by_sweep (stay_gain disk dwell) its all)
 
@@ -73,44 +73,31 @@ module _ (f : Offer → ℕ) (offers : List Offer) (i : ℕ) (d : Offer) (within
 pub all-of : (f : Offer → ℕ) (offers : List Offer) (i : ℕ) → length offers ≤ i → sum_by f (take i offers) ≡ sum_by f offers
 all-of f offers i over = ap (sum_by f) (take_all i offers over)
 
--- some parts of a sum are no more than all
-pub take-le : {A : Type 0} (f : A → ℕ) (n : ℕ) (xs : List A) → sum_by f (take n xs) ≤ sum_by f xs
-take-le f zero xs = omega arith
-take-le f (suc n) [] = omega arith
-take-le f (suc n) (x ∷ xs) = omega (arith, sum_by-cons f x (take n xs), sum_by-cons f x xs, take-le f n xs)
+-- an offer adds no more than it is worth
+pub added-worth : (passes : Sweep → Bool) (o : Offer) → added passes o ≤ o.worth
+added-worth passes o = if-le-n (passes o.sweep) o.worth
 
-pub if-le-n : (b : Bool) (n : ℕ) → (if b then n else 0) ≤ n
-if-le-n true n = omega arith
-if-le-n false n = omega arith
+-- so what some of a stop's offers add is small
+pub small-sum : (stop : Stop) (f : Offer → ℕ) (n : ℕ) → ((o : Offer) → f o ≤ o.worth) → IsReady stop
+    → sum_by f (take n stop.offers.now) ≤ 16000000 * 2048000
+small-sum stop f n less ready =
+    let all = sum_by-le-sum_by f (λ (o : Offer). o.worth) stop.offers.now less in
+    omega (arith, sum_by-take-le f stop.offers.now n, all, ready.weight, ready.small)
 
-pub offer-worth : (rotation from upto : ℕ) (o : Offer) → offer_gain rotation from upto o ≤ o.worth
-offer-worth rotation from upto o = if-le-n (nat_le (end_of rotation o.sweep from) upto) o.worth
-
--- no stay is given more than the stop's weight
-pub within-weight : (stop : Stop) (from upto n : ℕ) → IsReady stop
-    → sum_by (offer_gain stop.passing.rotation from upto) (take n stop.offers.now) ≤ stop.weight
-within-weight stop from upto n ready =
-    let gain = offer_gain stop.passing.rotation from upto in
-    omega (
-      arith,
-      take-le gain n stop.offers.now,
-      sums-le gain (λ (o : Offer). o.worth) (offer-worth stop.passing.rotation from upto) stop.offers.now,
-      ready.weight,
-    )
-
--- of later stays each is given no more
-pub falls : (rotation upto soon late : ℕ) (o : Offer) → 0 < rotation → soon ≤ late
-    → offer_gain rotation late upto o ≤ offer_gain rotation soon upto o
-falls rotation upto soon late o some le =
-    let ends = next-le rotation o.sweep.begin soon late some le in
-    elim (cases_lt upto (end_of rotation o.sweep late)) [
-      | inl behind ↦ let none : nat_le (end_of rotation o.sweep late) upto ≡ false = grind (arith, nat_tests) in rw none (omega arith)
+-- to a later stay each adds no more
+falls : (passing : Turning) (gap : Gap) (soon late : ℕ) (o : Offer) → 0 < passing.rotation → soon ≤ late
+    → late_gain passing gap late o ≤ late_gain passing gap soon o
+falls passing gap soon late o some le =
+    let ends = next-le passing.rotation o.sweep.begin soon late some le in
+    elim (cases_lt gap.deadline (end_of passing.rotation o.sweep late)) [
+      | inl behind ↦
+          let none : nat_le (end_of passing.rotation o.sweep late) gap.deadline ≡ false = grind (arith, nat_tests) in rw none (omega arith)
       | inr by ↦
-          let early : nat_le (end_of rotation o.sweep soon) upto ≡ true = grind (arith, nat_tests) in
-          rw early (offer-worth rotation late upto o)
+          let early : nat_le (end_of passing.rotation o.sweep soon) gap.deadline ≡ true = grind (arith, nat_tests) in
+          rw early (added-worth (passes_by (turned_to passing late) gap.deadline) o)
     ]
 
-pub sums-fall : (rotation upto soon late : ℕ) (offers : List Offer) → 0 < rotation → soon ≤ late
-    → sum_by (offer_gain rotation late upto) offers ≤ sum_by (offer_gain rotation soon upto) offers
-sums-fall rotation upto soon late offers some le =
-    sums-le (offer_gain rotation late upto) (offer_gain rotation soon upto) (λ o. falls rotation upto soon late o some le) offers
+pub sums-fall : (passing : Turning) (gap : Gap) (soon late : ℕ) (offers : List Offer) → 0 < passing.rotation → soon ≤ late
+    → sum_by (late_gain passing gap late) offers ≤ sum_by (late_gain passing gap soon) offers
+sums-fall passing gap soon late offers some le =
+    sum_by-le-sum_by (late_gain passing gap late) (late_gain passing gap soon) offers (λ o. falls passing gap soon late o some le)

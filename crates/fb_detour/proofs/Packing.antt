@@ -1,15 +1,15 @@
 -- A stay catches no more than the sectors that can pass while it lasts.
-use Rattle.fb_detour.proofs.Words.{◌≡◌, ℕ, zero, suc, ◌+◌, ◌-◌, ◌*◌, ◌/◌, ◌<◌, ◌≤◌, inl, inr, List, true, ◌&&◌, Some, length, arith, ap}
-use Rattle.fb_detour.proofs.Words.{sym, subst, ◌∙◌, if◌then◌else◌, nat_le, cases_Bool, and_parts, leb-true, slice_get-get_or, le-div}
-use Rattle.fb_detour.proofs.Words.{div-mul-le_self, Place, Track, same_track, Shape, slots_at, places, IsSound, HasOwnPlaces, IsAt}
-use Rattle.fb_detour.proofs.Words.{place_at, Disk, begin_from, same_tracks, Entry, is_wanted, on_track, depth_at, catches, block_end}
-use Rattle.fb_detour.proofs.Words.{FitsDisk, AreOnDisk, stay, stay_gain, early_to, slots_within}
+use Rattle.fb_detour.proofs.Words.{List, Some, ap, arith, if◌then◌else◌, inl, inr, length, nat_le, subst, suc, sym, true, zero, ℕ, ◌&&◌}
+use Rattle.fb_detour.proofs.Words.{◌*◌, ◌+◌, ◌-◌, ◌/◌, ◌<◌, ◌∙◌, ◌≡◌, ◌≤◌, div-mul-le_self, and_parts, cases_Bool, leb-true}
+use Rattle.fb_detour.proofs.Words.{sum_by-le-sum_by, le-div, slice_get-get_or, same_track, Place, Track, places, Shape, slots_at}
+use Rattle.fb_detour.proofs.Words.{HasOwnPlaces, IsSound, IsAt, place_at, same_tracks, begin_from, Disk, depth_at, is_wanted, on_track}
+use Rattle.fb_detour.proofs.Words.{Entry, block_end, catches, AreOnDisk, FitsDisk, early_to, slots_within, stay_gain, stay}
 use Rattle.fb_geometry.proofs.Laws.{all-filter}
-use Rattle.fb_detour.proofs.Ceilings.{sums-le}
-use Rattle.fb_detour.proofs.Offers.{all_of}
+use Rattle.fb_detour.proofs.Ceilings.{if-le-n}
 use Rattle.fb_detour.proofs.Counted.{no_more}
-use Rattle.fb_detour.proofs.Within.{its_track, place_of, from-le, sectors_pass}
+use Rattle.fb_detour.proofs.Offers.{all_of}
 use Rattle.fb_detour.proofs.Spread.{same_share, slots_short}
+use Rattle.fb_detour.proofs.Within.{from-le, its_track, place_of, sectors_pass}
 
 pub div-rises : (a b n : ℕ) → a ≤ b → a / n ≤ b / n
 div-rises a b zero le = omega arith
@@ -43,10 +43,7 @@ module _ (disk : Disk) (track : Track) (from upto : ℕ) where
 
   few : (e : Entry) → caught e ≤ e.block.count
   unfolding caught
-  few e = elim (cases_Bool (is_wanted e.state && catches disk (early_to track from upto) e.block)) [
-    | inl yes' ↦ rw yes' (omega arith)
-    | inr no' ↦ rw no' (omega arith)
-  ]
+  few e = if-le-n (is_wanted e.state && catches disk (early_to track from upto) e.block) e.block.count
 
   module _ (sound : IsSound disk.map) where
     in_passing : (e : Entry) → FitsDisk disk e.block → catches disk (early_to track from upto) e.block ≡ true → (i : ℕ) → i < e.block.count → Passes (e.block.lbn + i)
@@ -93,6 +90,6 @@ module _ (disk : Disk) (track : Track) (from upto : ℕ) where
         (all_of (λ e. (i : ℕ) → i < caught e → Passes (e.block.lbn + i)) entries (λ k e at. each_passes e (on_disk k e at))) in
         omega (
           arith,
-          sums-le (stay_gain disk (early_to track from upto)) (λ e. e.block.weight * caught e) gain-caught its,
+          sum_by-le-sum_by (stay_gain disk (early_to track from upto)) (λ e. e.block.weight * caught e) its gain-caught,
           no_more caught share Passes (own_share own) few depth (slots_within disk.map.rotation (slots_at disk.map.zones track.cylinder) (upto - from)) its all in_share deep,
         )

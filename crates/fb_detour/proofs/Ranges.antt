@@ -1,9 +1,10 @@
 -- Ranges of cylinders.
-use Rattle.fb_detour.proofs.Words.{◌≡◌, ℕ, ◌+◌, ◌-◌, ◌<◌, ◌≤◌, ◌==◌, min, max, inl, inr, List, Bool, true, false, arith, sym, subst}
-use Rattle.fb_detour.proofs.Words.{cases_Bool, cases_lt, nat_tests, Track, same_track, seek, distance_of, pos, Disk, Block, Gap, Plan}
-use Rattle.fb_detour.proofs.Words.{Detour, IsDetour, IsTrackBefore, Beats, beats-trans, distance_to, BeatsOver, BeatsRange}
+use Rattle.fb_detour.proofs.Words.{Bool, arith, false, inl, inr, max, min, subst, sym, true, ℕ, ◌+◌, ◌-◌, ◌<◌, ◌==◌, ◌≡◌, ◌≤◌, cases_Bool}
+use Rattle.fb_detour.proofs.Words.{nat_tests, same_track, Track, distance_of, seek, pos, Plan, Detour, IsTrackBefore, BeatsTrack}
+use Rattle.fb_detour.proofs.Words.{BeatsTracks, IsNoWorse, distance_to, Search}
 use Rattle.fb_seek.specs.Mechanics.{Mechanics}
 use Rattle.fb_seek.specs.Rising.{SeeksRise}
+use Rattle.fb_detour.proofs.Found.{through}
 
 same_cylinder : (a b : Track) → same_track a b ≡ true → distance_of a.cylinder b.cylinder ≡ 0
 same_cylinder a b h = grind (arith, nat_tests)
@@ -17,10 +18,12 @@ seek-pos arm a b write = elim (cases_Bool (same_track a b)) [
 ]
 
 -- nor than the seek to the nearest cylinder of a range
-module _ (arm : Mechanics) (rises : SeeksRise arm) (from end : ℕ) (track : Track) (low : from ≤ track.cylinder) (high : track.cylinder < end) where
+module _ (arm : Mechanics) (rises : SeeksRise arm) (from end : ℕ) (track : Track) (low : from ≤ track.cylinder)
+    (high : track.cylinder < end) where
   pub way-there : (source : Track) → seek arm (distance_to from end source.cylinder) ≤ pos arm source track false
   way-there source =
-      let near = rises (distance_to from end source.cylinder) (distance_of source.cylinder track.cylinder) (omega (arith, low, high)) in
+      let far = distance_of source.cylinder track.cylinder in
+      let near = rises (distance_to from end source.cylinder) far (omega (arith, low, high)) in
       omega (arith, near, seek-pos arm source track false)
 
   -- nor to the target than that from the nearest cylinder, with the same head
@@ -28,7 +31,8 @@ module _ (arm : Mechanics) (rises : SeeksRise arm) (from end : ℕ) (track : Tra
       → pos arm (record { cylinder = nearest; head = target.head }) target write ≤ pos arm track target write
   unfolding pos
   way-on target nearest write is =
-      let near = rises (distance_of nearest target.cylinder) (distance_of track.cylinder target.cylinder) (omega (arith, low, high, is)) in
+      let far = distance_of track.cylinder target.cylinder in
+      let near = rises (distance_of nearest target.cylinder) far (omega (arith, low, high, is)) in
       elim (cases_Bool (same_track (record { cylinder = nearest; head = target.head }) target)) [
         | inl same ↦ rw same (omega arith)
         | inr other ↦
@@ -40,30 +44,26 @@ module _ (arm : Mechanics) (rises : SeeksRise arm) (from end : ℕ) (track : Tra
 
 -- no track of a cylinder is before its first
 pub first-of : (from : ℕ) (track : Track) → from ≤ track.cylinder → IsTrackBefore track (record { cylinder = from; head = 0 }) → ⊥
-first-of from track low before = elim before [ inl x ↦ absurd (omega (arith, x, low)) | inr x ↦ absurd (omega (arith, x.1)) ]
+first-of from track low before = elim before [
+  | inl x ↦ absurd (omega (arith, x, low))
+  | inr x ↦ absurd (omega (arith, x.1))
+]
 
 pub not_itself : (track : Track) → IsTrackBefore track track → ⊥
-not_itself track before = elim before [ inl x ↦ absurd (omega (arith, x)) | inr x ↦ absurd (omega (arith, x.1)) ]
+not_itself track before = elim before [ inl x ↦ absurd (omega arith) | inr x ↦ absurd (omega (arith, x.1)) ]
 
-module _ (disk : Disk) (gap : Gap) (wanted : List Block) where
-  pub none-yet : (best : Plan) (from : ℕ) → BeatsRange disk gap wanted best from from
-  none-yet best from track low high = absurd (omega (arith, low, high))
-
-  -- one range after another
-  pub range-more : (best : Plan) (from mid end : ℕ) → BeatsRange disk gap wanted best from mid → BeatsRange disk gap wanted best mid end → BeatsRange disk gap wanted best from end
-  range-more best from mid end before after track low high = elim (cases_lt track.cylinder mid) [
-    | inl less ↦ before track low less
-    | inr more ↦ after track more high
-  ]
-
-  -- a better plan beats the same
-  pub range-kept : (new old : Plan) (from end : ℕ) → Beats disk gap wanted new old → BeatsRange disk gap wanted old from end → BeatsRange disk gap wanted new from end
-  range-kept new old from end keeps before track low high leave is = beats-trans disk gap wanted new old (Detour track leave) keeps (before track low high leave is)
+module _ (search : Search) where
+  -- what a better plan beats
+  pub range-kept : (new old : Plan) (from end : ℕ) → IsNoWorse search new old → BeatsTracks search old from end
+      → BeatsTracks search new from end
+  range-kept new old from end keeps before track low high leave is =
+      through search new old (Detour track leave) keeps (before track low high leave is)
 
   -- all heads of a cylinder
-  pub cylinder-done : (best : Plan) (cylinder n : ℕ) → disk.map.heads ≤ n → ((head : ℕ) → head < n → BeatsOver disk gap wanted best (record { cylinder = cylinder; head = head }))
-      → BeatsRange disk gap wanted best cylinder (cylinder + 1)
+  pub cylinder-done : (best : Plan) (cylinder n : ℕ) → search.disk.now.map.heads ≤ n
+      → ((head : ℕ) → head < n → BeatsTrack search best (record { cylinder = cylinder; head = head }))
+      → BeatsTracks search best cylinder (cylinder + 1)
   cylinder-done best cylinder n all each track low high leave is =
       let here : track.cylinder ≡ cylinder = omega (arith, low, high) in
-      subst (λ c. IsDetour disk gap (record { cylinder = c; head = track.head }) leave → Beats disk gap wanted best (Detour (record { cylinder = c; head = track.head }) leave)) (sym here)
-      (each track.head (omega (arith, is.on_disk.head)) leave) is
+      subst (λ c. BeatsTrack search best (record { cylinder = c; head = track.head })) (sym here)
+      (each track.head (omega (arith, is.on_disk.head))) leave is

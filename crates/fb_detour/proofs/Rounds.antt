@@ -1,7 +1,6 @@
 -- What passes once a rotation comes round once a rotation.
-use Rattle.fb_detour.proofs.Words.{◌≡◌, ℕ, ◌+◌, ◌-◌, ◌*◌, ◌/◌, ◌%◌, ◌<◌, ◌≤◌, inl, inr, arith, ap, sym, ◌∙◌, cases_lt, div-add-mod', mod-lt}
-use Rattle.fb_detour.proofs.Words.{mul-le-mul_right, add-mul-mod_self_right, wait_least, begin_of, end_of, wait-rest}
-use Rattle.fb_units.specs.declared.types.Sweep.{Sweep}
+use Rattle.fb_detour.proofs.Words.{ap, arith, inl, inr, sym, ℕ, ◌%◌, ◌*◌, ◌+◌, ◌-◌, ◌/◌, ◌<◌, ◌∙◌, ◌≡◌, ◌≤◌, add-mul-mod_self_right, mod-lt}
+use Rattle.fb_detour.proofs.Words.{mul-le-mul_right, cases_lt, div-add-mod', wait_least, Sweep, wait-rest, begin_of, end_of}
 
 -- from an instant at an angle to a later one at it, at least a rotation passes
 round-later : (r x y : ℕ) → x % r ≡ y % r → x < y → x + r ≤ y

@@ -1,8 +1,7 @@
 -- How many slots the tracks of a range of cylinders have at most.
-use Rattle.fb_detour.proofs.Words.{◌≡◌, ℕ, ◌+◌, ◌-◌, ◌<◌, ◌≤◌, max, inl, inr, List, Some, true, false, refl, drop, slice_get, length, arith}
-use Rattle.fb_detour.proofs.Words.{ap, ◌∙◌, if◌then◌else◌, nat_le, cases_lt, nat_tests, drop_more, slice_get_within, get_or_from_slice_get}
-use Rattle.fb_detour.proofs.Words.{Zone, slots_at}
-use Rattle.std.proofs.Math.ListN.{drop_of_length-le}
+use Rattle.fb_detour.proofs.Words.{List, Some, ap, arith, drop, false, if◌then◌else◌, inl, inr, max, nat_le, refl, slice_get, true, ℕ, ◌+◌}
+use Rattle.fb_detour.proofs.Words.{◌-◌, ◌<◌, ◌∙◌, ◌≡◌, ◌≤◌, cases_lt, nat_tests, drop_more, get_or_from_slice_get, slice_get_within}
+use Rattle.fb_detour.proofs.Words.{slots_at, Zone}
 
 -- the slots of a track are no more than the most so far, or than those of the zones to come
 abbrev pub AreMost : List Zone → ℕ → ℕ → ℕ → ℕ → Type 0
@@ -38,9 +37,3 @@ module _ (zones : List Zone) (from end i slots new : ℕ) (zone : Zone) (at : sl
   -- the last of them
   pub zone-last : end - 1 ≤ zone.last → (cylinder : ℕ) → from ≤ cylinder → cylinder < end → slots_at zones cylinder ≤ new
   zone-last ends cylinder low high = in_zone cylinder low high (omega (arith, ends, high))
-
--- all of them
-pub zones-done : (zones : List Zone) (from end n slots : ℕ) → length zones ≤ n → AreMost zones from end n slots → (cylinder : ℕ) → from ≤ cylinder → cylinder < end → slots_at zones cylinder ≤ slots
-zones-done zones from end n slots all most cylinder low high =
-    let none : slots_at (drop n zones) cylinder ≡ 0 = ap (λ zs. slots_at zs cylinder) (drop_of_length-le zones all) in
-    omega (arith, most cylinder low high, none)

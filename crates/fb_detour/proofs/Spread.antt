@@ -1,8 +1,8 @@
 -- Two slots of a track don't begin to pass within the least length of a slot.
-use Rattle.fb_detour.proofs.Words.{◌≡◌, ℕ, suc, ◌+◌, ◌-◌, ◌*◌, ◌/◌, ◌%◌, ◌<◌, ◌≤◌, List, [], ◌∷◌, Some, refl, ap, sym, ◌∙◌, ◌⊎◌, inl, inr}
-use Rattle.fb_detour.proofs.Words.{arith, nat_le, slice_get, mod-lt, le-div, div-add-mod', cases_Bool, cases_lt, cases_order, Place, Track}
-use Rattle.fb_detour.proofs.Words.{wait, wait_least, least_unique, least_of, reaches_ahead, reaches_over, Zone, Shape, slots_at, IsSound}
-use Rattle.fb_detour.proofs.Words.{slot_begin, Disk, begin_from, over, later-after, in-turn}
+use Rattle.fb_detour.proofs.Words.{List, Some, [], ap, arith, inl, inr, nat_le, refl, slice_get, suc, sym, ℕ, ◌%◌, ◌*◌, ◌+◌, ◌-◌, ◌/◌, ◌<◌}
+use Rattle.fb_detour.proofs.Words.{◌∙◌, ◌∷◌, ◌≡◌, ◌≤◌, ◌⊎◌, mod-lt, cases_Bool, cases_lt, cases_order, div-add-mod', le-div, least_of}
+use Rattle.fb_detour.proofs.Words.{least_unique, reaches_ahead, reaches_over, wait_least, wait, Place, Track, slot_begin, Shape, slots_at}
+use Rattle.fb_detour.proofs.Words.{IsSound, Zone, in-turn, later-after, over, begin_from, Disk}
 
 -- ---- numbers
 

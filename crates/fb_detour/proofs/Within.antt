@@ -1,13 +1,13 @@
 -- The sectors of a block pass, each for the least length of a slot, before the block has passed.
-use Rattle.fb_detour.proofs.Words.{◌≡◌, ℕ, zero, suc, ◌+◌, ◌-◌, ◌*◌, ◌/◌, ◌%◌, ◌<◌, ◌≤◌, List, [], ◌∷◌, length, refl, ap, sym, subst, ◌∙◌}
-use Rattle.fb_detour.proofs.Words.{inl, inr, arith, nat_le, nat_lt, mod-add-mod, mod-eq_of_lt, mod-lt, add-mod_right}
-use Rattle.fb_detour.proofs.Words.{mul-add-mod_self_right, div-add-mod', cases_Bool, cases_lt, and_parts, ltb-true, Place, Track}
-use Rattle.fb_detour.proofs.Words.{same_track, wait, wait_least, least_unique, least_of, Zone, Shape, IsTrackOf, slots_at, offset_at}
-use Rattle.fb_detour.proofs.Words.{turn_position, places, IsSound, slot_begin, place_at, track_at, neighbour, Disk, begin_angle, end_angle}
-use Rattle.fb_detour.proofs.Words.{begin_from, turned, over, later-after, within-turn, slot-is, in-turn, same_tracks, Block, block_end}
-use Rattle.fb_detour.proofs.Words.{FitsDisk, next-le}
-use Rattle.fb_sectormap.specs.Cutting.{IsOneTurn, is_later}
+use Rattle.fb_detour.proofs.Words.{List, [], ap, arith, inl, inr, length, nat_le, nat_lt, refl, subst, suc, sym, zero, ℕ, ◌%◌, ◌*◌, ◌+◌}
+use Rattle.fb_detour.proofs.Words.{◌-◌, ◌/◌, ◌<◌, ◌∙◌, ◌∷◌, ◌≡◌, ◌≤◌, add-mod_right, mod-add-mod, mod-eq_of_lt, mod-lt}
+use Rattle.fb_detour.proofs.Words.{mul-add-mod_self_right, and_parts, cases_Bool, cases_lt, ltb-true, div-add-mod', least_of, least_unique}
+use Rattle.fb_detour.proofs.Words.{wait_least, same_track, wait, Place, Track, slot_begin, places, IsTrackOf, Shape, offset_at, slots_at}
+use Rattle.fb_detour.proofs.Words.{turn_position, IsSound, Zone, neighbour, track_at, place_at, same_tracks, in-turn, later-after, over}
+use Rattle.fb_detour.proofs.Words.{slot-is, within-turn, begin_angle, end_angle, turned, begin_from, Disk, Block, block_end, next-le}
+use Rattle.fb_detour.proofs.Words.{FitsDisk}
 use Rattle.fb_sectormap.proofs.ByCylinder.{has_place}
+use Rattle.fb_sectormap.specs.Cutting.{IsOneTurn, is_later}
 use Rattle.fb_service.proofs.Unbroken.{at_angle, neighbour-begins}
 use Rattle.fb_detour.proofs.Spread.{apart, slots_short}
 

@@ -4,17 +4,18 @@ pub use Rattle.std.proofs.Common.{nat_lt, refl, slice_get, subst, suc, sym, take
 pub use Rattle.std.proofs.Common.{◌^◌, ◌||◌, ◌∙◌, ◌∷◌, ◌≡◌, ◌≤◌, ◌⊎◌}
 pub use Rattle.std.proofs.Math.Nat.{add-mod_right, add-mul-mod_self_right, div-lt_iff_lt-mul, div-mul-le_self, mod-add-mod, mod-eq_of_lt}
 pub use Rattle.std.proofs.Math.Nat.{mod-lt, mul-add-mod_self_right, mul-le-mul_right}
-pub use Rattle.std.proofs.lemmas.Bool.{and_parts, cases_Bool, cases_eq, cases_lt, cases_order, eqb-true, leb-true, ltb-true}
+pub use Rattle.std.proofs.lemmas.Bool.{and_parts, cases_Bool, cases_eq, cases_lt, cases_order, leb-true, ltb-true}
 pub use Rattle.std.proofs.lemmas.Bool.Decides.{nat_tests}
 pub use Rattle.std.proofs.lemmas.List.{drop_more, get_or-replicate, get_or-set_other, get_or-set_same, length-set, take_all}
-pub use Rattle.std.proofs.lemmas.List.Sums.{sum_by-cons, sum_by_more}
+pub use Rattle.std.proofs.lemmas.List.Sums.{sum_by-cons, sum_by-le-sum_by, sum_by-take-le, sum_by_more}
 pub use Rattle.std.proofs.lemmas.Nat.{div-add-mod', le-div, mul-le}
 pub use Rattle.std.proofs.lemmas.Option.{get_or_from_slice_get, slice_get-get_or, slice_get_within}
-pub use Rattle.std.specs.List.{AllByRecursion, list_all, slice_set, sum_by}
+pub use Rattle.std.specs.List.{AllByRecursion, slice_set, sum_by}
 pub use Rattle.fb_units.proofs.Waits.{least_of, least_unique, reaches_ahead, reaches_over, wait_least}
 pub use Rattle.fb_units.specs.Tracks.{same_track}
 pub use Rattle.fb_units.specs.Wait.{wait}
 pub use Rattle.fb_units.specs.declared.types.Place.{Place}
+pub use Rattle.fb_units.specs.declared.types.Sweep.{Sweep}
 pub use Rattle.fb_units.specs.declared.types.Track.{Track}
 pub use Rattle.fb_geometry.specs.Angles.{slot_begin}
 pub use Rattle.fb_geometry.specs.Places.{places}
@@ -40,18 +41,21 @@ pub use Rattle.fb_rows.specs.declared.gap.Dwell.{Dwell}
 pub use Rattle.fb_rows.specs.declared.gap.Gap.{Gap}
 pub use Rattle.fb_rows.specs.declared.gap.Plan.{Plan}
 pub use Rattle.fb_rows.specs.declared.gap.Plan.TheVariants.{Detour, Direct}
-pub use Rattle.fb_model.specs.Plans.{IsBest, IsDetour, IsNoLater, IsPlan, IsTrackBefore, block_end, catches, early_dwell, late_dwell, value}
+pub use Rattle.fb_model.specs.Plans.{IsBest, IsNoLater, IsPlan, IsTrackBefore, block_end, catches, early_dwell, late_dwell, value}
 pub use Rattle.fb_plan.proofs.Ends.{end-le, next-le, wait-rest}
 pub use Rattle.fb_plan.proofs.Offered.{offers-in-turn}
 pub use Rattle.fb_plan.proofs.Passed.{AreTried, bounds, offers-more, sides-by, tracks-more, way_done}
-pub use Rattle.fb_plan.proofs.Ties.{beats-self, beats-trans}
-pub use Rattle.fb_plan.specs.Turns.{AreSides, begin_of, end_of}
-pub use Rattle.fb_plan.specs.Ways.{AreOnDisk, Beats, FitsDisk, IsGap, IsScored, arrival, early_track, gain, move_on, plan_by}
+pub use Rattle.fb_plan.specs.Turns.{AreSides, added, begin_of, end_of, passes_by, stay_of}
+pub use Rattle.fb_plan.specs.Ways.{AreOnDisk, FitsDisk, IsGap, IsWay, arrival, early_track, gain, move_on, plan_by}
 pub use Rattle.fb_plan.specs.declared.choice.Scored.{Scored}
-pub use Rattle.fb_plan.specs.declared.way.Way.{Way}
-pub use Rattle.fb_detour.specs.Bounds.{AreNotes, BeatsOver, BeatsRange, IsBeaten, IsCeiling, IsEnough, IsKey, IsLate, IsReach, IsReady}
-pub use Rattle.fb_detour.specs.Bounds.{IsStop, distance_to, early_to, late_most, late_step, missed, offer_gain, offered, part_at}
-pub use Rattle.fb_detour.specs.Bounds.{slots_within, stay_gain, sum_of_first}
+pub use Rattle.fb_plan.specs.declared.turning.Turning.{Turning}
+pub use Rattle.fb_plan.specs.declared.way.Way.TheVariants.{Over, Source}
+pub use Rattle.fb_detour.specs.Bounds.{AreCeilings, AreNotes, BeatsTrack, BeatsTracks, IsBeaten, IsCeiling, IsDetourIn, IsEnough, IsFound}
+pub use Rattle.fb_detour.specs.Bounds.{IsKey, IsLate, IsNoWorse, IsReach, IsReady, IsSearch, IsStop, IsTrial, distance_to, early_to}
+pub use Rattle.fb_detour.specs.Bounds.{late_gain, late_most, late_step, missed, offered, part_at, slots_within, stay_gain, sum_of_first}
+pub use Rattle.fb_detour.specs.Bounds.{turned_to, value_in}
 unfoldable pub use Rattle.fb_detour.specs.Bounds.{stay}
+pub use Rattle.fb_detour.specs.declared.candidates.Trial.{Trial}
+pub use Rattle.fb_detour.specs.declared.given.Search.{Search}
 pub use Rattle.fb_detour.specs.declared.parts.LateParts.{LateParts}
 pub use Rattle.fb_detour.specs.declared.stop.Stop.{Stop}

@@ -1,12 +1,11 @@
 -- Upper bounds on the value of detours.
-use Rattle.std.specs.Prelude.{◌≡◌, ℕ, false, ◌+◌, ◌-◌, ◌*◌, ◌/◌, ◌%◌, ◌^◌, ◌<◌, ◌≤◌, ◌⊎◌, min, nat_le, nat_lt, get_or, take, List}
-use Rattle.std.specs.Prelude.{◌&&◌, if◌then◌else◌}
+use Rattle.std.specs.Prelude.{◌≡◌, ℕ, false, ◌+◌, ◌-◌, ◌*◌, ◌/◌, ◌%◌, ◌^◌, ◌<◌, ◌≤◌, ◌⊎◌, min, get_or, length, take, List}
+use Rattle.std.specs.Prelude.{not, ◌&&◌, if◌then◌else◌}
 use Rattle.std.specs.List.{sum_by}
 use Rattle.fb_units.specs.declared.types.Track.{Track}
 use Rattle.fb_seek.specs.Mechanics.{Mechanics}
 use Rattle.fb_seek.specs.Positioning.{distance_of, pos, seek}
 use Rattle.fb_service.specs.declared.disk.Disk.{Disk}
-use Rattle.fb_wanted.specs.declared.block.Block.{Block}
 use Rattle.fb_wanted.specs.declared.block.Entry.{Entry}
 use Rattle.fb_wanted.specs.declared.offer.Offer.{Offer}
 use Rattle.fb_wanted.specs.Offers.{AreOffers}
@@ -18,29 +17,36 @@ use Rattle.fb_rows.specs.declared.gap.Plan.TheVariants.{Detour}
 use Rattle.fb_model.specs.Plans.{catches, value, IsPlan, IsDetour, IsNoLater, IsTrackBefore}
 use Rattle.fb_plan.specs.declared.choice.Scored.{Scored}
 use Rattle.fb_plan.specs.declared.sides.Sides.{Sides}
+use Rattle.fb_plan.specs.declared.turning.Turning.{Turning}
 use Rattle.fb_plan.specs.declared.way.Way.{Way}
+use Rattle.fb_plan.specs.declared.way.Way.TheVariants.{Over}
+use Rattle.fb_plan.specs.Ways.{Beats, AreOnDisk, IsGap, IsScored, IsWay, plan_by, early_track, arrival, move_on}
+use Rattle.fb_plan.specs.Turns.{added, passes_by, stay_of, AreInTurn, AreSides, IsTurning, Stands}
 use Rattle.fb_detour.specs.declared.bounds.Moves.{Moves}
 use Rattle.fb_detour.specs.declared.bounds.Seeks.{Seeks}
-use Rattle.fb_detour.specs.declared.candidates.Tried.{Tried}
+use Rattle.fb_detour.specs.declared.candidates.Trial.{Trial}
 use Rattle.fb_detour.specs.declared.given.Search.{Search}
 use Rattle.fb_detour.specs.declared.intervals.Ceilings.{Ceilings}
 use Rattle.fb_detour.specs.declared.parts.LateParts.{LateParts}
 use Rattle.fb_detour.specs.declared.steps.Reach.{Reach}
 use Rattle.fb_detour.specs.declared.stop.Stop.{Stop}
-use Rattle.fb_plan.specs.Ways.{Beats, AreOnDisk, IsGap, IsScored, plan_by, early_track, arrival, move_on}
-use Rattle.fb_plan.specs.Turns.{end_of, stay_of, AreInTurn, AreSides, IsTurning, Stands}
 
 -- what a registered block adds to a stay of the head on its track
 abbrev pub stay_gain : Disk → Dwell → Entry → ℕ
-stay_gain disk dwell entry = if is_wanted entry.state && catches disk dwell entry.block then entry.block.weight * entry.block.count else 0
+stay_gain disk dwell entry =
+    if is_wanted entry.state && catches disk dwell entry.block then entry.block.weight * entry.block.count else 0
 
--- what an offer gives to a stay between two instants
-abbrev pub offer_gain : ℕ → ℕ → ℕ → Offer → ℕ
-offer_gain rotation from upto offer = if nat_le (end_of rotation offer.sweep from) upto then offer.worth else 0
+-- the same platter at another instant
+abbrev pub turned_to : Turning → ℕ → Turning
+turned_to passing from = record { from = from; at = from % passing.rotation; rotation = passing.rotation }
 
--- the worth of an offer that a stay misses, since it hasn't passed whole by the end
-abbrev pub missed : ℕ → ℕ → ℕ → Offer → ℕ
-missed rotation from upto offer = if nat_lt upto (end_of rotation offer.sweep from) then offer.worth else 0
+-- what an offer of the target adds to a stay there from an instant on
+abbrev pub late_gain : Turning → Gap → ℕ → Offer → ℕ
+late_gain passing gap from = added (passes_by (turned_to passing from) gap.deadline)
+
+-- the worth of an offer that a stay misses, since its sweep doesn't pass whole by the end
+abbrev pub missed : Turning → ℕ → Offer → ℕ
+missed passing upto = added (λ sweep. not (passes_by passing upto sweep))
 
 -- what a stay catches of its track's blocks
 unfoldable pub stay : Disk → Dwell → List Entry → ℕ
@@ -66,7 +72,8 @@ early_to track arrive upto = record { track = track; begin = arrive; end = upto 
 abbrev pub part_at : LateParts → ℕ → ℕ
 part_at late from = get_or late.parts (min ((from - late.begin) / late.step) 31) 0
 
--- each part is an upper bound on what the target can still give from the beginning of that part on, and from its limit on; behind the last limit it gives nothing
+-- each part bounds what the target can still give from the beginning of that part on, and from its limit on;
+-- from the last limit on it gives nothing
 pub record IsLate (disk : Disk) (gap : Gap) (entries : List Entry) (late : LateParts) : Type 0 where
   pub some : 0 < late.step
   pub from_now : late.begin ≤ gap.now
@@ -95,45 +102,69 @@ abbrev pub BeatsWay : Search → Way → Plan → Type 0
 BeatsWay search way plan = (leave : ℕ) → IsPlan search.disk.now search.gap.now (plan_by way leave)
     → IsNoWorse search plan (plan_by way leave)
 
--- the blocks of the way's track and of the target, as the first pass from the arrival on
+-- the value of a plan of the search's gap
+abbrev pub value_in : Search → Plan → ℕ
+value_in search plan = value search.disk.now search.gap.now (wanted_of search.wanted.now) plan
+
+-- a detour of that gap over a track
+abbrev pub IsDetourIn : Search → Track → ℕ → Type 0
+IsDetourIn search track leave = IsDetour search.disk.now search.gap.now track leave
+
+-- the sides are the blocks of the way's track and of the target, all of them on the disk, with where the platter stands when
+-- the head arrives
 pub record AreSidesOf (search : Search) (way : Way) (sides : Sides) : Type 0 where
   pub its : AreSides search.disk.now search.gap.now.target search.wanted.now (stay_of search.disk.now search.gap.now way) sides
   pub early : AreOnDisk search.disk.now sides.early
   pub late : AreOnDisk search.disk.now sides.late
 
--- the ceiling of the plan that leaves at an instant: what the track gives up to the end of that interval, and the target after the move
+-- the ceiling of the plan that leaves at an instant: what the track gives up to the end of that interval, and the target
+-- after the move
 abbrev pub ceiling_at : Ceilings → ℕ → ℕ
-ceiling_at ceilings leave = get_or ceilings.early (min ((leave - ceilings.begin) / ceilings.step) 15) 0 + part_at ceilings.late.now (leave + ceilings.move_on)
+ceiling_at ceilings leave = get_or ceilings.early (min ((leave - ceilings.begin) / ceilings.step) 15) 0
+    + part_at ceilings.late.now (leave + ceilings.move_on)
 
 -- no plan of the way is worth more than its ceiling
-pub record AreCeilings (disk : Disk) (gap : Gap) (entries : List Entry) (way : Way) (ceilings : Ceilings) : Type 0 where
+pub record AreCeilings (search : Search) (way : Way) (ceilings : Ceilings) : Type 0 where
   pub some : 0 < ceilings.step
-  pub begin : ceilings.begin ≡ arrival disk gap way
-  pub on : ceilings.move_on ≡ move_on disk gap way
+  pub begin : ceilings.begin ≡ arrival search.disk.now search.gap.now way
+  pub on : ceilings.move_on ≡ move_on search.disk.now search.gap.now way
   pub soon : ceilings.move_on ≤ 2 * 10 ^ 9
-  pub late : IsLate disk gap entries ceilings.late.now
-  pub each : (k : ℕ) → k < 16 → stay disk (early_to (early_track gap way) ceilings.begin (ceilings.begin + (k + 1) * ceilings.step)) entries ≤ get_or ceilings.early k 0
-  pub upto : gap.deadline < ceilings.begin + ceilings.move_on + 16 * ceilings.step
-  pub close : ceilings.begin + ceilings.move_on + 16 * ceilings.step ≤ gap.deadline + 16
+  pub late : IsLate search.disk.now search.gap.now search.wanted.now ceilings.late.now
+  pub each : (k : ℕ) → k < 16
+      → stay search.disk.now (early_to (early_track search.gap.now way) ceilings.begin (ceilings.begin + (k + 1) * ceilings.step))
+      search.wanted.now ≤ get_or ceilings.early k 0
+  pub upto : search.gap.now.deadline < ceilings.begin + ceilings.move_on + 16 * ceilings.step
+  pub close : ceilings.begin + ceilings.move_on + 16 * ceilings.step ≤ search.gap.now.deadline + 16
   pub small : (k : ℕ) → k < 16 → get_or ceilings.early k 0 ≤ 16000000 * 2048000
-  pub most : (leave : ℕ) → IsPlan disk gap (plan_by way leave) → value disk gap (wanted_of entries) (plan_by way leave) ≤ ceiling_at ceilings leave
+  pub most : (leave : ℕ) → IsPlan search.disk.now search.gap.now (plan_by way leave)
+      → value_in search (plan_by way leave) ≤ ceiling_at ceilings leave
+
+-- the trial is of a way of the search, with the sides and the ceilings of that way
+pub record IsTrial (trial : Trial) : Type 0 where
+  pub search : IsSearch trial.search.now
+  pub way : IsWay trial.search.now.disk.now trial.search.now.gap.now trial.way
+  pub sides : AreSidesOf trial.search.now trial.way trial.sides.now
+  pub ceilings : AreCeilings trial.search.now trial.way trial.ceilings.now
 
 -- the best so far is at least as good as the plan of the way that leaves then, if that is in time
-abbrev pub IsBeaten : Disk → Gap → List Block → Way → Plan → ℕ → Type 0
-IsBeaten disk gap wanted way best leave = leave + move_on disk gap way ≤ gap.deadline → Beats disk gap wanted best (plan_by way leave)
+abbrev pub IsBeaten : Trial → Plan → ℕ → Type 0
+IsBeaten trial best leave =
+    leave + move_on trial.search.now.disk.now trial.search.now.gap.now trial.way ≤ trial.search.now.gap.now.deadline
+    → IsNoWorse trial.search.now best (plan_by trial.way leave)
 
 -- no leave that is noted is better than the best so far
-abbrev pub AreNotes : Disk → Gap → List Block → Way → Tried → Type 0
-AreNotes disk gap wanted way tried = (k : ℕ) → k < 1024 → IsBeaten disk gap wanted way tried.best.plan (get_or tried.leaves k 0)
+abbrev pub AreNotes : Trial → Plan → List ℕ → Type 0
+AreNotes trial best notes = (k : ℕ) → k < length notes → IsBeaten trial best (get_or notes k 0)
 
--- the worth of all offers is the stop's weight, and they pass once a rotation from the arrival on
+-- the stop weighs what all its offers are worth, each of them passes once a rotation, and the platter stands as the turning
+-- says
 pub record IsReady (stop : Stop) : Type 0 where
   pub weight : sum_by (λ (offer : Offer). offer.worth) stop.offers.now ≡ stop.weight
   pub small : stop.weight ≤ 16000000 * 2048000
   pub in_turn : AreInTurn stop.passing.rotation stop.offers.now
   pub stands : Stands stop.passing
 
--- these blocks of the track make the offers
+-- the stop offers what these blocks do, all of which lie on the disk, and its platter is the disk's
 pub record IsStop (disk : Disk) (blocks : List Entry) (stop : Stop) : Type 0 where
   pub ready : IsReady stop
   pub its : AreOffers stop.offers.now blocks
@@ -142,26 +173,19 @@ pub record IsStop (disk : Disk) (blocks : List Entry) (stop : Stop) : Type 0 whe
 
 -- what a stop gives to a head that stays up to an instant
 abbrev pub offered : Stop → ℕ → ℕ
-offered stop upto = sum_by (offer_gain stop.passing.rotation stop.passing.from upto) stop.offers.now
+offered stop upto = sum_by (added (passes_by stop.passing upto)) stop.offers.now
 
 -- how many cylinders a cylinder lies outside a range; 0 inside it
 abbrev pub distance_to : ℕ → ℕ → ℕ → ℕ
 distance_to from end cylinder = (from - cylinder) + (cylinder + 1 - end)
 
 -- the best so far is at least as good as each detour over the track
-abbrev pub BeatsOver : Disk → Gap → List Block → Plan → Track → Type 0
-BeatsOver disk gap wanted best track = (leave : ℕ) → IsDetour disk gap track leave → Beats disk gap wanted best (Detour track leave)
+abbrev pub BeatsTrack : Search → Plan → Track → Type 0
+BeatsTrack search best track = (leave : ℕ) → IsDetourIn search track leave → IsNoWorse search best (Detour track leave)
 
 -- and over each track of these cylinders
-abbrev pub BeatsRange : Disk → Gap → List Block → Plan → ℕ → ℕ → Type 0
-BeatsRange disk gap wanted best from end = (track : Track) → from ≤ track.cylinder → track.cylinder < end → BeatsOver disk gap wanted best track
-
--- the same of a search: over one track, and over each track of these cylinders
-abbrev pub BeatsTrack : Search → Plan → Track → Type 0
-BeatsTrack search best track = BeatsOver search.disk.now search.gap.now (wanted_of search.wanted.now) best track
-
 abbrev pub BeatsTracks : Search → Plan → ℕ → ℕ → Type 0
-BeatsTracks search best from end = BeatsRange search.disk.now search.gap.now (wanted_of search.wanted.now) best from end
+BeatsTracks search best from end = (track : Track) → from ≤ track.cylinder → track.cylinder < end → BeatsTrack search best track
 
 -- in the order of ties the plan comes before every detour over this track or a later one
 abbrev pub IsAhead : Plan → Track → Type 0
@@ -185,26 +209,32 @@ pub record AreSeeks (arm : Mechanics) (gap : Gap) (cylinder : ℕ) (seeks : Seek
 
 -- no stay on the track catches more in each nanosecond, in units of 2^-24
 abbrev pub IsRate : Disk → List Entry → Track → ℕ → Type 0
-IsRate disk entries track rate = (from upto : ℕ) → stay disk (early_to track from upto) entries * 2 ^ 24 ≤ (upto - from) * rate
+IsRate disk entries track rate = (from upto : ℕ)
+    → stay disk (early_to track from upto) entries * 2 ^ 24 ≤ (upto - from) * rate
 
 -- the same for each track of these cylinders
 abbrev pub AreRated : Search → ℕ → ℕ → ℕ → Type 0
-AreRated search from end rate = (track : Track) → from ≤ track.cylinder → track.cylinder < end → IsRate search.disk.now search.wanted.now track rate
+AreRated search from end rate = (track : Track) → from ≤ track.cylinder → track.cylinder < end
+    → IsRate search.disk.now search.wanted.now track rate
 
--- no detour over the track reaches the target earlier, nor is more caught there in each nanosecond
-abbrev pub IsReach : Disk → Gap → List Entry → Track → Reach → Type 0
-IsReach disk gap entries track reach = (reach.back ≤ gap.now + pos disk.mechanism gap.source track false + pos disk.mechanism track gap.target gap.write) × IsRate disk entries track reach.rate
+-- no detour over the track reaches the target earlier, nor is more caught on the track in each nanosecond
+abbrev pub IsReach : Search → Track → Reach → Type 0
+IsReach search track reach =
+    (reach.back ≤ arrival search.disk.now search.gap.now (Over track) + move_on search.disk.now search.gap.now (Over track))
+    × IsRate search.disk.now search.wanted.now track reach.rate
 
 -- no detour over a track of these cylinders is worth more
-abbrev pub IsCeiling : Disk → Gap → List Block → ℕ → ℕ → ℕ → Type 0
-IsCeiling disk gap wanted from end ceiling = (track : Track) (leave : ℕ) → from ≤ track.cylinder → track.cylinder < end → IsDetour disk gap track leave → value disk gap wanted (Detour track leave) ≤ ceiling
+abbrev pub IsCeiling : Search → ℕ → ℕ → ℕ → Type 0
+IsCeiling search from end ceiling = (track : Track) (leave : ℕ) → from ≤ track.cylinder → track.cylinder < end
+    → IsDetourIn search track leave → value_in search (Detour track leave) ≤ ceiling
 
--- the number is eight times a bound on detours over the part of this index, with eight for the first part, seven for the second and so on
-pub record IsKey (disk : Disk) (gap : Gap) (wanted : List Block) (from end width j key : ℕ) : Type 0 where
+-- the number is eight times a bound on detours over the part of this index, with eight for the first part, seven for the
+-- second and so on
+pub record IsKey (search : Search) (from end width j key : ℕ) : Type 0 where
   pub some : 0 < key
   pub small : key ≤ 8 * (2 * (16000000 * 2048000)) + 8
   pub part : (key - 1) % 8 ≡ 7 - j
-  pub ceiling : IsCeiling disk gap wanted (from + j * width) (min end (from + j * width + width)) ((key - 1) / 8)
+  pub ceiling : IsCeiling search (from + j * width) (min end (from + j * width + width)) ((key - 1) / 8)
 
 -- an upper bound on how many slots, of n on a track, begin and end within a time
 abbrev pub slots_within : ℕ → ℕ → ℕ → ℕ

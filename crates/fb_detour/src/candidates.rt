@@ -2,10 +2,9 @@
 ghost use Rattle.std.specs.Prelude.{◌≡◌, ◌<◌, ◌≤◌, ◌^◌, ◌⊎◌, true};
 ghost use Rattle.fb_geometry.specs.Shape.{IsTrackOf};
 ghost use Rattle.fb_model.specs.Plans.{IsNoLater};
-ghost use Rattle.fb_wanted.specs.States.{wanted_of};
 ghost use Rattle.fb_plan.specs.declared.way.Way.{Way};
-ghost use Rattle.fb_plan.specs.Ways.{IsWay, plan_by, early_track, arrival};
-ghost use Rattle.fb_detour.specs.Bounds.{AreCeilings, AreNotes, AreSidesOf, BeatsWay, IsBeaten, IsSearch, IsFound, IsNoWorse};
+ghost use Rattle.fb_plan.specs.Ways.{IsWay, plan_by, early_track};
+ghost use Rattle.fb_detour.specs.Bounds.{AreCeilings, AreNotes, BeatsWay, IsBeaten, IsFound, IsNoWorse, IsSearch, IsTrial};
 
 use crate::given::Search;
 use crate::intervals::{Ceilings, ceiling_at, ceilings_of};
@@ -52,35 +51,35 @@ fn is_beaten(best: Scored, ceiling: u64, way: Way, leave: Ns) -> bool
     is_no_later(best.plan, way, leave)
 }
 
-// Tries to leave at an instant, unless that is too late or the ceiling shows that it isn't better.
-fn try_leave(
-    search: &Search,
+// A way on trial: the blocks of its track and of the target, and what its plans are worth at most.
+#[derive(Clone, Copy)]
+struct Trial<'a> {
+    search: &'a Search<'a>,
     way: Way,
-    sides: &Sides,
-    ceilings: &Ceilings,
-    leave: Ns,
-    best: Scored,
-) -> Scored
-    requires way { IsWay search.now.disk.now search.now.gap.now way }
-    requires search { IsSearch search.now }
-    requires sides { AreSidesOf search.now way sides.now }
-    requires ceilings { AreCeilings search.now.disk.now search.now.gap.now search.now.wanted.now way ceilings.now }
-    requires after { arrival search.now.disk.now search.now.gap.now way ≤ leave }
+    sides: &'a Sides<'a>,
+    ceilings: &'a Ceilings<'a>,
+}
+
+// Tries to leave at an instant, unless that is too late or the ceiling shows that it isn't better.
+fn try_leave(trial: &Trial, leave: Ns, best: Scored) -> Scored
+    requires trial { IsTrial trial.now }
+    requires after { trial.now.ceilings.now.begin ≤ leave }
     requires soon { leave ≤ 10 ^ 19 }
-    requires best { IsFound search.now best }
-    ensures scored { IsFound search.now result }
-    ensures keeps { IsNoWorse search.now result.plan best.plan }
-    ensures tried { IsBeaten search.now.disk.now search.now.gap.now (wanted_of search.now.wanted.now) way result.plan leave }
+    requires best { IsFound trial.now.search.now best }
+    ensures scored { IsFound trial.now.search.now result }
+    ensures keeps { IsNoWorse trial.now.search.now result.plan best.plan }
+    ensures tried { IsBeaten trial.now result.plan leave }
 {
-    if search.gap.deadline < leave + ceilings.move_on {
+    let search = trial.search;
+    if search.gap.deadline < leave + trial.ceilings.move_on {
         return best;
     }
-    let ceiling = ceiling_at(ceilings, leave);
-    if is_beaten(best, ceiling, way, leave) {
+    let ceiling = ceiling_at(trial.ceilings, leave);
+    if is_beaten(best, ceiling, trial.way, leave) {
         return best;
     }
-    let plan = plan_by(way, leave);
-    try_plan(search.disk, search.wanted, search.gap, sides, plan, best)
+    let plan = plan_by(trial.way, leave);
+    try_plan(search.disk, search.wanted, search.gap, trial.sides, plan, best)
 }
 
 // Into how many parts two rotations are divided to note which leaves were tried.
@@ -97,89 +96,63 @@ fn part_of(disk: &Disk, ceilings: &Ceilings, leave: Ns) -> usize
     (stay / part).min(NOTED as u64 - 1) as usize
 }
 
+// Tries to leave at an instant, unless that is noted, and notes it. There are as many notes as parts, or
+// none.
+fn try_once(trial: &Trial, leave: Ns, notes: &mut [Ns], best: Scored) -> Scored
+    requires trial { IsTrial trial.now }
+    requires after { trial.now.ceilings.now.begin ≤ leave }
+    requires soon { leave ≤ 10 ^ 19 }
+    requires best { IsFound trial.now.search.now best }
+    requires notes { AreNotes trial.now best.plan notes.old }
+    ensures scored { IsFound trial.now.search.now result }
+    ensures keeps { IsNoWorse trial.now.search.now result.plan best.plan }
+    ensures tried { IsBeaten trial.now result.plan leave }
+    ensures notes { AreNotes trial.now result.plan notes.new }
+{
+    if notes.len() < NOTED {
+        return try_leave(trial, leave, best);
+    }
+    let part = part_of(trial.search.disk, trial.ceilings, leave);
+    if notes[part] == leave {
+        return best;
+    }
+    notes[part] = leave;
+    try_leave(trial, leave, best)
+}
+
+// Tries all plans of a way: the leave on arrival, and for each block that at its end. Blocks of many tasks
+// that end in one slot share a leave; where there are notes, most leaves are tried once.
+fn try_each(trial: &Trial, notes: &mut [Ns], start: Scored) -> Scored
+    requires trial { IsTrial trial.now }
+    requires best { IsFound trial.now.search.now start }
+    requires notes { AreNotes trial.now start.plan notes.old }
+    ensures scored { IsFound trial.now.search.now result }
+    ensures keeps { IsNoWorse trial.now.search.now result.plan start.plan }
+    ensures tried { BeatsWay trial.now.search.now trial.now.way result.plan }
+{
+    let sides = trial.sides;
+    let offers = sides.early.offers();
+    let mut best = try_once(trial, trial.ceilings.begin, notes, start);
+    for offer in offers {
+        let end = sides.passing.end(offer.sweep);
+        best = try_once(trial, end, notes, best);
+    }
+    best
+}
+
 // No leave: it is later than all.
 const NEVER: Ns = Ns::MAX;
 
-// The best plan so far, and for each part of two rotations the leave that was tried there last. Blocks of
-// many tasks that end in one slot share a leave.
-#[derive(Clone, Copy)]
-struct Tried {
-    best: Scored,
-    leaves: [Ns; NOTED],
-}
-
-// Tries to leave at an instant, unless that is noted, and notes it.
-fn try_once(
-    search: &Search,
-    way: Way,
-    sides: &Sides,
-    ceilings: &Ceilings,
-    leave: Ns,
-    tried: &mut Tried,
-)
-    requires way { IsWay search.now.disk.now search.now.gap.now way }
-    requires search { IsSearch search.now }
-    requires sides { AreSidesOf search.now way sides.now }
-    requires ceilings { AreCeilings search.now.disk.now search.now.gap.now search.now.wanted.now way ceilings.now }
-    requires after { arrival search.now.disk.now search.now.gap.now way ≤ leave }
-    requires soon { leave ≤ 10 ^ 19 }
-    requires best { IsFound search.now tried.old.best }
-    requires notes { AreNotes search.now.disk.now search.now.gap.now (wanted_of search.now.wanted.now) way tried.old }
-    ensures scored { IsFound search.now tried.new.best }
-    ensures keeps { IsNoWorse search.now tried.new.best.plan tried.old.best.plan }
-    ensures tried { IsBeaten search.now.disk.now search.now.gap.now (wanted_of search.now.wanted.now) way tried.new.best.plan leave }
-    ensures notes { AreNotes search.now.disk.now search.now.gap.now (wanted_of search.now.wanted.now) way tried.new }
+// Tries all plans of a way whose track has many blocks, with notes.
+fn try_noted(trial: &Trial, start: Scored) -> Scored
+    requires trial { IsTrial trial.now }
+    requires best { IsFound trial.now.search.now start }
+    ensures scored { IsFound trial.now.search.now result }
+    ensures keeps { IsNoWorse trial.now.search.now result.plan start.plan }
+    ensures tried { BeatsWay trial.now.search.now trial.now.way result.plan }
 {
-    let part = part_of(search.disk, ceilings, leave);
-    if tried.leaves[part] == leave {
-        return;
-    }
-    tried.best = try_leave(search, way, sides, ceilings, leave, tried.best);
-    tried.leaves[part] = leave;
-}
-
-// Tries all plans of a way whose track has many blocks. Of leaves at one instant, as many of them may
-// pass at once, most are tried once.
-fn try_noted(search: &Search, way: Way, sides: &Sides, ceilings: &Ceilings, start: Scored) -> Scored
-    requires way { IsWay search.now.disk.now search.now.gap.now way }
-    requires search { IsSearch search.now }
-    requires sides { AreSidesOf search.now way sides.now }
-    requires ceilings { AreCeilings search.now.disk.now search.now.gap.now search.now.wanted.now way ceilings.now }
-    requires best { IsFound search.now start }
-    ensures scored { IsFound search.now result }
-    ensures keeps { IsNoWorse search.now result.plan start.plan }
-    ensures tried { BeatsWay search.now way result.plan }
-{
-    let offers = sides.early.offers();
-    let mut tried = Tried {
-        best: try_leave(search, way, sides, ceilings, ceilings.begin, start),
-        leaves: [NEVER; NOTED],
-    };
-    for offer in offers {
-        let end = sides.passing.end(offer.sweep);
-        try_once(search, way, sides, ceilings, end, &mut tried);
-    }
-    tried.best
-}
-
-// Tries all plans of a way, for each block the leave at its end.
-fn try_each(search: &Search, way: Way, sides: &Sides, ceilings: &Ceilings, start: Scored) -> Scored
-    requires way { IsWay search.now.disk.now search.now.gap.now way }
-    requires search { IsSearch search.now }
-    requires sides { AreSidesOf search.now way sides.now }
-    requires ceilings { AreCeilings search.now.disk.now search.now.gap.now search.now.wanted.now way ceilings.now }
-    requires best { IsFound search.now start }
-    ensures scored { IsFound search.now result }
-    ensures keeps { IsNoWorse search.now result.plan start.plan }
-    ensures tried { BeatsWay search.now way result.plan }
-{
-    let offers = sides.early.offers();
-    let mut best = try_leave(search, way, sides, ceilings, ceilings.begin, start);
-    for offer in offers {
-        let end = sides.passing.end(offer.sweep);
-        best = try_leave(search, way, sides, ceilings, end, best);
-    }
-    best
+    let mut notes = [NEVER; NOTED];
+    try_each(trial, &mut notes, start)
 }
 
 // So many offers of a track are tried without notes, which take longer to clear than they spare.
@@ -190,7 +163,7 @@ pub fn try_leaves(search: &Search, way: Way, ceilings: &Ceilings, start: Scored)
     requires way { IsWay search.now.disk.now search.now.gap.now way }
     requires track { IsTrackOf search.now.disk.now.map (early_track search.now.gap.now way) }
     requires search { IsSearch search.now }
-    requires ceilings { AreCeilings search.now.disk.now search.now.gap.now search.now.wanted.now way ceilings.now }
+    requires ceilings { AreCeilings search.now way ceilings.now }
     requires best { IsFound search.now start }
     ensures scored { IsFound search.now result }
     ensures keeps { IsNoWorse search.now result.plan start.plan }
@@ -198,10 +171,16 @@ pub fn try_leaves(search: &Search, way: Way, ceilings: &Ceilings, start: Scored)
 {
     let stay = stay_of(search.disk, search.gap, way);
     let both = sides_of(search.disk, search.wanted, search.gap.target, stay);
+    let trial = Trial {
+        search,
+        way,
+        sides: &both,
+        ceilings,
+    };
     if both.early.offers().len() <= FEW {
-        return try_each(search, way, &both, ceilings, start);
+        return try_each(&trial, &mut [], start);
     }
-    try_noted(search, way, &both, ceilings, start)
+    try_noted(&trial, start)
 }
 
 // Tries all plans that wait at the source.

@@ -29,7 +29,7 @@ pub fn ceilings_of<'a>(search: &Search<'a>, way: Way, stop: &Stop, on: Ns) -> Ce
     requires on { on ≡ move_on search.now.disk.now search.now.gap.now way }
     requires soon { on ≤ 2 * 10 ^ 9 }
     requires in_time { stop.now.passing.from + on ≤ search.now.gap.now.deadline }
-    ensures { AreCeilings search.now.disk.now search.now.gap.now search.now.wanted.now way result }
+    ensures { AreCeilings search.now way result }
 {
     let begin = stop.passing.from;
     let step = (search.gap.deadline - on - begin) / EARLY as u64 + 1;

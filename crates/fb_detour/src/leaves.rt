@@ -17,7 +17,7 @@ use fb_units::Track;
 // and the target at most what it gives after a leave at its beginning.
 pub fn leaves_beaten(search: &Search, ceilings: &Ceilings, track: Track, best: Scored) -> bool
     requires search { IsSearch search.now }
-    requires ceilings { AreCeilings search.now.disk.now search.now.gap.now search.now.wanted.now (Way.Over track) ceilings.now }
+    requires ceilings { AreCeilings search.now (Way.Over track) ceilings.now }
     requires best { IsFound search.now best }
     requires in_time { ceilings.now.begin + ceilings.now.move_on ≤ search.now.gap.now.deadline }
     ensures { result ≡ true → BeatsTrack search.now best.plan track }

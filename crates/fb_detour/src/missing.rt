@@ -13,7 +13,7 @@ use fb_wanted::Offer;
 fn missed(passing: &Turning, latest: Ns, offer: Offer) -> u64
     requires stands { Stands passing.now }
     requires in_turn { IsInTurn passing.now.rotation offer.sweep }
-    ensures { result ≡ missed passing.now.rotation passing.now.from latest offer }
+    ensures { result ≡ missed passing.now latest offer }
 {
     if passing.ends_by(offer.sweep, latest) {
         0

@@ -1,8 +1,8 @@
 // What a track, or the target, can give, tabulated by instant.
 ghost use Rattle.std.specs.Prelude.{◌≡◌, ◌+◌, ◌-◌, ◌*◌, ◌/◌, ◌≤◌, ◌<◌, ◌^◌, ℕ, get_or, nat_le, if◌then◌else◌, IfSome, IfNone};
 ghost use Rattle.fb_plan.specs.Ways.{AreOnDisk, IsGap};
-ghost use Rattle.fb_plan.specs.Turns.{end_of, IsInTurn, IsTurning, Stands};
-ghost use Rattle.fb_detour.specs.Bounds.{offer_gain, offered, late_step, IsLate, IsReady, part_at, sum_of_first};
+ghost use Rattle.fb_plan.specs.Turns.{added, end_of, passes_by, IsInTurn, IsTurning, Stands};
+ghost use Rattle.fb_detour.specs.Bounds.{late_gain, late_step, offered, part_at, sum_of_first, IsLate, IsReady};
 
 use crate::stop::{Stop, stop_at};
 use fb_plan::{Turning, blocks_on};
@@ -121,14 +121,13 @@ fn add_late(
     requires spread { (k : ℕ) → k < 33 → gap.now.now + (k - 1) * late_step gap.now ≤ get_or limits.old k 0 }
     requires room { (k : ℕ) → k < 32 → get_or parts.old k 0 ≤ 16000000 * 2048000 }
     ensures most { (k : ℕ) → k < 32 → get_or parts.old k 0
-        + offer_gain passing.now.rotation (gap.entry.now.now + k * late_step gap.entry.now) gap.entry.now.deadline offer
-        ≤ get_or parts.new k 0 }
+        + late_gain passing.now gap.entry.now (gap.entry.now.now + k * late_step gap.entry.now) offer ≤ get_or parts.new k 0 }
     ensures small { (k : ℕ) → k < 32 → get_or parts.new k 0 ≤ get_or parts.old k 0 + offer.worth }
     ensures first { get_or limits.new 0 0 ≡ get_or limits.old 0 0 }
     ensures grow { (k : ℕ) → get_or limits.old k 0 ≤ get_or limits.new k 0 }
     ensures limits { (k : ℕ) → k < 32 → get_or parts.old k 0
-        + offer_gain passing.now.rotation (get_or limits.new k 0) gap.entry.now.deadline offer ≤ get_or parts.new k 0 }
-    ensures end { offer_gain passing.now.rotation (get_or limits.new 32 0) gap.entry.now.deadline offer ≡ 0 }
+        + late_gain passing.now gap.entry.now (get_or limits.new k 0) offer ≤ get_or parts.new k 0 }
+    ensures end { late_gain passing.now gap.entry.now (get_or limits.new 32 0) offer ≡ 0 }
 {
     if let Some(last) = last_catch(disk, gap, passing, offer.sweep) {
         let step = (gap.deadline - gap.now) / LATE as u64 + 1;
@@ -181,7 +180,7 @@ fn add_offer(stop: &Stop, step: Ns, offer: Offer, intervals: &mut [u64; EARLY])
     requires some { 0 < step }
     requires room { (k : ℕ) → k < 16 → sum_of_first (k + 1) intervals.old ≤ 16000000 * 2048000 }
     ensures { (k : ℕ) → k < 16 → sum_of_first (k + 1) intervals.new ≡ sum_of_first (k + 1) intervals.old
-        + offer_gain stop.now.passing.rotation stop.now.passing.from (stop.now.passing.from + (k + 1) * step) offer }
+        + added (passes_by stop.now.passing (stop.now.passing.from + (k + 1) * step)) offer }
 {
     let past = stop.passing.end(offer.sweep) - stop.passing.from;
     let first = past.saturating_sub(1) / step;

@@ -4,7 +4,7 @@ ghost use Rattle.std.specs.Prelude.{◌≡◌, ◌+◌, ◌*◌, ◌≤◌, ◌<
 ghost use Rattle.fb_units.specs.declared.types.Track.{Track};
 ghost use Rattle.fb_units.specs.Tracks.{same_track};
 ghost use Rattle.fb_geometry.specs.Shape.{IsTrackOf};
-ghost use Rattle.fb_wanted.specs.States.{on_track, wanted_of};
+ghost use Rattle.fb_wanted.specs.States.{on_track};
 ghost use Rattle.fb_plan.specs.Ways.{AreOnDisk};
 ghost use Rattle.fb_detour.specs.Bounds.{AreRated, AreSeeks, IsCeiling, IsKey, IsReach, IsSearch, IsFound, IsNoWorse, BeatsTrack, BeatsTracks};
 
@@ -65,7 +65,7 @@ fn try_stop(
 fn try_track(search: &Search, track: Track, seeks: Seeks, reach: Reach, start: Scored) -> Scored
     requires seeks { AreSeeks search.now.disk.now.mechanism search.now.gap.now track.cylinder seeks }
     requires track { IsTrackOf search.now.disk.now.map track }
-    requires reach { IsReach search.now.disk.now search.now.gap.now search.now.wanted.now track reach }
+    requires reach { IsReach search.now track reach }
     requires search { IsSearch search.now }
     requires best { IsFound search.now start }
     ensures scored { IsFound search.now result }
@@ -136,7 +136,7 @@ fn keys_of(search: &Search, from: u32, end: u32, width: u32, rate: u64, known: u
     requires width { width ≤ 10 ^ 6 }
     requires search { IsSearch search.now }
     requires rate { AreRated search.now from end rate }
-    ensures { (j : ℕ) → j < 8 → IsKey search.now.disk.now search.now.gap.now (wanted_of search.now.wanted.now) from end width j (get_or result j 0) }
+    ensures { (j : ℕ) → j < 8 → IsKey search.now from end width j (get_or result j 0) }
 {
     let mut keys = [0; WAYS];
     for j in 0..WAYS {
@@ -154,7 +154,7 @@ fn most_within(search: &Search, from: u32, end: u32, rate: u64, known: u64) -> u
     requires cylinders { end ≤ search.now.disk.now.mechanism.cylinders }
     requires search { IsSearch search.now }
     requires rate { AreRated search.now from end rate }
-    ensures most { IsCeiling search.now.disk.now search.now.gap.now (wanted_of search.now.wanted.now) from end result }
+    ensures most { IsCeiling search.now from end result }
     ensures small { result ≤ 2 * (16000000 * 2048000) }
 {
     if end <= from {
@@ -193,7 +193,7 @@ fn greater_below(key: u64, other: u64, below: u64) -> u64
 fn visit(search: &Search, from: u32, end: u32, most: u64, rate: u64, start: Scored) -> Scored
     requires within { end ≤ search.now.disk.now.mechanism.cylinders }
     requires few { search.now.disk.now.mechanism.cylinders ≤ 10 ^ 6 }
-    requires most { IsCeiling search.now.disk.now search.now.gap.now (wanted_of search.now.wanted.now) from end most }
+    requires most { IsCeiling search.now from end most }
     requires search { IsSearch search.now }
     requires rate { AreRated search.now from end rate }
     requires best { IsFound search.now start }

@@ -3,11 +3,9 @@
 ghost use Rattle.std.specs.Prelude.{◌≡◌, ◌+◌, ◌*◌, ◌≤◌, ◌<◌, ◌^◌, ◌⊎◌, ℕ, get_or};
 ghost use Rattle.fb_units.specs.declared.types.Track.{Track};
 ghost use Rattle.fb_rows.specs.declared.gap.Plan.{Plan};
-ghost use Rattle.fb_model.specs.Plans.{value, IsDetour};
-ghost use Rattle.fb_wanted.specs.States.{wanted_of};
 ghost use Rattle.fb_wanted.specs.Tracks.{wanted_weight};
 ghost use Rattle.fb_plan.specs.Ways.{AreOnDisk};
-ghost use Rattle.fb_detour.specs.Bounds.{AreRated, AreSeeks, IsCeiling, IsRate, IsReach, IsSearch};
+ghost use Rattle.fb_detour.specs.Bounds.{value_in, AreRated, AreSeeks, IsCeiling, IsDetourIn, IsRate, IsReach, IsSearch};
 
 use crate::bounds::{Seeks, least_moves, most_depth, most_slots};
 use crate::given::Search;
@@ -75,7 +73,7 @@ fn reach_of(search: &Search, from: u32, end: u32, rate: u64) -> Reach
     requires cylinders { end ≤ search.now.disk.now.mechanism.cylinders }
     requires search { IsSearch search.now }
     requires rate { AreRated search.now from end rate }
-    ensures { (track : Track) → from ≤ track.cylinder → track.cylinder < end → IsReach search.now.disk.now search.now.gap.now search.now.wanted.now track result }
+    ensures { (track : Track) → from ≤ track.cylinder → track.cylinder < end → IsReach search.now track result }
 {
     let moves = least_moves(search.disk, search.gap, from, end);
     Reach {
@@ -90,7 +88,7 @@ pub fn reach_by(search: &Search, cylinder: u32, seeks: Seeks, rate: u64) -> Reac
     requires seeks { AreSeeks search.now.disk.now.mechanism search.now.gap.now cylinder seeks }
     requires search { IsSearch search.now }
     requires rate { AreRated search.now cylinder (cylinder + 1) rate }
-    ensures { (track : Track) → cylinder ≤ track.cylinder → track.cylinder < cylinder + 1 → IsReach search.now.disk.now search.now.gap.now search.now.wanted.now track result }
+    ensures { (track : Track) → cylinder ≤ track.cylinder → track.cylinder < cylinder + 1 → IsReach search.now track result }
 {
     search.disk.mechanism.seeks_rise();
     let nearest = Track {
@@ -155,8 +153,8 @@ fn part_from(late: &LateParts, back: Ns) -> usize
 pub fn most_by_steps(search: &Search, reach: Reach, weight: u64, known: u64) -> u64
     requires search { IsSearch search.now }
     requires light { weight ≤ 16000000 * 2048000 }
-    ensures most { (track : Track) (leave : ℕ) → IsReach search.now.disk.now search.now.gap.now search.now.wanted.now track reach → wanted_weight track search.now.wanted.now ≤ weight → IsDetour search.now.disk.now search.now.gap.now track leave
-        → value search.now.disk.now search.now.gap.now (wanted_of search.now.wanted.now) (Plan.Detour track leave) ≤ result }
+    ensures most { (track : Track) (leave : ℕ) → IsReach search.now track reach → wanted_weight track search.now.wanted.now ≤ weight
+        → IsDetourIn search.now track leave → value_in search.now (Plan.Detour track leave) ≤ result }
     ensures small { result ≤ 2 * (16000000 * 2048000) }
 {
     if search.gap.deadline < reach.back {
@@ -182,7 +180,7 @@ pub fn most_over(search: &Search, from: u32, end: u32, rate: u64, known: u64) ->
     requires cylinders { end ≤ search.now.disk.now.mechanism.cylinders }
     requires search { IsSearch search.now }
     requires rate { AreRated search.now from end rate }
-    ensures most { IsCeiling search.now.disk.now search.now.gap.now (wanted_of search.now.wanted.now) from end result }
+    ensures most { IsCeiling search.now from end result }
     ensures small { result ≤ 2 * (16000000 * 2048000) }
 {
     let weight = search.wanted.greatest_weight_in(from, end);

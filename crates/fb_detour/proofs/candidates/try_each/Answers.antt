@@ -1,63 +1,64 @@
-use Rattle.fb_detour.proofs.Words.{arith, refl, sym, subst, get_or, ◌∙◌, slice_get-get_or, wanted_of, plan_by, Beats, offers-in-turn}
-use Rattle.fb_detour.proofs.Words.{bounds, offers-more, way_done, beats-self, beats-trans, IsBeaten}
+use Rattle.fb_detour.proofs.Words.{arith, get_or, refl, subst, sym, ◌∙◌, slice_get-get_or, wanted_of, offers-in-turn, bounds, offers-more}
+use Rattle.fb_detour.proofs.Words.{way_done, plan_by, IsBeaten, IsNoWorse}
+use Rattle.fb_detour.proofs.Found.{itself, through}
 use Rattle.fb_detour.proofs.candidates.try_each.Goals as goal
 
-pub try_leave-best-requires-clause-after : goal.try_leave-best-requires-clause-after
-try_leave-best-requires-clause-after c = omega (arith, c.requires.ceilings.begin)
-
-pub try_leave-best-requires-clause-soon : goal.try_leave-best-requires-clause-soon
-try_leave-best-requires-clause-soon c =
-    let its = c.requires.sides.its in omega (arith, c.requires.ceilings.begin, its.from, its.passing.stands.early)
+pub try_once-best-requires-clause-soon : goal.try_once-best-requires-clause-soon
+try_once-best-requires-clause-soon c =
+    let its = c.requires.trial in omega (arith, its.ceilings.begin, its.sides.its.from, its.sides.its.passing.stands.early)
 
 pub end-end-requires-clause-sweep : goal.end-end-requires-clause-sweep
 end-end-requires-clause-sweep c =
-    let sides = c.args.sides.now in
-    let disk = c.args.search.now.disk.now in
-    let its = c.requires.sides in
-    offers-in-turn c.offers-offers.result.now sides.early c.offers-offers.ensures.its disk sides.passing its.its.passing its.early
-    c.loop-offer.offer-index _ c.loop-offer-test.true
+    let sides = c.args.trial.now.sides.now in
+    let its = c.requires.trial.sides in
+    offers-in-turn c.offers-offers.result.now sides.early c.offers-offers.ensures.its c.args.trial.now.search.now.disk.now sides.passing
+    its.its.passing its.early c.loop-offer.offer-index _ c.loop-offer-test.true
+
+pub try_once-best-requires-in-loop-offer-clause-after : goal.try_once-best-requires-in-loop-offer-clause-after
+try_once-best-requires-in-loop-offer-clause-after c =
+    let its = c.requires.trial in omega (arith, c.end-end.ensures.value, its.ceilings.begin, its.sides.its.from)
+
+pub try_once-best-requires-in-loop-offer-clause-soon : goal.try_once-best-requires-in-loop-offer-clause-soon
+try_once-best-requires-in-loop-offer-clause-soon c =
+    omega (arith, c.end-end.ensures.soon, c.requires.trial.sides.its.passing.stands.early)
 
 pub loop-offer-init : goal.loop-offer-init
-loop-offer-init c =
-    let search = c.args.search.now in record {
-      scored = c.try_leave-best.ensures.scored;
-      keeps = beats-self search.disk.now search.gap.now (wanted_of search.wanted.now) c.try_leave-best.result.plan;
-      tried = λ k o less. absurd (omega (arith, less));
-    }
+loop-offer-init c = record {
+  scored = c.try_once-best.ensures.scored;
+  keeps = itself c.args.trial.now.search.now c.try_once-best.result.plan;
+  tried = λ k o less. absurd (omega (arith, less));
+  notes = c.try_once-best.ensures.notes;
+}
 
 pub loop-offer-preserved : goal.loop-offer-preserved
 loop-offer-preserved c =
-    let search = c.args.search.now in
-    let disk = search.disk.now in
-    let gap = search.gap.now in
-    let wanted = wanted_of search.wanted.now in
+    let trial = c.args.trial.now in
+    let search = trial.search.now in
     let offers = c.offers-offers.result.now in
     let i = c.loop-offer.offer-index in
-    let new = c.try_leave-best-in-loop-offer.result.plan in
+    let new = c.try_once-best-in-loop-offer.result.plan in
     let old = c.loop-offer.best.plan in
-    let step = c.try_leave-best-in-loop-offer.ensures in
-    let this = subst (IsBeaten disk gap wanted c.args.way new) c.end-end.ensures.value step.tried in record {
+    let step = c.try_once-best-in-loop-offer.ensures in
+    let this = subst (IsBeaten trial new) c.end-end.ensures.value step.tried in record {
       scored = step.scored;
-      keeps = beats-trans disk gap wanted new old c.try_leave-best.result.plan step.keeps c.loop-offer.invariant.keeps;
-      tried = offers-more disk gap c.args.way wanted c.args.sides.now.passing offers i old new (get_or offers i _)
-          (slice_get-get_or offers i _ c.loop-offer-test.true) step.keeps this c.loop-offer.invariant.tried;
+      keeps = through search new old c.try_once-best.result.plan step.keeps c.loop-offer.invariant.keeps;
+      tried = offers-more search.disk.now search.gap.now trial.way (wanted_of search.wanted.now) trial.sides.now.passing offers i old new
+          (get_or offers i _) (slice_get-get_or offers i _ c.loop-offer-test.true) step.keeps this c.loop-offer.invariant.tried;
+      notes = step.notes;
     }
 
 pub returns-clause-tried : goal.returns-clause-tried
 returns-clause-tried c = λ leave is.
-    let search = c.args.search.now in
-    let disk = search.disk.now in
-    let gap = search.gap.now in
-    let way = c.args.way in
-    let wanted = wanted_of search.wanted.now in
-    let sides = c.args.sides.now in
-    let its = c.requires.sides.its in
+    let trial = c.args.trial.now in
+    let search = trial.search.now in
+    let sides = trial.sides.now in
+    let its = c.requires.trial.sides.its in
+    let begin = c.requires.trial.ceilings.begin in
     let done = c.loop-offer.invariant in
-    let first = c.try_leave-best.result.plan in
-    let fits = bounds disk gap way leave is in
-    let arrived = c.try_leave-best.ensures.tried (omega (arith, fits.0, fits.1, c.requires.ceilings.begin)) in
-    way_done disk gap way search.wanted.now sides.passing c.offers-offers.result.now sides.early
-    its.passing its.from its.early c.requires.sides.early c.offers-offers.ensures.its
-    c.loop-offer.best.plan first (plan_by way sides.passing.from) c.loop-offer.offer-index leave refl c.loop-offer-test.false done.keeps
-    (subst (λ t. Beats disk gap wanted first (plan_by way t)) (c.requires.ceilings.begin ∙ sym its.from) arrived)
-    done.tried is
+    let first = c.try_once-best.result.plan in
+    let fits = bounds search.disk.now search.gap.now trial.way leave is in
+    let arrived = c.try_once-best.ensures.tried (omega (arith, fits.0, fits.1, begin)) in
+    way_done search.disk.now search.gap.now trial.way search.wanted.now sides.passing c.offers-offers.result.now sides.early
+    its.passing its.from its.early c.requires.trial.sides.early c.offers-offers.ensures.its
+    c.loop-offer.best.plan first (plan_by trial.way sides.passing.from) c.loop-offer.offer-index leave refl c.loop-offer-test.false
+    done.keeps (subst (λ t. IsNoWorse search first (plan_by trial.way t)) (begin ∙ sym its.from) arrived) done.tried is

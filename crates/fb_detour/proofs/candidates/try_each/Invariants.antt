@@ -1,10 +1,12 @@
-use Rattle.fb_detour.proofs.Words.{wanted_of, IsScored, Beats, AreTried}
+use Rattle.fb_detour.proofs.Words.{wanted_of, AreTried, AreNotes, IsFound, IsNoWorse}
 use Rattle.fb_detour.proofs.candidates.try_each.Given as goal
 
 abbrev pub invariant-loop-offer : goal.invariant-loop-offer
-invariant-loop-offer l = record {
-  scored : IsScored l.search.disk.now l.search.gap.now (wanted_of l.search.wanted.now) l.best;
-  keeps : Beats l.search.disk.now l.search.gap.now (wanted_of l.search.wanted.now) l.best.plan l.initial.best.plan;
-  tried : AreTried l.search.disk.now l.search.gap.now l.way (wanted_of l.search.wanted.now) l.sides.passing l.offers l.offer-index
-      l.best.plan;
-}
+invariant-loop-offer l =
+    let search = l.trial.search.now in record {
+      scored : IsFound search l.best;
+      keeps : IsNoWorse search l.best.plan l.initial.best.plan;
+      tried : AreTried search.disk.now search.gap.now l.trial.way (wanted_of search.wanted.now) l.trial.sides.now.passing l.offers
+          l.offer-index l.best.plan;
+      notes : AreNotes l.trial l.best.plan l.notes;
+    }

@@ -1,17 +1,18 @@
-use Rattle.fb_detour.proofs.Words.{arith, ap, ◌≡◌, ◌+◌, ◌*◌, get_or, mul-le}
+use Rattle.fb_detour.proofs.Words.{ap, arith, get_or, ◌*◌, ◌+◌, ◌≡◌}
+use Rattle.fb_detour.proofs.Limits.{fewer_times}
 use Rattle.fb_detour.proofs.Ways.{interval_beaten, late-part}
 use Rattle.fb_detour.proofs.leaves.leaves_beaten.Goals as goal
 
 pub loop-k-preserved : goal.loop-k-preserved
 loop-k-preserved c = λ leave less is.
+    let search = c.args.search.now in
     let its = c.requires.ceilings in
     let ceilings = c.args.ceilings.now in
     let from = ceilings.begin + c.loop-k.k * ceilings.step in
-    interval_beaten c.args.search.now.disk.now c.args.search.now.gap.now c.args.search.now.wanted.now c.args.best c.args.track ceilings.begin ceilings.move_on from (ceilings.begin + (c.loop-k.k + 1) * ceilings.step)
-    (get_or ceilings.early c.loop-k.k 0) c.late_at-after.result
-    c.requires.best (c.is_enough.ensures c.if-not-is_enough.false) its.begin its.on
-    (its.each c.loop-k.k (omega (arith, c.loop-k-test.true)))
-    (omega (arith, late-part c.args.search.now.disk.now c.args.search.now.gap.now c.args.search.now.wanted.now ceilings.late.now (from + ceilings.move_on) its.late (omega (arith, its.begin)), c.late_at-after.ensures.value))
+    let late = late-part search ceilings.late.now (from + ceilings.move_on) its.late (omega (arith, its.begin)) in
+    interval_beaten search c.args.best c.args.track ceilings.begin ceilings.move_on from (ceilings.begin + (c.loop-k.k + 1) * ceilings.step)
+    (get_or ceilings.early c.loop-k.k 0) c.late_at-after.result c.requires.best (c.is_enough.ensures c.if-not-is_enough.false)
+    its.begin its.on (its.each c.loop-k.k (omega (arith, c.loop-k-test.true))) (omega (arith, late, c.late_at-after.ensures.value))
     c.loop-k.invariant leave (omega (arith, less)) is
 
 pub returns : goal.returns
@@ -25,10 +26,15 @@ pub loop-k-init : goal.loop-k-init
 loop-k-init c = λ leave less is. absurd (omega (arith, less, is.after_arrival, c.requires.ceilings.begin))
 
 pub returns-then-latest-from : goal.returns-then-latest-from
-returns-then-latest-from c = λ h leave is. c.loop-k.invariant leave (omega (arith, c.if-latest-from.true, is.in_time, c.requires.ceilings.on)) is
+returns-then-latest-from c = λ h leave is.
+    c.loop-k.invariant leave (omega (arith, c.if-latest-from.true, is.in_time, c.requires.ceilings.on)) is
 
 pub overflow_mul-from : goal.overflow_mul-from
-overflow_mul-from c = omega (arith, mul-le c.loop-k.k c.args.ceilings.now.step 16 c.args.ceilings.now.step (omega (arith, c.loop-k-test.true)) (omega arith), c.requires.ceilings.close, c.requires.search.gap.early_enough)
+overflow_mul-from c =
+    let before = fewer_times c.loop-k.k 16 c.args.ceilings.now.step c.loop-k-test.true in
+    omega (arith, before, c.requires.ceilings.close, c.requires.search.gap.early_enough)
 
 pub overflow_add-from : goal.overflow_add-from
-overflow_add-from c = omega (arith, mul-le c.loop-k.k c.args.ceilings.now.step 16 c.args.ceilings.now.step (omega (arith, c.loop-k-test.true)) (omega arith), c.requires.ceilings.close, c.requires.search.gap.early_enough)
+overflow_add-from c =
+    let before = fewer_times c.loop-k.k 16 c.args.ceilings.now.step c.loop-k-test.true in
+    omega (arith, before, c.requires.ceilings.close, c.requires.search.gap.early_enough)

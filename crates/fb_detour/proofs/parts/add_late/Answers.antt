@@ -1,7 +1,8 @@
-use Rattle.fb_detour.proofs.Words.{◌≡◌, ◌+◌, ◌-◌, ◌*◌, ◌≤◌, ◌∙◌, ap, true, get_or, nat_le, inl, inr, arith, if◌then◌else◌, cases_lt}
-use Rattle.fb_detour.proofs.Words.{nat_tests, late_step}
-use Rattle.fb_detour.proofs.Offers.{if-le-n, offer-worth}
+use Rattle.fb_detour.proofs.Words.{ap, arith, get_or, if◌then◌else◌, inl, inr, nat_le, true, ◌*◌, ◌+◌, ◌-◌, ◌∙◌, ◌≡◌, ◌≤◌, cases_lt}
+use Rattle.fb_detour.proofs.Words.{nat_tests, passes_by, late_step, turned_to}
+use Rattle.fb_detour.proofs.Ceilings.{if-le-n}
 use Rattle.fb_detour.proofs.Limits.{behind_last, beyond_all}
+use Rattle.fb_detour.proofs.Offers.{added-worth}
 use Rattle.fb_detour.proofs.parts.add_late.Goals as goal
 
 pub returns-in-Some-clause-small : goal.returns-in-Some-clause-small
@@ -13,19 +14,19 @@ pub returns-in-Some-clause-limits : goal.returns-in-Some-clause-limits
 returns-in-Some-clause-limits c = λ k less.
     let gap = c.args.gap.now in
     let offer = c.args.offer in
-    let rotation = c.args.passing.now.rotation in
+    let passing = c.args.passing.now in
     let limit = get_or c.add_limit.new.limits k 0 in
     let now : gap.now ≤ limit = omega (arith, c.add_limit.ensures.grow k, c.requires.spread k (omega (arith, less))) in
     elim (cases_lt c.in-Some.last (gap.now + k * late_step gap)) [
       | inl before ↦
-          let none = behind_last rotation gap.now gap.deadline offer c.in-Some.last limit c.in-Some.ensures.some now
+          let none = behind_last passing gap offer c.in-Some.last limit c.in-Some.ensures.some now
           (c.add_limit.ensures.behind k (omega (arith, less)) before) in
           omega (arith, c.add_last.ensures k less, none)
       | inr on ↦
           let by : nat_le (gap.now + k * late_step gap) c.in-Some.last ≡ true = grind (arith, nat_tests) in
-          let added : get_or c.add_last.new.parts k 0 ≡ get_or c.args.parts.now k 0 + offer.worth = c.add_last.ensures k less
+          let grown : get_or c.add_last.new.parts k 0 ≡ get_or c.args.parts.now k 0 + offer.worth = c.add_last.ensures k less
           ∙ ap (λ b. get_or c.args.parts.now k 0 + (if b then offer.worth else 0)) by in
-          omega (arith, added, offer-worth rotation limit gap.deadline offer)
+          omega (arith, grown, added-worth (passes_by (turned_to passing limit) gap.deadline) offer)
     ]
 
 pub returns-in-Some-clause-end : goal.returns-in-Some-clause-end
@@ -33,5 +34,5 @@ returns-in-Some-clause-end c =
     let gap = c.args.gap.now in
     let limit = get_or c.add_limit.new.limits 32 0 in
     let now : gap.now ≤ limit = omega (arith, c.add_limit.ensures.grow 32, c.requires.spread 32 (omega arith)) in
-    behind_last c.args.passing.now.rotation gap.now gap.deadline c.args.offer c.in-Some.last limit c.in-Some.ensures.some now
+    behind_last c.args.passing.now gap c.args.offer c.in-Some.last limit c.in-Some.ensures.some now
     (c.add_limit.ensures.behind 32 (omega arith) (omega (arith, c.in-Some.ensures.within.1, beyond_all (gap.deadline - gap.now))))

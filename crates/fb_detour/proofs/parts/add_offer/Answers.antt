@@ -1,26 +1,22 @@
-use Rattle.fb_detour.proofs.Words.{arith, ap, refl, ◌≡◌, ◌∙◌, ◌+◌, ◌-◌, ◌/◌, false, nat_lt, if◌then◌else◌, nat_tests, end_of, sum_of_first}
+use Rattle.fb_detour.proofs.Words.{ap, arith, false, if◌then◌else◌, nat_lt, refl, ◌+◌, ◌/◌, ◌∙◌, ◌≡◌, nat_tests, sum_of_first}
 use Rattle.fb_detour.proofs.Arrays.{sum-set}
 use Rattle.fb_detour.proofs.InInterval.{gain-interval}
 use Rattle.fb_detour.proofs.parts.add_offer.Goals as goal
 
 pub returns-then-first : goal.returns-then-first
 returns-then-first c = λ k less.
+    let intervals = c.args.intervals.now in
     let passing = c.args.stop.now.passing in
-    let offer = c.args.offer in
-    let past = c.saturating_sub.result in
-    let is : past ≡ end_of passing.rotation offer.sweep passing.from - passing.from - 1 =
-    omega (arith, c.saturating_sub.ensures, c.end.ensures.value) in
-    sum-set c.args.intervals.now (past / c.args.step) (k + 1) _ offer.worth (omega (arith, c.told-intervals, c.if-first.true)) refl
-    ∙ ap (λ gain. sum_of_first (k + 1) c.args.intervals.now + gain)
-    (gain-interval passing.rotation passing.from past c.args.step k offer is c.requires.some)
+    let past = c.saturating_sub in
+    sum-set intervals (past.result / c.args.step) (k + 1) _ c.args.offer.worth (omega (arith, c.told-intervals, c.if-first.true)) refl
+    ∙ ap (λ gain. sum_of_first (k + 1) intervals + gain)
+    (gain-interval passing past.result c.args.step k c.args.offer (omega (arith, past.ensures, c.end.ensures.value)) c.requires.some)
 
 pub returns-else-first : goal.returns-else-first
 returns-else-first c = λ k less.
-    let passing = c.args.stop.now.passing in
     let offer = c.args.offer in
-    let past = c.saturating_sub.result in
-    let is : past ≡ end_of passing.rotation offer.sweep passing.from - passing.from - 1 =
-    omega (arith, c.saturating_sub.ensures, c.end.ensures.value) in
-    let late : nat_lt (past / c.args.step) (k + 1) ≡ false = grind (arith, nat_tests) in
-    let none = gain-interval passing.rotation passing.from past c.args.step k offer is c.requires.some in
+    let past = c.saturating_sub in
+    let late : nat_lt (past.result / c.args.step) (k + 1) ≡ false = grind (arith, nat_tests) in
+    let none = gain-interval c.args.stop.now.passing past.result c.args.step k offer
+    (omega (arith, past.ensures, c.end.ensures.value)) c.requires.some in
     omega (arith, none, ap (λ by. if by then offer.worth else 0) late)

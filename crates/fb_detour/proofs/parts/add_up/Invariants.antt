@@ -1,4 +1,4 @@
-use Rattle.fb_detour.proofs.Words.{◌≡◌, ◌+◌, ◌<◌, ◌≤◌, ℕ, get_or, length, sum_of_first}
+use Rattle.fb_detour.proofs.Words.{get_or, length, ℕ, ◌+◌, ◌<◌, ◌≡◌, ◌≤◌, sum_of_first}
 use Rattle.fb_detour.proofs.parts.add_up.Given as goal
 
 abbrev pub invariant-loop-k : goal.invariant-loop-k

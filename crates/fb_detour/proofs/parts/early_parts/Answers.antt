@@ -1,42 +1,39 @@
-use Rattle.fb_detour.proofs.Words.{◌+◌, ◌*◌, ◌∙◌, arith, offer_gain}
-use Rattle.fb_detour.proofs.Offers.{all-of, sum-more, within-weight}
+use Rattle.fb_detour.proofs.Words.{arith, take, ℕ, ◌*◌, ◌+◌, ◌∙◌, ◌≡◌, ◌≤◌, sum_by, added, passes_by, IsReady, Stop}
+use Rattle.fb_detour.proofs.Offers.{added-worth, all-of, small-sum, sum-more}
 use Rattle.fb_detour.proofs.parts.early_parts.Goals as goal
+
+-- what the offers so far add up to an instant is small
+small : (stop : Stop) (upto n sum : ℕ) → IsReady stop → sum ≡ sum_by (added (passes_by stop.passing upto)) (take n stop.offers.now)
+    → sum ≤ 16000000 * 2048000
+small stop upto n sum ready is =
+    omega (arith, is, small-sum stop (added (passes_by stop.passing upto)) n (added-worth (passes_by stop.passing upto)) ready)
 
 pub add_offer-requires-clause-in_turn : goal.add_offer-requires-clause-in_turn
 add_offer-requires-clause-in_turn c = c.requires.stop.in_turn c.loop-offer.offer-index _ c.loop-offer-test.true
 
 pub add_offer-requires-clause-room : goal.add_offer-requires-clause-room
 add_offer-requires-clause-room c = λ k less.
-    let stop = c.args.stop.now in
-    let upto = stop.passing.from + (k + 1) * c.args.step in
-    let most = within-weight stop stop.passing.from upto c.loop-offer.offer-index c.requires.stop in
-    omega (arith, c.loop-offer.invariant k less, most, c.requires.stop.small)
+    small c.args.stop.now (c.args.stop.now.passing.from + (k + 1) * c.args.step) c.loop-offer.offer-index _ c.requires.stop
+    (c.loop-offer.invariant k less)
 
 pub loop-offer-preserved : goal.loop-offer-preserved
 loop-offer-preserved c = λ k less.
     let stop = c.args.stop.now in
-    let gain = offer_gain stop.passing.rotation stop.passing.from (stop.passing.from + (k + 1) * c.args.step) in
-    sum-more gain stop.offers.now c.loop-offer.offer-index _ c.loop-offer-test.true
-    _ _ (c.loop-offer.invariant k less) (c.add_offer.ensures k less)
+    sum-more (added (passes_by stop.passing (stop.passing.from + (k + 1) * c.args.step))) stop.offers.now c.loop-offer.offer-index _
+    c.loop-offer-test.true _ _ (c.loop-offer.invariant k less) (c.add_offer.ensures k less)
 
 pub add_up-requires : goal.add_up-requires
-add_up-requires c =
-    let stop = c.args.stop.now in record {
-      room = λ k less.
-          let upto = stop.passing.from + (k + 1) * c.args.step in
-          let most = within-weight stop stop.passing.from upto c.loop-offer.offer-index c.requires.stop in
-          omega (arith, c.loop-offer.invariant k less, most, c.requires.stop.small);
-    }
+add_up-requires c = record {
+  room = λ k less. small c.args.stop.now (c.args.stop.now.passing.from + (k + 1) * c.args.step) c.loop-offer.offer-index _
+      c.requires.stop (c.loop-offer.invariant k less);
+}
 
 pub returns : goal.returns
 returns c =
-    let stop = c.args.stop.now in record {
-      each = λ k less.
-          let gain = offer_gain stop.passing.rotation stop.passing.from (stop.passing.from + (k + 1) * c.args.step) in
-          c.add_up.ensures k less
-          ∙ (c.loop-offer.invariant k less ∙ all-of gain stop.offers.now c.loop-offer.offer-index c.loop-offer-test.false);
-      small = λ k less.
-          let upto = stop.passing.from + (k + 1) * c.args.step in
-          let most = within-weight stop stop.passing.from upto c.loop-offer.offer-index c.requires.stop in
-          omega (arith, c.add_up.ensures k less, c.loop-offer.invariant k less, most, c.requires.stop.small);
+    let stop = c.args.stop.now in
+    let i = c.loop-offer.offer-index in
+    let upto = λ (k : ℕ). stop.passing.from + (k + 1) * c.args.step in record {
+      each = λ k less. c.add_up.ensures k less ∙ (c.loop-offer.invariant k less
+          ∙ all-of (added (passes_by stop.passing (upto k))) stop.offers.now i c.loop-offer-test.false);
+      small = λ k less. small stop (upto k) i _ c.requires.stop (c.add_up.ensures k less ∙ c.loop-offer.invariant k less);
     }

@@ -1,4 +1,4 @@
-use Rattle.fb_detour.proofs.Words.{◌≡◌, ◌+◌, ◌-◌, ◌*◌, ◌<◌, ℕ, get_or, length}
+use Rattle.fb_detour.proofs.Words.{get_or, length, ℕ, ◌*◌, ◌+◌, ◌-◌, ◌<◌, ◌≡◌}
 use Rattle.fb_detour.proofs.parts.first_limits.Given as goal
 
 abbrev pub invariant-loop-k : goal.invariant-loop-k

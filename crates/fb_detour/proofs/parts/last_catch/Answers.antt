@@ -1,4 +1,4 @@
-use Rattle.fb_detour.proofs.Words.{arith, ap, sym, ◌≡◌, ◌<◌, ◌∙◌, ◌*◌, ◌/◌, ◌-◌, div-mul-le_self, Shape, end_of, next-le}
+use Rattle.fb_detour.proofs.Words.{ap, arith, sym, ◌*◌, ◌-◌, ◌/◌, ◌<◌, ◌∙◌, ◌≡◌, div-mul-le_self, Shape, next-le, end_of}
 use Rattle.fb_detour.proofs.Rounds.{last_instant}
 use Rattle.fb_detour.proofs.parts.last_catch.Goals as goal
 

@@ -1,6 +1,6 @@
-use Rattle.fb_detour.proofs.Words.{ℕ, ◌+◌, ◌-◌, ◌*◌, ◌/◌, ◌≤◌, [], ◌∷◌, take, get_or, length, arith, refl, subst, get_or-replicate, Offer}
-use Rattle.fb_detour.proofs.Words.{on_track, offer_gain, late_most, IsStop}
-use Rattle.fb_detour.proofs.Offers.{gives, all-of, bound-more, none-more, take-le, sums-fall, within-more}
+use Rattle.fb_detour.proofs.Words.{arith, get_or, length, subst, take, ℕ, ◌*◌, ◌+◌, ◌-◌, ◌/◌, ◌<◌, ◌≤◌, get_or-replicate, on_track, Offer}
+use Rattle.fb_detour.proofs.Words.{IsStop, late_gain, late_most}
+use Rattle.fb_detour.proofs.Offers.{all-of, bound-more, gives, none-more, small-sum, sums-fall, within-more}
 use Rattle.fb_detour.proofs.parts.late_parts.Goals as goal
 
 pub loop-offer-init : goal.loop-offer-init
@@ -18,35 +18,35 @@ add_late-requires-clause-in_turn c = c.stop_at-stop.ensures.stop.ready.in_turn c
 
 pub add_late-requires-clause-room : goal.add_late-requires-clause-room
 add_late-requires-clause-room c = λ k less.
-    let ready = c.stop_at-stop.ensures.stop.ready in
-    let most = take-le (λ (offer : Offer). offer.worth) c.loop-offer.offer-index c.stop_at-stop.result.offers.now in
-    omega (arith, c.loop-offer.invariant.small k less, most, ready.weight, ready.small)
+    let stop = c.stop_at-stop in
+    let small = small-sum stop.result (λ (o : Offer). o.worth) c.loop-offer.offer-index (λ o. omega arith) stop.ensures.stop.ready in
+    omega (arith, c.loop-offer.invariant.small k less, small)
 
 pub loop-offer-preserved : goal.loop-offer-preserved
 loop-offer-preserved c =
     let gap = c.args.gap.now in
     let stop = c.stop_at-stop.result in
-    let rotation = stop.passing.rotation in
-    let some = c.args.disk.now.some_rotation in
     let offers = stop.offers.now in
     let i = c.loop-offer.offer-index in
     let within = c.loop-offer-test.true in
     let so_far = c.loop-offer.invariant in
-    let added = c.add_late.ensures in
+    let new = c.add_late.ensures in
     let limit = λ (k : ℕ). get_or c.add_late.new.limits k 0 in
-    let gain = λ (from : ℕ). offer_gain rotation from gap.deadline in
-    let falls = λ (k : ℕ). sums-fall rotation gap.deadline (get_or c.loop-offer.limits k 0) (limit k) (take i offers)
-    (omega (arith, some, c.stop_at-stop.ensures.stop.passing.rotation)) (added.grow k) in record {
+    let gain = λ (from : ℕ). late_gain stop.passing gap from in
+    let turning = c.stop_at-stop.ensures.stop.passing in
+    let some : 0 < stop.passing.rotation = omega (arith, c.args.disk.now.some_rotation, turning.rotation) in
+    let old = λ (k : ℕ). get_or c.loop-offer.limits k 0 in
+    let falls = λ (k : ℕ). sums-fall stop.passing gap (old k) (limit k) (take i offers) some (new.grow k) in record {
       parts = λ k less.
           let from = gap.now + k * ((gap.deadline - gap.now) / 32 + 1) in
-          bound-more (gain from) offers i _ within _ _ (so_far.parts k less) (added.most k less);
-      small = λ k less. within-more (λ (offer : Offer). offer.worth) offers i _ within _ _ (so_far.small k less) (added.small k less);
+          bound-more (gain from) offers i _ within _ _ (so_far.parts k less) (new.most k less);
+      small = λ k less. within-more (λ (offer : Offer). offer.worth) offers i _ within _ _ (so_far.small k less) (new.small k less);
       limits = λ k less.
           bound-more (gain (limit k)) offers i _ within (get_or c.loop-offer.parts k 0) _
-          (omega (arith, falls k, so_far.limits k less)) (added.limits k less);
-      spread = λ k less. omega (arith, added.grow k, so_far.spread k less);
-      end = none-more (gain (limit 32)) offers i _ within (omega (arith, falls 32, so_far.end)) added.end;
-      start = omega (arith, added.first, so_far.start);
+          (omega (arith, falls k, so_far.limits k less)) (new.limits k less);
+      spread = λ k less. omega (arith, new.grow k, so_far.spread k less);
+      end = none-more (gain (limit 32)) offers i _ within (omega (arith, falls 32, so_far.end)) new.end;
+      start = omega (arith, new.first, so_far.start);
     }
 
 pub returns : goal.returns
@@ -55,22 +55,21 @@ returns c =
     let gap = c.args.gap.now in
     let es = c.args.wanted.now in
     let stop = c.stop_at-stop.result in
-    let ready = c.stop_at-stop.ensures.stop.ready in
     let its : IsStop disk (on_track gap.target es) stop =
     subst (λ xs. IsStop disk xs stop) c.blocks_on-blocks.ensures.its c.stop_at-stop.ensures.stop in
     let so_far = c.loop-offer.invariant in
-    let most = take-le (λ (offer : Offer). offer.worth) c.loop-offer.offer-index stop.offers.now in
     let offers = stop.offers.now in
     let i = c.loop-offer.offer-index in
     let all : length offers ≤ i = c.loop-offer-test.false in
-    let done = λ (from : ℕ). all-of (offer_gain stop.passing.rotation from gap.deadline) offers i all in
+    let small = small-sum stop (λ (o : Offer). o.worth) i (λ o. omega arith) c.stop_at-stop.ensures.stop.ready in
+    let done = λ (from : ℕ). all-of (late_gain stop.passing gap from) offers i all in
     let stays = λ (from : ℕ). gives disk (late_most gap from) es stop its in record {
       late = record {
         some = omega arith;
         from_now = omega arith;
         each = λ k less.
             let from = gap.now + k * ((gap.deadline - gap.now) / 32 + 1) in omega (arith, done from, stays from, so_far.parts k less);
-        small = λ k less. omega (arith, so_far.small k less, most, ready.weight, ready.small);
+        small = λ k less. omega (arith, so_far.small k less, small);
         start = so_far.start;
         limits = λ k less. let from = get_or c.loop-offer.limits k 0 in omega (arith, done from, stays from, so_far.limits k less);
         end = let from = get_or c.loop-offer.limits 32 0 in omega (arith, done from, stays from, so_far.end);

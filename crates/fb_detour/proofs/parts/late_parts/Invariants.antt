@@ -1,10 +1,10 @@
-use Rattle.fb_detour.proofs.Words.{◌≡◌, ◌+◌, ◌-◌, ◌*◌, ◌<◌, ◌≤◌, ℕ, get_or, take, sum_by, Offer, offer_gain}
+use Rattle.fb_detour.proofs.Words.{get_or, take, ℕ, ◌*◌, ◌+◌, ◌-◌, ◌<◌, ◌≡◌, ◌≤◌, sum_by, Offer, late_gain}
 use Rattle.fb_detour.proofs.parts.late_parts.Given as goal
 
 abbrev pub invariant-loop-offer : goal.invariant-loop-offer
 invariant-loop-offer l =
     let seen = take l.offer-index l.stop.offers.now in
-    let gain = λ (from : ℕ). offer_gain l.stop.passing.rotation from l.gap.deadline in record {
+    let gain = λ (from : ℕ). late_gain l.stop.passing l.gap from in record {
       parts : (k : ℕ) → k < 32 → sum_by (gain (l.gap.now + k * l.step)) seen ≤ get_or l.parts k 0;
       small : (k : ℕ) → k < 32 → get_or l.parts k 0 ≤ sum_by (λ (offer : Offer). offer.worth) seen;
       limits : (k : ℕ) → k < 32 → sum_by (gain (get_or l.limits k 0)) seen ≤ get_or l.parts k 0;

@@ -1,12 +1,14 @@
-use Rattle.fb_detour.proofs.Words.{◌≡◌, ◌-◌, ◌<◌, ℕ, get_or, wanted_of, IsScored, Beats}
-use Rattle.fb_detour.proofs.Keys.{AreDone}
+use Rattle.fb_detour.proofs.Words.{◌-◌, ◌<◌, IsFound, IsNoWorse}
+use Rattle.fb_detour.proofs.Keys.{AreDone, IsAmong}
 use Rattle.fb_detour.proofs.search.+visit.Given as goal
 
 abbrev pub invariant-loop-key : goal.invariant-loop-key
-invariant-loop-key l = IsScored l.search.disk.now l.search.gap.now (wanted_of l.search.wanted.now) l.best
-    × Beats l.search.disk.now l.search.gap.now (wanted_of l.search.wanted.now) l.best.plan l.initial.best.plan
-    × AreDone l.search.disk.now l.search.gap.now (wanted_of l.search.wanted.now) l.from l.end l.width l.keys l.best.plan l.key
-    × (0 < l.key → (i : ℕ) × (i < 8) × (get_or l.keys i 0 ≡ l.key))
+invariant-loop-key l = record {
+  scored : IsFound l.search l.best;
+  keeps : IsNoWorse l.search l.best.plan l.initial.best.plan;
+  done : AreDone l.search l.from l.end l.width l.keys l.best.plan l.key;
+  among : 0 < l.key → IsAmong l.keys l.key;
+}
 
 abbrev pub decreases-loop-key : goal.decreases-loop-key
 decreases-loop-key l = l.key

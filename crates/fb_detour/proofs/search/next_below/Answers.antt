@@ -1,4 +1,4 @@
-use Rattle.fb_detour.proofs.Words.{◌≡◌, arith, inl, inr, ap, get_or, cases_lt}
+use Rattle.fb_detour.proofs.Words.{ap, arith, get_or, inl, inr, ◌≡◌, cases_lt}
 use Rattle.fb_detour.proofs.search.next_below.Goals as goal
 
 pub loop-j-preserved : goal.loop-j-preserved

@@ -1,5 +1,5 @@
-use Rattle.fb_detour.proofs.Words.{◌≡◌, ◌+◌, ap, arith, distance_of, seek, distance_to}
-use Rattle.fb_detour.proofs.Ranges.{way-there, way-on}
+use Rattle.fb_detour.proofs.Words.{ap, arith, ◌+◌, ◌≡◌, distance_of, seek, distance_to}
+use Rattle.fb_detour.proofs.Ranges.{way-on, way-there}
 use Rattle.fb_detour.proofs.steps.reach_by.Goals as goal
 
 pub returns : goal.returns

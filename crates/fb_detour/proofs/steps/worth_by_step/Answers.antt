@@ -1,4 +1,4 @@
-use Rattle.fb_detour.proofs.Words.{arith, ◌-◌, ◌+◌, get_or, mul-le}
+use Rattle.fb_detour.proofs.Words.{arith, get_or, ◌+◌, ◌-◌, mul-le}
 use Rattle.fb_detour.proofs.steps.worth_by_step.Goals as goal
 
 pub returns-clause-most : goal.returns-clause-most

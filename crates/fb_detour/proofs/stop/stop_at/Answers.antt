@@ -1,4 +1,4 @@
-use Rattle.fb_detour.proofs.Words.{◌∙◌, sym, offers-in-turn}
+use Rattle.fb_detour.proofs.Words.{sym, ◌∙◌, offers-in-turn}
 use Rattle.fb_detour.proofs.stop.stop_at.Goals as goal
 
 pub returns-clause-stop : goal.returns-clause-stop
