@@ -1,11 +1,9 @@
 -- No plan of a way is worth more than its ceiling.
-use Rattle.fb_detour.proofs.Words.{List, arith, get_or, inl, inr, min, refl, ℕ, ◌*◌, ◌+◌, ◌-◌, ◌/◌, ◌<◌, ◌≡◌, ◌≤◌, mod-lt, mul-le-mul_right}
-use Rattle.fb_detour.proofs.Words.{cases_lt, div-add-mod', Disk, Entry, Gap, IsPlan, early_dwell, late_dwell, bounds, arrival, early_track}
-use Rattle.fb_detour.proofs.Words.{move_on, plan_by, Over, Source, IsLate, early_to, late_most, part_at, value_in, stay, Search, LateParts}
-use Rattle.fb_plan.specs.declared.way.Way.{Way}
+use Rattle.fb_detour.proofs.Words.{List, arith, get_or, inl, inr, min, ℕ, ◌*◌, ◌+◌, ◌-◌, ◌/◌, ◌<◌, ◌≡◌, ◌≤◌, mod-lt, mul-le-mul_right}
+use Rattle.fb_detour.proofs.Words.{cases_lt, div-add-mod', Disk, Entry, Gap, IsPlan, bounds, arrival, early_track, move_on, plan_by, Way}
+use Rattle.fb_detour.proofs.Words.{Over, Source, IsLate, early_to, part_at, value_in, stay, Search, LateParts}
 use Rattle.fb_detour.proofs.Arrays.{over_all}
-use Rattle.fb_detour.proofs.Ceilings.{longer_stay, two_stays}
-use Rattle.fb_detour.proofs.Ways.{late-part}
+use Rattle.fb_detour.proofs.Ways.{by_interval, late-part}
 
 -- the interval in which the head leaves ends no sooner
 in_interval : (n past : ℕ) → past ≤ n → past ≤ (min (past / (n / 16 + 1)) 15 + 1) * (n / 16 + 1)
@@ -31,20 +29,6 @@ module _ (search : Search) where
   abbrev entries : List Entry
   entries = search.wanted.now
 
-  early_stay : (way : Way) (leave begin upto : ℕ) → begin ≡ arrival disk gap way → leave ≤ upto
-      → stay disk (early_dwell disk gap (plan_by way leave)) entries ≤ stay disk (early_to (early_track gap way) begin upto) entries
-  early_stay Source leave begin upto b le = longer_stay disk (early_dwell disk gap (plan_by Source leave))
-      (early_to gap.source begin upto) entries disk.some_rotation refl (omega (arith, b)) le
-  early_stay (Over track) leave begin upto b le = longer_stay disk (early_dwell disk gap (plan_by (Over track) leave))
-      (early_to track begin upto) entries disk.some_rotation refl (omega (arith, b)) le
-
-  late_stay : (way : Way) (leave on : ℕ) → on ≡ move_on disk gap way
-      → stay disk (late_dwell disk gap (plan_by way leave)) entries ≤ stay disk (late_most gap (leave + on)) entries
-  late_stay Source leave on o = longer_stay disk (late_dwell disk gap (plan_by Source leave)) (late_most gap (leave + on)) entries
-      disk.some_rotation refl (omega (arith, o)) (omega arith)
-  late_stay (Over track) leave on o = longer_stay disk (late_dwell disk gap (plan_by (Over track) leave)) (late_most gap (leave + on))
-      entries disk.some_rotation refl (omega (arith, o)) (omega arith)
-
   pub from_now : (way : Way) → gap.now ≤ arrival disk gap way
   from_now Source = omega arith
   from_now (Over track) = omega arith
@@ -63,11 +47,5 @@ module _ (search : Search) where
       let near = in_interval n (leave - begin) (omega (arith, within.0, within.1, b, o)) in
       let upto : leave ≤ begin + (k + 1) * step = omega (arith, near, within.0, b) in
       let target = late-part search late (leave + on) is-late (omega (arith, from_now way, within.0)) in
-      omega (
-        arith,
-        two_stays disk gap (plan_by way leave) entries,
-        early_stay way leave begin (begin + (k + 1) * step) b upto,
-        late_stay way leave on o,
-        each k (omega arith),
-        target,
-      )
+      let most = by_interval search way leave begin (begin + (k + 1) * step) (leave + on) b upto (omega (arith, o)) in
+      omega (arith, most, each k (omega arith), target)

@@ -1,8 +1,8 @@
 -- What no detour over a track can exceed.
 use Rattle.fb_detour.proofs.Words.{List, arith, inl, inr, min, refl, ℕ, ◌*◌, ◌+◌, ◌-◌, ◌/◌, ◌<◌, ◌^◌, ◌≡◌, ◌≤◌, div-mul-le_self, cases_lt}
-use Rattle.fb_detour.proofs.Words.{mul-le, Track, Disk, wanted_weight, Entry, Dwell, Gap, Detour, early_dwell, late_dwell, arrival, move_on}
-use Rattle.fb_detour.proofs.Words.{Scored, Over, IsDetourIn, IsEnough, IsFound, IsLate, IsNoWorse, IsReach, early_to, late_most, part_at}
-use Rattle.fb_detour.proofs.Words.{value_in, stay, Search, LateParts}
+use Rattle.fb_detour.proofs.Words.{mul-le, Track, Disk, wanted_weight, Entry, Dwell, Gap, Detour, early_dwell, late_dwell, arrival}
+use Rattle.fb_detour.proofs.Words.{early_track, move_on, plan_by, Scored, Way, Over, Source, IsDetourIn, IsEnough, IsFound, IsLate}
+use Rattle.fb_detour.proofs.Words.{IsNoWorse, IsReach, early_to, late_most, part_at, value_in, stay, Search, LateParts}
 use Rattle.fb_detour.specs.declared.steps.Reach.{Reach}
 use Rattle.fb_detour.proofs.Ceilings.{longer_stay, two_stays, weight_of_stay}
 use Rattle.fb_detour.proofs.Found.{not_better}
@@ -21,16 +21,34 @@ module _ (search : Search) where
   abbrev entries : List Entry
   entries = search.wanted.now
 
+  early-le : (way : Way) (leave begin upto : ℕ) → begin ≡ arrival disk gap way → leave ≤ upto
+      → stay disk (early_dwell disk gap (plan_by way leave)) entries ≤ stay disk (early_to (early_track gap way) begin upto) entries
+  early-le Source leave begin upto b le = longer_stay disk (early_dwell disk gap (plan_by Source leave))
+      (early_to gap.source begin upto) entries disk.some_rotation refl (omega (arith, b)) le
+  early-le (Over track) leave begin upto b le = longer_stay disk (early_dwell disk gap (plan_by (Over track) leave))
+      (early_to track begin upto) entries disk.some_rotation refl (omega (arith, b)) le
+
+  late-le : (way : Way) (leave from : ℕ) → from ≤ leave + move_on disk gap way
+      → stay disk (late_dwell disk gap (plan_by way leave)) entries ≤ stay disk (late_most gap from) entries
+  late-le Source leave from le = longer_stay disk (late_dwell disk gap (plan_by Source leave)) (late_most gap from) entries
+      disk.some_rotation refl le (omega arith)
+  late-le (Over track) leave from le = longer_stay disk (late_dwell disk gap (plan_by (Over track) leave)) (late_most gap from)
+      entries disk.some_rotation refl le (omega arith)
+
+  -- by the time up to one leave on the track, and after another on the target
+  pub by_interval : (way : Way) (leave begin upto from : ℕ) → begin ≡ arrival disk gap way → leave ≤ upto
+      → from ≤ leave + move_on disk gap way → value_in search (plan_by way leave)
+      ≤ stay disk (early_to (early_track gap way) begin upto) entries + stay disk (late_most gap from) entries
+  by_interval way leave begin upto from b le high = omega (
+    arith,
+    two_stays disk gap (plan_by way leave) entries,
+    early-le way leave begin upto b le,
+    late-le way leave from high,
+  )
+
   module _ (track : Track) (leave : ℕ) (is : IsDetourIn search track leave) where
     abbrev early_stay : Dwell
     early_stay = early_dwell disk gap (Detour track leave)
-
-    abbrev late_stay : Dwell
-    late_stay = late_dwell disk gap (Detour track leave)
-
-    late-from : (from : ℕ) → from ≤ leave + move_on disk gap (Over track)
-        → stay disk late_stay entries ≤ stay disk (late_most gap from) entries
-    late-from from le = longer_stay disk late_stay (late_most gap from) entries disk.some_rotation refl le (omega arith)
 
     -- by the track's weight, and what the target gives from an instant on
     pub by_weight : (from : ℕ) → from ≤ arrival disk gap (Over track) + move_on disk gap (Over track)
@@ -39,19 +57,7 @@ module _ (search : Search) where
       arith,
       two_stays disk gap (Detour track leave) entries,
       weight_of_stay disk early_stay entries,
-      late-from from (omega (arith, is.after_arrival, le)),
-    )
-
-    -- by the time up to one leave on the track, and after another on the target
-    pub by_interval : (arrive upto from way : ℕ) → arrive ≡ arrival disk gap (Over track) → way ≡ move_on disk gap (Over track)
-        → from ≤ leave → leave ≤ upto
-        → value_in search (Detour track leave)
-        ≤ stay disk (early_to track arrive upto) entries + stay disk (late_most gap (from + way)) entries
-    by_interval arrive upto from way a w low high = omega (
-      arith,
-      two_stays disk gap (Detour track leave) entries,
-      longer_stay disk early_stay (early_to track arrive upto) entries disk.some_rotation refl (omega (arith, a)) high,
-      late-from (from + way) (omega (arith, w, low)),
+      late-le (Over track) leave from (omega (arith, is.after_arrival, le)),
     )
 
     -- by what passes in no less time than the head stays on the track, and what bounds the target from an instant on
@@ -66,7 +72,7 @@ module _ (search : Search) where
         omega (
           arith,
           two_stays disk gap (Detour track leave) entries,
-          late-from limit behind,
+          late-le (Over track) leave limit behind,
           gives,
           bound (stay disk early_stay entries) (omega (arith, weight_of_stay disk early_stay entries, light))
               (omega (arith, its.1 arrive leave, longer)),
@@ -90,5 +96,5 @@ module _ (search : Search) where
   interval_beaten best track arrive way from upto early late scored enough a w e l before leave high is = elim (cases_lt leave from) [
     | inl less ↦ before leave less is
     | inr low ↦ not_better search best (early + late) track track leave scored enough (not_itself track)
-        (omega (arith, by_interval track leave is arrive upto from way a w low high, e, l))
+        (omega (arith, by_interval (Over track) leave arrive upto (from + way) a high (omega (arith, w, low)), e, l))
   ]

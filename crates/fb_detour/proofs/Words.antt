@@ -49,6 +49,7 @@ pub use Rattle.fb_plan.specs.Turns.{AreSides, added, begin_of, end_of, passes_by
 pub use Rattle.fb_plan.specs.Ways.{AreOnDisk, FitsDisk, IsGap, IsWay, arrival, early_track, gain, move_on, plan_by}
 pub use Rattle.fb_plan.specs.declared.choice.Scored.{Scored}
 pub use Rattle.fb_plan.specs.declared.turning.Turning.{Turning}
+pub use Rattle.fb_plan.specs.declared.way.Way.{Way}
 pub use Rattle.fb_plan.specs.declared.way.Way.TheVariants.{Over, Source}
 pub use Rattle.fb_detour.specs.Bounds.{AreCeilings, AreNotes, BeatsTrack, BeatsTracks, IsBeaten, IsCeiling, IsDetourIn, IsEnough, IsFound}
 pub use Rattle.fb_detour.specs.Bounds.{IsKey, IsLate, IsNoWorse, IsReach, IsReady, IsSearch, IsStop, IsTrial, distance_to, early_to}

@@ -1,4 +1,4 @@
-use Rattle.fb_detour.proofs.Words.{ap, arith, subst, ◌+◌, ◌-◌, ◌∙◌, ◌≡◌, on_track, IsEnough, IsStop, early_to, offered, stay}
+use Rattle.fb_detour.proofs.Words.{ap, arith, subst, ◌+◌, ◌-◌, ◌∙◌, ◌≡◌, on_track, Over, IsEnough, IsStop, early_to, offered, stay}
 use Rattle.fb_detour.proofs.Found.{not_better}
 use Rattle.fb_detour.proofs.Offers.{gives}
 use Rattle.fb_detour.proofs.Ranges.{not_itself}
@@ -24,8 +24,9 @@ returns-then-misses_enough-clause-tried c = λ leave is.
     let same : offered stop latest ≡ stay disk (early_to track arrive latest) entries =
     gives disk (early_to track stop.passing.from latest) entries stop its
     ∙ ap (λ t. stay disk (early_to track t latest) entries) c.stop_at-stop.ensures.arrive in
-    let bound = by_interval search track leave is arrive latest arrive on.result (ap (λ x. search.gap.now.now + x) there.ensures.value)
-    on.ensures.value (omega (arith, is.after_arrival, there.ensures.value)) (omega (arith, is.in_time, on.ensures.value)) in
+    let bound = by_interval search (Over track) leave arrive latest (arrive + on.result)
+    (ap (λ x. search.gap.now.now + x) there.ensures.value) (omega (arith, is.in_time, on.ensures.value))
+    (omega (arith, is.after_arrival, there.ensures.value, on.ensures.value)) in
     let late = late-part search search.late.now (arrive + on.result) c.requires.search.late (omega arith) in
     not_better search best ceiling track track leave c.requires.best enough (not_itself track)
     (omega (arith, bound, same, most.1, late, c.late_at-after.ensures.value))
