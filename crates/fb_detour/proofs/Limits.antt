@@ -1,11 +1,7 @@
 -- Limits: from each of them on the target gives no more than the part that it belongs to.
-use Rattle.fb_detour.proofs.Words.{List, ap, arith, false, get_or, if◌then◌else◌, inl, inr, length, nat_le, subst, suc, zero, ℕ, ◌*◌, ◌+◌}
-use Rattle.fb_detour.proofs.Words.{◌-◌, ◌/◌, ◌<◌, ◌≡◌, ◌≤◌, div-mul-le_self, mod-lt, cases_lt, cases_order, nat_tests, get_or-set_other}
+use Rattle.fb_detour.proofs.Words.{List, ap, arith, false, get_or, if◌then◌else◌, inl, inr, length, nat_le, subst, ℕ, ◌*◌, ◌+◌, ◌-◌, ◌/◌}
+use Rattle.fb_detour.proofs.Words.{◌<◌, ◌≡◌, ◌≤◌, div-mul-le_self, mod-lt, cases_lt, cases_order, nat_tests, get_or-set_other}
 use Rattle.fb_detour.proofs.Words.{get_or-set_same, div-add-mod', mul-le, slice_set, Offer, Gap, end_of, Turning, late_gain}
-
--- fewer times a number is no more
-pub fewer_times : (k n m : ℕ) → k < n → k * m ≤ n * m
-fewer_times k n m less = mul-le k m n m (omega arith) (omega arith)
 
 -- the quotient of a number below so many steps is less than that
 pub steps_below : (n step m : ℕ) → n < m * step → n / step < m
@@ -40,11 +36,6 @@ module _ (xs : List ℕ) (i v : ℕ) (within : i < length xs) (more : get_or xs 
         absurd (omega (arith, far, div-mul-le_self (last - begin) step, order, part))
   ]
 
--- the first limits
-pub first_limit : (xs : List ℕ) (begin step : ℕ) → get_or xs 0 0 ≡ begin → (j : ℕ) → j < 1 → get_or xs j 0 ≡ begin + (j - 1) * step
-first_limit xs begin step first zero less = omega (arith, first)
-first_limit xs begin step first (suc j) less = absurd (omega (arith, less))
-
 -- what is behind the last instant at which an offer can be caught adds nothing
 pub behind_last : (passing : Turning) (gap : Gap) (offer : Offer) (last from : ℕ)
     → ((t : ℕ) → gap.now ≤ t → end_of passing.rotation offer.sweep t ≤ gap.deadline → t ≤ last) → gap.now ≤ from → last < from
@@ -55,7 +46,3 @@ behind_last passing gap offer last from catches after behind = elim (cases_lt ga
       ap (λ b. if b then offer.worth else 0) missed
   | inr caught ↦ absurd (omega (arith, catches from after caught, behind))
 ]
-
--- thirty-two steps of a bit more than a thirty-second go over the whole
-pub beyond_all : (n : ℕ) → n < 32 * (n / 32 + 1)
-beyond_all n = let whole = div-add-mod' n 32 in let rest = mod-lt n {m = 32} (omega arith) in omega (arith, whole, rest)

@@ -1,7 +1,8 @@
 -- The leaves that are noted as tried.
 use Rattle.fb_detour.proofs.Words.{List, arith, get_or, inl, inr, length, subst, sym, ℕ, ◌<◌, cases_eq, get_or-set_other, length-set}
-use Rattle.fb_detour.proofs.Words.{slice_set, Plan, plan_by, AreNotes, IsBeaten, IsNoWorse, Trial}
+use Rattle.fb_detour.proofs.Words.{slice_set, Plan, plan_by, AreNotes, IsBeaten, IsNoWorse}
 use Rattle.std.proofs.lemmas.Grind.{get_or-set_at}
+use Rattle.fb_detour.specs.declared.candidates.Trial.{Trial}
 use Rattle.fb_detour.proofs.Found.{through}
 
 module _ (trial : Trial) where

@@ -42,13 +42,6 @@ module _ (arm : Mechanics) (rises : SeeksRise arm) (from end : ℕ) (track : Tra
             rw (other, off, head) (omega (arith, near))
       ]
 
--- no track of a cylinder is before its first
-pub first-of : (from : ℕ) (track : Track) → from ≤ track.cylinder → IsTrackBefore track (record { cylinder = from; head = 0 }) → ⊥
-first-of from track low before = elim before [
-  | inl x ↦ absurd (omega (arith, x, low))
-  | inr x ↦ absurd (omega (arith, x.1))
-]
-
 pub not_itself : (track : Track) → IsTrackBefore track track → ⊥
 not_itself track before = elim before [ inl x ↦ absurd (omega arith) | inr x ↦ absurd (omega (arith, x.1)) ]
 

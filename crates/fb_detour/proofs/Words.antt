@@ -44,19 +44,17 @@ pub use Rattle.fb_rows.specs.declared.gap.Plan.TheVariants.{Detour, Direct}
 pub use Rattle.fb_model.specs.Plans.{IsBest, IsNoLater, IsPlan, IsTrackBefore, block_end, catches, early_dwell, late_dwell, value}
 pub use Rattle.fb_plan.proofs.Ends.{end-le, next-le, wait-rest}
 pub use Rattle.fb_plan.proofs.Offered.{offers-in-turn}
-pub use Rattle.fb_plan.proofs.Passed.{AreTried, bounds, offers-more, sides-by, tracks-more, way_done}
-pub use Rattle.fb_plan.specs.Turns.{AreSides, added, begin_of, end_of, passes_by, stay_of}
-pub use Rattle.fb_plan.specs.Ways.{AreOnDisk, FitsDisk, IsGap, IsWay, arrival, early_track, gain, move_on, plan_by}
+pub use Rattle.fb_plan.proofs.Passed.{AreTried, bounds, offers-more, tracks-more, way_done}
+pub use Rattle.fb_plan.specs.Turns.{added, begin_of, end_of, passes_by}
+pub use Rattle.fb_plan.specs.Ways.{AreOnDisk, FitsDisk, IsGap, arrival, early_track, gain, move_on, plan_by}
 pub use Rattle.fb_plan.specs.declared.choice.Scored.{Scored}
 pub use Rattle.fb_plan.specs.declared.turning.Turning.{Turning}
 pub use Rattle.fb_plan.specs.declared.way.Way.{Way}
 pub use Rattle.fb_plan.specs.declared.way.Way.TheVariants.{Over, Source}
-pub use Rattle.fb_detour.specs.Bounds.{AreCeilings, AreNotes, BeatsTrack, BeatsTracks, IsBeaten, IsCeiling, IsDetourIn, IsEnough, IsFound}
-pub use Rattle.fb_detour.specs.Bounds.{IsKey, IsLate, IsNoWorse, IsReach, IsReady, IsSearch, IsStop, IsTrial, distance_to, early_to}
-pub use Rattle.fb_detour.specs.Bounds.{late_gain, late_most, late_step, missed, offered, part_at, slots_within, stay_gain, sum_of_first}
-pub use Rattle.fb_detour.specs.Bounds.{turned_to, value_in}
+pub use Rattle.fb_detour.specs.Bounds.{AreNotes, BeatsTrack, BeatsTracks, IsBeaten, IsCeiling, IsDetourIn, IsEnough, IsFound, IsKey, IsLate}
+pub use Rattle.fb_detour.specs.Bounds.{IsNoWorse, IsReach, IsReady, IsStop, distance_to, early_to, late_gain, late_most, late_step, missed}
+pub use Rattle.fb_detour.specs.Bounds.{offered, part_at, slots_within, stay_gain, sum_of_first, turned_to, value_in}
 unfoldable pub use Rattle.fb_detour.specs.Bounds.{stay}
-pub use Rattle.fb_detour.specs.declared.candidates.Trial.{Trial}
 pub use Rattle.fb_detour.specs.declared.given.Search.{Search}
 pub use Rattle.fb_detour.specs.declared.parts.LateParts.{LateParts}
 pub use Rattle.fb_detour.specs.declared.stop.Stop.{Stop}

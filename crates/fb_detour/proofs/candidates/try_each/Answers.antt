@@ -1,11 +1,7 @@
 use Rattle.fb_detour.proofs.Words.{arith, get_or, refl, subst, sym, ◌∙◌, slice_get-get_or, wanted_of, offers-in-turn, bounds, offers-more}
 use Rattle.fb_detour.proofs.Words.{way_done, plan_by, IsBeaten, IsNoWorse}
-use Rattle.fb_detour.proofs.Found.{itself, through}
+use Rattle.fb_detour.proofs.Found.{through}
 use Rattle.fb_detour.proofs.candidates.try_each.Goals as goal
-
-pub try_once-best-requires-clause-soon : goal.try_once-best-requires-clause-soon
-try_once-best-requires-clause-soon c =
-    let its = c.requires.trial in omega (arith, its.ceilings.begin, its.sides.its.from, its.sides.its.passing.stands.early)
 
 pub end-end-requires-clause-sweep : goal.end-end-requires-clause-sweep
 end-end-requires-clause-sweep c =
@@ -13,22 +9,6 @@ end-end-requires-clause-sweep c =
     let its = c.requires.trial.sides in
     offers-in-turn c.offers-offers.result.now sides.early c.offers-offers.ensures.its c.args.trial.now.search.now.disk.now sides.passing
     its.its.passing its.early c.loop-offer.offer-index _ c.loop-offer-test.true
-
-pub try_once-best-requires-in-loop-offer-clause-after : goal.try_once-best-requires-in-loop-offer-clause-after
-try_once-best-requires-in-loop-offer-clause-after c =
-    let its = c.requires.trial in omega (arith, c.end-end.ensures.value, its.ceilings.begin, its.sides.its.from)
-
-pub try_once-best-requires-in-loop-offer-clause-soon : goal.try_once-best-requires-in-loop-offer-clause-soon
-try_once-best-requires-in-loop-offer-clause-soon c =
-    omega (arith, c.end-end.ensures.soon, c.requires.trial.sides.its.passing.stands.early)
-
-pub loop-offer-init : goal.loop-offer-init
-loop-offer-init c = record {
-  scored = c.try_once-best.ensures.scored;
-  keeps = itself c.args.trial.now.search.now c.try_once-best.result.plan;
-  tried = λ k o less. absurd (omega (arith, less));
-  notes = c.try_once-best.ensures.notes;
-}
 
 pub loop-offer-preserved : goal.loop-offer-preserved
 loop-offer-preserved c =

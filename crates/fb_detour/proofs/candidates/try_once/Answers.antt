@@ -2,10 +2,6 @@ use Rattle.fb_detour.proofs.Words.{arith}
 use Rattle.fb_detour.proofs.Noted.{notes-kept, notes-more}
 use Rattle.fb_detour.proofs.candidates.try_once.Goals as goal
 
-pub returns-then-notes-lt-NOTED-clause-notes : goal.returns-then-notes-lt-NOTED-clause-notes
-returns-then-notes-lt-NOTED-clause-notes c =
-    notes-kept c.args.trial.now c.try_leave.result.plan c.args.best.plan c.args.notes.now c.try_leave.ensures.keeps c.requires.notes
-
 pub returns-clause-notes : goal.returns-clause-notes
 returns-clause-notes c =
     let tried = c.try_leave-2 in

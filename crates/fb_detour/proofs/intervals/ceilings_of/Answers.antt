@@ -4,9 +4,6 @@ use Rattle.fb_detour.proofs.Leaving.{below_ceiling}
 use Rattle.fb_detour.proofs.Offers.{gives}
 use Rattle.fb_detour.proofs.intervals.ceilings_of.Goals as goal
 
-pub early_parts-requires-clause-stop : goal.early_parts-requires-clause-stop
-early_parts-requires-clause-stop c = c.requires.stop.ready
-
 pub returns : goal.returns
 returns c =
     let search = c.args.search.now in

@@ -2,9 +2,6 @@ use Rattle.fb_detour.proofs.Words.{arith, ◌+◌, ◌-◌}
 use Rattle.fb_detour.proofs.Missed.{missed-more, missed-so-far}
 use Rattle.fb_detour.proofs.missing.misses_enough.Goals as goal
 
-pub missed-most-requires-clause-in_turn : goal.missed-most-requires-clause-in_turn
-missed-most-requires-clause-in_turn c = c.requires.stop.in_turn c.loop-offer.offer-index _ c.loop-offer-test.true
-
 pub overflow_sub-most : goal.overflow_sub-most
 overflow_sub-most c = (missed-more c.args.stop.now c.args.latest c.requires.stop
     c.loop-offer.offer-index c.loop-offer.most c.missed-most.result _ c.loop-offer-test.true c.missed-most.ensures c.loop-offer.invariant).0

@@ -1,14 +1,8 @@
-use Rattle.fb_detour.proofs.Words.{ap, arith, get_or, if◌then◌else◌, inl, inr, nat_le, true, ◌*◌, ◌+◌, ◌-◌, ◌∙◌, ◌≡◌, ◌≤◌, cases_lt}
-use Rattle.fb_detour.proofs.Words.{nat_tests, passes_by, late_step, turned_to}
-use Rattle.fb_detour.proofs.Ceilings.{if-le-n}
-use Rattle.fb_detour.proofs.Limits.{behind_last, beyond_all}
+use Rattle.fb_detour.proofs.Words.{ap, arith, get_or, if◌then◌else◌, inl, inr, nat_le, true, ◌*◌, ◌+◌, ◌∙◌, ◌≡◌, ◌≤◌, cases_lt, nat_tests}
+use Rattle.fb_detour.proofs.Words.{passes_by, late_step, turned_to}
+use Rattle.fb_detour.proofs.Limits.{behind_last}
 use Rattle.fb_detour.proofs.Offers.{added-worth}
 use Rattle.fb_detour.proofs.parts.add_late.Goals as goal
-
-pub returns-in-Some-clause-small : goal.returns-in-Some-clause-small
-returns-in-Some-clause-small c = λ k less.
-    let gap = c.args.gap.now in
-    omega (arith, c.add_last.ensures k less, if-le-n (nat_le (gap.now + k * late_step gap) c.in-Some.last) c.args.offer.worth)
 
 pub returns-in-Some-clause-limits : goal.returns-in-Some-clause-limits
 returns-in-Some-clause-limits c = λ k less.
@@ -28,11 +22,3 @@ returns-in-Some-clause-limits c = λ k less.
           ∙ ap (λ b. get_or c.args.parts.now k 0 + (if b then offer.worth else 0)) by in
           omega (arith, grown, added-worth (passes_by (turned_to passing limit) gap.deadline) offer)
     ]
-
-pub returns-in-Some-clause-end : goal.returns-in-Some-clause-end
-returns-in-Some-clause-end c =
-    let gap = c.args.gap.now in
-    let limit = get_or c.add_limit.new.limits 32 0 in
-    let now : gap.now ≤ limit = omega (arith, c.add_limit.ensures.grow 32, c.requires.spread 32 (omega arith)) in
-    behind_last c.args.passing.now gap c.args.offer c.in-Some.last limit c.in-Some.ensures.some now
-    (c.add_limit.ensures.behind 32 (omega arith) (omega (arith, c.in-Some.ensures.within.1, beyond_all (gap.deadline - gap.now))))

@@ -1,4 +1,4 @@
-use Rattle.fb_detour.proofs.Words.{ap, arith, false, if◌then◌else◌, nat_lt, refl, ◌+◌, ◌/◌, ◌∙◌, ◌≡◌, nat_tests, sum_of_first}
+use Rattle.fb_detour.proofs.Words.{ap, arith, refl, ◌+◌, ◌/◌, ◌∙◌, sum_of_first}
 use Rattle.fb_detour.proofs.Arrays.{sum-set}
 use Rattle.fb_detour.proofs.InInterval.{gain-interval}
 use Rattle.fb_detour.proofs.parts.add_offer.Goals as goal
@@ -11,12 +11,3 @@ returns-then-first c = λ k less.
     sum-set intervals (past.result / c.args.step) (k + 1) _ c.args.offer.worth (omega (arith, c.told-intervals, c.if-first.true)) refl
     ∙ ap (λ gain. sum_of_first (k + 1) intervals + gain)
     (gain-interval passing past.result c.args.step k c.args.offer (omega (arith, past.ensures, c.end.ensures.value)) c.requires.some)
-
-pub returns-else-first : goal.returns-else-first
-returns-else-first c = λ k less.
-    let offer = c.args.offer in
-    let past = c.saturating_sub in
-    let late : nat_lt (past.result / c.args.step) (k + 1) ≡ false = grind (arith, nat_tests) in
-    let none = gain-interval c.args.stop.now.passing past.result c.args.step k offer
-    (omega (arith, past.ensures, c.end.ensures.value)) c.requires.some in
-    omega (arith, none, ap (λ by. if by then offer.worth else 0) late)

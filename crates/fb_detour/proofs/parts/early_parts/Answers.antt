@@ -1,5 +1,5 @@
 use Rattle.fb_detour.proofs.Words.{arith, take, ℕ, ◌*◌, ◌+◌, ◌∙◌, ◌≡◌, ◌≤◌, sum_by, added, passes_by, IsReady, Stop}
-use Rattle.fb_detour.proofs.Offers.{added-worth, all-of, small-sum, sum-more}
+use Rattle.fb_detour.proofs.Offers.{added-worth, all-of, small-sum}
 use Rattle.fb_detour.proofs.parts.early_parts.Goals as goal
 
 -- what the offers so far add up to an instant is small
@@ -8,19 +8,10 @@ small : (stop : Stop) (upto n sum : ℕ) → IsReady stop → sum ≡ sum_by (ad
 small stop upto n sum ready is =
     omega (arith, is, small-sum stop (added (passes_by stop.passing upto)) n (added-worth (passes_by stop.passing upto)) ready)
 
-pub add_offer-requires-clause-in_turn : goal.add_offer-requires-clause-in_turn
-add_offer-requires-clause-in_turn c = c.requires.stop.in_turn c.loop-offer.offer-index _ c.loop-offer-test.true
-
 pub add_offer-requires-clause-room : goal.add_offer-requires-clause-room
 add_offer-requires-clause-room c = λ k less.
     small c.args.stop.now (c.args.stop.now.passing.from + (k + 1) * c.args.step) c.loop-offer.offer-index _ c.requires.stop
     (c.loop-offer.invariant k less)
-
-pub loop-offer-preserved : goal.loop-offer-preserved
-loop-offer-preserved c = λ k less.
-    let stop = c.args.stop.now in
-    sum-more (added (passes_by stop.passing (stop.passing.from + (k + 1) * c.args.step))) stop.offers.now c.loop-offer.offer-index _
-    c.loop-offer-test.true _ _ (c.loop-offer.invariant k less) (c.add_offer.ensures k less)
 
 pub add_up-requires : goal.add_up-requires
 add_up-requires c = record {

@@ -13,15 +13,6 @@ loop-offer-init c = record {
   start = omega (arith, c.first_limits-limits.ensures 0 (omega arith));
 }
 
-pub add_late-requires-clause-in_turn : goal.add_late-requires-clause-in_turn
-add_late-requires-clause-in_turn c = c.stop_at-stop.ensures.stop.ready.in_turn c.loop-offer.offer-index _ c.loop-offer-test.true
-
-pub add_late-requires-clause-room : goal.add_late-requires-clause-room
-add_late-requires-clause-room c = λ k less.
-    let stop = c.stop_at-stop in
-    let small = small-sum stop.result (λ (o : Offer). o.worth) c.loop-offer.offer-index (λ o. omega arith) stop.ensures.stop.ready in
-    omega (arith, c.loop-offer.invariant.small k less, small)
-
 pub loop-offer-preserved : goal.loop-offer-preserved
 loop-offer-preserved c =
     let gap = c.args.gap.now in

@@ -1,21 +1,7 @@
 use Rattle.fb_detour.proofs.Words.{arith, ◌*◌, ◌+◌, ◌-◌, ◌∙◌, length-set, IsKey}
 use Rattle.fb_detour.proofs.Arrays.{set-below}
 use Rattle.fb_detour.proofs.Keys.{key-of}
-use Rattle.fb_detour.proofs.Limits.{fewer_times}
 use Rattle.fb_detour.proofs.search.keys_of.Goals as goal
-
-pub overflow_mul-first : goal.overflow_mul-first
-overflow_mul-first c = omega (arith, fewer_times c.loop-j.j 8 c.args.width c.loop-j-test.true, c.requires.width)
-
-pub overflow_add-first : goal.overflow_add-first
-overflow_add-first c =
-    let few = fewer_times c.loop-j.j 8 c.args.width c.loop-j-test.true in
-    omega (arith, few, c.requires.width, c.requires.order, c.requires.within, c.requires.few)
-
-pub overflow_add-behind : goal.overflow_add-behind
-overflow_add-behind c =
-    let few = fewer_times c.loop-j.j 8 c.args.width c.loop-j-test.true in
-    omega (arith, few, c.requires.width, c.requires.order, c.requires.within, c.requires.few)
 
 pub loop-j-preserved : goal.loop-j-preserved
 loop-j-preserved c =

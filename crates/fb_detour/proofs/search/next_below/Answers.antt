@@ -22,10 +22,3 @@ loop-j-preserved c =
             omega (arith, key, next.ensures.other (omega (arith, key, below)))
       ],
     )
-
-pub returns : goal.returns
-returns c = record {
-  less = c.loop-j.invariant.0;
-  its = c.loop-j.invariant.1;
-  greatest = λ j less below. c.loop-j.invariant.2 j (omega (arith, less, c.loop-j-test.false)) below;
-}

@@ -30,10 +30,3 @@ returns-then-misses_enough-clause-tried c = λ leave is.
     let late = late-part search search.late.now (arrive + on.result) c.requires.search.late (omega arith) in
     not_better search best ceiling track track leave c.requires.best enough (not_itself track)
     (omega (arith, bound, same, most.1, late, c.late_at-after.ensures.value))
-
-pub misses_enough-requires-clause-stop : goal.misses_enough-requires-clause-stop
-misses_enough-requires-clause-stop c = c.stop_at-stop.ensures.stop.ready
-
-pub ceilings_of-ceilings-requires-clause-stop : goal.ceilings_of-ceilings-requires-clause-stop
-ceilings_of-ceilings-requires-clause-stop c =
-    subst (λ xs. IsStop c.args.search.now.disk.now xs c.stop_at-stop.result) c.requires.its c.stop_at-stop.ensures.stop

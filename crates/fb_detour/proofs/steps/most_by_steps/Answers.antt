@@ -2,10 +2,6 @@ use Rattle.fb_detour.proofs.Words.{ap, arith, get_or, inl, inr, ◌+◌, ◌-◌
 use Rattle.fb_detour.proofs.Ways.{by_time}
 use Rattle.fb_detour.proofs.steps.most_by_steps.Goals as goal
 
-pub returns-then-search-reach-clause-most : goal.returns-then-search-reach-clause-most
-returns-then-search-reach-clause-most c = λ track leave reach light is.
-    absurd (omega (arith, reach.0, is.after_arrival, is.in_time, c.if-search-reach.true))
-
 pub loop-k-init : goal.loop-k-init
 loop-k-init c = record {
   grows = omega arith;

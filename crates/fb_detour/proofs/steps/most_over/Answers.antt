@@ -9,8 +9,3 @@ returns-then-sum-known-clause-most c = λ track leave low high is.
     let start = ap (λ t. stay search.disk.now (late_most search.gap.now t) search.wanted.now) late.start in
     let weight = c.greatest_weight_in-weight.ensures.each track low high in
     omega (arith, by_weight search track leave is search.gap.now.now (omega arith), weight, late.limits 0 (omega arith), start)
-
-pub returns-clause-most : goal.returns-clause-most
-returns-clause-most c = λ track leave low high is.
-    c.most_by_steps.ensures.most track leave (c.reach_of-reach.ensures track low high)
-    (c.greatest_weight_in-weight.ensures.each track low high) is
