@@ -42,7 +42,8 @@ elsewhere disk dwell e off = rw (off, and_false (is_wanted e.state)) refl
 -- a stay catches blocks of its own track alone
 stay-all : (disk : Disk) (dwell : Dwell) (es : List Entry) → sum_by (stay_gain disk dwell) es ≡ stay disk dwell es
 unfolding stay
-stay-all disk dwell es = one_part (stay_gain disk dwell) (λ e. same_track dwell.track e.block.track) (λ e off. elsewhere disk dwell e off) es
+stay-all disk dwell es = one_part (stay_gain disk dwell) (λ e. same_track dwell.track e.block.track)
+    (λ e off. elsewhere disk dwell e off) es
 
 pub two_stays : (disk : Disk) (gap : Gap) (plan : Plan) (es : List Entry)
     → value disk gap (wanted_of es) plan ≤ stay disk (early_dwell disk gap plan) es + stay disk (late_dwell disk gap plan) es
@@ -95,7 +96,8 @@ weighs : (disk : Disk) (dwell : Dwell) (es : List Entry) → sum_by (stay_gain d
 weighs disk dwell [] = omega arith
 weighs disk dwell (e ∷ es) = elim (cases_Bool (is_wanted e.state)) [
   | inl y ↦
-      let right : sum_by worth (wanted_of (e ∷ es)) ≡ worth e.block + sum_by worth (wanted_of es) = rw y (sum_by-cons worth e.block (wanted_of es)) in
+      let right : sum_by worth (wanted_of (e ∷ es))
+      ≡ worth e.block + sum_by worth (wanted_of es) = rw y (sum_by-cons worth e.block (wanted_of es)) in
       omega (arith, right, sum_by-cons (stay_gain disk dwell) e es, gain-worth disk dwell e, weighs disk dwell es)
   | inr n ↦
       let right : sum_by worth (wanted_of (e ∷ es)) ≡ sum_by worth (wanted_of es) = rw n refl in

@@ -21,7 +21,8 @@ below-next share m lbn (suc n) = omega (arith, below-next share m lbn n, one_mor
 
 below-none : (share : ℕ → ℕ) (lbn n : ℕ) → below share 0 lbn n ≡ 0
 below-none share lbn zero = refl
-below-none share lbn (suc n) = let none : nat_lt (share (lbn + n)) 0 ≡ false = grind (arith, nat_tests) in rw none (omega (arith, below-none share lbn n))
+below-none share lbn (suc n) = let none : nat_lt (share (lbn + n)) 0 ≡ false = grind (arith, nat_tests) in
+    rw none (omega (arith, below-none share lbn n))
 
 below-all : (share : ℕ → ℕ) (m lbn n : ℕ) → ((i : ℕ) → i < n → share (lbn + i) < m) → below share m lbn n ≡ n
 below-all share m lbn zero all = refl
@@ -52,7 +53,11 @@ having-one share j lbn (suc n) s one = elim (cases_Bool (share (lbn + n) == j)) 
 one_of : (share : ℕ → ℕ) (j n s : ℕ) (e : Entry) → n ≤ e.block.count → ((i : ℕ) → i < n → share (e.block.lbn + i) ≡ j → e.block.lbn + i ≡ s)
     → e.block.weight * having share j e.block.lbn n ≤ weight_on s e
 one_of share j n s e few one = elim (cases_Bool (is_in s e.block)) [
-  | inl here ↦ rw here (omega (arith, mul-le e.block.weight (having share j e.block.lbn n) e.block.weight 1 (omega arith) (having-one share j e.block.lbn n s one)))
+  | inl here ↦ rw here (omega (
+    arith,
+    mul-le e.block.weight (having share j e.block.lbn n) e.block.weight 1 (omega arith)
+        (having-one share j e.block.lbn n s one),
+  ))
   | inr off ↦
       let none = having-none share j e.block.lbn n (λ i l same. let at = one i l same in grind (arith, nat_tests)) in
       rw (off, none) (omega arith)
@@ -67,13 +72,15 @@ find_in share j lbn (suc n) = elim (cases_Bool (share (lbn + n) == j)) [
     | inl found ↦ inl (found.0, omega (arith, found.1), found.2)
     | inr none ↦ inr (λ i l e. elim (cases_lt i n) [
       | inl less ↦ none i less e
-      | inr more ↦ let last : i ≡ n = omega (arith, l, more) in let same : share (lbn + n) ≡ j = ap (λ x. share (lbn + x)) (sym last) ∙ e in grind (arith, nat_tests)
+      | inr more ↦ let last : i ≡ n = omega (arith, l, more) in
+          let same : share (lbn + n) ≡ j = ap (λ x. share (lbn + x)) (sym last) ∙ e in grind (arith, nat_tests)
     ])
   ]
 ]
 
 -- each entry has so many sectors that count, and each of those a share of its own
-module _ (counted : Entry → ℕ) (share : ℕ → ℕ) (Counts : ℕ → Type 0) (own : (a b : ℕ) → Counts a → Counts b → share a ≡ share b → a ≡ b) where
+module _ (counted : Entry → ℕ) (share : ℕ → ℕ) (Counts : ℕ → Type 0)
+    (own : (a b : ℕ) → Counts a → Counts b → share a ≡ share b → a ≡ b) where
   abbrev pub AreCounted : List Entry → Type 0
   AreCounted es = AllByRecursion (λ e. (i : ℕ) → i < counted e → Counts (e.block.lbn + i)) es
 
@@ -101,7 +108,12 @@ module _ (counted : Entry → ℕ) (share : ℕ → ℕ) (Counts : ℕ → Type 
 
   none_lesser : (es : List Entry) → sum_by (of_lesser 0) es ≡ 0
   none_lesser [] = refl
-  none_lesser (e ∷ es) = omega (arith, sum_by-cons (of_lesser 0) e es, ap (λ n. e.block.weight * n) (below-none share e.block.lbn (counted e)), none_lesser es)
+  none_lesser (e ∷ es) = omega (
+    arith,
+    sum_by-cons (of_lesser 0) e es,
+    ap (λ n. e.block.weight * n) (below-none share e.block.lbn (counted e)),
+    none_lesser es,
+  )
 
   next_lesser : (m : ℕ) (es : List Entry) → sum_by (of_lesser (suc m)) es ≡ sum_by (of_lesser m) es + sum_by (of_share m) es
   next_lesser m [] = refl
@@ -114,7 +126,8 @@ module _ (counted : Entry → ℕ) (share : ℕ → ℕ) (Counts : ℕ → Type 
     next_lesser m es,
   )
 
-  all_lesser : (m : ℕ) → ((lbn : ℕ) → Counts lbn → share lbn < m) → (es : List Entry) → AreCounted es → sum_by (of_lesser m) es ≡ sum_by (λ e. e.block.weight * counted e) es
+  all_lesser : (m : ℕ) → ((lbn : ℕ) → Counts lbn → share lbn < m) → (es : List Entry) → AreCounted es
+      → sum_by (of_lesser m) es ≡ sum_by (λ e. e.block.weight * counted e) es
   all_lesser m under [] all = refl
   all_lesser m under (e ∷ es) all = omega (
     arith,
@@ -127,15 +140,23 @@ module _ (counted : Entry → ℕ) (share : ℕ → ℕ) (Counts : ℕ → Type 
   module _ (few : (e : Entry) → counted e ≤ e.block.count) where
     one_share : (j s : ℕ) (es : List Entry) → IsOnly j s es → sum_by (of_share j) es ≤ sum_by (weight_on s) es
     one_share j s [] is = omega arith
-    one_share j s (e ∷ es) is = omega (arith, sum_by-cons (of_share j) e es, sum_by-cons (weight_on s) e es, one_of share j (counted e) s e (few e) is.0, one_share j s es is.1)
+    one_share j s (e ∷ es) is = omega (
+      arith,
+      sum_by-cons (of_share j) e es,
+      sum_by-cons (weight_on s) e es,
+      one_of share j (counted e) s e (few e) is.0,
+      one_share j s es is.1,
+    )
 
-    lesser : (depth m : ℕ) (es : List Entry) → AreCounted es → ((lbn : ℕ) → sum_by (weight_on lbn) es ≤ depth) → sum_by (of_lesser m) es ≤ depth * m
+    lesser : (depth m : ℕ) (es : List Entry) → AreCounted es → ((lbn : ℕ) → sum_by (weight_on lbn) es ≤ depth)
+        → sum_by (of_lesser m) es ≤ depth * m
     lesser depth zero es all deep = omega (arith, none_lesser es)
     lesser depth (suc m) es all deep =
         let here = only m es all in
         omega (arith, next_lesser m es, lesser depth m es all deep, one_share m here.0 es here.1, deep here.0)
 
     -- the sectors that count, each in blocks of so much weight, are no more than the shares
-    pub no_more : (depth m : ℕ) (es : List Entry) → AreCounted es → ((lbn : ℕ) → Counts lbn → share lbn < m) → ((lbn : ℕ) → sum_by (weight_on lbn) es ≤ depth)
+    pub no_more : (depth m : ℕ) (es : List Entry) → AreCounted es → ((lbn : ℕ) → Counts lbn → share lbn < m)
+        → ((lbn : ℕ) → sum_by (weight_on lbn) es ≤ depth)
         → sum_by (λ e. e.block.weight * counted e) es ≤ depth * m
     no_more depth m es all under deep = omega (arith, all_lesser m under es all, lesser depth m es all deep)

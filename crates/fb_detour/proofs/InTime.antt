@@ -7,7 +7,8 @@ pub some_share : (rotation slots : ℕ) → 0 < slots → slots ≤ rotation →
 some_share rotation slots some room = le-div 1 rotation slots some (omega (arith, room))
 
 shorter : (rotation n most : ℕ) → 0 < n → n ≤ most → rotation / most ≤ rotation / n
-shorter rotation n most some le = le-div (rotation / most) rotation n some (omega (arith, mul-le (rotation / most) n (rotation / most) most (omega arith) le, div-mul-le_self rotation most))
+shorter rotation n most some le = le-div (rotation / most) rotation n some
+    (omega (arith, mul-le (rotation / most) n (rotation / most) most (omega arith) le, div-mul-le_self rotation most))
 
 -- of more slots no fewer pass
 more_pass : (rotation n most time : ℕ) → n ≤ most → 0 < rotation / most → time / (rotation / n) ≤ time / (rotation / most)
@@ -15,7 +16,12 @@ more_pass rotation zero most time le some = let none : rotation / 0 ≡ 0 = omeg
 more_pass rotation (suc n) most time le some =
     let passed = time / (rotation / suc n) in
     le-div passed time (rotation / most) some
-    (omega (arith, mul-le passed (rotation / most) passed (rotation / suc n) (omega arith) (shorter rotation (suc n) most (omega arith) le), div-mul-le_self time (rotation / suc n)))
+    (omega (
+      arith,
+      mul-le passed (rotation / most) passed (rotation / suc n) (omega arith)
+          (shorter rotation (suc n) most (omega arith) le),
+      div-mul-le_self time (rotation / suc n),
+    ))
 
 -- one sector for each share passes at no more than a rate of as much
 pub rate_passes : (depth share rate time : ℕ) → depth * 2 ^ 24 ≤ rate * share → depth * (time / share) * 2 ^ 24 ≤ time * rate
@@ -29,12 +35,15 @@ rate_passes depth share rate time enough =
     omega (arith, all, whole, left, middle, right)
 
 -- no stay catches more than what passes at a rate of the most weight for each share
-pub within_rate : (disk : Disk) (es : List Entry) (track : Track) (depth slots rate from upto : ℕ) → IsSound disk.map → HasOwnPlaces disk.map → AreOnDisk disk es
-    → ((lbn : ℕ) → depth_at track lbn es ≤ depth) → slots_at disk.map.zones track.cylinder ≤ slots → 0 < disk.map.rotation / slots → depth * 2 ^ 24 ≤ rate * (disk.map.rotation / slots)
+pub within_rate : (disk : Disk) (es : List Entry) (track : Track) (depth slots rate from upto : ℕ) → IsSound disk.map
+    → HasOwnPlaces disk.map → AreOnDisk disk es
+    → ((lbn : ℕ) → depth_at track lbn es ≤ depth) → slots_at disk.map.zones track.cylinder ≤ slots → 0 < disk.map.rotation / slots
+    → depth * 2 ^ 24 ≤ rate * (disk.map.rotation / slots)
     → stay disk (early_to track from upto) es * 2 ^ 24 ≤ (upto - from) * rate
 within_rate disk es track depth slots rate from upto sound own on_disk deep few some enough =
     let time = upto - from in
     let rotation = disk.map.rotation in
     let passing = slots_within rotation (slots_at disk.map.zones track.cylinder) time in
-    let most = mul-le depth passing depth (time / (rotation / slots)) (omega arith) (more_pass rotation (slots_at disk.map.zones track.cylinder) slots time few some) in
+    let most = mul-le depth passing depth (time / (rotation / slots)) (omega arith)
+    (more_pass rotation (slots_at disk.map.zones track.cylinder) slots time few some) in
     omega (arith, packing disk track from upto sound es depth own on_disk deep, most, rate_passes depth (rotation / slots) rate time enough)

@@ -7,7 +7,8 @@ use Rattle.fb_detour.proofs.Found.{through}
 
 module _ (trial : Trial) where
   -- no note is better than a plan that is no worse
-  pub notes-kept : (new old : Plan) (notes : List ℕ) → IsNoWorse trial.search.now new old → AreNotes trial old notes → AreNotes trial new notes
+  pub notes-kept : (new old : Plan) (notes : List ℕ) → IsNoWorse trial.search.now new old → AreNotes trial old notes
+      → AreNotes trial new notes
   notes-kept new old notes keeps are k less fits =
       through trial.search.now new old (plan_by trial.way (get_or notes k 0)) keeps (are k less fits)
 

@@ -46,13 +46,20 @@ module _ (disk : Disk) (track : Track) (from upto : ℕ) where
   few e = if-le-n (is_wanted e.state && catches disk (early_to track from upto) e.block) e.block.count
 
   module _ (sound : IsSound disk.map) where
-    in_passing : (e : Entry) → FitsDisk disk e.block → catches disk (early_to track from upto) e.block ≡ true → (i : ℕ) → i < e.block.count → Passes (e.block.lbn + i)
+    in_passing : (e : Entry) → FitsDisk disk e.block → catches disk (early_to track from upto) e.block ≡ true → (i : ℕ)
+        → i < e.block.count → Passes (e.block.lbn + i)
     in_passing e fits caught' i inside =
         let both = and_parts (same_track track e.block.track) (nat_le (block_end disk.map e.block from) upto) caught' in
-        let share = ap (λ (t : Track). disk.map.rotation / slots_at disk.map.zones t.cylinder) (same_tracks track e.block.track both.0) in record {
+        let share = ap (λ (t : Track). disk.map.rotation / slots_at disk.map.zones t.cylinder) (same_tracks track e.block.track both.0) in
+        record {
           on_disk = omega (arith, fits.on_disk, inside);
           its = its_track disk e.block i fits inside ∙ sym (same_tracks track e.block.track both.0);
-          in_time = omega (arith, sectors_pass disk e.block from upto i sound fits inside (leb-true (block_end disk.map e.block from) upto both.1), share);
+          in_time = omega (
+            arith,
+            sectors_pass disk e.block from upto i sound fits inside
+                (leb-true (block_end disk.map e.block from) upto both.1),
+            share,
+          );
         }
 
     each_passes : (e : Entry) → FitsDisk disk e.block → (i : ℕ) → i < caught e → Passes (e.block.lbn + i)
@@ -65,9 +72,11 @@ module _ (disk : Disk) (track : Track) (from upto : ℕ) where
     own_share : HasOwnPlaces disk.map → (a b : ℕ) → Passes a → Passes b → share a ≡ share b → a ≡ b
     own_share own a b in_a in_b same =
         let place = place_at disk.map in
-        let shares : Track → Type 0 = λ t. (begin_from disk.map (place a) from - from) / (disk.map.rotation / slots_at disk.map.zones t.cylinder)
+        let shares : Track → Type 0 = λ t.
+        (begin_from disk.map (place a) from - from) / (disk.map.rotation / slots_at disk.map.zones t.cylinder)
         ≡ (begin_from disk.map (place b) from - from) / (disk.map.rotation / slots_at disk.map.zones t.cylinder) in
-        let one = same_share disk (place a) (place b) from sound (in_a.its ∙ sym in_b.its) (place_of disk.map a sound in_a.on_disk).slot (place_of disk.map b sound in_b.on_disk).slot
+        let one = same_share disk (place a) (place b) from sound (in_a.its ∙ sym in_b.its) (place_of disk.map a sound in_a.on_disk).slot
+        (place_of disk.map b sound in_b.on_disk).slot
         (subst shares (sym in_a.its) same) in
         own.once a b (place a) (is_at disk.map a in_a.on_disk) (is_at disk.map b in_b.on_disk ∙ ap (λ (p : Place). Some p) (sym one))
 
@@ -76,13 +85,24 @@ module _ (disk : Disk) (track : Track) (from upto : ℕ) where
         let place = place_at disk.map lbn in
         let slots = slots_at disk.map.zones track.cylinder in
         let wait = begin_from disk.map place from - from in
-        let some : 0 < slots = omega (arith, (place_of disk.map lbn sound is.on_disk).slot, ap (λ (t : Track). slots_at disk.map.zones t.cylinder) is.its) in
-        let long : 0 < disk.map.rotation / slots = le-div 1 disk.map.rotation slots some (omega (arith, slots_short disk.map.rotation disk.map.zones track.cylinder sound.short_slots)) in
-        omega (arith, le-div (wait / (disk.map.rotation / slots) + 1) (upto - from) (disk.map.rotation / slots) long (omega (arith, div-mul-le_self wait (disk.map.rotation / slots), is.in_time, from-le disk.map place from)))
+        let some : 0 < slots = omega (
+          arith,
+          (place_of disk.map lbn sound is.on_disk).slot,
+          ap (λ (t : Track). slots_at disk.map.zones t.cylinder) is.its,
+        ) in
+        let long : 0 < disk.map.rotation / slots = le-div 1 disk.map.rotation slots some
+        (omega (arith, slots_short disk.map.rotation disk.map.zones track.cylinder sound.short_slots)) in
+        omega (
+          arith,
+          le-div (wait / (disk.map.rotation / slots) + 1) (upto - from) (disk.map.rotation / slots) long
+              (omega (arith, div-mul-le_self wait (disk.map.rotation / slots), is.in_time, from-le disk.map place from)),
+        )
 
     -- a stay catches no more than the sectors that can pass, each in blocks of so much weight
-    pub packing : (entries : List Entry) (depth : ℕ) → HasOwnPlaces disk.map → AreOnDisk disk entries → ((lbn : ℕ) → depth_at track lbn entries ≤ depth)
-        → stay disk (early_to track from upto) entries ≤ depth * slots_within disk.map.rotation (slots_at disk.map.zones track.cylinder) (upto - from)
+    pub packing : (entries : List Entry) (depth : ℕ) → HasOwnPlaces disk.map → AreOnDisk disk entries
+        → ((lbn : ℕ) → depth_at track lbn entries ≤ depth)
+        → stay disk (early_to track from upto) entries
+        ≤ depth * slots_within disk.map.rotation (slots_at disk.map.zones track.cylinder) (upto - from)
     unfolding stay
     packing entries depth own on_disk deep =
         let its = on_track track entries in
@@ -91,5 +111,6 @@ module _ (disk : Disk) (track : Track) (from upto : ℕ) where
         omega (
           arith,
           sum_by-le-sum_by (stay_gain disk (early_to track from upto)) (λ e. e.block.weight * caught e) its gain-caught,
-          no_more caught share Passes (own_share own) few depth (slots_within disk.map.rotation (slots_at disk.map.zones track.cylinder) (upto - from)) its all in_share deep,
+          no_more caught share Passes (own_share own) few depth
+              (slots_within disk.map.rotation (slots_at disk.map.zones track.cylinder) (upto - from)) its all in_share deep,
         )

@@ -7,13 +7,22 @@ use Rattle.fb_detour.proofs.Words.{IsSound, Zone, in-turn, later-after, over, be
 -- ---- numbers
 
 -- the wait is the way ahead to the angle, or over the turn
-wait-is : (r angle now : ℕ) → angle < r → ((now % r ≤ angle) × (wait r angle now ≡ angle - now % r)) ⊎ ((angle < now % r) × (wait r angle now ≡ r - now % r + angle))
+wait-is : (r angle now : ℕ) → angle < r
+    → ((now % r ≤ angle) × (wait r angle now ≡ angle - now % r)) ⊎ ((angle < now % r) × (wait r angle now ≡ r - now % r + angle))
 wait-is r angle now below =
     let least = wait_least r angle now below in
     let rest : now % r < r = mod-lt now (omega arith) in
     elim (cases_lt angle (now % r)) [
-      | inl behind ↦ inr (behind, least_unique r angle now (wait r angle now) (r - now % r + angle) least (least_of r angle now (r - now % r + angle) (omega arith) (reaches_over r now angle below behind)))
-      | inr ahead ↦ inl (ahead, least_unique r angle now (wait r angle now) (angle - now % r) least (least_of r angle now (angle - now % r) (omega arith) (reaches_ahead r now angle below ahead)))
+      | inl behind ↦ inr (
+        behind,
+        least_unique r angle now (wait r angle now) (r - now % r + angle) least
+            (least_of r angle now (r - now % r + angle) (omega arith) (reaches_over r now angle below behind)),
+      )
+      | inr ahead ↦ inl (
+        ahead,
+        least_unique r angle now (wait r angle now) (angle - now % r) least
+            (least_of r angle now (angle - now % r) (omega arith) (reaches_ahead r now angle below ahead)),
+      )
     ]
 
 -- numbers a share apart lie in different shares
@@ -31,11 +40,17 @@ module _ (rotation n : ℕ) (some : 0 < n) (short : n ≤ rotation) where
   some-share = le-div 1 rotation n some (omega arith)
 
   next-apart : (slot : ℕ) → angle slot + share ≤ angle (slot + 1)
-  next-apart slot = le-div (slot * rotation / n + rotation / n) ((slot + 1) * rotation) n some (omega (arith, div-add-mod' (slot * rotation) n, div-add-mod' rotation n))
+  next-apart slot = le-div (slot * rotation / n + rotation / n) ((slot + 1) * rotation) n some
+      (omega (arith, div-add-mod' (slot * rotation) n, div-add-mod' rotation n))
 
   -- each slot is at least so long
   pub apart : (a b : ℕ) → a < b → angle a + share ≤ angle b
-  apart a b less = omega (arith, next-apart a, later-after rotation n some short (a + 1) (b - (a + 1)), ap angle (let same : a + 1 + (b - (a + 1)) ≡ b = omega arith in same))
+  apart a b less = omega (
+    arith,
+    next-apart a,
+    later-after rotation n some short (a + 1) (b - (a + 1)),
+    ap angle (let same : a + 1 + (b - (a + 1)) ≡ b = omega arith in same),
+  )
 
   lesser-differs : (a b now : ℕ) → a < b → b < n → wait rotation (angle a) now / share ≡ wait rotation (angle b) now / share → ⊥
   lesser-differs a b now less inside same =
@@ -65,18 +80,21 @@ module _ (rotation n : ℕ) (some : 0 < n) (short : n ≤ rotation) where
 -- ---- places
 
 -- a track has no more slots than its rotation has nanoseconds
-pub slots_short : (rotation : ℕ) (zones : List Zone) (cylinder : ℕ) → ((i : ℕ) (zone : Zone) → slice_get zones i ≡ Some zone → zone.sectors ≤ rotation) → slots_at zones cylinder ≤ rotation
+pub slots_short : (rotation : ℕ) (zones : List Zone) (cylinder : ℕ)
+    → ((i : ℕ) (zone : Zone) → slice_get zones i ≡ Some zone → zone.sectors ≤ rotation) → slots_at zones cylinder ≤ rotation
 slots_short rotation [] cylinder short = omega arith
 slots_short rotation (zone ∷ zones) cylinder short = elim (cases_Bool (nat_le cylinder zone.last)) [
   | inl here ↦ rw here (short 0 zone refl)
   | inr on ↦ rw on (slots_short rotation zones cylinder (λ i. short (suc i)))
 ]
 
-waited : (disk : Shape) (place : Place) (t : ℕ) → begin_from disk place t - t ≡ wait disk.rotation (slot_begin disk.rotation (slots_at disk.zones place.track.cylinder) place.slot) t
+waited : (disk : Shape) (place : Place) (t : ℕ)
+    → begin_from disk place t - t ≡ wait disk.rotation (slot_begin disk.rotation (slots_at disk.zones place.track.cylinder) place.slot) t
 unfolding begin_from
 waited disk place t = omega arith
 
-on_track : (disk : Shape) (track : Track) (a b from : ℕ) → IsSound disk → a < slots_at disk.zones track.cylinder → b < slots_at disk.zones track.cylinder
+on_track : (disk : Shape) (track : Track) (a b from : ℕ) → IsSound disk → a < slots_at disk.zones track.cylinder
+    → b < slots_at disk.zones track.cylinder
     → (begin_from disk (record { track = track; slot = a }) from - from) / (disk.rotation / slots_at disk.zones track.cylinder)
     ≡ (begin_from disk (record { track = track; slot = b }) from - from) / (disk.rotation / slots_at disk.zones track.cylinder)
     → a ≡ b
@@ -84,7 +102,8 @@ on_track disk track a b from sound in_a in_b same =
     let n = slots_at disk.zones track.cylinder in
     let share : ℕ → ℕ = λ x. x / (disk.rotation / n) in
     same-slot disk.rotation n (omega arith) (slots_short disk.rotation disk.zones track.cylinder sound.short_slots) a b from in_a in_b
-    (sym (ap share (waited disk (record { track = track; slot = a }) from)) ∙ (same ∙ ap share (waited disk (record { track = track; slot = b }) from)))
+    (sym (ap share (waited disk (record { track = track; slot = a }) from))
+    ∙ (same ∙ ap share (waited disk (record { track = track; slot = b }) from)))
 
 -- two slots of a track that begin to pass within the same share are one
 pub same_share : (disk : Disk) (a b : Place) (from : ℕ) → IsSound disk.map → a.track ≡ b.track
@@ -94,7 +113,8 @@ pub same_share : (disk : Disk) (a b : Place) (from : ℕ) → IsSound disk.map �
     → a ≡ b
 same_share disk a b from sound one in_a in_b same =
     let moved : (record { track = a.track; slot = b.slot }) ≡ b = ap (λ track. record { track = track; slot = b.slot }) one in
-    let inside : b.slot < slots_at disk.map.zones a.track.cylinder = omega (arith, in_b, ap (λ (t : Track). slots_at disk.map.zones t.cylinder) one) in
+    let inside : b.slot < slots_at disk.map.zones a.track.cylinder =
+    omega (arith, in_b, ap (λ (t : Track). slots_at disk.map.zones t.cylinder) one) in
     let slot : a.slot ≡ b.slot = on_track disk.map a.track a.slot b.slot from sound in_a inside
     (same ∙ ap (λ p. (begin_from disk.map p from - from) / (disk.map.rotation / slots_at disk.map.zones a.track.cylinder)) (sym moved)) in
     ap (λ s. record { track = a.track; slot = s }) slot ∙ moved

@@ -110,8 +110,7 @@ value_in search plan = value search.disk.now search.gap.now (wanted_of search.wa
 abbrev pub IsDetourIn : Search → Track → ℕ → Type 0
 IsDetourIn search track leave = IsDetour search.disk.now search.gap.now track leave
 
--- the sides are the blocks of the way's track and of the target, all of them on the disk, with where the platter stands when
--- the head arrives
+-- the sides are the blocks of the way's track and of the target, all of them on the disk, and where the platter stands on arrival
 pub record AreSidesOf (search : Search) (way : Way) (sides : Sides) : Type 0 where
   pub its : AreSides search.disk.now search.gap.now.target search.wanted.now (stay_of search.disk.now search.gap.now way) sides
   pub early : AreOnDisk search.disk.now sides.early
@@ -139,7 +138,7 @@ pub record AreCeilings (search : Search) (way : Way) (ceilings : Ceilings) : Typ
   pub most : (leave : ℕ) → IsPlan search.disk.now search.gap.now (plan_by way leave)
       → value_in search (plan_by way leave) ≤ ceiling_at ceilings leave
 
--- the trial is of a way of the search, with the sides and the ceilings of that way
+-- the trial is of a way of the gap, with that way's sides and ceilings
 pub record IsTrial (trial : Trial) : Type 0 where
   pub search : IsSearch trial.search.now
   pub way : IsWay trial.search.now.disk.now trial.search.now.gap.now trial.way
@@ -156,8 +155,8 @@ IsBeaten trial best leave =
 abbrev pub AreNotes : Trial → Plan → List ℕ → Type 0
 AreNotes trial best notes = (k : ℕ) → k < length notes → IsBeaten trial best (get_or notes k 0)
 
--- the stop weighs what all its offers are worth, each of them passes once a rotation, and the platter stands as the turning
--- says
+-- the stop weighs what its offers are worth together, and each of them passes once a rotation, from where the platter stands on
+-- arrival
 pub record IsReady (stop : Stop) : Type 0 where
   pub weight : sum_by (λ (offer : Offer). offer.worth) stop.offers.now ≡ stop.weight
   pub small : stop.weight ≤ 16000000 * 2048000

@@ -79,7 +79,14 @@ fn try_leave(trial: &Trial, leave: Ns, best: Scored) -> Scored
         return best;
     }
     let plan = plan_by(trial.way, leave);
-    try_plan(search.disk, search.wanted, search.gap, trial.sides, plan, best)
+    try_plan(
+        search.disk,
+        search.wanted,
+        search.gap,
+        trial.sides,
+        plan,
+        best,
+    )
 }
 
 // Into how many parts two rotations are divided to note which leaves were tried.

@@ -6,7 +6,8 @@ ghost use Rattle.fb_units.specs.Tracks.{same_track};
 ghost use Rattle.fb_geometry.specs.Shape.{IsTrackOf};
 ghost use Rattle.fb_wanted.specs.States.{on_track};
 ghost use Rattle.fb_plan.specs.Ways.{AreOnDisk};
-ghost use Rattle.fb_detour.specs.Bounds.{AreRated, AreSeeks, IsCeiling, IsKey, IsReach, IsSearch, IsFound, IsNoWorse, BeatsTrack, BeatsTracks};
+ghost use Rattle.fb_detour.specs.Bounds.{AreRated, AreSeeks, IsCeiling, IsKey, IsReach, IsSearch, IsFound, IsNoWorse};
+ghost use Rattle.fb_detour.specs.Bounds.{BeatsTrack, BeatsTracks};
 
 use crate::bounds::{Seeks, is_enough, seeks_over};
 use crate::candidates::try_leaves;

@@ -126,8 +126,8 @@ fn worth_by_step(late: &LateParts, k: usize, reach: Reach, weight: u64) -> u64
     requires part { k < 32 }
     requires parts { (k : ℕ) → k < 32 → get_or late.now.parts k 0 ≤ 16000000 * 2048000 }
     requires light { weight ≤ 16000000 * 2048000 }
-    ensures most { (caught time : ℕ) → caught ≤ weight → caught * 2 ^ 24 ≤ time * reach.rate → reach.back + time < get_or late.now.limits (k + 1) 0
-        → caught + get_or late.now.parts k 0 ≤ result }
+    ensures most { (caught time : ℕ) → caught ≤ weight → caught * 2 ^ 24 ≤ time * reach.rate
+        → reach.back + time < get_or late.now.limits (k + 1) 0 → caught + get_or late.now.parts k 0 ≤ result }
     ensures small { result ≤ 2 * (16000000 * 2048000) }
 {
     let limit = late.limits[k + 1];

@@ -8,4 +8,5 @@ returns c = λ none gap is.
     let nothing : most ≤ 0 = grind (arith, nat_tests) in
     let count = c.cylinders.ensures.value ∙ ap (λ map. cylinders_of map.zones) c.geometry.ensures in
     at_once c.args.disk.now gap c.args.wanted.now is (λ track on.
-    let weight = c.greatest_weight_in.ensures.each track (omega arith) (omega (arith, on.cylinder, count)) in omega (arith, weight, nothing))
+    let weight = c.greatest_weight_in.ensures.each track (omega arith) (omega (arith, on.cylinder, count)) in
+    omega (arith, weight, nothing))
