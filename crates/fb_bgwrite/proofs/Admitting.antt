@@ -16,13 +16,12 @@ use Rattle.fb_bgwrite.specs.Blocks as puts
 
 -- ---- registering
 
-pub cut_more : (number index : ℕ) (before now : List Entry) (cut : Cut) (cuts rest : List Cut) (block : Block) → cuts ≡ cut ∷ rest
-    → block ≡ (let b : Block = record { task = number; index = index; lbn = cut.lbn; count = cut.count; track = cut.track; weight = 1; sweep = cut.sweep } in b) → now ≡ before ++ wanted_entry block ∷ []
+pub cut_more : (number index : ℕ) (before now : List Entry) (cut : Cut) (cuts rest : List Cut) → cuts ≡ cut ∷ rest
+    → now ≡ before ++ map wanted_entry (numbered number 1 index (cut ∷ []))
     → now ++ map wanted_entry (numbered number 1 (index + 1) rest) ≡ before ++ map wanted_entry (numbered number 1 index cuts)
-cut_more number index before now cut cuts rest block split is added =
+cut_more number index before now cut cuts rest split added =
     ap (λ es. es ++ map wanted_entry (numbered number 1 (index + 1) rest)) added
-    ∙ append_assoc before (wanted_entry block ∷ []) (map wanted_entry (numbered number 1 (index + 1) rest))
-    ∙ ap (λ (b : Block). before ++ wanted_entry b ∷ map wanted_entry (numbered number 1 (index + 1) rest)) is
+    ∙ append_assoc before (map wanted_entry (numbered number 1 index (cut ∷ []))) (map wanted_entry (numbered number 1 (index + 1) rest))
     ∙ ap (λ cs. before ++ map wanted_entry (numbered number 1 index cs)) (sym split)
 
 pub one_counted : (number : ℕ) (before : List Entry) (entry : Entry) → entry.block.task ≡ number → registered number (blocks_of (before ++ entry ∷ [])) ≡ registered number (blocks_of before) + 1

@@ -3,10 +3,10 @@ use Rattle.fb_bgwrite.proofs.Words.{◌≡◌, ℕ, ◌+◌, ◌<◌, ◌≤◌,
 use Rattle.fb_bgwrite.proofs.Words.{sum_by, cases_Bool, cases_lt, Track, same_track, cylinders_of, Disk, Block, Entry, on_track, wanted_of}
 use Rattle.fb_bgwrite.proofs.Words.{Dwell, Gap, AreOnDisk, stay_gain, longer_stay, stay-of, weight_of_stay, Spill, Valued, ready, stay_of}
 use Rattle.fb_bgwrite.proofs.Words.{value, IsSpill, ArePending, Beats, BeatsOn, BeatsRange, IsBestIf, IsEnough, IsOnly, IsShare}
-use Rattle.fb_bgwrite.proofs.Words.{IsValuedIf, Keeps, Part}
+use Rattle.fb_bgwrite.proofs.Words.{AreLight, IsValuedIf, Keeps, Part}
 use Rattle.fb_wanted.specs.Tracks.{wanted_weight}
 use Rattle.fb_detour.specs.Bounds.{stay}
-use Rattle.fb_bgwrite.proofs.Values.{as_much_by_last, less_before_last, value_stay, AreLight, IsLast}
+use Rattle.fb_bgwrite.proofs.Values.{as_much_by_last, less_before_last, value_stay, IsLast}
 
 pub same_share : (disk : Disk) (from end low high share : ℕ) → IsShare disk from end share → from ≤ low → high ≤ end → IsShare disk low high share
 same_share disk from end low high share is after inside = (is.0, λ cylinder time above below. is.1 cylinder time (omega (arith, after, above)) (omega (arith, inside, below)))

@@ -4,9 +4,12 @@ use Rattle.fb_bgwrite.proofs.Words.{true, ◌==◌, Option, Some, slice_get, get
 use Rattle.fb_bgwrite.proofs.Words.{AllByRecursion, sum_by, cases_Bool, true≢false, nat_tests, sum_by-cons, Track, same_track}
 use Rattle.fb_bgwrite.proofs.Words.{IsTrackOf, IsSound, Disk, Deliver, Entry, after, entry_after, is_wanted, on_track, wanted_of}
 use Rattle.fb_bgwrite.proofs.Words.{Dwell, Gap, AreOnDisk, stay_gain, stay-of, Spill, Valued, ArePending, Beats, IsValuedIf}
-use Rattle.fb_bgwrite.proofs.Words.{AreAtLeast, IsAtLeast, IsNoShorter, stay_of, value, all_of, some_one}
-use Rattle.fb_bgwrite.proofs.{Values.passes, Values.value_caught, Values.value_stay, Values.AreLight, Amended.track_on_disk}
+use Rattle.fb_bgwrite.proofs.Words.{AreAtLeast, AreLight, IsAtLeast, IsNoShorter, stay_of, value, all_of, some_one}
+use Rattle.fb_bgwrite.proofs.Words.{◌-◌, get_or-le-sum_by, get_or_from_slice_get, length, slice_get_within, sum_by-le-sum_by}
+use Rattle.fb_bgwrite.proofs.Words.{sum_by_more, take, AreOffers, Block, Offer}
+use Rattle.fb_bgwrite.proofs.{Values.its_sectors, Values.passes, Values.value_caught, Values.value_stay, Amended.track_on_disk}
 use Rattle.fb_bgwrite.proofs.{Choices.light_on, Choices.nothing_beaten}
+use Rattle.fb_plan.proofs.Offered.{wanted-at}
 
 -- one of the blocks is caught
 pub record HasCaught (disk : Disk) (dwell : Dwell) (entries : List Entry) : Type 0 where
@@ -15,20 +18,35 @@ pub record HasCaught (disk : Disk) (dwell : Dwell) (entries : List Entry) : Type
   pub stands : slice_get entries index ≡ Some entry
   pub passing : passes disk dwell entry ≡ true
   pub few : entry.block.count ≤ sum_by (stay_gain disk dwell) entries
+  pub worth : entry.block.weight * entry.block.count ≡ entry.block.count
 
 pub some_caught : (disk : Disk) (dwell : Dwell) (es : List Entry) → AreLight es → (sum_by (stay_gain disk dwell) es ≡ 0) ⊎ HasCaught disk dwell es
 some_caught disk dwell [] light = inl refl
 some_caught disk dwell (e ∷ es) light = elim (cases_Bool (passes disk dwell e)) [
   | inl caught ↦
       let one : stay_gain disk dwell e ≡ e.block.weight * e.block.count = rw caught refl in
-      let counts : e.block.weight * e.block.count ≡ 1 * e.block.count = ap (λ n. n * e.block.count) light.0 in
-      inr (record { index = 0; entry = e; stands = refl; passing = caught; few = omega (arith, sum_by-cons (stay_gain disk dwell) e es, one, counts) })
+      let worth = its_sectors e light.0 in
+      inr (record {
+        index = 0;
+        entry = e;
+        stands = refl;
+        passing = caught;
+        few = omega (arith, sum_by-cons (stay_gain disk dwell) e es, one, worth);
+        worth = worth;
+      })
   | inr missed ↦
       let one : stay_gain disk dwell e ≡ 0 = rw missed refl in
       let sum = sum_by-cons (stay_gain disk dwell) e es in
       elim (some_caught disk dwell es light.1) [
         | inl none ↦ inl (omega (arith, sum, one, none))
-        | inr is ↦ inr (record { index = suc is.index; entry = is.entry; stands = is.stands; passing = is.passing; few = omega (arith, is.few, sum) })
+        | inr is ↦ inr (record {
+          index = suc is.index;
+          entry = is.entry;
+          stands = is.stands;
+          passing = is.passing;
+          few = omega (arith, is.few, sum);
+          worth = is.worth;
+        })
       ]
 ]
 
@@ -49,7 +67,8 @@ passing_here disk dwell e passing = grind (arith, nat_tests)
 
 module _ (disk : Disk) (gap : Gap) (entries : List Entry) (spill : Spill) (light : AreLight entries) (least : ℕ) where
   -- no pending block of the track is short enough
-  pub too_long_on : (blocks : List Entry) (most : ℕ) → blocks ≡ on_track spill.track entries → ((i : ℕ) (e : Entry) → slice_get blocks i ≡ Some e → is_wanted e.state ≡ true → least ≤ e.block.count)
+  pub too_long_on : (blocks : List Entry) (most : ℕ) → blocks ≡ on_track spill.track entries
+      → ((i : ℕ) (e : Entry) → slice_get blocks i ≡ Some e → is_wanted e.state ≡ true → least ≤ e.block.weight * e.block.count)
       → value disk gap (wanted_of entries) spill ≤ most → most < least → value disk gap (wanted_of entries) spill ≡ 0
   too_long_on blocks most its each few less =
       let dwell = stay_of disk gap spill in
@@ -57,7 +76,9 @@ module _ (disk : Disk) (gap : Gap) (entries : List Entry) (spill : Spill) (light
       let is_value = value_stay disk gap entries spill light in
       elim (some_caught disk dwell blocks (subst AreLight (sym its) (light_on spill.track entries light))) [
         | inl none ↦ omega (arith, sum, none, is_value)
-        | inr is ↦ absurd (omega (arith, each is.index is.entry is.stands (passing_wanted disk dwell is.entry is.passing), is.few, sum, is_value, few, less))
+        | inr is ↦
+            let long = each is.index is.entry is.stands (passing_wanted disk dwell is.entry is.passing) in
+            absurd (omega (arith, long, is.worth, is.few, sum, is_value, few, less))
       ]
 
   module _ (from end : ℕ) (long : AreAtLeast from end least entries) (low : from ≤ spill.track.cylinder) (high : spill.track.cylinder < end) where
@@ -107,10 +128,36 @@ range_beaten disk gap entries blocks best valued part most short from end after 
 
 -- ---- the bounds of cylinders
 
+-- none of the first offers is worth less than a number, nor is one more than the lesser of that and its own worth
+pub one_more_offer : (offers : List Offer) (i : ℕ) (d : Offer) (old new : ℕ) → i < length offers
+    → sum_by (λ (o : Offer). old - o.worth) (take i offers) ≡ 0 → new ≡ min old (get_or offers i d).worth
+    → sum_by (λ (o : Offer). new - o.worth) (take (i + 1) offers) ≡ 0
+one_more_offer offers i d old new within none least =
+    let lack = λ (o : Offer). new - o.worth in
+    let before = sum_by-le-sum_by lack (λ (o : Offer). old - o.worth) (take i offers) (λ o. omega (arith, least)) in
+    omega (arith, sum_by_more lack offers i d within, before, none, least)
+
+-- where no offer is worth less than that, no pending block is
+pub none_less : (least : ℕ) (offers : List Offer) (blocks : List Entry) → AreOffers offers blocks
+    → sum_by (λ (o : Offer). least - o.worth) offers ≡ 0
+    → (i : ℕ) (e : Entry) → slice_get blocks i ≡ Some e → is_wanted e.state ≡ true → least ≤ e.block.weight * e.block.count
+none_less least offers blocks are none i e at wanted =
+    let its = wanted-at blocks i e at wanted in
+    let lack = λ (b : Block). least - b.weight * b.count in
+    let within = slice_get_within (wanted_of blocks) its.0 e.block its.1 in
+    let one = get_or-le-sum_by lack (wanted_of blocks) its.0 e.block within in
+    let own = ap lack (get_or_from_slice_get (wanted_of blocks) its.0 e.block e.block its.1) in
+    omega (arith, one, own, are (λ sweep worth. least - worth), none)
+
 -- what was delivered needs no bound
 pub delivered_too : (bounds : List ℕ) (put index : ℕ) (es : List Entry) → AllByRecursion (IsNoShorter bounds) es → AllByRecursion (IsNoShorter bounds) (after put (Deliver index) es)
 delivered_too bounds put index [] all = tt
 delivered_too bounds put index (e ∷ es) all = (λ wanted. all.0 (still_wanted put index e wanted), delivered_too bounds put index es all.1)
+
+-- and weighs what it did
+pub still_light : (put index : ℕ) (es : List Entry) → AreLight es → AreLight (after put (Deliver index) es)
+still_light put index [] light = tt
+still_light put index (e ∷ es) light = (light.0, still_light put index es light.1)
 
 -- the bound of a cylinder is replaced by another that holds
 pub renewed : (old new : List ℕ) (cylinder least : ℕ) → ((c : ℕ) → ((c ≡ cylinder) × (get_or new c 2049 ≡ least)) ⊎ (get_or new c 2049 ≡ get_or old c 2049)) → (es : List Entry) → AllByRecursion (IsNoShorter old) es
@@ -136,10 +183,15 @@ stands_on (x ∷ xs) (suc k) e at =
     ]
 
 -- what holds of the blocks on each track of a cylinder holds of all its blocks
-pub all_of_cylinder : (disk : Disk) → IsSound disk.map → (cylinder heads least : ℕ) (es : List Entry) → AreOnDisk disk es → disk.map.heads ≤ heads
-    → ((head i : ℕ) (e : Entry) → head < heads → slice_get (on_track (record { cylinder = cylinder; head = head }) es) i ≡ Some e → is_wanted e.state ≡ true → least ≤ e.block.count)
+pub all_of_cylinder : (disk : Disk) → IsSound disk.map → (cylinder heads least : ℕ) (es : List Entry) → AreOnDisk disk es → AreLight es
+    → disk.map.heads ≤ heads
+    → ((head i : ℕ) (e : Entry) → head < heads → slice_get (on_track (record { cylinder = cylinder; head = head }) es) i ≡ Some e
+    → is_wanted e.state ≡ true → least ≤ e.block.weight * e.block.count)
     → AllByRecursion (λ (e : Entry). is_wanted e.state ≡ true → e.block.track.cylinder ≡ cylinder → least ≤ e.block.count) es
-all_of_cylinder disk sound cylinder heads least es on_disk all each = all_of (λ (e : Entry). is_wanted e.state ≡ true → e.block.track.cylinder ≡ cylinder → least ≤ e.block.count) es (λ k e at wanted here.
+all_of_cylinder disk sound cylinder heads least es on_disk light all each = all_of (λ (e : Entry). is_wanted e.state ≡ true → e.block.track.cylinder ≡ cylinder → least ≤ e.block.count) es (λ k e at wanted here.
     let on = stands_on es k e at in
     let head = (subst (IsTrackOf disk.map) (sym (on_disk k e at).track) (track_on_disk disk sound e.block.lbn)).head in
-    each e.block.track.head on.0 e (omega (arith, head, all)) (subst (λ c. slice_get (on_track (let t : Track = record { cylinder = c; head = e.block.track.head } in t) es) on.0 ≡ Some e) here on.1) wanted)
+    let there = subst (λ c. slice_get (on_track (let t : Track = record { cylinder = c; head = e.block.track.head } in t) es) on.0 ≡ Some e)
+    here on.1 in
+    let worth = its_sectors e (all_get (λ (x : Entry). x.block.weight ≡ 1) es k e light at) in
+    omega (arith, each e.block.track.head on.0 e (omega (arith, head, all)) there wanted, worth))

@@ -1,9 +1,9 @@
 -- The value of a spill is what its stay catches of the registered blocks.
 use Rattle.fb_bgwrite.proofs.Words.{all_get, ◌≡◌, ℕ, ◌+◌, ◌*◌, ◌<◌, ◌≤◌, ◌⊎◌, List, [], ◌∷◌, Bool, true, false, Some, slice_get}
-use Rattle.fb_bgwrite.proofs.Words.{inl, inr, refl, ap, ◌∙◌, arith, if◌then◌else◌, filter, AllByRecursion, sum_by}
+use Rattle.fb_bgwrite.proofs.Words.{inl, inr, refl, ap, ◌∙◌, arith, if◌then◌else◌, filter, sum_by}
 use Rattle.fb_bgwrite.proofs.Words.{cases_Bool, nat_tests, sum_by-cons, same_track, Disk, Block, Entry, is_wanted}
 use Rattle.fb_bgwrite.proofs.Words.{◌&&◌, wanted_of, Dwell, Gap, block_end, catches, AreOnDisk, FitsDisk, stay_gain}
-use Rattle.fb_bgwrite.proofs.Words.{and_false, Spill, stay_of, value, all_of}
+use Rattle.fb_bgwrite.proofs.Words.{and_false, AreLight, Spill, stay_of, value, all_of}
 use Rattle.fb_plan.proofs.Gains.{one_part}
 use Rattle.fb_detour.specs.Bounds.{stay}
 use Rattle.fb_bgwrite.proofs.{Sums.sum_le_on, Sums.sum_less}
@@ -28,15 +28,17 @@ pub record IsLast (disk : Disk) (dwell : Dwell) (entries : List Entry) (worth la
       → block_end disk.map entry.block dwell.begin ≤ last
   pub reached : ((worth ≡ 0) × (last ≡ dwell.begin)) ⊎ EndsAt disk dwell entries last
 
-abbrev pub AreLight : List Entry → Type 0
-AreLight entries = AllByRecursion (λ entry. entry.block.weight ≡ 1) entries
+-- a block of weight 1 is worth its sectors
+pub its_sectors : (e : Entry) → e.block.weight ≡ 1 → e.block.weight * e.block.count ≡ e.block.count
+its_sectors e light =
+    let counts : e.block.weight * e.block.count ≡ 1 * e.block.count = ap (λ n. n * e.block.count) light in
+    omega (arith, counts)
 
 -- a block that is caught adds its sectors
 adds : (disk : Disk) (dwell : Dwell) (e : Entry) → e.block.weight ≡ 1 → is_wanted e.state ≡ true → catches disk dwell e.block ≡ true → stay_gain disk dwell e ≡ e.block.count
 adds disk dwell e light w y =
     let one : stay_gain disk dwell e ≡ e.block.weight * e.block.count = rw (w, y) refl in
-    let counts : e.block.weight * e.block.count ≡ 1 * e.block.count = ap (λ n. n * e.block.count) light in
-    omega (arith, one, counts)
+    omega (arith, one, its_sectors e light)
 
 sectors_caught : (disk : Disk) (dwell : Dwell) (es : List Entry) → AreLight es
     → sum_by (λ (b : Block). b.count) (filter (catches disk dwell) (wanted_of es)) ≡ sum_by (stay_gain disk dwell) es
@@ -104,8 +106,7 @@ missed_before disk dwell e leave less =
 weighs_some : (disk : Disk) (dwell : Dwell) (e : Entry) → FitsDisk disk e.block → e.block.weight ≡ 1 → passes disk dwell e ≡ true → 0 < stay_gain disk dwell e
 weighs_some disk dwell e fits light passing =
     let all : stay_gain disk dwell e ≡ e.block.weight * e.block.count = rw passing refl in
-    let counts : e.block.weight * e.block.count ≡ 1 * e.block.count = ap (λ n. n * e.block.count) light in
-    omega (arith, all, counts, fits.some)
+    omega (arith, all, its_sectors e light, fits.some)
 
 -- a stay that ends before the last passage does catches less
 pub less_before_last : (disk : Disk) (dwell : Dwell) (entries : List Entry) (last leave : ℕ) → AreOnDisk disk entries → AreLight entries → EndsAt disk dwell entries last → leave ≤ dwell.end → leave < last

@@ -11,8 +11,9 @@ pub use Rattle.std.proofs.lemmas.Bool.Decides.{nat_tests}
 pub use Rattle.std.proofs.lemmas.List.{drop_all, length-append, length-map, length-take, length_push, map-append}
 pub use Rattle.std.proofs.lemmas.List.{take-append-drop}
 pub use Rattle.std.proofs.lemmas.List.Folds.{list_any-append}
-pub use Rattle.std.proofs.lemmas.List.Sums.{count_by-le-length, sum_by-append, sum_by-cons, sum_by-le-sum_by, sum_by_push}
-pub use Rattle.std.proofs.lemmas.Option.{slice_get-get_or, slice_get-map, slice_get_within}
+pub use Rattle.std.proofs.lemmas.List.Sums.{count_by-le-length, get_or-le-sum_by, sum_by-append, sum_by-cons, sum_by-le-sum_by}
+pub use Rattle.std.proofs.lemmas.List.Sums.{sum_by_more, sum_by_push}
+pub use Rattle.std.proofs.lemmas.Option.{get_or_from_slice_get, slice_get-get_or, slice_get-map, slice_get_within}
 pub use Rattle.std.proofs.lemmas.Result.{IfOk-weaker, on_ok_weaker}
 pub use Rattle.fb_units.specs.Rising.{IsRising}
 pub use Rattle.fb_units.specs.Tracks.{same_track}
@@ -83,7 +84,7 @@ unfoldable pub use Rattle.fb_bgwrite.specs.Blocks.{blocks_from, pending}
 pub use Rattle.fb_bgwrite.specs.Choosing.{AreLeast, ArePending, Beats, BeatsOn, BeatsRange, IsBestIf, IsEnough, IsGap, IsLastEnd}
 pub use Rattle.fb_bgwrite.specs.Choosing.{IsMost, IsOnly, IsShare, IsValuedIf, Keeps, OneEndsAt, block_range}
 pub use Rattle.fb_bgwrite.specs.Gaps.{HasNoFree, RunGap, delivers, gaps}
-pub use Rattle.fb_bgwrite.specs.Shortest.{AreAtLeast, IsAtLeast, IsNoShorter, IsUnder}
+pub use Rattle.fb_bgwrite.specs.Shortest.{AreAtLeast, AreLight, IsAtLeast, IsNoShorter, IsUnder}
 pub use Rattle.fb_bgwrite.specs.Spilled.{AreGaps, AreOnce, IsGapOf, IsInTime, IsOfPut, IsSpillRun, fore_ranges, left_over, sectors_in}
 pub use Rattle.fb_bgwrite.specs.Spilling.{IsBest, IsSpill, WritesNothing, ready, stay_of}
 unfoldable pub use Rattle.fb_bgwrite.specs.Spilling.{value}

@@ -1,6 +1,5 @@
 -- The search for the best spill of a gap: what is known of the best so far.
 use Rattle.std.specs.Prelude.{◌≡◌, ◌⊎◌, ℕ, ◌+◌, ◌*◌, ◌/◌, ◌^◌, ◌<◌, ◌≤◌, List, true, map, Option, Some, None, slice_get}
-use Rattle.std.specs.List.{AllByRecursion}
 use Rattle.fb_units.specs.declared.types.Track.{Track}
 use Rattle.fb_geometry.specs.Shape.{slots_at, IsTrackOf}
 use Rattle.fb_seek.specs.Positioning.{pos}
@@ -19,6 +18,7 @@ use Rattle.fb_puts.specs.declared.range.SectorRange.{SectorRange}
 use Rattle.fb_bgwrite.specs.declared.search.Moves.{Moves}
 use Rattle.fb_bgwrite.specs.declared.search.Part.{Part}
 use Rattle.fb_puts.specs.Ranges.{AreApart}
+use Rattle.fb_bgwrite.specs.Shortest.{AreLight}
 use Rattle.fb_bgwrite.specs.Spilling.{value, IsBest, IsNoLater, IsSpill, WritesNothing}
 
 -- a gap between tracks of the disk that doesn't end too late to be computed
@@ -35,7 +35,7 @@ block_range block = record { first = block.lbn; count = block.count }
 -- the registered blocks are on the disk, weigh 1 a sector, and no two of them share a sector
 pub record ArePending (disk : Disk) (entries : List Entry) : Type 0 where
   pub on_disk : AreOnDisk disk entries
-  pub light : AllByRecursion (λ entry. entry.block.weight ≡ 1) entries
+  pub light : AreLight entries
   pub apart : AreApart (map (λ entry. block_range entry.block) entries)
 
 -- a spill of the gap that writes so many sectors

@@ -4,6 +4,10 @@ use Rattle.std.specs.List.{AllByRecursion}
 use Rattle.fb_wanted.specs.declared.block.Entry.{Entry}
 use Rattle.fb_wanted.specs.States.{is_wanted}
 
+-- each sector of the blocks weighs 1
+abbrev pub AreLight : List Entry → Type 0
+AreLight entries = AllByRecursion (λ entry. entry.block.weight ≡ 1) entries
+
 -- no bound is less than that of the 32 to which it belongs
 abbrev pub IsUnder : List ℕ → List ℕ → Type 0
 IsUnder upper lower = (k : ℕ) → get_or upper (k / 32) 2049 ≤ get_or lower k 2049

@@ -1,5 +1,5 @@
 // The registered blocks of puts, of which those are pending that are still wanted.
-ghost use Rattle.std.specs.Prelude.{◌≡◌, ◌+◌, ◌<◌, ◌≤◌, ℕ, [], ◌∷◌, ◌++◌, length, Some, slice_get, true, IfOk, OnOk, ◌*◌, ◌^◌};
+ghost use Rattle.std.specs.Prelude.{◌≡◌, ◌+◌, ◌<◌, ◌≤◌, ℕ, [], ◌∷◌, ◌++◌, length, map, Some, slice_get, true, IfOk, OnOk, ◌*◌, ◌^◌};
 ghost use Rattle.fb_wanted.specs.declared.block.Entry.{Entry};
 ghost use Rattle.fb_wanted.specs.declared.block.Change.{Change};
 ghost use Rattle.fb_wanted.specs.declared.block.State.TheVariants.{Wanted as StillWanted};
@@ -9,12 +9,14 @@ ghost use Rattle.fb_units.specs.declared.types.Track.{Track};
 ghost use Rattle.fb_plan.specs.Order.{caught_of, AreOrdered};
 ghost use Rattle.fb_wanted.specs.Numbering.{blocks_of, registered};
 ghost use Rattle.fb_plan.specs.Ways.{AreOnDisk};
+ghost use Rattle.fb_model.specs.Segments.{numbered};
 ghost use Rattle.fb_bgwrite.specs.Shortest.{AreAtLeast};
 ghost use Rattle.fb_bgwrite.specs.Standing.{wanted_entry};
 
 use crate::shortest::{NONE, Shortest};
 use fb_plan::{Catch, blocks_on, caught};
 use fb_rows::Dwell;
+use fb_sectormap::Cut;
 use fb_service::Disk;
 use fb_units::{NoMemory, Track};
 use fb_wanted::{Block, TrackBlocks, Wanted};
@@ -22,9 +24,9 @@ use std::alloc::Global;
 use std::marker::Model;
 
 /// The registered blocks of puts, each with its state, and how short the pending ones of each
-/// cylinder are.
+/// cylinder are. Each of their sectors weighs 1.
 ///
-/// To register or to deliver a block takes constant time; a refresh looks at each block of a
+/// To register or to deliver a block takes constant time; a refresh looks at each pending block of a
 /// cylinder.
 #[derive(Drop)]
 pub struct Pending {
@@ -36,26 +38,25 @@ impl Model for Pending {
     ghost use Rattle.std.specs.Prelude.{List};
     ghost use Rattle.std.specs.List.{AllByRecursion};
     ghost use Rattle.fb_wanted.specs.declared.block.Entry.{Entry};
-    ghost use Rattle.fb_bgwrite.specs.Shortest.{IsNoShorter};
+    ghost use Rattle.fb_bgwrite.specs.Shortest.{AreLight, IsNoShorter};
 
     ghost Value = { List Entry };
 
     ghost view = { λ p. p.wanted };
 
-    ghost invariant = { λ p. AllByRecursion (IsNoShorter p.shortest) p.wanted };
+    ghost invariant = { λ p. AllByRecursion (IsNoShorter p.shortest) p.wanted × AreLight p.wanted };
 }
 
-/// The least number of sectors of the pending ones of these blocks, or this number if it is less.
+/// The least worth, weight times sectors, of the pending ones of these blocks, or this number if it is
+/// less.
 pub fn least_on(blocks: &TrackBlocks, start: u32) -> u32
     ensures start { result ≤ start }
-    ensures each { (i : ℕ) (entry : Entry) → slice_get blocks.now i ≡ Some entry → is_wanted entry.state ≡ true → result ≤ entry.block.count }
+    ensures each { (i : ℕ) (entry : Entry) → slice_get blocks.now i ≡ Some entry → is_wanted entry.state ≡ true → result ≤ entry.block.weight * entry.block.count }
 {
+    let offers = blocks.offers();
     let mut least = start;
-    for i in 0..blocks.len() {
-        let entry = blocks.get(i);
-        if entry.state.is_wanted() {
-            least = least.min(entry.block.count);
-        }
+    for offer in offers {
+        least = least.min(offer.worth);
     }
     least
 }
@@ -71,16 +72,24 @@ impl Pending {
         }
     }
 
-    /// Registers a block, which is pending. Its number is the next of its put. The only error is
-    /// `NoMemory`.
-    pub fn register(&mut self, block: Block) -> Result<(), NoMemory>
-        requires numbered { block.index ≡ registered block.task (blocks_of self.old) }
+    /// Registers what a cut gives as a pending block of the put with this number. Its index is the next
+    /// of its put. The only error is `NoMemory`.
+    pub fn register(&mut self, number: u32, index: u32, cut: Cut) -> Result<(), NoMemory>
+        requires numbered { index ≡ registered number (blocks_of self.old) }
         requires room { length self.old < 16000000 }
-        requires light { block.weight ≤ 1000 }
-        requires short { block.count ≤ 2048 }
-        ensures ok { OnOk result (self.new ≡ self.old ++ wanted_entry block ∷ []) }
+        requires short { cut.count ≤ 2048 }
+        ensures ok { OnOk result (self.new ≡ self.old ++ map wanted_entry (numbered number 1 index (cut ∷ []))) }
     {
-        self.shortest.lower(block.track.cylinder, block.count)?;
+        self.shortest.lower(cut.track.cylinder, cut.count)?;
+        let block = Block {
+            task: number,
+            index,
+            lbn: cut.lbn,
+            count: cut.count,
+            track: cut.track,
+            weight: 1,
+            sweep: cut.sweep,
+        };
         self.wanted.register(block, false)
     }
 
@@ -92,8 +101,8 @@ impl Pending {
         self.wanted.deliver(put, index);
     }
 
-    /// Looks at all blocks of a cylinder, so that those that were written no longer count when it is
-    /// asked how short they are.
+    /// Looks at all pending blocks of a cylinder, so that those that were written no longer count when
+    /// it is asked how short they are.
     pub fn refresh(&mut self, disk: &Disk, cylinder: u32)
         requires blocks { AreOnDisk disk.now self.old }
         ensures { self.new ≡ self.old }

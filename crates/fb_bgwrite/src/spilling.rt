@@ -19,10 +19,9 @@ use crate::{SpillItem, SpillItems, SpillRow, WroteRow};
 use fb_plan::Catch;
 use fb_puts::Put;
 use fb_rows::{Dwell, Gap, GapRow};
-use fb_sectormap::{Cut, SectorMap};
+use fb_sectormap::SectorMap;
 use fb_service::Disk;
 use fb_units::{NoMemory, Ns};
-use fb_wanted::Block;
 use std::alloc::Global;
 
 // The most sectors of a block.
@@ -242,25 +241,10 @@ fn register_blocks(
     let mut index = 0;
     while left > 0 {
         let cut = sectors.next_cut(&mut span, lbn, left, BLOCK);
-        pending.register(block_of(number, index, cut))?;
+        pending.register(number, index, cut)?;
         index += 1;
         lbn += cut.count as u64;
         left -= cut.count as u64;
     }
     Ok(())
-}
-
-// The put's block of this index.
-fn block_of(number: u32, index: u32, cut: Cut) -> Block
-    ensures { result ≡ record { task = number; index = index; lbn = cut.lbn; count = cut.count; track = cut.track; weight = 1; sweep = cut.sweep } }
-{
-    Block {
-        task: number,
-        index,
-        lbn: cut.lbn,
-        count: cut.count,
-        track: cut.track,
-        weight: 1,
-        sweep: cut.sweep,
-    }
 }

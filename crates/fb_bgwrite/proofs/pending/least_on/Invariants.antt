@@ -1,5 +1,9 @@
-use Rattle.fb_bgwrite.proofs.Words.{◌≡◌, ◌<◌, ◌≤◌, ℕ, Some, slice_get, true, Entry, is_wanted}
+use Rattle.fb_bgwrite.proofs.Words.{◌≡◌, ◌-◌, ◌≤◌, sum_by, take, Offer}
 use Rattle.fb_bgwrite.proofs.pending.least_on.Given as goal
 
-abbrev pub invariant-loop-i : goal.invariant-loop-i
-invariant-loop-i l = ((j : ℕ) (entry : Entry) → j < l.i → slice_get l.blocks j ≡ Some entry → is_wanted entry.state ≡ true → l.least ≤ entry.block.count) × (l.least ≤ l.start)
+-- no offer so far is worth less
+abbrev pub invariant-loop-offer : goal.invariant-loop-offer
+invariant-loop-offer l = record {
+  start : l.least ≤ l.start;
+  none : sum_by (λ (o : Offer). l.least - o.worth) (take l.offer-index l.offers) ≡ 0;
+}

@@ -1,8 +1,10 @@
-use Rattle.fb_bgwrite.proofs.Words.{sym, subst, AllByRecursion, IsNoShorter}
-use Rattle.fb_bgwrite.proofs.Lengths.{delivered_too}
+use Rattle.fb_bgwrite.proofs.Words.{sym, subst, AllByRecursion, AreLight, Entry, IsNoShorter, List}
+use Rattle.fb_bgwrite.proofs.Lengths.{delivered_too, still_light}
 use Rattle.fb_bgwrite.proofs.pending.Pending.deliver.Goals as goal
 
 pub invariant_of-self : goal.invariant_of-self
 invariant_of-self c =
     let old = c.self.inside in
-    subst (AllByRecursion (IsNoShorter old.shortest)) (sym c.deliver.ensures) (delivered_too old.shortest c.args.put c.args.index old.wanted c.self.invariant)
+    let bounds = delivered_too old.shortest c.args.put c.args.index old.wanted c.self.invariant.0 in
+    let light = still_light c.args.put c.args.index old.wanted c.self.invariant.1 in
+    subst (λ (es : List Entry). AllByRecursion (IsNoShorter old.shortest) es × AreLight es) (sym c.deliver.ensures) (bounds, light)

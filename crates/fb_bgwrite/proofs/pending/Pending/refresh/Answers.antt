@@ -20,6 +20,8 @@ invariant_of-self c =
     let old = c.self.inside in
     let disk = c.args.disk.now in
     let on_disk = subst (AreOnDisk disk) (sym c.self.view_is) c.requires.blocks in
-    renewed old.shortest c.renew.new.self c.args.cylinder c.loop-head.least c.renew.ensures old.wanted c.self.invariant
-    (all_of_cylinder disk (subst IsSound c.geometry.ensures c.sound.ensures) c.args.cylinder c.loop-head.head c.loop-head.least old.wanted on_disk
-    (omega (arith, c.loop-head-test.false, c.heads-head-end.ensures.value, ap (λ (d : Shape). d.heads) c.geometry-2.ensures)) c.loop-head.invariant)
+    let heads = ap (λ (d : Shape). d.heads) c.geometry-2.ensures in
+    let own = all_of_cylinder disk (subst IsSound c.geometry.ensures c.sound.ensures) c.args.cylinder c.loop-head.head c.loop-head.least
+    old.wanted on_disk c.self.invariant.1 (omega (arith, c.loop-head-test.false, c.heads-head-end.ensures.value, heads)) c.loop-head.invariant in
+    let bounds = renewed old.shortest c.renew.new.self c.args.cylinder c.loop-head.least c.renew.ensures old.wanted c.self.invariant.0 own in
+    (bounds, c.self.invariant.1)
