@@ -3,10 +3,13 @@ use Rattle.fb_bgwrite.proofs.Words.{◌≡◌, ℕ, ◌+◌, ◌<◌, ◌≤◌,
 use Rattle.fb_bgwrite.proofs.Words.{sum_by, cases_Bool, cases_lt, Track, same_track, cylinders_of, Disk, Block, Entry, on_track, wanted_of}
 use Rattle.fb_bgwrite.proofs.Words.{Dwell, Gap, AreOnDisk, stay_gain, longer_stay, stay-of, weight_of_stay, Spill, Valued, ready, stay_of}
 use Rattle.fb_bgwrite.proofs.Words.{value, IsSpill, ArePending, Beats, BeatsOn, BeatsRange, IsBestIf, IsEnough, IsOnly, IsShare}
-use Rattle.fb_bgwrite.proofs.Words.{AreLight, IsValuedIf, Keeps, Part}
+use Rattle.fb_bgwrite.proofs.Words.{AreLight, AreOffers, IsLastEnd, IsTrackOf, IsTurning, IsValuedIf, Keeps, Offer, Part, Turning, added}
+use Rattle.fb_bgwrite.proofs.Words.{passes_by, pos}
 use Rattle.fb_wanted.specs.Tracks.{wanted_weight}
+use Rattle.fb_bgwrite.specs.Choosing.{IsValued}
 use Rattle.fb_detour.specs.Bounds.{stay}
 use Rattle.fb_bgwrite.proofs.Values.{as_much_by_last, less_before_last, value_stay, IsLast}
+use Rattle.fb_bgwrite.proofs.Written.{last_of_stay, sum_of_stay}
 
 pub same_share : (disk : Disk) (from end low high share : ℕ) → IsShare disk from end share → from ≤ low → high ≤ end → IsShare disk low high share
 same_share disk from end low high share is after inside = (is.0, λ cylinder time above below. is.1 cylinder time (omega (arith, after, above)) (omega (arith, inside, below)))
@@ -112,17 +115,21 @@ module _ (disk : Disk) (gap : Gap) (entries : List Entry) (pending : ArePending 
   abbrev from : ℕ → ℕ → Dwell
   from begin end = record { track = track; begin = begin; end = end }
 
-  module _ (blocks : List Entry) (its : blocks ≡ on_track track entries) (on_disk : AreOnDisk disk blocks) (begin end sectors last : ℕ)
-      (at_once : begin ≡ ready disk gap track) (counted : sectors ≡ sum_by (stay_gain disk (from begin end)) blocks)
-      (by_last : IsLast disk (from begin end) blocks sectors last) where
+  -- of what the track's blocks offer from the arrival on so many sectors pass by an instant, and this is the end of the last
+  module _ (blocks : List Entry) (its : blocks ≡ on_track track entries) (on_disk : AreOnDisk disk blocks)
+      {passing : Turning} (turning : IsTurning disk passing) (at_once : passing.from ≡ ready disk gap track)
+      {offers : List Offer} (are : AreOffers offers blocks) {end sectors last : ℕ}
+      (counted : sectors ≡ sum_by (added (passes_by passing end)) offers) (ends : IsLastEnd passing end offers sectors last) where
     light : AreLight blocks
     light = subst AreLight (sym its) (light_on track entries pending.light)
 
     sum : sectors ≡ sum_by (stay_gain disk (longest end)) blocks
-    sum = subst (λ b. sectors ≡ sum_by (stay_gain disk (from b end)) blocks) at_once counted
+    sum = subst (λ b. sectors ≡ sum_by (stay_gain disk (from b end)) blocks) at_once
+        (counted ∙ sum_of_stay disk track end entries blocks its on_disk passing turning offers are)
 
-    pub is_last : IsLast disk (longest end) blocks sectors last
-    is_last = subst (λ b. IsLast disk (from b end) blocks sectors last) at_once by_last
+    is_last : IsLast disk (longest end) blocks sectors last
+    is_last = subst (λ b. IsLast disk (from b end) blocks sectors last) at_once
+        (last_of_stay disk track end entries blocks its on_disk passing turning offers are sectors last ends)
 
     whole : sectors ≡ stay disk (longest end) entries
     whole = stay-of disk (longest end) entries blocks sectors its sum
@@ -135,13 +142,24 @@ module _ (disk : Disk) (gap : Gap) (entries : List Entry) (pending : ArePending 
         let spill : Spill = record { track = track; leave = leave } in
         stay-of disk (longest leave) entries blocks (sum_by (stay_gain disk (longest leave)) blocks) its refl ∙ sym (value_stay disk gap entries spill pending.light)
 
-    pub last_value : sectors ≡ value disk gap (wanted_of entries) (record { track = track; leave = last })
+    last_value : sectors ≡ value disk gap (wanted_of entries) (record { track = track; leave = last })
     last_value =
         let most = by_longest last end is_last.upto in
         omega (arith, as_much_by_last disk (longest end) blocks sectors last is_last, at_leave last, sum, whole, most)
 
+    -- the spill that leaves then
+    pub last_valued : 0 < sectors → IsTrackOf disk.map track → end + pos disk.mechanism track gap.target gap.write ≤ gap.deadline
+        → IsValued disk gap (wanted_of entries) (record { spill = record { track = track; leave = last }; value = sectors })
+    last_valued some on_it in_time = record {
+      is_spill = record { on_disk = on_it; after_ready = is_last.from; in_time = omega (arith, is_last.upto, in_time) };
+      value_is = last_value;
+      some = some;
+    }
+
     -- no other leave is better
-    pub last_beats : 0 < sectors → (leave : ℕ) → leave ≤ end → Beats disk gap (wanted_of entries) (Some (record { spill = record { track = track; leave = last }; value = sectors })) (record { track = track; leave = leave })
+    pub last_beats : 0 < sectors → (leave : ℕ) → leave ≤ end
+        → Beats disk gap (wanted_of entries) (Some (record { spill = record { track = track; leave = last }; value = sectors }))
+        (record { track = track; leave = leave })
     last_beats some leave le = elim (cases_lt (value disk gap (wanted_of entries) (record { track = track; leave = leave })) sectors) [
       | inl less ↦ inl less
       | inr more ↦ elim is_last.reached [

@@ -618,7 +618,7 @@ fn try_track(
     if most < least_on(&blocks, LONGEST) as u64 {
         return start;
     }
-    let found = spill_on(disk, pending, gap, track, &blocks);
+    let found = spill_on(disk, gap, track, &blocks);
     match (start, found) {
         (Some(best), Some(found)) => Some(better(best, found)),
         (None, found) => found,
@@ -628,22 +628,13 @@ fn try_track(
 
 // The best spill on a track with these blocks: it leaves as the last passage ends that the head can
 // wait for.
-fn spill_on(
-    disk: &Disk,
-    pending: &Pending,
-    gap: &Gap,
-    track: Track,
-    blocks: &TrackBlocks,
-) -> Option<Valued>
+fn spill_on(disk: &Disk, gap: &Gap, track: Track, blocks: &TrackBlocks) -> Option<Valued>
     requires track { IsTrackOf disk.now.map track }
     requires gap { IsGap disk.now gap.now }
-    requires blocks { ArePending disk.now pending.now }
-    requires its { blocks.now ≡ on_track track pending.now }
     requires on_disk { AreOnDisk disk.now blocks.now }
-    ensures valued { IsValuedIf disk.now gap.entry.now (wanted_of pending.now) result }
-    ensures tried { BeatsOn disk.now gap.entry.now (wanted_of pending.now) result track }
+    ensures valued { (entries : List Registered) → ArePending disk.now entries → blocks.now ≡ on_track track entries → IsValuedIf disk.now gap.entry.now (wanted_of entries) result }
+    ensures tried { (entries : List Registered) → ArePending disk.now entries → blocks.now ≡ on_track track entries → BeatsOn disk.now gap.entry.now (wanted_of entries) result track }
 {
-    let _ = pending;
     let begin = gap.now + disk.mechanism.pos(gap.source, track, true);
     let on = disk.mechanism.pos(track, gap.target, gap.write);
     if gap.deadline < begin + on {
