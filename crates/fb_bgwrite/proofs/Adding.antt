@@ -38,14 +38,27 @@ new_spilling s items pending admitted written =
       ranges = subst (AllByRecursion HasRange) (sym items) tt;
     }
 
+-- the same with these registered blocks and rows, and so many sectors written
+abbrev changed : Spilling → List Entry → List SpillItem → ℕ → Spilling
+changed s pending items written = record {
+  alloc = s.alloc;
+  disk = s.disk;
+  puts = s.puts;
+  pending = pending;
+  admitted = s.admitted;
+  instant = s.instant;
+  items = items;
+  written = written;
+}
+
 -- ---- a stay
 
 pub stay_added : (old : Spilling) (row : SpillRow) (items : List SpillItem) → IsSpilling old → items ≡ old.items ++ SpillLine row ∷ []
-    → IsSpilling (record { alloc = old.alloc; disk = old.disk; puts = old.puts; pending = old.pending; admitted = old.admitted; instant = old.instant; items = items; written = old.written })
+    → IsSpilling (changed old old.pending items old.written)
 stay_added old row items is added =
     let disk = old.disk.now in
     let puts = old.puts.now in
-    subst (λ rows. IsSpilling (record { alloc = old.alloc; disk = old.disk; puts = old.puts; pending = old.pending; admitted = old.admitted; instant = old.instant; items = rows; written = old.written })) (sym added) (record {
+    subst (λ rows. IsSpilling (changed old old.pending rows old.written)) (sym added) (record {
       first = is.first;
       come = is.come;
       registered = is.registered ∙ sym (stay_registered old.items row (first_blocks disk puts old.admitted));
@@ -71,6 +84,15 @@ itself n = grind (arith, nat_tests)
 both : (a b : Bool) → a ≡ true → b ≡ true → a && b ≡ true
 both a b on_a on_b = rw (on_a, on_b) refl
 
+-- a block that is to be written is one of all puts
+of_all : (old : Spilling) (catch : Catch) → IsSpilling old → ArePutsOn (length (places old.disk.now.map)) old.puts.now
+    → (to : IsToWrite old catch) → IsOfPuts old.disk.now 1 old.puts.now to.put
+of_all old catch is are to =
+    let disk = old.disk.now in
+    let puts = old.puts.now in
+    let at_all' = among_all disk puts old.admitted to.index to.put is.first to.stands in
+    all_get (IsOfPuts disk 1 puts) (put_blocks disk.map puts) to.index to.put (all_of_puts disk 1 puts are.on_disk) at_all'
+
 pub wanted_there : (old : Spilling) (catch : Catch) → IsSpilling old → IsToWrite old catch
     → (e : Entry) × (i : ℕ) × (slice_get old.pending i ≡ Some e) × (is_block catch.block.task catch.block.index e ≡ true) × (e.state ≡ Wanted)
 wanted_there old catch is to =
@@ -82,7 +104,7 @@ wanted_there old catch is to =
 
 pub block_added : (old : Spilling) (catch : Catch) (pending : List Entry) (items : List SpillItem) (written : ℕ) → IsSpilling old → ArePutsOn (length (places old.disk.now.map)) old.puts.now → IsToWrite old catch
     → items ≡ old.items ++ WroteLine (wrote_row catch) ∷ [] → pending ≡ after catch.block.task (Deliver catch.block.index) old.pending → written ≡ old.written + catch.block.count
-    → IsSpilling (record { alloc = old.alloc; disk = old.disk; puts = old.puts; pending = pending; admitted = old.admitted; instant = old.instant; items = items; written = written })
+    → IsSpilling (changed old pending items written)
 block_added old catch pending items written is are to added delivers more_written =
     let disk = old.disk.now in
     let puts = old.puts.now in
@@ -93,7 +115,7 @@ block_added old catch pending items written is are to added delivers more_writte
     let first_order = first_in_order disk puts n are is.first in
     let all_order = puts_in_order disk 1 puts are.on_disk are.apart in
     let at_all' = among_all disk puts n to.index to.put is.first to.stands in
-    let of_puts = all_get (IsOfPuts disk 1 puts) (put_blocks disk.map puts) to.index to.put (all_of_puts disk 1 puts are.on_disk) at_all' in
+    let of_puts = of_all old catch is are to in
     let unwritten : is_written old.items block ≡ false = ap (is_written old.items) to.block ∙ to.unwritten in
     let upto = all_get (λ (p : PutBlock). p.block.task ≤ n) (first_blocks disk puts n) to.index to.put (numbered_first disk puts n are)
     to.stands in
@@ -101,7 +123,7 @@ block_added old catch pending items written is are to added delivers more_writte
     let count = ap (λ (b : Block). b.count) to.block in
     let lbn = ap (λ (b : Block). b.lbn) to.block in
     let less = left_less old.items row block refl refl (put_blocks disk.map puts) to.index to.put all_order at_all' own unwritten in
-    subst (λ rows. IsSpilling (record { alloc = old.alloc; disk = old.disk; puts = old.puts; pending = pending; admitted = n; instant = old.instant; items = rows; written = written })) (sym added) (record {
+    subst (λ rows. IsSpilling (changed old pending rows written)) (sym added) (record {
       first = is.first;
       come = is.come;
       registered = delivers ∙ ap (after block.task (Deliver block.index)) is.registered ∙ delivered old.items row block refl refl (first_blocks disk puts n) to.index to.put first_order to.stands own;
@@ -119,14 +141,14 @@ block_added old catch pending items written is are to added delivers more_writte
       ranges = all_push HasRange old.items (WroteLine row) is.ranges (omega (arith, upto, task, is.first, are.few), omega (arith, lbn, count, of_puts.is.fits.on_disk, disk.few_blocks));
     })
 
-sum_of_all : (disk : Disk) (puts : List Put) → sectors (its_blocks (put_blocks disk.map puts)) ≡ sum_by (λ (put : Put). put.count) puts
-sum_of_all disk puts = all_sectors disk.map 1 puts
-
 -- what is written fits
 pub written_few : (old : Spilling) (catch : Catch) → IsSpilling old → ArePutsOn (length (places old.disk.now.map)) old.puts.now → IsToWrite old catch → old.written + catch.block.count ≤ 16 * 10 ^ 6 + 2048
 written_few old catch is are to =
-    let disk = old.disk.now in
-    let puts = old.puts.now in
-    let at_all' = among_all disk puts old.admitted to.index to.put is.first to.stands in
-    let of_puts = all_get (IsOfPuts disk 1 puts) (put_blocks disk.map puts) to.index to.put (all_of_puts disk 1 puts are.on_disk) at_all' in
-    omega (arith, is.parts, sum_of_all disk puts, are.few_sectors, ap (λ (b : Block). b.count) to.block, of_puts.is.fits.few)
+    omega (
+      arith,
+      is.parts,
+      all_sectors old.disk.now.map 1 old.puts.now,
+      are.few_sectors,
+      ap (λ (b : Block). b.count) to.block,
+      (of_all old catch is are to).is.fits.few,
+    )

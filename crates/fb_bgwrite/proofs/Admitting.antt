@@ -53,11 +53,17 @@ its_map items (b ∷ bs) = ap (λ xs. b.block ∷ xs) (its_map items bs)
 lie_take : (P : Put → Type 0) (n : ℕ) (puts : List Put) → AllByRecursion P puts → AllByRecursion P (take n puts)
 lie_take P n puts all = all_left P (take n puts) (drop n puts) (subst (AllByRecursion P) (sym (take-append-drop n puts)) all)
 
--- their puts are among the first
+-- they are of the first puts
+first_of_puts : (disk : Disk) (puts : List Put) (n : ℕ) → ArePutsOn (length (places disk.map)) puts
+    → AllByRecursion (IsOfPuts disk 1 (take n puts)) (first_blocks disk puts n)
+first_of_puts disk puts n are = all_of_puts disk 1 (take n puts) (lie_take (λ (put : Put). put.first + put.count ≤ length (places disk.map))
+    n puts are.on_disk)
+
+-- so are the numbers of their puts
 pub numbered_first : (disk : Disk) (puts : List Put) (n : ℕ) → ArePutsOn (length (places disk.map)) puts → AllByRecursion (λ (p : PutBlock). p.block.task ≤ n) (first_blocks disk puts n)
 numbered_first disk puts n are = all_weaker (IsOfPuts disk 1 (take n puts)) (λ (p : PutBlock). p.block.task ≤ n)
     (λ p is. omega (arith, is.is.task, slice_get_within (take n puts) is.i is.own is.stands, length-take n puts))
-    (first_blocks disk puts n) (all_of_puts disk 1 (take n puts) (lie_take (λ (put : Put). put.first + put.count ≤ length (places disk.map)) n puts are.on_disk))
+    (first_blocks disk puts n) (first_of_puts disk puts n are)
 
 pub first_in_order : (disk : Disk) (puts : List Put) (n : ℕ) → ArePutsOn (length (places disk.map)) puts → n ≤ length puts → AreInOrder (first_blocks disk puts n)
 first_in_order disk puts n are le = order_left (first_blocks disk puts n) (blocks_from disk.map (1 + n) (drop n puts))
@@ -99,7 +105,7 @@ are_pending spilling is are =
     let disk = spilling.disk.now in
     let puts = spilling.puts.now in
     let blocks = first_blocks disk puts spilling.admitted in
-    let of_puts = all_of_puts disk 1 (take spilling.admitted puts) (lie_take (λ (put : Put). put.first + put.count ≤ length (places disk.map)) spilling.admitted puts are.on_disk) in
+    let of_puts = first_of_puts disk puts spilling.admitted are in
     subst (ArePending disk) (sym is.registered) (record {
       on_disk = fits_all disk spilling.items (take spilling.admitted puts) blocks of_puts;
       light = light_all disk spilling.items (take spilling.admitted puts) blocks of_puts;
@@ -129,6 +135,11 @@ others_later now (suc n) (put ∷ puts) rising next = others_later now n puts ri
 lie_drop : (P : Put → Type 0) (n : ℕ) (puts : List Put) → AllByRecursion P puts → AllByRecursion P (drop n puts)
 lie_drop P n puts all = all_right P (take n puts) (drop n puts) (subst (AllByRecursion P) (sym (take-append-drop n puts)) all)
 
+pub first_come : (spilling : Spilling) → IsSpilling spilling → ArePutsOn (length (places spilling.disk.now.map)) spilling.puts.now
+    → AllByRecursion (λ (p : PutBlock). p.instant ≤ spilling.instant) (first_blocks spilling.disk.now spilling.puts.now spilling.admitted)
+first_come s is are = by_instant (λ n. n ≤ s.instant) s.disk.now (take s.admitted s.puts.now) is.come
+    (first_blocks s.disk.now s.puts.now s.admitted) 1 (first_of_puts s.disk.now s.puts.now s.admitted are)
+
 pub wanted_pending : (spilling : Spilling) → IsSpilling spilling → ArePutsOn (length (places spilling.disk.now.map)) spilling.puts.now
     → ((put : Put) → slice_get spilling.puts.now spilling.admitted ≡ Some put → spilling.instant < put.instant)
     → wanted_of spilling.pending ≡ pending (put_blocks spilling.disk.now.map spilling.puts.now) spilling.items spilling.instant
@@ -136,22 +147,12 @@ wanted_pending spilling is are next =
     let disk = spilling.disk.now in
     let puts = spilling.puts.now in
     let n = spilling.admitted in
-    let lies = λ (put : Put). put.first + put.count ≤ length (places disk.map) in
+    let rest = lie_drop (λ (put : Put). put.first + put.count ≤ length (places disk.map)) n puts are.on_disk in
     ap wanted_of is.registered
     ∙ pending_is spilling.items spilling.instant (put_blocks disk.map puts) (first_blocks disk puts n) (blocks_from disk.map (1 + n) (drop n puts)) (blocks_split disk.map 1 n puts is.first)
-    (by_instant (λ n. n ≤ spilling.instant) disk (take n puts) is.come (first_blocks disk puts n) 1
-    (all_of_puts disk 1 (take n puts) (lie_take lies n puts are.on_disk)))
+    (first_come spilling is are)
     (by_instant (λ n. spilling.instant < n) disk (drop n puts) (others_later spilling.instant n puts are.rising next)
-    (blocks_from disk.map (1 + n) (drop n puts)) (1 + n) (all_of_puts disk (1 + n) (drop n puts) (lie_drop lies n puts are.on_disk)))
-
-pub first_come : (spilling : Spilling) → IsSpilling spilling → ArePutsOn (length (places spilling.disk.now.map)) spilling.puts.now
-    → AllByRecursion (λ (p : PutBlock). p.instant ≤ spilling.instant) (first_blocks spilling.disk.now spilling.puts.now spilling.admitted)
-first_come spilling is are =
-    let disk = spilling.disk.now in
-    let puts = spilling.puts.now in
-    let n = spilling.admitted in
-    by_instant (λ n. n ≤ spilling.instant) disk (take n puts) is.come (first_blocks disk puts n) 1
-    (all_of_puts disk 1 (take n puts) (lie_take (λ (put : Put). put.first + put.count ≤ length (places disk.map)) n puts are.on_disk))
+    (blocks_from disk.map (1 + n) (drop n puts)) (1 + n) (all_of_puts disk (1 + n) (drop n puts) rest))
 
 -- ---- one more put
 
@@ -227,10 +228,10 @@ puts_kept old new kept are =
     subst (λ (d : Bor Disk). ArePutsOn (length (places d.now.map)) new.puts.now) (sym kept.disk) (subst (λ (p : Bor (List Put)). ArePutsOn (length (places old.disk.now.map)) p.now) (sym kept.puts) are)
 
 module _ (old new : Spilling) (row : GapRow) (is : IsSpilling new) (are : ArePutsOn (length (places old.disk.now.map)) old.puts.now) (kept : HasKept old new) (items : new.items ≡ old.items) (instant : new.instant ≡ row.gap.now)
-    (next : (put : Put) → slice_get new.puts.now new.admitted ≡ Some put → new.instant < put.instant) where
+    (next : (put : Put) → slice_get new.puts.now new.admitted ≡ Some put → row.gap.now < put.instant) where
   pending_then : wanted_of new.pending ≡ pending (put_blocks old.disk.now.map old.puts.now) old.items row.gap.now
   pending_then =
-      wanted_pending new is (puts_kept old new kept are) next
+      wanted_pending new is (puts_kept old new kept are) (λ put at. subst (λ t. t < put.instant) (sym instant) (next put at))
       ∙ ap (λ (d : Bor Disk). pending (put_blocks d.now.map new.puts.now) new.items new.instant) kept.disk
       ∙ ap (λ (p : Bor (List Put)). pending (put_blocks old.disk.now.map p.now) new.items new.instant) kept.puts
       ∙ ap (λ xs. pending (put_blocks old.disk.now.map old.puts.now) xs new.instant) items

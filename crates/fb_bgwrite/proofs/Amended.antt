@@ -13,8 +13,6 @@ use Rattle.fb_model.specs.SoundRun.{IsSublist, none, left_out, taken}
 use Rattle.fb_detour.proofs.Within.{place_of}
 use Rattle.fb_bgwrite.proofs.Legs.{behind_gap, first_follows, gap_begins, lead_spill, led_forward, stay_follows, through, StaysOn}
 
--- ---- one definition of a run's way
-
 -- ---- gaps
 
 -- the gaps come one after another, and each can be computed

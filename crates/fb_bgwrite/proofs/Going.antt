@@ -2,13 +2,13 @@
 use Rattle.fb_bgwrite.proofs.Words.{drop_all, length-append, drop_got, all_push, Bor, ◌≡◌, ℕ, ◌+◌, ◌*◌, ◌^◌, ◌≤◌, List, [], ◌∷◌, ◌++◌, true}
 use Rattle.fb_bgwrite.proofs.Words.{false, Option, Some, None, drop, length, slice_get, not, refl, sym, ap, ap₂, ◌∙◌, subst, arith, inl}
 use Rattle.fb_bgwrite.proofs.Words.{inr, append_assoc, append-nil, AllByRecursion, flat_map, sum_by, IsSound, places, Disk, GapRow, BackRow}
-use Rattle.fb_bgwrite.proofs.Words.{GapLine, Spill, SpillItem, Put, Puts, Spilling, Run, timeline, IsPossible, left_over, AreGaps, IsInTime}
-use Rattle.fb_bgwrite.proofs.Words.{IsSpillRun, ArePuts, accepted, PutBlock, put_blocks, RunGap, delivers, gaps, HasNoFree, HasChosen}
+use Rattle.fb_bgwrite.proofs.Words.{GapLine, Spill, SpillItem, Put, Spilling, Run, timeline, IsPossible, left_over, AreGaps, IsInTime}
+use Rattle.fb_bgwrite.proofs.Words.{IsSpillRun, PutBlock, put_blocks, RunGap, delivers, gaps, HasNoFree, HasChosen}
 use Rattle.fb_bgwrite.proofs.Words.{HasKept, ArePutsOn, IsSpilling, Step, IsRight, rows_in, step_of, steps}
 use Rattle.std.proofs.lemmas.List.Concat.{flat_map-append}
 use Rattle.fb_model.specs.PlainReplay.{first_track}
 use Rattle.fb_bgwrite.proofs.{Amended.AreFit, Amended.all_fit, Amended.amended_leads, Amended.fit_earlier, Amended.kept_is}
-use Rattle.fb_bgwrite.proofs.{Amended.right_fits, PutBlocks.all_sectors, Totals.puts_on}
+use Rattle.fb_bgwrite.proofs.{Amended.right_fits, PutBlocks.all_sectors}
 
 -- what was done in all gaps but the rest
 pub record HasGone (disk : Disk) (blocks : List PutBlock) (all rest : List RunGap) (items : List SpillItem) : Type 0 where
@@ -96,37 +96,53 @@ going_first disk puts run spilling sound possible early areGaps is same_disk sam
   gone = none_gone disk (put_blocks disk.map puts) (gaps run.back) spilling.items none;
 }
 
-pub going_busy : (disk : Disk) (puts : List Put) (rows : List BackRow) (i : ℕ) (spilling : Spilling) → HasNoFree (gaps (drop i rows)) (gaps (drop (i + 1) rows)) → IsGoing disk puts rows i spilling → IsGoing disk puts rows (i + 1) spilling
-going_busy disk puts rows i spilling busy going = record {
-  spilling = going.spilling;
-  same_disk = going.same_disk;
-  same_puts = going.same_puts;
-  fit = elim busy [
-    | inl same ↦ subst (AreFit disk spilling.instant) same going.fit
-    | inr one ↦
-        let gap : RunGap = record { row = one.0; free = false } in
-        let fit = subst (AreFit disk spilling.instant) one.1 going.fit in
-        fit_earlier disk gap.row.gap.now spilling.instant (gaps (drop (i + 1) rows)) fit.0 fit.2
-  ];
-  gone = busy_gone disk (put_blocks disk.map puts) (gaps rows) (gaps (drop i rows)) (gaps (drop (i + 1) rows)) spilling.items busy going.gone;
-}
+module _ {disk : Disk} {puts : List Put} {rows : List BackRow} {i : ℕ} {old : Spilling} (going : IsGoing disk puts rows i old) where
+  pub going_busy : HasNoFree (gaps (drop i rows)) (gaps (drop (i + 1) rows)) → IsGoing disk puts rows (i + 1) old
+  going_busy busy = record {
+    spilling = going.spilling;
+    same_disk = going.same_disk;
+    same_puts = going.same_puts;
+    fit = elim busy [
+      | inl same ↦ subst (AreFit disk old.instant) same going.fit
+      | inr one ↦
+          let gap : RunGap = record { row = one.0; free = false } in
+          let fit = subst (AreFit disk old.instant) one.1 going.fit in
+          fit_earlier disk gap.row.gap.now old.instant (gaps (drop (i + 1) rows)) fit.0 fit.2
+    ];
+    gone = busy_gone disk (put_blocks disk.map puts) (gaps rows) (gaps (drop i rows)) (gaps (drop (i + 1) rows)) old.items busy going.gone;
+  }
 
-pub going_free : (disk : Disk) (puts : List Put) (rows : List BackRow) (i : ℕ) (row : GapRow) (old new : Spilling) → gaps (drop i rows) ≡ (let gap : RunGap = record { row = row; free = true } in gap) ∷ gaps (drop (i + 1) rows)
-    → IsSpilling new → HasKept old new → new.instant ≡ row.gap.now → HasChosen old.disk.now old.puts.now row old.items new.items → IsGoing disk puts rows i old → IsGoing disk puts rows (i + 1) new
-going_free disk puts rows i row old new split is kept instant chosen going =
-    let fit = subst (AreFit disk old.instant) split going.fit in
-    let here : HasChosen disk puts row old.items new.items = subst (λ d. HasChosen d puts row old.items new.items) going.same_disk (subst (λ ps. HasChosen old.disk.now ps row old.items new.items) going.same_puts chosen) in
-    record {
-      spilling = is;
-      same_disk = ap (λ (d : Bor Disk). d.now) kept.disk ∙ going.same_disk;
-      same_puts = ap (λ (ps : Bor (List Put)). ps.now) kept.puts ∙ going.same_puts;
-      fit = subst (λ n. AreFit disk n (gaps (drop (i + 1) rows))) (sym instant) fit.2;
-      gone = free_gone disk puts (gaps rows) (gaps (drop i rows)) (gaps (drop (i + 1) rows)) old.items new.items row split here going.gone;
-    }
+  pub going_free : (row : GapRow) (new : Spilling)
+      → gaps (drop i rows) ≡ (let gap : RunGap = record { row = row; free = true } in gap) ∷ gaps (drop (i + 1) rows)
+      → IsSpilling new → HasKept old new → new.instant ≡ row.gap.now → HasChosen old.disk.now old.puts.now row old.items new.items
+      → IsGoing disk puts rows (i + 1) new
+  going_free row new split is kept instant chosen =
+      let fit = subst (AreFit disk old.instant) split going.fit in
+      let here : HasChosen disk puts row old.items new.items = subst (λ d. HasChosen d puts row old.items new.items) going.same_disk
+      (subst (λ ps. HasChosen old.disk.now ps row old.items new.items) going.same_puts chosen) in
+      record {
+        spilling = is;
+        same_disk = ap (λ (d : Bor Disk). d.now) kept.disk ∙ going.same_disk;
+        same_puts = ap (λ (ps : Bor (List Put)). ps.now) kept.puts ∙ going.same_puts;
+        fit = subst (λ n. AreFit disk n (gaps (drop (i + 1) rows))) (sym instant) fit.2;
+        gone = free_gone disk puts (gaps rows) (gaps (drop i rows)) (gaps (drop (i + 1) rows)) old.items new.items row split here
+            going.gone;
+      }
 
-pub going_puts : (disk : Disk) (puts : Puts) (rows : List BackRow) (i : ℕ) (spilling : Spilling) → ArePuts (length (places disk.map)) (accepted puts) → IsGoing disk puts.puts.items rows i spilling → ArePutsOn (length (places spilling.disk.now.map)) spilling.puts.now
-going_puts disk puts rows i spilling are going =
-    subst (λ (d : Disk). ArePutsOn (length (places d.map)) spilling.puts.now) (sym going.same_disk) (subst (ArePutsOn (length (places disk.map))) (sym going.same_puts) (puts_on (length (places disk.map)) (accepted puts) are))
+  pub going_puts : ArePutsOn (length (places disk.map)) puts → ArePutsOn (length (places old.disk.now.map)) old.puts.now
+  going_puts are = subst (λ (d : Disk). ArePutsOn (length (places d.map)) old.puts.now) (sym going.same_disk)
+      (subst (ArePutsOn (length (places disk.map))) (sym going.same_puts) are)
+
+  pub all_written : old.written + left_over disk puts old.items ≡ sum_by (λ (put : Put). put.count) puts
+  all_written =
+      let parts = going.spilling.parts ∙ all_sectors old.disk.now.map 1 old.puts.now in
+      let same : left_over old.disk.now old.puts.now old.items ≡ left_over disk puts old.items =
+      ap₂ (λ d ps. left_over d ps old.items) going.same_disk going.same_puts in
+      omega (arith, parts, same, ap (λ ps. sum_by (λ (put : Put). put.count) ps) going.same_puts)
+
+  pub all_in_time : AllByRecursion (IsInTime disk puts) old.items
+  all_in_time = subst (λ d. AllByRecursion (IsInTime d puts) old.items) going.same_disk
+      (subst (λ ps. AllByRecursion (IsInTime old.disk.now ps) old.items) going.same_puts going.spilling.in_time)
 
 -- ---- the end
 
@@ -159,12 +175,3 @@ all_gone disk puts run i spilling sound possible areGaps past going =
         keeps = kept_is disk sound run.back run.fore gone.spills areGaps fit;
       };
     }
-
-pub all_written : (disk : Disk) (puts : List Put) (rows : List BackRow) (i : ℕ) (spilling : Spilling) → IsGoing disk puts rows i spilling → spilling.written + left_over disk puts spilling.items ≡ sum_by (λ (put : Put). put.count) puts
-all_written disk puts rows i spilling going =
-    let parts = going.spilling.parts ∙ all_sectors spilling.disk.now.map 1 spilling.puts.now in
-    let same : left_over spilling.disk.now spilling.puts.now spilling.items ≡ left_over disk puts spilling.items = ap₂ (λ d ps. left_over d ps spilling.items) going.same_disk going.same_puts in
-    omega (arith, parts, same, ap (λ ps. sum_by (λ (put : Put). put.count) ps) going.same_puts)
-
-pub all_in_time : (disk : Disk) (puts : List Put) (rows : List BackRow) (i : ℕ) (spilling : Spilling) → IsGoing disk puts rows i spilling → AllByRecursion (IsInTime disk puts) spilling.items
-all_in_time disk puts rows i spilling going = subst (λ d. AllByRecursion (IsInTime d puts) spilling.items) going.same_disk (subst (λ ps. AllByRecursion (IsInTime spilling.disk.now ps) spilling.items) going.same_puts going.spilling.in_time)

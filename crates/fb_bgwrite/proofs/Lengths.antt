@@ -3,7 +3,7 @@ use Rattle.fb_bgwrite.proofs.Words.{BeatsRange, IsMost, Part, all_get, ◌≡◌
 use Rattle.fb_bgwrite.proofs.Words.{true, ◌==◌, Option, Some, slice_get, get_or, min, inl, inr, refl, sym, ap, ◌∙◌, subst, arith}
 use Rattle.fb_bgwrite.proofs.Words.{AllByRecursion, sum_by, cases_Bool, true≢false, nat_tests, sum_by-cons, Track, same_track}
 use Rattle.fb_bgwrite.proofs.Words.{IsTrackOf, IsSound, Disk, Deliver, Entry, after, entry_after, is_wanted, on_track, wanted_of}
-use Rattle.fb_bgwrite.proofs.Words.{Dwell, Gap, AreOnDisk, stay_gain, stay-of, Spill, Valued, ArePending, Beats, IsValuedIf}
+use Rattle.fb_bgwrite.proofs.Words.{Dwell, Gap, AreOnDisk, stay_gain, stay-of, Spill, Valued, ArePending, IsValuedIf}
 use Rattle.fb_bgwrite.proofs.Words.{AreAtLeast, AreLight, IsAtLeast, IsNoShorter, stay_of, value, all_of, some_one}
 use Rattle.fb_bgwrite.proofs.Words.{◌-◌, get_or-le-sum_by, get_or_from_slice_get, length, slice_get_within, sum_by-le-sum_by}
 use Rattle.fb_bgwrite.proofs.Words.{sum_by_more, take, AreOffers, Block, Offer}
@@ -81,50 +81,44 @@ module _ (disk : Disk) (gap : Gap) (entries : List Entry) (spill : Spill) (light
             absurd (omega (arith, long, is.worth, is.few, sum, is_value, few, less))
       ]
 
-  module _ (from end : ℕ) (long : AreAtLeast from end least entries) (low : from ≤ spill.track.cylinder) (high : spill.track.cylinder < end) where
-    none_or_long : AreOnDisk disk entries → (value disk gap (wanted_of entries) spill ≡ 0) ⊎ ((least ≤ value disk gap (wanted_of entries) spill) × (least ≤ 2048))
-    none_or_long on_disk =
-        let dwell = stay_of disk gap spill in
-        let is_value = value_caught disk gap entries spill light in
-        elim (some_caught disk dwell entries light) [
-          | inl none ↦ inl (omega (arith, is_value, none))
-          | inr is ↦
-              let here = passing_here disk dwell is.entry is.passing in
-              let longer = all_get (IsAtLeast from end least) entries is.index is.entry long is.stands
-              (passing_wanted disk dwell is.entry is.passing) (omega (arith, low, here)) (omega (arith, high, here)) in
-              inr (omega (arith, longer, is.few, is_value), omega (arith, longer, (on_disk is.index is.entry is.stands).few))
-        ]
+  -- nor one of these cylinders; no block has more than 2,048 sectors
+  none_short : (from end : ℕ) → AreAtLeast from end least entries → from ≤ spill.track.cylinder → spill.track.cylinder < end → (most : ℕ)
+      → AreOnDisk disk entries → value disk gap (wanted_of entries) spill ≤ most → min most 2048 < least
+      → value disk gap (wanted_of entries) spill ≡ 0
+  none_short from end long low high most on_disk few less =
+      let dwell = stay_of disk gap spill in
+      let is_value = value_caught disk gap entries spill light in
+      elim (some_caught disk dwell entries light) [
+        | inl none ↦ omega (arith, is_value, none)
+        | inr is ↦
+            let here = passing_here disk dwell is.entry is.passing in
+            let longer = all_get (IsAtLeast from end least) entries is.index is.entry long is.stands
+            (passing_wanted disk dwell is.entry is.passing) (omega (arith, low, here)) (omega (arith, high, here)) in
+            absurd (omega (arith, longer, is.few, is_value, few, less, (on_disk is.index is.entry is.stands).few))
+      ]
 
-    -- nor one of the range
-    pub too_long_in : (most : ℕ) → AreOnDisk disk entries → value disk gap (wanted_of entries) spill ≤ most → most < least → value disk gap (wanted_of entries) spill ≡ 0
-    too_long_in most on_disk few less = elim (none_or_long on_disk) [ inl none ↦ none | inr long ↦ absurd (omega (arith, long.0, few, less)) ]
+-- before and behind some cylinders each pending block is longer than what a spill may write
+pub none_outside : (disk : Disk) (gap : Gap) (entries : List Entry) → ArePending disk entries
+    → (spill : Spill) (least most from low high end : ℕ) → AreAtLeast from low least entries → AreAtLeast high end least entries
+    → from ≤ spill.track.cylinder → spill.track.cylinder < end → (spill.track.cylinder < low) ⊎ (high ≤ spill.track.cylinder)
+    → value disk gap (wanted_of entries) spill ≤ most → min most 2048 < least → value disk gap (wanted_of entries) spill ≡ 0
+none_outside disk gap entries blocks spill least most from low high end before behind above below outside few less =
+    let none = none_short disk gap entries spill blocks.light least in
+    elim outside [
+      | inl under ↦ none from low before above under most blocks.on_disk few less
+      | inr over ↦ none high end behind over below most blocks.on_disk few less
+    ]
 
-    -- and none of those of at most 2,048
-    pub none_short : (most : ℕ) → AreOnDisk disk entries → value disk gap (wanted_of entries) spill ≤ most → min most 2048 < least → value disk gap (wanted_of entries) spill ≡ 0
-    none_short most on_disk few less = elim (none_or_long on_disk) [ inl none ↦ none | inr long ↦ absurd (omega (arith, long.0, long.1, few, less)) ]
-
-    -- there is none
-    pub none_there : AreOnDisk disk entries → 2048 < least → value disk gap (wanted_of entries) spill ≡ 0
-    none_there on_disk more = elim (none_or_long on_disk) [ inl none ↦ none | inr long ↦ absurd (omega (arith, long.1, more)) ]
-
--- a spill is beaten where each pending block is longer than what it may write
-pub short_beaten : (disk : Disk) (gap : Gap) (entries : List Entry) → ArePending disk entries
-    → (best : Option Valued) → IsValuedIf disk gap (wanted_of entries) best → (spill : Spill) (short from end most : ℕ)
-    → AreAtLeast from end (short + 1) entries → from ≤ spill.track.cylinder → spill.track.cylinder < end
-    → value disk gap (wanted_of entries) spill ≤ most → min most 2048 ≤ short
-    → Beats disk gap (wanted_of entries) best spill
-short_beaten disk gap entries blocks best valued spill short from end most long low high few less =
-    let none = none_short disk gap entries spill blocks.light (short + 1) from end long low high most blocks.on_disk few (omega (arith, less)) in
-    nothing_beaten disk gap (wanted_of entries) best spill valued none
-
--- and so is each of a range
+-- the spills on some cylinders of a part are beaten where each pending block there is longer than what they may write
 pub range_beaten : (disk : Disk) (gap : Gap) (entries : List Entry) → ArePending disk entries → (best : Option Valued)
     → IsValuedIf disk gap (wanted_of entries) best → (part : Part) → IsMost disk gap (wanted_of entries) part
-    → (short from end : ℕ) → part.from ≤ from → end ≤ part.end → min part.most 2048 ≤ short → AreAtLeast from end (short + 1) entries
+    → (least from end : ℕ) → part.from ≤ from → end ≤ part.end → min part.most 2048 < least → AreAtLeast from end least entries
     → BeatsRange disk gap (wanted_of entries) best from end
-range_beaten disk gap entries blocks best valued part most short from end after inside few long track low high leave is =
-    short_beaten disk gap entries blocks best valued (record { track = track; leave = leave }) short from end part.most long low high
-    (most track (omega (arith, low, after)) (omega (arith, high, inside)) leave is) few
+range_beaten disk gap entries blocks best valued part most least from end after inside less long track low high leave is =
+    let spill : Spill = record { track = track; leave = leave } in
+    let few = most track (omega (arith, low, after)) (omega (arith, high, inside)) leave is in
+    nothing_beaten disk gap (wanted_of entries) best spill valued
+    (none_short disk gap entries spill blocks.light least from end long low high part.most blocks.on_disk few less)
 
 -- ---- the bounds of cylinders
 
@@ -188,10 +182,10 @@ pub all_of_cylinder : (disk : Disk) → IsSound disk.map → (cylinder heads lea
     → ((head i : ℕ) (e : Entry) → head < heads → slice_get (on_track (record { cylinder = cylinder; head = head }) es) i ≡ Some e
     → is_wanted e.state ≡ true → least ≤ e.block.weight * e.block.count)
     → AllByRecursion (λ (e : Entry). is_wanted e.state ≡ true → e.block.track.cylinder ≡ cylinder → least ≤ e.block.count) es
-all_of_cylinder disk sound cylinder heads least es on_disk light all each = all_of (λ (e : Entry). is_wanted e.state ≡ true → e.block.track.cylinder ≡ cylinder → least ≤ e.block.count) es (λ k e at wanted here.
+all_of_cylinder disk sound cylinder heads least es on_disk light all each = all_of _ es (λ k e at wanted here.
     let on = stands_on es k e at in
     let head = (subst (IsTrackOf disk.map) (sym (on_disk k e at).track) (track_on_disk disk sound e.block.lbn)).head in
-    let there = subst (λ c. slice_get (on_track (let t : Track = record { cylinder = c; head = e.block.track.head } in t) es) on.0 ≡ Some e)
-    here on.1 in
+    let there =
+    subst (λ c. slice_get (on_track (let t : Track = record { cylinder = c; head = e.block.track.head } in t) es) on.0 ≡ Some e) here on.1 in
     let worth = its_sectors e (all_get (λ (x : Entry). x.block.weight ≡ 1) es k e light at) in
     omega (arith, each e.block.track.head on.0 e (omega (arith, head, all)) there wanted, worth))

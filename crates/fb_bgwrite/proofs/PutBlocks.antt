@@ -18,6 +18,18 @@ abbrev pub AreInOrder : List PutBlock → Type 0
 AreInOrder [] = Unit {0}
 AreInOrder (put ∷ puts) = AllByRecursion (λ other. IsBefore put.block other.block) puts × AreInOrder puts
 
+-- the block of this put and index that a cut gives
+abbrev pub block_of : ℕ → ℕ → Cut → Block
+block_of number index cut = record {
+  task = number;
+  index = index;
+  lbn = cut.lbn;
+  count = cut.count;
+  track = cut.track;
+  weight = 1;
+  sweep = cut.sweep;
+}
+
 -- a block of the put with this number, from a sector and an index on, before an end
 pub record IsOf (disk : Disk) (number n from end : ℕ) (block : Block) : Type 0 where
   pub fits : FitsDisk disk block
@@ -77,7 +89,7 @@ module _ (instant : ℕ) where
   numbered_in_order : (disk : Disk) (number n from end : ℕ) (cuts : List Cut) → end ≤ length (places disk.map) → AreCuts disk.map 2048 from end cuts → AreInOrder (map put_block (numbered number 1 n cuts))
   numbered_in_order disk number n from end [] on_disk are = tt
   numbered_in_order disk number n from end (cut ∷ cuts) on_disk are =
-      let first : Block = record { task = number; index = n; lbn = cut.lbn; count = cut.count; track = cut.track; weight = 1; sweep = cut.sweep } in (
+      let first = block_of number n cut in (
         all_behind first (numbered number 1 (n + 1) cuts) (all_weaker (IsOf disk number (n + 1) (from + cut.count) end) (IsBefore first) (λ other is. first_before disk number n from end cut.count first other are.1 refl refl are.0 refl is)
             (numbered number 1 (n + 1) cuts) (all_numbered disk number (n + 1) (from + cut.count) end cuts on_disk are.4)),
         numbered_in_order disk number (n + 1) (from + cut.count) end cuts on_disk are.4,
@@ -187,8 +199,12 @@ order_left (x ∷ xs) ys order = (all_left (λ other. IsBefore x.block other.blo
 sum_cuts : (disk : Shape) (number n from end : ℕ) (cuts : List Cut) → AreCuts disk 2048 from end cuts → from + sectors (numbered number 1 n cuts) ≡ end
 sum_cuts disk number n from end [] are = omega (arith, are)
 sum_cuts disk number n from end (cut ∷ cuts) are =
-    let first : Block = record { task = number; index = n; lbn = cut.lbn; count = cut.count; track = cut.track; weight = 1; sweep = cut.sweep } in
-    omega (arith, sum_by-cons (λ (b : Block). b.count) first (numbered number 1 (n + 1) cuts), sum_cuts disk number (n + 1) (from + cut.count) end cuts are.4)
+    omega (
+      arith,
+      sum_by-cons (λ (b : Block). b.count) (block_of number n cut) (numbered number 1 (n + 1) cuts),
+      sum_cuts disk number
+          (n + 1) (from + cut.count) end cuts are.4,
+    )
 
 abbrev pub its_blocks : List PutBlock → List Block
 its_blocks puts = map (λ put. put.block) puts

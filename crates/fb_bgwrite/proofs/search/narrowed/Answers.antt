@@ -1,34 +1,26 @@
-use Rattle.fb_bgwrite.proofs.Words.{◌+◌, ◌<◌, min, inl, inr, arith, Spill}
-use Rattle.fb_bgwrite.proofs.Lengths.{none_short}
+use Rattle.fb_bgwrite.proofs.Words.{◌+◌, ◌<◌, ◌≤◌, ◌⊎◌, inl, inr, arith}
+use Rattle.fb_bgwrite.proofs.Lengths.{none_outside}
 use Rattle.fb_bgwrite.proofs.search.narrowed.Goals as goal
 
 pub returns-then-from-end-clause-only : goal.returns-then-from-end-clause-only
 returns-then-from-end-clause-only c = λ track low high outside leave is.
-    let blocks = c.requires.blocks in
     let kept = c.trimmed-from in
-    let most = c.args.whole.most in
-    let short = c.min-short in
-    let spill : Spill = record { track = track; leave = leave } in
     let few = c.requires.most track (omega (arith, low, c.requires.after)) (omega (arith, high, c.requires.inside)) leave is in
-    let less : min most 2048 < short.result + 1 = omega (arith, short.ensures) in
-    let none = none_short c.args.disk.now c.args.gap.now c.args.pending.now spill blocks.light (short.result + 1) in
-    elim outside [
-      | inl before ↦ omega (arith, none c.args.from kept.result.0 kept.ensures.before low before most blocks.on_disk few less)
-      | inr behind ↦ omega (arith, none kept.result.1 c.args.end kept.ensures.behind behind high most blocks.on_disk few less)
-    ]
+    let none = none_outside _ c.args.gap.now _ c.requires.blocks (record { track = track; leave = leave }) (c.min-short.result + 1)
+    c.args.whole.most c.args.from kept.result.0 kept.result.1 c.args.end kept.ensures.before kept.ensures.behind low high outside few
+    (omega (arith, c.min-short.ensures)) in
+    omega (arith, none)
 
 pub returns-clause-only : goal.returns-clause-only
 returns-clause-only c = λ track low high outside leave is.
-    let blocks = c.requires.blocks in
     let kept = c.trimmed-from in
-    let most = c.args.whole.most in
-    let short = c.min-short in
     let part = c.part_of.ensures in
-    let spill : Spill = record { track = track; leave = leave } in
     let few = c.requires.most track (omega (arith, low, c.requires.after)) (omega (arith, high, c.requires.inside)) leave is in
-    let less : min most 2048 < short.result + 1 = omega (arith, short.ensures) in
-    let none = none_short c.args.disk.now c.args.gap.now c.args.pending.now spill blocks.light (short.result + 1) in
-    elim outside [
-      | inl before ↦ omega (arith, none c.args.from kept.result.0 kept.ensures.before low (omega (arith, before, part.from)) most blocks.on_disk few less)
-      | inr behind ↦ omega (arith, none kept.result.1 c.args.end kept.ensures.behind (omega (arith, behind, part.end)) high most blocks.on_disk few less)
-    ]
+    let outside_kept : (track.cylinder < kept.result.0) ⊎ (kept.result.1 ≤ track.cylinder) = elim outside [
+      | inl before ↦ inl (omega (arith, before, part.from))
+      | inr behind ↦ inr (omega (arith, behind, part.end))
+    ] in
+    let none = none_outside _ c.args.gap.now _ c.requires.blocks (record { track = track; leave = leave }) (c.min-short.result + 1)
+    c.args.whole.most c.args.from kept.result.0 kept.result.1 c.args.end kept.ensures.before kept.ensures.behind low high outside_kept
+    few (omega (arith, c.min-short.ensures)) in
+    omega (arith, none)

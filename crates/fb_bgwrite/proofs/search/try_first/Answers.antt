@@ -5,15 +5,14 @@ use Rattle.fb_bgwrite.proofs.search.try_first.Goals as goal
 pub returns-then-from-part-clause-tried : goal.returns-then-from-part-clause-tried
 returns-then-from-part-clause-tried c =
     let short = c.first_short-from in
-    range_beaten _ c.args.gap.now _ c.requires.blocks c.args.start c.requires.best c.args.part c.requires.most
-    c.min-short.result c.args.part.from short.result (omega arith) short.ensures.within (omega (arith, c.min-short.ensures))
-    short.ensures.each
+    range_beaten _ c.args.gap.now _ c.requires.blocks c.args.start c.requires.best c.args.part c.requires.most (c.min-short.result + 1)
+    c.args.part.from short.result (omega arith) short.ensures.within (omega (arith, c.min-short.ensures)) short.ensures.each
 
 pub returns-then-is_light-clause-tried : goal.returns-then-is_light-clause-tried
 returns-then-is_light-clause-tried c =
     let short = c.first_short-from in
     let before = range_beaten _ c.args.gap.now _ c.requires.blocks c.args.start c.requires.best c.args.part c.requires.most
-    c.min-short.result c.args.part.from short.result (omega arith) short.ensures.within (omega (arith, c.min-short.ensures))
+    (c.min-short.result + 1) c.args.part.from short.result (omega arith) short.ensures.within (omega (arith, c.min-short.ensures))
     short.ensures.each in
     range_more c.args.disk.now c.args.gap.now _ c.args.start c.args.part.from short.result (short.result + 1) before
     (c.is_light.ensures c.if-is_light.true c.args.disk.now c.args.gap.now c.requires.blocks)
@@ -23,6 +22,6 @@ returns-clause-tried c =
     let short = c.first_short-from in
     let best = c.try_if_short in
     let before = range_beaten _ c.args.gap.now _ c.requires.blocks best.result best.ensures.valued c.args.part c.requires.most
-    c.min-short.result c.args.part.from short.result (omega arith) short.ensures.within (omega (arith, c.min-short.ensures))
+    (c.min-short.result + 1) c.args.part.from short.result (omega arith) short.ensures.within (omega (arith, c.min-short.ensures))
     short.ensures.each in
     range_more c.args.disk.now c.args.gap.now _ best.result c.args.part.from short.result (short.result + 1) before best.ensures.tried

@@ -1,19 +1,18 @@
-use Rattle.fb_bgwrite.proofs.Words.{◌-◌, ◌≤◌, arith, Spill}
+use Rattle.fb_bgwrite.proofs.Words.{◌+◌, ◌-◌, ◌≤◌, arith, Spill}
 use Rattle.fb_bgwrite.proofs.{Choices.range_more, Lengths.range_beaten}
 use Rattle.fb_bgwrite.proofs.search.try_last.Goals as goal
 
 pub returns-then-end-part-clause-tried : goal.returns-then-end-part-clause-tried
 returns-then-end-part-clause-tried c =
     let short = c.end_short-end in
-    range_beaten _ c.args.gap.now _ c.requires.blocks c.args.start c.requires.best c.args.part c.requires.most
-    c.min-short.result short.result c.args.part.end short.ensures.after (omega arith) (omega (arith, c.min-short.ensures))
-    short.ensures.each
+    range_beaten _ c.args.gap.now _ c.requires.blocks c.args.start c.requires.best c.args.part c.requires.most (c.min-short.result + 1)
+    short.result c.args.part.end short.ensures.after (omega arith) (omega (arith, c.min-short.ensures)) short.ensures.each
 
 pub returns-then-is_light-clause-tried : goal.returns-then-is_light-clause-tried
 returns-then-is_light-clause-tried c =
     let short = c.end_short-end in
     let behind = range_beaten _ c.args.gap.now _ c.requires.blocks c.args.start c.requires.best c.args.part c.requires.most
-    c.min-short.result short.result c.args.part.end short.ensures.after (omega arith) (omega (arith, c.min-short.ensures))
+    (c.min-short.result + 1) short.result c.args.part.end short.ensures.after (omega arith) (omega (arith, c.min-short.ensures))
     short.ensures.each in
     range_more c.args.disk.now c.args.gap.now _ c.args.start (short.result - 1) short.result c.args.part.end
     (λ track low high.
@@ -39,6 +38,6 @@ returns-clause-tried c =
     let short = c.end_short-end in
     let best = c.try_if_short in
     let behind = range_beaten _ c.args.gap.now _ c.requires.blocks best.result best.ensures.valued c.args.part c.requires.most
-    c.min-short.result short.result c.args.part.end short.ensures.after (omega arith) (omega (arith, c.min-short.ensures))
+    (c.min-short.result + 1) short.result c.args.part.end short.ensures.after (omega arith) (omega (arith, c.min-short.ensures))
     short.ensures.each in
     range_more c.args.disk.now c.args.gap.now _ best.result (short.result - 1) short.result c.args.part.end best.ensures.tried behind

@@ -1,6 +1,7 @@
-use Rattle.fb_bgwrite.proofs.Words.{◌+◌, ◌-◌, length, refl, sym, ap, ◌∙◌, arith, length_push, cutting, Block, blocks_of, registered}
+use Rattle.fb_bgwrite.proofs.Words.{◌+◌, ◌-◌, length, refl, sym, ap, ◌∙◌, arith, length_push, cutting, blocks_of, registered}
 use Rattle.fb_bgwrite.proofs.Words.{wanted_entry}
 use Rattle.fb_bgwrite.proofs.Admitting.{cut_more, none_left, one_counted, registered_few}
+use Rattle.fb_bgwrite.proofs.PutBlocks.{block_of}
 use Rattle.fb_bgwrite.proofs.spilling.register_blocks.Goals as goal
 
 pub loop-left-init : goal.loop-left-init
@@ -13,29 +14,29 @@ pub loop-left-preserved : goal.loop-left-preserved
 loop-left-preserved c =
     let cut = c.next_cut-cut.result in
     let before = c.loop-left.pending in
-    let block : Block = record {
-      task = c.args.number;
-      index = c.loop-left.index;
-      lbn = cut.lbn;
-      count = cut.count;
-      track = cut.track;
-      weight = 1;
-      sweep = cut.sweep;
-    } in
+    let entry = wanted_entry (block_of c.args.number c.loop-left.index cut) in
     let rest = cutting c.args.sectors.now 2048 (c.loop-left.lbn + cut.count) (c.loop-left.left - cut.count) in
     let is = c.in_ok-register.ensures.ok in
     record {
       all = cut_more c.args.number c.loop-left.index before c.register.new.self cut
-          (cutting c.args.sectors.now 2048 c.loop-left.lbn c.loop-left.left) rest c.next_cut-cut.ensures.first is ∙ c.loop-left.invariant.all;
+          (cutting c.args.sectors.now 2048 c.loop-left.lbn c.loop-left.left) rest c.next_cut-cut.ensures.first is
+          ∙ c.loop-left.invariant.all;
       next = omega (
         arith,
         c.loop-left.invariant.next,
         ap (λ es. registered c.args.number (blocks_of es)) is,
-        one_counted c.args.number before (wanted_entry block) refl,
+        one_counted c.args.number before entry refl,
       );
       within = omega (arith, c.next_cut-cut.ensures.within, c.loop-left.invariant.within);
       span = c.next_cut-cut.ensures.span;
-      few = omega (arith, c.loop-left.invariant.few, ap length is, length_push before (wanted_entry block), c.next_cut-cut.ensures.within, c.next_cut-cut.ensures.some);
+      few = omega (
+        arith,
+        c.loop-left.invariant.few,
+        ap length is,
+        length_push before entry,
+        c.next_cut-cut.ensures.within,
+        c.next_cut-cut.ensures.some,
+      );
     }
 
 pub returns : goal.returns

@@ -11,7 +11,8 @@ loop-i-init c =
     c.requires.possible c.requires.early c.requires.gaps new.spilling new.disk (new.puts ∙ c.deref.ensures.value) new.instant new.items
 
 pub spill_in-requires-clause-puts : goal.spill_in-requires-clause-puts
-spill_in-requires-clause-puts c = going_puts c.args.disk.now c.args.puts.now c.args.run.now.back c.loop-i.i c.loop-i.spilling c.requires.puts c.loop-i.invariant
+spill_in-requires-clause-puts c =
+    going_puts c.loop-i.invariant (puts_on (length (places c.args.disk.now.map)) (accepted c.args.puts.now) c.requires.puts)
 
 pub loop-i-preserved : goal.loop-i-preserved
 loop-i-preserved c =
@@ -20,20 +21,20 @@ loop-i-preserved c =
     elim c.match-free_gap.branch [
       | in-Some+in_ok-spill_in w ↦
           let done = w.in_ok-spill_in.ensures in
-          subst Goes (sym w.spilling-is) (going_free c.args.disk.now c.args.puts.now.puts.items c.args.run.now.back c.loop-i.i w.in-Some.row.now c.loop-i.spilling w.spill_in.new.self w.in-Some.ensures.free
-          done.spilling done.kept done.instant done.chosen going)
-      | in_default w ↦ subst Goes (sym w.spilling-is) (going_busy c.args.disk.now c.args.puts.now.puts.items c.args.run.now.back c.loop-i.i c.loop-i.spilling w.in_default.ensures.none going)
+          subst Goes (sym w.spilling-is) (going_free going w.in-Some.row.now w.spill_in.new.self w.in-Some.ensures.free done.spilling
+          done.kept done.instant done.chosen)
+      | in_default w ↦ subst Goes (sym w.spilling-is) (going_busy going w.in_default.ensures.none)
     ]
 
 pub sectors_of-requires : goal.sectors_of-requires
 sectors_of-requires c =
     let few = (puts_on (length (places c.args.disk.now.map)) (accepted c.args.puts.now) c.requires.puts).few_sectors in
-    omega (arith, few, ap (λ ps. sum_by (λ (put : Put). put.count) ps) c.deref-2.ensures.value)
+    omega (arith, few, ap (sum_by (λ (put : Put). put.count)) c.deref-2.ensures.value)
 
 pub overflow_sub-left : goal.overflow_sub-left
 overflow_sub-left c =
-    let all = all_written c.args.disk.now c.args.puts.now.puts.items c.args.run.now.back c.loop-i.i c.loop-i.spilling c.loop-i.invariant in
-    omega (arith, all, c.sectors_of.ensures, ap (λ ps. sum_by (λ (put : Put). put.count) ps) c.deref-2.ensures.value)
+    let sectors = ap (sum_by (λ (put : Put). put.count)) c.deref-2.ensures.value in
+    omega (arith, all_written c.loop-i.invariant, c.sectors_of.ensures, sectors)
 
 pub returns-clause-spills : goal.returns-clause-spills
 returns-clause-spills c =
@@ -41,14 +42,14 @@ returns-clause-spills c =
     c.requires.possible c.requires.gaps (omega (arith, c.loop-i-test.false, c.len-i-end.ensures.value)) c.loop-i.invariant
 
 pub returns-clause-in_time : goal.returns-clause-in_time
-returns-clause-in_time c = all_in_time c.args.disk.now c.args.puts.now.puts.items c.args.run.now.back c.loop-i.i c.loop-i.spilling c.loop-i.invariant
+returns-clause-in_time c = all_in_time c.loop-i.invariant
 
 pub returns-clause-left : goal.returns-clause-left
 returns-clause-left c =
-    let all = all_written c.args.disk.now c.args.puts.now.puts.items c.args.run.now.back c.loop-i.i c.loop-i.spilling c.loop-i.invariant in
-    omega (arith, all, c.sectors_of.ensures, ap (λ ps. sum_by (λ (put : Put). put.count) ps) c.deref-2.ensures.value)
+    let sectors = ap (sum_by (λ (put : Put). put.count)) c.deref-2.ensures.value in
+    omega (arith, all_written c.loop-i.invariant, c.sectors_of.ensures, sectors)
 
 pub returns-clause-holds : goal.returns-clause-holds
 returns-clause-holds c =
     holds c.args.disk.now c.args.run.now c.args.puts.now c.loop-i.spilling.items c.requires.puts c.requires.apart
-    (all_in_time c.args.disk.now c.args.puts.now.puts.items c.args.run.now.back c.loop-i.i c.loop-i.spilling c.loop-i.invariant)
+    (all_in_time c.loop-i.invariant)

@@ -1,4 +1,4 @@
-use Rattle.fb_bgwrite.proofs.Words.{◌≡◌, ◌∙◌, Some, slice_get, inl, inr, ap, sym, subst, arith, cases_lt, Track, Shape, IsSound, on_track}
+use Rattle.fb_bgwrite.proofs.Words.{◌≡◌, ◌≤◌, ◌∙◌, Some, slice_get, inl, inr, ap, sym, subst, arith, cases_lt, Track, Shape, IsSound, on_track}
 use Rattle.fb_bgwrite.proofs.Words.{AreOnDisk}
 use Rattle.fb_bgwrite.proofs.Lengths.{all_of_cylinder, renewed}
 use Rattle.fb_bgwrite.proofs.pending.Pending.refresh.Goals as goal
@@ -21,7 +21,9 @@ invariant_of-self c =
     let disk = c.args.disk.now in
     let on_disk = subst (AreOnDisk disk) (sym c.self.view_is) c.requires.blocks in
     let heads = ap (λ (d : Shape). d.heads) c.geometry-2.ensures in
+    let all : disk.map.heads ≤ c.loop-head.head = omega (arith, c.loop-head-test.false, c.heads-head-end.ensures.value, heads) in
     let own = all_of_cylinder disk (subst IsSound c.geometry.ensures c.sound.ensures) c.args.cylinder c.loop-head.head c.loop-head.least
-    old.wanted on_disk c.self.invariant.1 (omega (arith, c.loop-head-test.false, c.heads-head-end.ensures.value, heads)) c.loop-head.invariant in
-    let bounds = renewed old.shortest c.renew.new.self c.args.cylinder c.loop-head.least c.renew.ensures old.wanted c.self.invariant.0 own in
+    old.wanted on_disk c.self.invariant.1 all c.loop-head.invariant in
+    let bounds =
+    renewed old.shortest c.renew.new.self c.args.cylinder c.loop-head.least c.renew.ensures old.wanted c.self.invariant.0 own in
     (bounds, c.self.invariant.1)
