@@ -50,7 +50,7 @@ impl Geometry {
         requires { IsZoneAt self.now cylinder zone }
         ensures { result ≡ true → HasNoBad self.now zone cylinder }
     {
-        self.defects_on(zone, cylinder).is_empty() && self.grown_on(zone, cylinder).is_empty()
+        self.defects_on(cylinder).is_empty() && self.grown_on(cylinder).is_empty()
     }
 
     // How many sectors each track of a cylinder has, if none of its slots is bad.

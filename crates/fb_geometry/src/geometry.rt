@@ -10,6 +10,7 @@ ghost use Rattle.fb_geometry.specs.Slips.{IsAscending, indexes};
 ghost use Rattle.fb_geometry.specs.Index.{HasZones, AreJudged, defect_fault, JudgesSpares, IsGoodOf, good_before};
 ghost use Rattle.fb_geometry.specs.Marks.{positions};
 ghost use Rattle.fb_geometry.specs.declared.layout.Layout.TheVariants.{PerTrack, PerCylinder};
+ghost use Rattle.fb_geometry.specs.declared.zone.Zone.{Zone};
 
 use crate::marks::{
     Mark, Marks, among_unmarked, entry_of_sector, is_marked, sector_of_entry, slipped,
@@ -276,7 +277,7 @@ impl Geometry {
         zone.place_at(
             self.heads(),
             cylinder,
-            slipped(self.defects_on(zone, cylinder), good),
+            slipped(self.defects_on(cylinder), good),
         )
     }
 
@@ -292,11 +293,11 @@ impl Geometry {
             Layout::PerTrack => {
                 let sectors = zone.sectors - zone.spares;
                 let first = j / sectors * zone.sectors;
-                unmarked_before(self.defects_on(zone, cylinder), first) + j % sectors
+                unmarked_before(self.defects_on(cylinder), first) + j % sectors
             }
             Layout::PerCylinder => {
                 let sectors = heads * zone.sectors - zone.cylinder_spares;
-                entry_of_sector(self.grown_on(zone, cylinder), sectors, j)
+                entry_of_sector(self.grown_on(cylinder), sectors, j)
             }
         }
     }
@@ -312,7 +313,7 @@ impl Geometry {
             (λ j. slice_get (data_list_at self.now track.cylinder) j ≡ Some (record { track = track; slot = slot })) }
     {
         let zone = self.zone_of(track.cylinder);
-        let defects = self.defects_on(zone, track.cylinder);
+        let defects = self.defects_on(track.cylinder);
         let place = Place { track, slot };
         let position = zone.position(self.heads(), place);
         if is_marked(defects, position) {
@@ -336,7 +337,7 @@ impl Geometry {
         let heads = self.heads();
         match self.layout() {
             Layout::PerTrack => {
-                let defects = self.defects_on(zone, place.track.cylinder);
+                let defects = self.defects_on(place.track.cylinder);
                 let sectors = zone.sectors - zone.spares;
                 let sector = good - unmarked_before(defects, place.track.head * zone.sectors);
                 if sector >= sectors {
@@ -346,28 +347,24 @@ impl Geometry {
             }
             Layout::PerCylinder => {
                 let sectors = heads * zone.sectors - zone.cylinder_spares;
-                sector_of_entry(self.grown_on(zone, place.track.cylinder), sectors, good)
+                sector_of_entry(self.grown_on(place.track.cylinder), sectors, good)
             }
         }
     }
 
     // The defects of a cylinder, by their positions.
-    pub(crate) fn defects_on(&self, zone: Zone, cylinder: u32) -> &[Mark]
-        requires { IsZoneAt self.now cylinder zone }
-        ensures marks { positions result.now ≡ indexes (is_among self.now.defects) 0 (cylinder_slots zone self.now.heads cylinder) }
+    pub(crate) fn defects_on(&self, cylinder: u32) -> &[Mark]
+        ensures marks { (zone : Zone) → IsZoneAt self.now cylinder zone → positions result.now ≡ indexes (is_among self.now.defects) 0 (cylinder_slots zone self.now.heads cylinder) }
         ensures ascending { IsAscending (positions result.now) }
     {
-        let _ = zone;
         self.defect_marks.on(cylinder)
     }
 
     // The grown defects of a cylinder, by their indexes among its good slots.
-    pub(crate) fn grown_on(&self, zone: Zone, cylinder: u32) -> &[Mark]
-        requires { IsZoneAt self.now cylinder zone }
-        ensures marks { positions result.now ≡ indexes (is_among self.now.grown) 0 (by_head self.now cylinder (good_track self.now zone)) }
+    pub(crate) fn grown_on(&self, cylinder: u32) -> &[Mark]
+        ensures marks { (zone : Zone) → IsZoneAt self.now cylinder zone → positions result.now ≡ indexes (is_among self.now.grown) 0 (by_head self.now cylinder (good_track self.now zone)) }
         ensures ascending { IsAscending (positions result.now) }
     {
-        let _ = zone;
         self.grown_marks.on(cylinder)
     }
 }

@@ -34,10 +34,10 @@ impl Geometry {
         let place = self.sector_place(cylinder, j);
         let position = zone.position(self.heads(), place);
         let end = (place.track.head + 1) * zone.sectors;
-        let good = unmarked_from(self.defects_on(zone, cylinder), position, end);
+        let good = unmarked_from(self.defects_on(cylinder), position, end);
         Stretch {
             place,
-            count: if good < in_order { good } else { in_order },
+            count: good.min(in_order),
         }
     }
 
@@ -57,7 +57,7 @@ impl Geometry {
             }
             Layout::PerCylinder => {
                 let sectors = self.heads() * zone.sectors - zone.cylinder_spares;
-                unmarked_from(self.grown_on(zone, cylinder), j, sectors).max(1)
+                unmarked_from(self.grown_on(cylinder), j, sectors).max(1)
             }
         }
     }
