@@ -1,9 +1,10 @@
 // A cylinder that is looked up once, for the places of many of its sectors.
-ghost use Rattle.std.specs.Prelude.{◌≡◌, ◌<◌, length, slice_get, Some, true};
+ghost use Rattle.std.specs.Prelude.{◌≡◌, ℕ, ◌<◌, length, slice_get, Some, true};
 ghost use Rattle.fb_geometry.specs.Shape.{cylinders_of, slots_at};
 ghost use Rattle.fb_geometry.specs.Angles.{slot_begin};
 ghost use Rattle.fb_geometry.specs.Places.{data_list_at};
 ghost use Rattle.fb_geometry.specs.Turns.{IsZoneAt};
+ghost use Rattle.fb_geometry.specs.declared.zone.Zone.{Zone};
 ghost use Rattle.fb_geometry.specs.Even.{even_place, IsEven, IsLookedUp, HasNoBad, sectors_by};
 
 use crate::{Geometry, Layout, Zone};
@@ -37,8 +38,8 @@ impl Geometry {
         let zone = self.zone_of(cylinder);
         Cylinder {
             number: cylinder,
-            even: self.has_no_bad(zone, cylinder),
-            sectors: self.track_sectors(zone, cylinder),
+            even: self.has_no_bad(cylinder),
+            sectors: self.track_sectors(zone),
             slots: zone.sectors,
             offset: zone.offset(self.heads(), Track { cylinder, head: 0 }),
             skew: zone.track_skew,
@@ -46,19 +47,17 @@ impl Geometry {
     }
 
     // Whether no slot of a cylinder is bad.
-    fn has_no_bad(&self, zone: Zone, cylinder: u32) -> bool
-        requires { IsZoneAt self.now cylinder zone }
-        ensures { result ≡ true → HasNoBad self.now zone cylinder }
+    fn has_no_bad(&self, cylinder: u32) -> bool
+        ensures { result ≡ true → (zone : Zone) → IsZoneAt self.now cylinder zone → HasNoBad self.now zone cylinder }
     {
         self.defects_on(cylinder).is_empty() && self.grown_on(cylinder).is_empty()
     }
 
-    // How many sectors each track of a cylinder has, if none of its slots is bad.
-    fn track_sectors(&self, zone: Zone, cylinder: u32) -> u32
-        requires { IsZoneAt self.now cylinder zone }
+    // How many sectors each track of a zone's cylinder has, if none of its slots is bad.
+    fn track_sectors(&self, zone: Zone) -> u32
+        requires { (cylinder : ℕ) × IsZoneAt self.now cylinder zone }
         ensures { result ≡ sectors_by self.now.layout zone }
     {
-        let _ = cylinder;
         match self.layout() {
             Layout::PerTrack => zone.sectors - zone.spares,
             Layout::PerCylinder => zone.sectors,

@@ -251,12 +251,12 @@ impl Geometry {
         ensures value { result ≡ length (data_list_at self.now cylinder) }
         ensures some { 0 < result }
     {
-        self.sectors_of(self.zone_of(cylinder), cylinder)
+        self.sectors_of(self.zone_of(cylinder))
     }
 
-    // The number of sectors of a cylinder of a zone.
-    fn sectors_of(&self, zone: Zone, cylinder: u32) -> u32
-        requires { IsZoneAt self.now cylinder zone }
+    // The number of sectors of each cylinder of a zone.
+    fn sectors_of(&self, zone: Zone) -> u32
+        requires { (cylinder : ℕ) × IsZoneAt self.now cylinder zone }
         ensures value { result ≡ cylinder_size self.now zone }
         ensures some { 0 < result }
     {
