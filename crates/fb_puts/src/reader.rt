@@ -189,7 +189,7 @@ impl Reader {
         ensures sound { OnOk result (IsReader (terms_of terms.now) self.new) }
     {
         match self.step(terms, line) {
-            Ok(step) => Ok(self.add(terms, step)?),
+            Ok(step) => Ok(self.add(step)?),
             Err(reason) => Err(PutsError::Fault(PutsFault {
                 line: number,
                 reason,
@@ -268,14 +268,12 @@ impl Reader {
     }
 
     // Adds what a line adds.
-    fn add(&mut self, terms: &Terms, step: Step) -> Result<(), NoMemory>
-        requires reader { IsReader (terms_of terms.now) self.old }
-        requires next { MayFollow (terms_of terms.now) self.old step }
+    fn add(&mut self, step: Step) -> Result<(), NoMemory>
+        requires next { (terms : reading.Terms) × IsReader terms self.old × MayFollow terms self.old step }
         ensures step { OnOk result (progress self.new ≡ with_step (progress self.old) step) }
         ensures still { OnOk result (IsKnown self.old.taken → IsKnown self.new.taken) }
-        ensures sound { OnOk result (IsReader (terms_of terms.now) self.new) }
+        ensures sound { OnOk result ((terms : reading.Terms) → IsReader terms self.old → MayFollow terms self.old step → IsReader terms self.new) }
     {
-        let _ = terms;
         match step {
             Step::Blank => {}
             Step::Reserve(reserve) => self.reserve = Some(reserve),
