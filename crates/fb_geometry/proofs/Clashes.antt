@@ -20,7 +20,8 @@ use Rattle.fb_geometry.proofs.{Leasts.among-any, Leasts.any-among, Leasts.least-
 
 -- ---- pairs
 
-pub pairwise_from : {A : Type 0} (R : A → A → Type 0) (xs : List A) (d : A) → ((i j : ℕ) → i < j → j < length xs → R (get_or xs i d) (get_or xs j d)) → Pairwise R xs
+pub pairwise_from : {A : Type 0} (R : A → A → Type 0) (xs : List A) (d : A) → ((i j : ℕ) → i < j → j < length xs
+    → R (get_or xs i d) (get_or xs j d)) → Pairwise R xs
 pairwise_from R [] d h = tt
 pairwise_from R (x ∷ xs) d h = (
   recursion_from_All (R x) xs (All-from_get_or (R x) xs d (λ j l. h 0 (suc j) (omega arith) (omega arith))),
@@ -35,7 +36,8 @@ pairwise-filter R test (x ∷ xs) h = elim (cases_Bool (test x)) [
 ]
 
 -- what elements say of each other is so of what they are mapped to
-pub pairwise-map : {A B : Type 0} (R : A → A → Type 0) (S : B → B → Type 0) (f : A → B) → ((x y : A) → R x y → S (f x) (f y)) → (xs : List A) → Pairwise R xs → Pairwise S (map f xs)
+pub pairwise-map : {A B : Type 0} (R : A → A → Type 0) (S : B → B → Type 0) (f : A → B) → ((x y : A) → R x y → S (f x) (f y))
+    → (xs : List A) → Pairwise R xs → Pairwise S (map f xs)
 pairwise-map R S f so [] h = tt
 pairwise-map {A = A} R S f so (x ∷ xs) h = (each xs h.0, pairwise-map R S f so xs h.1)
   where
@@ -44,15 +46,20 @@ pairwise-map {A = A} R S f so (x ∷ xs) h = (each xs h.0, pairwise-map R S f so
     each (y ∷ ys) all = (so x y all.0, each ys all.1)
 
 -- a list that was sorted is in order
-pub sorted-rise : {A : Type 0} (before : A → A → Bool) → IsStrictWeakOrder before → (xs : List A) (d : A) → IsSortedBy before xs → Pairwise (λ x later. before later x ≡ false) xs
-sorted-rise before rank xs d up = pairwise_from (λ x later. before later x ≡ false) xs d (λ i j less h. sorted_far before rank xs up i j d (omega arith) h)
+pub sorted-rise : {A : Type 0} (before : A → A → Bool) → IsStrictWeakOrder before → (xs : List A) (d : A) → IsSortedBy before xs
+    → Pairwise (λ x later. before later x ≡ false) xs
+sorted-rise before rank xs d up = pairwise_from (λ x later. before later x ≡ false) xs d (λ i j less h. sorted_far before rank xs
+    up i j d (omega arith) h)
 
 -- ---- counts
 
 -- an element passes if some number does
 pub any_count : {A : Type 0} (test : A → Bool) (xs : List A) → list_any test xs ≡ nat_lt 0 (length (filter test xs))
 any_count test [] = refl
-any_count test (x ∷ xs) = elim (cases_Bool (test x)) [ inl in_ ↦ rw in_ (sym (lt-ltb 0 (suc (length (filter test xs))) (omega arith))) | inr out ↦ rw out (any_count test xs) ]
+any_count test (x ∷ xs) = elim (cases_Bool (test x)) [
+  | inl in_ ↦ rw in_ (sym (lt-ltb 0 (suc (length (filter test xs))) (omega arith)))
+  | inr out ↦ rw out (any_count test xs)
+]
 
 pub same_count : {A : Type 0} (test : A → Bool) (xs ys : List A) → IsPermutation xs ys → length (filter test ys) ≡ length (filter test xs)
 same_count test xs ys h = length-filter test ys ∙ (sum_by-IsPermutation (λ x. cond (test x) 1 0) xs ys h ∙ sym (length-filter test xs))
@@ -74,20 +81,28 @@ repeated_counted : (places : List Place) (place : Place) → Among (repeated pla
 repeated_counted [] place one = absurd (none-some place one.1)
 repeated_counted (first ∷ places) place one = step (is_among places first) refl one (repeated_counted places place)
   where
-    step : (b : Bool) → is_among places first ≡ b → Among (with_repeated b first (repeated places)) place → (Among (repeated places) place → 2 ≤ count place places) → 2 ≤ count place (first ∷ places)
+    step : (b : Bool) → is_among places first ≡ b → Among (with_repeated b first (repeated places)) place → (Among (repeated places) place
+        → 2 ≤ count place places) → 2 ≤ count place (first ∷ places)
     step false e one more = omega (arith, count_cons (same_place place) first places, more one)
     step true e (suc k, at) more = omega (arith, count_cons (same_place place) first places, more (k, at))
     step true e (zero, at) more =
         let same : first ≡ place = same_Some first place at in
-        let again : 0 < count place places = subst (λ place. 0 < count place places) same (ltb-true 0 (count first places) (sym (any_count (same_place first) places) ∙ e)) in
-        omega (arith, count_cons (same_place place) first places, ap {B = ℕ} (λ b. cond b 1 0) (ap (same_place place) same ∙ same_place-refl place))
+        let again : 0 < count place places = subst (λ place. 0 < count place places) same (ltb-true 0 (count first places)
+        (sym (any_count (same_place first) places) ∙ e)) in
+        omega (
+          arith,
+          count_cons (same_place place) first places,
+          ap {B = ℕ} (λ b. cond b 1 0) (ap (same_place place) same
+              ∙ same_place-refl place),
+        )
 
 counted_repeated : (places : List Place) (place : Place) → 2 ≤ count place places → Among (repeated places) place
 counted_repeated [] place h = absurd (omega arith)
 counted_repeated (first ∷ places) place h = elim (cases_Bool (same_place place first)) [
   | inl here ↦
       let same : place ≡ first = same_places place first here in
-      let again : is_among places first ≡ true = ap (is_among places) (sym same) ∙ (any_count (same_place place) places ∙ lt-ltb 0 (count place places) (omega (arith, rw here at h))) in
+      let again : is_among places first ≡ true = ap (is_among places) (sym same) ∙ (any_count (same_place place) places
+      ∙ lt-ltb 0 (count place places) (omega (arith, rw here at h))) in
       rw again (0, ap Some (sym same))
   | inr off ↦ behind (is_among places first) (counted_repeated places place (rw off at h))
 ]
@@ -111,32 +126,44 @@ pairwise-repeated R (place ∷ places) h = elim (cases_Bool (is_among places pla
 ]
 
 -- the least repeated place is the first one that is repeated in order
-pub least_repeated : (places sorted : List Place) → AreSorted places sorted → least is_place_before (repeated places) ≡ slice_get (repeated sorted) 0
+pub least_repeated : (places sorted : List Place) → AreSorted places sorted → least is_place_before (repeated places)
+    ≡ slice_get (repeated sorted) 0
 least_repeated places sorted are = least-head is_place_before place_order (repeated places) (repeated sorted)
-    (λ place one. counted_repeated sorted place (omega (arith, repeated_counted places place one, same_count (same_place place) places sorted are.same)))
-    (λ place one. counted_repeated places place (omega (arith, repeated_counted sorted place one, same_count (same_place place) places sorted are.same)))
+    (λ place one. counted_repeated sorted place
+    (omega (arith, repeated_counted places place one, same_count (same_place place) places sorted are.same)))
+    (λ place one. counted_repeated places place
+    (omega (arith, repeated_counted sorted place one, same_count (same_place place) places sorted are.same)))
     (pairwise-repeated (λ place later. is_place_before later place ≡ false) sorted are.rise)
 
 -- the same of those that are grown and repeated, or grown and defects
 pub least_clash : (defects grown sorted : List Place) → repeated defects ≡ [] → AreSorted (defects ++ grown) sorted
     → least is_place_before (repeated grown ++ filter (is_among defects) grown) ≡ slice_get (repeated sorted) 0
-least_clash defects grown sorted once are = least-head is_place_before place_order (repeated grown ++ filter (is_among defects) grown) (repeated sorted)
-    (λ place one. counted_repeated sorted place (omega (arith, twice place (among-append (repeated grown) (filter (is_among defects) grown) place one), counts place)))
+least_clash defects grown sorted once are = least-head is_place_before place_order (repeated grown
+    ++ filter (is_among defects) grown) (repeated sorted)
+    (λ place one. counted_repeated sorted place
+    (omega (arith, twice place (among-append (repeated grown) (filter (is_among defects) grown) place one), counts place)))
     (λ place one. either place (omega (arith, repeated_counted sorted place one, counts place)))
     (pairwise-repeated (λ place later. is_place_before later place ≡ false) sorted are.rise)
   where
     counts : (place : Place) → count place sorted ≡ count place defects + count place grown
     counts place = same_count (same_place place) (defects ++ grown) sorted are.same
-        ∙ (ap length (filter-append (same_place place) defects grown) ∙ length-append (filter (same_place place) defects) (filter (same_place place) grown))
+        ∙ (ap length (filter-append (same_place place) defects grown) ∙ length-append (filter (same_place place) defects)
+        (filter (same_place place) grown))
 
     some : (places : List Place) (place : Place) → is_among places place ≡ true → 0 < count place places
     some places place h = ltb-true 0 (count place places) (sym (any_count (same_place place) places) ∙ h)
 
-    twice : (place : Place) → Among (repeated grown) place ⊎ Among (filter (is_among defects) grown) place → 2 ≤ count place defects + count place grown
+    twice : (place : Place) → Among (repeated grown) place ⊎ Among (filter (is_among defects) grown) place
+        → 2 ≤ count place defects + count place grown
     twice place (inl rep) = omega (arith, repeated_counted grown place rep)
     twice place (inr both) =
         let parts = among-filtered (is_among defects) grown place both in
-        omega (arith, some defects place parts.1, some grown place (among-any (same_place place) grown place parts.0 (same_place-refl place)))
+        omega (
+          arith,
+          some defects place parts.1,
+          some grown place (among-any (same_place place) grown place parts.0
+              (same_place-refl place)),
+        )
 
     listed : (places : List Place) (place : Place) → 0 < count place places → is_among places place ≡ true
     listed places place h = any_count (same_place place) places ∙ lt-ltb 0 (count place places) h
@@ -145,31 +172,36 @@ least_clash defects grown sorted once are = least-head is_place_before place_ord
     either place h = elim (cases_lt 1 (count place grown)) [
       | inl two ↦ among-left (repeated grown) (filter (is_among defects) grown) place (counted_repeated grown place (omega arith))
       | inr few ↦ elim (cases_lt 1 (count place defects)) [
-        | inl two ↦ absurd (none-some place (ap (λ xs. slice_get xs (counted_repeated defects place two).0) (sym once) ∙ (counted_repeated defects place two).1))
+        | inl two ↦ absurd (none-some place (ap (λ xs. slice_get xs (counted_repeated defects place two).0) (sym once)
+            ∙ (counted_repeated defects place two).1))
         | inr one ↦
             let found = any-among (same_place place) grown (listed grown place (omega arith)) in
             among-right (repeated grown) (filter (is_among defects) grown) place
-            (among-filter (is_among defects) grown place (found.1.0, found.1.1 ∙ ap Some (sym (same_places place found.0 found.2))) (listed defects place (omega arith)))
+            (among-filter (is_among defects) grown place (found.1.0, found.1.1 ∙ ap Some (sym (same_places place found.0 found.2)))
+            (listed defects place (omega arith)))
       ]
     ]
 
 -- ---- the search for a place that is there twice
 
-none_behind : (place next : Place) (places : List Place) → same_place place next ≡ false → is_place_before next place ≡ false → AllByRecursion (λ later. is_place_before later next ≡ false) places
+none_behind : (place next : Place) (places : List Place) → same_place place next ≡ false → is_place_before next place ≡ false
+    → AllByRecursion (λ later. is_place_before later next ≡ false) places
     → is_among places place ≡ false
 none_behind place next [] apart after all = refl
 none_behind place next (later ∷ places) apart after all =
     let off : same_place place later ≡ false = grind (arith, nat_tests, all.0) in
     rw off (none_behind place next places apart after all.1)
 
-pub twin_step : (sorted : List Place) (i : ℕ) (d : Place) → Pairwise (λ place later. is_place_before later place ≡ false) sorted → suc i < length sorted
+pub twin_step : (sorted : List Place) (i : ℕ) (d : Place)
+    → Pairwise (λ place later. is_place_before later place ≡ false) sorted → suc i < length sorted
     → same_place (get_or sorted i d) (get_or sorted (suc i) d) ≡ false → repeated (drop (suc i) sorted) ≡ repeated (drop i sorted)
 twin_step [] i d up h apart = absurd (omega arith)
 twin_step (place ∷ []) i d up h apart = absurd (omega arith)
 twin_step (place ∷ next ∷ sorted) zero d up h apart = rw (apart, none_behind place next sorted apart up.0.0 up.1.0) refl
 twin_step (place ∷ next ∷ sorted) (suc i) d up h apart = twin_step (next ∷ sorted) i d up.1 (omega arith) apart
 
-pub twin_found : (sorted : List Place) (i : ℕ) (d : Place) → suc i < length sorted → same_place (get_or sorted i d) (get_or sorted (suc i) d) ≡ true
+pub twin_found : (sorted : List Place) (i : ℕ) (d : Place) → suc i < length sorted
+    → same_place (get_or sorted i d) (get_or sorted (suc i) d) ≡ true
     → slice_get (repeated (drop i sorted)) 0 ≡ Some (get_or sorted i d)
 twin_found [] i d h same = absurd (omega arith)
 twin_found (place ∷ []) i d h same = absurd (omega arith)
@@ -177,17 +209,21 @@ twin_found (place ∷ next ∷ sorted) zero d h same = rw same refl
 twin_found (place ∷ next ∷ sorted) (suc i) d h same = twin_found (next ∷ sorted) i d (omega arith) same
 
 -- the same by the later index
-pub twin_on : (sorted : List Place) (i : ℕ) (d : Place) → Pairwise (λ place later. is_place_before later place ≡ false) sorted → 0 < i → i < length sorted
+pub twin_on : (sorted : List Place) (i : ℕ) (d : Place) → Pairwise (λ place later. is_place_before later place ≡ false) sorted
+    → 0 < i → i < length sorted
     → same_place (get_or sorted (i - 1) d) (get_or sorted i d) ≡ false → repeated (drop (i + 1 - 1) sorted) ≡ repeated (drop (i - 1) sorted)
 twin_on sorted i d up some h apart =
     let next : i + 1 - 1 ≡ suc (i - 1) = omega arith in
     let same : i ≡ suc (i - 1) = omega arith in
-    rw next (twin_step sorted (i - 1) d up (omega arith) (ap (λ k. same_place (get_or sorted (i - 1) d) (get_or sorted k d)) (sym same) ∙ apart))
+    rw next (twin_step sorted (i - 1) d up (omega arith)
+    (ap (λ k. same_place (get_or sorted (i - 1) d) (get_or sorted k d)) (sym same) ∙ apart))
 
-pub twin_at : (sorted : List Place) (i : ℕ) (d : Place) → 0 < i → i < length sorted → same_place (get_or sorted (i - 1) d) (get_or sorted i d) ≡ true
+pub twin_at : (sorted : List Place) (i : ℕ) (d : Place) → 0 < i → i < length sorted
+    → same_place (get_or sorted (i - 1) d) (get_or sorted i d) ≡ true
     → slice_get (repeated (drop (i - 1) sorted)) 0 ≡ Some (get_or sorted (i - 1) d)
 twin_at sorted i d some h same =
-    let next : i ≡ suc (i - 1) = omega arith in twin_found sorted (i - 1) d (omega arith) (ap (λ k. same_place (get_or sorted (i - 1) d) (get_or sorted k d)) (sym next) ∙ same)
+    let next : i ≡ suc (i - 1) = omega arith in twin_found sorted (i - 1) d (omega arith)
+    (ap (λ k. same_place (get_or sorted (i - 1) d) (get_or sorted k d)) (sym next) ∙ same)
 
 pub twin_none : (sorted : List Place) (i : ℕ) → length sorted ≤ i + 1 → repeated (drop i sorted) ≡ []
 twin_none [] zero h = refl
@@ -199,16 +235,21 @@ twin_none (place ∷ sorted) (suc i) h = twin_none sorted i (omega arith)
 -- ---- marks of places
 
 -- marks are the same if their places are
-marks_same : (disk : Shape) → HasZones disk → (a b : Place) → is_outside disk a ≡ false → is_outside disk b ≡ false → same_mark (mark_of disk a) (mark_of disk b) ≡ same_place a b
+marks_same : (disk : Shape) → HasZones disk → (a b : Place) → is_outside disk a ≡ false → is_outside disk b ≡ false
+    → same_mark (mark_of disk a) (mark_of disk b) ≡ same_place a b
 marks_same disk zones a b h k = elim (cases_Bool (same_place a b)) [
-  | inl same ↦ ap (λ p. same_mark (mark_of disk a) (mark_of disk p)) (sym (same_places a b same)) ∙ (same_mark-refl (mark_of disk a) ∙ sym same)
+  | inl same ↦ ap (λ p. same_mark (mark_of disk a) (mark_of disk p)) (sym (same_places a b same))
+      ∙ (same_mark-refl (mark_of disk a) ∙ sym same)
   | inr apart ↦ elim (cases_Bool (same_mark (mark_of disk a) (mark_of disk b))) [
-    | inl same ↦ absurd (true≢false (sym (ap (same_place a) (sym (mark_of-same disk a b zones h k (same_marks (mark_of disk a) (mark_of disk b) same))) ∙ same_place-refl a) ∙ apart))
+    | inl same ↦ absurd (true≢false
+        (sym (ap (same_place a) (sym (mark_of-same disk a b zones h k (same_marks (mark_of disk a) (mark_of disk b) same)))
+        ∙ same_place-refl a) ∙ apart))
     | inr off ↦ off ∙ sym apart
   ]
 ]
 
-module _ (disk : Shape) (zones : HasZones disk) (xs : List Place) (marks : List Mark) (inside : AllByRecursion (λ place. is_outside disk place ≡ false) xs) (same : IsPermutation (map (mark_of disk) xs) marks) where
+module _ (disk : Shape) (zones : HasZones disk) (xs : List Place) (marks : List Mark)
+    (inside : AllByRecursion (λ place. is_outside disk place ≡ false) xs) (same : IsPermutation (map (mark_of disk) xs) marks) where
   pub inside_of : (place : Place) → Among xs place → is_outside disk place ≡ false
   inside_of place one = all_get (λ place. is_outside disk place ≡ false) xs one.0 place inside one.1
 
@@ -216,18 +257,22 @@ module _ (disk : Shape) (zones : HasZones disk) (xs : List Place) (marks : List 
   mark_among place one = permuted (map (mark_of disk) xs) marks (mark_of disk place) same (among-map (mark_of disk) xs place one)
 
   pub place_among : (mark : Mark) → Among marks mark → (place : Place) × Among xs place × (mark_of disk place ≡ mark)
-  place_among mark one = among-mapped (mark_of disk) xs mark (permuted marks (map (mark_of disk) xs) mark (IsPermutation-sym (map (mark_of disk) xs) marks same) one)
+  place_among mark one = among-mapped (mark_of disk) xs mark (permuted marks (map (mark_of disk) xs) mark
+      (IsPermutation-sym (map (mark_of disk) xs) marks same) one)
 
   -- whether a place's mark is one of them
   pub among_others : (place : Place) → is_outside disk place ≡ false → list_any (same_mark (mark_of disk place)) marks ≡ is_among xs place
-  among_others place in_ = sym (list_any-IsPermutation (same_mark (mark_of disk place)) (map (mark_of disk) xs) marks same) ∙ agree xs inside
+  among_others place in_ = sym (list_any-IsPermutation (same_mark (mark_of disk place)) (map (mark_of disk) xs)
+      marks same) ∙ agree xs inside
     where
-      agree : (xs : List Place) → AllByRecursion (λ place. is_outside disk place ≡ false) xs → list_any (same_mark (mark_of disk place)) (map (mark_of disk) xs) ≡ is_among xs place
+      agree : (xs : List Place) → AllByRecursion (λ place. is_outside disk place ≡ false) xs
+          → list_any (same_mark (mark_of disk place)) (map (mark_of disk) xs) ≡ is_among xs place
       agree [] all = refl
       agree (other ∷ xs) all = rw (marks_same disk zones place other in_ all.0, agree xs all.1) refl
 
   -- marks of places that are there once are there once
-  apart : (xs : List Place) → AllByRecursion (λ place. is_outside disk place ≡ false) xs → repeated xs ≡ [] → IsDistinct same_mark (map (mark_of disk) xs)
+  apart : (xs : List Place) → AllByRecursion (λ place. is_outside disk place ≡ false) xs → repeated xs ≡ []
+      → IsDistinct same_mark (map (mark_of disk) xs)
   unfolding IsDistinct
   apart [] all none = tt
   apart (place ∷ xs) all none = elim (cases_Bool (is_among xs place)) [
@@ -235,7 +280,8 @@ module _ (disk : Shape) (zones : HasZones disk) (xs : List Place) (marks : List 
     | inr once ↦ (each xs all.1 (list_any-none (same_place place) xs once), apart xs all.1 (rw once at none))
   ]
     where
-      each : (xs : List Place) → AllByRecursion (λ place. is_outside disk place ≡ false) xs → AllByRecursion (λ other. same_place place other ≡ false) xs
+      each : (xs : List Place) → AllByRecursion (λ place. is_outside disk place ≡ false) xs
+          → AllByRecursion (λ other. same_place place other ≡ false) xs
           → AllByRecursion (λ mark. same_mark (mark_of disk place) mark ≡ false) (map (mark_of disk) xs)
       each [] in_ off = tt
       each (other ∷ xs) in_ off = (marks_same disk zones place other all.0 in_.0 ∙ off.0, each xs in_.1 off.1)
@@ -243,29 +289,40 @@ module _ (disk : Shape) (zones : HasZones disk) (xs : List Place) (marks : List 
   -- sorted marks of places that are there once are in order
   pub marks_in_order : repeated xs ≡ [] → Pairwise (λ mark later. is_mark_before later mark ≡ false) marks → AreInOrder marks
   unfolding IsDistinct
-  marks_in_order none up = strictly marks (IsDistinct-IsPermutation same_mark (λ a b. grind (arith, nat_tests)) (map (mark_of disk) xs) marks same (apart xs inside none)) up
+  marks_in_order none up = strictly marks (IsDistinct-IsPermutation same_mark (λ a b. grind (arith, nat_tests)) (map (mark_of disk) xs)
+      marks same (apart xs inside none)) up
     where
-      behind : (mark : Mark) (marks : List Mark) → AllByRecursion (λ later. same_mark mark later ≡ false) marks → AllByRecursion (λ later. is_mark_before later mark ≡ false) marks
+      behind : (mark : Mark) (marks : List Mark) → AllByRecursion (λ later. same_mark mark later ≡ false) marks
+          → AllByRecursion (λ later. is_mark_before later mark ≡ false) marks
           → AllByRecursion (λ later. is_mark_before mark later ≡ true) marks
       behind mark [] off all = tt
       behind mark (later ∷ marks) off all = (grind (arith, nat_tests, off.0, all.0), behind mark marks off.1 all.1)
 
-      strictly : (marks : List Mark) → IsDistinct same_mark marks → Pairwise (λ mark later. is_mark_before later mark ≡ false) marks → AreInOrder marks
+      strictly : (marks : List Mark) → IsDistinct same_mark marks
+          → Pairwise (λ mark later. is_mark_before later mark ≡ false) marks → AreInOrder marks
       strictly [] off up = tt
       strictly (mark ∷ marks) off up = (behind mark marks off.0 up.0, strictly marks off.1 up.1)
 
 -- ---- the first that is full
 
-first_full : {K : Type 0} (key : Place → K) (full : K → Bool) (places : List Place) → slice_get (filter full (map key places)) 0 ≡ option_map key (find (λ place. full (key place)) places)
+first_full : {K : Type 0} (key : Place → K) (full : K → Bool) (places : List Place) → slice_get (filter full (map key places)) 0
+    ≡ option_map key (find (λ place. full (key place)) places)
 first_full key full [] = refl
-first_full key full (place ∷ places) = elim (cases_Bool (full (key place))) [ inl here ↦ rw here refl | inr off ↦ rw off (first_full key full places) ]
+first_full key full (place ∷ places) = elim (cases_Bool (full (key place))) [
+  | inl here ↦ rw here refl
+  | inr off ↦ rw off (first_full key full places)
+]
 
 -- the least full track or cylinder is that of the first place in order that is on one
-pub least_full : {K : Type 0} (before : K → K → Bool) → IsOrder before → (key : Place → K) → ((a b : Place) → is_place_before b a ≡ false → before (key b) (key a) ≡ false)
-    → (full : K → Bool) (places sorted : List Place) → AreSorted places sorted → least before (filter full (map key places)) ≡ option_map key (find (λ place. full (key place)) sorted)
+pub least_full : {K : Type 0} (before : K → K → Bool) → IsOrder before → (key : Place → K) → ((a b : Place) → is_place_before b a ≡ false
+    → before (key b) (key a) ≡ false)
+    → (full : K → Bool) (places sorted : List Place) → AreSorted places sorted → least before (filter full (map key places))
+    ≡ option_map key (find (λ place. full (key place)) sorted)
 least_full {K = K} before order key so full places sorted are =
-    least-head before order (filter full (map key places)) (filter full (map key sorted)) (kept (map key places) (map key sorted) same) (kept (map key sorted) (map key places) (IsPermutation-sym (map key places) (map key sorted) same))
-    (pairwise-filter (λ x later. before later x ≡ false) full (map key sorted) (pairwise-map (λ place later. is_place_before later place ≡ false) (λ x later. before later x ≡ false) key so sorted are.rise))
+    least-head before order (filter full (map key places)) (filter full (map key sorted)) (kept (map key places) (map key sorted) same)
+    (kept (map key sorted) (map key places) (IsPermutation-sym (map key places) (map key sorted) same))
+    (pairwise-filter (λ x later. before later x ≡ false) full (map key sorted) (pairwise-map (λ place later. is_place_before later place
+    ≡ false) (λ x later. before later x ≡ false) key so sorted are.rise))
     ∙ first_full key full sorted
   where
     same : IsPermutation (map key places) (map key sorted)
@@ -276,21 +333,34 @@ least_full {K = K} before order key so full places sorted are =
 
 -- ---- how many are on a track or cylinder
 
-pub partitioned : (test : Place → Bool) → ((a b : Place) → is_place_before b a ≡ false → test b ≡ true → test a ≡ true) → (sorted : List Place)
+pub partitioned : (test : Place → Bool) → ((a b : Place) → is_place_before b a ≡ false → test b ≡ true
+    → test a ≡ true) → (sorted : List Place)
     → Pairwise (λ place later. is_place_before later place ≡ false) sorted → IsPartitionedBy test sorted
 partitioned test so sorted up i j d le h passes = elim (cases_lt i j) [
-  | inl less ↦ so (get_or sorted i d) (get_or sorted j d) (pairwise_at (λ place later. is_place_before later place ≡ false) sorted i j d up less h) passes
+  | inl less ↦ so (get_or sorted i d) (get_or sorted j d) (pairwise_at (λ place later. is_place_before later place ≡ false)
+      sorted i j d up less h) passes
   | inr upto ↦ let same : i ≡ j = omega arith in subst (λ i. test (get_or sorted i d) ≡ true) (sym same) passes
 ]
 
 -- a test passes where one of two does, and never both
-sum_of : {A : Type 0} (p q r : A → Bool) (xs : List A) → ((x : A) → cond {A = ℕ} (p x) 1 0 ≡ cond (q x) 1 0 + cond (r x) 1 0) → length (filter p xs) ≡ length (filter q xs) + length (filter r xs)
+sum_of : {A : Type 0} (p q r : A → Bool) (xs : List A) → ((x : A) → cond {A = ℕ} (p x) 1 0 ≡ cond (q x) 1 0 + cond (r x) 1 0)
+    → length (filter p xs) ≡ length (filter q xs) + length (filter r xs)
 sum_of p q r [] all = refl
 sum_of p q r (x ∷ xs) all = omega (arith, count_cons p x xs, count_cons q x xs, count_cons r x xs, all x, sum_of p q r xs all)
 
 -- between the points stand those of the track or cylinder
-pub between : (upto under same : Place → Bool) → ((place : Place) → cond {A = ℕ} (upto place) 1 0 ≡ cond (under place) 1 0 + cond (same place) 1 0) → (places sorted : List Place) → AreSorted places sorted
-    → (first behind : ℕ) → first ≤ length sorted → behind ≤ length sorted → IsPartitionPoint (λ place. under place ≡ true) (λ place. under place ≡ false) sorted first
-    → IsPartitionPoint (λ place. upto place ≡ true) (λ place. upto place ≡ false) sorted behind → behind ≡ first + length (filter same places)
+pub between : (upto under same : Place → Bool)
+    → ((place : Place) → cond {A = ℕ} (upto place) 1 0 ≡ cond (under place) 1 0 + cond (same place) 1 0) → (places sorted : List Place)
+    → AreSorted places sorted
+    → (first behind : ℕ) → first ≤ length sorted → behind ≤ length sorted
+    → IsPartitionPoint (λ place. under place ≡ true) (λ place. under place ≡ false) sorted first
+    → IsPartitionPoint (λ place. upto place ≡ true) (λ place. upto place ≡ false) sorted behind
+    → behind ≡ first + length (filter same places)
 between upto under same sum places sorted are first behind h k low high =
-    omega (arith, point-is under sorted first h low, point-is upto sorted behind k high, sum_of upto under same sorted sum, same_count same places sorted are.same)
+    omega (
+      arith,
+      point-is under sorted first h low,
+      point-is upto sorted behind k high,
+      sum_of upto under same sorted sum,
+      same_count same places sorted are.same,
+    )

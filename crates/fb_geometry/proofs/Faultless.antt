@@ -25,21 +25,25 @@ fault_at-none fault (Some a) h = absurd (none-some (fault a) (sym h))
 
 -- ---- searches that find nothing
 
-none_found : {X : Type 0} (test : X → Bool) (xs : List X) → (position_or_len test xs < length xs → ⊥) → AllByRecursion (λ x. test x ≡ false) xs
-none_found test xs never = recursion_from_All (λ x. test x ≡ false) xs (λ k d inside. elim (cases_lt (position_or_len test xs) (length xs)) [
-  | inl found ↦ absurd (never found)
-  | inr behind ↦ fails_before_first test xs k d (omega arith)
-])
+none_found : {X : Type 0} (test : X → Bool) (xs : List X) → (position_or_len test xs < length xs → ⊥)
+    → AllByRecursion (λ x. test x ≡ false) xs
+none_found test xs never = recursion_from_All (λ x. test x ≡ false) xs
+    (λ k d inside. elim (cases_lt (position_or_len test xs) (length xs)) [
+      | inl found ↦ absurd (never found)
+      | inr behind ↦ fails_before_first test xs k d (omega arith)
+    ])
 
 pub find-none : {X : Type 0} (test : X → Bool) (xs : List X) → find test xs ≡ None → AllByRecursion (λ x. test x ≡ false) xs
-find-none test xs h = none_found test xs (λ found. let one = within xs (position_or_len test xs) found in none-some one.0 (sym h ∙ (find_at test xs ∙ one.1)))
+find-none test xs h = none_found test xs (λ found. let one = within xs (position_or_len test xs) found in
+    none-some one.0 (sym h ∙ (find_at test xs ∙ one.1)))
 
 pub list_any-none : {X : Type 0} (test : X → Bool) (xs : List X) → list_any test xs ≡ false → AllByRecursion (λ x. test x ≡ false) xs
 list_any-none test [] h = tt
 list_any-none test (x ∷ xs) h = let parts = or_parts (test x) (list_any test xs) h in (parts.0, list_any-none test xs parts.1)
 
 pub position-none : {X : Type 0} (test : X → Bool) (xs : List X) → position test xs ≡ None → AllByRecursion (λ x. test x ≡ false) xs
-position-none test xs h = none_found test xs (λ found. none-some (position_or_len test xs) (sym (rw (lt-ltb (position_or_len test xs) (length xs) found) at h)))
+position-none test xs h = none_found test xs (λ found. none-some (position_or_len test xs)
+    (sym (rw (lt-ltb (position_or_len test xs) (length xs) found) at h)))
 
 pub least-none : {X : Type 0} (is_before : X → X → Bool) (xs : List X) → least is_before xs ≡ None → xs ≡ []
 least-none is_before [] h = refl
@@ -63,7 +67,9 @@ filter-none test (x ∷ xs) h = elim (cases_Bool (test x)) [
 
 module _ (disk : Shape) (sound : HasZones disk) where
   good_zones : AllByRecursion (λ zone. is_bad_zone disk zone ≡ false) disk.zones
-  good_zones = list_any-none (is_bad_zone disk) disk.zones (or_parts ((disk.rotation == 0) || nat_lt (10 ^ 9) disk.rotation || (disk.heads == 0) || nat_lt 64 disk.heads || (length disk.zones == 0) || nat_lt 64 (length disk.zones)) (list_any (is_bad_zone disk) disk.zones) sound.in_range).1
+  good_zones = list_any-none (is_bad_zone disk) disk.zones
+      (or_parts ((disk.rotation == 0) || nat_lt (10 ^ 9) disk.rotation || (disk.heads == 0) || nat_lt 64
+      disk.heads || (length disk.zones == 0) || nat_lt 64 (length disk.zones)) (list_any (is_bad_zone disk) disk.zones) sound.in_range).1
 
   pub some_rotation : 0 < disk.rotation
   some_rotation = grind (arith, nat_tests, sound.in_range)
@@ -102,7 +108,8 @@ module _ (disk : Shape) (sound : HasZones disk) where
   short_slots i zone at = grind (arith, nat_tests, all_get (λ zone. is_bad_zone disk zone ≡ false) disk.zones i zone good_zones at)
 
   pub data_of : (i : ℕ) (zone : Zone) → slice_get disk.zones i ≡ Some zone → has_no_data disk.layout disk zone ≡ false
-  data_of i zone at = (or_parts (nat_lt zone.last zone.first || nat_lt 999999 zone.last || (zone.sectors == 0) || nat_lt 10000 zone.sectors || nat_lt disk.rotation zone.sectors) (has_no_data disk.layout disk zone)
+  data_of i zone at = (or_parts (nat_lt zone.last zone.first || nat_lt 999999 zone.last || (zone.sectors == 0) || nat_lt 10000
+      zone.sectors || nat_lt disk.rotation zone.sectors) (has_no_data disk.layout disk zone)
       (all_get (λ zone. is_bad_zone disk zone ≡ false) disk.zones i zone good_zones at)).1
 
 -- ---- the zone of a cylinder
@@ -110,41 +117,57 @@ module _ (disk : Shape) (sound : HasZones disk) where
 abbrev Ascends : List Zone → Type 0
 Ascends zones = (i : ℕ) (zone : Zone) → slice_get zones i ≡ Some zone → zone.first ≤ zone.last
 
-pub next : (index begin : ℕ) (zone : Zone) (zones : List Zone) → first_apart index begin (zone ∷ zones) ≡ None → (zone.first ≡ begin) × (first_apart (index + 1) (zone.last + 1) zones ≡ None)
+pub next : (index begin : ℕ) (zone : Zone) (zones : List Zone) → first_apart index begin (zone ∷ zones) ≡ None → (zone.first ≡ begin)
+    × (first_apart (index + 1) (zone.last + 1) zones ≡ None)
 next index begin zone zones h = elim (cases_Bool (zone.first == begin)) [
   | inl here ↦ (eqb-true zone.first begin here, rw here at h)
   | inr off ↦ absurd (none-some index (sym (rw off at h)))
 ]
 
 -- no zone begins before this one
-pub zones_from : (index begin i : ℕ) (zones : List Zone) (zone : Zone) → first_apart index begin zones ≡ None → Ascends zones → slice_get zones i ≡ Some zone → begin ≤ zone.first
+pub zones_from : (index begin i : ℕ) (zones : List Zone) (zone : Zone) → first_apart index begin zones ≡ None → Ascends zones
+    → slice_get zones i ≡ Some zone → begin ≤ zone.first
 zones_from index begin i [] zone h up at = absurd (none-some zone at)
-zones_from index begin zero (other ∷ zones) zone h up at = let here = (next index begin other zones h).0 in omega (arith, ap (λ zone. zone.first) (same_Some other zone at))
+zones_from index begin zero (other ∷ zones) zone h up at = let here = (next index begin other zones h).0 in
+    omega (arith, ap (λ zone. zone.first) (same_Some other zone at))
 zones_from index begin (suc i) (other ∷ zones) zone h up at =
     let parts = next index begin other zones h in
     omega (arith, parts.0, up 0 other refl, zones_from (index + 1) (other.last + 1) i zones zone parts.1 (λ j zone. up (suc j) zone) at)
 
 -- the last cylinders rise from zone to zone
-pub lasts-rise : (index begin i j : ℕ) (zones : List Zone) (a b : Zone) → first_apart index begin zones ≡ None → Ascends zones → slice_get zones i ≡ Some a → slice_get zones j ≡ Some b → i ≤ j → a.last ≤ b.last
+pub lasts-rise : (index begin i j : ℕ) (zones : List Zone) (a b : Zone) → first_apart index begin zones ≡ None → Ascends zones
+    → slice_get zones i ≡ Some a → slice_get zones j ≡ Some b → i ≤ j → a.last ≤ b.last
 lasts-rise index begin i j [] a b h up at_a at_b le = absurd (none-some a at_a)
-lasts-rise index begin zero zero (zone ∷ zones) a b h up at_a at_b le = omega (arith, ap (λ zone. zone.last) (same_Some zone a at_a), ap (λ zone. zone.last) (same_Some zone b at_b))
+lasts-rise index begin zero zero (zone ∷ zones) a b h up at_a at_b le =
+    omega (arith, ap (λ zone. zone.last) (same_Some zone a at_a), ap (λ zone. zone.last) (same_Some zone b at_b))
 lasts-rise index begin zero (suc j) (zone ∷ zones) a b h up at_a at_b le =
-    omega (arith, ap (λ zone. zone.last) (same_Some zone a at_a), up (suc j) b at_b, zones_from (index + 1) (zone.last + 1) j zones b (next index begin zone zones h).1 (λ j zone. up (suc j) zone) at_b)
+    omega (
+      arith,
+      ap (λ zone. zone.last) (same_Some zone a at_a),
+      up (suc j) b at_b,
+      zones_from (index + 1) (zone.last + 1) j zones b
+          (next index begin zone zones h).1 (λ j zone. up (suc j) zone) at_b,
+    )
 lasts-rise index begin (suc i) zero (zone ∷ zones) a b h up at_a at_b le = absurd (omega arith)
 lasts-rise index begin (suc i) (suc j) (zone ∷ zones) a b h up at_a at_b le =
-    lasts-rise (index + 1) (zone.last + 1) i j zones a b (next index begin zone zones h).1 (λ j zone. up (suc j) zone) at_a at_b (omega arith)
+    lasts-rise (index + 1) (zone.last + 1) i j zones a b (next index begin zone zones h).1
+    (λ j zone. up (suc j) zone) at_a at_b (omega arith)
 
 -- a cylinder between the first and the last of a zone is that zone's
-zone_of : (index begin i cylinder : ℕ) (zones : List Zone) (zone : Zone) → first_apart index begin zones ≡ None → Ascends zones → slice_get zones i ≡ Some zone → zone.first ≤ cylinder → cylinder ≤ zone.last → zone_at zones cylinder ≡ Some zone
+zone_of : (index begin i cylinder : ℕ) (zones : List Zone) (zone : Zone) → first_apart index begin zones ≡ None → Ascends zones
+    → slice_get zones i ≡ Some zone → zone.first ≤ cylinder → cylinder ≤ zone.last → zone_at zones cylinder ≡ Some zone
 zone_of index begin i cylinder [] zone h up at from upto = absurd (none-some zone at)
-zone_of index begin zero cylinder (other ∷ zones) zone h up at from upto = rw (le-leb cylinder other.last (omega (arith, ap (λ zone. zone.last) (same_Some other zone at)))) at
+zone_of index begin zero cylinder (other ∷ zones) zone h up at from upto =
+    rw (le-leb cylinder other.last (omega (arith, ap (λ zone. zone.last) (same_Some other zone at)))) at
 zone_of index begin (suc i) cylinder (other ∷ zones) zone h up at from upto =
     let rest = (next index begin other zones h).1 in
     let after = zones_from (index + 1) (other.last + 1) i zones zone rest (λ j zone. up (suc j) zone) at in
-    rw (lt-leb cylinder other.last (omega arith)) (zone_of (index + 1) (other.last + 1) i cylinder zones zone rest (λ j zone. up (suc j) zone) at from upto)
+    rw (lt-leb cylinder other.last (omega arith)) (zone_of (index + 1) (other.last + 1) i cylinder zones zone rest
+    (λ j zone. up (suc j) zone) at from upto)
 
 -- a zone that was found is one of them
-pub find-some : {X : Type 0} (test : X → Bool) (xs : List X) (x : X) → find test xs ≡ Some x → (i : ℕ) × (slice_get xs i ≡ Some x) × (test x ≡ true)
+pub find-some : {X : Type 0} (test : X → Bool) (xs : List X) (x : X) → find test xs ≡ Some x
+    → (i : ℕ) × (slice_get xs i ≡ Some x) × (test x ≡ true)
 find-some test [] x h = absurd (none-some x h)
 find-some test (y ∷ xs) x h = elim (cases_Bool (test y)) [
   | inl hit ↦ let same : Some y ≡ Some x = rw hit at h in (0, same, subst (λ z. test z ≡ true) (same_Some y x same) hit)
@@ -152,13 +175,16 @@ find-some test (y ∷ xs) x h = elim (cases_Bool (test y)) [
 ]
 
 -- and doesn't begin behind the cylinder
-found_from : (index begin cylinder : ℕ) (zones : List Zone) (zone : Zone) → first_apart index begin zones ≡ None → begin ≤ cylinder → zone_at zones cylinder ≡ Some zone → zone.first ≤ cylinder
+found_from : (index begin cylinder : ℕ) (zones : List Zone) (zone : Zone) → first_apart index begin zones ≡ None → begin ≤ cylinder
+    → zone_at zones cylinder ≡ Some zone → zone.first ≤ cylinder
 found_from index begin cylinder [] zone h from at = absurd (none-some zone at)
 found_from index begin cylinder (other ∷ zones) zone h from at =
     let parts = next index begin other zones h in
     elim (cases_lt other.last cylinder) [
-      | inl behind ↦ found_from (index + 1) (other.last + 1) cylinder zones zone parts.1 (omega arith) (rw (lt-leb cylinder other.last behind) at at)
-      | inr here ↦ let same : Some other ≡ Some zone = rw (le-leb cylinder other.last here) at at in omega (arith, parts.0, ap (λ zone. zone.first) (same_Some other zone same))
+      | inl behind ↦ found_from (index + 1) (other.last + 1) cylinder zones zone parts.1 (omega arith)
+          (rw (lt-leb cylinder other.last behind) at at)
+      | inr here ↦ let same : Some other ≡ Some zone = rw (le-leb cylinder other.last here) at at in
+          omega (arith, parts.0, ap (λ zone. zone.first) (same_Some other zone same))
     ]
 
 -- what is said of a cylinder is what its zone says of it
@@ -171,34 +197,45 @@ module _ {A : Type 0} (said : List Zone → A) (says : Zone → A) (cylinder : �
     | inr on ↦ rw (by_first other zones, on) (said_by_zone zones zone (rw on at h))
   ]
 
-pub slots_at-zone : (zones : List Zone) (cylinder : ℕ) (zone : Zone) → zone_at zones cylinder ≡ Some zone → slots_at zones cylinder ≡ zone.sectors
+pub slots_at-zone : (zones : List Zone) (cylinder : ℕ) (zone : Zone) → zone_at zones cylinder ≡ Some zone
+    → slots_at zones cylinder ≡ zone.sectors
 slots_at-zone zones cylinder = said_by_zone (λ zones. slots_at zones cylinder) (λ zone. zone.sectors) cylinder (λ zone zones. refl) zones
 
-pub spares_at-zone : (zones : List Zone) (cylinder : ℕ) (zone : Zone) → zone_at zones cylinder ≡ Some zone → spares_at zones cylinder ≡ zone.spares
+pub spares_at-zone : (zones : List Zone) (cylinder : ℕ) (zone : Zone) → zone_at zones cylinder ≡ Some zone
+    → spares_at zones cylinder ≡ zone.spares
 spares_at-zone zones cylinder = said_by_zone (λ zones. spares_at zones cylinder) (λ zone. zone.spares) cylinder (λ zone zones. refl) zones
 
-pub cylinder_spares_at-zone : (zones : List Zone) (cylinder : ℕ) (zone : Zone) → zone_at zones cylinder ≡ Some zone → cylinder_spares_at zones cylinder ≡ zone.cylinder_spares
-cylinder_spares_at-zone zones cylinder = said_by_zone (λ zones. cylinder_spares_at zones cylinder) (λ zone. zone.cylinder_spares) cylinder (λ zone zones. refl) zones
+pub cylinder_spares_at-zone : (zones : List Zone) (cylinder : ℕ) (zone : Zone) → zone_at zones cylinder ≡ Some zone
+    → cylinder_spares_at zones cylinder ≡ zone.cylinder_spares
+cylinder_spares_at-zone zones cylinder = said_by_zone (λ zones. cylinder_spares_at zones cylinder) (λ zone. zone.cylinder_spares) cylinder
+    (λ zone zones. refl) zones
 
-pub offset_at_zone : (zones : List Zone) (heads : ℕ) (track : Track) (zone : Zone) → zone_at zones track.cylinder ≡ Some zone → offset_at zones heads track ≡ offset_in zone heads track
-offset_at_zone zones heads track = said_by_zone (λ zones. offset_at zones heads track) (λ zone. offset_in zone heads track) track.cylinder (λ zone zones. refl) zones
+pub offset_at_zone : (zones : List Zone) (heads : ℕ) (track : Track) (zone : Zone) → zone_at zones track.cylinder ≡ Some zone
+    → offset_at zones heads track ≡ offset_in zone heads track
+offset_at_zone zones heads track = said_by_zone (λ zones. offset_at zones heads track) (λ zone. offset_in zone heads track) track.cylinder
+    (λ zone zones. refl) zones
 
-pub list_among-zone : (disk : Shape) (zones : List Zone) (cylinder : ℕ) (zone : Zone) → zone_at zones cylinder ≡ Some zone → list_among disk zones cylinder ≡ data_list disk zone cylinder
-list_among-zone disk zones cylinder = said_by_zone (λ zones. list_among disk zones cylinder) (λ zone. data_list disk zone cylinder) cylinder (λ zone zones. refl) zones
+pub list_among-zone : (disk : Shape) (zones : List Zone) (cylinder : ℕ) (zone : Zone) → zone_at zones cylinder ≡ Some zone
+    → list_among disk zones cylinder ≡ data_list disk zone cylinder
+list_among-zone disk zones cylinder = said_by_zone (λ zones. list_among disk zones cylinder) (λ zone. data_list disk zone cylinder) cylinder
+    (λ zone zones. refl) zones
 
 -- what is said of a cylinder, by its zone
 pub ruleset by_zone = (slots_at-zone, spares_at-zone, cylinder_spares_at-zone, offset_at_zone, list_among-zone)
 
 -- a cylinder of the disk has a zone
-pub some_zone : (index begin cylinder : ℕ) (zones : List Zone) → first_apart index begin zones ≡ None → begin ≤ cylinder → cylinder < cylinders_of zones → (zone : Zone) × (zone_at zones cylinder ≡ Some zone)
+pub some_zone : (index begin cylinder : ℕ) (zones : List Zone) → first_apart index begin zones ≡ None → begin ≤ cylinder
+    → cylinder < cylinders_of zones → (zone : Zone) × (zone_at zones cylinder ≡ Some zone)
 some_zone index begin cylinder [] h from below = absurd (omega arith)
 some_zone index begin cylinder (zone ∷ []) h from below = (zone, rw (le-leb cylinder zone.last (omega arith)) refl)
 some_zone index begin cylinder (zone ∷ other ∷ zones) h from below = elim (cases_lt zone.last cylinder) [
-  | inl behind ↦ let rest = some_zone (index + 1) (zone.last + 1) cylinder (other ∷ zones) (next index begin zone (other ∷ zones) h).1 (omega arith) below in (rest.0, rw (lt-leb cylinder zone.last behind) rest.1)
+  | inl behind ↦ let rest = some_zone (index + 1) (zone.last + 1) cylinder (other ∷ zones) (next index begin zone (other ∷ zones) h).1
+      (omega arith) below in (rest.0, rw (lt-leb cylinder zone.last behind) rest.1)
   | inr here ↦ (zone, rw (le-leb cylinder zone.last here) refl)
 ]
 
-cylinders-le : (n : ℕ) (zones : List Zone) → ((i : ℕ) (zone : Zone) → slice_get zones i ≡ Some zone → zone.last < n) → 0 < length zones → cylinders_of zones ≤ n
+cylinders-le : (n : ℕ) (zones : List Zone) → ((i : ℕ) (zone : Zone) → slice_get zones i ≡ Some zone → zone.last < n)
+    → 0 < length zones → cylinders_of zones ≤ n
 cylinders-le n [] all some = absurd (omega arith)
 cylinders-le n (zone ∷ []) all some = omega (arith, all 0 zone refl)
 cylinders-le n (zone ∷ other ∷ zones) all some = cylinders-le n (other ∷ zones) (λ i. all (suc i)) (omega arith)
@@ -211,7 +248,8 @@ module _ (disk : Shape) (sound : HasZones disk) where
   few_cylinders = cylinders-le (10 ^ 6) disk.zones (λ i zone at. (ranges_of disk sound i zone at).few_cylinders) (some_zones disk sound)
 
   pub zones_rise : IsNonDecreasingBy (λ zone. zone.last) disk.zones
-  zones_rise i j d le h = lasts-rise 0 0 i j disk.zones (get_or disk.zones i d) (get_or disk.zones j d) sound.contiguous ascends (slice_get-get_or disk.zones i d (omega arith)) (slice_get-get_or disk.zones j d h) le
+  zones_rise i j d le h = lasts-rise 0 0 i j disk.zones (get_or disk.zones i d) (get_or disk.zones j d) sound.contiguous ascends
+      (slice_get-get_or disk.zones i d (omega arith)) (slice_get-get_or disk.zones j d h) le
 
   -- the zone that a cylinder has by its bounds
   by_bounds : (i : ℕ) (zone : Zone) (cylinder : ℕ) → IsCylinderOf disk i zone cylinder → zone_at disk.zones cylinder ≡ Some zone
@@ -228,7 +266,8 @@ module _ (disk : Shape) (sound : HasZones disk) where
         upto = leb-true cylinder zone.last found.2;
       }
 
-pub zone_by_search : (disk : Shape) → IsFaultless disk → (cylinder : ℕ) (zone : Zone) → zone_at disk.zones cylinder ≡ Some zone → IsZoneAt disk cylinder zone
+pub zone_by_search : (disk : Shape) → IsFaultless disk → (cylinder : ℕ) (zone : Zone) → zone_at disk.zones cylinder ≡ Some zone
+    → IsZoneAt disk cylinder zone
 zone_by_search disk h cylinder zone at =
     let found = find-some (λ zone. nat_le cylinder zone.last) disk.zones zone at in
     let is = found_zone disk h.zones_hold cylinder zone at in
@@ -242,18 +281,23 @@ zone_by_search disk h cylinder zone at =
       enough_spares = h.spares;
     }
 
-pub zone_by_bounds : (disk : Shape) → IsFaultless disk → (i : ℕ) (zone : Zone) (cylinder : ℕ) → IsCylinderOf disk i zone cylinder → IsZoneAt disk cylinder zone
+pub zone_by_bounds : (disk : Shape) → IsFaultless disk → (i : ℕ) (zone : Zone) (cylinder : ℕ) → IsCylinderOf disk i zone cylinder
+    → IsZoneAt disk cylinder zone
 zone_by_bounds disk h i zone cylinder at = zone_by_search disk h cylinder zone (by_bounds disk h.zones_hold i zone cylinder at)
 
 -- ---- a search by the last cylinders
 
-pub point_zone : (cylinder : ℕ) (zones : List Zone) (i : ℕ) (d : Zone) → IsPartitionPoint (λ zone. nat_lt zone.last cylinder ≡ true) (λ zone. nat_lt zone.last cylinder ≡ false) zones i
+pub point_zone : (cylinder : ℕ) (zones : List Zone) (i : ℕ) (d : Zone)
+    → IsPartitionPoint (λ zone. nat_lt zone.last cylinder ≡ true) (λ zone. nat_lt zone.last cylinder ≡ false) zones i
     → i ≤ length zones → cylinder < cylinders_of zones → (i < length zones) × (zone_at zones cylinder ≡ Some (get_or zones i d))
 point_zone cylinder [] i d at h below = absurd (omega arith)
-point_zone cylinder (zone ∷ zones) zero d at h below = (omega arith, rw (le-leb cylinder zone.last (ltb-false zone.last cylinder (at.1 0 d (omega arith) (omega arith)))) refl)
-point_zone cylinder (zone ∷ []) (suc i) d at h below = absurd (omega (arith, ltb-true zone.last cylinder (at.0 0 d (omega arith) (omega arith))))
+point_zone cylinder (zone ∷ zones) zero d at h below =
+    (omega arith, rw (le-leb cylinder zone.last (ltb-false zone.last cylinder (at.1 0 d (omega arith) (omega arith)))) refl)
+point_zone cylinder (zone ∷ []) (suc i) d at h below =
+    absurd (omega (arith, ltb-true zone.last cylinder (at.0 0 d (omega arith) (omega arith))))
 point_zone cylinder (zone ∷ other ∷ zones) (suc i) d at h below =
-    let rest = point_zone cylinder (other ∷ zones) i d (λ k e l m. at.0 (suc k) e (omega arith) (omega arith), λ k e l m. at.1 (suc k) e (omega arith) (omega arith)) (omega arith) below in
+    let rest = point_zone cylinder (other ∷ zones) i d
+    (λ k e l m. at.0 (suc k) e (omega arith) (omega arith), λ k e l m. at.1 (suc k) e (omega arith) (omega arith)) (omega arith) below in
     (omega (arith, rest.0), rw (lt-leb cylinder zone.last (ltb-true zone.last cylinder (at.0 0 d (omega arith) (omega arith)))) rest.1)
 
 -- the disk ends where the last zone ends
@@ -268,10 +312,13 @@ last_cylinder (zone ∷ other ∷ zones) (suc n) d h = last_cylinder (other ∷ 
 
 -- ---- a search by numbers
 
-pub number_inside : (zones : List Zone) (numbers : List ℕ) (cylinder : ℕ) → AreZoneNumbers zones numbers → cylinder < cylinders_of zones → slice_index_or numbers cylinder 0 < length zones
+pub number_inside : (zones : List Zone) (numbers : List ℕ) (cylinder : ℕ) → AreZoneNumbers zones numbers → cylinder < cylinders_of zones
+    → slice_index_or numbers cylinder 0 < length zones
 number_inside zones numbers cylinder are below = (are.each cylinder 0 (omega (arith, are.all, below))).0
 
-pub numbered_zone : (zones : List Zone) (numbers : List ℕ) (cylinder : ℕ) (zone : Zone) → AreZoneNumbers zones numbers → cylinder < cylinders_of zones
+pub numbered_zone : (zones : List Zone) (numbers : List ℕ) (cylinder : ℕ) (zone : Zone) → AreZoneNumbers zones numbers
+    → cylinder < cylinders_of zones
     → zone ≡ slice_index_or zones (slice_index_or numbers cylinder 0) zone → zone_at zones cylinder ≡ Some zone
 numbered_zone zones numbers cylinder zone are below at =
-    let is = are.each cylinder 0 (omega (arith, are.all, below)) in is.1 ∙ (slice_get-get_or zones (slice_index_or numbers cylinder 0) zone is.0 ∙ ap Some (sym at))
+    let is = are.each cylinder 0 (omega (arith, are.all, below)) in
+    is.1 ∙ (slice_get-get_or zones (slice_index_or numbers cylinder 0) zone is.0 ∙ ap Some (sym at))

@@ -13,7 +13,8 @@ pub add_one : (a i : ℕ) → a + (i + 1) ≡ a + 1 + i
 add_one a i = omega arith
 
 -- one element more adds one where it passes
-pub count_cons : {A : Type 0} (test : A → Bool) (x : A) (xs : List A) → length (filter test (x ∷ xs)) ≡ cond (test x) 1 0 + length (filter test xs)
+pub count_cons : {A : Type 0} (test : A → Bool) (x : A) (xs : List A) → length (filter test (x ∷ xs))
+    ≡ cond (test x) 1 0 + length (filter test xs)
 count_cons test x xs = elim (cases_Bool (test x)) [ inl in_ ↦ rw in_ (omega arith) | inr out ↦ rw out (omega arith) ]
 
 -- what is so of each element is so in weaker words
@@ -42,7 +43,8 @@ get_right [] ys i j e = ap (slice_get ys) (omega arith)
 get_right (x ∷ xs) ys i zero e = absurd (omega arith)
 get_right (x ∷ xs) ys i (suc j) e = get_right xs ys i j (omega arith)
 
-pub length-parts : {X A : Type 0} (f : X → List A) (n : ℕ) → ((x : X) → length (f x) ≡ n) → (xs : List X) → length (flat_map f xs) ≡ length xs * n
+pub length-parts : {X A : Type 0} (f : X → List A) (n : ℕ) → ((x : X) → length (f x) ≡ n) → (xs : List X)
+    → length (flat_map f xs) ≡ length xs * n
 length-parts f n each [] = omega arith
 length-parts f n each (x ∷ xs) = length-append (f x) (flat_map f xs) ∙ grind (arith, each x, length-parts f n each xs)
 
@@ -51,7 +53,8 @@ pub get_part : {X A : Type 0} (f : X → List A) (n : ℕ) → ((x : X) → leng
     → slice_get xs q ≡ Some x → r < n → i ≡ q * n + r → slice_get (flat_map f xs) i ≡ slice_get (f x) r
 get_part f n each [] q r i x e h p = cc
 get_part f n each (y ∷ ys) zero r i x e h p =
-    get_left (f y) (flat_map f ys) i (omega (arith, each y)) ∙ ap (λ z. slice_get (f z) i) (same_Some y x e) ∙ ap (slice_get (f x)) (omega arith)
+    get_left (f y) (flat_map f ys) i (omega (arith, each y)) ∙ ap (λ z. slice_get (f z) i) (same_Some y x e)
+    ∙ ap (slice_get (f x)) (omega arith)
 get_part f n each (y ∷ ys) (suc q) r i x e h p =
     get_right (f y) (flat_map f ys) (q * n + r) i (omega (arith, each y)) ∙ get_part f n each ys q r (q * n + r) x e h refl
 

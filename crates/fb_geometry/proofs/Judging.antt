@@ -18,13 +18,19 @@ use Rattle.fb_geometry.proofs.{Clashes.least_clash, Clashes.least_full}
 
 pub good_defects : (disk : Shape) → defect_fault disk ≡ None → (find (is_outside disk) disk.defects ≡ None) × (repeated disk.defects ≡ [])
 good_defects disk h =
-    let parts = or_else-none (fault_at DefectOutside (find (is_outside disk) disk.defects)) (fault_at DefectTwice (least is_place_before (repeated disk.defects))) h in
-    (fault_at-none DefectOutside (find (is_outside disk) disk.defects) parts.0, least-none is_place_before (repeated disk.defects) (fault_at-none DefectTwice (least is_place_before (repeated disk.defects)) parts.1))
+    let parts = or_else-none (fault_at DefectOutside (find (is_outside disk) disk.defects))
+    (fault_at DefectTwice (least is_place_before (repeated disk.defects))) h in (
+      fault_at-none DefectOutside (find (is_outside disk) disk.defects) parts.0,
+      least-none is_place_before (repeated disk.defects)
+          (fault_at-none DefectTwice (least is_place_before (repeated disk.defects)) parts.1),
+    )
 
-pub good_grown : (disk : Shape) → grown_fault disk ≡ None → (find (is_outside disk) disk.grown ≡ None) × (repeated disk.grown ≡ []) × (filter (is_among disk.defects) disk.grown ≡ [])
+pub good_grown : (disk : Shape) → grown_fault disk ≡ None → (find (is_outside disk) disk.grown ≡ None) × (repeated disk.grown ≡ [])
+    × (filter (is_among disk.defects) disk.grown ≡ [])
 good_grown disk h =
     let clash = repeated disk.grown ++ filter (is_among disk.defects) disk.grown in
-    let parts = or_else-none (fault_at GrownOutside (find (is_outside disk) disk.grown)) (fault_at GrownTwice (least is_place_before clash)) h in
+    let parts = or_else-none (fault_at GrownOutside (find (is_outside disk) disk.grown))
+    (fault_at GrownTwice (least is_place_before clash)) h in
     let none : clash ≡ [] = least-none is_place_before clash (fault_at-none GrownTwice (least is_place_before clash) parts.1) in
     let lists = nil_left (repeated disk.grown) (filter (is_among disk.defects) disk.grown) none in
     (fault_at-none GrownOutside (find (is_outside disk) disk.grown) parts.0, lists.0, lists.1)
@@ -39,11 +45,13 @@ good_grown disk h =
 pub defects_sorted : (places sorted : List Place) → AreSorted (places ++ []) sorted → AreSorted places sorted
 defects_sorted places sorted are = subst (λ places. AreSorted places sorted) (append-nil places) are
 
-pub defects_judged : (disk : Shape) (sorted : List Place) → find (is_outside disk) disk.defects ≡ None → AreSorted (disk.defects ++ []) sorted
+pub defects_judged : (disk : Shape) (sorted : List Place) → find (is_outside disk) disk.defects ≡ None
+    → AreSorted (disk.defects ++ []) sorted
     → defect_fault disk ≡ fault_at DefectTwice (slice_get (repeated sorted) 0)
 defects_judged disk sorted none are = rw (none, least_repeated disk.defects sorted (defects_sorted disk.defects sorted are)) refl
 
-pub grown_judged : (disk : Shape) (sorted : List Place) → defect_fault disk ≡ None → find (is_outside disk) disk.grown ≡ None → AreSorted (disk.defects ++ disk.grown) sorted
+pub grown_judged : (disk : Shape) (sorted : List Place) → defect_fault disk ≡ None → find (is_outside disk) disk.grown ≡ None
+    → AreSorted (disk.defects ++ disk.grown) sorted
     → grown_fault disk ≡ fault_at GrownTwice (slice_get (repeated sorted) 0)
 grown_judged disk sorted good none are = rw (none, least_clash disk.defects disk.grown sorted (good_defects disk good).1 are) refl
 
@@ -51,12 +59,16 @@ grown_judged disk sorted good none are = rw (none, least_clash disk.defects disk
 inside : (disk : Shape) (places : List Place) → find (is_outside disk) places ≡ None → All (λ place. is_outside disk place ≡ false) places
 inside disk places none = All-from_recursion (λ place. is_outside disk place ≡ false) places (find-none (is_outside disk) places none)
 
-pub defects_inside : (disk : Shape) (sorted : List Place) → defect_fault disk ≡ None → AreSorted disk.defects sorted → All (λ place. is_outside disk place ≡ false) sorted
-defects_inside disk sorted h are = All-permutation (λ place. is_outside disk place ≡ false) disk.defects sorted are.same (inside disk disk.defects (good_defects disk h).0)
+pub defects_inside : (disk : Shape) (sorted : List Place) → defect_fault disk ≡ None → AreSorted disk.defects sorted
+    → All (λ place. is_outside disk place ≡ false) sorted
+defects_inside disk sorted h are = All-permutation (λ place. is_outside disk place ≡ false) disk.defects sorted are.same
+    (inside disk disk.defects (good_defects disk h).0)
 
-pub bad_inside : (disk : Shape) (sorted : List Place) → defect_fault disk ≡ None → grown_fault disk ≡ None → AreSorted (disk.defects ++ disk.grown) sorted → All (λ place. is_outside disk place ≡ false) sorted
+pub bad_inside : (disk : Shape) (sorted : List Place) → defect_fault disk ≡ None → grown_fault disk ≡ None
+    → AreSorted (disk.defects ++ disk.grown) sorted → All (λ place. is_outside disk place ≡ false) sorted
 bad_inside disk sorted h k are = All-permutation (λ place. is_outside disk place ≡ false) (disk.defects ++ disk.grown) sorted are.same
-    (All-append (λ place. is_outside disk place ≡ false) disk.defects disk.grown (inside disk disk.defects (good_defects disk h).0) (inside disk disk.grown (good_grown disk k).0))
+    (All-append (λ place. is_outside disk place ≡ false) disk.defects disk.grown (inside disk disk.defects (good_defects disk h).0)
+    (inside disk disk.grown (good_grown disk k).0))
 
 -- ---- the whole
 
@@ -65,7 +77,8 @@ or_else-assoc None b c = refl
 or_else-assoc (Some fault) b c = refl
 
 -- the first fault is that of the zones, or of the defects, or of the spares
-pub first_fault-is : (disk : Shape) → first_fault disk ≡ or_else (zone_fault disk) (or_else (defect_fault disk) (spare_fault disk.layout disk))
+pub first_fault-is : (disk : Shape)
+    → first_fault disk ≡ or_else (zone_fault disk) (or_else (defect_fault disk) (spare_fault disk.layout disk))
 unfolding first_fault
 first_fault-is disk =
     let range = range_fault disk in
@@ -75,19 +88,22 @@ first_fault-is disk =
     let twice = fault_at DefectTwice (least is_place_before (repeated disk.defects)) in
     let spares = spare_fault disk.layout disk in
     sym (or_else-assoc range (or_else apart skewed) (or_else (or_else outside twice) spares)
-    ∙ ap (or_else range) (or_else-assoc apart skewed (or_else (or_else outside twice) spares) ∙ ap (λ rest. or_else apart (or_else skewed rest)) (or_else-assoc outside twice spares)))
+    ∙ ap (or_else range) (or_else-assoc apart skewed (or_else (or_else outside twice) spares)
+    ∙ ap (λ rest. or_else apart (or_else skewed rest)) (or_else-assoc outside twice spares)))
 
 pub fault_of_zones : (disk : Shape) (fault : GeometryFault) → zone_fault disk ≡ Some fault → first_fault disk ≡ Some fault
 fault_of_zones disk fault e = first_fault-is disk ∙ rw e refl
 
-pub fault_of_defects : (disk : Shape) (fault : GeometryFault) → zone_fault disk ≡ None → defect_fault disk ≡ Some fault → first_fault disk ≡ Some fault
+pub fault_of_defects : (disk : Shape) (fault : GeometryFault) → zone_fault disk ≡ None → defect_fault disk ≡ Some fault
+    → first_fault disk ≡ Some fault
 fault_of_defects disk fault e f = first_fault-is disk ∙ rw (e, f) refl
 
 pub fault_of_spares : (disk : Shape) → zone_fault disk ≡ None → defect_fault disk ≡ None → first_fault disk ≡ spare_fault disk.layout disk
 fault_of_spares disk e f = first_fault-is disk ∙ rw (e, f) refl
 
 -- what is said of the spares is so of the whole, once the zones and the defects are judged
-pub judged : (disk : Shape) (result : Result Shape GeometryError) → zone_fault disk ≡ None → defect_fault disk ≡ None → JudgesSpares disk result → Judges disk result
+pub judged : (disk : Shape) (result : Result Shape GeometryError) → zone_fault disk ≡ None → defect_fault disk ≡ None
+    → JudgesSpares disk result → Judges disk result
 judged disk (Ok geometry) e f h = (h.0, fault_of_spares disk e f ∙ h.1)
 judged disk (Err (Fault fault)) e f h = fault_of_spares disk e f ∙ h
 judged disk (Err NoMemory) e f h = tt
@@ -102,8 +118,10 @@ in_range false h = refl
 
 pub has_zones : (disk : Shape) → zone_fault disk ≡ None → HasZones disk
 has_zones disk h =
-    let a = or_else-none (range_fault disk) (or_else (fault_at ZonesNotContiguous (first_apart 0 0 disk.zones)) (fault_at SkewTooLarge (position is_too_skewed disk.zones))) h in
-    let b = or_else-none (fault_at ZonesNotContiguous (first_apart 0 0 disk.zones)) (fault_at SkewTooLarge (position is_too_skewed disk.zones)) a.1 in
+    let a = or_else-none (range_fault disk) (or_else (fault_at ZonesNotContiguous (first_apart 0 0 disk.zones))
+    (fault_at SkewTooLarge (position is_too_skewed disk.zones))) h in
+    let b = or_else-none (fault_at ZonesNotContiguous (first_apart 0 0 disk.zones))
+    (fault_at SkewTooLarge (position is_too_skewed disk.zones)) a.1 in
     record {
       in_range = in_range (is_out_of_range disk) a.0;
       contiguous = fault_at-none ZonesNotContiguous (first_apart 0 0 disk.zones) b.0;
@@ -117,18 +135,23 @@ faultless disk zones h k =
 
 -- the fault of the spares, by the first place in order whose track or cylinder has too few
 pub track_spares : (disk : Shape) (sorted : List Place) → disk.layout ≡ PerTrack → AreSorted disk.defects sorted
-    → spare_fault disk.layout disk ≡ fault_at TooManyDefects (option_map (λ place. place.track) (find (λ place. is_full_track disk place.track) sorted))
+    → spare_fault disk.layout disk ≡ fault_at TooManyDefects (option_map (λ place. place.track)
+    (find (λ place. is_full_track disk place.track) sorted))
 track_spares disk sorted layout are =
-    rw layout (ap (fault_at TooManyDefects) (least_full is_track_before track_order (λ place. place.track) (λ a b h. grind (arith, nat_tests)) (is_full_track disk) disk.defects sorted are))
+    rw layout (ap (fault_at TooManyDefects) (least_full is_track_before track_order (λ place. place.track)
+    (λ a b h. grind (arith, nat_tests)) (is_full_track disk) disk.defects sorted are))
 
-pub cylinder_spares : (disk : Shape) (sorted : List Place) → disk.layout ≡ PerCylinder → grown_fault disk ≡ None → AreSorted (disk.defects ++ disk.grown) sorted
-    → spare_fault disk.layout disk ≡ fault_at TooManyInCylinder (option_map (λ place. place.track.cylinder) (find (λ place. is_full_cylinder disk place.track.cylinder) sorted))
+pub cylinder_spares : (disk : Shape) (sorted : List Place) → disk.layout ≡ PerCylinder → grown_fault disk ≡ None
+    → AreSorted (disk.defects ++ disk.grown) sorted
+    → spare_fault disk.layout disk ≡ fault_at TooManyInCylinder (option_map (λ place. place.track.cylinder)
+    (find (λ place. is_full_cylinder disk place.track.cylinder) sorted))
 cylinder_spares disk sorted layout h are =
     let outside = fault_at GrownOutside (find (is_outside disk) disk.grown) in
     let twice = fault_at GrownTwice (least is_place_before (repeated disk.grown ++ filter (is_among disk.defects) disk.grown)) in
     let parts = or_else-none outside twice h in
     rw (layout, parts.0, parts.1) (ap (fault_at TooManyInCylinder)
-    (least_full nat_lt number_order (λ place. place.track.cylinder) (λ a b h. grind (arith, nat_tests)) (is_full_cylinder disk) (disk.defects ++ disk.grown) sorted are))
+    (least_full nat_lt number_order (λ place. place.track.cylinder) (λ a b h. grind (arith, nat_tests)) (is_full_cylinder disk)
+    (disk.defects ++ disk.grown) sorted are))
 
 pub fits_per_cylinder : (layout : Layout) (grown : List Place) → layout ≡ PerCylinder → layout ≡ PerTrack → grown ≡ []
 fits_per_cylinder layout grown h k = cc

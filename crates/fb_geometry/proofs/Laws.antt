@@ -21,7 +21,8 @@ use Rattle.fb_geometry.proofs.{Faultless.cylinder_spares_at-zone, Marking.length
 -- ---- counts
 
 -- the elements that pass a test and those that don't are all together
-pub kept_and_dropped : {A : Type 0} (bad : A → Bool) (xs : List A) → length (filter bad xs) + length (filter (λ x. not (bad x)) xs) ≡ length xs
+pub kept_and_dropped : {A : Type 0} (bad : A → Bool) (xs : List A)
+    → length (filter bad xs) + length (filter (λ x. not (bad x)) xs) ≡ length xs
 kept_and_dropped bad xs = length-filter_both bad (λ x. not (bad x)) (λ x. refl) xs
 
 -- one test or another
@@ -54,7 +55,8 @@ fewer p q (x ∷ xs) = elim (cases_Bool (q x)) [
 ]
 
 -- a test that one number alone passes, or none where it can't be passed
-once_in : (test : ℕ → Bool) (can : Bool) (q a n : ℕ) → ((i : ℕ) → i < n → test (a + i) ≡ true → (can ≡ true) × (a + i ≡ q)) → length (filter test (range_with_len a n)) ≤ cond can 1 0
+once_in : (test : ℕ → Bool) (can : Bool) (q a n : ℕ) → ((i : ℕ) → i < n → test (a + i) ≡ true → (can ≡ true) × (a + i ≡ q))
+    → length (filter test (range_with_len a n)) ≤ cond can 1 0
 once_in test can q a zero h = omega arith
 once_in test can q a (suc n) h =
     let later = λ (i : ℕ) (l : i < n) (t : test (a + 1 + i) ≡ true). h (i + 1) (omega arith) (ap test (add_one a i) ∙ t) in
@@ -72,12 +74,14 @@ same_slot a b h = let parts = and_parts (same_track a.track b.track) (a.slot == 
 pub same_tracks : (a b : Track) → same_track a b ≡ true → a ≡ b
 same_tracks a b h =
     let parts = and_parts (a.cylinder == b.cylinder) (a.head == b.head) h in
-    ap (λ c. record { cylinder = c; head = a.head }) (eqb-true a.cylinder b.cylinder parts.0) ∙ ap (λ k. record { cylinder = b.cylinder; head = k }) (eqb-true a.head b.head parts.1)
+    ap (λ c. record { cylinder = c; head = a.head }) (eqb-true a.cylinder b.cylinder parts.0)
+    ∙ ap (λ k. record { cylinder = b.cylinder; head = k }) (eqb-true a.head b.head parts.1)
 
 pub same_places : (a b : Place) → same_place a b ≡ true → a ≡ b
 same_places a b h =
     let parts = same_slot a b h in
-    ap (λ track. record { track = track; slot = a.slot }) (same_tracks a.track b.track parts.0) ∙ ap (λ slot. record { track = b.track; slot = slot }) parts.1
+    ap (λ track. record { track = track; slot = a.slot }) (same_tracks a.track b.track parts.0)
+    ∙ ap (λ slot. record { track = b.track; slot = slot }) parts.1
 
 module _ (zone : Zone) (some : 0 < zone.sectors) where
   -- a place is no more than once among slots that follow one another, and only where it can be
@@ -89,10 +93,12 @@ module _ (zone : Zone) (some : 0 < zone.sectors) where
         arith,
         length-filter-map (λ place. same_place place d) slot (range_with_len a n),
         once_in (λ p. same_place (slot p) d) can (position_in zone heads d) a n
-            (λ i l t. let same = same_places (slot (a + i)) d t in (so i l same, sym (position_in-slot_at zone heads some cylinder (a + i)) ∙ ap (position_in zone heads) same)),
+            (λ i l t. let same = same_places (slot (a + i)) d t in
+            (so i l same, sym (position_in-slot_at zone heads some cylinder (a + i)) ∙ ap (position_in zone heads) same)),
       )
 
-  pub length-good_track : (disk : Shape) (track : Track) → length (filter (λ place. same_track track place.track) disk.defects) ≤ zone.spares → zone.sectors - zone.spares ≤ length (good_track disk zone track)
+  pub length-good_track : (disk : Shape) (track : Track) → length (filter (λ place. same_track track place.track) disk.defects)
+      ≤ zone.spares → zone.sectors - zone.spares ≤ length (good_track disk zone track)
   length-good_track disk track few =
       let first = track.head * zone.sectors in
       let slots = map (slot_at zone disk.heads track.cylinder) (range_with_len first zone.sectors) in
@@ -102,28 +108,35 @@ module _ (zone : Zone) (some : 0 < zone.sectors) where
         ap length (good_track-is zone disk.heads some disk track refl),
         length-map-range_with_len (slot_at zone disk.heads track.cylinder) first zone.sectors,
         kept_and_dropped (is_among disk.defects) slots,
-        at_most_each same_place (λ place. same_track track place.track) slots disk.defects (λ d. once_among disk.heads track.cylinder first zone.sectors d (same_track track d.track)
-            (λ i l same. subst (λ d. same_track track d.track ≡ true) (sym (slot_on zone disk.heads some track.cylinder track.head i l) ∙ same) own)),
+        at_most_each same_place (λ place. same_track track place.track) slots disk.defects (λ d. once_among disk.heads track.cylinder first
+            zone.sectors d (same_track track d.track)
+            (λ i l same. subst (λ d. same_track track d.track ≡ true)
+            (sym (slot_on zone disk.heads some track.cylinder track.head i l) ∙ same) own)),
       )
 
   -- one slot of a cylinder
-  pub once_on_cylinder : (heads cylinder : ℕ) (d : Place) → length (filter (λ place. same_place place d) (cylinder_slots zone heads cylinder)) ≤ cond (d.track.cylinder == cylinder) 1 0
-  once_on_cylinder heads cylinder d = once_among heads cylinder 0 (heads * zone.sectors) d (d.track.cylinder == cylinder) (λ i l same. eq-eqb d.track.cylinder cylinder (sym (ap (λ place. place.track.cylinder) same)))
+  pub once_on_cylinder : (heads cylinder : ℕ) (d : Place)
+      → length (filter (λ place. same_place place d) (cylinder_slots zone heads cylinder)) ≤ cond (d.track.cylinder == cylinder) 1 0
+  once_on_cylinder heads cylinder d = once_among heads cylinder 0 (heads * zone.sectors) d (d.track.cylinder == cylinder)
+      (λ i l same. eq-eqb d.track.cylinder cylinder (sym (ap (λ place. place.track.cylinder) same)))
 
   pub length-good_cylinder : (disk : Shape) (heads cylinder : ℕ)
-      → heads * zone.sectors ≤ length (filter (λ place. not (is_among disk.defects place)) (cylinder_slots zone heads cylinder)) + length (filter (λ place. place.track.cylinder == cylinder) disk.defects)
+      → heads * zone.sectors ≤ length (filter (λ place. not (is_among disk.defects place)) (cylinder_slots zone heads cylinder)) + length
+      (filter (λ place. place.track.cylinder == cylinder) disk.defects)
   length-good_cylinder disk heads cylinder =
       omega (
         arith,
         length-cylinder_slots zone heads some cylinder,
         kept_and_dropped (is_among disk.defects) (cylinder_slots zone heads cylinder),
-        at_most_each same_place (λ place. place.track.cylinder == cylinder) (cylinder_slots zone heads cylinder) disk.defects (once_on_cylinder heads cylinder),
+        at_most_each same_place (λ place. place.track.cylinder == cylinder) (cylinder_slots zone heads cylinder) disk.defects
+            (once_on_cylinder heads cylinder),
       )
 
 -- ---- spares are enough
 
 -- a test that none of the keys passes is passed by a key, or no place has that key
-none_or_not : {K : Type 0} (same : K → Bool) (full : K → Bool) (key : Place → K) (at : K) → ((k : K) → same k ≡ true → at ≡ k) → (places : List Place)
+none_or_not : {K : Type 0} (same : K → Bool) (full : K → Bool) (key : Place → K) (at : K)
+    → ((k : K) → same k ≡ true → at ≡ k) → (places : List Place)
     → AllByRecursion (λ k. full k ≡ false) (map key places) → (length (filter (λ place. same (key place)) places) ≡ 0) ⊎ (full at ≡ false)
 none_or_not same full key at is [] all = inl refl
 none_or_not same full key at is (place ∷ places) all = elim (cases_Bool (same (key place))) [
@@ -135,26 +148,34 @@ few_from : (spares count : ℕ) → (count ≡ 0) ⊎ (nat_lt spares count ≡ f
 few_from spares count (inl none) = omega arith
 few_from spares count (inr few) = grind (arith, nat_tests)
 
-pub few_on_track : (disk : Shape) (track : Track) → spare_fault PerTrack disk ≡ None → length (filter (λ place. same_track track place.track) disk.defects) ≤ spares_at disk.zones track.cylinder
+pub few_on_track : (disk : Shape) (track : Track) → spare_fault PerTrack disk ≡ None
+    → length (filter (λ place. same_track track place.track) disk.defects) ≤ spares_at disk.zones track.cylinder
 few_on_track disk track h =
-    let none = filter-none (is_full_track disk) (map (λ place. place.track) disk.defects) (least-none is_track_before (filter (is_full_track disk) (map (λ place. place.track) disk.defects)) (fault_at-none TooManyDefects (least is_track_before (filter (is_full_track disk) (map (λ place. place.track) disk.defects))) h)) in
+    let none = filter-none (is_full_track disk) (map (λ place. place.track) disk.defects)
+    (least-none is_track_before (filter (is_full_track disk) (map (λ place. place.track) disk.defects))
+    (fault_at-none TooManyDefects (least is_track_before (filter (is_full_track disk) (map (λ place. place.track) disk.defects))) h)) in
     few_from (spares_at disk.zones track.cylinder) (length (filter (λ place. same_track track place.track) disk.defects))
     (none_or_not (same_track track) (is_full_track disk) (λ place. place.track) track (same_tracks track) disk.defects none)
 
 -- what an outline with spares per cylinder keeps
 pub record HasSpares (disk : Shape) : Type 0 where
-  pub few : (cylinder : ℕ) → length (filter (λ place. place.track.cylinder == cylinder) (disk.defects ++ disk.grown)) ≤ cylinder_spares_at disk.zones cylinder
+  pub few : (cylinder : ℕ) → length (filter (λ place. place.track.cylinder == cylinder) (disk.defects ++ disk.grown))
+      ≤ cylinder_spares_at disk.zones cylinder
 
 pub has_spares : (disk : Shape) → spare_fault PerCylinder disk ≡ None → HasSpares disk
 has_spares disk h =
     let full = filter (is_full_cylinder disk) (map (λ place. place.track.cylinder) (disk.defects ++ disk.grown)) in
     let clash = repeated disk.grown ++ filter (is_among disk.defects) disk.grown in
-    let a = or_else-none (fault_at GrownOutside (find (is_outside disk) disk.grown)) (or_else (fault_at GrownTwice (least is_place_before clash)) (fault_at TooManyInCylinder (least nat_lt full))) h in
+    let a = or_else-none (fault_at GrownOutside (find (is_outside disk) disk.grown))
+    (or_else (fault_at GrownTwice (least is_place_before clash)) (fault_at TooManyInCylinder (least nat_lt full))) h in
     let b = or_else-none (fault_at GrownTwice (least is_place_before clash)) (fault_at TooManyInCylinder (least nat_lt full)) a.1 in
-    let none = filter-none (is_full_cylinder disk) (map (λ place. place.track.cylinder) (disk.defects ++ disk.grown)) (least-none nat_lt full (fault_at-none TooManyInCylinder (least nat_lt full) b.1)) in
+    let none = filter-none (is_full_cylinder disk) (map (λ place. place.track.cylinder) (disk.defects ++ disk.grown))
+    (least-none nat_lt full (fault_at-none TooManyInCylinder (least nat_lt full) b.1)) in
     record {
-      few = λ cylinder. few_from (cylinder_spares_at disk.zones cylinder) (length (filter (λ place. place.track.cylinder == cylinder) (disk.defects ++ disk.grown)))
-          (none_or_not (λ k. k == cylinder) (is_full_cylinder disk) (λ place. place.track.cylinder) cylinder (λ k e. sym (eqb-true k cylinder e)) (disk.defects ++ disk.grown) none);
+      few = λ cylinder. few_from (cylinder_spares_at disk.zones cylinder)
+          (length (filter (λ place. place.track.cylinder == cylinder) (disk.defects ++ disk.grown)))
+          (none_or_not (λ k. k == cylinder) (is_full_cylinder disk) (λ place. place.track.cylinder) cylinder
+          (λ k e. sym (eqb-true k cylinder e)) (disk.defects ++ disk.grown) none);
     }
 
 -- ---- each cylinder of a zone holds as many
@@ -167,31 +188,47 @@ module _ (disk : Shape) (zone : Zone) (cylinder : ℕ) (at : IsZoneAt disk cylin
   some_sectors : 0 < zone.sectors
   some_sectors = at.ranges.some_sectors
 
-  pub length-track : (head : ℕ) → spare_fault PerTrack disk ≡ None → length (take (zone.sectors - zone.spares) (good_track disk zone (record { cylinder = cylinder; head = head }))) ≡ zone.sectors - zone.spares
+  pub length-track : (head : ℕ) → spare_fault PerTrack disk ≡ None
+      → length (take (zone.sectors - zone.spares) (good_track disk zone (record { cylinder = cylinder; head = head })))
+      ≡ zone.sectors - zone.spares
   length-track head h =
       length-take-le (zone.sectors - zone.spares) (good_track disk zone (record { cylinder = cylinder; head = head }))
-      (length-good_track zone some_sectors disk (record { cylinder = cylinder; head = head }) (omega (arith, few_on_track disk (record { cylinder = cylinder; head = head }) h, spares_at-zone disk.zones cylinder zone at.found)))
+      (length-good_track zone some_sectors disk (record { cylinder = cylinder; head = head })
+      (omega (arith, few_on_track disk (record { cylinder = cylinder; head = head }) h, spares_at-zone disk.zones cylinder zone at.found)))
 
-  pub length-per_track : spare_fault PerTrack disk ≡ None → length (per_track disk zone cylinder) ≡ disk.heads * (zone.sectors - zone.spares)
+  pub length-per_track : spare_fault PerTrack disk ≡ None → length (per_track disk zone cylinder)
+      ≡ disk.heads * (zone.sectors - zone.spares)
   length-per_track h =
-      length-parts (λ head. take (zone.sectors - zone.spares) (good_track disk zone (record { cylinder = cylinder; head = head }))) (zone.sectors - zone.spares) (λ head. length-track head h) (range_with_len 0 disk.heads)
+      length-parts (λ head. take (zone.sectors - zone.spares) (good_track disk zone (record { cylinder = cylinder; head = head })))
+      (zone.sectors - zone.spares) (λ head. length-track head h) (range_with_len 0 disk.heads)
       ∙ ap (λ n. n * (zone.sectors - zone.spares)) (length-range_with_len 0 disk.heads)
 
   -- the good list reaches over the base list
-  pub length-good : HasSpares disk → disk.heads * zone.sectors ≤ length (by_head disk cylinder (good_track disk zone)) + length (filter (λ place. place.track.cylinder == cylinder) disk.defects)
-  length-good h = omega (arith, ap length (good_cylinder-is zone disk.heads some_sectors disk cylinder refl), length-good_cylinder zone some_sectors disk disk.heads cylinder)
+  pub length-good : HasSpares disk → disk.heads * zone.sectors ≤ length (by_head disk cylinder (good_track disk zone)) + length
+      (filter (λ place. place.track.cylinder == cylinder) disk.defects)
+  length-good h = omega (
+    arith,
+    ap length (good_cylinder-is zone disk.heads some_sectors disk cylinder refl),
+    length-good_cylinder zone
+        some_sectors disk disk.heads cylinder,
+  )
 
-  pub few_flaws : HasSpares disk → length (filter (λ place. place.track.cylinder == cylinder) disk.defects) + length (filter (λ place. place.track.cylinder == cylinder) disk.grown) ≤ zone.cylinder_spares
+  pub few_flaws : HasSpares disk → length (filter (λ place. place.track.cylinder == cylinder) disk.defects) + length
+      (filter (λ place. place.track.cylinder == cylinder) disk.grown) ≤ zone.cylinder_spares
   few_flaws h = omega (
     arith,
     h.few cylinder,
     cylinder_spares_at-zone disk.zones cylinder zone at.found,
     ap length (filter-append (λ place. place.track.cylinder == cylinder) disk.defects disk.grown),
-    length-append (filter (λ place. place.track.cylinder == cylinder) disk.defects) (filter (λ place. place.track.cylinder == cylinder) disk.grown),
+    length-append (filter (λ place. place.track.cylinder == cylinder) disk.defects)
+        (filter (λ place. place.track.cylinder == cylinder) disk.grown),
   )
 
-  pub length-base : HasSpares disk → length (take (disk.heads * zone.sectors - zone.cylinder_spares) (by_head disk cylinder (good_track disk zone))) ≡ disk.heads * zone.sectors - zone.cylinder_spares
-  length-base h = length-take-le (disk.heads * zone.sectors - zone.cylinder_spares) (by_head disk cylinder (good_track disk zone)) (omega (arith, length-good h, few_flaws h))
+  pub length-base : HasSpares disk
+      → length (take (disk.heads * zone.sectors - zone.cylinder_spares) (by_head disk cylinder (good_track disk zone)))
+      ≡ disk.heads * zone.sectors - zone.cylinder_spares
+  length-base h = length-take-le (disk.heads * zone.sectors - zone.cylinder_spares) (by_head disk cylinder (good_track disk zone))
+      (omega (arith, length-good h, few_flaws h))
 
   pub length-per_cylinder : HasSpares disk → length (per_cylinder disk zone cylinder) ≡ disk.heads * zone.sectors - zone.cylinder_spares
   length-per_cylinder h =
@@ -199,12 +236,15 @@ module _ (disk : Shape) (zone : Zone) (cylinder : ℕ) (at : IsZoneAt disk cylin
       let base = disk.heads * zone.sectors - zone.cylinder_spares in
       length-replaced disk (take base good) (filter (λ place. not (is_among disk.grown place)) (drop base good)) ∙ length-base h
 
-  pub length_data_list : (layout : Layout) → spare_fault layout disk ≡ None → length (data_list_by layout disk zone cylinder) ≡ cylinder_size_by layout disk zone
+  pub length_data_list : (layout : Layout) → spare_fault layout disk ≡ None → length (data_list_by layout disk zone cylinder)
+      ≡ cylinder_size_by layout disk zone
   length_data_list PerTrack h = length-per_track h
   length_data_list PerCylinder h = length-per_cylinder (has_spares disk h)
 
-pub some_size : (layout : Layout) (disk : Shape) (zone : Zone) → 0 < disk.heads → has_no_data layout disk zone ≡ false → 0 < cylinder_size_by layout disk zone
-some_size PerTrack disk zone some h = let left : zone.spares < zone.sectors = grind (arith, nat_tests) in omega (arith, mul-le 1 1 disk.heads (zone.sectors - zone.spares) (omega arith) (omega arith))
+pub some_size : (layout : Layout) (disk : Shape) (zone : Zone) → 0 < disk.heads → has_no_data layout disk zone ≡ false
+    → 0 < cylinder_size_by layout disk zone
+some_size PerTrack disk zone some h = let left : zone.spares < zone.sectors = grind (arith, nat_tests) in
+    omega (arith, mul-le 1 1 disk.heads (zone.sectors - zone.spares) (omega arith) (omega arith))
 some_size PerCylinder disk zone some h = grind (arith, nat_tests)
 
 -- ---- each entry is a slot of its cylinder
@@ -215,7 +255,9 @@ all-append P xs ys h k = recursion_from_All P (xs ++ ys) (All-append P xs ys (Al
 pub all-filter : {A : Type 0} (P : A → Type 0) (test : A → Bool) (xs : List A) → AllByRecursion P xs → AllByRecursion P (filter test xs)
 all-filter P test xs h = recursion_from_All P (filter test xs) (All-filter test P xs (All-from_recursion P xs h))
 
-pub all-parts : {A : Type 0} (P : A → Type 0) (f : ℕ → List A) (a n : ℕ) → ((i : ℕ) → i < n → AllByRecursion P (f (a + i))) → AllByRecursion P (flat_map f (range_with_len a n))
+pub all-parts : {A : Type 0} (P : A → Type 0) (f : ℕ → List A) (a n : ℕ) → ((i : ℕ) → i < n → AllByRecursion P (f (a + i)))
+    → AllByRecursion P (flat_map f (range_with_len a n))
 all-parts P f a zero h = tt
-all-parts P f a (suc n) h = all-append P (f a) (flat_map f (range_with_len (a + 1) n)) (subst (λ x. AllByRecursion P (f x)) (add_zero a) (h 0 (omega arith)))
+all-parts P f a (suc n) h = all-append P (f a) (flat_map f (range_with_len (a + 1) n)) (subst (λ x. AllByRecursion P (f x))
+    (add_zero a) (h 0 (omega arith)))
     (all-parts P f (a + 1) n (λ i l. subst (λ x. AllByRecursion P (f x)) (add_one a i) (h (i + 1) (omega arith))))

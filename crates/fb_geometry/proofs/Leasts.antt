@@ -36,7 +36,8 @@ Among xs x = (k : ℕ) × (slice_get xs k ≡ Some x)
 pub among-tail : {A : Type 0} (x y : A) (xs : List A) → Among xs y → Among (x ∷ xs) y
 among-tail x y xs one = (suc one.0, one.1)
 
-lesser_is : {A : Type 0} (before : A → A → Bool) → IsOrder before → (y x : A) (o : Option A) → ((z : A) → o ≡ Some z → before z x ≡ false) → before y x ≡ false → (y ≡ x) ⊎ (o ≡ Some x) → lesser before y o ≡ Some x
+lesser_is : {A : Type 0} (before : A → A → Bool) → IsOrder before → (y x : A) (o : Option A) → ((z : A) → o ≡ Some z → before z x ≡ false)
+    → before y x ≡ false → (y ≡ x) ⊎ (o ≡ Some x) → lesser before y o ≡ Some x
 lesser_is before order y x None all not_before (inl same) = ap Some same
 lesser_is before order y x None all not_before (inr at) = absurd (none-some x at)
 lesser_is before order y x (Some z) all not_before (inl same) = rw (ap (before z) same ∙ all z refl) (ap Some same)
@@ -60,16 +61,19 @@ least_among before (y ∷ xs) z e = elim (lesser_from before y z (least before x
 ]
 
 -- none is before one that is the least
-least-is : {A : Type 0} (before : A → A → Bool) → IsOrder before → (xs : List A) (x : A) → Among xs x → ((y : A) → Among xs y → before y x ≡ false) → least before xs ≡ Some x
+least-is : {A : Type 0} (before : A → A → Bool) → IsOrder before → (xs : List A) (x : A) → Among xs x
+    → ((y : A) → Among xs y → before y x ≡ false) → least before xs ≡ Some x
 least-is before order [] x at first = absurd (none-some x at.1)
 least-is before order (y ∷ xs) x (zero, at) first =
-    lesser_is before order y x (least before xs) (λ z e. first z (among-tail y z xs (least_among before xs z e))) (first y (0, refl)) (inl (same_Some y x at))
+    lesser_is before order y x (least before xs) (λ z e. first z (among-tail y z xs (least_among before xs z e)))
+    (first y (0, refl)) (inl (same_Some y x at))
 least-is before order (y ∷ xs) x (suc k, at) first =
     lesser_is before order y x (least before xs) (λ z e. first z (among-tail y z xs (least_among before xs z e))) (first y (0, refl))
     (inr (least-is before order xs x (k, at) (λ z one. first z (among-tail y z xs one))))
 
 -- the least of a list is the head of one that has the same elements in order
-pub least-head : {A : Type 0} (before : A → A → Bool) → IsOrder before → (xs ys : List A) → ((x : A) → Among xs x → Among ys x) → ((x : A) → Among ys x → Among xs x)
+pub least-head : {A : Type 0} (before : A → A → Bool) → IsOrder before → (xs ys : List A) → ((x : A) → Among xs x → Among ys x)
+    → ((x : A) → Among ys x → Among xs x)
     → Pairwise (λ x later. before later x ≡ false) ys → least before xs ≡ slice_get ys 0
 least-head before order [] [] to from up = refl
 least-head before order (x ∷ xs) [] to from up = absurd (none-some x (to x (0, refl)).1)
@@ -124,7 +128,8 @@ among-mapped f (x ∷ xs) y (zero, at) = (x, (0, refl), same_Some (f x) y at)
 among-mapped f (x ∷ xs) y (suc k, at) = let found = among-mapped f xs y (k, at) in (found.0, among-tail x found.0 xs found.1, found.2)
 
 pub among-any : {A : Type 0} (test : A → Bool) (xs : List A) (x : A) → Among xs x → test x ≡ true → list_any test xs ≡ true
-among-any test xs x one e = list_any_at test xs one.0 x (slice_get_within xs one.0 x one.1) (ap test (get_or_from_slice_get xs one.0 x x one.1) ∙ e)
+among-any test xs x one e = list_any_at test xs one.0 x (slice_get_within xs one.0 x one.1)
+    (ap test (get_or_from_slice_get xs one.0 x x one.1) ∙ e)
 
 pub any-among : {A : Type 0} (test : A → Bool) (xs : List A) → list_any test xs ≡ true → (x : A) × Among xs x × (test x ≡ true)
 any-among test [] h = absurd (true≢false (sym h))

@@ -52,7 +52,8 @@ abbrev pub good_number : Layout → Shape → Zone → ℕ → ℕ → ℕ
 good_number PerTrack disk zone cylinder j =
     let first = j / (zone.sectors - zone.spares) * zone.sectors in
     first - rank first (defects_of disk zone cylinder) + j % (zone.sectors - zone.spares)
-good_number PerCylinder disk zone cylinder j = entry_of_sector (grown_of disk zone cylinder) (disk.heads * zone.sectors - zone.cylinder_spares) j
+good_number PerCylinder disk zone cylinder j = entry_of_sector (grown_of disk zone cylinder)
+    (disk.heads * zone.sectors - zone.cylinder_spares) j
 
 pub slots_upto : (head n : ℕ) → head ≤ 64 → n ≤ 10000 → head * n ≤ 640000
 slots_upto head n few short = mul-le head n 64 10000 few short
@@ -68,15 +69,19 @@ pub record IsGood (disk : Shape) (zone : Zone) (cylinder k : ℕ) (place : Place
 
 module _ (disk : Shape) where
   -- one that stays
-  replaced-stays : (places spares : List Place) (j : ℕ) (place : Place) → slice_get places j ≡ Some place → is_among disk.grown place ≡ false → slice_get (replaced disk places spares) j ≡ Some place
+  replaced-stays : (places spares : List Place) (j : ℕ) (place : Place) → slice_get places j ≡ Some place → is_among disk.grown place
+      ≡ false → slice_get (replaced disk places spares) j ≡ Some place
   replaced-stays [] spares j place at stays = at
   replaced-stays (other ∷ places) spares zero place at stays = let same = same_Some other place at in
       ap Some (ap (λ b. (stand_in b other spares).0) (ap (is_among disk.grown) same ∙ stays) ∙ same)
-  replaced-stays (other ∷ places) spares (suc j) place at stays = replaced-stays places (stand_in (is_among disk.grown other) other spares).1 j place at stays
+  replaced-stays (other ∷ places) spares (suc j) place at stays = replaced-stays places (stand_in (is_among disk.grown other) other
+      spares).1 j place at stays
 
   -- the i-th that is grown has the i-th spare
-  replaced-moves : (places spares : List Place) (j : ℕ) (place spare : Place) → slice_get places j ≡ Some place → is_among disk.grown place ≡ true
-      → slice_get spares (length (filter (is_among disk.grown) (take j places))) ≡ Some spare → slice_get (replaced disk places spares) j ≡ Some spare
+  replaced-moves : (places spares : List Place) (j : ℕ) (place spare : Place) → slice_get places j ≡ Some place
+      → is_among disk.grown place ≡ true
+      → slice_get spares (length (filter (is_among disk.grown) (take j places))) ≡ Some spare
+      → slice_get (replaced disk places spares) j ≡ Some spare
   replaced-moves [] spares j place spare at moves stand = absurd (none-some place at)
   replaced-moves (other ∷ places) [] j place spare at moves stand = absurd (none-some spare stand)
   replaced-moves (other ∷ places) (first ∷ spares) zero place spare at moves stand =
@@ -147,7 +152,11 @@ module _ (disk : Shape) (zone : Zone) (cylinder : ℕ) (at : IsZoneAt disk cylin
         lies = record {
           cylinder_is = refl;
           head = div_below q zone.sectors disk.heads some inside;
-          slot = omega (arith, slots_at-zone disk.zones cylinder zone at.found, mod-lt (offset_in zone disk.heads place.track + q % zone.sectors) some);
+          slot = omega (
+            arith,
+            slots_at-zone disk.zones cylinder zone at.found,
+            mod-lt (offset_in zone disk.heads place.track + q % zone.sectors) some,
+          );
         };
         index = index ∙ ap (λ q. q - rank q defects) (sym (position_in-slot_at zone disk.heads some cylinder q));
         listed = ap (slice_get good) index ∙ goes (is_among disk.defects) slots q place here clean;
@@ -161,20 +170,26 @@ module _ (disk : Shape) (zone : Zone) (cylinder : ℕ) (at : IsZoneAt disk cylin
       subst (IsGood disk zone cylinder k) (same_Some (slot (slipped k defects)) place (sym facts.listed ∙ found)) facts
 
   -- a sector that is on the k-th good slot
-  pub is_good : (j k : ℕ) (place : Place) → IsGoodOf disk zone cylinder j k → slice_get sectors j ≡ Some place → IsGood disk zone cylinder k place
-  is_good j k place on found = subst (IsGood disk zone cylinder k) (same_Some (slot (slipped k defects)) place (sym on.is ∙ found)) (good_facts k on.inside)
+  pub is_good : (j k : ℕ) (place : Place) → IsGoodOf disk zone cylinder j k → slice_get sectors j ≡ Some place
+      → IsGood disk zone cylinder k place
+  is_good j k place on found = subst (IsGood disk zone cylinder k) (same_Some (slot (slipped k defects)) place (sym on.is
+      ∙ found)) (good_facts k on.inside)
 
-  pub on_good : (j k : ℕ) (place : Place) → slice_get sectors j ≡ Some place → slice_get good k ≡ Some place → IsGoodOf disk zone cylinder j k
+  pub on_good : (j k : ℕ) (place : Place) → slice_get sectors j ≡ Some place → slice_get good k ≡ Some place
+      → IsGoodOf disk zone cylinder j k
   on_good j k place found listed =
       let one = kth (is_among disk.defects) slots k (slice_get_within good k place listed) in
-      let below : slipped k defects < disk.heads * zone.sectors = omega (arith, one.0, length-cylinder_slots zone disk.heads some cylinder) in
+      let below : slipped k defects < disk.heads * zone.sectors =
+      omega (arith, one.0, length-cylinder_slots zone disk.heads some cylinder) in
       record { inside = below; is = found ∙ (sym listed ∙ (good_facts k below).listed) }
 
   -- a good slot has the sector that is on it
-  pub holds : (j k : ℕ) (place : Place) → IsGoodOf disk zone cylinder j k → place.track.cylinder ≡ cylinder → place.track.head < disk.heads → place.slot < zone.sectors → is_among disk.defects place ≡ false
+  pub holds : (j k : ℕ) (place : Place) → IsGoodOf disk zone cylinder j k → place.track.cylinder ≡ cylinder → place.track.head < disk.heads
+      → place.slot < zone.sectors → is_among disk.defects place ≡ false
       → k ≡ position place - rank (position place) defects → slice_get sectors j ≡ Some place
   holds j k place on c h l stays index =
-      on.is ∙ (sym (good_facts k on.inside).listed ∙ (ap (slice_get good) index ∙ goes (is_among disk.defects) slots (position place) place (slot_of place c h l).1 stays))
+      on.is ∙ (sym (good_facts k on.inside).listed ∙ (ap (slice_get good) index ∙ goes (is_among disk.defects) slots (position place) place
+      (slot_of place c h l).1 stays))
 
   -- the slots of a track stand together
   track_in_good : (head i : ℕ) → head < disk.heads → i < length (on_track head)
@@ -189,7 +204,9 @@ module _ (disk : Shape) (zone : Zone) (cylinder : ℕ) (at : IsZoneAt disk cylin
       let own = good_track-is zone disk.heads some disk (record { cylinder = cylinder; head = head }) refl in
       let whole : disk.heads * n ≡ first + (n + (disk.heads * n - first - n)) = omega arith in
       let cut : good ≡ front ++ (on_track head ++ rest) =
-      ap (λ m. filter is_good (map slot (range_with_len 0 m))) whole ∙ rw (own, range-append 0 first (n + (disk.heads * n - first - n)), zero_add first) (simp (range-append, map-append, filter-append)) in
+      ap (λ m. filter is_good (map slot (range_with_len 0 m))) whole
+      ∙ rw (own, range-append 0 first (n + (disk.heads * n - first - n)), zero_add first)
+      (simp (range-append, map-append, filter-append)) in
       let before : length front ≡ first - rank first defects = omega (
         arith,
         ap (λ xs. length (filter is_good xs)) (take-map-range_with_len slot 0 (disk.heads * n) first (omega arith)),
@@ -214,7 +231,8 @@ module _ (disk : Shape) (zone : Zone) (cylinder : ℕ) (at : IsZoneAt disk cylin
 
   module _ (layout : disk.layout ≡ PerTrack) where
     pub some_by_track : 0 < size
-    some_by_track = let kept : has_no_data PerTrack disk zone ≡ false = subst (λ layout. has_no_data layout disk zone ≡ false) layout at.holds_data in grind (arith, nat_tests)
+    some_by_track = let kept : has_no_data PerTrack disk zone ≡ false = subst (λ layout. has_no_data layout disk zone ≡ false)
+        layout at.holds_data in grind (arith, nat_tests)
 
     -- the i-th sector of a track is its i-th good slot
     entry : (head i : ℕ) → head < disk.heads → i < size → slice_get sectors (head * size + i) ≡ slice_get (on_track head) i
@@ -229,7 +247,8 @@ module _ (disk : Shape) (zone : Zone) (cylinder : ℕ) (at : IsZoneAt disk cylin
         → IsGoodOf disk zone cylinder j (head * zone.sectors - rank (head * zone.sectors) defects + i)
     place_by_track j head i e h l =
         let slots = on_track head in
-        let inside : i < length slots = omega (arith, length-track disk zone cylinder at head (spares_by PerTrack layout), length-take size slots) in
+        let inside : i < length slots =
+        omega (arith, length-track disk zone cylinder at head (spares_by PerTrack layout), length-take size slots) in
         let one = within slots i inside in
         on_good j (head * zone.sectors - rank (head * zone.sectors) defects + i) one.0
         (ap (slice_get sectors) (sym e) ∙ (entry head i h l ∙ one.1)) (track_in_good head i h inside ∙ one.1)
@@ -238,15 +257,21 @@ module _ (disk : Shape) (zone : Zone) (cylinder : ℕ) (at : IsZoneAt disk cylin
     pub split_by_track : (j : ℕ) → j < length sectors → (j / size < disk.heads) × (j % size < size) × (j / size * size + j % size ≡ j)
         × (j / size * zone.sectors + zone.sectors ≤ disk.heads * zone.sectors)
     split_by_track j h =
-        let on : j / size < disk.heads = div_below j size disk.heads some_by_track (omega (arith, length_by PerTrack layout)) in
-        (on, mod-lt j some_by_track, div-add-mod' j size, omega (arith, mul-le (j / size + 1) zone.sectors disk.heads zone.sectors (omega arith) (omega arith)))
+        let on : j / size < disk.heads = div_below j size disk.heads some_by_track (omega (arith, length_by PerTrack layout)) in (
+          on,
+          mod-lt j some_by_track,
+          div-add-mod' j size,
+          omega (arith, mul-le (j / size + 1) zone.sectors disk.heads zone.sectors (omega arith) (omega arith)),
+        )
 
     pub head_by_track : (j : ℕ) (place : Place) → slice_get sectors j ≡ Some place → place.track.head ≡ j / size
     head_by_track j place found =
         let split = split_by_track j (slice_get_within sectors j place found) in
         let track : Track = record { cylinder = cylinder; head = j / size } in
         let slots = map (λ slot. record { track = track; slot = slot }) (turn zone.sectors (offset_in zone disk.heads track)) in
-        let on = all-filter (λ place. place.track ≡ track) (λ place. not (is_among disk.defects place)) slots (all_map (λ place. place.track ≡ track) (λ slot. record { track = track; slot = slot }) (λ slot. refl) (turn zone.sectors (offset_in zone disk.heads track))) in
+        let on = all-filter (λ place. place.track ≡ track) (λ place. not (is_among disk.defects place)) slots
+        (all_map (λ place. place.track ≡ track) (λ slot. record { track = track; slot = slot }) (λ slot. refl)
+        (turn zone.sectors (offset_in zone disk.heads track))) in
         ap (λ track. track.head) (all_get (λ place. place.track ≡ track) (good_track disk zone track) (j % size) place on
         (sym (entry (j / size) (j % size) split.0 split.1) ∙ (ap (slice_get sectors) split.2 ∙ found)))
 
@@ -280,12 +305,22 @@ module _ (disk : Shape) (zone : Zone) (cylinder : ℕ) (at : IsZoneAt disk cylin
       length-kept (is_among disk.grown) 0 whole,
       kept_and_dropped (is_among disk.grown) whole,
       at_most_each same_place (λ place. place.track.cylinder == cylinder) whole disk.grown
-          (λ d. omega (arith, ap (λ xs. length (filter (λ place. same_place place d) xs)) whole-is, fewer (λ place. same_place place d) (λ place. not (is_among disk.defects place)) slots, once_on_cylinder zone some disk.heads cylinder d)),
+          (λ d. omega (
+            arith,
+            ap (λ xs. length (filter (λ place. same_place place d) xs)) whole-is,
+            fewer (λ place. same_place place d)
+                (λ place. not (is_among disk.defects place)) slots,
+            once_on_cylinder zone some disk.heads cylinder d,
+          )),
     )
 
     -- what is left of the base list, before the spares
-    clean_parts : (filter clean whole ≡ filter clean (take base whole) ++ spares) × (length (filter clean (take base whole)) + rank base grown ≡ base)
-    clean_parts = (ap (filter clean) (sym (take-append-drop base whole)) ∙ filter-append clean (take base whole) (drop base whole), length_front (is_among disk.grown) whole base base_inside)
+    clean_parts : (filter clean whole ≡ filter clean (take base whole) ++ spares)
+        × (length (filter clean (take base whole)) + rank base grown ≡ base)
+    clean_parts = (
+      ap (filter clean) (sym (take-append-drop base whole)) ∙ filter-append clean (take base whole) (drop base whole),
+      length_front (is_among disk.grown) whole base base_inside,
+    )
 
     -- there are as many spares as there are grown entries
     enough : rank base grown ≤ length spares
@@ -303,7 +338,13 @@ module _ (disk : Shape) (zone : Zone) (cylinder : ℕ) (at : IsZoneAt disk cylin
     -- how many grown entries come before one of the base list
     grown_before : (j : ℕ) → j ≤ base → length (filter (is_among disk.grown) (take j (take base whole))) ≡ rank j grown
     grown_before j l = ap (λ xs. length (filter (is_among disk.grown) xs)) (take-take j base whole l)
-        ∙ omega (arith, length_front (is_among disk.grown) whole j (omega (arith, base_inside)), kept_and_dropped (is_among disk.grown) (take j whole), length-take-le j whole (omega (arith, base_inside)))
+        ∙ omega (
+          arith,
+          length_front (is_among disk.grown) whole j (omega (arith, base_inside)),
+          kept_and_dropped (is_among disk.grown)
+              (take j whole),
+          length-take-le j whole (omega (arith, base_inside)),
+        )
 
     -- a sector stays, or moves to the spare that stands in for it
     pub place_by_cylinder : (j : ℕ) → j < length sectors → IsGoodOf disk zone cylinder j (entry_of_sector grown base j)
@@ -321,9 +362,11 @@ module _ (disk : Shape) (zone : Zone) (cylinder : ℕ) (at : IsZoneAt disk cylin
               ∙ (get_right (filter clean (take base whole)) spares (rank j grown) start (omega (arith, clean_parts.1)) ∙ spare.1) in
               let in_whole = kth (is_among disk.grown) whole start (slice_get_within (filter clean whole) start spare.0 in_clean) in
               rw among (on_good j (slipped start grown) spare.0
-              (listed ∙ replaced-moves disk (take base whole) spares j one.0 spare.0 here (sym bad ∙ among) (ap (slice_get spares) (grown_before j (omega arith)) ∙ spare.1))
+              (listed ∙ replaced-moves disk (take base whole) spares j one.0 spare.0 here (sym bad ∙ among)
+              (ap (slice_get spares) (grown_before j (omega arith)) ∙ spare.1))
               (ap (λ xs. slice_get xs (slipped start grown)) (sym whole-is) ∙ (sym in_whole.1 ∙ in_clean)))
-          | inr free ↦ rw free (on_good j j one.0 (listed ∙ replaced-stays disk (take base whole) spares j one.0 here (sym bad ∙ free)) (ap (λ xs. slice_get xs j) (sym whole-is) ∙ one.1))
+          | inr free ↦ rw free (on_good j j one.0 (listed ∙ replaced-stays disk (take base whole) spares j one.0 here (sym bad ∙ free))
+              (ap (λ xs. slice_get xs j) (sym whole-is) ∙ one.1))
         ]
 
     -- a slot of an entry that is not marked is not grown
@@ -333,37 +376,53 @@ module _ (disk : Shape) (zone : Zone) (cylinder : ℕ) (at : IsZoneAt disk cylin
   -- ---- by the layout
 
   -- the index among the good slots of a sector
-  pub placed : (layout : Layout) → disk.layout ≡ layout → (j : ℕ) → j < length sectors → IsGoodOf disk zone cylinder j (good_number layout disk zone cylinder j)
+  pub placed : (layout : Layout) → disk.layout ≡ layout → (j : ℕ) → j < length sectors
+      → IsGoodOf disk zone cylinder j (good_number layout disk zone cylinder j)
   placed PerTrack e j h = let split = split_by_track e j h in place_by_track e j (j / size) (j % size) split.2 split.0 split.1
   placed PerCylinder e j h = place_by_cylinder e j h
 
-  found_at : (layout : Layout) → disk.layout ≡ layout → (j : ℕ) (place : Place) → slice_get sectors j ≡ Some place → IsGood disk zone cylinder (good_number layout disk zone cylinder j) place
-  found_at layout e j place found = is_good j (good_number layout disk zone cylinder j) place (placed layout e j (slice_get_within sectors j place found)) found
+  found_at : (layout : Layout) → disk.layout ≡ layout → (j : ℕ) (place : Place) → slice_get sectors j ≡ Some place
+      → IsGood disk zone cylinder (good_number layout disk zone cylinder j) place
+  found_at layout e j place found = is_good j (good_number layout disk zone cylinder j) place
+      (placed layout e j (slice_get_within sectors j place found)) found
 
   base_of : disk.layout ≡ PerCylinder → (j : ℕ) (place : Place) → slice_get sectors j ≡ Some place → j < base
   base_of e j place found = omega (arith, slice_get_within sectors j place found, length_by PerCylinder e)
 
   -- no place is there twice
-  one_index : (layout : Layout) → disk.layout ≡ layout → (i j : ℕ) (place : Place) → slice_get sectors i ≡ Some place → slice_get sectors j ≡ Some place → i ≡ j
+  one_index : (layout : Layout) → disk.layout ≡ layout → (i j : ℕ) (place : Place) → slice_get sectors i ≡ Some place
+      → slice_get sectors j ≡ Some place → i ≡ j
   one_index PerTrack e i j place found again =
       let same : i / size ≡ j / size = sym (head_by_track e i place found) ∙ head_by_track e j place again in
       let index = (found_at PerTrack e i place found).index ∙ sym (found_at PerTrack e j place again).index in
-      omega (arith, index, div-add-mod' i size, div-add-mod' j size, ap (λ q. q * size) same, ap (λ q. q * zone.sectors - rank (q * zone.sectors) defects) same)
+      omega (
+        arith,
+        index,
+        div-add-mod' i size,
+        div-add-mod' j size,
+        ap (λ q. q * size) same,
+        ap (λ q. q * zone.sectors - rank (q * zone.sectors) defects) same,
+      )
   one_index PerCylinder e i j place found again =
       one_entry grown (grown_ascend e) base i j (base_of e i place found) (base_of e j place again)
       ((found_at PerCylinder e i place found).index ∙ sym (found_at PerCylinder e j place again).index)
 
-  pub one_index_on : (i j : ℕ) (place : Place) → slice_get (data_list disk zone cylinder) i ≡ Some place → slice_get (data_list disk zone cylinder) j ≡ Some place → i ≡ j
-  one_index_on i j place found again = let list = list_by disk.layout refl in one_index disk.layout refl i j place (ap (λ xs. slice_get xs i) list ∙ found) (ap (λ xs. slice_get xs j) list ∙ again)
+  pub one_index_on : (i j : ℕ) (place : Place) → slice_get (data_list disk zone cylinder) i ≡ Some place
+      → slice_get (data_list disk zone cylinder) j ≡ Some place → i ≡ j
+  one_index_on i j place found again = let list = list_by disk.layout refl in
+      one_index disk.layout refl i j place (ap (λ xs. slice_get xs i) list ∙ found) (ap (λ xs. slice_get xs j) list ∙ again)
 
   -- and none is a bad slot
-  clean_entry : (layout : Layout) → disk.layout ≡ layout → (layout ≡ PerTrack → disk.grown ≡ []) → (j : ℕ) (place : Place) → slice_get sectors j ≡ Some place → is_among disk.grown place ≡ false
+  clean_entry : (layout : Layout) → disk.layout ≡ layout → (layout ≡ PerTrack → disk.grown ≡ []) → (j : ℕ) (place : Place)
+      → slice_get sectors j ≡ Some place → is_among disk.grown place ≡ false
   clean_entry PerTrack e fits j place found = ap (λ grown. is_among grown place) (fits refl)
-  clean_entry PerCylinder e fits j place found = sym (not_grown e (good_number PerCylinder disk zone cylinder j) place (found_at PerCylinder e j place found))
+  clean_entry PerCylinder e fits j place found = sym (not_grown e (good_number PerCylinder disk zone cylinder j) place
+      (found_at PerCylinder e j place found))
       ∙ (entry_holds grown (grown_ascend e) base j (base_of e j place found)).0
 
   pub entry_of : (j : ℕ) (place : Place) → slice_get (data_list disk zone cylinder) j ≡ Some place
-      → LiesOn disk cylinder place × (is_among disk.defects place ≡ false) × ((disk.layout ≡ PerTrack → disk.grown ≡ []) → is_among disk.grown place ≡ false)
+      → LiesOn disk cylinder place × (is_among disk.defects place ≡ false) × ((disk.layout ≡ PerTrack → disk.grown ≡ [])
+      → is_among disk.grown place ≡ false)
   entry_of j place found =
       let there = ap (λ xs. slice_get xs j) (list_by disk.layout refl) ∙ found in
       let good = found_at disk.layout refl j place there in
@@ -396,7 +455,12 @@ module _ (disk : Shape) (zone : Zone) (cylinder : ℕ) (at : IsZoneAt disk cylin
       none_by_track layout late = λ j found.
           let head = head_by_track layout j place found in
           let split = split_by_track layout j (slice_get_within sectors j place found) in
-          absurd (omega (arith, (found_at PerTrack layout j place found).index, split.1, ap (λ q. q * zone.sectors - rank (q * zone.sectors) defects) head))
+          absurd (omega (
+            arith,
+            (found_at PerTrack layout j place found).index,
+            split.1,
+            ap (λ q. q * zone.sectors - rank (q * zone.sectors) defects) head,
+          ))
 
       on_slot : (j i : ℕ) → i ≡ k → IsGoodOf disk zone cylinder j i → slice_get sectors j ≡ Some place
       on_slot j i e on = holds j i place on c h l stays (e ∙ is)
@@ -406,7 +470,8 @@ module _ (disk : Shape) (zone : Zone) (cylinder : ℕ) (at : IsZoneAt disk cylin
           let j = place.track.head * size + i in on_slot j (before + i) e (place_by_track layout j place.track.head i refl h early)
 
       -- what is said of the entry in the good list is so of the place
-      pub judged_entry : disk.layout ≡ PerCylinder → (result : Option ℕ) → IfNone result (HoldsNone grown base k) → IfSome result (HoldsSector grown base k) → Holds result
+      pub judged_entry : disk.layout ≡ PerCylinder → (result : Option ℕ) → IfNone result (HoldsNone grown base k)
+          → IfSome result (HoldsSector grown base k) → Holds result
       judged_entry layout None none found_ = λ j found.
           let same = (found_at PerCylinder layout j place found).index ∙ sym is in
           let held_there = entry_holds grown (grown_ascend layout) base j (base_of layout j place found) in

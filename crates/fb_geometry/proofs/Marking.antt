@@ -21,14 +21,16 @@ all_at P xs j d all h = all_get P xs j (get_or xs j d) all (slice_get-get_or xs 
 pub position_at : (marks : List Mark) (i : ℕ) (d : Mark) → i < length marks → get_or (positions marks) i 0 ≡ (get_or marks i d).position
 position_at marks i d h = get_or-map (λ mark. mark.position) marks i d 0 h
 
-pub pairwise_at : {A : Type 0} (R : A → A → Type 0) (xs : List A) (i j : ℕ) (d : A) → Pairwise R xs → i < j → j < length xs → R (get_or xs i d) (get_or xs j d)
+pub pairwise_at : {A : Type 0} (R : A → A → Type 0) (xs : List A) (i j : ℕ) (d : A) → Pairwise R xs → i < j → j < length xs
+    → R (get_or xs i d) (get_or xs j d)
 pairwise_at R [] i j d up l m = absurd (omega arith)
 pairwise_at R (x ∷ xs) i zero d up l m = absurd (omega arith)
 pairwise_at R (x ∷ xs) zero (suc j) d up l m = all_at (R x) xs j d up.0 (omega arith)
 pairwise_at R (x ∷ xs) (suc i) (suc j) d up l m = pairwise_at R xs i j d up.1 (omega arith) (omega arith)
 
 -- elements that stand so to all that follow don't fall
-rises : {A : Type 0} (R : A → A → Type 0) (key : A → ℕ) → ((a b : A) → R a b → key a ≤ key b) → (xs : List A) → Pairwise R xs → IsNonDecreasingBy key xs
+rises : {A : Type 0} (R : A → A → Type 0) (key : A → ℕ) → ((a b : A) → R a b → key a ≤ key b) → (xs : List A) → Pairwise R xs
+    → IsNonDecreasingBy key xs
 rises R key so xs up i j d le h = elim (cases_lt i j) [
   | inl less ↦ so (get_or xs i d) (get_or xs j d) (pairwise_at R xs i j d up less h)
   | inr upto ↦ let same : i ≡ j = omega arith in omega (arith, ap (λ k. key (get_or xs k d)) same)
@@ -39,7 +41,13 @@ cylinders-rise = rises (λ mark later. is_mark_before mark later ≡ true) (λ m
 
 pub positions-rise : (marks : List Mark) → IsAscending (positions marks) → IsNonDecreasingBy (λ mark. mark.position) marks
 positions-rise marks up i j d le h =
-    omega (arith, rises (λ a b. a < b) (λ a. a) (λ a b less. omega arith) (positions marks) up i j 0 le (omega (arith, length-map marks (λ mark. mark.position))), position_at marks i d (omega arith), position_at marks j d h)
+    omega (
+      arith,
+      rises (λ a b. a < b) (λ a. a) (λ a b less. omega arith) (positions marks) up i j 0 le
+          (omega (arith, length-map marks (λ mark. mark.position))),
+      position_at marks i d (omega arith),
+      position_at marks j d h,
+    )
 
 -- ---- the marks of one cylinder
 
@@ -53,32 +61,44 @@ later_on mark (other ∷ marks) all = let rest = later_on mark marks all.1 in el
 
 pub marks_on-ascend : (cylinder : ℕ) (marks : List Mark) → AreInOrder marks → IsAscending (positions (marks_on cylinder marks))
 marks_on-ascend cylinder [] up = tt
-marks_on-ascend cylinder (mark ∷ marks) up = let rest = marks_on-ascend cylinder marks up.1 in elim (cases_Bool (mark.cylinder == cylinder)) [
-  | inl here ↦ rw here (subst (λ c. AllByRecursion (λ later. mark.position < later) (positions (marks_on c marks))) (eqb-true mark.cylinder cylinder here) (later_on mark marks up.0), rest)
-  | inr off ↦ rw off rest
-]
+marks_on-ascend cylinder (mark ∷ marks) up = let rest = marks_on-ascend cylinder marks up.1 in
+    elim (cases_Bool (mark.cylinder == cylinder)) [
+      | inl here ↦ rw here (
+        subst (λ c. AllByRecursion (λ later. mark.position < later) (positions (marks_on c marks)))
+            (eqb-true mark.cylinder cylinder here) (later_on mark marks up.0),
+        rest,
+      )
+      | inr off ↦ rw off rest
+    ]
 
 -- ---- what searches find
 
 -- as many as pass come before the point
-pub point-is : {X : Type 0} (p : X → Bool) (xs : List X) (i : ℕ) → i ≤ length xs → IsPartitionPoint (λ y. p y ≡ true) (λ y. p y ≡ false) xs i → length (filter p xs) ≡ i
+pub point-is : {X : Type 0} (p : X → Bool) (xs : List X) (i : ℕ) → i ≤ length xs
+    → IsPartitionPoint (λ y. p y ≡ true) (λ y. p y ≡ false) xs i → length (filter p xs) ≡ i
 point-is p [] i h at = omega arith
 point-is p (x ∷ xs) zero h at =
     let out : p x ≡ false = at.1 0 x (omega arith) (omega arith) in
-    rw out (point-is p xs 0 (omega arith) (λ k d low high. absurd (omega arith), λ k d low high. at.1 (suc k) d (omega arith) (omega arith)))
+    rw out (point-is p xs 0 (omega arith)
+    (λ k d low high. absurd (omega arith), λ k d low high. at.1 (suc k) d (omega arith) (omega arith)))
 point-is p (x ∷ xs) (suc i) h at =
     let in_ : p x ≡ true = at.0 0 x (omega arith) (omega arith) in
-    rw in_ (ap suc (point-is p xs i (omega arith) (λ k d low high. at.0 (suc k) d (omega arith) (omega arith), λ k d low high. at.1 (suc k) d (omega arith) (omega arith))))
+    rw in_ (ap suc (point-is p xs i (omega arith)
+    (λ k d low high. at.0 (suc k) d (omega arith) (omega arith), λ k d low high. at.1 (suc k) d (omega arith) (omega arith))))
 
-pub length-filter-map : {X Y : Type 0} (p : Y → Bool) (f : X → Y) (xs : List X) → length (filter p (map f xs)) ≡ length (filter (λ x. p (f x)) xs)
+pub length-filter-map : {X Y : Type 0} (p : Y → Bool) (f : X → Y) (xs : List X) → length (filter p (map f xs))
+    ≡ length (filter (λ x. p (f x)) xs)
 length-filter-map p f [] = refl
 length-filter-map p f (x ∷ xs) = elim (cases_Bool (p (f x))) [
   | inl in_ ↦ rw in_ (ap suc (length-filter-map p f xs))
   | inr out ↦ rw out (length-filter-map p f xs)
 ]
 
-pub rank-is : (number : ℕ) (marks : List Mark) (i : ℕ) → i ≤ length marks → IsPartitionPoint (λ mark. nat_lt mark.position number ≡ true) (λ mark. nat_lt mark.position number ≡ false) marks i → i ≡ rank number (positions marks)
-rank-is number marks i h at = sym (length-filter-map (λ passed. nat_lt passed number) (λ mark. mark.position) marks ∙ point-is (λ mark. nat_lt mark.position number) marks i h at)
+pub rank-is : (number : ℕ) (marks : List Mark) (i : ℕ) → i ≤ length marks
+    → IsPartitionPoint (λ mark. nat_lt mark.position number ≡ true) (λ mark. nat_lt mark.position number ≡ false) marks i
+    → i ≡ rank number (positions marks)
+rank-is number marks i h at = sym (length-filter-map (λ passed. nat_lt passed number) (λ mark. mark.position) marks
+    ∙ point-is (λ mark. nat_lt mark.position number) marks i h at)
 
 -- the part of a cylinder, from the point before it to the point behind
 pub part-is : (cylinder : ℕ) (marks : List Mark) (from n : ℕ) → from ≤ length marks → n ≤ length (drop from marks)
@@ -90,13 +110,19 @@ part-is cylinder [] (suc from) n h m low high = absurd (omega arith)
 part-is cylinder [] zero (suc n) h m low high = absurd (omega arith)
 part-is cylinder (mark ∷ marks) zero zero h m low high =
     let off : (mark.cylinder == cylinder) ≡ false = grind (arith, nat_tests, high.1 0 mark (omega arith) (omega arith)) in
-    rw off (part-is cylinder marks zero zero (omega arith) (omega arith) (λ k d l m. absurd (omega arith), λ k d l m. low.1 (suc k) d (omega arith) (omega arith)) (λ k d l m. absurd (omega arith), λ k d l m. high.1 (suc k) d (omega arith) (omega arith)))
+    rw off (part-is cylinder marks zero zero (omega arith) (omega arith)
+    (λ k d l m. absurd (omega arith), λ k d l m. low.1 (suc k) d (omega arith) (omega arith))
+    (λ k d l m. absurd (omega arith), λ k d l m. high.1 (suc k) d (omega arith) (omega arith)))
 part-is cylinder (mark ∷ marks) zero (suc n) h m low high =
-    let here : (mark.cylinder == cylinder) ≡ true = grind (arith, nat_tests, low.1 0 mark (omega arith) (omega arith), high.0 0 mark (omega arith) (omega arith)) in
-    rw here (ap (λ xs. mark ∷ xs) (part-is cylinder marks zero n (omega arith) (omega arith) (λ k d l m. absurd (omega arith), λ k d l m. low.1 (suc k) d (omega arith) (omega arith)) (λ k d l m. high.0 (suc k) d (omega arith) (omega arith), λ k d l m. high.1 (suc k) d (omega arith) (omega arith))))
+    let here : (mark.cylinder == cylinder) ≡ true =
+    grind (arith, nat_tests, low.1 0 mark (omega arith) (omega arith), high.0 0 mark (omega arith) (omega arith)) in
+    rw here (ap (λ xs. mark ∷ xs) (part-is cylinder marks zero n (omega arith) (omega arith)
+    (λ k d l m. absurd (omega arith), λ k d l m. low.1 (suc k) d (omega arith) (omega arith))
+    (λ k d l m. high.0 (suc k) d (omega arith) (omega arith), λ k d l m. high.1 (suc k) d (omega arith) (omega arith))))
 part-is cylinder (mark ∷ marks) (suc from) n h m low high =
     let off : (mark.cylinder == cylinder) ≡ false = grind (arith, nat_tests, low.0 0 mark (omega arith) (omega arith)) in
-    rw off (part-is cylinder marks from n (omega arith) m (λ k d l m. low.0 (suc k) d (omega arith) (omega arith), λ k d l m. low.1 (suc k) d (omega arith) (omega arith)) high)
+    rw off (part-is cylinder marks from n (omega arith) m
+    (λ k d l m. low.0 (suc k) d (omega arith) (omega arith), λ k d l m. low.1 (suc k) d (omega arith) (omega arith)) high)
 
 -- the same, where the rest is known by an equation
 pub part-of : (cylinder : ℕ) (marks rest : List Mark) (from n : ℕ) → rest ≡ drop from marks → from ≤ length marks → n ≤ length rest
@@ -104,15 +130,19 @@ pub part-of : (cylinder : ℕ) (marks rest : List Mark) (from n : ℕ) → rest 
     → IsPartitionPoint (λ mark. nat_le mark.cylinder cylinder ≡ true) (λ mark. nat_le mark.cylinder cylinder ≡ false) rest n
     → take n rest ≡ marks_on cylinder marks
 part-of cylinder marks rest from n e h m low high = subst
-    (λ rest. n ≤ length rest → IsPartitionPoint (λ mark. nat_le mark.cylinder cylinder ≡ true) (λ mark. nat_le mark.cylinder cylinder ≡ false) rest n → take n rest ≡ marks_on cylinder marks)
+    (λ rest. n ≤ length rest → IsPartitionPoint (λ mark. nat_le mark.cylinder cylinder ≡ true) (λ mark. nat_le mark.cylinder cylinder
+    ≡ false) rest n → take n rest ≡ marks_on cylinder marks)
     (sym e) (λ m high. part-is cylinder marks from n h m low high) m high
 
-pub rest-rises : (marks rest : List Mark) (from : ℕ) → AreInOrder marks → rest ≡ drop from marks → IsNonDecreasingBy (λ mark. mark.cylinder) rest
-rest-rises marks rest from up e = subst (λ rest. IsNonDecreasingBy (λ mark. mark.cylinder) rest) (sym e) (IsNonDecreasingBy-drop (λ mark. mark.cylinder) from marks (cylinders-rise marks up))
+pub rest-rises : (marks rest : List Mark) (from : ℕ) → AreInOrder marks → rest ≡ drop from marks
+    → IsNonDecreasingBy (λ mark. mark.cylinder) rest
+rest-rises marks rest from up e = subst (λ rest. IsNonDecreasingBy (λ mark. mark.cylinder) rest) (sym e)
+    (IsNonDecreasingBy-drop (λ mark. mark.cylinder) from marks (cylinders-rise marks up))
 
 -- ---- slipping
 
-pub gaps : (numbers : List ℕ) (i j : ℕ) → IsAscending numbers → i ≤ j → j < length numbers → get_or numbers i 0 + (j - i) ≤ get_or numbers j 0
+pub gaps : (numbers : List ℕ) (i j : ℕ) → IsAscending numbers → i ≤ j → j < length numbers
+    → get_or numbers i 0 + (j - i) ≤ get_or numbers j 0
 gaps numbers i j up le h =
     let first = rank-at i numbers (get_or numbers i 0) up (slice_get-get_or numbers i 0 (omega arith)) in
     let last = rank-at j numbers (get_or numbers j 0) up (slice_get-get_or numbers j 0 h) in
@@ -121,33 +151,48 @@ gaps numbers i j up le h =
       | inr from ↦ omega (arith, first.0, last.0, (rank-step (get_or numbers i 0) (get_or numbers j 0) numbers up from).1)
     ]
 
-pub slipped-is : (number : ℕ) (numbers : List ℕ) (r : ℕ) → r ≤ length numbers → ((i : ℕ) → i < r → get_or numbers i 0 ≤ number + i) → ((i : ℕ) → r ≤ i → i < length numbers → number + i < get_or numbers i 0)
+pub slipped-is : (number : ℕ) (numbers : List ℕ) (r : ℕ) → r ≤ length numbers → ((i : ℕ) → i < r → get_or numbers i 0 ≤ number + i)
+    → ((i : ℕ) → r ≤ i → i < length numbers → number + i < get_or numbers i 0)
     → slipped number numbers ≡ number + r
 slipped-is number [] r h low high = omega arith
-slipped-is number (x ∷ numbers) zero h low high = let here : number < x = omega (arith, high 0 (omega arith) (omega arith)) in rw (lt-ltb number x here) (omega arith)
+slipped-is number (x ∷ numbers) zero h low high = let here : number < x = omega (arith, high 0 (omega arith) (omega arith)) in
+    rw (lt-ltb number x here) (omega arith)
 slipped-is number (x ∷ numbers) (suc r) h low high =
     let on : x ≤ number = omega (arith, low 0 (omega arith)) in
-    rw (le-ltb number x on) (slipped-is (number + 1) numbers r (omega arith) (λ i l. omega (arith, low (suc i) (omega arith))) (λ i l m. omega (arith, high (suc i) (omega arith) (omega arith))) ∙ omega arith)
+    rw (le-ltb number x on) (slipped-is (number + 1) numbers r (omega arith) (λ i l. omega (arith, low (suc i) (omega arith)))
+    (λ i l m. omega (arith, high (suc i) (omega arith) (omega arith))) ∙ omega arith)
 
 -- where a number comes to stand, by the passed one before and the one behind
-pub slipped_at : (number : ℕ) (marks : List Mark) (r : ℕ) → IsAscending (positions marks) → r ≤ length marks → ((i : ℕ) → i + 1 ≡ r → get_or (positions marks) i 0 ≤ number + i)
+pub slipped_at : (number : ℕ) (marks : List Mark) (r : ℕ) → IsAscending (positions marks) → r ≤ length marks
+    → ((i : ℕ) → i + 1 ≡ r → get_or (positions marks) i 0 ≤ number + i)
     → (r < length marks → number + r < get_or (positions marks) r 0) → slipped number (positions marks) ≡ number + r
 slipped_at number marks r up h low high =
     let numbers = positions marks in
     let many : length numbers ≡ length marks = length-map marks (λ mark. mark.position) in
-    slipped-is number numbers r (omega arith) (λ i l. omega (arith, gaps numbers i (r - 1) up (omega arith) (omega arith), low (r - 1) (omega arith))) (λ i l m. omega (arith, gaps numbers r i up l m, high (omega arith)))
+    slipped-is number numbers r (omega arith)
+    (λ i l. omega (arith, gaps numbers i (r - 1) up (omega arith) (omega arith), low (r - 1) (omega arith)))
+    (λ i l m. omega (arith, gaps numbers r i up l m, high (omega arith)))
 
 -- the position at an index
-pub position_get : (marks : List Mark) (i : ℕ) (d : Mark) → i < length marks → slice_get (positions marks) i ≡ Some (get_or marks i d).position
-position_get marks i d h = slice_get-map (λ mark. mark.position) marks i ∙ ap (option_map (λ mark. mark.position)) (slice_get-get_or marks i d h)
+pub position_get : (marks : List Mark) (i : ℕ) (d : Mark) → i < length marks → slice_get (positions marks) i
+    ≡ Some (get_or marks i d).position
+position_get marks i d h = slice_get-map (λ mark. mark.position) marks i ∙ ap (option_map (λ mark. mark.position))
+    (slice_get-get_or marks i d h)
 
 -- the unmarked entries behind the sectors are no more than the marked ones among them
 module _ (marks : List Mark) (up : IsAscending (positions marks)) (sectors entry : ℕ) where
   pub fewer_unmarked : sectors ≤ entry → sectors - rank sectors (positions marks) ≤ entry - rank entry (positions marks)
   fewer_unmarked h = omega (arith, (rank-step sectors entry (positions marks) up h).1, rank-below sectors (positions marks) up)
 
-  pub few_spares : sectors ≤ entry → entry - rank entry (positions marks) < sectors → entry - rank entry (positions marks) - (sectors - rank sectors (positions marks)) < length marks
-  few_spares h few = omega (arith, fewer_unmarked h, rank-le_length sectors (positions marks), rank-below sectors (positions marks) up, length-map marks (λ mark. mark.position))
+  pub few_spares : sectors ≤ entry → entry - rank entry (positions marks) < sectors
+      → entry - rank entry (positions marks) - (sectors - rank sectors (positions marks)) < length marks
+  few_spares h few = omega (
+    arith,
+    fewer_unmarked h,
+    rank-le_length sectors (positions marks),
+    rank-below sectors (positions marks) up,
+    length-map marks (λ mark. mark.position),
+  )
 
 -- the next mark, by how many come before a position
 module _ (marks : List Mark) (up : IsAscending (positions marks)) (start next : ℕ) (e : next ≡ rank start (positions marks)) where
@@ -160,17 +205,24 @@ module _ (marks : List Mark) (up : IsAscending (positions marks)) (start next : 
   pub none_next : next ≡ length marks → (q : ℕ) → start ≤ q → has (positions marks) q ≡ false
   none_next none q from = free_behind (positions marks) up start q (omega (arith, many)) from
 
-  pub next_mark : (d : Mark) → next < length marks → (start ≤ (get_or marks next d).position) × ((q : ℕ) → start ≤ q → q < (get_or marks next d).position → has (positions marks) q ≡ false)
-      × (has (positions marks) start ≡ ((get_or marks next d).position == start)) × (has (positions marks) (get_or marks next d).position ≡ true)
-  next_mark d inside = next_marked (positions marks) up start (get_or marks next d).position (ap (slice_get (positions marks)) (sym e) ∙ position_get marks next d inside)
+  pub next_mark : (d : Mark) → next < length marks → (start ≤ (get_or marks next d).position) × ((q : ℕ) → start ≤ q
+      → q < (get_or marks next d).position → has (positions marks) q ≡ false)
+      × (has (positions marks) start ≡ ((get_or marks next d).position == start))
+      × (has (positions marks) (get_or marks next d).position ≡ true)
+  next_mark d inside = next_marked (positions marks) up start (get_or marks next d).position (ap (slice_get (positions marks)) (sym e)
+      ∙ position_get marks next d inside)
 
 -- the position of a mark is counted in its zone
-pub position_is : (disk : Shape) (zone : Zone) (place : Place) → zone_at disk.zones place.track.cylinder ≡ Some zone → (mark_of disk place).position ≡ position_in zone disk.heads place
+pub position_is : (disk : Shape) (zone : Zone) (place : Place) → zone_at disk.zones place.track.cylinder ≡ Some zone
+    → (mark_of disk place).position ≡ position_in zone disk.heads place
 position_is disk zone place at =
-    ap (λ n. place.track.head * n + (place.slot + n - offset_at disk.zones disk.heads place.track) % n) (slots_at-zone disk.zones place.track.cylinder zone at)
-    ∙ ap (λ offset. place.track.head * zone.sectors + (place.slot + zone.sectors - offset) % zone.sectors) (offset_at_zone disk.zones disk.heads place.track zone at)
+    ap (λ n. place.track.head * n + (place.slot + n - offset_at disk.zones disk.heads place.track) % n)
+    (slots_at-zone disk.zones place.track.cylinder zone at)
+    ∙ ap (λ offset. place.track.head * zone.sectors + (place.slot + zone.sectors - offset) % zone.sectors)
+    (offset_at_zone disk.zones disk.heads place.track zone at)
 
-pub inside_at : (disk : Shape) (places : List Place) (i : ℕ) (d : Place) → find (is_outside disk) places ≡ None → i < length places → is_outside disk (get_or places i d) ≡ false
+pub inside_at : (disk : Shape) (places : List Place) (i : ℕ) (d : Place) → find (is_outside disk) places ≡ None → i < length places
+    → is_outside disk (get_or places i d) ≡ false
 inside_at disk places i d h l = all_at (λ place. is_outside disk place ≡ false) places i d (find-none (is_outside disk) places h) l
 
 -- the order by which marks are sorted
@@ -180,25 +232,37 @@ sorted_by a b = grind (arith, nat_tests)
 -- ---- the place of a mark
 
 -- what inside says
-pub on_disk : (disk : Shape) (place : Place) → is_outside disk place ≡ false → (place.track.cylinder < cylinders_of disk.zones) × (place.track.head < disk.heads) × (place.slot < slots_at disk.zones place.track.cylinder)
+pub on_disk : (disk : Shape) (place : Place) → is_outside disk place ≡ false → (place.track.cylinder < cylinders_of disk.zones)
+    × (place.track.head < disk.heads) × (place.slot < slots_at disk.zones place.track.cylinder)
 on_disk disk place h =
-    let all = not-false (nat_lt place.track.cylinder (cylinders_of disk.zones) && nat_lt place.track.head disk.heads && nat_lt place.slot (slots_at disk.zones place.track.cylinder)) h in
-    let parts = and_parts (nat_lt place.track.cylinder (cylinders_of disk.zones) && nat_lt place.track.head disk.heads) (nat_lt place.slot (slots_at disk.zones place.track.cylinder)) all in
-    let first = and_parts (nat_lt place.track.cylinder (cylinders_of disk.zones)) (nat_lt place.track.head disk.heads) parts.0 in
-    (ltb-true place.track.cylinder (cylinders_of disk.zones) first.0, ltb-true place.track.head disk.heads first.1, ltb-true place.slot (slots_at disk.zones place.track.cylinder) parts.1)
+    let all = not-false (nat_lt place.track.cylinder (cylinders_of disk.zones) && nat_lt place.track.head disk.heads && nat_lt place.slot
+    (slots_at disk.zones place.track.cylinder)) h in
+    let parts = and_parts (nat_lt place.track.cylinder (cylinders_of disk.zones) && nat_lt place.track.head disk.heads)
+    (nat_lt place.slot (slots_at disk.zones place.track.cylinder)) all in
+    let first = and_parts (nat_lt place.track.cylinder (cylinders_of disk.zones)) (nat_lt place.track.head disk.heads) parts.0 in (
+      ltb-true place.track.cylinder (cylinders_of disk.zones) first.0,
+      ltb-true place.track.head disk.heads first.1,
+      ltb-true place.slot
+          (slots_at disk.zones place.track.cylinder) parts.1,
+    )
 
-pub mark_of-slot_at : (disk : Shape) (zone : Zone) (cylinder position : ℕ) → IsZoneOf disk cylinder zone → mark_of disk (slot_at zone disk.heads cylinder position) ≡ record { cylinder = cylinder; position = position }
+pub mark_of-slot_at : (disk : Shape) (zone : Zone) (cylinder position : ℕ) → IsZoneOf disk cylinder zone
+    → mark_of disk (slot_at zone disk.heads cylinder position) ≡ record { cylinder = cylinder; position = position }
 mark_of-slot_at disk zone cylinder position at =
-    ap (λ position. record { cylinder = cylinder; position = position }) (position_is disk zone (slot_at zone disk.heads cylinder position) at.found ∙ position_in-slot_at zone disk.heads at.ranges.some_sectors cylinder position)
+    ap (λ position. record { cylinder = cylinder; position = position })
+    (position_is disk zone (slot_at zone disk.heads cylinder position) at.found ∙ position_in-slot_at zone
+    disk.heads at.ranges.some_sectors cylinder position)
 
 -- a cylinder of the disk has a zone
-pub zone_exists : (disk : Shape) (cylinder : ℕ) → HasZones disk → cylinder < cylinders_of disk.zones → (zone : Zone) × IsZoneOf disk cylinder zone
+pub zone_exists : (disk : Shape) (cylinder : ℕ) → HasZones disk → cylinder < cylinders_of disk.zones → (zone : Zone)
+    × IsZoneOf disk cylinder zone
 zone_exists disk cylinder zones h =
     let one = some_zone 0 0 cylinder disk.zones zones.contiguous (omega arith) h in
     (one.0, found_zone disk zones cylinder one.0 one.1)
 
 -- a mark has one place
-pub mark_of-same : (disk : Shape) (a b : Place) → HasZones disk → is_outside disk a ≡ false → is_outside disk b ≡ false → mark_of disk a ≡ mark_of disk b → a ≡ b
+pub mark_of-same : (disk : Shape) (a b : Place) → HasZones disk → is_outside disk a ≡ false → is_outside disk b ≡ false
+    → mark_of disk a ≡ mark_of disk b → a ≡ b
 mark_of-same disk a b zones h k e =
     let on_a = on_disk disk a h in
     let on_b = on_disk disk b k in
@@ -210,7 +274,8 @@ mark_of-same disk a b zones h k e =
     let position : position_in zone disk.heads a ≡ position_in zone disk.heads b =
     sym (position_is disk zone a one.1.found) ∙ (ap (λ mark. mark.position) e ∙ position_is disk zone b at_b) in
     sym (slot_at-position_in zone disk.heads some a (omega (arith, on_a.2, slots_at-zone disk.zones a.track.cylinder zone one.1.found)))
-    ∙ (ap (λ c. slot_at zone disk.heads c (position_in zone disk.heads a)) cylinder ∙ (ap (slot_at zone disk.heads b.track.cylinder) position
+    ∙ (ap (λ c. slot_at zone disk.heads c (position_in zone disk.heads a)) cylinder
+    ∙ (ap (slot_at zone disk.heads b.track.cylinder) position
     ∙ slot_at-position_in zone disk.heads some b (omega (arith, on_b.2, slots_at-zone disk.zones b.track.cylinder zone at_b))))
 
 -- ---- the others of a clash
@@ -218,15 +283,19 @@ mark_of-same disk a b zones h k e =
 pub same_marks : (a b : Mark) → same_mark a b ≡ true → a ≡ b
 same_marks a b h =
     let parts = and_parts (a.cylinder == b.cylinder) (a.position == b.position) h in
-    ap (λ c. record { cylinder = c; position = a.position }) (eqb-true a.cylinder b.cylinder parts.0) ∙ ap (λ p. record { cylinder = b.cylinder; position = p }) (eqb-true a.position b.position parts.1)
+    ap (λ c. record { cylinder = c; position = a.position }) (eqb-true a.cylinder b.cylinder parts.0)
+    ∙ ap (λ p. record { cylinder = b.cylinder; position = p }) (eqb-true a.position b.position parts.1)
 
 pub same_mark-refl : (a : Mark) → same_mark a a ≡ true
 same_mark-refl a = grind (arith, nat_tests)
 
-pub among-on : (mark : Mark) (others : List Mark) → list_any (λ other. other == mark.position) (positions (marks_on mark.cylinder others)) ≡ list_any (same_mark mark) others
+pub among-on : (mark : Mark) (others : List Mark) → list_any (λ other. other == mark.position) (positions (marks_on mark.cylinder others))
+    ≡ list_any (same_mark mark) others
 among-on mark [] = refl
 among-on mark (other ∷ others) = elim (cases_Bool (other.cylinder == mark.cylinder)) [
-  | inl here ↦ rw (here, turned mark.cylinder other.cylinder ∙ here) (ap (λ b. b || list_any (λ other. other == mark.position) (positions (marks_on mark.cylinder others))) (turned other.position mark.position)
+  | inl here ↦ rw (here, turned mark.cylinder other.cylinder ∙ here)
+      (ap (λ b. b || list_any (λ other. other == mark.position) (positions (marks_on mark.cylinder others)))
+      (turned other.position mark.position)
       ∙ ap (λ b. (mark.position == other.position) || b) (among-on mark others))
   | inr off ↦ rw (off, turned mark.cylinder other.cylinder ∙ off) (among-on mark others)
 ]

@@ -15,7 +15,8 @@ use Rattle.fb_geometry.proofs.{Grid.within}
 abbrev pub has : List ℕ → ℕ → Bool
 has numbers number = list_any (λ other. other == number) numbers
 
-pub all_over : (a b : ℕ) (numbers : List ℕ) → a ≤ b → AllByRecursion (λ later. b < later) numbers → AllByRecursion (λ later. a < later) numbers
+pub all_over : (a b : ℕ) (numbers : List ℕ) → a ≤ b → AllByRecursion (λ later. b < later) numbers
+    → AllByRecursion (λ later. a < later) numbers
 all_over a b numbers h = all_weaker (λ later. b < later) (λ later. a < later) (λ later over. omega arith) numbers
 
 pub not_among_later : (number : ℕ) (numbers : List ℕ) → AllByRecursion (λ later. number < later) numbers → has numbers number ≡ false
@@ -31,18 +32,23 @@ rank_none number [] all = refl
 rank_none number (x ∷ numbers) all = rw (le-ltb x number (omega (arith, all.0))) (rank_none number numbers all.1)
 
 pub rank-le_length : (number : ℕ) (numbers : List ℕ) → rank number numbers ≤ length numbers
-rank-le_length number numbers = omega (arith, length-filter (λ passed. nat_lt passed number) numbers, count_by-le-length (λ passed. nat_lt passed number) numbers)
+rank-le_length number numbers =
+    omega (arith, length-filter (λ passed. nat_lt passed number) numbers, count_by-le-length (λ passed. nat_lt passed number) numbers)
 
 -- one number further a rank is greater by one where the number is among them
-pub rank_next : (number : ℕ) (numbers : List ℕ) → IsAscending numbers → rank (number + 1) numbers ≡ rank number numbers + cond (has numbers number) 1 0
+pub rank_next : (number : ℕ) (numbers : List ℕ) → IsAscending numbers → rank (number + 1) numbers
+    ≡ rank number numbers + cond (has numbers number) 1 0
 rank_next number [] up = refl
 rank_next number (x ∷ numbers) up =
-    let once : x ≡ number → has numbers number ≡ false = λ same. not_among_later number numbers (all_over number x numbers (omega arith) up.0) in
+    let once : x ≡ number → has numbers number ≡ false = λ same. not_among_later number numbers
+    (all_over number x numbers (omega arith) up.0) in
     grind (arith, nat_tests, rank_cons number x numbers, rank_cons (number + 1) x numbers, rank_next number numbers up.1)
 
 -- between two numbers a rank grows by no more than there are numbers between
-rank_on : (a n : ℕ) (numbers : List ℕ) → IsAscending numbers → (rank a numbers ≤ rank (a + n) numbers) × (rank (a + n) numbers ≤ rank a numbers + n)
-rank_on a zero numbers up = let same : rank (a + 0) numbers ≡ rank a numbers = ap (λ b. rank b numbers) (add_zero a) in (omega arith, omega arith)
+rank_on : (a n : ℕ) (numbers : List ℕ) → IsAscending numbers → (rank a numbers ≤ rank (a + n) numbers)
+    × (rank (a + n) numbers ≤ rank a numbers + n)
+rank_on a zero numbers up = let same : rank (a + 0) numbers ≡ rank a numbers = ap (λ b. rank b numbers) (add_zero a) in
+    (omega arith, omega arith)
 rank_on a (suc n) numbers up =
     let next : rank (a + suc n) numbers ≡ rank (a + n + 1) numbers = ap (λ b. rank b numbers) (omega arith) in
     let rest = rank_on a n numbers up in
@@ -51,8 +57,10 @@ rank_on a (suc n) numbers up =
       | inr out ↦ let more = rw out at (rank_next (a + n) numbers up) in (omega arith, omega arith)
     ]
 
-pub rank-step : (a b : ℕ) (numbers : List ℕ) → IsAscending numbers → a ≤ b → (rank a numbers ≤ rank b numbers) × (rank b numbers ≤ rank a numbers + (b - a))
-rank-step a b numbers up h = subst (λ c. (rank a numbers ≤ rank c numbers) × (rank c numbers ≤ rank a numbers + (b - a))) (omega arith) (rank_on a (b - a) numbers up)
+pub rank-step : (a b : ℕ) (numbers : List ℕ) → IsAscending numbers → a ≤ b → (rank a numbers ≤ rank b numbers)
+    × (rank b numbers ≤ rank a numbers + (b - a))
+rank-step a b numbers up h = subst (λ c. (rank a numbers ≤ rank c numbers) × (rank c numbers ≤ rank a numbers + (b - a))) (omega arith)
+    (rank_on a (b - a) numbers up)
 
 pub rank-below : (number : ℕ) (numbers : List ℕ) → IsAscending numbers → rank number numbers ≤ number
 rank-below number numbers up = omega (arith, (rank-step 0 number numbers up (omega arith)).1, rank_zero numbers)
@@ -62,10 +70,12 @@ rank-below number numbers up = omega (arith, (rank-step 0 number numbers up (ome
     rank_zero (x ∷ numbers) = rw (le-ltb x 0 (omega arith)) (rank_zero numbers)
 
 -- a number among them has as many before it as its index says
-pub rank-at : (i : ℕ) (numbers : List ℕ) (q : ℕ) → IsAscending numbers → slice_get numbers i ≡ Some q → (rank q numbers ≡ i) × (has numbers q ≡ true)
+pub rank-at : (i : ℕ) (numbers : List ℕ) (q : ℕ) → IsAscending numbers → slice_get numbers i ≡ Some q
+    → (rank q numbers ≡ i) × (has numbers q ≡ true)
 rank-at i [] q up at = absurd (none-some q at)
 rank-at zero (x ∷ numbers) q up at =
-    subst (λ q. (rank q (x ∷ numbers) ≡ 0) × (has (x ∷ numbers) q ≡ true)) (same_Some x q at) (rw (le-ltb x x (omega arith)) (rank_none x numbers up.0), rw (eq-eqb x x refl) refl)
+    subst (λ q. (rank q (x ∷ numbers) ≡ 0) × (has (x ∷ numbers) q ≡ true)) (same_Some x q at)
+    (rw (le-ltb x x (omega arith)) (rank_none x numbers up.0), rw (eq-eqb x x refl) refl)
 rank-at (suc i) (x ∷ numbers) q up at =
     let rest = rank-at i numbers q up.1 at in
     let less = all_get (λ later. x < later) numbers i q up.0 at in
@@ -74,14 +84,17 @@ rank-at (suc i) (x ∷ numbers) q up at =
 -- one that is among them stands before any behind it, and one that isn't leaves the rank as it is
 module _ (numbers : List ℕ) (up : IsAscending numbers) where
   pub rank_marked : (q b : ℕ) → has numbers q ≡ true → q < b → rank q numbers < rank b numbers
-  rank_marked q b among h = let one = rw among at (rank_next q numbers up) in omega (arith, one, (rank-step (q + 1) b numbers up (omega arith)).0)
+  rank_marked q b among h = let one = rw among at (rank_next q numbers up) in
+      omega (arith, one, (rank-step (q + 1) b numbers up (omega arith)).0)
 
   pub rank_free : (q b : ℕ) → has numbers q ≡ false → q < b → rank b numbers + q < rank q numbers + b
-  rank_free q b free h = let one = rw free at (rank_next q numbers up) in omega (arith, one, (rank-step (q + 1) b numbers up (omega arith)).1)
+  rank_free q b free h = let one = rw free at (rank_next q numbers up) in
+      omega (arith, one, (rank-step (q + 1) b numbers up (omega arith)).1)
 
   -- the next one that is marked is not before the position, and none is marked up to it
   pub next_marked : (start next : ℕ) → slice_get numbers (rank start numbers) ≡ Some next
-      → (start ≤ next) × ((q : ℕ) → start ≤ q → q < next → has numbers q ≡ false) × (has numbers start ≡ (next == start)) × (has numbers next ≡ true)
+      → (start ≤ next) × ((q : ℕ) → start ≤ q → q < next → has numbers q ≡ false) × (has numbers start ≡ (next == start))
+      × (has numbers next ≡ true)
   next_marked start next at = (
     upto,
     free,
@@ -107,14 +120,20 @@ module _ (numbers : List ℕ) (up : IsAscending numbers) where
   -- none is marked behind the last one
   pub free_behind : (position q : ℕ) → length numbers ≤ rank position numbers → position ≤ q → has numbers q ≡ false
   free_behind position q none from = elim (cases_Bool (has numbers q)) [
-    | inl among ↦ absurd (omega (arith, rank_marked q (q + 1) among (omega arith), rank-le_length (q + 1) numbers, (rank-step position q numbers up from).0))
+    | inl among ↦ absurd (omega (
+      arith,
+      rank_marked q (q + 1) among (omega arith),
+      rank-le_length (q + 1) numbers,
+      (rank-step position q numbers up from).0,
+    ))
     | inr free ↦ free
   ]
 
 -- ---- slipping
 
 -- a number slips on by as many as are before the place that it gets to, and to none of them
-slips_to : (number q : ℕ) (numbers : List ℕ) → IsAscending numbers → slipped number numbers ≡ q → (rank q numbers + number ≡ q) × (has numbers q ≡ false)
+slips_to : (number q : ℕ) (numbers : List ℕ) → IsAscending numbers → slipped number numbers ≡ q → (rank q numbers + number ≡ q)
+    × (has numbers q ≡ false)
 slips_to number q [] up e = (omega arith, refl)
 slips_to number q (x ∷ numbers) up e = elim (cases_lt number x) [
   | inl h ↦
@@ -126,7 +145,8 @@ slips_to number q (x ∷ numbers) up e = elim (cases_lt number x) [
       (rw (lt-ltb x q (omega (arith, rest.0))) (omega (arith, rest.0)), rw (ne_eqb x q (λ e. omega (arith, rest.0))) rest.1)
 ]
 
-pub slipped_to : (number : ℕ) (numbers : List ℕ) → IsAscending numbers → (rank (slipped number numbers) numbers + number ≡ slipped number numbers) × (has numbers (slipped number numbers) ≡ false)
+pub slipped_to : (number : ℕ) (numbers : List ℕ) → IsAscending numbers
+    → (rank (slipped number numbers) numbers + number ≡ slipped number numbers) × (has numbers (slipped number numbers) ≡ false)
 slipped_to number numbers up = slips_to number (slipped number numbers) numbers up refl
 
 module _ (numbers : List ℕ) (up : IsAscending numbers) where
@@ -143,19 +163,23 @@ module _ (numbers : List ℕ) (up : IsAscending numbers) where
       ]
 
   -- numbers go on with the positions as long as none is marked
-  pub slipped_on : (k i : ℕ) → ((q : ℕ) → slipped k numbers ≤ q → q < slipped k numbers + i + 1 → has numbers q ≡ false) → slipped (k + i) numbers ≡ slipped k numbers + i
-  slipped_on k i free = slipped_only (k + i) (slipped k numbers + i) (omega (arith, (slipped_to k numbers up).0, flat i (omega arith))) (free (slipped k numbers + i) (omega arith) (omega arith))
+  pub slipped_on : (k i : ℕ) → ((q : ℕ) → slipped k numbers ≤ q → q < slipped k numbers + i + 1 → has numbers q ≡ false)
+      → slipped (k + i) numbers ≡ slipped k numbers + i
+  slipped_on k i free = slipped_only (k + i) (slipped k numbers + i) (omega (arith, (slipped_to k numbers up).0, flat i (omega arith)))
+      (free (slipped k numbers + i) (omega arith) (omega arith))
     where
       flat : (n : ℕ) → n ≤ i → rank (slipped k numbers + n) numbers ≡ rank (slipped k numbers) numbers
       flat zero h = ap (λ b. rank b numbers) (add_zero (slipped k numbers))
-      flat (suc n) h = ap (λ b. rank b numbers) (omega arith) ∙ (rw (free (slipped k numbers + n) (omega arith) (omega arith)) at (rank_next (slipped k numbers + n) numbers up) ∙ (add_zero (rank (slipped k numbers + n) numbers) ∙ flat n (omega arith)))
+      flat (suc n) h = ap (λ b. rank b numbers) (omega arith) ∙ (rw (free (slipped k numbers + n) (omega arith) (omega arith)) at
+          (rank_next (slipped k numbers + n) numbers up) ∙ (add_zero (rank (slipped k numbers + n) numbers) ∙ flat n (omega arith)))
 
 -- ---- the entry of a sector
 
 module _ (marked : List ℕ) (up : IsAscending marked) (sectors : ℕ) where
   -- where a marked sector moves to: behind all that are in use, to an entry that isn't marked
   moves_to : (sector : ℕ) → sector < sectors → has marked sector ≡ true → (entry : ℕ) × (entry_of_sector marked sectors sector ≡ entry)
-      × (has marked entry ≡ false) × (entry - rank entry marked ≡ sectors - rank sectors marked + rank sector marked) × (rank sector marked < rank sectors marked) × (sectors ≤ entry)
+      × (has marked entry ≡ false) × (entry - rank entry marked ≡ sectors - rank sectors marked + rank sector marked)
+      × (rank sector marked < rank sectors marked) × (sectors ≤ entry)
   moves_to sector h among =
       let start = sectors - rank sectors marked + rank sector marked in
       let to = slipped_to start marked up in
@@ -179,12 +203,15 @@ module _ (marked : List ℕ) (up : IsAscending marked) (sectors : ℕ) where
       × (entry_of_sector marked sectors sector - rank (entry_of_sector marked sectors sector) marked < sectors)
   entry_holds sector h = elim (cases_Bool (has marked sector)) [
     | inl among ↦ let to = moves_to sector h among in
-        subst (λ entry. (has marked entry ≡ false) × (entry - rank entry marked < sectors)) (sym to.1) (to.2, omega (arith, rank-below sectors marked up))
-    | inr stays ↦ subst (λ entry. (has marked entry ≡ false) × (entry - rank entry marked < sectors)) (sym (stays_at sector stays)) (stays, omega arith)
+        subst (λ entry. (has marked entry ≡ false) × (entry - rank entry marked < sectors)) (sym to.1)
+        (to.2, omega (arith, rank-below sectors marked up))
+    | inr stays ↦ subst (λ entry. (has marked entry ≡ false) × (entry - rank entry marked < sectors))
+        (sym (stays_at sector stays)) (stays, omega arith)
   ]
 
   -- no two sectors have one entry
-  one_moved : (i j : ℕ) → i < sectors → j < sectors → has marked i ≡ true → entry_of_sector marked sectors i ≡ entry_of_sector marked sectors j → i ≡ j
+  one_moved : (i j : ℕ) → i < sectors → j < sectors → has marked i ≡ true → entry_of_sector marked sectors i
+      ≡ entry_of_sector marked sectors j → i ≡ j
   one_moved i j h k gone same = let to = moves_to i h gone in elim (cases_Bool (has marked j)) [
     | inl moves ↦
         let other = moves_to j k moves in
@@ -209,19 +236,28 @@ module _ (marked : List ℕ) (up : IsAscending marked) (sectors : ℕ) where
   ]
 
   -- what an entry holds has that entry
-  pub held : (entry sector : ℕ) → HoldsSector marked sectors entry sector → (sector < sectors) × (entry_of_sector marked sectors sector ≡ entry)
-  held entry sector (free, inl own) = (omega (arith, own.0, own.1), subst (λ s. entry_of_sector marked sectors s ≡ entry) (sym own.1) (rw free refl))
+  pub held : (entry sector : ℕ) → HoldsSector marked sectors entry sector → (sector < sectors)
+      × (entry_of_sector marked sectors sector ≡ entry)
+  held entry sector (free, inl own) =
+      (omega (arith, own.0, own.1), subst (λ s. entry_of_sector marked sectors s ≡ entry) (sym own.1) (rw free refl))
   held entry sector (free, inr stead) =
       let at = rank-at (entry - rank entry marked - (sectors - rank sectors marked)) marked sector up stead.2 in
       let low = rank-below sectors marked up in
       let more = rank-step sectors entry marked up stead.0 in
-      let below : sector < sectors = elim (cases_lt sector sectors) [ inl l ↦ l | inr back ↦ absurd (omega (arith, (rank-step sectors sector marked up back).0, at.0, stead.1)) ] in
-      (below, rw at.1 (slipped_only marked up (sectors - rank sectors marked + rank sector marked) entry (omega (arith, at.0, rank-below entry marked up)) free))
+      let below : sector < sectors = elim (cases_lt sector sectors) [
+        | inl l ↦ l
+        | inr back ↦ absurd (omega (arith, (rank-step sectors sector marked up back).0, at.0, stead.1))
+      ] in (
+        below,
+        rw at.1 (slipped_only marked up (sectors - rank sectors marked + rank sector marked) entry
+            (omega (arith, at.0, rank-below entry marked up)) free),
+      )
 
 -- ---- what is left of a list where the elements that pass a test are dropped
 
 -- indexes from one on are behind all below it
-pub indexes-over : {A : Type 0} (test : A → Bool) (a index : ℕ) (xs : List A) → a < index → AllByRecursion (λ later. a < later) (indexes test index xs)
+pub indexes-over : {A : Type 0} (test : A → Bool) (a index : ℕ) (xs : List A) → a < index
+    → AllByRecursion (λ later. a < later) (indexes test index xs)
 indexes-over test a index [] h = tt
 indexes-over test a index (x ∷ xs) h = let rest = indexes-over test a (index + 1) xs (omega arith) in
     elim (cases_Bool (test x)) [ inl in_ ↦ rw in_ (h, rest) | inr out ↦ rw out rest ]
@@ -239,24 +275,34 @@ index_passes test a zero (x ∷ xs) = ap (has (indexes test a (x ∷ xs))) (add_
   | inr out ↦ rw out (not_among_later a (indexes test (a + 1) xs) (indexes-over test a (a + 1) xs (omega arith)))
 ]
 index_passes test a (suc i) (x ∷ xs) =
-    let rest : has (indexes test (a + 1) xs) (a + suc i) ≡ get_or (map test xs) i false = ap (has (indexes test (a + 1) xs)) (omega arith) ∙ index_passes test (a + 1) i xs in
+    let rest : has (indexes test (a + 1) xs) (a + suc i) ≡ get_or (map test xs) i false = ap (has (indexes test (a + 1) xs)) (omega arith)
+    ∙ index_passes test (a + 1) i xs in
     elim (cases_Bool (test x)) [ inl in_ ↦ rw (in_, ne_eqb a (a + suc i) (λ e. omega arith)) rest | inr out ↦ rw out rest ]
 
-passes_at : {A : Type 0} (test : A → Bool) (i : ℕ) (xs : List A) → get_or (map test xs) i false ≡ true → (x : A) × (slice_get xs i ≡ Some x) × (test x ≡ true)
+passes_at : {A : Type 0} (test : A → Bool) (i : ℕ) (xs : List A) → get_or (map test xs) i false ≡ true
+    → (x : A) × (slice_get xs i ≡ Some x) × (test x ≡ true)
 passes_at test i [] h = absurd (true≢false (sym h))
 passes_at test zero (x ∷ xs) h = (x, refl, h)
 passes_at test (suc i) (x ∷ xs) h = passes_at test i xs h
 
 -- an element that is kept goes behind those that are kept before it
-kept_to : {A : Type 0} (keep : A → Bool) (i : ℕ) (xs : List A) (x : A) → slice_get xs i ≡ Some x → keep x ≡ true → slice_get (filter keep xs) (length (filter keep (take i xs))) ≡ Some x
+kept_to : {A : Type 0} (keep : A → Bool) (i : ℕ) (xs : List A) (x : A) → slice_get xs i ≡ Some x → keep x ≡ true
+    → slice_get (filter keep xs) (length (filter keep (take i xs))) ≡ Some x
 kept_to keep i [] x at stays = absurd (none-some x at)
 kept_to keep zero (y ∷ xs) x at stays = rw (ap keep (same_Some y x at) ∙ stays) at
-kept_to keep (suc i) (y ∷ xs) x at stays = let rest = kept_to keep i xs x at stays in elim (cases_Bool (keep y)) [ inl in_ ↦ rw in_ rest | inr out ↦ rw out rest ]
+kept_to keep (suc i) (y ∷ xs) x at stays = let rest = kept_to keep i xs x at stays in elim (cases_Bool (keep y)) [
+  | inl in_ ↦ rw in_ rest
+  | inr out ↦ rw out rest
+]
 
 -- the elements that are kept and those that are dropped are all together
-pub length-kept : {A : Type 0} (test : A → Bool) (a : ℕ) (xs : List A) → length (filter (λ x. not (test x)) xs) + length (indexes test a xs) ≡ length xs
+pub length-kept : {A : Type 0} (test : A → Bool) (a : ℕ) (xs : List A)
+    → length (filter (λ x. not (test x)) xs) + length (indexes test a xs) ≡ length xs
 length-kept test a [] = refl
-length-kept test a (x ∷ xs) = let rest = length-kept test (a + 1) xs in elim (cases_Bool (test x)) [ inl out ↦ rw out (omega arith) | inr stays ↦ rw stays (omega arith) ]
+length-kept test a (x ∷ xs) = let rest = length-kept test (a + 1) xs in elim (cases_Bool (test x)) [
+  | inl out ↦ rw out (omega arith)
+  | inr stays ↦ rw stays (omega arith)
+]
 
 module _ {A : Type 0} (test : A → Bool) (xs : List A) where
   abbrev pub numbers : List ℕ
@@ -266,7 +312,8 @@ module _ {A : Type 0} (test : A → Bool) (xs : List A) where
   left = filter (λ x. not (test x)) xs
 
   pub is_marked_at : (i : ℕ) (x : A) → slice_get xs i ≡ Some x → has numbers i ≡ test x
-  is_marked_at i x at = ap (has numbers) (sym (zero_add i)) ∙ (index_passes test 0 i xs ∙ get_or_from_slice_get (map test xs) i (test x) false (slice_get-map test xs i ∙ ap (option_map test) at))
+  is_marked_at i x at = ap (has numbers) (sym (zero_add i)) ∙ (index_passes test 0 i xs ∙ get_or_from_slice_get (map test xs) i (test x)
+      false (slice_get-map test xs i ∙ ap (option_map test) at))
 
   pub index_of : (i : ℕ) → has numbers i ≡ true → (x : A) × (slice_get xs i ≡ Some x) × (test x ≡ true)
   index_of i h = passes_at test i xs (sym (index_passes test 0 i xs) ∙ (ap (has numbers) (zero_add i) ∙ h))
@@ -290,12 +337,16 @@ module _ {A : Type 0} (test : A → Bool) (xs : List A) where
 
   -- where one that is left goes
   pub goes : (i : ℕ) (x : A) → slice_get xs i ≡ Some x → test x ≡ false → slice_get left (i - rank i numbers) ≡ Some x
-  goes i x at stays = subst (λ k. slice_get left k ≡ Some x) (omega (arith, length_front i (omega (arith, slice_get_within xs i x at)))) (kept_to (λ x. not (test x)) i xs x at (rw stays refl))
+  goes i x at stays = subst (λ k. slice_get left k ≡ Some x) (omega (arith, length_front i (omega (arith, slice_get_within xs i x at))))
+      (kept_to (λ x. not (test x)) i xs x at (rw stays refl))
 
   -- the k-th that is left
   pub kth : (k : ℕ) → k < length left → (slipped k numbers < length xs) × (slice_get left k ≡ slice_get xs (slipped k numbers))
   kth k h =
       let to = slipped_to k numbers up in
       let inside : slipped k numbers < length xs = omega (arith, to.0, rank-le_length (slipped k numbers) numbers, length-kept test 0 xs) in
-      let one = within xs (slipped k numbers) inside in
-      (inside, ap (slice_get left) (omega (arith, to.0)) ∙ (goes (slipped k numbers) one.0 one.1 (sym (is_marked_at (slipped k numbers) one.0 one.1) ∙ to.1) ∙ sym one.1))
+      let one = within xs (slipped k numbers) inside in (
+        inside,
+        ap (slice_get left) (omega (arith, to.0))
+            ∙ (goes (slipped k numbers) one.0 one.1 (sym (is_marked_at (slipped k numbers) one.0 one.1) ∙ to.1) ∙ sym one.1),
+      )

@@ -19,19 +19,24 @@ round_behind a n from upto = ap (λ x. x % n) (turned a n from) ∙ (add-mod_lef
 -- forward by an offset, and back again
 pub round-back : (offset i n : ℕ) → offset < n → i < n → ((offset + i) % n + n - offset) % n ≡ i
 round-back offset i n o h = elim (cases_lt (offset + i) n) [
-  | inl near ↦ ap (λ x. (x + n - offset) % n) (mod-eq_of_lt near) ∙ (round_behind (offset + i + n - offset) n (omega arith) (omega arith) ∙ omega arith)
-  | inr far ↦ ap (λ x. (x + n - offset) % n) (round_behind (offset + i) n far (omega arith)) ∙ (ap (λ x. x % n) (omega arith) ∙ mod-eq_of_lt h)
+  | inl near ↦ ap (λ x. (x + n - offset) % n) (mod-eq_of_lt near) ∙ (round_behind (offset + i + n - offset) n (omega arith)
+      (omega arith) ∙ omega arith)
+  | inr far ↦ ap (λ x. (x + n - offset) % n) (round_behind (offset + i) n far (omega arith))
+      ∙ (ap (λ x. x % n) (omega arith) ∙ mod-eq_of_lt h)
 ]
 
 pub round-forward : (offset slot n : ℕ) → offset < n → slot < n → (offset + (slot + n - offset) % n) % n ≡ slot
 round-forward offset slot n o h = elim (cases_lt slot offset) [
-  | inl before ↦ ap (λ x. (offset + x) % n) (mod-eq_of_lt (omega arith)) ∙ (round_behind (offset + (slot + n - offset)) n (omega arith) (omega arith) ∙ omega arith)
-  | inr after ↦ ap (λ x. (offset + x) % n) (round_behind (slot + n - offset) n (omega arith) (omega arith)) ∙ (ap (λ x. x % n) (omega arith) ∙ mod-eq_of_lt h)
+  | inl before ↦ ap (λ x. (offset + x) % n) (mod-eq_of_lt (omega arith)) ∙ (round_behind (offset + (slot + n - offset)) n (omega arith)
+      (omega arith) ∙ omega arith)
+  | inr after ↦ ap (λ x. (offset + x) % n) (round_behind (slot + n - offset) n (omega arith) (omega arith))
+      ∙ (ap (λ x. x % n) (omega arith) ∙ mod-eq_of_lt h)
 ]
 
 -- ---- ranges
 
-map-ranges : {X : Type 0} (f g : ℕ → X) (a b n : ℕ) → ((i : ℕ) → i < n → f (a + i) ≡ g (b + i)) → map f (range_with_len a n) ≡ map g (range_with_len b n)
+map-ranges : {X : Type 0} (f g : ℕ → X) (a b n : ℕ) → ((i : ℕ) → i < n → f (a + i) ≡ g (b + i)) → map f (range_with_len a n)
+    ≡ map g (range_with_len b n)
 map-ranges f g a b zero same = refl
 map-ranges f g a b (suc n) same =
     let head : f a ≡ g b = ap f (sym (add_zero a)) ∙ (same 0 (omega arith) ∙ ap g (add_zero b)) in
@@ -41,14 +46,16 @@ map-ranges f g a b (suc n) same =
 
 pub range-append : (a m n : ℕ) → range_with_len a (m + n) ≡ range_with_len a m ++ range_with_len (a + m) n
 range-append a zero n = ap (range_with_len a) (zero_add n) ∙ ap (λ x. range_with_len x n) (sym (add_zero a))
-range-append a (suc m) n = ap (range_with_len a) (suc_add m n) ∙ ap (λ xs. a ∷ xs) (range-append (a + 1) m n ∙ ap (λ x. range_with_len (a + 1) m ++ range_with_len x n) (omega arith))
+range-append a (suc m) n = ap (range_with_len a) (suc_add m n) ∙ ap (λ xs. a ∷ xs) (range-append (a + 1) m n
+    ∙ ap (λ x. range_with_len (a + 1) m ++ range_with_len x n) (omega arith))
   where
     suc_add : (m n : ℕ) → suc m + n ≡ suc (m + n)
     suc_add m n = omega arith
 
 -- ---- positions and places
 
-pub filter-flat_map : {X A : Type 0} (p : A → Bool) (f : X → List A) (xs : List X) → flat_map (λ x. filter p (f x)) xs ≡ filter p (flat_map f xs)
+pub filter-flat_map : {X A : Type 0} (p : A → Bool) (f : X → List A) (xs : List X) → flat_map (λ x. filter p (f x)) xs
+    ≡ filter p (flat_map f xs)
 filter-flat_map p f [] = refl
 filter-flat_map p f (x ∷ xs) = ap (λ ys. filter p (f x) ++ ys) (filter-flat_map p f xs) ∙ sym (filter-append p (f x) (flat_map f xs))
 
@@ -57,42 +64,66 @@ flat_map-same f g same [] = refl
 flat_map-same f g same (x ∷ xs) = ap (λ ys. ys ++ flat_map f xs) (same x) ∙ ap (λ ys. g x ++ ys) (flat_map-same f g same xs)
 
 -- parts of one length, one after another
-flat-ranges : {A : Type 0} (g : ℕ → A) (n a h : ℕ) → flat_map (λ k. map g (range_with_len (k * n) n)) (range_with_len a h) ≡ map g (range_with_len (a * n) (h * n))
+flat-ranges : {A : Type 0} (g : ℕ → A) (n a h : ℕ) → flat_map (λ k. map g (range_with_len (k * n) n)) (range_with_len a h)
+    ≡ map g (range_with_len (a * n) (h * n))
 flat-ranges g n a zero = let none : 0 ≡ 0 * n = omega arith in ap (λ m. map g (range_with_len (a * n) m)) none
 flat-ranges g n a (suc h) =
     let next : (a + 1) * n ≡ a * n + n = omega arith in
     let more : n + h * n ≡ suc h * n = omega arith in
     ap (λ xs. map g (range_with_len (a * n) n) ++ xs) (flat-ranges g n (a + 1) h ∙ ap (λ b. map g (range_with_len b (h * n))) next)
-    ∙ (sym (map-append g (range_with_len (a * n) n) (range_with_len (a * n + n) (h * n))) ∙ ap (map g) (sym (range-append (a * n) n (h * n)) ∙ ap (range_with_len (a * n)) more))
+    ∙ (sym (map-append g (range_with_len (a * n) n) (range_with_len (a * n + n) (h * n))) ∙ ap (map g) (sym (range-append (a * n) n (h * n))
+    ∙ ap (range_with_len (a * n)) more))
 
 module _ (zone : Zone) (heads : ℕ) (some : 0 < zone.sectors) where
   -- the place at a position of a track
   pub slot_on : (cylinder head i : ℕ) → i < zone.sectors → slot_at zone heads cylinder (head * zone.sectors + i)
-      ≡ record { track = record { cylinder = cylinder; head = head }; slot = (offset_in zone heads (record { cylinder = cylinder; head = head }) + i) % zone.sectors }
+      ≡ record {
+        track = record { cylinder = cylinder; head = head };
+        slot = (offset_in zone heads (record { cylinder = cylinder; head = head }) + i) % zone.sectors;
+      }
   slot_on cylinder head i h =
-      ap (λ k. record { track = record { cylinder = cylinder; head = k }; slot = (offset_in zone heads (record { cylinder = cylinder; head = k }) + (head * zone.sectors + i) % zone.sectors) % zone.sectors }) (div-mul-add head zone.sectors i h)
-      ∙ ap (λ r. record { track = record { cylinder = cylinder; head = head }; slot = (offset_in zone heads (record { cylinder = cylinder; head = head }) + r) % zone.sectors }) (mod-mul-add head zone.sectors i h)
+      ap (λ k. record {
+        track = record { cylinder = cylinder; head = k };
+        slot = (offset_in zone heads (record { cylinder = cylinder; head = k }) + (head * zone.sectors + i) % zone.sectors)
+            % zone.sectors;
+      }) (div-mul-add head zone.sectors i h)
+      ∙ ap (λ r. record {
+        track = record { cylinder = cylinder; head = head };
+        slot = (offset_in zone heads (record { cylinder = cylinder; head = head }) + r) % zone.sectors;
+      }) (mod-mul-add head zone.sectors i h)
 
   pub offset_below : (track : Track) → offset_in zone heads track < zone.sectors
-  offset_below track = mod-lt ((track.cylinder - zone.first) * (zone.cylinder_skew + (heads - 1) * zone.track_skew) + track.head * zone.track_skew) some
+  offset_below track =
+      mod-lt ((track.cylinder - zone.first) * (zone.cylinder_skew + (heads - 1) * zone.track_skew) + track.head * zone.track_skew) some
 
   -- the position of the place at a position
   pub position_in-slot_at : (cylinder position : ℕ) → position_in zone heads (slot_at zone heads cylinder position) ≡ position
   position_in-slot_at cylinder position =
-      ap (λ x. position / zone.sectors * zone.sectors + x) (round-back (offset_in zone heads (record { cylinder = cylinder; head = position / zone.sectors })) (position % zone.sectors) zone.sectors (offset_below (record { cylinder = cylinder; head = position / zone.sectors })) (mod-lt position some))
+      ap (λ x. position / zone.sectors * zone.sectors + x)
+      (round-back (offset_in zone heads (record { cylinder = cylinder; head = position / zone.sectors })) (position % zone.sectors)
+      zone.sectors (offset_below (record { cylinder = cylinder; head = position / zone.sectors })) (mod-lt position some))
       ∙ div-add-mod' position zone.sectors
 
   -- the place at the position of a place
-  pub slot_at-position_in : (place : Place) → place.slot < zone.sectors → slot_at zone heads place.track.cylinder (position_in zone heads place) ≡ place
+  pub slot_at-position_in : (place : Place) → place.slot < zone.sectors
+      → slot_at zone heads place.track.cylinder (position_in zone heads place) ≡ place
   slot_at-position_in place h =
-      slot_on place.track.cylinder place.track.head ((place.slot + zone.sectors - offset_in zone heads place.track) % zone.sectors) (mod-lt (place.slot + zone.sectors - offset_in zone heads place.track) some)
-      ∙ ap (λ slot. record { track = place.track; slot = slot }) (round-forward (offset_in zone heads place.track) place.slot zone.sectors (offset_below place.track) h)
+      slot_on place.track.cylinder place.track.head ((place.slot + zone.sectors - offset_in zone heads place.track) % zone.sectors)
+      (mod-lt (place.slot + zone.sectors - offset_in zone heads place.track) some)
+      ∙ ap (λ slot. record { track = place.track; slot = slot }) (round-forward (offset_in zone heads place.track) place.slot zone.sectors
+      (offset_below place.track) h)
 
   pub position_below : (place : Place) → place.track.head < heads → position_in zone heads place < heads * zone.sectors
-  position_below place h = omega (arith, mul-add-lt place.track.head zone.sectors ((place.slot + zone.sectors - offset_in zone heads place.track) % zone.sectors) heads h (mod-lt (place.slot + zone.sectors - offset_in zone heads place.track) some))
+  position_below place h = omega (
+    arith,
+    mul-add-lt place.track.head zone.sectors
+        ((place.slot + zone.sectors - offset_in zone heads place.track) % zone.sectors) heads h
+        (mod-lt (place.slot + zone.sectors - offset_in zone heads place.track) some),
+  )
 
   -- the turn of a track
-  turn_slots : (track : Track) → map (λ slot. record { track = track; slot = slot }) (turn zone.sectors (offset_in zone heads track)) ≡ map (slot_at zone heads track.cylinder) (range_with_len (track.head * zone.sectors) zone.sectors)
+  turn_slots : (track : Track) → map (λ slot. record { track = track; slot = slot }) (turn zone.sectors (offset_in zone heads track))
+      ≡ map (slot_at zone heads track.cylinder) (range_with_len (track.head * zone.sectors) zone.sectors)
   turn_slots track =
       let n = zone.sectors in
       let offset = offset_in zone heads track in
@@ -101,17 +132,23 @@ module _ (zone : Zone) (heads : ℕ) (some : 0 < zone.sectors) where
       let of = λ (slot : ℕ). let place : Place = record { track = track; slot = slot } in place in
       let slot = slot_at zone heads track.cylinder in
       let whole : n ≡ n - offset + offset = omega arith in
-      let near = map-ranges of slot offset first (n - offset) (λ i l. sym (slot_on track.cylinder track.head i (omega arith) ∙ ap of (mod-eq_of_lt (omega arith)))) in
+      let near = map-ranges of slot offset first (n - offset) (λ i l. sym (slot_on track.cylinder track.head i (omega arith)
+      ∙ ap of (mod-eq_of_lt (omega arith)))) in
       let far = map-ranges of slot 0 (first + (n - offset)) offset (λ i l.
       sym (ap slot (let sum : first + (n - offset) + i ≡ first + (n - offset + i) = omega arith in sum)
-      ∙ (slot_on track.cylinder track.head (n - offset + i) (omega arith) ∙ ap of (round_behind (offset + (n - offset + i)) n (omega arith) (omega arith) ∙ omega arith)))) in
-      map-append of (range_with_len offset (n - offset)) (range_with_len 0 offset) ∙ (ap (λ xs. xs ++ map of (range_with_len 0 offset)) near ∙ (ap (λ xs. map slot (range_with_len first (n - offset)) ++ xs) far
-      ∙ sym (ap (λ m. map slot (range_with_len first m)) whole ∙ (ap (map slot) (range-append first (n - offset) offset) ∙ map-append slot (range_with_len first (n - offset)) (range_with_len (first + (n - offset)) offset)))))
+      ∙ (slot_on track.cylinder track.head (n - offset + i) (omega arith) ∙ ap of (round_behind (offset + (n - offset + i)) n (omega arith)
+      (omega arith) ∙ omega arith)))) in
+      map-append of (range_with_len offset (n - offset)) (range_with_len 0 offset) ∙ (ap (λ xs. xs ++ map of (range_with_len 0 offset)) near
+      ∙ (ap (λ xs. map slot (range_with_len first (n - offset)) ++ xs) far
+      ∙ sym (ap (λ m. map slot (range_with_len first m)) whole ∙ (ap (map slot) (range-append first (n - offset) offset)
+      ∙ map-append slot (range_with_len first (n - offset)) (range_with_len (first + (n - offset)) offset)))))
 
   -- the good slots of a track are those of its part of the cylinder
   pub good_track-is : (disk : Shape) (track : Track) → disk.heads ≡ heads → good_track disk zone track
-      ≡ filter (λ place. not (is_among disk.defects place)) (map (slot_at zone heads track.cylinder) (range_with_len (track.head * zone.sectors) zone.sectors))
-  good_track-is disk track e = ap (λ h. filter (λ place. not (is_among disk.defects place)) (map (λ slot. record { track = track; slot = slot }) (turn zone.sectors (offset_in zone h track)))) e
+      ≡ filter (λ place. not (is_among disk.defects place)) (map (slot_at zone heads track.cylinder)
+      (range_with_len (track.head * zone.sectors) zone.sectors))
+  good_track-is disk track e = ap (λ h. filter (λ place. not (is_among disk.defects place))
+      (map (λ slot. record { track = track; slot = slot }) (turn zone.sectors (offset_in zone h track)))) e
       ∙ ap (filter (λ place. not (is_among disk.defects place))) (turn_slots track)
 
   -- the good slots of a cylinder
@@ -119,15 +156,20 @@ module _ (zone : Zone) (heads : ℕ) (some : 0 < zone.sectors) where
       ≡ filter (λ place. not (is_among disk.defects place)) (cylinder_slots zone heads cylinder)
   good_cylinder-is disk cylinder e =
       flat_map-same (λ head. good_track disk zone (record { cylinder = cylinder; head = head }))
-      (λ head. filter (λ place. not (is_among disk.defects place)) (map (slot_at zone heads cylinder) (range_with_len (head * zone.sectors) zone.sectors)))
+      (λ head. filter (λ place. not (is_among disk.defects place)) (map (slot_at zone heads cylinder)
+      (range_with_len (head * zone.sectors) zone.sectors)))
       (λ head. good_track-is disk (record { cylinder = cylinder; head = head }) e) (range_with_len 0 disk.heads)
-      ∙ (filter-flat_map (λ place. not (is_among disk.defects place)) (λ head. map (slot_at zone heads cylinder) (range_with_len (head * zone.sectors) zone.sectors)) (range_with_len 0 disk.heads)
+      ∙ (filter-flat_map (λ place. not (is_among disk.defects place)) (λ head. map (slot_at zone heads cylinder)
+      (range_with_len (head * zone.sectors) zone.sectors)) (range_with_len 0 disk.heads)
       ∙ ap (filter (λ place. not (is_among disk.defects place))) (flat-ranges (slot_at zone heads cylinder) zone.sectors 0 disk.heads
-      ∙ (ap (λ h. map (slot_at zone heads cylinder) (range_with_len (0 * zone.sectors) (h * zone.sectors))) e ∙ ap (λ a. map (slot_at zone heads cylinder) (range_with_len a (heads * zone.sectors))) (let zero_mul : 0 * zone.sectors ≡ 0 = omega arith in zero_mul))))
+      ∙ (ap (λ h. map (slot_at zone heads cylinder) (range_with_len (0 * zone.sectors) (h * zone.sectors))) e
+      ∙ ap (λ a. map (slot_at zone heads cylinder) (range_with_len a (heads * zone.sectors))) (let zero_mul : 0 * zone.sectors ≡ 0 =
+      omega arith in zero_mul))))
 
   pub length-cylinder_slots : (cylinder : ℕ) → length (cylinder_slots zone heads cylinder) ≡ heads * zone.sectors
   length-cylinder_slots cylinder = length-map-range_with_len (slot_at zone heads cylinder) 0 (heads * zone.sectors)
 
-  pub get-cylinder_slots : (cylinder position : ℕ) → position < heads * zone.sectors → slice_get (cylinder_slots zone heads cylinder) position ≡ Some (slot_at zone heads cylinder position)
+  pub get-cylinder_slots : (cylinder position : ℕ) → position < heads * zone.sectors
+      → slice_get (cylinder_slots zone heads cylinder) position ≡ Some (slot_at zone heads cylinder position)
   get-cylinder_slots cylinder position h = slice_get-map (slot_at zone heads cylinder) (range_with_len 0 (heads * zone.sectors)) position
       ∙ ap (option_map (slot_at zone heads cylinder)) (get_range 0 (heads * zone.sectors) position h ∙ ap Some (omega arith))

@@ -1,5 +1,6 @@
 -- Why an outline is refused: its first fault in a fixed order.
-use Rattle.std.specs.Prelude.{◌≡◌, ℕ, ◌+◌, ◌*◌, ◌^◌, List, [], ◌∷◌, ◌++◌, length, Bool, true, false, ◌&&◌, ◌||◌, not, ◌==◌, nat_lt, nat_le, Option, Some, None, Result, Ok, Err, if◌then◌else◌, map, filter, find, position}
+use Rattle.std.specs.Prelude.{◌≡◌, ℕ, ◌+◌, ◌*◌, ◌^◌, List, [], ◌∷◌, ◌++◌, length, Bool, true, false, ◌&&◌, ◌||◌, not, ◌==◌, nat_lt, nat_le}
+use Rattle.std.specs.Prelude.{Option, Some, None, Result, Ok, Err, if◌then◌else◌, map, filter, find, position}
 use Rattle.std.specs.List.{list_any}
 use Rattle.fb_units.specs.declared.types.Place.{Place}
 use Rattle.fb_units.specs.declared.types.Track.{Track}
@@ -8,7 +9,9 @@ use Rattle.fb_geometry.specs.declared.layout.Layout.{Layout}
 use Rattle.fb_geometry.specs.declared.layout.Layout.TheVariants.{PerTrack, PerCylinder}
 use Rattle.fb_geometry.specs.declared.zone.Zone.{Zone}
 use Rattle.fb_geometry.specs.declared.fault.GeometryFault.{GeometryFault}
-use Rattle.fb_geometry.specs.declared.fault.GeometryFault.TheVariants.{OutOfRange, ZonesNotContiguous, SkewTooLarge, DefectOutside, DefectTwice, TooManyDefects, GrownOutside, GrownTwice, TooManyInCylinder}
+use Rattle.fb_geometry.specs.declared.fault.GeometryFault.TheVariants.{OutOfRange, ZonesNotContiguous, SkewTooLarge, DefectOutside}
+use Rattle.fb_geometry.specs.declared.fault.GeometryFault.TheVariants.{DefectTwice, TooManyDefects, GrownOutside, GrownTwice}
+use Rattle.fb_geometry.specs.declared.fault.GeometryFault.TheVariants.{TooManyInCylinder}
 use Rattle.fb_geometry.specs.declared.fault.GeometryError.{GeometryError}
 use Rattle.fb_geometry.specs.declared.fault.GeometryError.TheVariants.{Fault, NoMemory}
 use Rattle.fb_geometry.specs.Shape.{Shape, slots_at, cylinders_of, is_among}
@@ -83,12 +86,14 @@ cylinder_spares_at (zone ∷ zones) cylinder = if nat_le cylinder zone.last then
 
 -- the track has more defects than spares
 abbrev pub is_full_track : Shape → Track → Bool
-is_full_track disk track = nat_lt (spares_at disk.zones track.cylinder) (length (filter (λ place. same_track track place.track) disk.defects))
+is_full_track disk track = nat_lt (spares_at disk.zones track.cylinder)
+    (length (filter (λ place. same_track track place.track) disk.defects))
 
 -- the cylinder has more defects and grown defects together than spares
 abbrev pub is_full_cylinder : Shape → ℕ → Bool
 is_full_cylinder disk cylinder =
-    nat_lt (cylinder_spares_at disk.zones cylinder) (length (filter (λ place. place.track.cylinder == cylinder) (disk.defects ++ disk.grown)))
+    nat_lt (cylinder_spares_at disk.zones cylinder)
+    (length (filter (λ place. place.track.cylinder == cylinder) (disk.defects ++ disk.grown)))
 
 -- the first of two faults, if there is any
 abbrev pub or_else : Option GeometryFault → Option GeometryFault → Option GeometryFault
@@ -102,11 +107,13 @@ fault_at fault (Some a) = Some (fault a)
 
 -- the first fault of the spares, in each layout, and of the grown defects
 abbrev pub spare_fault : Layout → Shape → Option GeometryFault
-spare_fault PerTrack disk = fault_at TooManyDefects (least is_track_before (filter (is_full_track disk) (map (λ place. place.track) disk.defects)))
+spare_fault PerTrack disk = fault_at TooManyDefects
+    (least is_track_before (filter (is_full_track disk) (map (λ place. place.track) disk.defects)))
 spare_fault PerCylinder disk =
     or_else (fault_at GrownOutside (find (is_outside disk) disk.grown))
     (or_else (fault_at GrownTwice (least is_place_before (repeated disk.grown ++ filter (is_among disk.defects) disk.grown)))
-    (fault_at TooManyInCylinder (least nat_lt (filter (is_full_cylinder disk) (map (λ place. place.track.cylinder) (disk.defects ++ disk.grown))))))
+    (fault_at TooManyInCylinder (least nat_lt (filter (is_full_cylinder disk) (map (λ place. place.track.cylinder)
+    (disk.defects ++ disk.grown))))))
 
 -- the fault of a number that is out of its range, if one is
 abbrev pub range_fault : Shape → Option GeometryFault

@@ -1,8 +1,10 @@
 -- What holds of a geometry in memory: its outline has no fault, and its index of bad slots agrees with it.
-use Rattle.std.specs.Prelude.{◌≡◌, ℕ, List, [], ◌++◌, Option, Some, None, Result, Ok, Err, false, find, filter, position, ◌-◌, ◌*◌, ◌<◌, slice_get}
+use Rattle.std.specs.Prelude.{◌≡◌, ℕ, List, [], ◌++◌, Option, Some, None, Result, Ok, Err, false, find, filter, position, ◌-◌, ◌*◌, ◌<◌}
+use Rattle.std.specs.Prelude.{slice_get}
 use Rattle.fb_units.specs.declared.types.Place.{Place}
 use Rattle.fb_geometry.specs.declared.fault.GeometryFault.{GeometryFault}
-use Rattle.fb_geometry.specs.declared.fault.GeometryFault.TheVariants.{ZonesNotContiguous, SkewTooLarge, DefectOutside, DefectTwice, GrownOutside, GrownTwice}
+use Rattle.fb_geometry.specs.declared.fault.GeometryFault.TheVariants.{ZonesNotContiguous, SkewTooLarge, DefectOutside, DefectTwice}
+use Rattle.fb_geometry.specs.declared.fault.GeometryFault.TheVariants.{GrownOutside, GrownTwice}
 use Rattle.fb_geometry.specs.declared.fault.GeometryError.{GeometryError}
 use Rattle.fb_geometry.specs.declared.fault.GeometryError.TheVariants.{Fault, NoMemory}
 use Rattle.fb_geometry.specs.declared.layout.Layout.TheVariants.{PerTrack}
@@ -10,7 +12,8 @@ use Rattle.fb_geometry.specs.declared.zone.Zone.{Zone}
 use Rattle.fb_geometry.specs.declared.marks.Mark.{Mark}
 use Rattle.fb_geometry.specs.Shape.{Shape, is_among}
 use Rattle.fb_geometry.specs.Places.{by_head, good_track, data_list_at}
-use Rattle.fb_geometry.specs.Faults.{or_else, fault_at, range_fault, is_out_of_range, first_apart, is_too_skewed, is_outside, least, is_place_before, repeated, spare_fault}
+use Rattle.fb_geometry.specs.Faults.{or_else, fault_at, range_fault, is_out_of_range, first_apart, is_too_skewed, is_outside, least}
+use Rattle.fb_geometry.specs.Faults.{is_place_before, repeated, spare_fault}
 use Rattle.fb_geometry.specs.Sound.{IsSound}
 use Rattle.fb_geometry.specs.Turns.{AreZoneNumbers, IsZoneAt, cylinder_slots, slot_at, position_in}
 use Rattle.fb_geometry.specs.Slips.{indexes, slipped, rank}
@@ -23,7 +26,8 @@ zone_fault disk = or_else (range_fault disk)
 
 -- the first fault of the defects
 abbrev pub defect_fault : Shape → Option GeometryFault
-defect_fault disk = or_else (fault_at DefectOutside (find (is_outside disk) disk.defects)) (fault_at DefectTwice (least is_place_before (repeated disk.defects)))
+defect_fault disk = or_else (fault_at DefectOutside (find (is_outside disk) disk.defects))
+    (fault_at DefectTwice (least is_place_before (repeated disk.defects)))
 
 -- the first fault of the grown defects
 abbrev pub grown_fault : Shape → Option GeometryFault
@@ -76,7 +80,8 @@ JudgesSpares disk (Err error) = Answers (spare_fault disk.layout disk) error
 -- a number is the index of the slot of a cylinder's sector among the slots that are no defects
 pub record IsGoodOf (disk : Shape) (zone : Zone) (cylinder j good : ℕ) : Type 0 where
   pub inside : slipped good (indexes (is_among disk.defects) 0 (cylinder_slots zone disk.heads cylinder)) < disk.heads * zone.sectors
-  pub is : slice_get (data_list_at disk cylinder) j ≡ Some (slot_at zone disk.heads cylinder (slipped good (indexes (is_among disk.defects) 0 (cylinder_slots zone disk.heads cylinder))))
+  pub is : slice_get (data_list_at disk cylinder) j
+      ≡ Some (slot_at zone disk.heads cylinder (slipped good (indexes (is_among disk.defects) 0 (cylinder_slots zone disk.heads cylinder))))
 
 -- how many slots of its cylinder that are no defects come before a place
 abbrev pub good_before : Shape → Zone → Place → ℕ

@@ -29,7 +29,11 @@ same_mark a b = (a.cylinder == b.cylinder) && (a.position == b.position)
 
 -- the position of a place on its cylinder: head by head, and then in the order of the track's turn
 abbrev pub mark_of : Shape → Place → Mark
-mark_of disk place = record { cylinder = place.track.cylinder; position = place.track.head * slots_at disk.zones place.track.cylinder + turn_position disk place }
+mark_of disk place = record {
+  cylinder = place.track.cylinder;
+  position = place.track.head * slots_at disk.zones
+      place.track.cylinder + turn_position disk place;
+}
 
 -- the places are on the disk, and these are their marks in ascending order, without repetition
 pub record AreMarksOf (disk : Shape) (places : List Place) (marks : List Mark) : Type 0 where
@@ -44,4 +48,8 @@ pub record AreSorted (places sorted : List Place) : Type 0 where
 
 -- the same mark with its position counted among the positions that `marked` doesn't mark
 abbrev pub among_unmarked : List Mark → Mark → Mark
-among_unmarked marked mark = record { cylinder = mark.cylinder; position = mark.position - rank mark.position (positions (marks_on mark.cylinder marked)) }
+among_unmarked marked mark = record {
+  cylinder = mark.cylinder;
+  position = mark.position - rank mark.position
+      (positions (marks_on mark.cylinder marked));
+}

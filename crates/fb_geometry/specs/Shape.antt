@@ -29,7 +29,8 @@ cylinders_of (zone ∷ other ∷ zones) = cylinders_of (other ∷ zones)
 
 -- the slot from which the sectors of a track of the zone are counted
 abbrev pub offset_in : Zone → ℕ → Track → ℕ
-offset_in zone heads track = ((track.cylinder - zone.first) * (zone.cylinder_skew + (heads - 1) * zone.track_skew) + track.head * zone.track_skew) % zone.sectors
+offset_in zone heads track =
+    ((track.cylinder - zone.first) * (zone.cylinder_skew + (heads - 1) * zone.track_skew) + track.head * zone.track_skew) % zone.sectors
 
 -- the same for any track
 abbrev pub offset_at : List Zone → ℕ → Track → ℕ

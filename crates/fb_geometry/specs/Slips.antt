@@ -1,5 +1,6 @@
 -- Slipping past numbers that are passed over: a number moves on by one for each of them at or before it.
-use Rattle.std.specs.Prelude.{◌≡◌, ℕ, ◌+◌, ◌-◌, ◌<◌, ◌≤◌, ◌==◌, ◌⊎◌, Some, slice_get, List, [], ◌∷◌, Bool, true, false, nat_lt, if◌then◌else◌, length, filter}
+use Rattle.std.specs.Prelude.{◌≡◌, ℕ, ◌+◌, ◌-◌, ◌<◌, ◌≤◌, ◌==◌, ◌⊎◌, Some, slice_get, List, [], ◌∷◌, Bool, true, false, nat_lt}
+use Rattle.std.specs.Prelude.{if◌then◌else◌, length, filter}
 use Rattle.std.specs.List.{AllByRecursion, list_any}
 
 -- each element stands so to all that follow
@@ -43,4 +44,5 @@ HoldsNone marked sectors entry = (list_any (λ other. other == entry) marked ≡
 abbrev pub HoldsSector : List ℕ → ℕ → ℕ → ℕ → Type 0
 HoldsSector marked sectors entry sector = (list_any (λ other. other == entry) marked ≡ false)
     × (((entry < sectors) × (sector ≡ entry))
-    ⊎ ((sectors ≤ entry) × (entry - rank entry marked < sectors) × (slice_get marked (entry - rank entry marked - (sectors - rank sectors marked)) ≡ Some sector)))
+    ⊎ ((sectors ≤ entry) × (entry - rank entry marked < sectors)
+    × (slice_get marked (entry - rank entry marked - (sectors - rank sectors marked)) ≡ Some sector)))

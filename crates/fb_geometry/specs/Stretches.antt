@@ -20,4 +20,5 @@ pub record KeepsOrder (disk : Shape) (zone : Zone) (cylinder j count : ℕ) : Ty
   pub from : ℕ
   pub inside : slipped from (indexes (is_among disk.defects) 0 (cylinder_slots zone disk.heads cylinder)) < disk.heads * zone.sectors
   pub each : (i : ℕ) → i < count → slice_get (data_list_at disk cylinder) (j + i)
-      ≡ Some (slot_at zone disk.heads cylinder (slipped (from + i) (indexes (is_among disk.defects) 0 (cylinder_slots zone disk.heads cylinder))))
+      ≡ Some (slot_at zone disk.heads cylinder
+      (slipped (from + i) (indexes (is_among disk.defects) 0 (cylinder_slots zone disk.heads cylinder))))

@@ -1,5 +1,6 @@
 -- Positions on a cylinder: head by head, the slots of each track in the order of its turn.
-use Rattle.std.specs.Prelude.{ℕ, ◌+◌, ◌-◌, ◌*◌, ◌/◌, ◌%◌, ◌<◌, ◌≤◌, ◌^◌, ◌≡◌, List, length, map, find, slice_get, nat_le, Option, Some, None, false}
+use Rattle.std.specs.Prelude.{ℕ, ◌+◌, ◌-◌, ◌*◌, ◌/◌, ◌%◌, ◌<◌, ◌≤◌, ◌^◌, ◌≡◌, List, length, map, find, slice_get, nat_le, Option, Some}
+use Rattle.std.specs.Prelude.{None, false}
 use Rattle.std.specs.List.{range_with_len, slice_index_or}
 use Rattle.fb_units.specs.declared.types.Place.{Place}
 use Rattle.fb_units.specs.declared.types.Track.{Track}
@@ -48,7 +49,8 @@ pub record IsZoneAt (disk : Shape) (cylinder : ℕ) (zone : Zone) : Type 0 where
 
 -- the position of a place: how many slots of its cylinder come before it
 abbrev pub position_in : Zone → ℕ → Place → ℕ
-position_in zone heads place = place.track.head * zone.sectors + (place.slot + zone.sectors - offset_in zone heads place.track) % zone.sectors
+position_in zone heads place = place.track.head * zone.sectors + (place.slot + zone.sectors - offset_in zone heads
+    place.track) % zone.sectors
 
 -- the place at a position of a cylinder
 abbrev pub slot_at : Zone → ℕ → ℕ → ℕ → Place

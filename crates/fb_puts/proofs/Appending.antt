@@ -6,11 +6,14 @@ use Rattle.fb_puts.proofs.Words.{AreApart, AreTaken}
 use Rattle.fb_puts.proofs.{Lists.all_left, Lists.all_none, Lists.all_right, Lists.at_append, Lists.some_one}
 use Rattle.fb_puts.proofs.{Sharing.is_shares, Sharing.share_either}
 
-pub apart_push : (ranges : List SectorRange) (range : SectorRange) → AreApart ranges → AllByRecursion (λ other. share range other ≡ false) ranges → AreApart (ranges ++ range ∷ [])
+pub apart_push : (ranges : List SectorRange) (range : SectorRange) → AreApart ranges
+    → AllByRecursion (λ other. share range other ≡ false) ranges → AreApart (ranges ++ range ∷ [])
 apart_push [] range apart off = (tt, tt)
-apart_push (r ∷ rs) range apart off = (all_push (λ other. share r other ≡ false) rs range apart.0 (share_either range r off.0), apart_push rs range apart.1 off.1)
+apart_push (r ∷ rs) range apart off =
+    (all_push (λ other. share r other ≡ false) rs range apart.0 (share_either range r off.0), apart_push rs range apart.1 off.1)
 
-pub apart_pop : (ranges : List SectorRange) (range : SectorRange) → AreApart (ranges ++ range ∷ []) → AreApart ranges × (list_any (share range) ranges ≡ false)
+pub apart_pop : (ranges : List SectorRange) (range : SectorRange) → AreApart (ranges ++ range ∷ []) → AreApart ranges
+    × (list_any (share range) ranges ≡ false)
 apart_pop [] range apart = (tt, refl)
 apart_pop (r ∷ rs) range apart =
     let last = all_right (λ other. share r other ≡ false) rs (range ∷ []) apart.0 in
@@ -33,39 +36,52 @@ other_key key at other = elim (cases_Bool (is_at (nat_cmp key) at)) [
   | inr not' ↦ not'
 ]
 
-module _ (ends new : BTreeMap ℕ ℕ) (ranges : List SectorRange) (range : SectorRange) (taken : AreTaken ends ranges) (off : list_any (share range) ranges ≡ false) (some : 0 < range.count)
-    (now : (q : ℕ) → get nat_cmp new q ≡ (if is_at (nat_cmp (range.first + range.count)) q then Some range.first else get nat_cmp ends q)) where
+module _ (ends new : BTreeMap ℕ ℕ) (ranges : List SectorRange) (range : SectorRange) (taken : AreTaken ends ranges)
+    (off : list_any (share range) ranges ≡ false) (some : 0 < range.count)
+    (now : (q : ℕ) → get nat_cmp new q ≡ (if is_at (nat_cmp (range.first + range.count)) q then Some range.first
+    else get nat_cmp ends q)) where
   here : get nat_cmp new (range.first + range.count) ≡ Some range.first
-  here = now (range.first + range.count) ∙ ap (λ b. if b then Some range.first else get nat_cmp ends (range.first + range.count)) (same_key (range.first + range.count))
+  here = now (range.first + range.count) ∙ ap (λ b. if b then Some range.first else get nat_cmp ends (range.first + range.count))
+      (same_key (range.first + range.count))
 
   elsewhere : (q : ℕ) → (q ≡ range.first + range.count → ⊥) → get nat_cmp new q ≡ get nat_cmp ends q
   elsewhere q other = now q ∙ ap (λ b. if b then Some range.first else get nat_cmp ends q) (other_key (range.first + range.count) q other)
 
   -- another range ends elsewhere
-  ends_apart : (other : SectorRange) → share range other ≡ false → 0 < other.count → other.first + other.count ≡ range.first + range.count → ⊥
-  ends_apart other apart some_other same = let on = is_shares range other (omega arith) (omega arith) some some_other in absurd (grind arith)
+  ends_apart : (other : SectorRange) → share range other ≡ false → 0 < other.count → other.first + other.count
+      ≡ range.first + range.count → ⊥
+  ends_apart other apart some_other same = let on = is_shares range other (omega arith) (omega arith) some
+      some_other in absurd (grind arith)
 
-  kept : (rs : List SectorRange) → AllByRecursion (λ r. get nat_cmp ends (r.first + r.count) ≡ Some r.first) rs → AllByRecursion (λ other. share range other ≡ false) rs → AllByRecursion (λ r. 0 < r.count) rs
+  kept : (rs : List SectorRange) → AllByRecursion (λ r. get nat_cmp ends (r.first + r.count) ≡ Some r.first) rs
+      → AllByRecursion (λ other. share range other ≡ false) rs → AllByRecursion (λ r. 0 < r.count) rs
       → AllByRecursion (λ r. get nat_cmp new (r.first + r.count) ≡ Some r.first) rs
   kept [] each apart all = tt
   kept (r ∷ rs) each apart all = (elsewhere (r.first + r.count) (ends_apart r apart.0 all.0) ∙ each.0, kept rs each.1 apart.1 all.1)
 
   abbrev Holds : ℕ → ℕ → Type 0
-  Holds end first = (i : ℕ) × (slice_get (ranges ++ range ∷ []) i ≡ Some (let own : SectorRange = record { first = first; count = end - first } in own)) × (first < end)
+  Holds end first = (i : ℕ) × (slice_get (ranges ++ range ∷ []) i ≡ Some (let own : SectorRange =
+      record { first = first; count = end - first } in own)) × (first < end)
 
   its_own : (end first : ℕ) → end ≡ range.first + range.count → first ≡ range.first → Holds end first
   its_own end first at_end at_first =
       let count : end - first ≡ range.count = omega arith in
       let same : (let own : SectorRange = record { first = first; count = end - first } in own) ≡ range =
-      ap (λ f. let own : SectorRange = record { first = f; count = end - first } in own) at_first ∙ ap (λ c. let own : SectorRange = record { first = range.first; count = c } in own) count in
+      ap (λ f. let own : SectorRange = record { first = f; count = end - first } in own) at_first
+      ∙ ap (λ c. let own : SectorRange = record { first = range.first; count = c } in own) count in
       (length ranges, at_last ranges range ∙ sym (ap Some same), omega arith)
 
   only : (end first : ℕ) → get nat_cmp new end ≡ Some first → Holds end first
   only end first has = elim (cases_Bool (is_at (nat_cmp (range.first + range.count)) end)) [
-    | inl is ↦ let at = key_is (range.first + range.count) end is in its_own end first at (some_one first range.first (sym has ∙ ap (get nat_cmp new) at ∙ here))
+    | inl is ↦ let at = key_is (range.first + range.count) end is in
+        its_own end first at (some_one first range.first (sym has ∙ ap (get nat_cmp new) at ∙ here))
     | inr other ↦
-        let old = taken.only end first (sym (now end ∙ ap (λ b. if b then Some range.first else get nat_cmp ends end) other) ∙ has) in
-        (old.0, at_append ranges (range ∷ []) old.0 (let own : SectorRange = record { first = first; count = end - first } in own) old.1, old.2)
+        let old = taken.only end first (sym (now end ∙ ap (λ b. if b then Some range.first else get nat_cmp ends end) other) ∙ has) in (
+          old.0,
+          at_append ranges (range ∷ []) old.0 (let own : SectorRange =
+              record { first = first; count = end - first } in own) old.1,
+          old.2,
+        )
   ]
 
   -- the ranges with one more
@@ -73,7 +89,8 @@ module _ (ends new : BTreeMap ℕ ℕ) (ranges : List SectorRange) (range : Sect
   taken_push =
       let apart = all_none (share range) ranges off in
       record {
-        each = all_push (λ r. get nat_cmp new (r.first + r.count) ≡ Some r.first) ranges range (kept ranges taken.each apart taken.some) here;
+        each = all_push (λ r. get nat_cmp new (r.first + r.count) ≡ Some r.first) ranges range
+            (kept ranges taken.each apart taken.some) here;
         only = only;
         apart = apart_push ranges range taken.apart apart;
         some = all_push (λ r. 0 < r.count) ranges range taken.some some;

@@ -24,7 +24,8 @@ shares_is a b is = let less = ltb-true (max a.first b.first) (min (a.first + a.c
   some_other = omega (arith, less);
 }
 
-pub is_shares : (a b : SectorRange) → a.first < b.first + b.count → b.first < a.first + a.count → 0 < a.count → 0 < b.count → share a b ≡ true
+pub is_shares : (a b : SectorRange) → a.first < b.first + b.count → b.first < a.first + a.count → 0 < a.count
+    → 0 < b.count → share a b ≡ true
 is_shares a b before behind some some_other = lt-true (max a.first b.first) (min (a.first + a.count) (b.first + b.count)) (omega arith)
 
 pub not_share : (a b : SectorRange) → (Shares a b → ⊥) → share a b ≡ false
@@ -46,22 +47,27 @@ has lbn range = if share (sector lbn) range then 1 else 0
 pub has_it : (lbn : ℕ) (range : SectorRange) → range.first ≤ lbn → lbn < range.first + range.count → share (sector lbn) range ≡ true
 has_it lbn range from before = is_shares (sector lbn) range before (omega arith) (omega arith) (omega arith)
 
-pub one_more : (lbn : ℕ) (range : SectorRange) (others : List SectorRange) → share (sector lbn) range ≡ true → sum_by (has lbn) (range ∷ others) ≡ 1 + sum_by (has lbn) others
+pub one_more : (lbn : ℕ) (range : SectorRange) (others : List SectorRange) → share (sector lbn) range ≡ true
+    → sum_by (has lbn) (range ∷ others) ≡ 1 + sum_by (has lbn) others
 one_more lbn range others its = sum_by-cons (has lbn) range others ∙ ap (λ b. (if b then 1 else 0) + sum_by (has lbn) others) its
 
-pub as_many : (lbn : ℕ) (range : SectorRange) (others : List SectorRange) → share (sector lbn) range ≡ false → sum_by (has lbn) (range ∷ others) ≡ sum_by (has lbn) others
+pub as_many : (lbn : ℕ) (range : SectorRange) (others : List SectorRange) → share (sector lbn) range ≡ false
+    → sum_by (has lbn) (range ∷ others) ≡ sum_by (has lbn) others
 as_many lbn range others off =
-    let none : sum_by (has lbn) (range ∷ others) ≡ 0 + sum_by (has lbn) others = sum_by-cons (has lbn) range others ∙ ap (λ b. (if b then 1 else 0) + sum_by (has lbn) others) off in
+    let none : sum_by (has lbn) (range ∷ others) ≡ 0 + sum_by (has lbn) others = sum_by-cons (has lbn) range others
+    ∙ ap (λ b. (if b then 1 else 0) + sum_by (has lbn) others) off in
     omega (arith, none)
 
 -- the others don't have a sector of a range that shares none with them
-none_has : (lbn : ℕ) (range : SectorRange) (others : List SectorRange) → share (sector lbn) range ≡ true → AllByRecursion (λ other. share range other ≡ false) others
+none_has : (lbn : ℕ) (range : SectorRange) (others : List SectorRange) → share (sector lbn) range ≡ true
+    → AllByRecursion (λ other. share range other ≡ false) others
     → sum_by (has lbn) others ≡ 0
 none_has lbn range [] its apart = refl
 none_has lbn range (other ∷ others) its apart =
     let is = shares_is (sector lbn) range its in
     as_many lbn other others (not_share (sector lbn) other (λ has.
-    let both = is_shares range other (omega (arith, is.behind, has.before)) (omega (arith, has.behind, is.before)) is.some_other has.some_other in
+    let both = is_shares range other (omega (arith, is.behind, has.before)) (omega (arith, has.behind, is.before))
+    is.some_other has.some_other in
     true≢false (sym both ∙ apart.0)))
     ∙ none_has lbn range others its apart.1
 

@@ -3,9 +3,11 @@ use Rattle.fb_puts.proofs.Words.{all_get, ◌≡◌, ℕ, ◌+◌, ◌≤◌, Li
 use Rattle.fb_puts.proofs.Words.{◌∙◌, arith, IsPermutation, AllByRecursion, sum_by, cases_Bool, true≢false, sum_by-cons, all_weaker}
 use Rattle.fb_puts.proofs.Words.{SectorRange, share, AreApart}
 use Rattle.std.proofs.lemmas.List.Sorted.{sum_by-IsPermutation}
-use Rattle.fb_puts.proofs.{Lists.all_of, Sharing.as_many, Sharing.has, Sharing.has_it, Sharing.not_share, Sharing.once, Sharing.one_more, Sharing.sector}
+use Rattle.fb_puts.proofs.{Lists.all_of, Sharing.as_many, Sharing.has, Sharing.has_it, Sharing.not_share, Sharing.once, Sharing.one_more}
+use Rattle.fb_puts.proofs.{Sharing.sector}
 
-all_off : (lbn : ℕ) (ranges : List SectorRange) → sum_by (has lbn) ranges ≡ 0 → AllByRecursion (λ range. share (sector lbn) range ≡ false) ranges
+all_off : (lbn : ℕ) (ranges : List SectorRange) → sum_by (has lbn) ranges ≡ 0
+    → AllByRecursion (λ range. share (sector lbn) range ≡ false) ranges
 all_off lbn [] none = tt
 all_off lbn (range ∷ ranges) none = elim (cases_Bool (share (sector lbn) range)) [
   | inl its ↦ let more = one_more lbn range ranges its in absurd (omega (arith, none, more))
@@ -13,7 +15,8 @@ all_off lbn (range ∷ ranges) none = elim (cases_Bool (share (sector lbn) range
 ]
 
 -- a range that has a sector with another one has the one where the later of them begins
-off_others : (range : SectorRange) (ranges : List SectorRange) → ((lbn : ℕ) → sum_by (has lbn) (range ∷ ranges) ≤ 1) → AllByRecursion (λ other. share range other ≡ false) ranges
+off_others : (range : SectorRange) (ranges : List SectorRange) → ((lbn : ℕ) → sum_by (has lbn) (range ∷ ranges) ≤ 1)
+    → AllByRecursion (λ other. share range other ≡ false) ranges
 off_others range ranges few = all_of (λ other. share range other ≡ false) ranges (λ k other at. not_share range other (λ shares.
     let lbn = max range.first other.first in
     let more = one_more lbn range ranges (has_it lbn range (omega arith) (omega (arith, shares.behind, shares.some))) in
@@ -43,15 +46,18 @@ abbrev pub AreBehind : SectorRange → List SectorRange → Type 0
 AreBehind last [] = Unit {0}
 AreBehind last (range ∷ ranges) = (last.first + last.count ≤ range.first) × AreBehind range ranges
 
-all_behind : (end : ℕ) (last : SectorRange) (ranges : List SectorRange) → end ≤ last.first + last.count → AreBehind last ranges → AllByRecursion (λ range. end ≤ range.first) ranges
+all_behind : (end : ℕ) (last : SectorRange) (ranges : List SectorRange) → end ≤ last.first + last.count → AreBehind last ranges
+    → AllByRecursion (λ range. end ≤ range.first) ranges
 all_behind end last [] upto behind = tt
-all_behind end last (range ∷ ranges) upto behind = let first = behind.0 in (omega (arith, upto, first), all_behind end range ranges (omega (arith, upto, first)) behind.1)
+all_behind end last (range ∷ ranges) upto behind = let first = behind.0 in
+    (omega (arith, upto, first), all_behind end range ranges (omega (arith, upto, first)) behind.1)
 
 -- so they are apart
 pub behind_apart : (last : SectorRange) (ranges : List SectorRange) → AreBehind last ranges → AreApart ranges
 behind_apart last [] behind = tt
 behind_apart last (range ∷ ranges) behind = (
-  all_weaker (λ (other : SectorRange). range.first + range.count ≤ other.first) (λ other. share range other ≡ false) (λ other later. not_share range other (λ shares. let over = shares.behind in omega (arith, later, over)))
+  all_weaker (λ (other : SectorRange). range.first + range.count ≤ other.first) (λ other. share range other ≡ false)
+      (λ other later. not_share range other (λ shares. let over = shares.behind in omega (arith, later, over)))
       ranges (all_behind (range.first + range.count) range ranges (omega arith) behind.1),
   behind_apart range ranges behind.1,
 )

@@ -6,20 +6,24 @@ use Rattle.fb_puts.proofs.{Lists.all_of, Lists.any_at, Lists.none_any, Lists.som
 use Rattle.fb_puts.proofs.{Sharing.is_shares, Sharing.lt-false, Sharing.lt-true, Sharing.not_share, Sharing.Shares}
 
 -- ranges of the list that share a sector are the same
-pub one_of_apart : (ranges : List SectorRange) (i j : ℕ) (a b : SectorRange) → AreApart ranges → slice_get ranges i ≡ Some a → slice_get ranges j ≡ Some b → Shares a b → a ≡ b
+pub one_of_apart : (ranges : List SectorRange) (i j : ℕ) (a b : SectorRange) → AreApart ranges → slice_get ranges i ≡ Some a
+    → slice_get ranges j ≡ Some b → Shares a b → a ≡ b
 one_of_apart [] i j a b apart at_i at_j shares = absurd (grind arith)
 one_of_apart (r ∷ rs) zero zero a b apart at_i at_j shares = sym (some_one r a at_i) ∙ some_one r b at_j
 one_of_apart (r ∷ rs) zero (suc j) a b apart at_i at_j shares =
     let off : share r b ≡ false = all_get (λ other. share r other ≡ false) rs j b apart.0 at_j in
-    let on : share r b ≡ true = ap (λ x. share x b) (some_one r a at_i) ∙ is_shares a b shares.before shares.behind shares.some shares.some_other in
+    let on : share r b ≡ true = ap (λ x. share x b) (some_one r a at_i) ∙ is_shares a b shares.before shares.behind
+    shares.some shares.some_other in
     absurd (grind arith)
 one_of_apart (r ∷ rs) (suc i) zero a b apart at_i at_j shares =
     let off : share r a ≡ false = all_get (λ other. share r other ≡ false) rs i a apart.0 at_i in
-    let on : share r a ≡ true = ap (λ x. share x a) (some_one r b at_j) ∙ is_shares b a shares.behind shares.before shares.some_other shares.some in
+    let on : share r a ≡ true = ap (λ x. share x a) (some_one r b at_j) ∙ is_shares b a shares.behind shares.before
+    shares.some_other shares.some in
     absurd (grind arith)
 one_of_apart (r ∷ rs) (suc i) (suc j) a b apart at_i at_j shares = one_of_apart rs i j a b apart.1 at_i at_j shares
 
-module _ (ends : BTreeMap ℕ ℕ) (ranges : List SectorRange) (range : SectorRange) (taken : AreTaken ends ranges) (some : 0 < range.count) where
+module _ (ends : BTreeMap ℕ ℕ) (ranges : List SectorRange) (range : SectorRange) (taken : AreTaken ends ranges)
+    (some : 0 < range.count) where
   has_end : (k : ℕ) (other : SectorRange) → slice_get ranges k ≡ Some other → ContainsKey nat_cmp ends (other.first + other.count)
   has_end k other at = some_there (get nat_cmp ends (other.first + other.count)) other.first
       (all_get (λ r. get nat_cmp ends (r.first + r.count) ≡ Some r.first) ranges k other taken.each at)
@@ -27,20 +31,31 @@ module _ (ends : BTreeMap ℕ ℕ) (ranges : List SectorRange) (range : SectorRa
   -- none of them ends behind the begin of the range
   pub none_taken : ((other : ℕ) → ContainsKey nat_cmp ends other → other ≤ range.first) → false ≡ list_any (share range) ranges
   none_taken before = sym (none_any (share range) ranges (all_of (λ other. share range other ≡ false) ranges (λ k other at.
-      not_share range other (λ shares. let end = before (other.first + other.count) (has_end k other at) in omega (arith, end, shares.before)))))
+      not_share range other (λ shares. let end = before (other.first + other.count) (has_end k other at) in
+      omega (arith, end, shares.before)))))
 
   -- the first that does begins before the range ends, or not
-  pub first_taken : (end first : ℕ) → get nat_cmp ends end ≡ Some first → range.first < end → ((other : ℕ) → ContainsKey nat_cmp ends other → range.first < other → end ≤ other)
+  pub first_taken : (end first : ℕ) → get nat_cmp ends end ≡ Some first → range.first < end → ((other : ℕ) → ContainsKey nat_cmp ends other
+      → range.first < other → end ≤ other)
       → nat_lt first (range.first + range.count) ≡ list_any (share range) ranges
   first_taken end first has behind least =
       let its = taken.only end first has in
       let own : SectorRange = record { first = first; count = end - first } in
       elim (cases_lt first (range.first + range.count)) [
-        | inl less ↦ lt-true first (range.first + range.count) less ∙ sym (any_at (share range) ranges its.0 own its.1 (is_shares range own (omega (arith, its.2)) less some (omega (arith, its.2))))
-        | inr more ↦ lt-false first (range.first + range.count) more ∙ sym (none_any (share range) ranges (all_of (λ other. share range other ≡ false) ranges (λ k other at.
+        | inl less ↦ lt-true first (range.first + range.count) less
+            ∙ sym (any_at (share range) ranges its.0 own its.1 (is_shares range own (omega (arith, its.2)) less
+            some (omega (arith, its.2))))
+        | inr more ↦ lt-false first (range.first + range.count) more
+            ∙ sym (none_any (share range) ranges (all_of (λ other. share range other ≡ false) ranges (λ k other at.
             not_share range other (λ shares.
             let later = least (other.first + other.count) (has_end k other at) shares.before in
-            let same = one_of_apart ranges k its.0 other own taken.apart at its.1 (record { before = omega (arith, shares.behind, its.2); behind = omega (arith, later, its.2, shares.behind); some = shares.some_other; some_other = omega (arith, its.2) }) in
+            let same = one_of_apart ranges k its.0 other own taken.apart at its.1
+            (record {
+              before = omega (arith, shares.behind, its.2);
+              behind = omega (arith, later, its.2, shares.behind);
+              some = shares.some_other;
+              some_other = omega (arith, its.2);
+            }) in
             let firsts : other.first ≡ first = ap (λ (r : SectorRange). r.first) same in
             omega (arith, firsts, shares.behind)))))
       ]

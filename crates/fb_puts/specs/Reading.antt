@@ -5,7 +5,8 @@ use Rattle.fb_units.specs.Judging.{◌>>=◌, ◌>>◌, refuse, refused_as}
 use Rattle.fb_units.specs.Lines.{lines_of, fields_of}
 use Rattle.fb_puts.specs.declared.fault.PutsFault.{PutsFault}
 use Rattle.fb_puts.specs.declared.fault.PutsReason.{PutsReason}
-use Rattle.fb_puts.specs.declared.fault.PutsReason.TheVariants.{OutOfOrder, Empty, BeyondDisk, TooLarge, Touched, OutsideReserve, PutTwice, TooMany}
+use Rattle.fb_puts.specs.declared.fault.PutsReason.TheVariants.{OutOfOrder, Empty, BeyondDisk, TooLarge, Touched, OutsideReserve, PutTwice}
+use Rattle.fb_puts.specs.declared.fault.PutsReason.TheVariants.{TooMany}
 use Rattle.fb_puts.specs.declared.puts.Put.{Put}
 use Rattle.fb_puts.specs.declared.range.SectorRange.{SectorRange}
 use Rattle.fb_puts.specs.Line.{reserve_of, put_of}

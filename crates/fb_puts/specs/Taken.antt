@@ -11,7 +11,9 @@ use Rattle.fb_puts.specs.declared.taken.Taken.TheVariants.{Known, Unknown}
 -- the map has the first sector of each of these ranges by its end, and no other; no two of them share a sector, and each has one
 pub record AreTaken (ends : BTreeMap ℕ ℕ) (ranges : List SectorRange) : Type 0 where
   pub each : AllByRecursion (λ range. get nat_cmp ends (range.first + range.count) ≡ Some range.first) ranges
-  pub only : (end first : ℕ) → get nat_cmp ends end ≡ Some first → (i : ℕ) × (slice_get ranges i ≡ Some (let range : SectorRange = record { first = first; count = end - first } in range)) × (first < end)
+  pub only : (end first : ℕ) → get nat_cmp ends end ≡ Some first
+      → (i : ℕ) × (slice_get ranges i ≡ Some (let range : SectorRange = record { first = first; count = end - first } in range))
+      × (first < end)
   pub apart : AreApart ranges
   pub some : AllByRecursion (λ range. 0 < range.count) ranges
 

@@ -8,5 +8,6 @@ overflow_add-unmarked_before c =
     let numbers = positions c.args.marks.now in
     let start = c.args.sectors - rank c.args.sectors numbers + rank c.args.sector numbers in
     let among : list_any (λ other. other == c.args.sector) numbers ≡ true = sym c.is_marked.ensures ∙ c.if-is_marked.true in
-    let fits : slipped start numbers < 2 ^ 32 = subst (λ b. (if b then slipped start numbers else c.args.sector) < 2 ^ 32) among c.requires.fits in
+    let fits : slipped start numbers < 2 ^ 32 = subst (λ b. (if b then slipped start numbers else c.args.sector)
+    < 2 ^ 32) among c.requires.fits in
     omega (arith, (slipped_to start numbers c.requires.ascending).0)

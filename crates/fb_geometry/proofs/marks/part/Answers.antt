@@ -13,11 +13,14 @@ found c =
     let rest = c.split_at.result.1.now in
     let cut : rest ≡ drop from marks = c.split_at.ensures.back in
     c.split_at-2.ensures.front ∙ part-of cylinder marks rest from n cut c.partition_point.ensures.bound c.partition_point-2.ensures.bound
-    (IsPartitionPoint-from_clause (λ mark. nat_lt mark.cylinder cylinder) marks from c.partition_point.ensures.partitioned (IsPartitionedBy-ltb (λ mark. mark.cylinder) marks cylinder (cylinders-rise marks c.requires)) (λ a r f called. search rules))
-    (IsPartitionPoint-from_clause (λ mark. nat_le mark.cylinder cylinder) rest n c.partition_point-2.ensures.partitioned (IsPartitionedBy-leb (λ mark. mark.cylinder) rest cylinder (rest-rises marks rest from c.requires cut)) (λ a r f called. search rules))
+    (IsPartitionPoint-from_clause (λ mark. nat_lt mark.cylinder cylinder) marks from c.partition_point.ensures.partitioned
+    (IsPartitionedBy-ltb (λ mark. mark.cylinder) marks cylinder (cylinders-rise marks c.requires)) (λ a r f called. search rules))
+    (IsPartitionPoint-from_clause (λ mark. nat_le mark.cylinder cylinder) rest n c.partition_point-2.ensures.partitioned
+    (IsPartitionedBy-leb (λ mark. mark.cylinder) rest cylinder (rest-rises marks rest from c.requires cut)) (λ a r f called. search rules))
 
 pub returns-clause-value : goal.returns-clause-value
 returns-clause-value c = found c
 
 pub returns-clause-ascending : goal.returns-clause-ascending
-returns-clause-ascending c = subst (λ part. IsAscending (positions part)) (sym (found c)) (marks_on-ascend c.args.cylinder c.args.marks.now c.requires)
+returns-clause-ascending c = subst (λ part. IsAscending (positions part)) (sym (found c)) (marks_on-ascend c.args.cylinder
+    c.args.marks.now c.requires)

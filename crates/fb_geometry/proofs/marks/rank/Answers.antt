@@ -7,8 +7,10 @@ found : (c : goal.After-partition_point) → c.partition_point.result ≡ rank c
 found c =
     let marks = c.args.marks.now in
     rank-is c.args.position marks c.partition_point.result c.partition_point.ensures.bound
-    (IsPartitionPoint-from_clause (λ mark. nat_lt mark.position c.args.position) marks c.partition_point.result c.partition_point.ensures.partitioned
-    (IsPartitionedBy-ltb (λ mark. mark.position) marks c.args.position (positions-rise marks c.requires.ascending)) (λ a r f called. search rules))
+    (IsPartitionPoint-from_clause (λ mark. nat_lt mark.position c.args.position) marks c.partition_point.result
+    c.partition_point.ensures.partitioned
+    (IsPartitionedBy-ltb (λ mark. mark.position) marks c.args.position (positions-rise marks c.requires.ascending))
+    (λ a r f called. search rules))
 
 pub overflow_cast-result : goal.overflow_cast-result
 overflow_cast-result c = omega (arith, found c, rank-below c.args.position (positions c.args.marks.now) c.requires.ascending)

@@ -7,9 +7,11 @@ blank : Zone
 blank = record { first = 0; last = 0; sectors = 0; track_skew = 0; cylinder_skew = 0; spares = 0; cylinder_spares = 0 }
 
 found : (c : goal.After-partition_point)
-    → (c.partition_point.result < length c.args.zones.now) × (zone_at c.args.zones.now c.args.cylinder ≡ Some (get_or c.args.zones.now c.partition_point.result blank))
+    → (c.partition_point.result < length c.args.zones.now)
+    × (zone_at c.args.zones.now c.args.cylinder ≡ Some (get_or c.args.zones.now c.partition_point.result blank))
 found c =
-    let point = IsPartitionPoint-from_clause (λ zone. nat_lt zone.last c.args.cylinder) c.args.zones.now c.partition_point.result c.partition_point.ensures.partitioned
+    let point = IsPartitionPoint-from_clause (λ zone. nat_lt zone.last c.args.cylinder) c.args.zones.now c.partition_point.result
+    c.partition_point.ensures.partitioned
     (IsPartitionedBy-ltb (λ zone. zone.last) c.args.zones.now c.args.cylinder c.requires.rise) (λ a r f called. search rules) in
     point_zone c.args.cylinder c.args.zones.now c.partition_point.result blank point c.partition_point.ensures.bound c.requires.on_disk
 

@@ -11,7 +11,8 @@ returns-in_err-read_line-clause-known c =
     rw (p.1, p.2) (λ known.
     let still = l.invariant.known known in
     read_error terms (l.number + 1) (progress l.reader) (lines_of l.rest.now) (puts_of terms c.args.bytes.now)
-    (progress c.read_line.new.self) c.in-Some.line.now (lines_of c.in-Some.others.now) c.in_err-read_line.field-0.0 c.in-Some.ensures.line (c.in_err-read_line.ensures.known still)
+    (progress c.read_line.new.self) c.in-Some.line.now (lines_of c.in-Some.others.now) c.in_err-read_line.field-0.0 c.in-Some.ensures.line
+    (c.in_err-read_line.ensures.known still)
     (l.invariant.read (known_apart l.reader.taken (map range_of l.reader.puts.items) still l.invariant.reader.taken)))
 
 pub loop-line-init : goal.loop-line-init
@@ -30,7 +31,8 @@ loop-line-preserved c =
       read = λ apart.
           let both = c.in_ok-read_line.ensures.apart apart in
           read_more terms (l.number + 1) (progress l.reader) (lines_of l.rest.now) (puts_of terms c.args.bytes.now)
-          (progress c.read_line.new.self) c.in-Some.line.now (lines_of c.in-Some.others.now) c.in-Some.ensures.line both.1 (l.invariant.read both.0);
+          (progress c.read_line.new.self) c.in-Some.line.now (lines_of c.in-Some.others.now) c.in-Some.ensures.line both.1
+          (l.invariant.read both.0);
       known = λ known. c.in_ok-read_line.ensures.still (l.invariant.known known);
       number = omega (arith, c.in-Some.ensures.shorter);
       reader = c.in_ok-read_line.ensures.sound;
@@ -40,7 +42,8 @@ pub returns-clause-apart : goal.returns-clause-apart
 returns-clause-apart c = λ apart.
     let l = c.loop-line in
     let terms = terms_of c.args.terms.now in
-    read_end terms (l.number + 1) (progress l.reader) (lines_of l.rest.now) (puts_of terms c.args.bytes.now) c.in_default.ensures.line (l.invariant.read apart)
+    read_end terms (l.number + 1) (progress l.reader) (lines_of l.rest.now) (puts_of terms c.args.bytes.now)
+    c.in_default.ensures.line (l.invariant.read apart)
 
 pub returns-clause-known : goal.returns-clause-known
 returns-clause-known c = λ known.

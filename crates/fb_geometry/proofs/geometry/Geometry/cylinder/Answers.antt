@@ -8,6 +8,9 @@ returns-clause-looked_up c =
     record {
       on_disk = c.requires;
       slots = sym c.zone_of-zone.ensures.slots;
-      even = λ is. is_even c.args.self.now c.zone_of-zone.result c.args.cylinder c.zone_of-zone.ensures.zone (c.has_no_bad.ensures is c.zone_of-zone.result c.zone_of-zone.ensures.zone) c.has_no_bad.result c.track_sectors.result c.offset.result c.track_sectors.ensures
-          (c.offset.ensures.value ∙ ap (λ heads. offset_in c.zone_of-zone.result heads (record { cylinder = c.args.cylinder; head = 0 })) c.heads.ensures.value) few;
+      even = λ is. is_even c.args.self.now c.zone_of-zone.result c.args.cylinder c.zone_of-zone.ensures.zone
+          (c.has_no_bad.ensures is c.zone_of-zone.result c.zone_of-zone.ensures.zone) c.has_no_bad.result c.track_sectors.result
+          c.offset.result c.track_sectors.ensures
+          (c.offset.ensures.value ∙ ap (λ heads. offset_in c.zone_of-zone.result heads (record { cylinder = c.args.cylinder; head = 0 }))
+          c.heads.ensures.value) few;
     }

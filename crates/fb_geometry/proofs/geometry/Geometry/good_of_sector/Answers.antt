@@ -6,24 +6,37 @@ use Rattle.fb_geometry.proofs.geometry.Geometry.good_of_sector.Goals as goal
 
 pub overflow_mul-first : goal.overflow_mul-first
 overflow_mul-first c =
-    let split = split_by_track c.args.self.now c.args.zone c.args.cylinder c.requires.zone (sym c.in-PerTrack.ensures) c.args.j c.requires.sector in
+    let split = split_by_track c.args.self.now c.args.zone c.args.cylinder c.requires.zone (sym c.in-PerTrack.ensures)
+    c.args.j c.requires.sector in
     omega (arith, few_slots c.args.self.now c.args.zone (omega arith) c.requires.zone.ranges, split.3)
 
 pub returns-in-PerTrack : goal.returns-in-PerTrack
 returns-in-PerTrack c =
     let size = c.args.zone.sectors - c.args.zone.spares in
-    let before = c.unmarked_before.ensures ∙ ap (λ numbers. c.args.j / size * c.args.zone.sectors - rank (c.args.j / size * c.args.zone.sectors) numbers)
+    let before = c.unmarked_before.ensures ∙ ap (λ numbers. c.args.j / size * c.args.zone.sectors - rank
+    (c.args.j / size * c.args.zone.sectors) numbers)
     (c.defects_on.ensures.marks c.args.zone c.requires.zone) in
-    subst (IsGoodOf c.args.self.now c.args.zone c.args.cylinder c.args.j) (ap (λ n. n + c.args.j % size) (sym before)) (placed c.args.self.now c.args.zone c.args.cylinder c.requires.zone PerTrack (sym c.in-PerTrack.ensures) c.args.j c.requires.sector)
+    subst (IsGoodOf c.args.self.now c.args.zone c.args.cylinder c.args.j) (ap (λ n. n + c.args.j % size) (sym before))
+    (placed c.args.self.now c.args.zone c.args.cylinder c.requires.zone PerTrack (sym c.in-PerTrack.ensures) c.args.j c.requires.sector)
 
 pub entry_of_sector-requires-clause-fits : goal.entry_of_sector-requires-clause-fits
 entry_of_sector-requires-clause-fits c =
     let disk = c.args.self.now in
     let zone = c.args.zone in
     let good = good_number PerCylinder disk zone c.args.cylinder c.args.j in
-    let inside = (placed disk zone c.args.cylinder c.requires.zone PerCylinder (sym c.in-PerCylinder.ensures) c.args.j c.requires.sector).inside in
-    rw (c.grown_on.ensures.marks c.args.zone c.requires.zone, c.heads-heads.ensures.value) (omega (arith, inside, (slipped_to good (defects_of disk zone c.args.cylinder) (defects_ascend disk zone c.args.cylinder c.requires.zone)).0, few_slots disk zone (omega arith) c.requires.zone.ranges))
+    let inside = (placed disk zone c.args.cylinder c.requires.zone PerCylinder (sym c.in-PerCylinder.ensures) c.args.j
+    c.requires.sector).inside in
+    rw (c.grown_on.ensures.marks c.args.zone c.requires.zone, c.heads-heads.ensures.value)
+    (omega (
+      arith,
+      inside,
+      (slipped_to good (defects_of disk zone c.args.cylinder) (defects_ascend disk zone c.args.cylinder
+          c.requires.zone)).0,
+      few_slots disk zone (omega arith) c.requires.zone.ranges,
+    ))
 
 pub returns-in-PerCylinder : goal.returns-in-PerCylinder
 returns-in-PerCylinder c =
-    rw (c.entry_of_sector.ensures, c.grown_on.ensures.marks c.args.zone c.requires.zone, c.heads-heads.ensures.value) (placed c.args.self.now c.args.zone c.args.cylinder c.requires.zone PerCylinder (sym c.in-PerCylinder.ensures) c.args.j c.requires.sector)
+    rw (c.entry_of_sector.ensures, c.grown_on.ensures.marks c.args.zone c.requires.zone, c.heads-heads.ensures.value)
+    (placed c.args.self.now c.args.zone c.args.cylinder c.requires.zone PerCylinder (sym c.in-PerCylinder.ensures)
+    c.args.j c.requires.sector)

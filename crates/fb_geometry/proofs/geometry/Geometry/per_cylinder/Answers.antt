@@ -5,31 +5,42 @@ use Rattle.fb_geometry.proofs.geometry.Geometry.per_cylinder.Goals as goal
 
 pub returns-in-Some : goal.returns-in-Some
 returns-in-Some c =
-    rw (sym (rw c.deref.ensures.value at c.first_on_full_cylinder.ensures) ∙ c.in-Some.is) at (cylinder_spares c.args.outline c.in_ok-bad.bad.items c.requires.layout c.in_ok-bad.ensures.sorted.faultless c.in_ok-bad.ensures.sorted.are)
+    rw (sym (rw c.deref.ensures.value at c.first_on_full_cylinder.ensures) ∙ c.in-Some.is) at (cylinder_spares c.args.outline
+    c.in_ok-bad.bad.items c.requires.layout c.in_ok-bad.ensures.sorted.faultless c.in_ok-bad.ensures.sorted.are)
 
 pub of-requires-2 : goal.of-requires-2
 of-requires-2 c =
     let disk = c.args.outline in
-    let are : AreMarksOf disk disk.defects c.in_ok-defects.defects.items = rw (c.as_slice.ensures.value, ap (λ disk. disk.defects) c.outline.view_is) at c.in_ok-defects.ensures in
-    let those : AreMarksOf disk disk.grown c.in_ok-grown.grown.items = rw (c.as_slice-2.ensures.value, ap (λ disk. disk.grown) c.outline.view_is) at c.in_ok-grown.ensures in
-    rw (rw (c.deref-2.ensures.value, c.deref-3.ensures.value) at c.in_ok-grown-2.ensures) (grown_in_order disk c.requires.zones c.in_ok-defects.defects.items c.in_ok-grown.grown.items are those (good_grown disk c.in_ok-bad.ensures.sorted.faultless).2)
+    let are : AreMarksOf disk disk.defects c.in_ok-defects.defects.items =
+    rw (c.as_slice.ensures.value, ap (λ disk. disk.defects) c.outline.view_is) at c.in_ok-defects.ensures in
+    let those : AreMarksOf disk disk.grown c.in_ok-grown.grown.items =
+    rw (c.as_slice-2.ensures.value, ap (λ disk. disk.grown) c.outline.view_is) at c.in_ok-grown.ensures in
+    rw (rw (c.deref-2.ensures.value, c.deref-3.ensures.value) at c.in_ok-grown-2.ensures) (grown_in_order disk c.requires.zones
+    c.in_ok-defects.defects.items c.in_ok-grown.grown.items are those (good_grown disk c.in_ok-bad.ensures.sorted.faultless).2)
 
 pub invariant_of-result : goal.invariant_of-result
 invariant_of-result c =
     let disk = c.args.outline in
     let judged = c.in_ok-bad.ensures.sorted in
-    let are : AreMarksOf disk disk.defects c.in_ok-defects.defects.items = rw (c.as_slice.ensures.value, ap (λ disk. disk.defects) c.outline.view_is) at c.in_ok-defects.ensures in
-    let those : AreMarksOf disk disk.grown c.in_ok-grown.grown.items = rw (c.as_slice-2.ensures.value, ap (λ disk. disk.grown) c.outline.view_is) at c.in_ok-grown.ensures in
-    let spares = rw (sym (rw c.deref.ensures.value at c.first_on_full_cylinder.ensures) ∙ c.in_default.is) at (cylinder_spares disk c.in_ok-bad.bad.items c.requires.layout judged.faultless judged.are) in
+    let are : AreMarksOf disk disk.defects c.in_ok-defects.defects.items =
+    rw (c.as_slice.ensures.value, ap (λ disk. disk.defects) c.outline.view_is) at c.in_ok-defects.ensures in
+    let those : AreMarksOf disk disk.grown c.in_ok-grown.grown.items =
+    rw (c.as_slice-2.ensures.value, ap (λ disk. disk.grown) c.outline.view_is) at c.in_ok-grown.ensures in
+    let spares = rw (sym (rw c.deref.ensures.value at c.first_on_full_cylinder.ensures) ∙ c.in_default.is) at
+    (cylinder_spares disk c.in_ok-bad.bad.items c.requires.layout judged.faultless judged.are) in
     let good : IsFaultless disk = faultless disk c.requires.zones c.requires.defects spares in
     rw (c.of.ensures, c.of-2.ensures, rw (c.deref-2.ensures.value, c.deref-3.ensures.value) at c.in_ok-grown-2.ensures) (record {
       faultless = good;
       numbered = c.in_ok-zone_numbers.ensures;
       sound = sound disk good;
-      indexed = indexed disk c.requires.zones c.in_ok-defects.defects.items c.in_ok-grown.grown.items are those (good_grown disk judged.faultless).2;
+      indexed = indexed disk c.requires.zones c.in_ok-defects.defects.items c.in_ok-grown.grown.items are those
+          (good_grown disk judged.faultless).2;
       fits = fits_per_cylinder disk.layout disk.grown c.requires.layout;
     })
 
 pub returns : goal.returns
-returns c =
-    (refl, rw (sym (rw c.deref.ensures.value at c.first_on_full_cylinder.ensures) ∙ c.in_default.is) at (cylinder_spares c.args.outline c.in_ok-bad.bad.items c.requires.layout c.in_ok-bad.ensures.sorted.faultless c.in_ok-bad.ensures.sorted.are))
+returns c = (
+  refl,
+  rw (sym (rw c.deref.ensures.value at c.first_on_full_cylinder.ensures) ∙ c.in_default.is) at (cylinder_spares c.args.outline
+      c.in_ok-bad.bad.items c.requires.layout c.in_ok-bad.ensures.sorted.faultless c.in_ok-bad.ensures.sorted.are),
+)

@@ -4,16 +4,22 @@ use Rattle.fb_geometry.proofs.{Faultless.cylinder_spares_at-zone, Clashes.betwee
 use Rattle.fb_geometry.proofs.outline.Outline.is_full_cylinder.Goals as goal
 
 counted : (c : goal.After-partition_point-behind)
-    → c.partition_point-behind.result ≡ c.partition_point-first.result + length (filter (λ (place : Place). place.track.cylinder == c.args.place.track.cylinder) (c.args.self.now.defects ++ c.args.self.now.grown))
+    → c.partition_point-behind.result
+    ≡ c.partition_point-first.result + length (filter (λ (place : Place). place.track.cylinder == c.args.place.track.cylinder)
+    (c.args.self.now.defects ++ c.args.self.now.grown))
 counted c =
     let cylinder = c.args.place.track.cylinder in
     let sorted = c.args.bad.now in
     let under = λ (place : Place). nat_lt place.track.cylinder cylinder in
     let upto = λ (place : Place). nat_le place.track.cylinder cylinder in
-    between upto under (λ place. place.track.cylinder == cylinder) (λ place. grind (arith, nat_tests)) (c.args.self.now.defects ++ c.args.self.now.grown) sorted c.requires.sorted
-    c.partition_point-first.result c.partition_point-behind.result c.partition_point-first.ensures.bound c.partition_point-behind.ensures.bound
-    (IsPartitionPoint-from_clause under sorted c.partition_point-first.result c.partition_point-first.ensures.partitioned (partitioned under (λ a b h k. grind (arith, nat_tests)) sorted c.requires.sorted.rise) (λ a r f called. search rules))
-    (IsPartitionPoint-from_clause upto sorted c.partition_point-behind.result c.partition_point-behind.ensures.partitioned (partitioned upto (λ a b h k. grind (arith, nat_tests)) sorted c.requires.sorted.rise) (λ a r f called. search rules))
+    between upto under (λ place. place.track.cylinder == cylinder) (λ place. grind (arith, nat_tests)) (c.args.self.now.defects
+    ++ c.args.self.now.grown) sorted c.requires.sorted
+    c.partition_point-first.result c.partition_point-behind.result c.partition_point-first.ensures.bound
+    c.partition_point-behind.ensures.bound
+    (IsPartitionPoint-from_clause under sorted c.partition_point-first.result c.partition_point-first.ensures.partitioned
+    (partitioned under (λ a b h k. grind (arith, nat_tests)) sorted c.requires.sorted.rise) (λ a r f called. search rules))
+    (IsPartitionPoint-from_clause upto sorted c.partition_point-behind.result c.partition_point-behind.ensures.partitioned
+    (partitioned upto (λ a b h k. grind (arith, nat_tests)) sorted c.requires.sorted.rise) (λ a r f called. search rules))
 
 pub overflow_sub-result : goal.overflow_sub-result
 overflow_sub-result c = omega (arith, counted c)
@@ -22,5 +28,6 @@ pub returns : goal.returns
 returns c =
     let cylinder = c.args.place.track.cylinder in
     let bad = c.args.self.now.defects ++ c.args.self.now.grown in
-    let between : c.partition_point-behind.result - c.partition_point-first.result ≡ length (filter (λ (place : Place). place.track.cylinder == cylinder) bad) = omega (arith, counted c) in
+    let between : c.partition_point-behind.result - c.partition_point-first.result
+    ≡ length (filter (λ (place : Place). place.track.cylinder == cylinder) bad) = omega (arith, counted c) in
     rw (between, cylinder_spares_at-zone c.args.self.now.zones cylinder c.zone_of-spares.result c.zone_of-spares.ensures.zone.found) refl

@@ -12,5 +12,6 @@ returns c =
       inside = inside;
       same = same;
       ordered = marks_in_order c.args.self.now c.requires.zones c.args.places.now items inside same c.requires.once
-          (sorted-rise is_mark_before marks_rank items (record { cylinder = 0; position = 0 }) (λ k d l h. sym (sorted_by (get_or items (k + 1) d) (get_or items k d)) ∙ c.sort_unstable.ensures.sorted k d l h));
+          (sorted-rise is_mark_before marks_rank items (record { cylinder = 0; position = 0 })
+          (λ k d l h. sym (sorted_by (get_or items (k + 1) d) (get_or items k d)) ∙ c.sort_unstable.ensures.sorted k d l h));
     }

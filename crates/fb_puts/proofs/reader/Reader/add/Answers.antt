@@ -11,5 +11,6 @@ returns-in_ok-push-in-Put-clause-sound c = λ terms reader follows.
     let next : IsNextPut terms old put = subst (MayFollow terms old) c.in-Put.is follows in
     put_kept terms old (record { reserve = old.reserve; instant = put.instant; puts = c.push.new.self; taken = c.add.new.self }) put reader
     next refl refl c.in_ok-push-in-Put.ensures.items
-    (subst (λ r. HasTaken c.add.new.self (ranges ++ r ∷ [])) c.range_of.ensures (c.in_ok-add-in-Put.ensures.taken ranges reader.taken (λ known.
+    (subst (λ r. HasTaken c.add.new.self (ranges ++ r ∷ [])) c.range_of.ensures (c.in_ok-add-in-Put.ensures.taken
+    ranges reader.taken (λ known.
     subst (λ r. list_any (share r) ranges ≡ false) (sym c.range_of.ensures) (next.apart known))))
