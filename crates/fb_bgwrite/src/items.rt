@@ -1,9 +1,5 @@
 // The rows of spills.
-ghost use Rattle.std.specs.Prelude.{◌≡◌, ◌<◌, ◌^◌, [], ◌∷◌, ◌++◌, length, OnOk, OnErr, slice_get};
-
-use fb_units::{Name, NoMemory, Ns, Track};
-use std::alloc::Global;
-use std::marker::Model;
+use fb_units::{Items, Name, Ns, Track};
 
 /// A stay of the head in a free gap, in which it writes.
 #[derive(Clone, Copy)]
@@ -44,55 +40,7 @@ pub enum SpillItem {
 
 /// Rows of spills: each stay in the order of the gaps, and behind it what was written there, by
 /// end.
-#[derive(Drop)]
-pub struct SpillItems {
-    items: Vec<SpillItem>,
-}
-
-impl Model for SpillItems {
-    ghost use Rattle.std.specs.Prelude.{List};
-    ghost use Rattle.fb_bgwrite.specs.declared.items.SpillItem.{SpillItem};
-
-    ghost Value = { List SpillItem };
-
-    ghost view = { λ s. s.items.items };
-}
-
-impl SpillItems {
-    /// No rows.
-    pub fn new(alloc: Global) -> Self
-        ensures { result ≡ [] }
-    {
-        SpillItems {
-            items: Vec::new(alloc),
-        }
-    }
-
-    /// Adds a row at the end. Out of memory, it returns `NoMemory` and the list is unchanged.
-    pub fn push(&mut self, item: SpillItem) -> Result<(), NoMemory>
-        ensures ok { OnOk result (self.new ≡ self.old ++ item ∷ []) }
-        ensures err { OnErr result (self.new ≡ self.old) }
-    {
-        self.items.push(item)?;
-        Ok(())
-    }
-
-    /// The number of rows.
-    pub fn len(&self) -> usize
-        ensures value { result ≡ length self.now }
-        ensures few { result < 2 ^ 63 }
-    {
-        self.items.len()
-    }
-
-    /// The row with an index, counted from 0.
-    pub fn get(&self, i: usize) -> &SpillItem
-        requires { i < length self.now }
-        ensures { slice_get self.now i ≡ Some result.now }
-    {
-        &self.items[i]
-    }
-}
+pub type SpillItems = Items<SpillItem>;
 
 /// What was written in the free gaps of a run.
 #[derive(Drop)]

@@ -1,6 +1,6 @@
 // The calls of a script.
-use crate::{Live, Names};
-use fb_units::Ns;
+use crate::Names;
+use fb_units::{Items, Ns};
 
 /// What a task is for. A task is a session of the background.
 #[derive(Clone, Copy, Debug, PartialEq, Eq)]
@@ -14,6 +14,9 @@ pub enum Kind {
     /// Reads the live blocks of log segments.
     Clean,
 }
+
+/// For each block of a segment, in order, whether it is live.
+pub type Live = Items<bool>;
 
 /// What a call asks for. A range is `count` sectors from the LBN `first` on.
 #[derive(Drop)]

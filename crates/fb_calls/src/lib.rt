@@ -9,11 +9,9 @@
 #![tactic(auto)]
 
 mod call;
-mod live;
 mod names;
 mod reads;
 
-pub use call::{Action, Call, Calls, Kind};
-pub use live::Live;
+pub use call::{Action, Call, Calls, Kind, Live};
 pub use names::{Names, is_name};
 pub use reads::promoted;

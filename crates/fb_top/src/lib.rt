@@ -28,7 +28,6 @@ mod puts;
 mod reading;
 mod replay;
 mod report;
-mod runs;
 mod spill_text;
 mod streams;
 mod untouched;
@@ -37,8 +36,7 @@ mod writing;
 
 pub use command::{run, run_command};
 pub use note::note_text;
-pub use outcome::{Outcome, status};
-pub use runs::Runs;
+pub use outcome::{Outcome, Runs, status};
 pub use untouched::{
     copies_are_the_survivors, inputs_have_one_run, printed_reports_are_right,
     right_reports_are_right, runs_look_not_ahead, scripts_leave_the_foreground,

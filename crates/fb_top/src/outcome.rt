@@ -2,7 +2,6 @@
 ghost use Rattle.std.specs.Prelude.{◌≡◌};
 ghost use Rattle.fb_top.specs.Status.{status_of};
 
-use crate::Runs;
 use fb_bgwrite::SpillRun;
 use fb_check::Verdict;
 use fb_desk::{Input, Output};
@@ -13,7 +12,11 @@ use fb_report::ReportsFault;
 use fb_rows::Run;
 use fb_script::CallsFault;
 use fb_trace::TraceFault;
+use fb_units::Items;
 use fb_words::UsageFault;
+
+/// The runs of the devices of an array, by device.
+pub type Runs = Items<Run>;
 
 /// How a command ended.
 #[derive(Drop)]

@@ -3,8 +3,7 @@ ghost use Rattle.std.specs.Prelude.{◌≡◌, ℕ, ◌<◌, ◌+◌, ◌-◌, �
 ghost use Rattle.fb_wanted.specs.Index.{grown, reweighed, with_offer, without_offer, last_of, no_block_on};
 
 use crate::Offer;
-use crate::places::Places;
-use fb_units::NoMemory;
+use fb_units::{Items, NoMemory};
 use std::alloc::Global;
 use std::marker::Model;
 
@@ -12,7 +11,7 @@ use std::marker::Model;
 #[derive(Drop)]
 pub struct OnTrack {
     // Their indexes among all registered blocks.
-    places: Places,
+    places: Items<u32>,
     // The sum of weight times sectors over the wanted ones.
     weight: u64,
     // What the wanted ones offer, in any order; there is room for an offer of each block.
@@ -36,7 +35,7 @@ impl OnTrack {
         ensures { result ≡ no_block_on }
     {
         OnTrack {
-            places: Places::new(alloc),
+            places: Items::new(alloc),
             weight: 0,
             offers: Vec::new(alloc),
         }

@@ -5,15 +5,14 @@ ghost use Rattle.fb_wanted.specs.Index.{IsTaskChanged, no_blocks, joined, counte
 
 use crate::Counts;
 use crate::counting::{no_counts, recounted};
-use crate::places::Places;
-use fb_units::NoMemory;
+use fb_units::{Items, NoMemory};
 use std::alloc::Global;
 
 /// The registered blocks of a task.
 #[derive(Drop)]
 pub struct OfTask {
     /// Their indexes among all registered blocks.
-    pub places: Places,
+    pub places: Items<u32>,
     /// How many there are, and how many of them are delivered and aborted.
     pub counts: Counts,
 }
@@ -33,7 +32,7 @@ pub fn add_place(
     let task = task as usize;
     for _ in tasks.len()..task + 1 {
         tasks.push(OfTask {
-            places: Places::new(alloc),
+            places: Items::new(alloc),
             counts: no_counts(),
         })?;
     }

@@ -134,7 +134,7 @@ impl Wanted {
         requires { k < length (filter (of_task task) self.now) }
         ensures { slice_get (places (of_task task) self.now) k ≡ Some result }
     {
-        self.tasks[task as usize].places.get(k as usize)
+        *self.tasks[task as usize].places.get(k as usize)
     }
 
     // The entry with an index among all registered blocks.
