@@ -112,8 +112,8 @@ spare_fault PerTrack disk = fault_at TooManyDefects
 spare_fault PerCylinder disk =
     or_else (fault_at GrownOutside (find (is_outside disk) disk.grown))
     (or_else (fault_at GrownTwice (least is_place_before (repeated disk.grown ++ filter (is_among disk.defects) disk.grown)))
-    (fault_at TooManyInCylinder (least nat_lt (filter (is_full_cylinder disk) (map (λ place. place.track.cylinder)
-    (disk.defects ++ disk.grown))))))
+    (fault_at TooManyInCylinder
+    (least nat_lt (filter (is_full_cylinder disk) (map (λ place. place.track.cylinder) (disk.defects ++ disk.grown))))))
 
 -- the fault of a number that is out of its range, if one is
 abbrev pub range_fault : Shape → Option GeometryFault

@@ -31,8 +31,7 @@ same_mark a b = (a.cylinder == b.cylinder) && (a.position == b.position)
 abbrev pub mark_of : Shape → Place → Mark
 mark_of disk place = record {
   cylinder = place.track.cylinder;
-  position = place.track.head * slots_at disk.zones
-      place.track.cylinder + turn_position disk place;
+  position = place.track.head * slots_at disk.zones place.track.cylinder + turn_position disk place;
 }
 
 -- the places are on the disk, and these are their marks in ascending order, without repetition
@@ -50,6 +49,5 @@ pub record AreSorted (places sorted : List Place) : Type 0 where
 abbrev pub among_unmarked : List Mark → Mark → Mark
 among_unmarked marked mark = record {
   cylinder = mark.cylinder;
-  position = mark.position - rank mark.position
-      (positions (marks_on mark.cylinder marked));
+  position = mark.position - rank mark.position (positions (marks_on mark.cylinder marked));
 }

@@ -42,8 +42,8 @@ pub record IsSound (disk : Shape) : Type 0 where
   pub some_cylinders : (i : ℕ) (zone : Zone) → slice_get disk.zones i ≡ Some zone → zone.first ≤ zone.last
   pub few_cylinders : cylinders_of disk.zones ≤ 10 ^ 6
   -- each cylinder of a zone holds the same number of sectors, at least one
-  pub equal : (i : ℕ) (zone : Zone) (cylinder : ℕ) → IsCylinderOf disk i zone cylinder → length (data_list disk zone cylinder)
-      ≡ cylinder_size disk zone
+  pub equal : (i : ℕ) (zone : Zone) (cylinder : ℕ) → IsCylinderOf disk i zone cylinder
+      → length (data_list disk zone cylinder) ≡ cylinder_size disk zone
   pub some_data : (i : ℕ) (zone : Zone) → slice_get disk.zones i ≡ Some zone → 0 < cylinder_size disk zone
   pub few_slots : (i : ℕ) (zone : Zone) → slice_get disk.zones i ≡ Some zone → zone.sectors ≤ 10000
   pub short_slots : (i : ℕ) (zone : Zone) → slice_get disk.zones i ≡ Some zone → zone.sectors ≤ disk.rotation

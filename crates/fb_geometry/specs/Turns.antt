@@ -49,8 +49,8 @@ pub record IsZoneAt (disk : Shape) (cylinder : ℕ) (zone : Zone) : Type 0 where
 
 -- the position of a place: how many slots of its cylinder come before it
 abbrev pub position_in : Zone → ℕ → Place → ℕ
-position_in zone heads place = place.track.head * zone.sectors + (place.slot + zone.sectors - offset_in zone heads
-    place.track) % zone.sectors
+position_in zone heads place =
+    place.track.head * zone.sectors + (place.slot + zone.sectors - offset_in zone heads place.track) % zone.sectors
 
 -- the place at a position of a cylinder
 abbrev pub slot_at : Zone → ℕ → ℕ → ℕ → Place
