@@ -1,6 +1,6 @@
 -- What the parts of a judgement say of the whole.
 use Rattle.fb_geometry.proofs.Words.{All, All-append, All-from_recursion, All-permutation, Answers, AreSorted, Bool}
-use Rattle.fb_geometry.proofs.Words.{DefectOutside, DefectTwice, Err, Fault, GeometryError, GeometryFault}
+use Rattle.fb_geometry.proofs.Words.{DefectOutside, DefectTwice, Err, Fault, ReadError, GeometryFault}
 use Rattle.fb_geometry.proofs.Words.{GrownOutside, GrownTwice, HasZones, IsFaultless, Judges, JudgesSpares, Layout}
 use Rattle.fb_geometry.proofs.Words.{List, NoMemory, None, Ok, Option, OutOfRange, PerCylinder, PerTrack, Place}
 use Rattle.fb_geometry.proofs.Words.{Result, Shape, SkewTooLarge, Some, TooManyDefects, TooManyInCylinder}
@@ -102,13 +102,13 @@ pub fault_of_spares : (disk : Shape) → zone_fault disk ≡ None → defect_fau
 fault_of_spares disk e f = first_fault-is disk ∙ rw (e, f) refl
 
 -- what is said of the spares is so of the whole, once the zones and the defects are judged
-pub judged : (disk : Shape) (result : Result Shape GeometryError) → zone_fault disk ≡ None → defect_fault disk ≡ None
+pub judged : (disk : Shape) (result : Result Shape (ReadError GeometryFault)) → zone_fault disk ≡ None → defect_fault disk ≡ None
     → JudgesSpares disk result → Judges disk result
 judged disk (Ok geometry) e f h = (h.0, fault_of_spares disk e f ∙ h.1)
 judged disk (Err (Fault fault)) e f h = fault_of_spares disk e f ∙ h
 judged disk (Err NoMemory) e f h = tt
 
-pub refused : (disk : Shape) (error : GeometryError) → zone_fault disk ≡ None → Answers (defect_fault disk) error → Judges disk (Err error)
+pub refused : (disk : Shape) (error : ReadError GeometryFault) → zone_fault disk ≡ None → Answers (defect_fault disk) error → Judges disk (Err error)
 refused disk (Fault fault) e h = fault_of_defects disk fault e h
 refused disk NoMemory e h = tt
 

@@ -61,8 +61,8 @@ pub use Rattle.fb_geometry.specs.Stretches.{IsStretch, KeepsOrder}
 pub use Rattle.fb_geometry.specs.Turns.{AreZoneNumbers, IsZone, IsZoneAt, IsZoneOf, NumbersZone, cylinder_slots}
 pub use Rattle.fb_geometry.specs.Turns.{position_in, slot_at, zone_at}
 pub use Rattle.fb_geometry.specs.declared.cylinder.Cylinder.{Cylinder}
-pub use Rattle.fb_geometry.specs.declared.fault.GeometryError.{GeometryError}
-pub use Rattle.fb_geometry.specs.declared.fault.GeometryError.TheVariants.{Fault, NoMemory}
+pub use Rattle.fb_units.specs.declared.read_error.ReadError.{ReadError}
+pub use Rattle.fb_units.specs.declared.read_error.ReadError.TheVariants.{Fault, NoMemory}
 pub use Rattle.fb_geometry.specs.declared.fault.GeometryFault.{GeometryFault}
 pub use Rattle.fb_geometry.specs.declared.fault.GeometryFault.TheVariants.{DefectOutside, DefectTwice, GrownOutside}
 pub use Rattle.fb_geometry.specs.declared.fault.GeometryFault.TheVariants.{GrownTwice, OutOfRange, SkewTooLarge}

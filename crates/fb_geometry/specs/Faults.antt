@@ -12,8 +12,8 @@ use Rattle.fb_geometry.specs.declared.fault.GeometryFault.{GeometryFault}
 use Rattle.fb_geometry.specs.declared.fault.GeometryFault.TheVariants.{OutOfRange, ZonesNotContiguous, SkewTooLarge, DefectOutside}
 use Rattle.fb_geometry.specs.declared.fault.GeometryFault.TheVariants.{DefectTwice, TooManyDefects, GrownOutside, GrownTwice}
 use Rattle.fb_geometry.specs.declared.fault.GeometryFault.TheVariants.{TooManyInCylinder}
-use Rattle.fb_geometry.specs.declared.fault.GeometryError.{GeometryError}
-use Rattle.fb_geometry.specs.declared.fault.GeometryError.TheVariants.{Fault, NoMemory}
+use Rattle.fb_units.specs.declared.read_error.ReadError.{ReadError}
+use Rattle.fb_units.specs.declared.read_error.ReadError.TheVariants.{Fault, NoMemory}
 use Rattle.fb_geometry.specs.Shape.{Shape, slots_at, cylinders_of, is_among}
 
 -- the spares leave no sector for data on a track of the zone, or on one of its cylinders
@@ -130,7 +130,7 @@ first_fault disk =
     (spare_fault disk.layout disk)))))
 
 -- the geometry has this outline, which has no fault, or the fault is its first one; running out of memory may come with any outline
-abbrev pub Judges : Shape → Result Shape GeometryError → Type 0
+abbrev pub Judges : Shape → Result Shape (ReadError GeometryFault) → Type 0
 Judges disk (Ok geometry) = (geometry ≡ disk) × (first_fault disk ≡ None)
 Judges disk (Err (Fault fault)) = first_fault disk ≡ Some fault
 Judges disk (Err NoMemory) = Unit {0}

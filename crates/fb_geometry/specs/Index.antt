@@ -5,8 +5,8 @@ use Rattle.fb_units.specs.declared.types.Place.{Place}
 use Rattle.fb_geometry.specs.declared.fault.GeometryFault.{GeometryFault}
 use Rattle.fb_geometry.specs.declared.fault.GeometryFault.TheVariants.{ZonesNotContiguous, SkewTooLarge, DefectOutside, DefectTwice}
 use Rattle.fb_geometry.specs.declared.fault.GeometryFault.TheVariants.{GrownOutside, GrownTwice}
-use Rattle.fb_geometry.specs.declared.fault.GeometryError.{GeometryError}
-use Rattle.fb_geometry.specs.declared.fault.GeometryError.TheVariants.{Fault, NoMemory}
+use Rattle.fb_units.specs.declared.read_error.ReadError.{ReadError}
+use Rattle.fb_units.specs.declared.read_error.ReadError.TheVariants.{Fault, NoMemory}
 use Rattle.fb_geometry.specs.declared.layout.Layout.TheVariants.{PerTrack}
 use Rattle.fb_geometry.specs.declared.zone.Zone.{Zone}
 use Rattle.fb_geometry.specs.declared.marks.Mark.{Mark}
@@ -35,7 +35,7 @@ grown_fault disk = or_else (fault_at GrownOutside (find (is_outside disk) disk.g
     (fault_at GrownTwice (least is_place_before (repeated disk.grown ++ filter (is_among disk.defects) disk.grown)))
 
 -- the error is this fault, or out of memory
-abbrev pub Answers : Option GeometryFault → GeometryError → Type 0
+abbrev pub Answers : Option GeometryFault → ReadError GeometryFault → Type 0
 Answers fault (Fault first) = fault ≡ Some first
 Answers fault NoMemory = Unit {0}
 
@@ -73,7 +73,7 @@ pub record IsKept (disk : Shape) (numbers : List ℕ) (defects grown : List Mark
   pub fits : disk.layout ≡ PerTrack → disk.grown ≡ []
 
 -- the geometry has this outline, whose spares have no fault, or the fault is their first one, or it is out of memory
-abbrev pub JudgesSpares : Shape → Result Shape GeometryError → Type 0
+abbrev pub JudgesSpares : Shape → Result Shape (ReadError GeometryFault) → Type 0
 JudgesSpares disk (Ok geometry) = (geometry ≡ disk) × (spare_fault disk.layout disk ≡ None)
 JudgesSpares disk (Err error) = Answers (spare_fault disk.layout disk) error
 

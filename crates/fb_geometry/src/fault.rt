@@ -1,5 +1,5 @@
 // Why an outline is refused.
-use fb_units::{NoMemory, Place, Track};
+use fb_units::{Place, ReadError, Track};
 
 /// Why an outline is refused. If several reasons hold, the first in this order is returned.
 #[derive(Clone, Copy, Debug)]
@@ -27,22 +27,5 @@ pub enum GeometryFault {
     TooManyInCylinder(u32),
 }
 
-/// Why there is no geometry.
-#[derive(Clone, Copy, Debug)]
-pub enum GeometryError {
-    /// The outline is refused.
-    Fault(GeometryFault),
-    /// Out of memory, which says nothing about the outline.
-    NoMemory,
-}
-
-impl From<NoMemory> for GeometryError {
-    ghost use Rattle.std.specs.Prelude.{◌≡◌};
-    ghost use Rattle.fb_geometry.specs.declared.fault.GeometryError.TheVariants.{NoMemory};
-
-    ghost from_gives = { λ _ error. error ≡ NoMemory };
-
-    fn from(_: NoMemory) -> GeometryError {
-        GeometryError::NoMemory
-    }
-}
+/// Why there is no geometry: the fault of the outline, or out of memory.
+pub type GeometryError = ReadError<GeometryFault>;

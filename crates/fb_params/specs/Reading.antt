@@ -14,8 +14,8 @@ use Rattle.fb_params.specs.declared.rule.Rule.{Rule}
 use Rattle.fb_params.specs.declared.rule.Rule.TheVariants.{Known, Present, OfKind, InRange}
 use Rattle.fb_params.specs.declared.fault.ParamsFault.{ParamsFault}
 use Rattle.fb_params.specs.declared.fault.ParamsFault.TheVariants.{NotToml, UnknownKey, MissingKey, WrongKind, OutOfRange, Geometry, Seek, LatentOutside}
-use Rattle.fb_params.specs.declared.fault.ParamsError.{ParamsError}
-use Rattle.fb_params.specs.declared.fault.ParamsError.TheVariants.{Fault, NoMemory}
+use Rattle.fb_units.specs.declared.read_error.ReadError.{ReadError}
+use Rattle.fb_units.specs.declared.read_error.ReadError.TheVariants.{Fault, NoMemory}
 use Rattle.fb_params.specs.declared.parameters.Parameters.{Parameters}
 use Rattle.fb_params.specs.Tables.{number_at, layout_of}
 use Rattle.fb_params.specs.Rules.{first_key}
@@ -92,7 +92,7 @@ abbrev pub held : Parameters → ParamsValue
 held params = record { outline = params.disk.map; mechanics = params.disk.mechanism; sector_bytes = params.disk.sector_bytes; latent = params.latent.items }
 
 -- the result, seen through f, is the verdict; running out of memory may come with any verdict
-abbrev pub Answers : {A B : Type 0} → (A → B) → Result A ParamsError → Result B ParamsFault → Type 0
+abbrev pub Answers : {A B : Type 0} → (A → B) → Result A (ReadError ParamsFault) → Result B ParamsFault → Type 0
 Answers f (Ok a) verdict = verdict ≡ Ok (f a)
 Answers f (Err (Fault fault)) verdict = verdict ≡ Err fault
 Answers f (Err NoMemory) verdict = Unit {0}

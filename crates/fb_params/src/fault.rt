@@ -1,11 +1,7 @@
 // Why a parameter file is refused.
-ghost use Rattle.std.specs.Prelude.{◌≡◌};
-ghost use Rattle.fb_params.specs.declared.fault.ParamsError.TheVariants.{NoMemory};
-
 use fb_geometry::GeometryFault;
 use fb_seek::SeekFault;
-use fb_units::KeyText;
-use std::alloc::{AllocError, AllocFailed};
+use fb_units::{KeyText, ReadError};
 
 /// Why a parameter file is refused. Each kind of fault is looked for in the whole file before the
 /// next one in this order.
@@ -29,35 +25,5 @@ pub enum ParamsFault {
     LatentOutside(u64),
 }
 
-/// Why there are no parameters.
-#[derive(Drop)]
-pub enum ParamsError {
-    /// The file is refused.
-    Fault(ParamsFault),
-    /// Out of memory, which says nothing about the file.
-    NoMemory,
-}
-
-impl From<AllocError> for ParamsError {
-    ghost from_gives = { λ _ e. e ≡ NoMemory };
-
-    fn from(_: AllocError) -> ParamsError {
-        ParamsError::NoMemory
-    }
-}
-
-impl<T: Drop> From<AllocFailed<T>> for ParamsError {
-    ghost from_gives = { λ _ e. e ≡ NoMemory };
-
-    fn from(_: AllocFailed<T>) -> ParamsError {
-        ParamsError::NoMemory
-    }
-}
-
-impl From<fb_units::NoMemory> for ParamsError {
-    ghost from_gives = { λ _ e. e ≡ NoMemory };
-
-    fn from(_: fb_units::NoMemory) -> ParamsError {
-        ParamsError::NoMemory
-    }
-}
+/// Why there are no parameters: the fault of the file, or out of memory.
+pub type ParamsError = ReadError<ParamsFault>;

@@ -6,8 +6,8 @@ use Rattle.fb_puts.proofs.Words.{fault_at, lines_from, next_progress, next_read,
 use Rattle.fb_puts.proofs.Words.{IsNextPut, IsNextReserve, IsReader, IsPutOf, HasTaken, IsKnown, accepted, Answers}
 use Rattle.fb_units.specs.Judging.{◌>>=◌, refused_as}
 use Rattle.fb_puts.specs.declared.fault.PutsFault.{PutsFault}
-use Rattle.fb_puts.specs.declared.fault.PutsError.{PutsError}
-use Rattle.fb_puts.specs.declared.fault.PutsError.TheVariants.{Fault, NoMemory}
+use Rattle.fb_units.specs.declared.read_error.ReadError.{ReadError}
+use Rattle.fb_units.specs.declared.read_error.ReadError.TheVariants.{Fault, NoMemory}
 use Rattle.fb_puts.specs.declared.reader.Reader.{Reader}
 use Rattle.fb_puts.specs.declared.reader.Step.{Step}
 use Rattle.fb_puts.specs.declared.reader.Step.TheVariants.{Blank, Reserve, Put as PutStep}
@@ -33,7 +33,7 @@ module _ (terms : Terms) (number : ℕ) (so_far : Progress) (lines : List (List 
       sym read ∙ ap (lines_from terms number so_far) split ∙ ap (λ r. r >>= (λ p. lines_from terms (number + 1) p rest)) step
 
   -- the error of a line that wasn't read is one of the whole text
-  pub read_error : (new : Progress) (line : List ℕ) (rest : List (List ℕ)) (error : PutsError) → lines ≡ line ∷ rest
+  pub read_error : (new : Progress) (line : List ℕ) (rest : List (List ℕ)) (error : ReadError PutsFault) → lines ≡ line ∷ rest
       → Answers {A = Unit {0}} (λ _. new) (Err error) (next_progress terms number so_far line) → lines_from terms number so_far lines
       ≡ whole → Answers accepted (Err error) whole
   read_error new line rest (Fault fault) split step read = read_fault line rest fault split step read

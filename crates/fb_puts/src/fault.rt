@@ -1,5 +1,5 @@
 // Why a puts file is refused.
-use fb_units::NoMemory;
+use fb_units::ReadError;
 
 /// Why a line of a puts file is refused.
 #[derive(Clone, Copy, Debug, PartialEq, Eq)]
@@ -39,22 +39,5 @@ pub struct PutsFault {
     pub reason: PutsReason,
 }
 
-/// Why no puts file was read.
-#[derive(Clone, Copy, Debug, PartialEq, Eq)]
-pub enum PutsError {
-    /// The puts file is refused.
-    Fault(PutsFault),
-    /// Out of memory, which says nothing about the file.
-    NoMemory,
-}
-
-impl From<NoMemory> for PutsError {
-    ghost use Rattle.std.specs.Prelude.{◌≡◌};
-    ghost use Rattle.fb_puts.specs.declared.fault.PutsError.TheVariants.{NoMemory};
-
-    ghost from_gives = { λ _ error. error ≡ NoMemory };
-
-    fn from(_: NoMemory) -> PutsError {
-        PutsError::NoMemory
-    }
-}
+/// Why no puts file was read: its first fault, or out of memory.
+pub type PutsError = ReadError<PutsFault>;

@@ -1,8 +1,8 @@
 -- The lines behind those that were read.
 use Rattle.fb_report.proofs.Words.{◌≡◌, ℕ, ◌+◌, ◌<◌, List, [], ◌∷◌, ◌++◌, length, Bool, true, false, refl, sym, ap, ◌∙◌, arith, map, subst}
-use Rattle.fb_report.proofs.Words.{Result, Err, slice_split, length-slice_split, Bor, length-map, map-append, Report, ReportsError}
+use Rattle.fb_report.proofs.Words.{Result, Err, slice_split, length-slice_split, Bor, length-map, map-append, Report, ReportsFault, ReadError}
 use Rattle.fb_report.proofs.Words.{AnswersReport, Grammar, may_follow, may_end, ended_with, lines_behind}
-use Rattle.fb_report.specs.declared.reading.ReportsError.TheVariants.{Fault}
+use Rattle.fb_units.specs.declared.read_error.ReadError.TheVariants.{Fault}
 
 -- what the lines say
 abbrev pub texts : List (Bor (List ℕ)) → List (List ℕ)
@@ -42,10 +42,10 @@ module _ (grammar : Grammar) (lines : List (List ℕ)) (line : List ℕ) where
   rest_read = refl
 
 -- the fault that a verdict names: the line behind these
-pub names_fault : (report : Report) (error : ReportsError) (lines : List (Bor (List ℕ))) (count : ℕ) (verdict : Result (List (List ℕ)) ℕ)
+pub names_fault : (report : Report) (error : ReadError ReportsFault) (lines : List (Bor (List ℕ))) (count : ℕ) (verdict : Result (List (List ℕ)) ℕ)
     → error ≡ Fault (record { report = report; line = count + 1 }) → count ≡ length lines → verdict ≡ Err (length (texts lines) + 1) → AnswersReport report (Err error) verdict
 names_fault report error lines count verdict e all f =
-    let P : ReportsError → Type 0 = λ error. AnswersReport report (Err error) verdict in
+    let P : ReadError ReportsFault → Type 0 = λ error. AnswersReport report (Err error) verdict in
     subst P (sym e) (refl, f ∙ ap (λ n. Err (n + 1)) (length-map lines (λ text. text.now) ∙ sym all))
 
 -- what a test of the lines says of the same lines

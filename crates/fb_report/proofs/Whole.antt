@@ -1,7 +1,7 @@
 -- What a report that was read says of its text and of its lines.
 use Rattle.fb_report.proofs.Words.{◌≡◌, ℕ, ◌+◌, ◌<◌, List, [], ◌∷◌, ◌++◌, ◌⊎◌, inl, inr, length, true, refl, sym, ap, ◌∙◌, arith}
 use Rattle.fb_report.proofs.Words.{append_assoc, append-nil, Result, Ok, Err, IfOk, ◌==◌, slice_split, flat_map, join_with_byte, cases_Bool}
-use Rattle.fb_report.proofs.Words.{join_with_byte-slice_split, Report, ReportsError, AnswersReport, Grammar, may_follow, may_end, ended}
+use Rattle.fb_report.proofs.Words.{join_with_byte-slice_split, Report, ReportsFault, ReadError, AnswersReport, Grammar, may_follow, may_end, ended}
 use Rattle.fb_report.proofs.Words.{ended_with, lines_behind, report_of}
 use Rattle.std.proofs.lemmas.Grind.{flat_map-append}
 use Rattle.fb_report.proofs.Behind.{row_read, end_read, fault_read}
@@ -56,7 +56,7 @@ text_of grammar lines (line ∷ next ∷ parts) all h = elim (row_or_end grammar
       ∙ sym (ap (λ parts. flat_map ended lines ++ (line ++ 10 ∷ join_with_byte 10 parts)) end.nothing)
 ]
 
-pub whole_text : (grammar : Grammar) (report : Report) (text : List ℕ) (answer : Result (List (List ℕ)) ReportsError) → AnswersReport report answer (report_of grammar text)
+pub whole_text : (grammar : Grammar) (report : Report) (text : List ℕ) (answer : Result (List (List ℕ)) (ReadError ReportsFault)) → AnswersReport report answer (report_of grammar text)
     → IfOk answer (λ lines. flat_map ended lines ≡ text)
 whole_text grammar report text (Ok lines) h = text_of grammar [] (slice_split (λ byte. byte == 10) text) lines h ∙ join_with_byte-slice_split 10 text
 whole_text grammar report text (Err error) h = tt

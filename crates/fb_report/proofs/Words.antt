@@ -47,4 +47,5 @@ pub use Rattle.fb_report.specs.Summary.{delivery_in, gap_in, last_finish, task_i
 unfoldable pub use Rattle.fb_report.specs.Summary.{summary_lines}
 pub use Rattle.fb_report.specs.declared.bytes.Bytes.{Bytes}
 pub use Rattle.fb_report.specs.declared.reading.Report.{Report}
-pub use Rattle.fb_report.specs.declared.reading.ReportsError.{ReportsError}
+pub use Rattle.fb_report.specs.declared.reading.ReportsFault.{ReportsFault}
+pub use Rattle.fb_units.specs.declared.read_error.ReadError.{ReadError}

@@ -2,12 +2,13 @@
 use Rattle.std.specs.Prelude.{◌≡◌, ◌⊎◌, ℕ, ◌+◌, ◌<◌, ◌≤◌, List, ◌∷◌, length, Some, Result, Ok, Err, slice_get}
 use Rattle.std.specs.List.{AllByRecursion, flat_map}
 use Rattle.fb_report.specs.declared.reading.Report.{Report}
-use Rattle.fb_report.specs.declared.reading.ReportsError.{ReportsError}
-use Rattle.fb_report.specs.declared.reading.ReportsError.TheVariants.{Fault, NoMemory}
+use Rattle.fb_report.specs.declared.reading.ReportsFault.{ReportsFault}
+use Rattle.fb_units.specs.declared.read_error.ReadError.{ReadError}
+use Rattle.fb_units.specs.declared.read_error.ReadError.TheVariants.{Fault, NoMemory}
 use Rattle.fb_report.specs.Grammar.{Grammar, fore_grammar, back_grammar, report_of, report_fields, ended}
 
 -- the lines of a report, or the first line that isn't in its place, or memory ran out
-abbrev pub AnswersReport : Report → Result (List (List ℕ)) ReportsError → Result (List (List ℕ)) ℕ → Type 0
+abbrev pub AnswersReport : Report → Result (List (List ℕ)) (ReadError ReportsFault) → Result (List (List ℕ)) ℕ → Type 0
 AnswersReport report (Ok lines) verdict = verdict ≡ Ok lines
 AnswersReport report (Err (Fault fault)) verdict = (fault.report ≡ report) × (verdict ≡ Err fault.line)
 AnswersReport report (Err NoMemory) verdict = Unit {0}

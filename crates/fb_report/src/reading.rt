@@ -2,14 +2,15 @@
 ghost use Rattle.std.specs.Prelude.{◌≡◌, ◌+◌, ◌<◌, ◌^◌, ◌==◌, length, map, Some, IfOk, slice_get};
 ghost use Rattle.std.specs.List.{flat_map, slice_split};
 ghost use Rattle.fb_report.specs.declared.reading.Report.TheVariants as reports;
-ghost use Rattle.fb_report.specs.declared.reading.ReportsError.TheVariants.{Fault};
+ghost use Rattle.fb_units.specs.declared.read_error.ReadError.TheVariants.{Fault};
 ghost use Rattle.fb_report.specs.Forms.{grammar_of};
 ghost use Rattle.fb_report.specs.Grammar.{back_grammar, ended, ended_with, fore_grammar, report_of};
 ghost use Rattle.fb_report.specs.Reading.{AnswersReport, ReportsEndOnce};
 
 use crate::forms::split_once;
 use crate::grammar::table_of;
-use std::alloc::{AllocFailed, Global};
+use fb_units::ReadError;
+use std::alloc::Global;
 use std::marker::Model;
 
 /// The two reports of a run.
@@ -31,25 +32,8 @@ pub struct ReportsFault {
     pub line: u64,
 }
 
-/// Why no report was read.
-#[derive(Clone, Copy)]
-pub enum ReportsError {
-    /// The text isn't a report.
-    Fault(ReportsFault),
-    /// Out of memory, which says nothing about the text.
-    NoMemory,
-}
-
-impl<T: Drop> From<AllocFailed<T>> for ReportsError {
-    ghost use Rattle.std.specs.Prelude.{◌≡◌};
-    ghost use Rattle.fb_report.specs.declared.reading.ReportsError.TheVariants.{NoMemory};
-
-    ghost from_gives = { λ _ error. error ≡ NoMemory };
-
-    fn from(_: AllocFailed<T>) -> ReportsError {
-        ReportsError::NoMemory
-    }
-}
+/// Why no report was read: the first line out of its place, or out of memory.
+pub type ReportsError = ReadError<ReportsFault>;
 
 /// The lines of a printed report, as parts of its text.
 #[derive(Drop)]

@@ -3,8 +3,8 @@ use Rattle.std.proofs.Common.{◌≡◌, ℕ, ◌+◌, List, [], ◌∷◌, sym,
 use Rattle.fb_units.specs.Judging.{◌>>=◌}
 use Rattle.fb_geometry.specs.Shape.{Shape}
 use Rattle.fb_script.specs.declared.fault.CallsFault.{CallsFault}
-use Rattle.fb_script.specs.declared.fault.CallsError.{CallsError}
-use Rattle.fb_script.specs.declared.fault.CallsError.TheVariants.{Fault, NoMemory}
+use Rattle.fb_units.specs.declared.read_error.ReadError.{ReadError}
+use Rattle.fb_units.specs.declared.read_error.ReadError.TheVariants.{Fault, NoMemory}
 use Rattle.fb_script.specs.Judgement.{Progress}
 use Rattle.fb_script.specs.Reading.{Accepted, at_end, next_progress, lines_from}
 use Rattle.fb_script.specs.Verdict.{Answers, accepted}
@@ -25,7 +25,7 @@ module _ (disk : Shape) (number : ℕ) (so_far : Progress) (lines : List (List �
       sym read ∙ ap (lines_from disk number so_far) split ∙ ap (λ r. r >>= (λ p. lines_from disk (number + 1) p rest)) step
 
   -- the error of a line that wasn't read is one of the whole text
-  pub read_error : (new : Progress) (line : List ℕ) (rest : List (List ℕ)) (error : CallsError) → lines ≡ line ∷ rest
+  pub read_error : (new : Progress) (line : List ℕ) (rest : List (List ℕ)) (error : ReadError CallsFault) → lines ≡ line ∷ rest
       → Answers {A = Unit {0}} (λ _. new) (Err error) (next_progress disk number so_far line) → lines_from disk number so_far lines ≡ whole → Answers accepted (Err error) whole
   read_error new line rest (Fault fault) split step read = read_fault line rest fault split step read
   read_error new line rest NoMemory split step read = tt

@@ -2,12 +2,12 @@
 use Rattle.std.specs.Prelude.{◌≡◌, Result, Ok, Err}
 use Rattle.fb_calls.specs.declared.call.Calls.{Calls}
 use Rattle.fb_script.specs.declared.fault.CallsFault.{CallsFault}
-use Rattle.fb_script.specs.declared.fault.CallsError.{CallsError}
-use Rattle.fb_script.specs.declared.fault.CallsError.TheVariants.{Fault, NoMemory}
+use Rattle.fb_units.specs.declared.read_error.ReadError.{ReadError}
+use Rattle.fb_units.specs.declared.read_error.ReadError.TheVariants.{Fault, NoMemory}
 use Rattle.fb_script.specs.Reading.{Accepted}
 
 -- the result is the verdict, or it is out of memory
-abbrev pub Answers : {A B : Type 0} → (A → B) → Result A CallsError → Result B CallsFault → Type 0
+abbrev pub Answers : {A B : Type 0} → (A → B) → Result A (ReadError CallsFault) → Result B CallsFault → Type 0
 Answers seen (Ok a) verdict = verdict ≡ Ok (seen a)
 Answers seen (Err (Fault fault)) verdict = verdict ≡ Err fault
 Answers seen (Err NoMemory) verdict = Unit {0}

@@ -1,5 +1,5 @@
 // Why a script is refused.
-use fb_units::NoMemory;
+use fb_units::ReadError;
 
 /// Why a line of a script is refused.
 #[derive(Clone, Copy, Debug, PartialEq, Eq)]
@@ -54,22 +54,6 @@ pub struct CallsFault {
     pub reason: CallsReason,
 }
 
-/// Why no script was read.
-#[derive(Clone, Copy, Debug, PartialEq, Eq)]
-pub enum CallsError {
-    /// The script is refused.
-    Fault(CallsFault),
-    /// Out of memory, or a script of more than 2^32 - 1 calls.
-    NoMemory,
-}
-
-impl From<NoMemory> for CallsError {
-    ghost use Rattle.std.specs.Prelude.{◌≡◌};
-    ghost use Rattle.fb_script.specs.declared.fault.CallsError.TheVariants.{NoMemory};
-
-    ghost from_gives = { λ _ error. error ≡ NoMemory };
-
-    fn from(_: NoMemory) -> CallsError {
-        CallsError::NoMemory
-    }
-}
+/// Why no script was read: its first fault, or out of memory. A script of more than 2^32 - 1 calls
+/// is `NoMemory` too.
+pub type CallsError = ReadError<CallsFault>;

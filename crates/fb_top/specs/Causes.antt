@@ -15,8 +15,8 @@ use Rattle.fb_report.specs.Grammar.{fore_grammar}
 use Rattle.fb_report.specs.declared.reading.Report.{Report}
 use Rattle.fb_report.specs.declared.reading.Report.TheVariants as reports
 use Rattle.fb_report.specs.declared.reading.ReportsFault.{ReportsFault}
-use Rattle.fb_report.specs.declared.reading.ReportsError.{ReportsError}
-use Rattle.fb_report.specs.declared.reading.ReportsError.TheVariants as errors
+use Rattle.fb_units.specs.declared.read_error.ReadError.{ReadError}
+use Rattle.fb_units.specs.declared.read_error.ReadError.TheVariants as errors
 use Rattle.fb_top.specs.declared.outcome.Outcome.{Outcome}
 use Rattle.fb_top.specs.declared.outcome.Outcome.TheVariants as outcomes
 use Rattle.fb_top.specs.Sources.{SourceTerms, InputTerms, name_of, replay_inputs, check_inputs}
@@ -211,7 +211,7 @@ abbrev pub StopsGivenPuts : Option (List ℕ) → Files → DeskView → DeskVie
 StopsGivenPuts given files old new outcome = (name : List ℕ) × (given ≡ Some name) × StopsPuts name files old new outcome
 
 -- the outcome where a text is no report
-abbrev pub refused_as : ReportsError → Outcome
+abbrev pub refused_as : ReadError ReportsFault → Outcome
 refused_as (errors.Fault fault) = outcomes.Reports fault
 refused_as errors.NoMemory = outcomes.NoMemory
 

@@ -13,7 +13,7 @@ use Rattle.fb_units.proofs.Judged.{both_ok}
 use Rattle.fb_trace.specs.declared.devices.DevicesReader.{DevicesReader}
 use Rattle.fb_trace.specs.declared.entry.Entry.{Entry}
 use Rattle.fb_trace.specs.declared.trace.Trace.{Trace}
-use Rattle.fb_trace.specs.declared.trace.TraceError.{TraceError}
+use Rattle.fb_units.specs.declared.read_error.ReadError.{ReadError}
 use Rattle.fb_trace.specs.declared.trace.TraceFault.{TraceFault}
 use Rattle.fb_trace.specs.declared.trace.TraceReason.{TraceReason}
 use Rattle.fb_trace.specs.Devices.{all_of, traces_of}
@@ -203,7 +203,7 @@ value_at : (traces : List Trace) (k : ℕ) (trace : Trace) → slice_get traces 
 value_at traces k trace at = slice_get-map accepted traces k ∙ ap (option_map accepted) at
 
 -- where all traces were read
-pub each_trace : (devices sectors : ℕ) (text : List ℕ) (result : Result (Vec Trace Global) TraceError) → Answers (λ traces. map accepted traces.items) result (traces_of devices sectors text)
+pub each_trace : (devices sectors : ℕ) (text : List ℕ) (result : Result (Vec Trace Global) (ReadError TraceFault)) → Answers (λ traces. map accepted traces.items) result (traces_of devices sectors text)
     → IfOk result (λ traces. AreTracesOf devices sectors text traces.items)
 each_trace devices sectors text (Ok traces) e = record {
   count = sym (length-map traces.items accepted) ∙ values_count (λ device. trace_of device sectors text) 0 devices (map accepted traces.items) e;
@@ -214,7 +214,7 @@ each_trace devices sectors text (Ok traces) e = record {
 }
 each_trace devices sectors text (Err error) e = tt
 
-pub fit_traces : (devices sectors : ℕ) (text : List ℕ) (result : Result (Vec Trace Global) TraceError) → Answers (λ traces. map accepted traces.items) result (traces_of devices sectors text)
+pub fit_traces : (devices sectors : ℕ) (text : List ℕ) (result : Result (Vec Trace Global) (ReadError TraceFault)) → Answers (λ traces. map accepted traces.items) result (traces_of devices sectors text)
     → IfOk result (λ traces. AllByRecursion (λ trace. IsTraceOf sectors trace.requests.items) traces.items)
 fit_traces devices sectors text (Ok traces) e =
     all_unmap (λ (trace : Accepted). IsTraceOf sectors trace.requests) accepted traces.items

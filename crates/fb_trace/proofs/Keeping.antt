@@ -16,7 +16,8 @@ use Rattle.fb_units.proofs.Judged.{both_ok, value_ok, test_ok, step_ok, millis_s
 use Rattle.fb_trace.proofs.Lists.{all_push, all_weaker}
 use Rattle.fb_trace.specs.declared.entry.Entry.{Entry}
 use Rattle.fb_trace.specs.declared.trace.Trace.{Trace}
-use Rattle.fb_trace.specs.declared.trace.TraceError.{TraceError}
+use Rattle.fb_units.specs.declared.read_error.ReadError.{ReadError}
+use Rattle.fb_trace.specs.declared.trace.TraceFault.{TraceFault}
 use Rattle.fb_trace.specs.declared.trace.TraceReason.TheVariants.{BadTime, BadNumber, OutOfOrder, Empty, TooLarge, BeyondDisk, TooMany}
 use Rattle.fb_trace.specs.declared.reader.Line.{Line}
 use Rattle.fb_trace.specs.declared.reader.Line.TheVariants.{Blank, PassedOver, Asked}
@@ -195,7 +196,7 @@ pub fit_trace : (device sectors : ℕ) (text : List ℕ) (trace : Accepted) → 
 fit_trace device sectors text trace e = fit_from device sectors 1 at_start (lines_of text) trace e (nothing_read sectors)
 
 -- where a trace was read
-pub fit_result : (device sectors : ℕ) (text : List ℕ) (result : Result Trace TraceError) → Answers accepted result (trace_of device sectors text)
+pub fit_result : (device sectors : ℕ) (text : List ℕ) (result : Result Trace (ReadError TraceFault)) → Answers accepted result (trace_of device sectors text)
     → IfOk result (λ trace. IsTraceOf sectors trace.requests.items)
 fit_result device sectors text (Ok trace) e = fit_trace device sectors text (accepted trace) e
 fit_result device sectors text (Err error) e = tt

@@ -1,8 +1,8 @@
 -- Reading a text goes on after its first line.
 use Rattle.std.proofs.Common.{◌≡◌, ℕ, ◌+◌, List, [], ◌∷◌, sym, ap, ◌∙◌, Result, Ok, Err}
 use Rattle.fb_trace.specs.declared.trace.TraceFault.{TraceFault}
-use Rattle.fb_trace.specs.declared.trace.TraceError.{TraceError}
-use Rattle.fb_trace.specs.declared.trace.TraceError.TheVariants.{Fault, NoMemory}
+use Rattle.fb_units.specs.declared.read_error.ReadError.{ReadError}
+use Rattle.fb_units.specs.declared.read_error.ReadError.TheVariants.{Fault, NoMemory}
 use Rattle.fb_units.specs.Judging.{◌>>=◌}
 use Rattle.fb_trace.specs.Reading.{Accepted, Progress, next_progress, lines_from}
 use Rattle.fb_trace.specs.Verdict.{Answers, accepted}
@@ -36,7 +36,7 @@ unfolding lines_from
 read_end device sectors number so_far lines whole none read = sym read ∙ ap (lines_from device sectors number so_far) none
 
 -- the error of a line that wasn't read is one of the whole text
-pub read_error : (device sectors number : ℕ) (so_far new : Progress) (line : List ℕ) (lines rest : List (List ℕ)) (whole : Result Accepted TraceFault) (error : TraceError)
+pub read_error : (device sectors number : ℕ) (so_far new : Progress) (line : List ℕ) (lines rest : List (List ℕ)) (whole : Result Accepted TraceFault) (error : ReadError TraceFault)
     → lines ≡ line ∷ rest → Answers {A = Unit {0}} (λ _. new) (Err error) (next_progress device sectors number so_far line)
     → lines_from device sectors number so_far lines ≡ whole → Answers accepted (Err error) whole
 read_error device sectors number so_far new line lines rest whole (Fault fault) split step read = read_fault device sectors number so_far line lines rest whole fault split step read

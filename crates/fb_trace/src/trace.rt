@@ -1,5 +1,5 @@
 // What reading a trace returns.
-use fb_units::{NoMemory, Request};
+use fb_units::{ReadError, Request};
 
 /// The requests of one device, and how many of other devices were passed over.
 #[derive(Drop)]
@@ -40,22 +40,5 @@ pub struct TraceFault {
     pub reason: TraceReason,
 }
 
-/// Why no trace was read.
-#[derive(Clone, Copy)]
-pub enum TraceError {
-    /// The trace is refused.
-    Fault(TraceFault),
-    /// Out of memory, which says nothing about the trace.
-    NoMemory,
-}
-
-impl From<NoMemory> for TraceError {
-    ghost use Rattle.std.specs.Prelude.{◌≡◌};
-    ghost use Rattle.fb_trace.specs.declared.trace.TraceError.TheVariants.{NoMemory};
-
-    ghost from_gives = { λ _ error. error ≡ NoMemory };
-
-    fn from(_: NoMemory) -> TraceError {
-        TraceError::NoMemory
-    }
-}
+/// Why no trace was read: the first fault of the trace, or out of memory.
+pub type TraceError = ReadError<TraceFault>;

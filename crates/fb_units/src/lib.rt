@@ -9,11 +9,13 @@
 mod items;
 mod lines;
 mod numbers;
+mod read_error;
 mod times;
 mod types;
 
 pub use items::Items;
 pub use lines::{next_field, next_line};
 pub use numbers::{LIMIT, read_flags, read_millis, read_number, write_millis};
+pub use read_error::ReadError;
 pub use times::{Ns, wait_for};
 pub use types::{KeyText, Name, NoMemory, Place, Request, Sweep, Track};

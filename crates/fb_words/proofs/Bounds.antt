@@ -17,7 +17,8 @@ use Rattle.fb_words.specs.Values.{is_given, is_value, request_count_of, device_c
 use Rattle.fb_words.specs.Reading.{Progress, ready, awaits, Parts, parts_of, is_summary, fault_at, with_summary, with_part, with_option, with_name, with_word, at_end, options_from}
 use Rattle.fb_words.specs.Command.{Terms, replays, makes, checks, arrays, ReplayTerms, MakeTerms, CheckTerms, RebuildTerms, ArrayTerms, go_together, replay_of, make_of, check_of, rebuild_incomplete, rebuild_beyond, rebuild_with, rebuild_of, array_of, terms_of, with_verb, command_of}
 use Rattle.fb_words.specs.declared.command.Command.{Command}
-use Rattle.fb_words.specs.declared.fault.WordsError.{WordsError}
+use Rattle.fb_units.specs.declared.read_error.ReadError.{ReadError}
+use Rattle.fb_words.specs.declared.fault.UsageFault.{UsageFault}
 use Rattle.fb_words.specs.Verdict.{Answers, terms}
 use Rattle.fb_words.specs.Limits.{IsWithinLimits}
 
@@ -243,6 +244,6 @@ within_limits (program ∷ []) terms e = cc
 within_limits (program ∷ name ∷ words) terms e = small-with_verb (length (program ∷ name ∷ words)) name words terms e
 
 -- the numbers of a result are within the limits
-pub answer_within : (words : List (List ℕ)) (result : Result Command WordsError) → Answers terms result (command_of words) → IfOk result (λ command. IsWithinLimits (terms command))
+pub answer_within : (words : List (List ℕ)) (result : Result Command (ReadError UsageFault)) → Answers terms result (command_of words) → IfOk result (λ command. IsWithinLimits (terms command))
 answer_within words (Ok command) e = within_limits words (terms command) e
 answer_within words (Err error) e = tt

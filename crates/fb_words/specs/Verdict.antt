@@ -10,8 +10,8 @@ use Rattle.fb_words.specs.declared.command.RebuildWords.{RebuildWords}
 use Rattle.fb_words.specs.declared.command.Command.{Command}
 use Rattle.fb_words.specs.declared.command.Command.TheVariants.{Replay, Make, Check, Array}
 use Rattle.fb_words.specs.declared.fault.UsageFault.{UsageFault}
-use Rattle.fb_words.specs.declared.fault.WordsError.{WordsError}
-use Rattle.fb_words.specs.declared.fault.WordsError.TheVariants.{Fault, NoMemory}
+use Rattle.fb_units.specs.declared.read_error.ReadError.{ReadError}
+use Rattle.fb_units.specs.declared.read_error.ReadError.TheVariants.{Fault, NoMemory}
 use Rattle.fb_words.specs.Command.{ReplayTerms, MakeTerms, CheckTerms, RebuildTerms, ArrayTerms, Terms, replays, makes, checks, arrays}
 
 abbrev pub replay_terms : ReplayWords → ReplayTerms
@@ -73,7 +73,7 @@ terms (Check words) = checks (check_terms words)
 terms (Array words) = arrays (array_terms words)
 
 -- the result is the verdict, or it is out of memory
-abbrev pub Answers : {A B : Type 0} → (A → B) → Result A WordsError → Result B UsageFault → Type 0
+abbrev pub Answers : {A B : Type 0} → (A → B) → Result A (ReadError UsageFault) → Result B UsageFault → Type 0
 Answers seen (Ok a) verdict = verdict ≡ Ok (seen a)
 Answers seen (Err (Fault fault)) verdict = verdict ≡ Err fault
 Answers seen (Err NoMemory) verdict = Unit {0}

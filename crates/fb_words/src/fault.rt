@@ -1,5 +1,5 @@
 // Why words are refused.
-use std::alloc::AllocError;
+use fb_units::ReadError;
 
 /// Why a word is refused.
 #[derive(Clone, Copy)]
@@ -44,29 +44,12 @@ pub struct UsageFault {
     pub reason: UsageReason,
 }
 
-/// Why no command was read.
-#[derive(Clone, Copy)]
-pub enum WordsError {
-    /// The words are refused.
-    Fault(UsageFault),
-    /// Out of memory, which says nothing about the words.
-    NoMemory,
-}
-
-impl From<AllocError> for WordsError {
-    ghost use Rattle.std.specs.Prelude.{◌≡◌};
-    ghost use Rattle.fb_words.specs.declared.fault.WordsError.TheVariants.{NoMemory};
-
-    ghost from_gives = { λ _ error. error ≡ NoMemory };
-
-    fn from(_: AllocError) -> WordsError {
-        WordsError::NoMemory
-    }
-}
+/// Why no command was read: the first faulty word, or out of memory.
+pub type WordsError = ReadError<UsageFault>;
 
 impl From<UsageFault> for WordsError {
     ghost use Rattle.std.specs.Prelude.{◌≡◌};
-    ghost use Rattle.fb_words.specs.declared.fault.WordsError.TheVariants.{Fault};
+    ghost use Rattle.fb_units.specs.declared.read_error.ReadError.TheVariants.{Fault};
 
     ghost from_gives = { λ fault error. error ≡ Fault fault };
 
