@@ -92,6 +92,20 @@ module _ (disk : Shape) (sound : IsSound disk) (starts : List ZoneStart) (are : 
           behind = omega (arith, next, ap upto (next_border 0 disk.zones i zone.0 zone.1));
         }
 
+    -- what the starts of the zones that hold the number tell, the start before the point tells
+    pub finds : (Tells : ZoneStart → Type 0) (x i : ℕ) (d : ZoneStart)
+        → IsPartitionPoint (λ start. nat_le (key start) x ≡ true) (λ start. nat_le (key start) x ≡ false) starts i
+        → i ≤ length starts → upto 0 ≤ x → x < upto (cylinders_of disk.zones)
+        → ((j : ℕ) (zone : Zone) → slice_get disk.zones j ≡ Some zone → upto zone.first ≤ x → x < upto (zone.last + 1)
+        → Tells (start_of disk zone))
+        → (0 < i) × Tells (get_or starts (i - 1) d)
+    finds Tells x zero d at bound low high tells = absurd (omega (arith, some_point x zero at low))
+    finds Tells x (suc i) d at bound low high tells =
+        let zone = found x i at bound high in
+        let index : suc i - 1 ≡ i = omega arith in
+        let same = ap (λ k. get_or starts k d) index ∙ start_at i zone.zone d zone.at in
+        (omega arith, subst Tells (sym same) (tells i zone.zone zone.at zone.from zone.behind))
+
 -- ---- the sector that a number names in its zone
 
 tells_zone : (disk : Shape) → IsSound disk → (i : ℕ) (zone : Zone) (lbn : ℕ) → slice_get disk.zones i ≡ Some zone
@@ -142,45 +156,23 @@ module _ (disk : Shape) (starts : List ZoneStart) (count : ℕ) (mapped : IsMapp
   by_cylinder-rises = starts-rise disk mapped.sound starts mapped.starts_are (λ start. start.cylinder) (λ cylinder. cylinder) (λ zone. refl)
       (λ a b h. h)
 
-  finds-lbn : (lbn i : ℕ) (d : ZoneStart) → IsPartitionPoint (λ start. nat_le start.lbn lbn ≡ true) (λ start. nat_le start.lbn lbn ≡ false)
-      starts i → i ≤ length starts → lbn < length (places disk)
-      → (0 < i) × TellsSector disk (get_or starts (i - 1) d) lbn
+  finds-lbn : (lbn i : ℕ) (d : ZoneStart)
+      → IsPartitionPoint (λ start. nat_le start.lbn lbn ≡ true) (λ start. nat_le start.lbn lbn ≡ false) starts i
+      → i ≤ length starts → lbn < length (places disk) → (0 < i) × TellsSector disk (get_or starts (i - 1) d) lbn
   unfolding sectors_before
-  finds-lbn lbn zero d at bound below = absurd
-      (omega (
-        arith,
-        some_point disk mapped.sound starts mapped.starts_are (λ start. start.lbn) (sectors_before disk) (λ zone. refl)
-            (before-rise disk mapped.sound) lbn zero at (omega arith),
-      ))
-  finds-lbn lbn (suc i) d at bound below =
-      let zone = found disk mapped.sound starts mapped.starts_are (λ start. start.lbn) (sectors_before disk) (λ zone. refl)
-      (before-rise disk mapped.sound) lbn i at bound (omega (arith, count-is disk mapped.sound)) in
-      let index : suc i - 1 ≡ i = omega arith in (
-        omega arith,
-        subst (λ start. TellsSector disk start lbn)
-            (sym (ap (λ k. get_or starts k d) index ∙ start_at disk mapped.sound starts mapped.starts_are i zone.zone d zone.at))
-            (tells_zone disk mapped.sound i zone.zone lbn zone.at zone.from zone.behind),
-      )
+  finds-lbn lbn i d at bound below =
+      finds disk mapped.sound starts mapped.starts_are (λ start. start.lbn) (sectors_before disk) (λ zone. refl)
+      (before-rise disk mapped.sound)
+      (λ start. TellsSector disk start lbn) lbn i d at bound (omega arith) (omega (arith, count-is disk mapped.sound))
+      (λ j zone. tells_zone disk mapped.sound j zone lbn)
 
   finds-cylinder : (cylinder i : ℕ) (d : ZoneStart)
       → IsPartitionPoint (λ start. nat_le start.cylinder cylinder ≡ true) (λ start. nat_le start.cylinder cylinder ≡ false) starts i
-      → i ≤ length starts
-      → cylinder < cylinders_of disk.zones → (0 < i) × TellsFirst disk (get_or starts (i - 1) d) cylinder
-  finds-cylinder cylinder zero d at bound below =
-      absurd (omega (
-        arith,
-        some_point disk mapped.sound starts mapped.starts_are (λ start. start.cylinder) (λ cylinder. cylinder)
-            (λ zone. refl) (λ a b h. h) cylinder zero at (omega arith),
-      ))
-  finds-cylinder cylinder (suc i) d at bound below =
-      let zone = found disk mapped.sound starts mapped.starts_are (λ start. start.cylinder) (λ cylinder. cylinder) (λ zone. refl)
-      (λ a b h. h) cylinder i at bound below in
-      let index : suc i - 1 ≡ i = omega arith in (
-        omega arith,
-        subst (λ start. TellsFirst disk start cylinder)
-            (sym (ap (λ k. get_or starts k d) index ∙ start_at disk mapped.sound starts mapped.starts_are i zone.zone d zone.at))
-            (tells_first disk mapped.sound i zone.zone cylinder zone.at zone.from zone.behind),
-      )
+      → i ≤ length starts → cylinder < cylinders_of disk.zones → (0 < i) × TellsFirst disk (get_or starts (i - 1) d) cylinder
+  finds-cylinder cylinder i d at bound below =
+      finds disk mapped.sound starts mapped.starts_are (λ start. start.cylinder) (λ n. n) (λ zone. refl) (λ a b h. h)
+      (λ start. TellsFirst disk start cylinder) cylinder i d at bound (omega arith) below
+      (λ j zone. tells_first disk mapped.sound j zone cylinder)
 
 mapped_as : (seen disk : Shape) (items starts : List ZoneStart) (count : ℕ) → IsMapped seen items count → seen ≡ disk → starts ≡ items
     → IsMapped disk starts count
