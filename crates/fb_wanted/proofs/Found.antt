@@ -1,5 +1,5 @@
 -- Offers and their blocks, each found by its index among all registered ones.
-use Rattle.std.proofs.Common.{◌≡◌, ℕ, suc, ◌+◌, ◌*◌, ◌<◌, List, [], ◌∷◌, ◌++◌, Some, length, option_map, slice_get, get_or, refl, ap, sym}
+use Rattle.std.proofs.Common.{◌≡◌, ℕ, suc, ◌*◌, ◌<◌, List, [], ◌∷◌, ◌++◌, Some, length, option_map, slice_get, get_or, refl, ap, sym}
 use Rattle.std.proofs.Common.{◌∙◌, arith}
 use Rattle.std.specs.List.{sum_by}
 use Rattle.std.proofs.lemmas.List.{length-map}
@@ -49,25 +49,28 @@ blocks_still es e (o ∷ os) found =
     ap (λ b. b ∷ offered_blocks (es ++ e ∷ []) os) (is ∙ sym was)
     ∙ ap (λ l. block_at es o.place ∷ l) (blocks_still es e os (λ i x at. found (suc i) x at))
 
+-- what a measure is of an offer and of a block
+abbrev of_offer : (Sweep → ℕ → ℕ) → Offer → ℕ
+of_offer measure o = measure o.sweep o.worth
+
+abbrev of_block : (Sweep → ℕ → ℕ) → Block → ℕ
+of_block measure b = measure b.sweep (b.weight * b.count)
+
 -- the offers add to each sum what their blocks do
 as_blocks : (measure : Sweep → ℕ → ℕ) (es : List Entry) (os : List Offer) → AreFound es os
-    → sum_by (λ (o : Offer). measure o.sweep o.worth) os
-    ≡ sum_by (λ (b : Block). measure b.sweep (b.weight * b.count)) (offered_blocks es os)
+    → sum_by (of_offer measure) os ≡ sum_by (of_block measure) (offered_blocks es os)
 as_blocks measure es [] found = refl
 as_blocks measure es (o ∷ os) found =
     let its = found 0 o refl in
-    let was = get_or_from_slice_get (blocks_of es) o.place its.0 no_block its.1 in
-    let one : measure o.sweep o.worth ≡ measure (block_at es o.place).sweep ((block_at es o.place).weight * (block_at es o.place).count)
-    = ap (λ (x : Offer). measure x.sweep x.worth) its.2 ∙ ap (λ (b : Block). measure b.sweep (b.weight * b.count)) (sym was) in
-    sum_by-cons (λ (x : Offer). measure x.sweep x.worth) o os
-    ∙ (ap (λ n. n + sum_by (λ (x : Offer). measure x.sweep x.worth) os) one
-    ∙ (ap (λ n. measure (block_at es o.place).sweep ((block_at es o.place).weight * (block_at es o.place).count) + n)
-    (as_blocks measure es os (λ i x at. found (suc i) x at))
-    ∙ sym (sum_by-cons (λ (b : Block). measure b.sweep (b.weight * b.count)) (block_at es o.place) (offered_blocks es os))))
+    let b = block_at es o.place in
+    let same = get_or_from_slice_get (blocks_of es) o.place its.0 no_block its.1 in
+    let one : of_offer measure o ≡ of_block measure b = ap (of_offer measure) its.2 ∙ ap (of_block measure) (sym same) in
+    let rest = as_blocks measure es os (λ i x at. found (suc i) x at) in
+    omega (arith, sum_by-cons (of_offer measure) o os, sum_by-cons (of_block measure) b (offered_blocks es os), one, rest)
 
 pub are_offers : (t : Track) (es : List Entry) (os : List Offer) → AreSameBlocks (offered_blocks es os) (wanted_of (on_track t es))
     → AreFound es os → AreOffers os (on_track t es)
-are_offers t es os same found measure = as_blocks measure es os found ∙ same (λ b. measure b.sweep (b.weight * b.count))
+are_offers t es os same found measure = as_blocks measure es os found ∙ same (of_block measure)
 
 -- the i-th of the blocks of offers
 module _ (es : List Entry) (os : List Offer) (i : ℕ) (d : Offer) (found : AreFound es os) (room : i < length (offered_blocks es os)) where

@@ -111,10 +111,10 @@ module _ (es : List Entry) (indexes : List ℕ) (p : ℕ) (e : Entry) (s : State
         let part : sum_wanted measure (of_track t) (turned ∷ []) ≡ sum_wanted measure (of_track t) (e ∷ [])
         = elim (cases_Bool (same_track t e.block.track)) [
           | inl on ↦ elim (cases_Bool (is_wanted e.state)) [
-            | inl yes' ↦ by_wanted measure (of_track t) turned on (alike ∙ yes') ∙ sym (by_wanted measure (of_track t) e on yes')
-            | inr no' ↦ by_unwanted measure (of_track t) turned (alike ∙ no') ∙ sym (by_unwanted measure (of_track t) e no')
+            | inl yes' ↦ rw (on, alike, yes') refl
+            | inr no' ↦ rw (on, alike, no') refl
           ]
-          | inr off ↦ by_elsewhere measure (of_track t) turned off ∙ sym (by_elsewhere measure (of_track t) e off)
+          | inr off ↦ rw off refl
         ] in
         omega (arith, same_sum measure (offers t), h.sums t measure, by-with_state measure (of_track t) s p e es at, part);
     each = λ t i o there. let its = h.each t i o there in elim (cases_eq o.place p) [

@@ -61,8 +61,10 @@ loop-streak-preserved c =
 
 -- the walk is over where each streak from this one on begins behind the range
 over : (c : After-next_streak)
-    → AreBehind c.args.task c.args.first c.args.count c.args.self.now (record { region = c.loop-streak.region; index = c.loop-streak.index })
-    → changed_where c.loop-streak.invariant.chosen c.args.task c.args.change c.args.self.now ≡ after c.args.task c.args.change c.args.self.now
+    → AreBehind c.args.task c.args.first c.args.count c.args.self.now
+    (record { region = c.loop-streak.region; index = c.loop-streak.index })
+    → changed_where c.loop-streak.invariant.chosen c.args.task c.args.change c.args.self.now
+    ≡ after c.args.task c.args.change c.args.self.now
 over c behind =
     let old = c.loop-streak.invariant in
     let from : Streak = record { region = c.loop-streak.region; index = c.loop-streak.index } in
