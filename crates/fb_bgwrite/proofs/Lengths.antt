@@ -186,6 +186,7 @@ all_of_cylinder disk sound cylinder heads least es on_disk light all each = all_
     let on = stands_on es k e at in
     let head = (subst (IsTrackOf disk.map) (sym (on_disk k e at).track) (track_on_disk disk sound e.block.lbn)).head in
     let there =
-    subst (λ c. slice_get (on_track (let t : Track = record { cylinder = c; head = e.block.track.head } in t) es) on.0 ≡ Some e) here on.1 in
+    subst (λ c. slice_get (on_track (let t : Track = record { cylinder = c; head = e.block.track.head } in t) es) on.0 ≡ Some e)
+    here on.1 in
     let worth = its_sectors e (all_get (λ (x : Entry). x.block.weight ≡ 1) es k e light at) in
     omega (arith, each e.block.track.head on.0 e (omega (arith, head, all)) there wanted, worth))

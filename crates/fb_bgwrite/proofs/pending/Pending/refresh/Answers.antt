@@ -1,5 +1,5 @@
-use Rattle.fb_bgwrite.proofs.Words.{◌≡◌, ◌≤◌, ◌∙◌, Some, slice_get, inl, inr, ap, sym, subst, arith, cases_lt, Track, Shape, IsSound, on_track}
-use Rattle.fb_bgwrite.proofs.Words.{AreOnDisk}
+use Rattle.fb_bgwrite.proofs.Words.{◌≡◌, ◌≤◌, ◌∙◌, Some, slice_get, inl, inr, ap, sym, subst, arith, cases_lt, Track, Shape, IsSound}
+use Rattle.fb_bgwrite.proofs.Words.{on_track, AreOnDisk}
 use Rattle.fb_bgwrite.proofs.Lengths.{all_of_cylinder, renewed}
 use Rattle.fb_bgwrite.proofs.pending.Pending.refresh.Goals as goal
 
