@@ -1,8 +1,10 @@
--- What a dwell catches of a track's wanted blocks is put in one order, in whatever order it looks at them.
-use Rattle.std.proofs.Common.{◌≡◌, inl, inr, ℕ, suc, ◌+◌, ◌<◌, ◌≤◌, ◌==◌, List, [], ◌∷◌, Bool, true, ◌&&◌, Some, slice_get}
+-- What is chosen of a track's wanted blocks is put in one order of delivery, in whatever order they are looked at.
+use Rattle.std.proofs.Common.{◌≡◌, inl, inr, ℕ, suc, ◌+◌, ◌<◌, ◌≤◌, ◌==◌, List, [], ◌∷◌, ◌++◌, Bool, true, ◌&&◌, Some, slice_get}
 use Rattle.std.proofs.Common.{filter, map, length, refl, arith, sym, ap, ◌∙◌, subst, if◌then◌else◌}
 use Rattle.std.proofs.lemmas.Bool.{cases_Bool, and_parts, and_from, eqb-true, eq-eqb}
+use Rattle.std.proofs.lemmas.List.Elements.{filter-append}
 use Rattle.std.proofs.lemmas.List.Sums.{sum_by-cons}
+use Rattle.fb_units.specs.declared.types.Track.{Track}
 use Rattle.fb_units.specs.Tracks.{same_track}
 use Rattle.fb_service.specs.declared.disk.Disk.{Disk}
 use Rattle.fb_wanted.specs.declared.block.Block.{Block}
@@ -14,7 +16,6 @@ use Rattle.fb_rows.specs.declared.gap.Dwell.{Dwell}
 use Rattle.fb_model.specs.Plans.{catches}
 use Rattle.fb_plan.specs.declared.catching.Catch.{Catch}
 use Rattle.fb_plan.specs.Order.{in_order, catch_of, caught_among, caught_of}
-use Rattle.fb_plan.specs.Ways.{FitsDisk, AreOnDisk}
 use Rattle.fb_plan.proofs.Gains.{chosen-sum, in_filter}
 use Rattle.fb_plan.proofs.Offered.{entry-of, to_filter}
 use Rattle.fb_plan.proofs.Orders.{on_its_track}
@@ -99,7 +100,7 @@ fewer p q among narrow (e ∷ es) = elim (cases_Bool (among e)) [
   ]
 ]
 
--- ---- what is caught of them
+-- ---- what is chosen of them
 
 through : (f : Block → Catch) (p : Block → Bool) (q : Catch → Bool) (bs : List Block)
     → filter q (map f (filter p bs)) ≡ map f (filter (λ b. p b && q (f b)) bs)
@@ -112,41 +113,56 @@ through f p q (b ∷ bs) = elim (cases_Bool (p b)) [
   | inr n ↦ rw n (through f p q bs)
 ]
 
-module _ (disk : Disk) (dwell : Dwell) (es xs : List Entry) (blocks : List Block) (numbers : AreInOrder (blocks_of es))
-    (its : xs ≡ on_track dwell.track es) (same : AreSameBlocks blocks (wanted_of xs)) where
+module _ (track : Track) (es xs : List Entry) (blocks : List Block) (numbers : AreInOrder (blocks_of es))
+    (its : xs ≡ on_track track es) (same : AreSameBlocks blocks (wanted_of xs)) where
   -- of a test that one number passes at most, both lists have the same block
   the-one : (p : Block → Bool) (task index : ℕ) → ((b : Block) → p b ≡ true → numbered task index b ≡ true)
-      → filter p blocks ≡ filter p (wanted_of (on_track dwell.track es))
+      → filter p blocks ≡ filter p (wanted_of (on_track track es))
   the-one p task index narrow =
-      let few = fewer p (numbered task index) (λ e. is_wanted e.state) narrow (on_track dwell.track es) in
-      let fewer_still = fewer (numbered task index) (numbered task index) (λ e. same_track dwell.track e.block.track) (λ b h. h) es in
-      one-chosen p blocks (wanted_of (on_track dwell.track es)) (subst (λ l. AreSameBlocks blocks (wanted_of l)) its same)
+      let few = fewer p (numbered task index) (λ e. is_wanted e.state) narrow (on_track track es) in
+      let fewer_still = fewer (numbered task index) (numbered task index) (λ e. same_track track e.block.track) (λ b h. h) es in
+      one-chosen p blocks (wanted_of (on_track track es)) (subst (λ l. AreSameBlocks blocks (wanted_of l)) its same)
       (omega (arith, few, fewer_still, numbered-once (blocks_of es) numbers task index))
 
-  -- each block is on the disk and on the track
-  pub on-its-track : AreOnDisk disk es → (i : ℕ) (b : Block) → slice_get blocks i ≡ Some b
-      → FitsDisk disk b × (same_track dwell.track b.track ≡ true)
-  on-its-track on i b at =
+  -- each block is on the track, and has what all registered ones have
+  pub on-its-track : (P : Block → Type 0) → ((i : ℕ) (e : Entry) → slice_get es i ≡ Some e → P e.block) → (i : ℕ) (b : Block)
+      → slice_get blocks i ≡ Some b → P b × (same_track track b.track ≡ true)
+  on-its-track P each i b at =
       let itself = and_from (b.task == b.task) (b.index == b.index) (eq-eqb b.task b.task refl) (eq-eqb b.index b.index refl) in
       let among = to_filter (numbered b.task b.index) blocks i b at itself in
       let here = ap (λ l. slice_get l among.0) (sym (the-one (numbered b.task b.index) b.task b.index (λ c h. h))) ∙ among.1 in
-      let there = in_filter (numbered b.task b.index) (wanted_of (on_track dwell.track es)) among.0 b here in
-      let e = entry-of (on_track dwell.track es) there.0 b there.1 in
-      let f = in_filter (λ (x : Entry). same_track dwell.track x.block.track) es e.0 e.1 e.2 in
-      (subst (FitsDisk disk) e.3 (on f.0 e.1 f.1), subst (λ (x : Block). same_track dwell.track x.track ≡ true) e.3 f.2)
+      let there = in_filter (numbered b.task b.index) (wanted_of (on_track track es)) among.0 b here in
+      let e = entry-of (on_track track es) there.0 b there.1 in
+      let f = in_filter (λ (x : Entry). same_track track x.block.track) es e.0 e.1 e.2 in
+      (subst P e.3 (each f.0 e.1 f.1), subst (λ (x : Block). same_track track x.track ≡ true) e.3 f.2)
 
-  -- what is caught of them is what is caught of all wanted blocks
-  pub caught-whole : in_order (caught_among disk dwell blocks) ≡ caught_of disk dwell (wanted_of es)
-  unfolding caught_of
-  caught-whole = same-in-order (caught_among disk dwell blocks) (caught_among disk dwell (wanted_of es)) alike
+  -- what those that pass a test add is put in the same order as what the track's wanted blocks add, in order of registration
+  pub any-order : (found : List Catch) (f : Block → Catch) → ((b : Block) → (f b).block ≡ b) → (p : Block → Bool)
+      → in_order (found ++ map f (filter p blocks)) ≡ in_order (found ++ map f (filter p (wanted_of (on_track track es))))
+  any-order found f own p = same-in-order (found ++ added blocks) (found ++ added others) alike
     where
-      narrow : (c : Catch) (b : Block) → catches disk dwell b && tied c (catch_of disk dwell b) ≡ true
-          → numbered c.block.task c.block.index b ≡ true
-      narrow c b h = tied-numbers c (catch_of disk dwell b) (and_parts (catches disk dwell b) (tied c (catch_of disk dwell b)) h).1
+      others : List Block
+      others = wanted_of (on_track track es)
 
-      alike : (c : Catch) → filter (tied c) (caught_among disk dwell blocks) ≡ filter (tied c) (caught_among disk dwell (wanted_of es))
+      added : List Block → List Catch
+      added bs = map f (filter p bs)
+
+      narrow : (c : Catch) (b : Block) → p b && tied c (f b) ≡ true → numbered c.block.task c.block.index b ≡ true
+      narrow c b h = subst (λ x. numbered c.block.task c.block.index x ≡ true) (own b)
+          (tied-numbers c (f b) (and_parts (p b) (tied c (f b)) h).1)
+
+      alike : (c : Catch) → filter (tied c) (found ++ added blocks) ≡ filter (tied c) (found ++ added others)
       alike c =
-          through (catch_of disk dwell) (catches disk dwell) (tied c) blocks
-          ∙ (ap (map (catch_of disk dwell)) (the-one _ c.block.task c.block.index (narrow c))
-          ∙ (sym (through (catch_of disk dwell) (catches disk dwell) (tied c) (wanted_of (on_track dwell.track es)))
-          ∙ ap (filter (tied c)) (on_its_track disk dwell es)))
+          let both = through f p (tied c) blocks
+          ∙ (ap (map f) (the-one _ c.block.task c.block.index (narrow c)) ∙ sym (through f p (tied c) others)) in
+          filter-append (tied c) found (added blocks)
+          ∙ (ap (λ l. filter (tied c) found ++ l) both ∙ sym (filter-append (tied c) found (added others)))
+
+-- what a dwell catches of its track's wanted blocks, in any order, is what it catches of all of them
+pub caught-whole : (disk : Disk) (dwell : Dwell) (es xs : List Entry) (blocks : List Block) → AreInOrder (blocks_of es)
+    → xs ≡ on_track dwell.track es → AreSameBlocks blocks (wanted_of xs)
+    → in_order (caught_among disk dwell blocks) ≡ caught_of disk dwell (wanted_of es)
+unfolding caught_of
+caught-whole disk dwell es xs blocks numbers its same =
+    any-order dwell.track es xs blocks numbers its same [] (catch_of disk dwell) (λ b. refl) (catches disk dwell)
+    ∙ ap in_order (on_its_track disk dwell es)
