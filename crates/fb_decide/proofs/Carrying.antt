@@ -10,7 +10,8 @@ use Rattle.fb_plan.specs.Order.{is_before, place_in}
 use Rattle.fb_plan.proofs.Sorted.{put_front, put_behind}
 use Rattle.fb_decide.specs.Deliveries.{AreDistinct, AreDue, row_in, held_now}
 use Rattle.std.specs.Prelude.{slice_get, nat_le, nat_lt}
-use Rattle.std.proofs.lemmas.List.{append-nil, append_assoc, drop_more, drop_all}
+use Rattle.std.proofs.lemmas.List.{append_assoc, map-append, drop_more, drop_all}
+use Rattle.std.proofs.lemmas.List.Elements.{filter-append}
 use Rattle.std.proofs.lemmas.Option.{slice_get-get_or}
 use Rattle.fb_units.specs.declared.types.Request.{Request}
 use Rattle.fb_units.specs.Tracks.{same_track}
@@ -20,9 +21,9 @@ use Rattle.fb_service.specs.Extents.{IsUnbroken}
 use Rattle.fb_service.specs.declared.passage.Extent.{Extent}
 use Rattle.fb_service.specs.declared.passage.Passage.{Passage}
 use Rattle.fb_wanted.specs.declared.block.Entry.{Entry}
-use Rattle.fb_wanted.specs.States.{is_wanted, on_track, wanted_of}
+use Rattle.fb_wanted.specs.States.{on_track, wanted_of}
 use Rattle.fb_model.specs.Rides.{lies_in, begin_at, end_at, in_order, rides, delivery}
-use Rattle.fb_decide.specs.Carried.{ride_of, begins_in, begun_in, carried_of, ride_alone, AreLaid, AreExtents, IsWholeBlock, AreWholeBlocks}
+use Rattle.fb_decide.specs.Carried.{added, ride_of, begins_in, begun_in, carried_of, AreLaid, AreExtents, IsWholeBlock, AreWholeBlocks}
 use Rattle.fb_wanted.proofs.Kept.{same_itself as track_itself}
 use Rattle.fb_tasks.proofs.Lists.{filter_none, filter_same, all_any, all_at, all_weaker, all_map}
 use Rattle.fb_geometry.specs.Places.{places}
@@ -109,40 +110,21 @@ both_kinds f its p q never (b ∷ blocks) apart os = elim (cases_Bool (p b)) [
 
 -- ---- what a read carries, gathered extent by extent, is what it carries
 
--- what these registered blocks add, where they begin in the extent
-abbrev pub added : List Passage → Extent → Request → List Catch → List Entry → List Catch
-added passages extent request found entries = found ++ map (ride_of passages) (begun_in extent request (wanted_of entries))
-
-added_first : (passages : List Passage) (extent : Extent) (request : Request) (found : List Catch) (entry : Entry) (entries : List Entry)
-    → added passages extent request found (entry ∷ entries) ≡ added passages extent request (found ++ ride_alone passages extent request entry) entries
-added_first passages extent request found entry entries =
-    let rest = map (ride_of passages) (begun_in extent request (wanted_of entries)) in
-    elim (cases_Bool (is_wanted entry.state)) [
-      | inl w ↦ elim (cases_Bool (begins_in extent entry.block && lies_in request entry.block)) [
-        | inl y ↦ rw (w, y) (sym (append_assoc found (ride_of passages entry.block ∷ []) rest))
-        | inr n ↦ rw (w, n) (ap (λ l. l ++ rest) (sym (append-nil found)))
-      ]
-      | inr n ↦ rw n (ap (λ l. l ++ rest) (sym (append-nil found)))
-    ]
-
-added_last : (passages : List Passage) (extent : Extent) (request : Request) (found : List Catch) (entries : List Entry) (entry : Entry)
-    → added passages extent request found (entries ++ entry ∷ []) ≡ added passages extent request found entries ++ ride_alone passages extent request entry
-added_last passages extent request found [] entry =
-    added_first passages extent request found entry []
-    ∙ append-nil (found ++ ride_alone passages extent request entry)
-    ∙ ap (λ l. l ++ ride_alone passages extent request entry) (sym (append-nil found))
-added_last passages extent request found (first ∷ entries) entry =
-    added_first passages extent request found first (entries ++ entry ∷ [])
-    ∙ added_last passages extent request (found ++ ride_alone passages extent request first) entries entry
-    ∙ ap (λ f. f ++ ride_alone passages extent request entry) (sym (added_first passages extent request found first entries))
-
-pub added_more : (passages : List Passage) (extent : Extent) (request : Request) (start found found' : List Catch) (entries : List Entry) (i : ℕ) (entry : Entry) → slice_get entries i ≡ Some entry
-    → found ≡ added passages extent request start (take i entries) → found' ≡ found ++ ride_alone passages extent request entry
-    → found' ≡ added passages extent request start (take (i + 1) entries)
-added_more passages extent request start found found' entries i entry at so_far next =
-    next ∙ ap (λ f. f ++ ride_alone passages extent request entry) so_far
-    ∙ sym (added_last passages extent request start (take i entries) entry)
-    ∙ sym (ap (added passages extent request start) (take_at entries i entry at))
+-- a block more adds what it adds alone
+pub added_more : (passages : List Passage) (extent : Extent) (request : Request) (start found found' : List Catch)
+    (blocks : List Block) (i : ℕ) (block : Block) → slice_get blocks i ≡ Some block
+    → found ≡ added passages extent request start (take i blocks) → found' ≡ added passages extent request found (block ∷ [])
+    → found' ≡ added passages extent request start (take (i + 1) blocks)
+added_more passages extent request start found found' blocks i block at so_far next =
+    let chosen = λ (b : Block). begins_in extent b && lies_in request b in
+    let rides = map (ride_of passages) in
+    let before = filter chosen (take i blocks) in
+    let one = filter chosen (block ∷ []) in
+    next ∙ ap (λ f. f ++ rides one) so_far
+    ∙ append_assoc start (rides before) (rides one)
+    ∙ ap (λ l. start ++ l) (sym (map-append (ride_of passages) before one))
+    ∙ ap (λ bs. start ++ rides bs) (sym (filter-append chosen (take i blocks) (block ∷ [])))
+    ∙ ap (added passages extent request start) (sym (take_at blocks i block at))
 
 -- the block's first sector is one of these
 abbrev pub begins_among : ℕ → ℕ → Block → Bool
@@ -202,13 +184,14 @@ own_track disk extent request unbroken (entry ∷ entries) all = elim (cases_Boo
 
 pub next_added : (disk : Shape) (passages : List Passage) (extents : List Extent) (i : ℕ) (d : Extent) (request : Request) (found found' : List Catch) (entries : List Entry) → i < length extents
     → IsUnbroken disk (get_or extents i d) → AllByRecursion (λ entry. entry.block.track ≡ track_at disk entry.block.lbn) entries
-    → found' ≡ found ++ map (ride_of passages) (begun_in (get_or extents i d) request (wanted_of (on_track (get_or extents i d).track entries)))
+    → fold place_in [] found'
+    ≡ fold place_in [] (added passages (get_or extents i d) request found (wanted_of (on_track (get_or extents i d).track entries)))
     → added_by_all passages (drop i extents) request (fold place_in [] found) (wanted_of entries) ≡ added_by_all passages (drop (i + 1) extents) request (fold place_in [] found') (wanted_of entries)
 next_added disk passages extents i d request found found' entries within unbroken on_tracks next =
     let own = own_track disk (get_or extents i d) request unbroken entries on_tracks in
     ap (λ es. added_by_all passages es request (fold place_in [] found) (wanted_of entries)) (drop_more extents i d within)
     ∙ ap (λ f. added_by_all passages (drop (i + 1) extents) request f (wanted_of entries))
-    (ap (λ bs. fold place_in (fold place_in [] found) (map (ride_of passages) bs)) (sym own) ∙ sym (fold_joined [] found _) ∙ ap (fold place_in []) (sym next))
+    (ap (λ bs. fold place_in (fold place_in [] found) (map (ride_of passages) bs)) (sym own) ∙ sym (fold_joined [] found _) ∙ sym next)
 
 pub none_added : (passages : List Passage) (extents : List Extent) (n : ℕ) (request : Request) (found : List Catch) (blocks : List Block) → length extents ≤ n → added_by_all passages (drop n extents) request found blocks ≡ found
 none_added passages extents n request found blocks within = ap (λ es. added_by_all passages es request found blocks) (drop_all n extents within)

@@ -1,5 +1,6 @@
 -- What a read carries, extent by extent.
-use Rattle.std.specs.Prelude.{◌≡◌, ℕ, ◌+◌, ◌-◌, ◌^◌, ◌≤◌, ◌<◌, List, [], ◌∷◌, Bool, ◌&&◌, Some, nat_le, nat_lt, filter, map, length, slice_get, if◌then◌else◌}
+use Rattle.std.specs.Prelude.{◌≡◌, ℕ, ◌+◌, ◌-◌, ◌^◌, ◌≤◌, ◌<◌, List, [], ◌∷◌, ◌++◌, Bool, ◌&&◌, Some, nat_le, nat_lt}
+use Rattle.std.specs.Prelude.{filter, map, length, slice_get}
 use Rattle.std.specs.List.{AllByRecursion}
 use Rattle.fb_units.specs.declared.types.Request.{Request}
 use Rattle.fb_geometry.specs.Shape.{Shape}
@@ -10,7 +11,6 @@ use Rattle.fb_service.specs.declared.passage.Extent.{Extent}
 use Rattle.fb_service.specs.Extents.{IsUnbroken}
 use Rattle.fb_wanted.specs.declared.block.Block.{Block}
 use Rattle.fb_wanted.specs.declared.block.Entry.{Entry}
-use Rattle.fb_wanted.specs.States.{is_wanted}
 use Rattle.fb_model.specs.Rides.{lies_in, begin_at, end_at}
 use Rattle.fb_plan.specs.declared.catching.Catch.{Catch}
 use Rattle.fb_plan.specs.Order.{in_order}
@@ -31,9 +31,9 @@ begins_in extent block = nat_le extent.first block.lbn && nat_lt block.lbn (exte
 abbrev pub begun_in : Extent → Request → List Block → List Block
 begun_in extent request blocks = filter (λ block. begins_in extent block && lies_in request block) blocks
 
--- what a read carries of one registered block, where that begins in an extent
-abbrev pub ride_alone : List Passage → Extent → Request → Entry → List Catch
-ride_alone passages extent request entry = if is_wanted entry.state && (begins_in extent entry.block && lies_in request entry.block) then ride_of passages entry.block ∷ [] else []
+-- these catches, and of these blocks those that a read carries and that begin in an extent, in their order
+abbrev pub added : List Passage → Extent → Request → List Catch → List Block → List Catch
+added passages extent request found blocks = found ++ map (ride_of passages) (begun_in extent request blocks)
 
 -- an extent of sectors of the disk
 pub record IsExtentOf (disk : Shape) (extent : Extent) : Type 0 where

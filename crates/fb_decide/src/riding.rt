@@ -1,11 +1,12 @@
 // The background blocks that a foreground read carries along.
-ghost use Rattle.std.specs.Prelude.{◌≡◌, ◌==◌, ◌++◌, ◌+◌, ◌*◌, ◌≤◌, ◌<◌, ◌^◌, find, map, OnOk, IfOk};
+ghost use Rattle.std.specs.Prelude.{◌≡◌, ◌==◌, ◌∷◌, [], ◌+◌, ◌*◌, ◌≤◌, ◌<◌, ◌^◌, find, OnOk, IfOk};
 ghost use Rattle.std.specs.List.{AllByRecursion};
 ghost use Rattle.fb_service.specs.Extents.{all_passages_of, IsUnbroken};
 ghost use Rattle.fb_model.specs.History.{Past, wanted};
 ghost use Rattle.fb_model.specs.Rides.{lies_in, rides};
 ghost use Rattle.fb_wanted.specs.States.{on_track, wanted_of};
-ghost use Rattle.fb_decide.specs.Carried.{carried_of, ride_of, begins_in, begun_in, AreExtents, ride_alone, AreLaid, AreWholeBlocks, IsWholeBlock};
+ghost use Rattle.fb_plan.specs.Order.{in_order};
+ghost use Rattle.fb_decide.specs.Carried.{added, carried_of, ride_of, begins_in, AreExtents, AreLaid, AreWholeBlocks, IsWholeBlock};
 ghost use Rattle.fb_decide.specs.Deliveries.{IsCurrent, HasDelivered, AreDistinct, held_now};
 ghost use Rattle.fb_decide.specs.Turn.{IsTurnOn, served_in};
 
@@ -16,7 +17,7 @@ use fb_rows::How;
 use fb_service::{Disk, Extent, Passage, nth_passage};
 use fb_store::Store;
 use fb_units::{NoMemory, Request};
-use fb_wanted::{Block, Entry, Wanted};
+use fb_wanted::{Block, Wanted};
 use std::alloc::Global;
 
 impl Background {
@@ -70,7 +71,7 @@ fn carried(
     Ok(found)
 }
 
-// Adds the wanted blocks whose first sector passes in this extent.
+// Adds the wanted blocks that the read carries and whose first sector passes in this extent, in any order.
 fn add_carried(
     disk: &Disk,
     wanted: &Wanted,
@@ -83,34 +84,34 @@ fn add_carried(
     requires extent { extent.now.first + extent.now.count ≤ 10 ^ 12 }
     requires request { request.lbn + request.count ≤ 10 ^ 12 }
     requires registered { AreWholeBlocks disk.now.map wanted.now }
-    ensures { OnOk result (found.new.items ≡ found.old.items ++ map (ride_of (all_passages_of disk.now.map extents.now)) (begun_in extent.now request (wanted_of (on_track extent.now.track wanted.now)))) }
+    ensures { OnOk result (in_order found.new.items
+        ≡ in_order (added (all_passages_of disk.now.map extents.now) extent.now request found.old.items
+        (wanted_of (on_track extent.now.track wanted.now)))) }
 {
-    let blocks = wanted.on(extent.track);
+    wanted.numbered_in_order();
+    let blocks = wanted.on(extent.track).wanted();
     for i in 0..blocks.len() {
         add_ride(disk, request, extents, extent, blocks.get(i), found)?;
     }
     Ok(())
 }
 
-// Adds a registered block, if it is wanted and the read carries it, beginning in this extent.
+// Adds a block, if the read carries it and its first sector passes in this extent.
 fn add_ride(
     disk: &Disk,
     request: Request,
     extents: &[Extent],
     extent: &Extent,
-    entry: Entry,
+    block: Block,
     found: &mut Vec<Catch>,
 ) -> Result<(), NoMemory>
     requires extents { AreExtents disk.now.map extents.now }
     requires extent { extent.now.first + extent.now.count ≤ 10 ^ 12 }
     requires request { request.lbn + request.count ≤ 10 ^ 12 }
-    requires block { IsWholeBlock disk.now.map entry.block }
-    ensures { OnOk result (found.new.items ≡ found.old.items ++ ride_alone (all_passages_of disk.now.map extents.now) extent.now request entry) }
+    requires block { IsWholeBlock disk.now.map block }
+    ensures { OnOk result (found.new.items
+        ≡ added (all_passages_of disk.now.map extents.now) extent.now request found.old.items (block ∷ [])) }
 {
-    let block = entry.block;
-    if !entry.state.is_wanted() {
-        return Ok(());
-    }
     if begins_in(extent, block) && lies_in(request, block) {
         found.push(ride_of(disk, extents, block))?;
     }

@@ -1,24 +1,31 @@
-use Rattle.std.proofs.Common.{◌∙◌, ap, arith, sym, take, length, slice_get, ◌≡◌}
+use Rattle.std.proofs.Common.{◌≡◌, ◌∙◌, ◌&&◌, ap, arith, length, refl, take}
 use Rattle.std.proofs.Math.Seq.{take-length}
-use Rattle.fb_units.specs.Tracks.{same_track}
 use Rattle.fb_service.specs.Extents.{all_passages_of}
-use Rattle.fb_wanted.specs.States.{on_track}
-use Rattle.fb_plan.proofs.Gains.{in_filter}
-use Rattle.fb_decide.proofs.Carrying.{added, added_more}
+use Rattle.fb_model.specs.Rides.{lies_in}
+use Rattle.fb_plan.proofs.AnyOrder.{any-order, on-its-track}
+use Rattle.fb_plan.specs.Order.{in_order}
+use Rattle.fb_decide.specs.Carried.{added, begins_in, ride_of, IsWholeBlock}
+use Rattle.fb_decide.proofs.Carrying.{added_more}
 use Rattle.fb_decide.proofs.riding.add_carried.Goals as goal
 
 pub loop-i-preserved : goal.loop-i-preserved
-loop-i-preserved c = added_more (all_passages_of c.args.disk.now.map c.args.extents.now) c.args.extent.now c.args.request c.args.found.now.items c.loop-i.found.items c.add_ride.new.found.items
-    (on_track c.args.extent.now.track c.args.wanted.now) c.loop-i.i c.get.result (ap (λ xs. slice_get xs c.loop-i.i) (sym c.on-blocks.ensures) ∙ c.get.ensures) c.loop-i.invariant c.in_ok-add_ride.ensures
+loop-i-preserved c = added_more (all_passages_of c.args.disk.now.map c.args.extents.now) c.args.extent.now c.args.request
+    c.args.found.now.items c.loop-i.found.items c.add_ride.new.found.items
+    c.wanted-blocks.result c.loop-i.i c.get.result c.get.ensures c.loop-i.invariant c.in_ok-add_ride.ensures
 
 pub returns : goal.returns
 returns c =
-    let all : c.loop-i.i ≡ length (on_track c.args.extent.now.track c.args.wanted.now) = omega (arith, c.loop-i-test.false, c.loop-i.auto.i-end, c.len-i-end.ensures.count, ap length c.on-blocks.ensures) in
-    c.loop-i.invariant ∙ ap (added (all_passages_of c.args.disk.now.map c.args.extents.now) c.args.extent.now c.args.request c.args.found.now.items)
-    (ap (λ n. take n (on_track c.args.extent.now.track c.args.wanted.now)) all ∙ take-length (on_track c.args.extent.now.track c.args.wanted.now))
+    let extent = c.args.extent.now in
+    let request = c.args.request in
+    let blocks = c.wanted-blocks.result in
+    let passages = all_passages_of c.args.disk.now.map c.args.extents.now in
+    let end : c.loop-i.i ≡ length blocks = omega (arith, c.loop-i-test.false, c.loop-i.auto.i-end, c.len-i-end.ensures.count) in
+    let whole = ap (added passages extent request c.args.found.now.items) (ap (λ n. take n blocks) end ∙ take-length blocks) in
+    ap in_order (c.loop-i.invariant ∙ whole)
+    ∙ any-order extent.track c.args.wanted.now c.on.result blocks c.numbered_in_order.ensures c.on.ensures c.wanted-blocks.ensures
+    c.args.found.now.items (ride_of passages) (λ b. refl) (λ b. begins_in extent b && lies_in request b)
 
 pub add_ride-requires-clause-block : goal.add_ride-requires-clause-block
 add_ride-requires-clause-block c =
-    let here = ap (λ xs. slice_get xs c.loop-i.i) (sym c.on-blocks.ensures) ∙ c.get.ensures in
-    let its = in_filter (λ entry. same_track c.args.extent.now.track entry.block.track) c.args.wanted.now c.loop-i.i c.get.result here in
-    c.requires.registered its.0 c.get.result its.1
+    (on-its-track c.args.extent.now.track c.args.wanted.now c.on.result c.wanted-blocks.result c.numbered_in_order.ensures c.on.ensures
+    c.wanted-blocks.ensures (IsWholeBlock c.args.disk.now.map) c.requires.registered c.loop-i.i c.get.result c.get.ensures).0

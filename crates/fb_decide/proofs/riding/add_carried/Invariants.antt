@@ -1,8 +1,7 @@
 use Rattle.std.proofs.Common.{◌≡◌, take}
 use Rattle.fb_service.specs.Extents.{all_passages_of}
-use Rattle.fb_wanted.specs.States.{on_track}
-use Rattle.fb_decide.proofs.Carrying.{added}
+use Rattle.fb_decide.specs.Carried.{added}
 use Rattle.fb_decide.proofs.riding.add_carried.Given as goal
 
 abbrev pub invariant-loop-i : goal.invariant-loop-i
-invariant-loop-i l = l.found.items ≡ added (all_passages_of l.disk.map l.extents) l.extent l.request l.fn.found.items (take l.i (on_track l.extent.track l.wanted))
+invariant-loop-i l = l.found.items ≡ added (all_passages_of l.disk.map l.extents) l.extent l.request l.fn.found.items (take l.i l.blocks)
