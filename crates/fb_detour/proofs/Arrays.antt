@@ -28,7 +28,7 @@ pub sixteen : (n : ℕ) → 16 * (n / 16 + 1) ≤ n + 16
 sixteen n = omega (arith, div-add-mod' n 16)
 
 -- the sum of the first numbers begins with the first one
-sum-cons : (x : ℕ) (xs : List ℕ) (n : ℕ) → sum_of_first (suc n) (x ∷ xs) ≡ x + sum_of_first n xs
+pub sum-cons : (x : ℕ) (xs : List ℕ) (n : ℕ) → sum_of_first (suc n) (x ∷ xs) ≡ x + sum_of_first n xs
 sum-cons x xs n = sum_by-cons (λ number. number) x (take n xs)
 
 -- what one number gains, each sum gains that reaches over it

@@ -56,7 +56,7 @@ two_stays disk gap plan es =
     let sums = sum-of-both (stay_gain disk early) (stay_gain disk late) es in
     omega (arith, less, sums, value-gain disk gap plan es, stay-all disk early es, stay-all disk late es)
 
-if-le : (a b : Bool) (n : ℕ) → (a ≡ true → b ≡ true) → (if a then n else 0) ≤ (if b then n else 0)
+pub if-le : (a b : Bool) (n : ℕ) → (a ≡ true → b ≡ true) → (if a then n else 0) ≤ (if b then n else 0)
 if-le true b n h = rw (h refl) (omega arith)
 if-le false b n h = omega arith
 

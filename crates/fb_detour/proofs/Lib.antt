@@ -5,6 +5,7 @@ pub mod Ways
 pub mod Ranges
 pub mod Arrays
 pub mod Offers
+pub mod Binned
 pub mod Missed
 pub mod Leaving
 pub mod Noted

@@ -1,7 +1,7 @@
 -- The names that the proofs cite, of this crate's words and of the crates below: each proof takes them from here.
 pub use Rattle.std.proofs.Common.{Bool, List, Some, [], ap, arith, drop, false, get_or, if◌then◌else◌, inl, inr, length, max, min, nat_le}
 pub use Rattle.std.proofs.Common.{nat_lt, refl, slice_get, subst, suc, sym, take, true, zero, ℕ, ◌%◌, ◌&&◌, ◌*◌, ◌+◌, ◌-◌, ◌/◌, ◌<◌, ◌==◌}
-pub use Rattle.std.proofs.Common.{◌^◌, ◌||◌, ◌∙◌, ◌∷◌, ◌≡◌, ◌≤◌, ◌⊎◌}
+pub use Rattle.std.proofs.Common.{replicate, ◌^◌, ◌||◌, ◌∙◌, ◌∷◌, ◌≡◌, ◌≤◌, ◌⊎◌}
 pub use Rattle.std.proofs.Math.Nat.{add-mod_right, add-mul-mod_self_right, div-lt_iff_lt-mul, div-mul-le_self, mod-add-mod, mod-eq_of_lt}
 pub use Rattle.std.proofs.Math.Nat.{mod-lt, mul-add-mod_self_right, mul-le-mul_right}
 pub use Rattle.std.proofs.lemmas.Bool.{and_parts, cases_Bool, cases_eq, cases_lt, cases_order, leb-true, ltb-true}
@@ -51,10 +51,13 @@ pub use Rattle.fb_plan.specs.declared.choice.Scored.{Scored}
 pub use Rattle.fb_plan.specs.declared.turning.Turning.{Turning}
 pub use Rattle.fb_plan.specs.declared.way.Way.{Way}
 pub use Rattle.fb_plan.specs.declared.way.Way.TheVariants.{Over, Source}
+pub use Rattle.fb_detour.specs.Bounds.{AreBins, AreLeaves, IsNoted, IsPlace, IsTrial, bin_at, bin_ceiling}
 pub use Rattle.fb_detour.specs.Bounds.{AreNotes, BeatsTrack, BeatsTracks, IsBeaten, IsCeiling, IsDetourIn, IsEnough, IsFound, IsKey, IsLate}
 pub use Rattle.fb_detour.specs.Bounds.{IsNoWorse, IsReach, IsReady, IsStop, distance_to, early_to, late_gain, late_most, late_step, missed}
 pub use Rattle.fb_detour.specs.Bounds.{offered, part_at, slots_within, stay_gain, sum_of_first, turned_to, value_in}
 unfoldable pub use Rattle.fb_detour.specs.Bounds.{stay}
+pub use Rattle.fb_detour.specs.declared.bins.Bins.{Bins}
+pub use Rattle.fb_detour.specs.declared.bins.Leaves.{Leaves}
 pub use Rattle.fb_detour.specs.declared.given.Search.{Search}
 pub use Rattle.fb_detour.specs.declared.parts.LateParts.{LateParts}
 pub use Rattle.fb_detour.specs.declared.stop.Stop.{Stop}

@@ -1,7 +1,8 @@
 -- Upper bounds on the value of detours.
-use Rattle.std.specs.Prelude.{◌≡◌, ℕ, false, ◌+◌, ◌-◌, ◌*◌, ◌/◌, ◌%◌, ◌^◌, ◌<◌, ◌≤◌, ◌⊎◌, min, get_or, length, take, List}
+use Rattle.std.specs.Prelude.{◌≡◌, ℕ, false, true, ◌+◌, ◌-◌, ◌*◌, ◌/◌, ◌%◌, ◌^◌, ◌<◌, ◌≤◌, ◌⊎◌, min, get_or, length, take, List}
 use Rattle.std.specs.Prelude.{not, ◌&&◌, if◌then◌else◌}
 use Rattle.std.specs.List.{sum_by}
+use Rattle.fb_units.specs.declared.types.Sweep.{Sweep}
 use Rattle.fb_units.specs.declared.types.Track.{Track}
 use Rattle.fb_seek.specs.Mechanics.{Mechanics}
 use Rattle.fb_seek.specs.Positioning.{distance_of, pos, seek}
@@ -22,6 +23,8 @@ use Rattle.fb_plan.specs.declared.way.Way.{Way}
 use Rattle.fb_plan.specs.declared.way.Way.TheVariants.{Over}
 use Rattle.fb_plan.specs.Ways.{Beats, AreOnDisk, IsGap, IsScored, IsWay, plan_by, early_track, arrival, move_on}
 use Rattle.fb_plan.specs.Turns.{added, passes_by, stay_of, AreInTurn, AreSides, IsTurning, Stands}
+use Rattle.fb_detour.specs.declared.bins.Bins.{Bins}
+use Rattle.fb_detour.specs.declared.bins.Leaves.{Leaves}
 use Rattle.fb_detour.specs.declared.bounds.Moves.{Moves}
 use Rattle.fb_detour.specs.declared.bounds.Seeks.{Seeks}
 use Rattle.fb_detour.specs.declared.candidates.Trial.{Trial}
@@ -137,6 +140,39 @@ pub record AreCeilings (search : Search) (way : Way) (ceilings : Ceilings) : Typ
   pub small : (k : ℕ) → k < 16 → get_or ceilings.early k 0 ≤ 16000000 * 2048000
   pub most : (leave : ℕ) → IsPlan search.disk.now search.gap.now (plan_by way leave)
       → value_in search (plan_by way leave) ≤ ceiling_at ceilings leave
+
+-- the bin in which an instant lies, by when the first one begins and how long each is; the last one has no end
+abbrev pub bin_at : ℕ → ℕ → ℕ → ℕ
+bin_at begin fine instant = min ((instant - begin) / fine) 16383
+
+-- bins have a length, and the head that leaves the track on arrival comes there and to the target within the gap
+pub record AreLeaves (search : Search) (leaves : Leaves) : Type 0 where
+  pub some : 0 < leaves.fine
+  pub after : search.gap.now.now ≤ leaves.begin
+  pub in_time : leaves.begin + leaves.on ≤ search.gap.now.deadline
+
+-- the first leave of the instant's bin is no later than the instant
+abbrev pub IsNoted : Leaves → ℕ → Type 0
+IsNoted leaves leave = get_or leaves.firsts.now (bin_at leaves.begin leaves.fine leave) 0 ≤ leave
+
+-- the last bins, so many, have no leave from which the head still catches what passes so at the target
+abbrev pub IsPlace : Search → Turning → Leaves → Sweep → ℕ → Type 0
+IsPlace search target leaves sweep place = (leave : ℕ) → leaves.begin ≤ leave → IsNoted leaves leave
+    → passes_by (turned_to target (leave + leaves.on)) search.gap.now.deadline sweep ≡ true
+    → place + bin_at leaves.begin leaves.fine leave < 16384
+
+-- what the track and the target give at most to a head that leaves in the instant's bin
+abbrev pub bin_ceiling : Bins → ℕ → ℕ
+bin_ceiling bins leave = get_or bins.early.now (bin_at bins.leaves.now.begin bins.leaves.now.fine leave) 0
+    + get_or bins.late.now (16383 - bin_at bins.leaves.now.begin bins.leaves.now.fine leave) 0
+
+-- no plan of the way is worth more than the ceiling of its bin, if it leaves no earlier than that bin's first leave
+pub record AreBins (search : Search) (way : Way) (bins : Bins) : Type 0 where
+  pub some : 0 < bins.leaves.now.fine
+  pub early : (k : ℕ) → k < 16384 → get_or bins.early.now k 0 ≤ 16000000 * 2048000
+  pub late : (k : ℕ) → k < 16384 → get_or bins.late.now k 0 ≤ 16000000 * 2048000
+  pub most : (leave : ℕ) → IsPlan search.disk.now search.gap.now (plan_by way leave) → IsNoted bins.leaves.now leave
+      → value_in search (plan_by way leave) ≤ bin_ceiling bins leave
 
 -- the trial is of a way of the gap, with that way's sides and ceilings
 pub record IsTrial (trial : Trial) : Type 0 where

@@ -126,7 +126,8 @@ pub fn most_slots(disk: &Disk, from: u32, end: u32, other: Track) -> u32
     slots
 }
 
-fn is_track_before(a: Track, b: Track) -> bool
+// Whether the first track comes before the other: by cylinder, and then by head.
+pub fn is_track_before(a: Track, b: Track) -> bool
     ensures { result ≡ true → IsTrackBefore a b }
 {
     if a.cylinder < b.cylinder {

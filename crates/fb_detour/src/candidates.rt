@@ -1,14 +1,20 @@
 // The plans of a way that can be better than the best so far.
-ghost use Rattle.std.specs.Prelude.{◌≡◌, ◌<◌, ◌≤◌, ◌^◌, ◌⊎◌, true};
+ghost use Rattle.std.specs.Prelude.{◌≡◌, ◌<◌, ◌≤◌, ◌^◌, ◌⊎◌, true, IfSome};
 ghost use Rattle.fb_geometry.specs.Shape.{IsTrackOf};
-ghost use Rattle.fb_model.specs.Plans.{IsNoLater};
+ghost use Rattle.fb_wanted.specs.States.{on_track};
+ghost use Rattle.fb_model.specs.Plans.{IsNoLater, IsPlan};
 ghost use Rattle.fb_plan.specs.declared.way.Way.{Way};
-ghost use Rattle.fb_plan.specs.Ways.{IsWay, plan_by, early_track};
-ghost use Rattle.fb_detour.specs.Bounds.{AreCeilings, AreNotes, BeatsWay, IsBeaten, IsFound, IsNoWorse, IsSearch, IsTrial};
+ghost use Rattle.fb_plan.specs.Ways.{IsWay, plan_by, arrival, early_track};
+ghost use Rattle.fb_detour.specs.Bounds.{AreBins, AreCeilings, AreNotes, BeatsWay, IsBeaten, IsFound, IsNoWorse, IsReady, IsSearch, IsStop};
+ghost use Rattle.fb_detour.specs.Bounds.{IsTrial, value_in};
 
+use crate::bins::{
+    Bins, Leaves, NEVER, bin_at, bound_at, early_bins, fine_of, firsts_of, fullest, late_bins,
+};
+use crate::bounds::is_track_before;
 use crate::given::Search;
 use crate::intervals::{Ceilings, ceiling_at, ceilings_of};
-use crate::stop::stop_at;
+use crate::stop::{Stop, stop_at};
 use fb_plan::{
     Scored, Sides, Way, blocks_on, is_same, move_on, plan_by, sides_of, stay_of, try_plan,
 };
@@ -32,7 +38,7 @@ fn is_no_later(best: Plan, way: Way, leave: Ns) -> bool
             Plan::Detour {
                 track: own,
                 leave: first,
-            } => is_same(own, track) && first <= leave,
+            } => is_track_before(own, track) || (is_same(own, track) && first <= leave),
         },
     }
 }
@@ -60,9 +66,28 @@ struct Trial<'a> {
     ceilings: &'a Ceilings<'a>,
 }
 
-// Tries to leave at an instant, unless that is too late or the ceiling shows that it isn't better.
-fn try_leave(trial: &Trial, leave: Ns, best: Scored) -> Scored
+// The upper bound on the value of the plan that leaves at this instant: by its bin, where there are bins, and
+// else by its interval.
+fn ceiling_of(trial: &Trial, bins: Option<&Bins>, leave: Ns) -> u64
     requires trial { IsTrial trial.now }
+    requires bins { IfSome bins (λ bins. AreBins trial.now.search.now trial.now.way bins.now) }
+    requires after { trial.now.ceilings.now.begin ≤ leave }
+    requires soon { leave ≤ 10 ^ 19 }
+    ensures { IsPlan trial.now.search.now.disk.now trial.now.search.now.gap.now (plan_by trial.now.way leave)
+        → value_in trial.now.search.now (plan_by trial.now.way leave) ≤ result }
+{
+    if let Some(bins) = bins {
+        if let Some(bound) = bound_at(bins, leave) {
+            return bound;
+        }
+    }
+    ceiling_at(trial.ceilings, leave)
+}
+
+// Tries to leave at an instant, unless that is too late or the ceiling shows that it isn't better.
+fn try_leave(trial: &Trial, bins: Option<&Bins>, leave: Ns, best: Scored) -> Scored
+    requires trial { IsTrial trial.now }
+    requires bins { IfSome bins (λ bins. AreBins trial.now.search.now trial.now.way bins.now) }
     requires after { trial.now.ceilings.now.begin ≤ leave }
     requires soon { leave ≤ 10 ^ 19 }
     requires best { IsFound trial.now.search.now best }
@@ -74,7 +99,7 @@ fn try_leave(trial: &Trial, leave: Ns, best: Scored) -> Scored
     if search.gap.deadline < leave + trial.ceilings.move_on {
         return best;
     }
-    let ceiling = ceiling_at(trial.ceilings, leave);
+    let ceiling = ceiling_of(trial, bins, leave);
     if is_beaten(best, ceiling, trial.way, leave) {
         return best;
     }
@@ -105,8 +130,9 @@ fn part_of(disk: &Disk, ceilings: &Ceilings, leave: Ns) -> usize
 
 // Tries to leave at an instant, unless that is noted, and notes it. There are as many notes as parts, or
 // none.
-fn try_once(trial: &Trial, leave: Ns, notes: &mut [Ns], best: Scored) -> Scored
+fn try_once(trial: &Trial, bins: Option<&Bins>, leave: Ns, notes: &mut [Ns], best: Scored) -> Scored
     requires trial { IsTrial trial.now }
+    requires bins { IfSome bins (λ bins. AreBins trial.now.search.now trial.now.way bins.now) }
     requires after { trial.now.ceilings.now.begin ≤ leave }
     requires soon { leave ≤ 10 ^ 19 }
     requires best { IsFound trial.now.search.now best }
@@ -117,20 +143,21 @@ fn try_once(trial: &Trial, leave: Ns, notes: &mut [Ns], best: Scored) -> Scored
     ensures notes { AreNotes trial.now result.plan notes.new }
 {
     if notes.len() < NOTED {
-        return try_leave(trial, leave, best);
+        return try_leave(trial, bins, leave, best);
     }
     let part = part_of(trial.search.disk, trial.ceilings, leave);
     if notes[part] == leave {
         return best;
     }
     notes[part] = leave;
-    try_leave(trial, leave, best)
+    try_leave(trial, bins, leave, best)
 }
 
 // Tries all plans of a way: the leave on arrival, and for each block that at its end. Blocks of many tasks
 // that end in one slot share a leave; where there are notes, most leaves are tried once.
-fn try_each(trial: &Trial, notes: &mut [Ns], start: Scored) -> Scored
+fn try_each(trial: &Trial, bins: Option<&Bins>, notes: &mut [Ns], start: Scored) -> Scored
     requires trial { IsTrial trial.now }
+    requires bins { IfSome bins (λ bins. AreBins trial.now.search.now trial.now.way bins.now) }
     requires best { IsFound trial.now.search.now start }
     requires notes { AreNotes trial.now start.plan notes.old }
     ensures scored { IsFound trial.now.search.now result }
@@ -139,37 +166,172 @@ fn try_each(trial: &Trial, notes: &mut [Ns], start: Scored) -> Scored
 {
     let sides = trial.sides;
     let offers = sides.early.offers();
-    let mut best = try_once(trial, trial.ceilings.begin, notes, start);
+    let mut best = try_once(trial, bins, trial.ceilings.begin, notes, start);
     for offer in offers {
         let end = sides.passing.end(offer.sweep);
-        best = try_once(trial, end, notes, best);
+        best = try_once(trial, bins, end, notes, best);
     }
     best
 }
 
-// No leave: it is later than all.
-const NEVER: Ns = Ns::MAX;
-
 // Tries all plans of a way whose track has many blocks, with notes.
-fn try_noted(trial: &Trial, start: Scored) -> Scored
+fn try_noted(trial: &Trial, bins: Option<&Bins>, start: Scored) -> Scored
     requires trial { IsTrial trial.now }
+    requires bins { IfSome bins (λ bins. AreBins trial.now.search.now trial.now.way bins.now) }
     requires best { IsFound trial.now.search.now start }
     ensures scored { IsFound trial.now.search.now result }
     ensures keeps { IsNoWorse trial.now.search.now result.plan start.plan }
     ensures tried { BeatsWay trial.now.search.now trial.now.way result.plan }
 {
     let mut notes = [NEVER; NOTED];
-    try_each(trial, &mut notes, start)
+    try_each(trial, bins, &mut notes, start)
+}
+
+// Tries the leaves of the bin that promises most.
+fn try_fullest(trial: &Trial, bins: &Bins, stop: &Stop, start: Scored) -> Scored
+    requires trial { IsTrial trial.now }
+    requires bins { AreBins trial.now.search.now trial.now.way bins.now }
+    requires stop { IsReady stop.now }
+    requires from { stop.now.passing.from ≡ trial.now.ceilings.now.begin }
+    requires best { IsFound trial.now.search.now start }
+    ensures scored { IsFound trial.now.search.now result }
+    ensures keeps { IsNoWorse trial.now.search.now result.plan start.plan }
+{
+    let latest = trial.search.gap.deadline - trial.ceilings.move_on;
+    let most = fullest(bins, latest);
+    let mut best = start;
+    for offer in stop.offers {
+        let end = stop.passing.end(offer.sweep);
+        if bin_at(bins.leaves.begin, bins.leaves.fine, end) == most {
+            best = try_leave(trial, Some(bins), end, best);
+        }
+    }
+    best
+}
+
+// Tries all plans of a way: at first those of the bin that promises most, so that the bounds of nearly all
+// others show that they aren't better.
+fn try_binned(trial: &Trial, bins: &Bins, stop: &Stop, start: Scored) -> Scored
+    requires trial { IsTrial trial.now }
+    requires bins { AreBins trial.now.search.now trial.now.way bins.now }
+    requires stop { IsReady stop.now }
+    requires from { stop.now.passing.from ≡ trial.now.ceilings.now.begin }
+    requires best { IsFound trial.now.search.now start }
+    ensures scored { IsFound trial.now.search.now result }
+    ensures keeps { IsNoWorse trial.now.search.now result.plan start.plan }
+    ensures tried { BeatsWay trial.now.search.now trial.now.way result.plan }
+{
+    let best = try_fullest(trial, bins, stop, start);
+    try_noted(trial, Some(bins), best)
+}
+
+// Tries all plans of a way by bins.
+fn try_many(trial: &Trial, stop: &Stop, start: Scored) -> Scored
+    requires trial { IsTrial trial.now }
+    requires stop { IsStop trial.now.search.now.disk.now
+        (on_track (early_track trial.now.search.now.gap.now trial.now.way) trial.now.search.now.wanted.now) stop.now }
+    requires from { stop.now.passing.from ≡ trial.now.ceilings.now.begin }
+    requires best { IsFound trial.now.search.now start }
+    ensures scored { IsFound trial.now.search.now result }
+    ensures keeps { IsNoWorse trial.now.search.now result.plan start.plan }
+    ensures tried { BeatsWay trial.now.search.now trial.now.way result.plan }
+{
+    let search = trial.search;
+    let gap = search.gap;
+    let target = stop_at(search.disk, &trial.sides.late, gap.target, gap.now);
+    let fine = fine_of(search.disk);
+    let firsts = firsts_of(stop, fine);
+    let leaves = Leaves {
+        begin: stop.passing.from,
+        on: trial.ceilings.move_on,
+        fine,
+        firsts: &firsts,
+    };
+    let early = early_bins(stop, fine);
+    let late = late_bins(search, &target, &leaves);
+    let bins = Bins {
+        leaves: &leaves,
+        early: &early,
+        late: &late,
+    };
+    try_binned(trial, &bins, stop, start)
+}
+
+// Tries to leave on arrival, and as late as there is time.
+fn try_both_ends(trial: &Trial, start: Scored) -> Scored
+    requires trial { IsTrial trial.now }
+    requires best { IsFound trial.now.search.now start }
+    ensures scored { IsFound trial.now.search.now result }
+    ensures keeps { IsNoWorse trial.now.search.now result.plan start.plan }
+{
+    let begin = trial.ceilings.begin;
+    let latest = trial.search.gap.deadline - trial.ceilings.move_on;
+    let best = try_leave(trial, None, begin, start);
+    try_leave(trial, None, latest, best)
+}
+
+// So many leaves are valued one by one, which takes less than to fill bins.
+const OPEN: usize = 16;
+
+// Whether the intervals leave it open for more leaves than that, of those in time, whether they are better than
+// the best so far.
+fn are_many_open(trial: &Trial, stop: &Stop, best: Scored) -> bool
+    requires trial { IsTrial trial.now }
+    requires stop { IsReady stop.now }
+    requires from { stop.now.passing.from ≡ trial.now.ceilings.now.begin }
+{
+    let latest = trial.search.gap.deadline - trial.ceilings.move_on;
+    let mut open: usize = 0;
+    for offer in stop.offers {
+        let end = stop.passing.end(offer.sweep);
+        let ceiling = ceiling_at(trial.ceilings, end);
+        if end <= latest && !is_beaten(best, ceiling, trial.way, end) {
+            open = open.saturating_add(1);
+        }
+        if OPEN < open {
+            return true;
+        }
+    }
+    false
+}
+
+// Tries all plans of a way whose track has many blocks, by bins where the intervals leave many of them open.
+fn try_dense(trial: &Trial, stop: &Stop, start: Scored) -> Scored
+    requires trial { IsTrial trial.now }
+    requires stop { IsStop trial.now.search.now.disk.now
+        (on_track (early_track trial.now.search.now.gap.now trial.now.way) trial.now.search.now.wanted.now) stop.now }
+    requires from { stop.now.passing.from ≡ trial.now.ceilings.now.begin }
+    requires best { IsFound trial.now.search.now start }
+    ensures scored { IsFound trial.now.search.now result }
+    ensures keeps { IsNoWorse trial.now.search.now result.plan start.plan }
+    ensures tried { BeatsWay trial.now.search.now trial.now.way result.plan }
+{
+    let best = try_both_ends(trial, start);
+    if are_many_open(trial, stop, best) {
+        return try_many(trial, stop, best);
+    }
+    try_noted(trial, None, best)
 }
 
 // So many offers of a track are tried without notes, which take longer to clear than they spare.
 const FEW: usize = 16;
 
+// So many are tried without bins, which take longer to clear and to fill than they spare.
+const UNBINNED: usize = 512;
+
 // Tries all plans of a way.
-pub fn try_leaves(search: &Search, way: Way, ceilings: &Ceilings, start: Scored) -> Scored
+pub fn try_leaves(
+    search: &Search,
+    way: Way,
+    stop: &Stop,
+    ceilings: &Ceilings,
+    start: Scored,
+) -> Scored
     requires way { IsWay search.now.disk.now search.now.gap.now way }
     requires track { IsTrackOf search.now.disk.now.map (early_track search.now.gap.now way) }
     requires search { IsSearch search.now }
+    requires stop { IsStop search.now.disk.now (on_track (early_track search.now.gap.now way) search.now.wanted.now) stop.now }
+    requires arrive { stop.now.passing.from ≡ arrival search.now.disk.now search.now.gap.now way }
     requires ceilings { AreCeilings search.now way ceilings.now }
     requires best { IsFound search.now start }
     ensures scored { IsFound search.now result }
@@ -184,10 +346,14 @@ pub fn try_leaves(search: &Search, way: Way, ceilings: &Ceilings, start: Scored)
         sides: &both,
         ceilings,
     };
-    if both.early.offers().len() <= FEW {
-        return try_each(&trial, &mut [], start);
+    let offers = stop.offers.len();
+    if offers <= FEW {
+        return try_each(&trial, None, &mut [], start);
     }
-    try_noted(&trial, start)
+    if offers <= UNBINNED {
+        return try_noted(&trial, None, start);
+    }
+    try_dense(&trial, stop, start)
 }
 
 // Tries all plans that wait at the source.
@@ -202,5 +368,5 @@ pub fn try_source(search: &Search, start: Scored) -> Scored
     let stop = stop_at(search.disk, &blocks, search.gap.source, search.gap.now);
     let on = move_on(search.disk, search.gap, Way::Source);
     let ceilings = ceilings_of(search, Way::Source, &stop, on);
-    try_leaves(search, Way::Source, &ceilings, start)
+    try_leaves(search, Way::Source, &stop, &ceilings, start)
 }

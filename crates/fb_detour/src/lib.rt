@@ -6,6 +6,7 @@
 //! tracks it passes over is not promised.
 #![tactic(auto)]
 
+mod bins;
 mod bounds;
 mod candidates;
 mod given;

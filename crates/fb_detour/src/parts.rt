@@ -1,5 +1,6 @@
 // What a track, or the target, can give, tabulated by instant.
-ghost use Rattle.std.specs.Prelude.{◌≡◌, ◌+◌, ◌-◌, ◌*◌, ◌/◌, ◌≤◌, ◌<◌, ◌^◌, ℕ, get_or, nat_le, if◌then◌else◌, IfSome, IfNone};
+ghost use Rattle.std.specs.Prelude.{◌≡◌, ◌+◌, ◌-◌, ◌*◌, ◌/◌, ◌≤◌, ◌<◌, ◌^◌, ℕ, get_or, length};
+ghost use Rattle.std.specs.Prelude.{nat_le, nat_lt, if◌then◌else◌, IfSome, IfNone};
 ghost use Rattle.fb_plan.specs.Ways.{AreOnDisk, IsGap};
 ghost use Rattle.fb_plan.specs.Turns.{added, end_of, passes_by, IsInTurn, IsTurning, Stands};
 ghost use Rattle.fb_detour.specs.Bounds.{late_gain, late_step, offered, part_at, sum_of_first, IsLate, IsReady};
@@ -42,7 +43,7 @@ fn worth_by(instant: Ns, upto: Ns, worth: u64) -> u64
 
 // The last instant at which the head can come to the target and still catch what passes so, once a
 // rotation; `None` where it doesn't pass whole by the deadline.
-fn last_catch(disk: &Disk, gap: &Gap, passing: &Turning, sweep: Sweep) -> Option<Ns>
+pub fn last_catch(disk: &Disk, gap: &Gap, passing: &Turning, sweep: Sweep) -> Option<Ns>
     requires gap { IsGap disk.now gap.now }
     requires passing { IsTurning disk.now passing.now }
     requires from { passing.now.from ≡ gap.now.now }
@@ -173,6 +174,17 @@ pub fn late_at(late: &LateParts, from: Ns) -> u64
 // Into how many intervals the time on a track is divided.
 pub const EARLY: usize = 16;
 
+// Adds the worth to the number at this place, if there is one.
+pub fn add_at(numbers: &mut [u64], place: usize, worth: u32)
+    requires room { (k : ℕ) → k < length numbers.old → sum_of_first (k + 1) numbers.old ≤ 16000000 * 2048000 }
+    ensures { (n : ℕ) → n ≤ length numbers.old
+        → sum_of_first n numbers.new ≡ sum_of_first n numbers.old + (if nat_lt place n then worth else 0) }
+{
+    if place < numbers.len() {
+        numbers[place] += worth as u64;
+    }
+}
+
 // Adds the worth of an offer to the interval in which its passage ends.
 fn add_offer(stop: &Stop, step: Ns, offer: Offer, intervals: &mut [u64; EARLY])
     requires stands { Stands stop.now.passing }
@@ -184,17 +196,15 @@ fn add_offer(stop: &Stop, step: Ns, offer: Offer, intervals: &mut [u64; EARLY])
 {
     let past = stop.passing.end(offer.sweep) - stop.passing.from;
     let first = past.saturating_sub(1) / step;
-    if first < EARLY as u64 {
-        intervals[first as usize] += offer.worth as u64;
-    }
+    add_at(intervals, first as usize, offer.worth);
 }
 
 // Makes each number the sum of itself and all before it.
-fn add_up(intervals: &mut [u64; EARLY])
-    requires room { (k : ℕ) → k < 16 → sum_of_first (k + 1) intervals.old ≤ 16000000 * 2048000 }
-    ensures { (k : ℕ) → k < 16 → get_or intervals.new k 0 ≡ sum_of_first (k + 1) intervals.old }
+pub fn add_up(intervals: &mut [u64])
+    requires room { (k : ℕ) → k < length intervals.old → sum_of_first (k + 1) intervals.old ≤ 16000000 * 2048000 }
+    ensures { (k : ℕ) → k < length intervals.old → get_or intervals.new k 0 ≡ sum_of_first (k + 1) intervals.old }
 {
-    for k in 1..EARLY {
+    for k in 1..intervals.len() {
         intervals[k] += intervals[k - 1];
     }
 }

@@ -59,7 +59,7 @@ fn try_stop(
     if leaves_beaten(search, &ceilings, track, start) {
         return start;
     }
-    try_leaves(search, way, &ceilings, start)
+    try_leaves(search, way, &stop, &ceilings, start)
 }
 
 // Tries the plans over a track, unless none can be better than the best so far.

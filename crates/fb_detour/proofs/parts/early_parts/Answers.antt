@@ -16,7 +16,7 @@ add_offer-requires-clause-room c = λ k less.
 pub add_up-requires : goal.add_up-requires
 add_up-requires c = record {
   room = λ k less. small c.args.stop.now (c.args.stop.now.passing.from + (k + 1) * c.args.step) c.loop-offer.offer-index _
-      c.requires.stop (c.loop-offer.invariant k less);
+      c.requires.stop (c.loop-offer.invariant k (omega (arith, less)));
 }
 
 pub returns : goal.returns
@@ -24,7 +24,7 @@ returns c =
     let stop = c.args.stop.now in
     let i = c.loop-offer.offer-index in
     let upto = λ (k : ℕ). stop.passing.from + (k + 1) * c.args.step in record {
-      each = λ k less. c.add_up.ensures k less ∙ (c.loop-offer.invariant k less
+      each = λ k less. c.add_up.ensures k (omega (arith, less)) ∙ (c.loop-offer.invariant k less
           ∙ all-of (added (passes_by stop.passing (upto k))) stop.offers.now i c.loop-offer-test.false);
-      small = λ k less. small stop (upto k) i _ c.requires.stop (c.add_up.ensures k less ∙ c.loop-offer.invariant k less);
+      small = λ k less. small stop (upto k) i _ c.requires.stop (c.add_up.ensures k (omega (arith, less)) ∙ c.loop-offer.invariant k less);
     }

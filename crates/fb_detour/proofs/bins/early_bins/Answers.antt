@@ -1,0 +1,65 @@
+use Rattle.fb_detour.proofs.Words.{arith, refl, ◌+◌, ◌≤◌, nat_tests, added, passes_by, Offer, bin_at}
+use Rattle.fb_detour.proofs.Binned.{most-more, no_earlier_bin, no_sum, worth-more}
+use Rattle.fb_detour.proofs.Offers.{all-of, small-sum}
+use Rattle.fb_detour.proofs.bins.early_bins.Goals as goal
+
+pub loop-offer-init : goal.loop-offer-init
+loop-offer-init c = record {
+  most = λ leave. omega arith;
+  small = λ n less. omega (arith, no_sum 16384 n);
+}
+
+pub add_at-requires : goal.add_at-requires
+add_at-requires c = record {
+  room = λ k less.
+      let stop = c.args.stop.now in
+      let small = small-sum stop (λ (o : Offer). o.worth) c.loop-offer.offer-index (λ o. omega arith) c.requires.stop in
+      omega (arith, c.loop-offer.invariant.small (k + 1) (omega (arith, less)), small);
+}
+
+pub loop-offer-preserved : goal.loop-offer-preserved
+loop-offer-preserved c =
+    let stop = c.args.stop.now in
+    let passing = stop.passing in
+    let offers = stop.offers.now in
+    let i = c.loop-offer.offer-index in
+    let within = c.loop-offer-test.true in
+    let old = c.loop-offer.bins in
+    let new = c.add_at.new.numbers in
+    let k = c.bin_at-k.result in
+    let fine = c.args.fine in record {
+      most = λ leave.
+          let n = bin_at passing.from fine leave + 1 in
+          most-more (added (passes_by passing leave)) offers i _ within old new k n (c.add_at.ensures n (omega arith))
+          (passes_by passing leave) refl
+          (λ by.
+          let end = c.end-end.ensures.value in
+          let le : c.end-end.result ≤ leave = grind (arith, nat_tests) in
+          omega (arith, no_earlier_bin passing.from fine c.end-end.result leave c.requires.some le, c.bin_at-k.ensures.value))
+          (c.loop-offer.invariant.most leave);
+      small = λ n less.
+          worth-more (λ (offer : Offer). offer.worth) offers i _ within old new k n (c.add_at.ensures n (omega (arith, less)))
+          (c.loop-offer.invariant.small n less);
+    }
+
+pub add_up-requires : goal.add_up-requires
+add_up-requires c = record {
+  room = λ k less.
+      let stop = c.args.stop.now in
+      let small = small-sum stop (λ (o : Offer). o.worth) c.loop-offer.offer-index (λ o. omega arith) c.requires.stop in
+      omega (arith, c.loop-offer.invariant.small (k + 1) (omega (arith, less)), small);
+}
+
+pub returns : goal.returns
+returns c =
+    let stop = c.args.stop.now in
+    let i = c.loop-offer.offer-index in
+    let so_far = c.loop-offer.invariant in record {
+      most = λ leave.
+          let k = bin_at stop.passing.from c.args.fine leave in
+          let all = all-of (added (passes_by stop.passing leave)) stop.offers.now i c.loop-offer-test.false in
+          omega (arith, all, so_far.most leave, c.add_up.ensures k (omega arith));
+      small = λ k less.
+          let small = small-sum stop (λ (o : Offer). o.worth) i (λ o. omega arith) c.requires.stop in
+          omega (arith, small, so_far.small (k + 1) (omega (arith, less)), c.add_up.ensures k (omega (arith, less)));
+    }

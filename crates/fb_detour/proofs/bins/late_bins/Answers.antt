@@ -1,0 +1,65 @@
+use Rattle.fb_detour.proofs.Words.{arith, refl, ◌+◌, ◌-◌, late_gain, passes_by, turned_to, Offer, bin_at}
+use Rattle.fb_detour.proofs.Binned.{most-more, no_sum, worth-more}
+use Rattle.fb_detour.proofs.Offers.{all-of, small-sum}
+use Rattle.fb_detour.proofs.bins.late_bins.Goals as goal
+
+pub loop-offer-init : goal.loop-offer-init
+loop-offer-init c = record {
+  most = λ leave after noted. omega arith;
+  small = λ n less. omega (arith, no_sum 16384 n);
+}
+
+pub add_at-requires : goal.add_at-requires
+add_at-requires c = record {
+  room = λ k less.
+      let worth = λ (o : Offer). o.worth in
+      let small = small-sum c.args.target.now worth c.loop-offer.offer-index (λ o. omega arith) c.requires.target.ready in
+      omega (arith, c.loop-offer.invariant.small (k + 1) (omega (arith, less)), small);
+}
+
+pub loop-offer-preserved : goal.loop-offer-preserved
+loop-offer-preserved c =
+    let stop = c.args.target.now in
+    let passing = stop.passing in
+    let gap = c.args.search.now.gap.now in
+    let leaves = c.args.leaves.now in
+    let offers = stop.offers.now in
+    let i = c.loop-offer.offer-index in
+    let within = c.loop-offer-test.true in
+    let old = c.loop-offer.bins in
+    let new = c.add_at.new.numbers in
+    let k = c.late_place-k.result in record {
+      most = λ leave after noted.
+          let n = 16383 - bin_at leaves.begin leaves.fine leave + 1 in
+          most-more (late_gain passing gap (leave + leaves.on)) offers i _ within old new k n (c.add_at.ensures n (omega arith))
+          (passes_by (turned_to passing (leave + leaves.on)) gap.deadline) refl
+          (λ by. let less = c.late_place-k.ensures leave after noted by in omega (arith, less))
+          (c.loop-offer.invariant.most leave after noted);
+      small = λ n less.
+          worth-more (λ (offer : Offer). offer.worth) offers i _ within old new k n (c.add_at.ensures n (omega (arith, less)))
+          (c.loop-offer.invariant.small n less);
+    }
+
+pub add_up-requires : goal.add_up-requires
+add_up-requires c = record {
+  room = λ k less.
+      let worth = λ (o : Offer). o.worth in
+      let small = small-sum c.args.target.now worth c.loop-offer.offer-index (λ o. omega arith) c.requires.target.ready in
+      omega (arith, c.loop-offer.invariant.small (k + 1) (omega (arith, less)), small);
+}
+
+pub returns : goal.returns
+returns c =
+    let stop = c.args.target.now in
+    let leaves = c.args.leaves.now in
+    let i = c.loop-offer.offer-index in
+    let so_far = c.loop-offer.invariant in record {
+      most = λ leave after noted.
+          let k = 16383 - bin_at leaves.begin leaves.fine leave in
+          let all = all-of (late_gain stop.passing c.args.search.now.gap.now (leave + leaves.on)) stop.offers.now i
+          c.loop-offer-test.false in
+          omega (arith, all, so_far.most leave after noted, c.add_up.ensures k (omega arith));
+      small = λ k less.
+          let small = small-sum stop (λ (o : Offer). o.worth) i (λ o. omega arith) c.requires.target.ready in
+          omega (arith, small, so_far.small (k + 1) (omega (arith, less)), c.add_up.ensures k (omega (arith, less)));
+    }

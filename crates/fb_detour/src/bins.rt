@@ -1,0 +1,180 @@
+// The time on a track in bins finer than its slots, and what plans that leave in each of them are worth at
+// most.
+ghost use Rattle.std.specs.Prelude.{◌≡◌, ◌+◌, ◌-◌, ◌*◌, ◌≤◌, ◌<◌, ◌^◌, ℕ, get_or, IfSome};
+ghost use Rattle.std.specs.List.{sum_by};
+ghost use Rattle.fb_wanted.specs.States.{on_track};
+ghost use Rattle.fb_plan.specs.Turns.{IsInTurn, IsTurning};
+ghost use Rattle.fb_detour.specs.Bounds.{bin_at, bin_ceiling, late_gain, offered, AreLeaves, IsNoted, IsPlace, IsReady, IsSearch, IsStop};
+
+use crate::given::Search;
+use crate::parts::{add_at, add_up, last_catch};
+use crate::stop::Stop;
+use fb_plan::Turning;
+use fb_service::Disk;
+use fb_units::{Ns, Sweep};
+
+// How many bins there are. They go over a bit more than a rotation, so that each is shorter than a slot: a
+// track has 10,000 at most.
+pub const BINS: usize = 16_384;
+
+// No leave: it is later than all.
+pub const NEVER: Ns = Ns::MAX;
+
+// The leaves from a track, bin by bin.
+#[derive(Clone, Copy)]
+pub struct Leaves<'a> {
+    // When the head arrives, in ns.
+    pub begin: Ns,
+    // How long the move on to the target takes, in ns.
+    pub on: Ns,
+    // How long each bin is, in ns.
+    pub fine: Ns,
+    // The first leave in each bin.
+    pub firsts: &'a [Ns; BINS],
+}
+
+// What plans are worth at most, by the bin in which they leave.
+#[derive(Clone, Copy)]
+pub struct Bins<'a> {
+    pub leaves: &'a Leaves<'a>,
+    // What the track gives up to the last leave in each bin.
+    pub early: &'a [u64; BINS],
+    // What the target gives from the first leave in each bin on, with that of the last bin first.
+    pub late: &'a [u64; BINS],
+}
+
+// How long each bin is on this disk, in ns.
+pub fn fine_of(disk: &Disk) -> Ns
+    ensures { 0 < result }
+{
+    let rotation = disk.map.geometry().rotation();
+    (rotation + rotation / 8) / BINS as u64 + 1
+}
+
+// The bin in which an instant lies. The last one has no end.
+pub fn bin_at(begin: Ns, fine: Ns, instant: Ns) -> usize
+    requires some { 0 < fine }
+    ensures value { result ≡ bin_at begin fine instant }
+    ensures within { result < 16384 }
+{
+    let k = instant.saturating_sub(begin) / fine;
+    k.min(BINS as u64 - 1) as usize
+}
+
+// The first leave in each bin, of the arrival and the ends of all passages.
+pub fn firsts_of(stop: &Stop, fine: Ns) -> [Ns; BINS]
+    requires stop { IsReady stop.now }
+    requires some { 0 < fine }
+{
+    let mut firsts = [NEVER; BINS];
+    firsts[0] = stop.passing.from;
+    for offer in stop.offers {
+        let end = stop.passing.end(offer.sweep);
+        let k = bin_at(stop.passing.from, fine, end);
+        firsts[k] = firsts[k].min(end);
+    }
+    firsts
+}
+
+// What a stop gives at most to a head that leaves in each bin.
+pub fn early_bins(stop: &Stop, fine: Ns) -> [u64; BINS]
+    requires stop { IsReady stop.now }
+    requires some { 0 < fine }
+    ensures most { (leave : ℕ) → offered stop.now leave ≤ get_or result (bin_at stop.now.passing.from fine leave) 0 }
+    ensures small { (k : ℕ) → k < 16384 → get_or result k 0 ≤ 16000000 * 2048000 }
+{
+    let mut bins = [0; BINS];
+    for offer in stop.offers {
+        let end = stop.passing.end(offer.sweep);
+        let k = bin_at(stop.passing.from, fine, end);
+        add_at(&mut bins, k, offer.worth);
+    }
+    add_up(&mut bins);
+    bins
+}
+
+// How many bins, counted from the last one back, have no leave from which the head comes to the target by this
+// instant.
+fn place_of(leaves: &Leaves, last: Ns) -> usize
+    requires some { 0 < leaves.now.fine }
+    requires room { leaves.now.begin + leaves.now.on ≤ 9 * 10 ^ 18 }
+    ensures { (leave : ℕ) → leaves.now.begin ≤ leave → IsNoted leaves.now leave → leave + leaves.now.on ≤ last
+        → result + bin_at leaves.now.begin leaves.now.fine leave < 16384 }
+{
+    if last < leaves.begin + leaves.on {
+        return BINS;
+    }
+    let latest = last - leaves.on;
+    let k = bin_at(leaves.begin, leaves.fine, latest);
+    if latest < leaves.firsts[k] {
+        return BINS - k;
+    }
+    BINS - 1 - k
+}
+
+// How many bins, counted from the last one back, have no leave from which the head still catches at the target
+// what passes so.
+fn late_place(search: &Search, target: &Turning, leaves: &Leaves, sweep: Sweep) -> usize
+    requires search { IsSearch search.now }
+    requires target { IsTurning search.now.disk.now target.now }
+    requires from { target.now.from ≡ search.now.gap.now.now }
+    requires in_turn { IsInTurn target.now.rotation sweep }
+    requires leaves { AreLeaves search.now leaves.now }
+    ensures { IsPlace search.now target.now leaves.now sweep result }
+{
+    if let Some(last) = last_catch(search.disk, search.gap, target, sweep) {
+        return place_of(leaves, last);
+    }
+    BINS
+}
+
+// What the target gives at most to a head that leaves in each bin, with that of the last bin first.
+pub fn late_bins(search: &Search, target: &Stop, leaves: &Leaves) -> [u64; BINS]
+    requires search { IsSearch search.now }
+    requires target { IsStop search.now.disk.now (on_track search.now.gap.now.target search.now.wanted.now) target.now }
+    requires from { target.now.passing.from ≡ search.now.gap.now.now }
+    requires leaves { AreLeaves search.now leaves.now }
+    ensures most { (leave : ℕ) → leaves.now.begin ≤ leave → IsNoted leaves.now leave
+        → sum_by (late_gain target.now.passing search.now.gap.now (leave + leaves.now.on)) target.now.offers.now
+        ≤ get_or result (16383 - bin_at leaves.now.begin leaves.now.fine leave) 0 }
+    ensures small { (k : ℕ) → k < 16384 → get_or result k 0 ≤ 16000000 * 2048000 }
+{
+    let mut bins = [0; BINS];
+    for offer in target.offers {
+        let k = late_place(search, &target.passing, leaves, offer.sweep);
+        add_at(&mut bins, k, offer.worth);
+    }
+    add_up(&mut bins);
+    bins
+}
+
+// The upper bound on the value of the plan that leaves at this instant; `None` where its bin has no leave so early.
+pub fn bound_at(bins: &Bins, leave: Ns) -> Option<u64>
+    requires some { 0 < bins.now.leaves.now.fine }
+    requires early { (k : ℕ) → k < 16384 → get_or bins.now.early.now k 0 ≤ 16000000 * 2048000 }
+    requires late { (k : ℕ) → k < 16384 → get_or bins.now.late.now k 0 ≤ 16000000 * 2048000 }
+    ensures { IfSome result (λ bound. IsNoted bins.now.leaves.now leave × (bound ≡ bin_ceiling bins.now leave)) }
+{
+    let k = bin_at(bins.leaves.begin, bins.leaves.fine, leave);
+    if leave < bins.leaves.firsts[k] {
+        return None;
+    }
+    Some(bins.early[k] + bins.late[BINS - 1 - k])
+}
+
+// The bin whose bound is the greatest, of those with a leave up to the latest one; the first of several such bins.
+pub fn fullest(bins: &Bins, latest: Ns) -> usize
+    requires early { (k : ℕ) → k < 16384 → get_or bins.now.early.now k 0 ≤ 16000000 * 2048000 }
+    requires late { (k : ℕ) → k < 16384 → get_or bins.now.late.now k 0 ≤ 16000000 * 2048000 }
+{
+    let mut fullest = 0;
+    let mut most = 0;
+    for k in 0..BINS {
+        let bound = bins.early[k] + bins.late[BINS - 1 - k];
+        if bins.leaves.firsts[k] <= latest && most < bound {
+            fullest = k;
+            most = bound;
+        }
+    }
+    fullest
+}
