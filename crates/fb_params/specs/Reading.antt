@@ -1,9 +1,10 @@
 -- What the bytes of a parameter file mean: the value of an accepted file, or the first fault.
-use Rattle.std.specs.Prelude.{◌≡◌, ℕ, List, length, codes, nat_le, if◌then◌else◌, Option, Some, None, option_map, Result, Ok, Err}
+use Rattle.std.specs.Prelude.{ℕ, List, length, codes, nat_le, if◌then◌else◌, Option, Some, None, option_map, Result, Ok, Err}
 use Rattle.std.specs.List.{find}
 use Rattle.std.specs.Str.{is_utf8}
 use Rattle.toml.specs.Data.{Members}
 use Rattle.toml.specs.Parse.{parse_document}
+pub use Rattle.fb_units.specs.Reading.{Answers}
 use Rattle.fb_geometry.specs.declared.layout.Layout.{Layout}
 use Rattle.fb_geometry.specs.Shape.{Shape, cylinders_of}
 use Rattle.fb_geometry.specs.Places.{places}
@@ -14,8 +15,6 @@ use Rattle.fb_params.specs.declared.rule.Rule.{Rule}
 use Rattle.fb_params.specs.declared.rule.Rule.TheVariants.{Known, Present, OfKind, InRange}
 use Rattle.fb_params.specs.declared.fault.ParamsFault.{ParamsFault}
 use Rattle.fb_params.specs.declared.fault.ParamsFault.TheVariants.{NotToml, UnknownKey, MissingKey, WrongKind, OutOfRange, Geometry, Seek, LatentOutside}
-use Rattle.fb_units.specs.declared.read_error.ReadError.{ReadError}
-use Rattle.fb_units.specs.declared.read_error.ReadError.TheVariants.{Fault, NoMemory}
 use Rattle.fb_params.specs.declared.parameters.Parameters.{Parameters}
 use Rattle.fb_params.specs.Tables.{number_at, layout_of}
 use Rattle.fb_params.specs.Rules.{first_key}
@@ -91,8 +90,3 @@ params_of bytes = do
 abbrev pub held : Parameters → ParamsValue
 held params = record { outline = params.disk.map; mechanics = params.disk.mechanism; sector_bytes = params.disk.sector_bytes; latent = params.latent.items }
 
--- the result, seen through f, is the verdict; running out of memory may come with any verdict
-abbrev pub Answers : {A B : Type 0} → (A → B) → Result A (ReadError ParamsFault) → Result B ParamsFault → Type 0
-Answers f (Ok a) verdict = verdict ≡ Ok (f a)
-Answers f (Err (Fault fault)) verdict = verdict ≡ Err fault
-Answers f (Err NoMemory) verdict = Unit {0}

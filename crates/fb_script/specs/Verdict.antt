@@ -1,16 +1,9 @@
 -- What the result of reading says of the text.
 use Rattle.std.specs.Prelude.{◌≡◌, Result, Ok, Err}
+pub use Rattle.fb_units.specs.Reading.{Answers}
 use Rattle.fb_calls.specs.declared.call.Calls.{Calls}
 use Rattle.fb_script.specs.declared.fault.CallsFault.{CallsFault}
-use Rattle.fb_units.specs.declared.read_error.ReadError.{ReadError}
-use Rattle.fb_units.specs.declared.read_error.ReadError.TheVariants.{Fault, NoMemory}
 use Rattle.fb_script.specs.Reading.{Accepted}
-
--- the result is the verdict, or it is out of memory
-abbrev pub Answers : {A B : Type 0} → (A → B) → Result A (ReadError CallsFault) → Result B CallsFault → Type 0
-Answers seen (Ok a) verdict = verdict ≡ Ok (seen a)
-Answers seen (Err (Fault fault)) verdict = verdict ≡ Err fault
-Answers seen (Err NoMemory) verdict = Unit {0}
 
 -- the value of a script
 abbrev pub accepted : Calls → Accepted

@@ -49,11 +49,12 @@ impl<T> Items<T> {
         Ok(())
     }
 
-    /// Removes the last item.
+    /// Removes the last item, if there is one.
     pub fn pop(&mut self)
     where
         T: Drop,
-        ensures { (items : List T) (last : T) → self.old ≡ items ++ last ∷ [] → self.new ≡ items }
+        ensures rest { (items : List T) (last : T) → self.old ≡ items ++ last ∷ [] → self.new ≡ items }
+        ensures none { self.old ≡ [] → self.new ≡ [] }
     {
         self.items.pop();
     }

@@ -2,6 +2,7 @@
 use Rattle.std.specs.Prelude.{◌≡◌, Result, Ok, Err}
 use Rattle.std.specs.Option.{option_map}
 use Rattle.std.specs.String.{string_bytes}
+pub use Rattle.fb_units.specs.Reading.{Answers}
 use Rattle.fb_words.specs.declared.command.ReplayWords.{ReplayWords}
 use Rattle.fb_words.specs.declared.command.MakeWords.{MakeWords}
 use Rattle.fb_words.specs.declared.command.CheckWords.{CheckWords}
@@ -10,8 +11,6 @@ use Rattle.fb_words.specs.declared.command.RebuildWords.{RebuildWords}
 use Rattle.fb_words.specs.declared.command.Command.{Command}
 use Rattle.fb_words.specs.declared.command.Command.TheVariants.{Replay, Make, Check, Array}
 use Rattle.fb_words.specs.declared.fault.UsageFault.{UsageFault}
-use Rattle.fb_units.specs.declared.read_error.ReadError.{ReadError}
-use Rattle.fb_units.specs.declared.read_error.ReadError.TheVariants.{Fault, NoMemory}
 use Rattle.fb_words.specs.Command.{ReplayTerms, MakeTerms, CheckTerms, RebuildTerms, ArrayTerms, Terms, replays, makes, checks, arrays}
 
 abbrev pub replay_terms : ReplayWords → ReplayTerms
@@ -71,12 +70,6 @@ terms (Replay words) = replays (replay_terms words)
 terms (Make words) = makes (make_terms words)
 terms (Check words) = checks (check_terms words)
 terms (Array words) = arrays (array_terms words)
-
--- the result is the verdict, or it is out of memory
-abbrev pub Answers : {A B : Type 0} → (A → B) → Result A (ReadError UsageFault) → Result B UsageFault → Type 0
-Answers seen (Ok a) verdict = verdict ≡ Ok (seen a)
-Answers seen (Err (Fault fault)) verdict = verdict ≡ Err fault
-Answers seen (Err NoMemory) verdict = Unit {0}
 
 -- the result of a step that doesn't allocate is the verdict
 abbrev pub Agrees : {A B E : Type 0} → (A → B) → Result A E → Result B E → Type 0
