@@ -8,6 +8,7 @@ use Rattle.fb_model.specs.History.{same_block, Past, registered, wanted}
 use Rattle.fb_plan.specs.declared.catching.Catch.{Catch}
 use Rattle.fb_plan.specs.Order.{is_before, place_in}
 use Rattle.fb_plan.proofs.Sorted.{put_front, put_behind}
+use Rattle.fb_plan.specs.Ways.{FitsDisk}
 use Rattle.fb_decide.specs.Deliveries.{AreDistinct, AreDue, row_in, held_now}
 use Rattle.std.specs.Prelude.{slice_get, nat_le, nat_lt}
 use Rattle.std.proofs.lemmas.List.{append_assoc, map-append, drop_more, drop_all}
@@ -23,7 +24,7 @@ use Rattle.fb_service.specs.declared.passage.Passage.{Passage}
 use Rattle.fb_wanted.specs.declared.block.Entry.{Entry}
 use Rattle.fb_wanted.specs.States.{on_track, wanted_of}
 use Rattle.fb_model.specs.Rides.{lies_in, begin_at, end_at, in_order, rides, delivery}
-use Rattle.fb_decide.specs.Carried.{added, ride_of, begins_in, begun_in, carried_of, AreLaid, AreExtents, IsWholeBlock, AreWholeBlocks}
+use Rattle.fb_decide.specs.Carried.{added, ride_of, begins_in, begun_in, carried_of, AreLaid, AreExtents}
 use Rattle.fb_wanted.proofs.Kept.{same_itself as track_itself}
 use Rattle.fb_tasks.proofs.Lists.{filter_none, filter_same, all_any, all_at, all_weaker, all_map}
 use Rattle.fb_geometry.specs.Places.{places}
@@ -241,11 +242,9 @@ due-carried holding served past reads distinct = rw reads (due-filtered past (li
 pub none-carried : (holding : Holding) (served : Served) (blocks : List Block) → served.request.write ≡ true → rides (held_now holding) served blocks ≡ []
 none-carried holding served blocks writes = rw writes refl
 
--- registered blocks have sectors, and lie on their tracks
-pub whole-told : (disk : Disk) (past : Past) (sessions : List Session) (held : List Entry) → Tells disk.map past sessions held → AreWholeBlocks disk.map held
-whole-told disk past sessions held tells = λ i entry at. all_at (λ (e : Entry). IsWholeBlock disk.map e.block) held i entry
-    (subst (AllByRecursion (λ (e : Entry). IsWholeBlock disk.map e.block)) (sym tells.entries) (all_map (λ (e : Entry). IsWholeBlock disk.map e.block) (entry_of past) (registered past)
-    (all_weaker _ (IsWholeBlock disk.map) (λ b h. record { some = h.some; within = h.within; track = h.track }) (registered past) tells.on_disk))) at
+-- no block of a disk ends behind the last sector that a disk may have
+pub ends_within : (disk : Disk) (block : Block) → FitsDisk disk block → block.lbn + block.count ≤ 10 ^ 12
+ends_within disk block fits = omega (arith, fits.on_disk, disk.few_blocks)
 
 pub all-extents : (disk : Disk) (extents : List Extent) → AllByRecursion (λ extent. extent.first + extent.count ≤ length (places disk.map)) extents → AllByRecursion (IsUnbroken disk.map) extents
     → AllByRecursion (λ extent. extent.begin ≤ 10 ^ 19) extents → length (places disk.map) ≤ 10 ^ 12 → AreExtents disk.map extents

@@ -46,7 +46,7 @@ wanted-told {past} tells = ap wanted_of tells.entries ∙ wanted_by past (regist
 pub fits-told : (disk : Disk) (past : Past) (sessions : List Session) (held : List Entry) → Tells disk.map past sessions held → AreOnDisk disk held
 fits-told disk past sessions held tells = λ i entry at. all_at (λ (e : Entry). FitsDisk disk e.block) held i entry
     (subst (AllByRecursion (λ (e : Entry). FitsDisk disk e.block)) (sym tells.entries) (all_map (λ (e : Entry). FitsDisk disk e.block) (entry_of past) (registered past)
-    (all_weaker _ (FitsDisk disk) (λ b h. record { some = h.some; few = h.few; light = h.weight; on_disk = h.on_disk; track = h.track; one_turn = h.one_turn; sweep = h.sweep }) (registered past) tells.on_disk))) at
+    (all_weaker _ (FitsDisk disk) (λ b h. h.on) (registered past) tells.on_disk))) at
 
 pub wanted-registered : (past : Past) (place : ℕ) (block : Block) → slice_get (wanted past) place ≡ Some block → IsRegistered past block
 unfolding wanted

@@ -1,16 +1,14 @@
 -- What a read carries, extent by extent.
-use Rattle.std.specs.Prelude.{◌≡◌, ℕ, ◌+◌, ◌-◌, ◌^◌, ◌≤◌, ◌<◌, List, [], ◌∷◌, ◌++◌, Bool, ◌&&◌, Some, nat_le, nat_lt}
-use Rattle.std.specs.Prelude.{filter, map, length, slice_get}
+use Rattle.std.specs.Prelude.{◌≡◌, ℕ, ◌+◌, ◌-◌, ◌^◌, ◌≤◌, List, [], ◌∷◌, ◌++◌, Bool, ◌&&◌, nat_le, nat_lt}
+use Rattle.std.specs.Prelude.{filter, map, length}
 use Rattle.std.specs.List.{AllByRecursion}
 use Rattle.fb_units.specs.declared.types.Request.{Request}
 use Rattle.fb_geometry.specs.Shape.{Shape}
 use Rattle.fb_geometry.specs.Places.{places}
-use Rattle.fb_sectormap.specs.Lookup.{track_at}
 use Rattle.fb_service.specs.declared.passage.Passage.{Passage}
 use Rattle.fb_service.specs.declared.passage.Extent.{Extent}
 use Rattle.fb_service.specs.Extents.{IsUnbroken}
 use Rattle.fb_wanted.specs.declared.block.Block.{Block}
-use Rattle.fb_wanted.specs.declared.block.Entry.{Entry}
 use Rattle.fb_model.specs.Rides.{lies_in, begin_at, end_at}
 use Rattle.fb_plan.specs.declared.catching.Catch.{Catch}
 use Rattle.fb_plan.specs.Order.{in_order}
@@ -50,13 +48,3 @@ AreExtents disk extents = AllByRecursion (IsExtentOf disk) extents
 abbrev pub AreLaid : ℕ → List Extent → ℕ → Type 0
 AreLaid first [] count = count ≡ 0
 AreLaid first (extent ∷ extents) count = (extent.first ≡ first) × (extent.count ≤ count) × AreLaid (first + extent.count) extents (count - extent.count)
-
--- a block with sectors, on the track of its first one
-pub record IsWholeBlock (disk : Shape) (block : Block) : Type 0 where
-  pub some : 0 < block.count
-  pub within : block.lbn + block.count ≤ 10 ^ 12
-  pub track : block.track ≡ track_at disk block.lbn
-
--- each registered block has sectors, and lies on the track of its first one
-abbrev pub AreWholeBlocks : Shape → List Entry → Type 0
-AreWholeBlocks disk entries = (i : ℕ) (entry : Entry) → slice_get entries i ≡ Some entry → IsWholeBlock disk entry.block

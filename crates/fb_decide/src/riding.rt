@@ -6,7 +6,8 @@ ghost use Rattle.fb_model.specs.History.{Past, wanted};
 ghost use Rattle.fb_model.specs.Rides.{lies_in, rides};
 ghost use Rattle.fb_wanted.specs.States.{on_track, wanted_of};
 ghost use Rattle.fb_plan.specs.Order.{in_order};
-ghost use Rattle.fb_decide.specs.Carried.{added, carried_of, ride_of, begins_in, AreExtents, AreLaid, AreWholeBlocks, IsWholeBlock};
+ghost use Rattle.fb_plan.specs.Ways.{AreOnDisk, FitsDisk};
+ghost use Rattle.fb_decide.specs.Carried.{added, carried_of, ride_of, begins_in, AreExtents, AreLaid};
 ghost use Rattle.fb_decide.specs.Deliveries.{IsCurrent, HasDelivered, AreDistinct, held_now};
 ghost use Rattle.fb_decide.specs.Turn.{IsTurnOn, served_in};
 
@@ -59,7 +60,7 @@ fn carried(
     requires extents { AreExtents disk.now.map extents.now }
     requires covers { AreLaid request.lbn extents.now request.count }
     requires request { request.lbn + request.count ≤ 10 ^ 12 }
-    requires registered { AreWholeBlocks disk.now.map wanted.now }
+    requires registered { AreOnDisk disk.now wanted.now }
     requires distinct { AreDistinct (wanted_of wanted.now) }
     ensures { IfOk result (λ found. found.items ≡ carried_of (all_passages_of disk.now.map extents.now) request (wanted_of wanted.now)) }
 {
@@ -83,7 +84,7 @@ fn add_carried(
     requires extents { AreExtents disk.now.map extents.now }
     requires extent { extent.now.first + extent.now.count ≤ 10 ^ 12 }
     requires request { request.lbn + request.count ≤ 10 ^ 12 }
-    requires registered { AreWholeBlocks disk.now.map wanted.now }
+    requires registered { AreOnDisk disk.now wanted.now }
     ensures { OnOk result (in_order found.new.items
         ≡ in_order (added (all_passages_of disk.now.map extents.now) extent.now request found.old.items
         (wanted_of (on_track extent.now.track wanted.now)))) }
@@ -97,6 +98,7 @@ fn add_carried(
 }
 
 // Adds a block, if the read carries it and its first sector passes in this extent.
+#[tactic(auto, using(crate::proofs::Carrying::ends_within))]
 fn add_ride(
     disk: &Disk,
     request: Request,
@@ -108,7 +110,7 @@ fn add_ride(
     requires extents { AreExtents disk.now.map extents.now }
     requires extent { extent.now.first + extent.now.count ≤ 10 ^ 12 }
     requires request { request.lbn + request.count ≤ 10 ^ 12 }
-    requires block { IsWholeBlock disk.now.map block }
+    requires block { FitsDisk disk.now block }
     ensures { OnOk result (found.new.items
         ≡ added (all_passages_of disk.now.map extents.now) extent.now request found.old.items (block ∷ [])) }
 {

@@ -17,14 +17,16 @@ cuts_placed disk tasks task weight block n from end (cut ∷ cuts) opened light 
     let rise = cuts_rise disk block (from + cut.count) end cuts h.4 in (
       record {
         task = opened;
-        some = h.1;
-        few = omega (arith, h.2);
-        weight = light;
-        on_disk = omega (arith, h.0);
         within = omega (arith, h.0);
-        track = h.3 ∙ ap (track_at disk) (sym h.0);
-        one_turn = subst (λ at. IsOneTurn disk at cut.count) (sym h.0) h.5;
-        sweep = h.6 ∙ ap (λ at. sweep_of disk at cut.count) (sym h.0);
+        on = record {
+          some = h.1;
+          few = omega (arith, h.2);
+          light = light;
+          on_disk = omega (arith, h.0);
+          track = h.3 ∙ ap (track_at disk) (sym h.0);
+          one_turn = subst (λ at. IsOneTurn disk at cut.count) (sym h.0) h.5;
+          sweep = h.6 ∙ ap (λ at. sweep_of disk at cut.count) (sym h.0);
+        };
       },
       cuts_placed disk tasks task weight block (n + 1) (from + cut.count) end cuts opened light short on_disk within h.4,
     )

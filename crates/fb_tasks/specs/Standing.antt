@@ -3,9 +3,6 @@ use Rattle.std.specs.Prelude.{◌≡◌, ◌≤◌, ◌<◌, ◌+◌, ◌-◌, �
 use Rattle.std.specs.List.{AllByRecursion, flat_map, range_with_len, list_any, sum_by}
 use Rattle.fb_geometry.specs.Shape.{Shape}
 use Rattle.fb_geometry.specs.Places.{places}
-use Rattle.fb_sectormap.specs.Lookup.{track_at}
-use Rattle.fb_sectormap.specs.Cutting.{IsOneTurn}
-use Rattle.fb_sectormap.specs.Sweeps.{sweep_of}
 use Rattle.fb_calls.specs.Blocks.{live_cuts}
 use Rattle.fb_calls.specs.Sessions.{is_backup, is_clean}
 use Rattle.fb_store.specs.declared.content.Content.{Content}
@@ -18,6 +15,7 @@ use Rattle.fb_wanted.specs.declared.block.Entry.{Entry}
 use Rattle.fb_wanted.specs.States.{is_delivered}
 use Rattle.fb_clean.specs.Segments as clean
 use Rattle.fb_rows.specs.declared.back.BackRow.{BackRow}
+use Rattle.fb_model.specs.Blocks.{IsBlockOn}
 use Rattle.fb_model.specs.History.{Past, LogSegment, tasks, registered, tested, is_seal_of}
 use Rattle.fb_model.specs.Completion.{Choice, Work, work, TaskView, view, state_in, is_cleaned, is_over, is_done, is_segment_of, is_unsealed}
 use Rattle.fb_model.specs.Segments.{is_chosen, is_busy, unchosen}
@@ -38,17 +36,12 @@ entry_by views block = entry_in (views block.task) block
 abbrev pub entry_of : Past → Block → Entry
 entry_of past block = entry_by (view past) block
 
--- a block lies on its disk, whole in one turn of its track
+-- a block on the disk that one of so many tasks has registered; it ends by 10^12, as all sectors of a disk do
 pub record IsBlockOf (disk : Shape) (tasks : ℕ) (block : Block) : Type 0 where
   pub task : block.task < tasks
-  pub some : 0 < block.count
-  pub few : block.count ≤ 2048
-  pub weight : block.weight ≤ 1000
-  pub on_disk : block.lbn + block.count ≤ length (places disk)
   pub within : block.lbn + block.count ≤ 10 ^ 12
-  pub track : block.track ≡ track_at disk block.lbn
-  pub one_turn : IsOneTurn disk block.lbn block.count
-  pub sweep : block.sweep ≡ sweep_of disk block.lbn block.count
+  pub on : IsBlockOn disk block
+  pub open on use *
 
 -- blocks are numbered on from n
 abbrev pub AreIndexed : ℕ → List Block → Type 0

@@ -8,9 +8,9 @@ use Rattle.fb_decide.specs.Carried.{carried_of}
 use Rattle.fb_decide.specs.Deliveries.{HasDelivered, AreDistinct, AreDue, row_in, held_now}
 use Rattle.fb_decide.specs.Turn.{served_in}
 use Rattle.fb_decide.proofs.Placing.{wanted-distinct}
-use Rattle.fb_decide.proofs.Delivering.{wanted-told}
+use Rattle.fb_decide.proofs.Delivering.{fits-told, wanted-told}
 use Rattle.fb_decide.proofs.Extents.{laid, laid_within}
-use Rattle.fb_decide.proofs.Carrying.{rows-carried, due-carried, whole-told, all-extents}
+use Rattle.fb_decide.proofs.Carrying.{rows-carried, due-carried, all-extents}
 use Rattle.fb_decide.proofs.background.Background.ride.Goals as goal
 
 pub carried-requires-clause-extents : goal.carried-requires-clause-extents
@@ -26,7 +26,7 @@ carried-requires-clause-covers c =
     laid c.args.disk.now c.args.extents.now c.args.turn.head c.args.turn.start c.args.turn.request.write c.args.turn.request.lbn c.args.turn.request.count c.requires.passages c.requires.unbroken
 
 pub carried-requires-clause-registered : goal.carried-requires-clause-registered
-carried-requires-clause-registered c = whole-told c.args.disk.now c.requires.current.0 c.args.self.now.sessions c.args.self.now.wanted c.requires.current.1.tells
+carried-requires-clause-registered c = fits-told c.args.disk.now c.requires.current.0 c.args.self.now.sessions c.args.self.now.wanted c.requires.current.1.tells
 
 pub carried-requires-clause-distinct : goal.carried-requires-clause-distinct
 carried-requires-clause-distinct c = subst AreDistinct (sym (wanted-told c.requires.current.1.tells)) (wanted-distinct c.requires.current.1.tells)
