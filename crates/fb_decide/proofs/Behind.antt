@@ -11,7 +11,7 @@ use Rattle.fb_calls.specs.declared.call.Action.TheVariants.{Promote}
 use Rattle.fb_calls.specs.Promoted.{read_of, promoted_from, promoted}
 use Rattle.fb_model.specs.Foreground.{behind}
 use Rattle.fb_tasks.proofs.Lists.{all_weaker, all_any, all_append}
-use Rattle.fb_model.proofs.Lists.{by_is, after_is}
+use Rattle.fb_model.proofs.Lists.{all_unmapped, by_is, after_is}
 
 -- a read goes behind all of these
 pub passed_by : (early later : List Request) (read : Request) → AllByRecursion (λ r. r.arrival ≤ read.arrival) early → behind (early ++ later) read ≡ early ++ behind later read
@@ -32,13 +32,9 @@ rise_less : (a b : ℕ) → a ≤ b → (rs : List Request) → RiseFrom b rs �
 rise_less a b le [] rise = tt
 rise_less a b le (r ∷ rs) rise = (omega (arith, rise.0), rise.1)
 
-all_of_map : (P : ℕ → Type 0) (calls : List Call) → AllByRecursion P (map (λ (c : Call). c.instant) calls) → AllByRecursion (λ (c : Call). P c.instant) calls
-all_of_map P [] all = tt
-all_of_map P (c ∷ calls) all = (all.0, all_of_map P calls all.1)
-
 reads_from : (now n : ℕ) (calls : List Call) → AllByRecursion (λ (c : Call). now ≤ c.instant) calls → IsRising (map (λ (c : Call). c.instant) calls) → RiseFrom now (promoted_from n calls)
 reads_from now n [] all rising = tt
-reads_from now n (call ∷ calls) all rising = by_action (λ m. reads_from call.instant m calls (all_of_map (λ later. call.instant ≤ later) calls rising.0) rising.1) call.action refl
+reads_from now n (call ∷ calls) all rising = by_action (λ m. reads_from call.instant m calls (all_unmapped (λ later. call.instant ≤ later) (λ (c : Call). c.instant) calls rising.0) rising.1) call.action refl
   where
     by_action : ((m : ℕ) → RiseFrom call.instant (promoted_from m calls)) → (action : Action) → call.action ≡ action → RiseFrom now (read_of n call action ++ promoted_from (n + length (read_of n call action)) calls)
     by_action rest (Promote first count) e = (all.0, rest (n + 1))

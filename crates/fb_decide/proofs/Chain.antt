@@ -12,8 +12,9 @@ use Rattle.fb_calls.proofs.Lists.{all_weaker}
 use Rattle.fb_model.specs.PlainReplay.{Key, Served, service, finish, last_track, has_arrived, first_ready, start_of, plain, first_track}
 use Rattle.fb_model.specs.Inputs.{Inputs, requests, served}
 use Rattle.fb_model.specs.Decisions.{Decision, serves, idles, ends, instants_of, idle_until, last_decision, decisions_from, decisions}
-use Rattle.fb_model.specs.Laws.{IsFirstReady, IsReadyPickOf}
-use Rattle.fb_model.proofs.Picks.{ready_pick}
+use Rattle.fb_model.specs.Laws.{IsReadyPickOf}
+use Rattle.fb_model.proofs.DecisionsUpTo.{start_among}
+use Rattle.fb_model.proofs.Picks.{all_picked, ready_pick}
 use Rattle.fb_model.proofs.Replays.{start_from}
 use Rattle.fb_model.proofs.Instants.{IsAmong, was_all_among}
 use Rattle.fb_decide.proofs.Instants.{one_filtered, filtered_below, fold_max, most_among, most_below}
@@ -60,27 +61,7 @@ latest_is start now instants h at =
       | inr there ↦ omega (arith, h, most, fold_max now before, most_among start before (one_filtered (λ instant. nat_le instant start) start instants (grind (arith, nat_tests)) there))
     ]
 
--- ---- the start of a service
-
--- now, or when one arrives
-start_at : (now : ℕ) (left : List Request) (instants : List ℕ) → AllByRecursion (λ (r : Request). IsAmong r.arrival instants) left → (start_of now left ≡ now) ⊎ IsAmong (start_of now left) instants
-start_at now [] instants all = inl refl
-start_at now (request ∷ requests) instants all = elim (cases_Bool (list_any (has_arrived now) (request ∷ requests))) [
-  | inl some ↦ rw some (inl refl)
-  | inr none ↦ rw none (inr all.0)
-]
-
 -- ---- the decisions of a plain replay
-
-pub all_without : (P : Request → Type 0) (front back : List Request) (pick : Request) → AllByRecursion P (front ++ pick ∷ back) → P pick × AllByRecursion P (front ++ back)
-all_without P [] back pick all = all
-all_without P (request ∷ front) back pick all = let rest = all_without P front back pick all.1 in (rest.0, (all.0, rest.1))
-
--- the pick meets the condition, and so do the others
-pub pick_meets : (P : Request → Type 0) (key : Request → ℕ) (now : ℕ) (left others : List Request) (pick : Request) → IsFirstReady key now left pick others → AllByRecursion P left → P pick × AllByRecursion P others
-pick_meets P key now left others pick m all =
-    let both = all_without P m.front m.back pick (subst (AllByRecursion P) m.whole all) in
-    (both.0, subst (AllByRecursion P) (sym m.rest) both.1)
 
 last_follows : (P : Request → Type 0) (disk : Disk) (head : Track) (now until : ℕ) → Follow P disk head now (last_decision head now until ∷ [])
 last_follows P disk head now until = elim (cases_Bool (nat_lt now until)) [
@@ -124,8 +105,8 @@ module _ (P : Request → Type 0) (disk : Disk) (key : Key) (instants : List ℕ
   picked n head now start left None h at meet stand m rest = none_chained head now
   picked n head now start left (Some pick) h at meet stand m rest =
       let served = service disk head start pick.0 in
-      let meets = pick_meets P (key disk head start) start left pick.1 pick.0 m meet in
-      let stands = pick_meets (λ (r : Request). IsAmong r.arrival instants) (key disk head start) start left pick.1 pick.0 m stand in
+      let meets = all_picked P (key disk head start) start left pick.1 pick.0 m meet in
+      let stands = all_picked (λ (r : Request). IsAmong r.arrival instants) (key disk head start) start left pick.1 pick.0 m stand in
       one_chained head now start pick.0 (plain n disk key (last_track disk served) (finish served) pick.1) h at meets.0 (rest (last_track disk served) (finish served) pick.1 meets.1 stands.1)
 
   -- the decisions of a plain replay of requests that meet the condition, and whose arrivals stand among the instants
@@ -134,7 +115,7 @@ module _ (P : Request → Type 0) (disk : Disk) (key : Key) (instants : List ℕ
   unfolding plain
   plain_chained zero head now left meet stand = none_chained head now
   plain_chained (suc n) head now left meet stand =
-      picked n head now (start_of now left) left (first_ready (key disk head (start_of now left)) (start_of now left) left) (start_from now left) (start_at now left instants stand) meet stand
+      picked n head now (start_of now left) left (first_ready (key disk head (start_of now left)) (start_of now left) left) (start_from now left) (start_among now left instants stand) meet stand
       (ready_pick (key disk head (start_of now left)) (start_of now left) left) (λ head now left meet stand. plain_chained n head now left meet stand)
 
 -- ---- the decisions of a run

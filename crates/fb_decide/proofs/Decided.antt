@@ -13,7 +13,7 @@ use Rattle.fb_model.specs.Accepted.{IsRequestOf}
 use Rattle.fb_decide.specs.Waiting.{left, IsWaiting, AreByArrival}
 use Rattle.fb_model.specs.Laws.{IsFirstLeast, IsPickOf}
 use Rattle.fb_model.proofs.Picks.{pick_of-first_least}
-use Rattle.fb_decide.proofs.Chain.{all_without}
+use Rattle.fb_model.proofs.Picks.{all_without}
 use Rattle.fb_tasks.proofs.Lists.{all_weaker}
 use Rattle.std.proofs.lemmas.List.{length-append}
 use Rattle.fb_model.proofs.Lists.{by_is, after_is, all_filter, rising_filter}

@@ -25,9 +25,9 @@ use Rattle.fb_decide.specs.Standing.{Mirrors}
 use Rattle.fb_decide.specs.Making.{Replayed, all_writes}
 use Rattle.fb_decide.proofs.Replayed.{medium_by, content_then}
 use Rattle.fb_model.proofs.Replays.{start_from as start_after}
-use Rattle.fb_model.proofs.Picks.{ready_pick}
+use Rattle.fb_model.proofs.Picks.{all_picked, ready_pick}
+use Rattle.fb_model.proofs.Written.{begun_after, media_first}
 use Rattle.fb_model.specs.Laws.{IsReadyPickOf}
-use Rattle.fb_decide.proofs.Chain.{pick_meets}
 
 -- ---- passages take time
 
@@ -63,7 +63,7 @@ picks_ready P key now rs all = of (first_ready key now rs) (ready_pick key now r
   where
     of : (pick : Option (Request × List Request)) → IsReadyPickOf key now rs pick → PicksOf P pick
     of None m = tt
-    of (Some best) m = pick_meets P key now rs best.1 best.0 m all
+    of (Some best) m = all_picked P key now rs best.1 best.0 m all
 
 -- ---- what is served later is written later
 
@@ -99,16 +99,6 @@ mirrors_run inputs done rest now to holding so_far after = λ lbn t from upto.
 
 -- ---- while a request is served
 
--- no passage begins before the first one
-begun_after : (disk : Disk) (source : Track) (now : ℕ) (write : Bool) (lbn n : ℕ)
-    → AllByRecursion (λ (p : Passage). media_of (passages disk source now write lbn n) ≤ p.begin) (passages disk source now write lbn n)
-unfolding passages
-begun_after disk source now write lbn zero = tt
-begun_after disk source now write lbn (suc n) =
-    let first = passage_from disk.map lbn (now + pos disk.mechanism source (track_at disk.map lbn) write) in
-    let rest = passed_between disk (track_at disk.map lbn) first.end write (lbn + 1) n in
-    ((let h : first.begin ≤ first.begin = omega arith in h), all_weaker _ _ (λ (p : Passage) h. (let le : first.begin ≤ p.begin = omega (arith, h.0) in le)) _ rest.1)
-
 -- until when nothing that a request writes has ended: the first passage of a write, the end of a read
 abbrev pub held_until : Served → ℕ
 held_until served = if served.request.write then media served else finish served
@@ -125,12 +115,6 @@ own_late disk head start request each = by request.write each
         (all_weaker _ _ (λ (p : Passage) h. omega (arith, h.0, h.1)) (passages disk head start true request.lbn request.count)
         (all_both _ _ (passages disk head start true request.lbn request.count) (begun_after disk head start true request.lbn request.count) long))
     by false long = tt
-
-pub media_first : (disk : Disk) (head : Track) (start : ℕ) (write : Bool) (lbn n : ℕ) → 0 < n
-    → (start ≤ media_of (passages disk head start write lbn n)) × (media_of (passages disk head start write lbn n) ≤ finish_of start (passages disk head start write lbn n))
-unfolding passages
-media_first disk head start write lbn zero some = absurd (omega arith)
-media_first disk head start write lbn (suc n) some = let all = (passed_between disk head start write lbn (suc n)).1 in (all.0.0, omega (arith, all.0.1, all.0.2))
 
 pub held_between : (disk : Disk) (head : Track) (start : ℕ) (request : Request) → 0 < request.count
     → (start ≤ held_until (service disk head start request)) × (held_until (service disk head start request) ≤ finish (service disk head start request))

@@ -18,7 +18,7 @@ use Rattle.fb_calls.proofs.Lists.{all_weaker}
 use Rattle.fb_model.specs.PlainReplay.{service, finish, Served, media}
 use Rattle.fb_model.specs.Content.{Written, writes_of, number_of, content_by, Medium, content, found, fore_row}
 use Rattle.fb_model.proofs.Passages.{passed_between, written_by}
-use Rattle.fb_model.proofs.Lists.{all_append, all_map, all_both}
+use Rattle.fb_model.proofs.Lists.{all_append, all_map, all_both, all_unmapped}
 use Rattle.std.proofs.lemmas.List.Elements.{filter-append}
 use Rattle.std.proofs.lemmas.List.Concat.{flat_map-append}
 use Rattle.fb_store.specs.declared.content.ContentRun.{ContentRun}
@@ -27,6 +27,7 @@ use Rattle.fb_store.specs.Index.{Holding, content_in}
 use Rattle.fb_rows.specs.declared.fore.ForeRow.{ForeRow}
 use Rattle.fb_model.specs.Accepted.{IsRising}
 use Rattle.fb_model.proofs.ContentsUpTo.{is_of_by}
+use Rattle.fb_model.proofs.Written.{content_then as writes_then, is_of, last_joined, own_writes}
 use Rattle.fb_decide.specs.Waiting.{AreByArrival}
 use Rattle.fb_decide.specs.Contents.{found_in, left_by, IsRowOf}
 use Rattle.fb_decide.specs.Making.{all_writes, held_after, Replayed}
@@ -47,45 +48,10 @@ written_between disk head start request = elim (cases_Bool request.write) [
   | inr reads ↦ rw reads tt
 ]
 
--- the sector is not the one: the number that the write leaves elsewhere doesn't count
-pub last_joined : {X : Type 0} (o : Option X) (xs ys : List X) → last_or o (xs ++ ys) ≡ last_or (last_or o xs) ys
-last_joined o [] ys = refl
-last_joined o (x ∷ xs) ys = last_joined (Some x) xs ys
-
--- of the passages of a range the last one of a sector is the only one
-pub own_writes : (disk : Disk) (source : Track) (now : ℕ) (write : Bool) (lbn n writer x : ℕ) (before : Option Written) (first : Content)
-    → content_by (last_or before (filter (λ w. w.passage.lbn == x) (map (written_by writer) (passages disk source now write lbn n)))) first
-    ≡ (if is_within lbn n x then Filled writer else content_by before first)
-unfolding passages
-own_writes disk source now write lbn zero writer x before first =
-    let none : is_within lbn 0 x ≡ false = grind (arith, nat_tests) in rw none refl
-own_writes disk source now write lbn (suc n) writer x before first = elim (cases_Bool (lbn == x)) [
-  | inl same ↦
-      let inside : is_within lbn (suc n) x ≡ true = grind (arith, nat_tests) in
-      let behind : is_within (lbn + 1) n x ≡ false = grind (arith, nat_tests) in
-      rw (same, inside) (own_writes disk (track_at disk.map lbn) (passage_from disk.map lbn (now + pos disk.mechanism source (track_at disk.map lbn) write)).end write (lbn + 1) n writer x _ first ∙ rw behind refl)
-  | inr other ↦
-      let again : is_within (lbn + 1) n x ≡ is_within lbn (suc n) x = grind (arith, nat_tests) in
-      rw other (own_writes disk (track_at disk.map lbn) (passage_from disk.map lbn (now + pos disk.mechanism source (track_at disk.map lbn) write)).end write (lbn + 1) n writer x before first ∙ ap (λ b. if b then Filled writer else content_by before first) again)
-]
-
 -- ---- how far the plain replay has come: the services so far, their rows, and what they left on the disk
 
 abbrev pub medium_by : Disk → List ℕ → List Served → Medium
 medium_by disk latent whole = record { disk = disk; latent = latent; writes = all_writes whole }
-
-abbrev is_of : ℕ → Written → Bool
-is_of lbn write = write.passage.lbn == lbn
-
--- writes that ended by then are those of the sector
-ended_by : (lbn t : ℕ) (writes : List Written) → AllByRecursion (λ (w : Written). w.passage.end ≤ t) writes → filter (is_of_by lbn t) writes ≡ filter (is_of lbn) writes
-ended_by lbn t [] all = refl
-ended_by lbn t (w ∷ writes) all = grind (arith, nat_tests, all.0, ended_by lbn t writes all.1)
-
--- and those that end later don't count
-not_yet : (lbn t : ℕ) (writes : List Written) → AllByRecursion (λ (w : Written). t < w.passage.end) writes → filter (is_of_by lbn t) writes ≡ []
-not_yet lbn t [] all = refl
-not_yet lbn t (w ∷ writes) all = grind (arith, nat_tests, all.0, not_yet lbn t writes all.1)
 
 no_writes : (served : Served) → served.request.write ≡ false → writes_of served ≡ []
 no_writes served reads = rw reads refl
@@ -96,11 +62,7 @@ pub content_then : (disk : Disk) (latent : List ℕ) (done rest : List Served) (
     → content (medium_by disk latent (done ++ rest)) lbn t ≡ held_after latent done lbn
 content_then disk latent done rest now lbn t before since after =
     ap (λ ws. content_by (last_or None (filter (is_of_by lbn t) ws)) (unwritten latent lbn)) (flat_map-append writes_of done rest)
-    ∙ ap (λ ws. content_by (last_or None ws) (unwritten latent lbn))
-    (filter-append (is_of_by lbn t) (all_writes done) (all_writes rest)
-    ∙ ap (λ ws. filter (is_of_by lbn t) (all_writes done) ++ ws) (not_yet lbn t (all_writes rest) after)
-    ∙ append-nil (filter (is_of_by lbn t) (all_writes done))
-    ∙ ended_by lbn t (all_writes done) (all_weaker _ _ (λ (w : Written) h. omega (arith, h, since)) _ before))
+    ∙ writes_then disk latent (all_writes done) (all_writes rest) lbn t (all_weaker _ _ (λ (w : Written) h. omega (arith, h, since)) _ before) after
 
 -- a read writes nothing, so at an instant of its service a sector holds what it held when the read began
 content_now : (disk : Disk) (latent : List ℕ) (done later : List Served) (read : Served) (now lbn t : ℕ) → read.request.write ≡ false
@@ -196,10 +158,6 @@ module _ (disk : Disk) (latent : List ℕ) (whole done rest later : List Served)
     holds = λ lbn. leaves_it lbn ∙ ap (left_by request lbn) (so_far.holds lbn) ∙ leaves disk latent done head now request lbn;
   }
 
-all_of_map : {X Y : Type 0} (P : Y → Type 0) (f : X → Y) (xs : List X) → AllByRecursion P (map f xs) → AllByRecursion (λ x. P (f x)) xs
-all_of_map P f [] all = tt
-all_of_map P f (x ∷ xs) all = (all.0, all_of_map P f xs all.1)
-
 pub in_order : (requests : List Request) → IsRising (map (λ (r : Request). r.arrival) requests) → AreByArrival requests
 in_order [] rising = tt
-in_order (r ∷ rs) rising = (all_of_map (λ later. r.arrival ≤ later) (λ (o : Request). o.arrival) rs rising.0, in_order rs rising.1)
+in_order (r ∷ rs) rising = (all_unmapped (λ later. r.arrival ≤ later) (λ (o : Request). o.arrival) rs rising.0, in_order rs rising.1)

@@ -21,13 +21,13 @@ use Rattle.fb_model.specs.Accepted.{IsAccepted}
 use Rattle.fb_model.specs.Content.{Medium, Written, content, fore_row, fore_rows, medium_of, writes_of}
 use Rattle.fb_model.specs.FullRun.{IsFull}
 use Rattle.fb_model.specs.Laws.{ForegroundListsAscend, OnePlainReplay}
-use Rattle.fb_model.proofs.Lists.{all_append, all_left, after_is, by_is, is_by, same_first, same_rest}
+use Rattle.fb_model.proofs.Lists.{all_append, all_left, all_unmapped, after_is, by_is, is_by, same_first, same_rest}
 use Rattle.fb_model.proofs.Passages.{served_between}
 use Rattle.fb_mirror.specs.Replacement.{Event, decided, deliveries_in, events, given, held_after, later, writes_in}
 use Rattle.fb_mirror.specs.Survivor.{IsAtRest, events_by}
 use Rattle.fb_mirror.proofs.EventLaws.{none_some, same_one}
 use Rattle.fb_mirror.proofs.Survival.{IsFoundAfter, back_found, decided-append, one_decides, rows_found, some_decided, survives_all, wrote}
-use Rattle.fb_mirror.proofs.Writing.{AreServed, all_late, all_of_map, all_writes, are_served, content_then, ended, free_until, late, medium_with}
+use Rattle.fb_mirror.proofs.Writing.{AreServed, all_late, all_writes, are_served, content_then, ended, free_until, late, medium_with}
 
 -- ---- the services that have finished by an instant, and the others
 
@@ -189,7 +189,7 @@ front_served disk now (one ∷ past) rest are = (are.0, are.1, are.2, front_serv
 -- ---- the law
 
 rows_rest : (t : ℕ) (medium : Medium) (replay : List Served) → AllByRecursion (λ (row : ForeRow). row.request.write ≡ true → (row.finish ≤ t) ⊎ (t ≤ row.media)) (map (fore_row medium) replay) → AllByRecursion (Rests t) replay
-rows_rest t medium replay all = all_of_map (λ (row : ForeRow). row.request.write ≡ true → (row.finish ≤ t) ⊎ (t ≤ row.media)) (fore_row medium) replay all
+rows_rest t medium replay all = all_unmapped (λ (row : ForeRow). row.request.write ≡ true → (row.finish ≤ t) ⊎ (t ≤ row.media)) (fore_row medium) replay all
 
 pub held_at_rest : ForegroundListsAscend → OnePlainReplay → (inputs : Inputs) (run : Run) (t lbn : ℕ) (held : Content) → IsSound inputs.disk.map → IsAccepted inputs → IsFull inputs run → IsAtRest t run
     → held_after (events_by t run) lbn ≡ Some held → held ≡ content (medium_of inputs) lbn t

@@ -27,11 +27,12 @@ use Rattle.fb_model.specs.SoundRun.{HasPlan}
 use Rattle.fb_model.proofs.Lists.{all_append, all_both, all_filter}
 use Rattle.fb_model.proofs.Due.{IsCaughtIn, caught_true}
 use Rattle.fb_model.proofs.Passages.{IsServiceOf, passed_between}
+use Rattle.fb_model.proofs.Written.{begun_after}
 use Rattle.fb_model.proofs.HistoriesUpTo.{HasSector}
 use Rattle.fb_model.proofs.DueUpTo.{begins_later, ends_behind, ends_in_time, before_end, not_before_end}
 use Rattle.fb_mirror.proofs.Between.{IsOfDisk, kept_by, quiet_until}
 use Rattle.fb_mirror.proofs.RunRows.{AreLinked}
-use Rattle.fb_mirror.proofs.Writing.{AreServed, begun_after, free_within}
+use Rattle.fb_mirror.proofs.Writing.{AreServed, free_within}
 
 -- ---- decisions
 

@@ -24,9 +24,11 @@ use Rattle.fb_model.specs.Inputs.{Inputs, requests, served}
 use Rattle.fb_model.specs.Accepted.{IsAccepted}
 use Rattle.fb_model.specs.Content.{Medium, Written, content, content_by, number_of, writes_of}
 use Rattle.fb_model.specs.Laws.{FollowsRules, ForegroundListsAscend, IsFirstReady, OnePlainReplay}
-use Rattle.fb_model.proofs.Lists.{all_append, all_both, all_left, all_map, all_right}
+use Rattle.fb_model.proofs.Lists.{all_append, all_both, all_map, all_unmapped}
 use Rattle.fb_model.proofs.Passages.{IsServiceOf, LiesOnDisk, passed_between, requests_lie, served_between, passages_long, written_by}
 use Rattle.fb_model.proofs.ContentsUpTo.{is_of_by}
+use Rattle.fb_model.proofs.Picks.{all_picked}
+use Rattle.fb_model.proofs.Written.{begun_after, content_then as writes_then, is_of, last_joined, media_first, own_writes}
 
 -- ---- one after another
 
@@ -34,13 +36,6 @@ use Rattle.fb_model.proofs.ContentsUpTo.{is_of_by}
 abbrev pub AreServed : Disk → ℕ → List Served → Type 0
 AreServed disk now [] = Unit {0}
 AreServed disk now (served ∷ later) = (now ≤ served.start) × IsServiceOf disk served × LiesOnDisk disk.map served.request × AreServed disk (finish served) later
-
--- what holds of all requests holds of the one that is picked, and of the others
-all_picked : (P : Request → Type 0) (key : Request → ℕ) (now : ℕ) (left others : List Request) (pick : Request) → IsFirstReady key now left pick others → AllByRecursion P left → P pick × AllByRecursion P others
-all_picked P key now left others pick is all =
-    let whole : AllByRecursion P (is.front ++ pick ∷ is.back) = subst (AllByRecursion P) is.whole all in
-    let behind = all_right P is.front (pick ∷ is.back) whole in
-    (behind.0, subst (AllByRecursion P) (sym is.rest) (all_append P is.front is.back (all_left P is.front (pick ∷ is.back) whole) behind.1))
 
 follow : (disk : Disk) (key : Key) (head : Track) (now : ℕ) (left : List Request) (replay : List Served) → FollowsRules disk key head now left replay → AllByRecursion (LiesOnDisk disk.map) left → AreServed disk now replay
 follow disk key head now left [] rules lie = tt
@@ -58,24 +53,6 @@ pub are_served : (inputs : Inputs) → IsAccepted inputs → ForegroundListsAsce
 unfolding served
 are_served inputs accepted ascend one = follow inputs.disk inputs.key first_track 0 (requests inputs) (plain_replay inputs.disk inputs.key (requests inputs))
     (one inputs.disk inputs.key (requests inputs) (ascend inputs accepted).ascend).follows (requests_lie inputs accepted)
-
--- ---- each passage takes time
-
--- no passage begins before the first one
-pub begun_after : (disk : Disk) (source : Track) (now : ℕ) (write : Bool) (lbn n : ℕ)
-    → AllByRecursion (λ (p : Passage). media_of (passages disk source now write lbn n) ≤ p.begin) (passages disk source now write lbn n)
-unfolding passages
-begun_after disk source now write lbn zero = tt
-begun_after disk source now write lbn (suc n) =
-    let first = passage_from disk.map lbn (now + pos disk.mechanism source (track_at disk.map lbn) write) in
-    let rest = passed_between disk (track_at disk.map lbn) first.end write (lbn + 1) n in
-    ((let h : first.begin ≤ first.begin = omega arith in h), all_weaker _ _ (λ (p : Passage) h. (let le : first.begin ≤ p.begin = omega (arith, h.0) in le)) _ rest.1)
-
-media_first : (disk : Disk) (source : Track) (start : ℕ) (write : Bool) (lbn n : ℕ) → 0 < n
-    → (start ≤ media_of (passages disk source start write lbn n)) × (media_of (passages disk source start write lbn n) ≤ finish_of start (passages disk source start write lbn n))
-unfolding passages
-media_first disk source start write lbn zero some = absurd (omega arith)
-media_first disk source start write lbn (suc n) some = let all = (passed_between disk source start write lbn (suc n)).1 in (all.0.0, omega (arith, all.0.1, all.0.2))
 
 -- ---- until when nothing of a service's writes has passed: the first passage of a write, the end of a read
 
@@ -133,27 +110,6 @@ all_late disk sound now (served ∷ later) are =
 
 -- ---- what they leave
 
-abbrev pub is_of : ℕ → Written → Bool
-is_of lbn write = write.passage.lbn == lbn
-
-ended_by : (lbn t : ℕ) (writes : List Written) → AllByRecursion (λ (w : Written). w.passage.end ≤ t) writes → filter (is_of_by lbn t) writes ≡ filter (is_of lbn) writes
-ended_by lbn t [] all = refl
-ended_by lbn t (w ∷ writes) all =
-    let ends : nat_le w.passage.end t ≡ true = let h = all.0 in grind (arith, nat_tests) in
-    elim (cases_Bool (w.passage.lbn == lbn)) [
-      | inl same ↦ rw (same, ends) (ap (λ ws. w ∷ ws) (ended_by lbn t writes all.1))
-      | inr other ↦ rw other (ended_by lbn t writes all.1)
-    ]
-
-not_yet : (lbn t : ℕ) (writes : List Written) → AllByRecursion (λ (w : Written). t < w.passage.end) writes → filter (is_of_by lbn t) writes ≡ []
-not_yet lbn t [] all = refl
-not_yet lbn t (w ∷ writes) all =
-    let late : nat_le w.passage.end t ≡ false = let h = all.0 in grind (arith, nat_tests) in
-    elim (cases_Bool (w.passage.lbn == lbn)) [
-      | inl same ↦ rw (same, late) (not_yet lbn t writes all.1)
-      | inr other ↦ rw other (not_yet lbn t writes all.1)
-    ]
-
 -- the last of these writes that passed a sector
 abbrev pub last_of : Option Written → ℕ → List Served → Option Written
 last_of before lbn replay = last_or before (filter (is_of lbn) (all_writes replay))
@@ -171,15 +127,7 @@ pub content_then : (disk : Disk) (latent : List ℕ) (before after : List Served
     → content (medium_with disk latent (before ++ after)) lbn t ≡ left_after latent before lbn
 content_then disk latent before after lbn t passed to_come =
     ap (λ ws. content_by (last_or None (filter (is_of_by lbn t) ws)) (unwritten latent lbn)) (flat_map-append writes_of before after)
-    ∙ ap (λ ws. content_by (last_or None ws) (unwritten latent lbn))
-    (filter-append (is_of_by lbn t) (all_writes before) (all_writes after)
-    ∙ ap (λ ws. filter (is_of_by lbn t) (all_writes before) ++ ws) (not_yet lbn t (all_writes after) to_come)
-    ∙ append-nil (filter (is_of_by lbn t) (all_writes before))
-    ∙ ended_by lbn t (all_writes before) passed)
-
-last_joined : {X : Type 0} (o : Option X) (xs ys : List X) → last_or o (xs ++ ys) ≡ last_or (last_or o xs) ys
-last_joined o [] ys = refl
-last_joined o (x ∷ xs) ys = last_joined (Some x) xs ys
+    ∙ writes_then disk latent (all_writes before) (all_writes after) lbn t passed to_come
 
 -- first a service, and then others
 pub last_of-more : (before : Option Written) (lbn : ℕ) (served : Served) (later : List Served) → last_of before lbn (served ∷ later) ≡ last_of (last_or before (filter (is_of lbn) (writes_of served))) lbn later
@@ -193,23 +141,6 @@ last_of-append before lbn xs ys =
     ap (λ ws. last_or before (filter (is_of lbn) ws)) (flat_map-append writes_of xs ys)
     ∙ ap (last_or before) (filter-append (is_of lbn) (all_writes xs) (all_writes ys))
     ∙ last_joined before (filter (is_of lbn) (all_writes xs)) (filter (is_of lbn) (all_writes ys))
-
--- of the passages of a range the last one of a sector is the only one
-own_writes : (disk : Disk) (source : Track) (now : ℕ) (write : Bool) (lbn n writer x : ℕ) (before : Option Written) (first : Content)
-    → content_by (last_or before (filter (is_of x) (map (written_by writer) (passages disk source now write lbn n)))) first
-    ≡ (if is_within lbn n x then Filled writer else content_by before first)
-unfolding passages
-own_writes disk source now write lbn zero writer x before first =
-    let none : is_within lbn 0 x ≡ false = grind (arith, nat_tests) in rw none refl
-own_writes disk source now write lbn (suc n) writer x before first = elim (cases_Bool (lbn == x)) [
-  | inl same ↦
-      let inside : is_within lbn (suc n) x ≡ true = grind (arith, nat_tests) in
-      let behind : is_within (lbn + 1) n x ≡ false = grind (arith, nat_tests) in
-      rw (same, inside) (own_writes disk (track_at disk.map lbn) (passage_from disk.map lbn (now + pos disk.mechanism source (track_at disk.map lbn) write)).end write (lbn + 1) n writer x _ first ∙ rw behind refl)
-  | inr other ↦
-      let again : is_within (lbn + 1) n x ≡ is_within lbn (suc n) x = grind (arith, nat_tests) in
-      rw other (own_writes disk (track_at disk.map lbn) (passage_from disk.map lbn (now + pos disk.mechanism source (track_at disk.map lbn) write)).end write (lbn + 1) n writer x before first ∙ ap (λ b. if b then Filled writer else content_by before first) again)
-]
 
 -- what a service leaves
 pub left_by : (disk : Disk) (served : Served) → IsServiceOf disk served → (lbn : ℕ) (before : Option Written) (first : Content)
@@ -235,14 +166,10 @@ late_end disk source now write lbn (suc n) t some all =
     let passes = (passed_between disk source now write lbn (suc n)).1 in
     omega (arith, all.0, passes.0.2)
 
-pub all_of_map : {X Y : Type 0} (P : Y → Type 0) (f : X → Y) (xs : List X) → AllByRecursion P (map f xs) → AllByRecursion (λ x. P (f x)) xs
-all_of_map P f [] all = tt
-all_of_map P f (x ∷ xs) all = (all.0, all_of_map P f xs all.1)
-
 pub finishes_late : (disk : Disk) (served : Served) (t : ℕ) → IsServiceOf disk served → LiesOnDisk disk.map served.request → AllByRecursion (λ (w : Written). t < w.passage.end) (writes_of served) → served.request.write ≡ true → t < finish served
 finishes_late disk served t is lies all writes =
     let whole : AllByRecursion (λ (w : Written). t < w.passage.end) (map (written_by (number_of served.request.name)) served.passages) =
     subst (λ write. AllByRecursion (λ (w : Written). t < w.passage.end) (writes_by write (number_of served.request.name) served.passages)) writes all in
-    let each = all_of_map (λ (w : Written). t < w.passage.end) (written_by (number_of served.request.name)) served.passages whole in
+    let each = all_unmapped (λ (w : Written). t < w.passage.end) (written_by (number_of served.request.name)) served.passages whole in
     subst (λ (s : Served). AllByRecursion (λ (p : Passage). t < p.end) s.passages → t < finish_of served.start s.passages) (sym is)
     (late_end disk served.source served.start served.request.write served.request.lbn served.request.count t lies.some) each

@@ -22,7 +22,8 @@ use Rattle.fb_model.proofs.ReplaysUpTo.{StartsBehind, AlikeBy, both, rest}
 abbrev pub is_of_by : ℕ → ℕ → Written → Bool
 is_of_by lbn t write = (write.passage.lbn == lbn) && nat_le write.passage.end t
 
-none_by : (lbn t : ℕ) (writes : List Written) → AllByRecursion (λ (w : Written). t < w.passage.end) writes → filter (is_of_by lbn t) writes ≡ []
+-- none of these has ended by then
+pub none_by : (lbn t : ℕ) (writes : List Written) → AllByRecursion (λ (w : Written). t < w.passage.end) writes → filter (is_of_by lbn t) writes ≡ []
 none_by lbn t writes all = none_kept (is_of_by lbn t) writes
     (all_weaker (λ (w : Written). t < w.passage.end) (λ w. is_of_by lbn t w ≡ false) (λ w h. and_right (w.passage.lbn == lbn) (nat_le w.passage.end t) (after_is w.passage.end t h)) writes all)
 

@@ -55,7 +55,8 @@ reached now t (x ∷ instants) there = elim (cases_Bool (nat_le x t)) [
   ])
 ]
 
-start_among : (now : ℕ) (left : List Request) (instants : List ℕ) → AllByRecursion (λ (r : Request). IsAmong r.arrival instants) left → (start_of now left ≡ now) ⊎ IsAmong (start_of now left) instants
+-- a service starts now, or when a request arrives
+pub start_among : (now : ℕ) (left : List Request) (instants : List ℕ) → AllByRecursion (λ (r : Request). IsAmong r.arrival instants) left → (start_of now left ≡ now) ⊎ IsAmong (start_of now left) instants
 start_among now [] instants all = inl refl
 start_among now (request ∷ requests) instants all = elim (cases_Bool (list_any (has_arrived now) (request ∷ requests))) [
   | inl some ↦ inl (ap (λ b. if b then now else request.arrival) some)

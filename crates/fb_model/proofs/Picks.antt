@@ -191,3 +191,14 @@ least_front key pick (request ∷ front) back before after =
 
 pub one_least : (key : Request → ℕ) (requests others : List Request) (pick : Request) → IsFirstLeast key requests pick others → first_least key requests ≡ Some (pick, others)
 one_least key requests others pick m = ap (first_least key) m.whole ∙ least_front key pick m.front m.back m.before m.after ∙ ap (λ xs. Some (pick, xs)) (sym m.rest)
+
+-- what holds of all requests holds of the one that is picked, and of the others
+pub all_without : (P : Request → Type 0) (front back : List Request) (pick : Request) → AllByRecursion P (front ++ pick ∷ back) → P pick × AllByRecursion P (front ++ back)
+all_without P [] back pick all = all
+all_without P (request ∷ front) back pick all = let rest = all_without P front back pick all.1 in (rest.0, (all.0, rest.1))
+
+pub all_picked : (P : Request → Type 0) (key : Request → ℕ) (now : ℕ) (left others : List Request) (pick : Request) → IsFirstReady key now left pick others
+    → AllByRecursion P left → P pick × AllByRecursion P others
+all_picked P key now left others pick is all =
+    let both = all_without P is.front is.back pick (subst (AllByRecursion P) is.whole all) in
+    (both.0, subst (AllByRecursion P) (sym is.rest) both.1)
