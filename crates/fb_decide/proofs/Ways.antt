@@ -24,17 +24,6 @@ use Rattle.fb_units.specs.declared.types.Request.{Request}
 use Rattle.fb_geometry.specs.Places.{places}
 use Rattle.fb_model.proofs.Disks.{begins_within}
 
--- ---- a slot of a sound disk takes some time to pass
-
-pub long_slots : (disk : Shape) → IsSound disk → SlotsCoverRotation → PassagesTakeTime disk
-long_slots disk sound cover = λ lbn inside.
-    let found = has_place disk sound lbn inside in
-    let lies = found.lies in
-    let n = slots_at disk.zones found.place.track.cylinder in
-    let slot : found.place.slot < n = subst (λ c. found.place.slot < slots_at disk.zones c) (sym lies.cylinder_is) lies.slot in
-    let more = (cover disk.rotation n (omega (arith, slot)) (slots_short disk.rotation disk.zones found.place.track.cylinder sound.short_slots)).ascend found.place.slot slot in
-    subst (λ (place : Place). 0 < length_of disk place) (sym found.placed_at) (omega (arith, more))
-
 -- ---- where legs lead the head through the passages of a service
 
 -- each sector from one on begins at an angle of the rotation

@@ -2,7 +2,6 @@
 ghost use Rattle.fb_geometry.specs.Sound.{IsSound};
 ghost use Rattle.fb_decide.specs.Deciding.{PassagesTakeTime};
 
-use fb_model::slots_cover_rotation;
 use fb_service::Disk;
 
 /// A disk's outline has no fault, and each of its sectors takes some time to pass.
@@ -11,5 +10,4 @@ pub fn disk_is_sound(disk: &Disk)
     ensures takes_time { PassagesTakeTime disk.now.map }
 {
     disk.map.geometry().sound();
-    slots_cover_rotation();
 }
