@@ -4,6 +4,7 @@ use Rattle.fb_fastq.proofs.Words.{false, inl, inr, ◌⊎◌, Option, Some, None
 use Rattle.fb_fastq.proofs.Words.{cond, AllByRecursion, lookup, BTreeMap, get, is_at, cases_Bool, true≢false, nat_tests, Request}
 use Rattle.fb_fastq.proofs.Words.{first_least, better, order, Waits, Holds, AllHeld, Waiting, number_of, join_in, in_order, pending_of}
 use Rattle.fb_fastq.proofs.Words.{AreNumbered, IsNoLater, IsFirst, IsFirstHeld}
+use Rattle.fb_queue.proofs.FirstLeast.{later_better}
 use Rattle.fb_fastq.proofs.{Swept.some_injective, Swept.IsIn, Swept.all_of, Swept.all_from, Swept.all_unmapped, Keys.here_equal}
 use Rattle.fb_fastq.proofs.{Keys.equal_keys, Joins.all_join, Joins.all_in_order}
 
@@ -71,9 +72,6 @@ picked P rank (w ∷ ws) h = picked_better P rank w.1 (map (λ x. x.1) ws) (firs
 not_above : (rank : Request → ℕ) (w : Waiting) (ws : List Waiting) → IsFirst rank w ws → AllByRecursion (λ x. rank w.1 ≤ rank x.1) ws
 not_above rank w [] h = tt
 not_above rank w (x ∷ ws) h = (elim h.0 [ inl less ↦ omega (arith, less) | inr tied ↦ omega (arith, tied.0) ], not_above rank w ws h.1)
-
-later_better : (rank : Request → ℕ) (r q : Request) (rs qs : List Request) (best : Option (Request × List Request)) → best ≡ Some (q, qs) → rank q < rank r → better rank r rs best ≡ Some (q, r ∷ qs)
-later_better rank r q rs qs best e lt = let t : nat_le (rank r) (rank q) ≡ false = grind (arith, nat_tests) in ap (better rank r rs) e ∙ ap (λ b. if b then Some (r, rs) else Some (q, r ∷ qs)) t
 
 pub least_rising : (rank : Request → ℕ) (w : Waiting) (ws : List Waiting) → IsRising ws → IsIn w ws → IsFirst rank w ws → first_least rank (map (λ x. x.1) ws) ≡ Some (w.1, map (λ x. x.1) (without (number_of w) ws))
 least_rising rank w [] h e first = elim e [ ]

@@ -2,9 +2,8 @@
 use Rattle.fb_fastq.proofs.Words.{◌≡◌, ℕ, ◌≤◌, List, [], ◌∷◌, ◌++◌, map, filter, refl, sym, ap, subst, ◌∙◌, arith, Bool, true, false, inl}
 use Rattle.fb_fastq.proofs.Words.{inr, ◌⊎◌, Some, cond, AllByRecursion, IsStrictlySortedBy, Ordering, Less, cases_Bool, all_filter}
 use Rattle.fb_fastq.proofs.Words.{all_left, all_right, ◌<◌, length, length-append, Side, Above, Below, on_side, IsNoFarther, AreThose}
-
-pub some_injective : {A : Type 0} (x y : A) → Some x ≡ Some y → x ≡ y
-some_injective x y e = cc
+pub use Rattle.fb_model.proofs.Lists.{all_unmapped}
+pub use Rattle.fb_queue.proofs.FirstLeast.{some_injective}
 
 -- an element is among others
 abbrev pub IsIn : {A : Type 0} → A → List A → Type 0
@@ -19,11 +18,6 @@ all_of P x (y ∷ ys) all (inr e) = all_of P x ys all.1 e
 pub all_from : {A : Type 0} (P : A → Type 0) (xs : List A) → ((x : A) → IsIn x xs → P x) → AllByRecursion P xs
 all_from P [] h = tt
 all_from P (x ∷ xs) h = (h x (inl refl), all_from P xs (λ y e. h y (inr e)))
-
-pub all_unmapped : {A K : Type 0} (P : K → Type 0) (f : A → K) (xs : List A) → AllByRecursion P (map f xs)
-    → AllByRecursion (λ x. P (f x)) xs
-all_unmapped P f [] h = tt
-all_unmapped P f (x ∷ xs) h = (h.0, all_unmapped P f xs h.1)
 
 in_filter : {A : Type 0} (test : A → Bool) (x : A) (xs : List A) → IsIn x xs → test x ≡ true → IsIn x (filter test xs)
 in_filter test x [] e t = elim e [ ]

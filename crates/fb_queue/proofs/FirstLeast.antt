@@ -5,10 +5,11 @@ use Rattle.std.proofs.lemmas.Bool.{cases_lt, cases_eq}
 use Rattle.std.proofs.lemmas.Bool.Decides.{nat_tests}
 use Rattle.std.proofs.lemmas.Option.{slice_get_within}
 use Rattle.fb_units.specs.declared.types.Request.{Request}
+use Rattle.fb_geometry.proofs.Grid.{within}
 use Rattle.fb_model.specs.PlainReplay.{first_least, better}
 use Rattle.fb_queue.specs.Least.{IsFirstLeastAt}
 
-some_injective : {X : Type 0} (x y : X) → Some x ≡ Some y → x ≡ y
+pub some_injective : {X : Type 0} (x y : X) → Some x ≡ Some y → x ≡ y
 some_injective x y e = cc
 
 same_value : {X : Type 0} (o : Option X) (x y : X) → o ≡ Some x → o ≡ Some y → x ≡ y
@@ -45,7 +46,8 @@ front_better : (key : Request → ℕ) (r : Request) (rs : List Request) (best :
 front_better key r rs None h = refl
 front_better key r rs (Some b) h = let le : key r ≤ key b.0 = h b refl in let t : nat_le (key r) (key b.0) ≡ true = grind (arith, nat_tests) in rw t refl
 
-later_better : (key : Request → ℕ) (r q : Request) (rs qs : List Request) (best : Option (Request × List Request)) → best ≡ Some (q, qs) → key q < key r → better key r rs best ≡ Some (q, r ∷ qs)
+-- the best one stays so before one that isn't better
+pub later_better : (key : Request → ℕ) (r q : Request) (rs qs : List Request) (best : Option (Request × List Request)) → best ≡ Some (q, qs) → key q < key r → better key r rs best ≡ Some (q, r ∷ qs)
 later_better key r q rs qs best e lt = let t : nat_le (key r) (key q) ≡ false = grind (arith, nat_tests) in ap (better key r rs) e ∙ ap (λ b. if b then Some (r, rs) else Some (q, r ∷ qs)) t
 
 abbrev IsIn : List Request → Option (Request × List Request) → Type 0
@@ -91,11 +93,6 @@ first_is_best key rs = record {
   first = λ k r q lt at_k at_q. absurd (omega arith);
 }
 
-pub got : {X : Type 0} (xs : List X) (i : ℕ) → i < length xs → (x : X) × (slice_get xs i ≡ Some x)
-got [] i h = absurd (omega arith)
-got (x ∷ xs) zero h = (x, refl)
-got (x ∷ xs) (suc i) h = got xs i (omega arith)
-
 -- the best so far, and its key
 pub record IsBest (key : Request → ℕ) (rs : List Request) (i at value : ℕ) : Type 0 where
   pub best : IsFirstLeastAt key rs i at
@@ -104,12 +101,12 @@ pub record IsBest (key : Request → ℕ) (rs : List Request) (i at value : ℕ)
 pub goes_on : (key : Request → ℕ) (rs : List Request) (i at least at' least' next : ℕ) → IsBest key rs i at least → i < length rs → ((r : Request) → slice_get rs i ≡ Some r → next ≡ key r)
     → ((next < least) × (at' ≡ i) × (least' ≡ next)) ⊎ ((least ≤ next) × (at' ≡ at) × (least' ≡ least)) → IsBest key rs (i + 1) at' least'
 goes_on key rs i at least at' least' next h lt is (inl new) =
-    let r = got rs i lt in
-    let b = got rs at (omega (arith, h.best.within)) in
+    let r = within rs i lt in
+    let b = within rs at (omega (arith, h.best.within)) in
     let taken = takes_best key rs i at least r.0 b.0 h.best b.1 (h.least b.0 b.1) r.1 (omega (arith, is r.0 r.1, new.0)) in
     rw (new.1, new.2) (record { best = taken; least = is })
 goes_on key rs i at least at' least' next h lt is (inr old) =
-    let r = got rs i lt in
-    let b = got rs at (omega (arith, h.best.within)) in
+    let r = within rs i lt in
+    let b = within rs at (omega (arith, h.best.within)) in
     let kept = keeps_best key rs i at least r.0 b.0 h.best b.1 (h.least b.0 b.1) r.1 (omega (arith, is r.0 r.1, old.0)) in
     rw (old.1, old.2) (record { best = kept; least = h.least })
