@@ -25,7 +25,7 @@ use Rattle.fb_model.specs.Decisions.{Decision, serves, idles, ends, instant_of}
 use Rattle.fb_model.specs.History.{Past, LogSegment, chose, calls_of, opened_by, tasks, task_numbers, terms_of, registered, blocks_of}
 use Rattle.fb_model.specs.Completion.{view, work, segments, is_closed}
 use Rattle.fb_model.specs.Segments.{numbered, next_blocks, is_better, is_busy, unchosen, choose_best, choose_once, choose_up_to, choose_in, with_choices}
-use Rattle.fb_model.specs.Steps.{Delivery, Step, decision_in, blocks_by, take_call, calls_due, settled_past, with_delivery, with_finish, tested_past, past_after}
+use Rattle.fb_model.specs.Steps.{Delivery, Step, decision_in, blocks_by, take_call, calls_due, chosen_past, with_delivery, with_finish, tested_past, past_after}
 use Rattle.fb_model.proofs.Views.{number_same}
 use Rattle.fb_model.proofs.HistoriesUpTo.{due_first}
 use Rattle.fb_tasks.proofs.Asked.{open_there, terms_there}
@@ -243,8 +243,8 @@ HoldsOf inputs past = Holds inputs.disk.map inputs.calls past
 pub at_first : (inputs : Inputs) → IsAccepted inputs → HoldsOf inputs []
 at_first inputs accepted = record { some = tt; unopened = λ task beyond. refl; backups = λ task backup. record { few = omega arith; none = λ none. refl }; left = accepted.calls }
 
-pub settled_holds : (inputs : Inputs) → IsAccepted inputs → (past : Past) (decision : Decision) → HoldsOf inputs past → HoldsOf inputs (settled_past inputs past decision)
-unfolding settled_past with_choices
+pub settled_holds : (inputs : Inputs) → IsAccepted inputs → (past : Past) (decision : Decision) → HoldsOf inputs past → HoldsOf inputs (chosen_past inputs past decision)
+unfolding chosen_past with_choices
 settled_holds inputs accepted past decision h =
     let now = instant_of decision in
     let due = calls_due inputs.calls past now in

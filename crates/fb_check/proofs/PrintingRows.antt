@@ -16,7 +16,7 @@ use Rattle.fb_model.specs.Decisions.{instant_of, Act, serving, idling, ending}
 use Rattle.fb_model.specs.History.{delivered, Past, task_numbers, terms_of, blocks_of, registered, wanted, state, is_sealed, is_open_backup}
 use Rattle.fb_model.specs.Completion.{work, choices, is_complete, was_complete}
 use Rattle.fb_model.specs.Images.{findings, is_scrub, bad_sectors, is_newly_cleaned, segment_rows, seal_rows, complete_rows, test_rows, packed, image}
-use Rattle.fb_model.specs.Steps.{Delivery, Step, decision_in, settled_past, with_delivery, tested_past, past_after, AtEach, opening, step_rows, task_row, task_rows, history}
+use Rattle.fb_model.specs.Steps.{Delivery, Step, decision_in, chosen_past, with_delivery, tested_past, past_after, AtEach, opening, step_rows, task_row, task_rows, history}
 use Rattle.fb_model.specs.SoundRun.{AreFollowed, IsTested}
 use Rattle.fb_model.specs.FullRun.{IsAllDelivered}
 use Rattle.fb_model.proofs.Due.{HasBytes, IsDueRow, due_block, due_bytes, due_true}
@@ -43,10 +43,10 @@ module _ (inputs : Inputs) where
   unfolding wanted
   wanted_some past h = all_filter IsSome (λ block. is_wanted (state past block)) (registered past) h.some
 
-  gots_some : (past : Past) (step : Step) → HoldsOf inputs (settled_past inputs past (decision_in step)) → IsAllDelivered inputs medium past step
+  gots_some : (past : Past) (step : Step) → HoldsOf inputs (chosen_past inputs past (decision_in step)) → IsAllDelivered inputs medium past step
       → AllByRecursion (λ (got : DeliveryRow). HasSectors got.content) (map (λ delivery. delivery.got) step.deliveries)
   gots_some past step h all =
-      let settled = settled_past inputs past (decision_in step) in
+      let settled = chosen_past inputs past (decision_in step) in
       subst (AllByRecursion (λ (got : DeliveryRow). HasSectors got.content)) (sym all)
       (all_weaker (IsDueRow medium.disk (contents_at medium) step.act IsSome) (λ got. HasSectors got.content)
       (λ got is_due. bytes_some medium got (due_bytes medium.disk (contents_at medium) step.act IsSome got is_due) (due_block medium.disk (contents_at medium) step.act IsSome got is_due))
@@ -113,11 +113,11 @@ module _ (inputs : Inputs) where
   opening_counts (idling dwell) = (tt, tt)
   opening_counts (ending now) = tt
 
-  step_counts : (past : Past) (step : Step) → HoldsOf inputs (settled_past inputs past (decision_in step)) → IsTested inputs medium past step → IsAllDelivered inputs medium past step → AllByRecursion CountsSectors (step_rows inputs.disk step)
+  step_counts : (past : Past) (step : Step) → HoldsOf inputs (chosen_past inputs past (decision_in step)) → IsTested inputs medium past step → IsAllDelivered inputs medium past step → AllByRecursion CountsSectors (step_rows inputs.disk step)
   step_counts past step h tests all =
       all_append CountsSectors (step.settled ++ opening inputs.disk step.act) (flat_map (λ (delivery : Delivery). GotLine delivery.got ∷ delivery.after) step.deliveries)
       (all_append CountsSectors step.settled (opening inputs.disk step.act)
-      (subst (AllByRecursion CountsSectors) (sym tests.settled) (tests_count (settled_past inputs past (decision_in step)) (instant_of (decision_in step)) h)) (opening_counts step.act))
+      (subst (AllByRecursion CountsSectors) (sym tests.settled) (tests_count (chosen_past inputs past (decision_in step)) (instant_of (decision_in step)) h)) (opening_counts step.act))
       (followed_count (tested_past inputs past step) step.deliveries h (gots_some past step h all) tests.followed)
 
   module _ (accepted : IsAccepted inputs) where

@@ -25,7 +25,7 @@ use Rattle.fb_model.specs.Decisions.{Decision, serves, idles, ends, instant_of, 
 use Rattle.fb_model.specs.History.{Event, delivered, tested, Past, tasks, task_numbers, terms_of, registered, registered_by, wanted, state, is_open_backup}
 use Rattle.fb_model.specs.Completion.{choices, work, is_complete, was_complete}
 use Rattle.fb_model.specs.Images.{findings, is_scrub, bad_sectors, segment_rows, seal_rows, complete_rows, is_newly_cleaned, image, packed, test_rows}
-use Rattle.fb_model.specs.Steps.{Delivery, Step, decision_in, take_call, calls_due, with_delivery, with_finish, settled_past, past_after, opening, step_rows, task_row, task_rows}
+use Rattle.fb_model.specs.Steps.{Delivery, Step, decision_in, take_call, calls_due, with_delivery, with_finish, chosen_past, past_after, opening, step_rows, task_row, task_rows}
 use Rattle.fb_model.specs.SoundRun.{AreFollowed}
 use Rattle.fb_model.proofs.Lists.{all_append, all_left, all_map}
 use Rattle.fb_tasks.specs.declared.session.Session.{Session}
@@ -69,16 +69,16 @@ module _ (n : ℕ) where
   fits_finish past (idles dwell) fits = fits
   fits_finish past (ends now) fits = fits
 
-  fits_settled : (inputs : Inputs) (past : Past) (decision : Decision) → PastFits n (settled_past inputs past decision) → PastFits n past
-  unfolding settled_past
-  fits_settled inputs past decision fits =
+  fits_chosen : (inputs : Inputs) (past : Past) (decision : Decision) → PastFits n (chosen_past inputs past decision) → PastFits n past
+  unfolding chosen_past
+  fits_chosen inputs past decision fits =
       let called = fold (take_call inputs.disk.map) past (calls_due inputs.calls past (instant_of decision)) in
       fits_calls inputs.disk past (calls_due inputs.calls past (instant_of decision))
       (by_all (λ p. PastFits n p → PastFits n called) inputs.disk.map (λ p task segment blocks h now. h (fits_before p _ now)) called (λ h. h) fits)
 
-  fits_tested : (inputs : Inputs) (past : Past) (step : Step) → PastFits n (past_after inputs past step) → PastFits n (tested step.settled ∷ settled_past inputs past (decision_in step))
+  fits_tested : (inputs : Inputs) (past : Past) (step : Step) → PastFits n (past_after inputs past step) → PastFits n (tested step.settled ∷ chosen_past inputs past (decision_in step))
   unfolding past_after
-  fits_tested inputs past step fits = fits_deliveries (tested step.settled ∷ settled_past inputs past (decision_in step)) step.deliveries (fits_finish _ (decision_in step) fits)
+  fits_tested inputs past step fits = fits_deliveries (tested step.settled ∷ chosen_past inputs past (decision_in step)) step.deliveries (fits_finish _ (decision_in step) fits)
 
   -- ---- the rows of tests
 
@@ -176,12 +176,12 @@ module _ (n : ℕ) where
   step_fits inputs past step made fits =
       let medium = medium_of inputs in
       let tests = fits_tested inputs past step fits in
-      let settled = fits_before (settled_past inputs past (decision_in step)) (tested step.settled) tests in
+      let settled = fits_before (chosen_past inputs past (decision_in step)) (tested step.settled) tests in
       all_append (RowFits n) (step.settled ++ opening inputs.disk step.act) (flat_map (λ (delivery : Delivery). GotLine delivery.got ∷ delivery.after) step.deliveries)
       (all_append (RowFits n) step.settled (opening inputs.disk step.act)
-      (subst (AllByRecursion (RowFits n)) (sym made.tested.settled) (tests_fit medium (settled_past inputs past (decision_in step)) (instant_of (decision_in step)) settled)) (opening_fits inputs.disk step.act))
-      (followed_fit medium (tested step.settled ∷ settled_past inputs past (decision_in step)) step.deliveries tests
-      (subst (AllByRecursion GotFits) (sym made.all) (due_fits medium step.act (wanted (settled_past inputs past (decision_in step))) (wanted_fit (settled_past inputs past (decision_in step)) settled))) made.tested.followed)
+      (subst (AllByRecursion (RowFits n)) (sym made.tested.settled) (tests_fit medium (chosen_past inputs past (decision_in step)) (instant_of (decision_in step)) settled)) (opening_fits inputs.disk step.act))
+      (followed_fit medium (tested step.settled ∷ chosen_past inputs past (decision_in step)) step.deliveries tests
+      (subst (AllByRecursion GotFits) (sym made.all) (due_fits medium step.act (wanted (chosen_past inputs past (decision_in step))) (wanted_fit (chosen_past inputs past (decision_in step)) settled))) made.tested.followed)
 
   pub tasks_fit : (past : Past) → PastFits n past → AllByRecursion (RowFits n) (task_rows past)
   unfolding task_rows

@@ -10,7 +10,7 @@ use Rattle.fb_model.specs.Steps.{Step, decision_in, decisions_in, past_after, hi
 use Rattle.fb_model.proofs.Steps.{history-append}
 use Rattle.fb_tasks.specs.Telling.{Tells, calls_of}
 use Rattle.fb_decide.specs.declared.deciding.Course.{Course}
-use Rattle.fb_decide.specs.Calls.{IsCalled, past_settled}
+use Rattle.fb_decide.specs.Calls.{IsCalled, tested_by}
 use Rattle.fb_decide.specs.Standing.{IsTrue, Mirrors}
 use Rattle.fb_decide.specs.Making.{Replayed, HasRun, all_writes, fore_row_of, GoesOn, HasEnded, HasComeTo, AreKnown, decisions_by, decisions_left, rest_by, rest_of}
 use Rattle.fb_rows.specs.declared.back.DeliveryRow.{DeliveryRow}
@@ -74,7 +74,7 @@ calls_after : (disk : Shape) (past : Past) (calls : List Call) → calls_of (fol
 calls_after disk past [] = sym (append-nil (calls_of past))
 calls_after disk past (call ∷ calls) = calls_after disk (take_call disk past call) calls ∙ append_assoc (calls_of past) (call ∷ []) calls
 
-calls_settled : (disk : Shape) (calls : List Call) (past : Past) (now : ℕ) → calls_of (past_settled disk calls past now) ≡ calls_of past ++ calls_due calls past now
+calls_settled : (disk : Shape) (calls : List Call) (past : Past) (now : ℕ) → calls_of (tested_by disk calls past now) ≡ calls_of past ++ calls_due calls past now
 calls_settled disk calls past now =
     let called = fold (take_call disk) past (calls_due calls past now) in
     by_all (λ p. calls_of p ≡ calls_of called) disk (λ p task segment blocks e. e) called refl

@@ -14,7 +14,7 @@ use Rattle.fb_model.specs.Decisions.{instant_of}
 use Rattle.fb_model.specs.History.{Past, delivered, task_numbers, terms_of, is_open_backup}
 use Rattle.fb_model.specs.Completion.{choices, work, is_complete, was_complete}
 use Rattle.fb_model.specs.Images.{bad_sectors, is_scrub, findings, is_newly_cleaned, image, packed, segment_rows, seal_rows, complete_rows, test_rows}
-use Rattle.fb_model.specs.Steps.{Delivery, Step, decision_in, with_delivery, tested_past, settled_past, task_row, task_rows}
+use Rattle.fb_model.specs.Steps.{Delivery, Step, decision_in, with_delivery, tested_past, chosen_past, task_row, task_rows}
 use Rattle.fb_model.specs.SoundRun.{AreFollowed, IsTested}
 use Rattle.fb_model.proofs.RowsUpTo.{delivered_rows}
 use Rattle.fb_model.proofs.Lists.{all_append, all_flat_map, all_map}
@@ -86,6 +86,6 @@ followed_quiet medium past (delivery ∷ deliveries) followed = (
 
 pub quiet_step : (inputs : Inputs) (medium : Medium) (past : Past) (step : Step) → IsTested inputs medium past step → IsQuietStep step
 quiet_step inputs medium past step tested = record {
-  settled = subst (AllByRecursion IsQuiet) (sym tested.settled) (test_quiet medium (settled_past inputs past (decision_in step)) (instant_of (decision_in step)));
+  settled = subst (AllByRecursion IsQuiet) (sym tested.settled) (test_quiet medium (chosen_past inputs past (decision_in step)) (instant_of (decision_in step)));
   delivered = followed_quiet medium (tested_past inputs past step) step.deliveries tested.followed;
 }

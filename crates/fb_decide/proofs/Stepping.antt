@@ -15,14 +15,14 @@ use Rattle.fb_model.specs.PlainReplay.{Served, service}
 use Rattle.fb_model.specs.Decisions.{Decision, serves, idles, ends, instant_of, end_of, Act, serving, idling, ending, decision_of}
 use Rattle.fb_model.specs.Rides.{due, caught}
 use Rattle.fb_model.specs.History.{Past, tested, tasks, registered, wanted, state, bare_state}
-use Rattle.fb_model.specs.Steps.{Delivery, Step, decision_in, settled_past, past_after, with_delivery, with_finish, opening, step_rows}
+use Rattle.fb_model.specs.Steps.{Delivery, Step, decision_in, chosen_past, past_after, with_delivery, with_finish, opening, step_rows}
 use Rattle.fb_model.specs.SoundRun.{IsTested}
 use Rattle.fb_model.specs.FullRun.{HasBestPlan}
 use Rattle.fb_tasks.specs.Taken.{delivery_of}
 use Rattle.fb_tasks.specs.Telling.{Tells, IsBlockOf}
 use Rattle.fb_decide.specs.declared.background.Background.{Background}
 use Rattle.fb_decide.specs.declared.deciding.Course.{Course}
-use Rattle.fb_decide.specs.Calls.{IsCalled, HasSettled, past_settled, settled_by, settling_rows}
+use Rattle.fb_decide.specs.Calls.{IsCalled, HasSettled, tested_by, chosen_by, settling_rows}
 use Rattle.fb_decide.specs.Deliveries.{HasDelivered, HasServed, IsRegistered, followed, past_with, rows_of, held_now}
 use Rattle.fb_decide.specs.Standing.{Mirrors, IsFoundIn, IsTrue}
 use Rattle.fb_decide.specs.Deciding.{HasServedNext, HasStayed, stay_of, prepared}
@@ -76,7 +76,7 @@ module _ (inputs : Inputs) (past : Past) (before : Course) (background : Backgro
   decision = decision_of act
 
   abbrev then : Past
-  then = past_settled inputs.disk.map inputs.calls past (instant_of decision)
+  then = tested_by inputs.disk.map inputs.calls past (instant_of decision)
 
   abbrev step : Step
   step = step_by inputs.disk.map inputs.calls past act gots
@@ -97,15 +97,15 @@ module _ (inputs : Inputs) (past : Past) (before : Course) (background : Backgro
 
   module _ (end : ℕ) (h : HasDone end) (tells : Tells inputs.disk.map past before.background.sessions before.background.wanted) (finds : IsTrue (medium_of inputs) before.store past)
       (settled : HasSettled inputs.disk.map inputs.calls past (instant_of decision) called before.background.rows background) where
-    same_wanted : wanted then ≡ wanted (settled_past inputs past decision)
-    unfolding settled_past
-    same_wanted = wanted_tested (settled_by inputs.disk.map inputs.calls past (instant_of decision)) (settling_rows inputs.disk.map inputs.calls past (instant_of decision))
+    same_wanted : wanted then ≡ wanted (chosen_past inputs past decision)
+    unfolding chosen_past
+    same_wanted = wanted_tested (chosen_by inputs.disk.map inputs.calls past (instant_of decision)) (settling_rows inputs.disk.map inputs.calls past (instant_of decision))
 
     truths : IsTested inputs (medium_of inputs) past step × IsTrue (medium_of inputs) before.store (past_with then gots)
     truths = decision_true inputs (medium_of inputs) before.store past act end gots finds h.mirrors h.order tells settled.current.tells h.found h.there
 
     after_is : past_after inputs past step ≡ with_finish (past_with then gots) decision
-    unfolding settled_past past_after
+    unfolding chosen_past past_after
     after_is = refl
 
     finished_called : (d : Decision) → IsCalled inputs.disk.map inputs.calls (with_finish (past_with then gots) d) called
@@ -147,7 +147,7 @@ module _ (inputs : Inputs) (past : Past) (before : Course) (background : Backgro
   ready = prepared before background joined called
 
   abbrev settled_now : Past
-  settled_now = past_settled inputs.disk.map inputs.calls past before.now
+  settled_now = tested_by inputs.disk.map inputs.calls past before.now
 
   all_some : AllByRecursion (λ (block : Block). 0 < block.count) (wanted settled_now)
   all_some = wanted_all (λ (block : Block). 0 < block.count) settled_now

@@ -18,9 +18,9 @@ use Rattle.fb_rows.specs.declared.back.BackRow.{BackRow}
 use Rattle.fb_model.specs.Content.{Medium, contents_at, number_of}
 use Rattle.fb_model.specs.History.{Event, called, chose, tested, Past, LogSegment, Terms, tasks, terms_of, registered, bare_state, content_of, is_sealed, is_seal_of, is_open_backup, ends_block, same_block, opened_by, delivered, finished}
 use Rattle.fb_model.specs.Segments.{with_choices}
-use Rattle.fb_model.specs.Steps.{Step, take_call, calls_due, with_delivery, settled_past, past_after}
+use Rattle.fb_model.specs.Steps.{Step, take_call, calls_due, with_delivery, chosen_past, past_after}
 use Rattle.fb_model.specs.Images.{held_at_delivery, test_rows, findings}
-use Rattle.fb_decide.specs.Calls.{settled_by, settling_rows, past_settled}
+use Rattle.fb_decide.specs.Calls.{chosen_by, settling_rows, tested_by}
 use Rattle.fb_decide.specs.Deliveries.{IsRegistered, followed, past_with}
 use Rattle.fb_decide.specs.Standing.{IsTrue, Mirrors, IsFoundIn}
 use Rattle.fb_tasks.proofs.AllChoices.{by_all}
@@ -141,7 +141,7 @@ pub choices-still : (disk : Shape) (past : Past) → IsStill past (with_choices 
 choices-still disk past = by_all (IsStill past) disk (λ p task segment blocks h. still-then past p _ h (chosen-still p task segment blocks)) past (still-same past)
 
 -- the calls and choices of an instant
-pub settled-still : (disk : Shape) (calls : List Call) (past : Past) (now : ℕ) → IsStill past (settled_by disk calls past now)
+pub settled-still : (disk : Shape) (calls : List Call) (past : Past) (now : ℕ) → IsStill past (chosen_by disk calls past now)
 settled-still disk calls past now =
     let taken = fold (take_call disk) past (calls_due calls past now) in
     still-then past taken (with_choices disk taken) (calls-still disk past (calls_due calls past now)) (choices-still disk taken)
@@ -163,13 +163,13 @@ mirrors_within medium holding from to begin end mirrors after before lbn t late 
 
 -- after calls and choices of an instant and their test
 pub settled_true : (medium : Medium) (holding : Holding) (disk : Shape) (calls : List Call) (past : Past) (now end : ℕ)
-    → IsTrue medium holding past → Mirrors medium holding now end → now ≤ end → AreOpened past → AreOwn (settled_by disk calls past now)
-    → (settling_rows disk calls past now ≡ test_rows medium (settled_by disk calls past now) now) × IsTrue medium holding (past_settled disk calls past now)
+    → IsTrue medium holding past → Mirrors medium holding now end → now ≤ end → AreOpened past → AreOwn (chosen_by disk calls past now)
+    → (settling_rows disk calls past now ≡ test_rows medium (chosen_by disk calls past now) now) × IsTrue medium holding (tested_by disk calls past now)
 settled_true medium holding disk calls past now end before mirrors order opened own =
-    let settled = settled_by disk calls past now in
+    let settled = chosen_by disk calls past now in
     let still = settled-still disk calls past now in (
       rows-true medium holding settled (still-true medium holding past settled still opened before) own now (mirrors_within medium holding now end now now mirrors (let e : now ≤ now = omega arith in e) order),
-      still-true medium holding past (past_settled disk calls past now) (still-then past settled (past_settled disk calls past now) still (tested-still settled (settling_rows disk calls past now))) opened before,
+      still-true medium holding past (tested_by disk calls past now) (still-then past settled (tested_by disk calls past now) still (tested-still settled (settling_rows disk calls past now))) opened before,
     )
 
 module _ (medium : Medium) (holding : Holding) (from to : ℕ) (mirrors : Mirrors medium holding from to) where
@@ -273,20 +273,20 @@ LeftBy (ends now) holding left = left ≡ holding
 abbrev pub step_by : Shape → List Call → Past → Act → List DeliveryRow → Step
 step_by disk calls past act gots =
     let now = instant_of (decision_of act) in
-    record { settled = settling_rows disk calls past now; act = act; deliveries = followed (past_settled disk calls past now) gots }
+    record { settled = settling_rows disk calls past now; act = act; deliveries = followed (tested_by disk calls past now) gots }
 
 module _ (inputs : Inputs) (medium : Medium) (holding : Holding) (past : Past) (act : Act) (end : ℕ) (gots : List DeliveryRow)
     (before : IsTrue medium holding past) (mirrors : Mirrors medium holding (instant_of (decision_of act)) end) (order : instant_of (decision_of act) ≤ end)
     {sessions settled_sessions : List Session} {held settled_held : List Entry} (tells : Tells inputs.disk.map past sessions held)
-    (tells_settled : Tells inputs.disk.map (past_settled inputs.disk.map inputs.calls past (instant_of (decision_of act))) settled_sessions settled_held)
+    (tells_settled : Tells inputs.disk.map (tested_by inputs.disk.map inputs.calls past (instant_of (decision_of act))) settled_sessions settled_held)
     (found : AllByRecursion (IsFoundIn holding (instant_of (decision_of act)) end) gots)
-    (there : AllByRecursion (λ got. IsRegistered (past_settled inputs.disk.map inputs.calls past (instant_of (decision_of act))) got.block) gots) where
+    (there : AllByRecursion (λ got. IsRegistered (tested_by inputs.disk.map inputs.calls past (instant_of (decision_of act))) got.block) gots) where
   pub decision_true : IsTested inputs medium past (step_by inputs.disk.map inputs.calls past act gots)
-      × IsTrue medium holding (past_with (past_settled inputs.disk.map inputs.calls past (instant_of (decision_of act))) gots)
-  unfolding settled_past
+      × IsTrue medium holding (past_with (tested_by inputs.disk.map inputs.calls past (instant_of (decision_of act))) gots)
+  unfolding chosen_past
   decision_true =
       let now = instant_of (decision_of act) in
-      let settled = past_settled inputs.disk.map inputs.calls past now in
+      let settled = tested_by inputs.disk.map inputs.calls past now in
       let own = own-told inputs.disk.map settled settled_sessions settled_held tells_settled in
       let first = settled_true medium holding inputs.disk.map inputs.calls past now end before mirrors order (opened-told inputs.disk.map past sessions held tells) own in
       let second = followed_true medium holding now end mirrors settled gots found there
@@ -295,9 +295,9 @@ module _ (inputs : Inputs) (medium : Medium) (holding : Holding) (past : Past) (
 
 -- and after the decision
 pub after_true : (inputs : Inputs) (medium : Medium) (holding left : Holding) (past : Past) (act : Act) (gots : List DeliveryRow) → LeftBy (decision_of act) holding left
-    → IsTrue medium holding (past_with (past_settled inputs.disk.map inputs.calls past (instant_of (decision_of act))) gots)
+    → IsTrue medium holding (past_with (tested_by inputs.disk.map inputs.calls past (instant_of (decision_of act))) gots)
     → IsTrue medium left (past_after inputs past (step_by inputs.disk.map inputs.calls past act gots))
-unfolding settled_past past_after
-after_true inputs medium holding left past (serving served plan) gots leaves h = finished_true medium holding left (past_with (past_settled inputs.disk.map inputs.calls past served.start) gots) served.request leaves h
-after_true inputs medium holding left past (idling dwell) gots leaves h = subst (λ disk_then. IsTrue medium disk_then (past_with (past_settled inputs.disk.map inputs.calls past dwell.begin) gots)) (sym leaves) h
-after_true inputs medium holding left past (ending now) gots leaves h = subst (λ disk_then. IsTrue medium disk_then (past_with (past_settled inputs.disk.map inputs.calls past now) gots)) (sym leaves) h
+unfolding chosen_past past_after
+after_true inputs medium holding left past (serving served plan) gots leaves h = finished_true medium holding left (past_with (tested_by inputs.disk.map inputs.calls past served.start) gots) served.request leaves h
+after_true inputs medium holding left past (idling dwell) gots leaves h = subst (λ disk_then. IsTrue medium disk_then (past_with (tested_by inputs.disk.map inputs.calls past dwell.begin) gots)) (sym leaves) h
+after_true inputs medium holding left past (ending now) gots leaves h = subst (λ disk_then. IsTrue medium disk_then (past_with (tested_by inputs.disk.map inputs.calls past now) gots)) (sym leaves) h

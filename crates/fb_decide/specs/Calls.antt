@@ -21,20 +21,20 @@ pub record IsScriptOf (disk : Shape) (calls : List Call) : Type 0 where
   pub few : length calls < 2 ^ 32
 
 -- after the calls and choices of an instant
-abbrev pub settled_by : Shape → List Call → Past → ℕ → Past
-settled_by disk calls past now = with_choices disk (fold (take_call disk) past (calls_due calls past now))
+abbrev pub chosen_by : Shape → List Call → Past → ℕ → Past
+chosen_by disk calls past now = with_choices disk (fold (take_call disk) past (calls_due calls past now))
 
 -- the rows of its test
 abbrev pub settling_rows : Shape → List Call → Past → ℕ → List BackRow
-settling_rows disk calls past now = test_rows_found (settled_by disk calls past now) now
+settling_rows disk calls past now = test_rows_found (chosen_by disk calls past now) now
 
 -- after its test
-abbrev pub past_settled : Shape → List Call → Past → ℕ → Past
-past_settled disk calls past now = tested (settling_rows disk calls past now) ∷ settled_by disk calls past now
+abbrev pub tested_by : Shape → List Call → Past → ℕ → Past
+tested_by disk calls past now = tested (settling_rows disk calls past now) ∷ chosen_by disk calls past now
 
 -- all calls up to now have taken effect, the tasks have chosen segments, and all tasks were tested
 pub record HasSettled (disk : Shape) (calls : List Call) (past : Past) (now later : ℕ) (rows : List BackRow) (after : Background) : Type 0 where
-  pub current : IsCurrent disk (past_settled disk calls past now) after
-  pub called : IsCalled disk calls (past_settled disk calls past now) later
+  pub current : IsCurrent disk (tested_by disk calls past now) after
+  pub called : IsCalled disk calls (tested_by disk calls past now) later
   pub rows_after : after.rows ≡ rows ++ settling_rows disk calls past now
   pub ahead : IfSome (slice_get calls later) (λ call. now < call.instant)

@@ -30,7 +30,7 @@ use Rattle.fb_model.specs.Decisions.{Decision, serves, idles, ends, instant_of}
 use Rattle.fb_model.specs.History.{called, chose, tested, delivered, finished, LogSegment, Past, blocks_of, calls_of, opened_by, registered, state, task_numbers, tasks, terms_of, wanted}
 use Rattle.fb_model.specs.Completion.{is_closed, segment_by, segments, work}
 use Rattle.fb_model.specs.Segments.{choose_best, choose_in, choose_once, choose_up_to, is_better, is_busy, is_chosen, next_blocks, numbered, unchosen, with_choices}
-use Rattle.fb_model.specs.Steps.{Delivery, Step, decision_in, blocks_by, calls_due, past_after, settled_past, take_call, tested_past, with_delivery, with_finish}
+use Rattle.fb_model.specs.Steps.{Delivery, Step, decision_in, blocks_by, calls_due, past_after, chosen_past, take_call, tested_past, with_delivery, with_finish}
 use Rattle.std.proofs.Math.Seq.{drop-append_seam}
 use Rattle.fb_model.proofs.Lists.{all_append, all_filter}
 use Rattle.fb_model.proofs.HistoriesUpTo.{due_first}
@@ -277,9 +277,9 @@ abbrev pub AreLaid : Inputs → Past → Type 0
 AreLaid inputs past = IsLaid inputs.disk.map inputs.calls past
 
 module _ (inputs : Inputs) (rising : IsRising (map (λ (call : Call). call.instant) inputs.calls)) where
-  pub laid_settled : (past : Past) (decision : Decision) → AreLaid inputs past → AreLaid inputs (settled_past inputs past decision)
-  unfolding settled_past with_choices
-  laid_settled past decision laid =
+  pub laid_chosen : (past : Past) (decision : Decision) → AreLaid inputs past → AreLaid inputs (chosen_past inputs past decision)
+  unfolding chosen_past with_choices
+  laid_chosen past decision laid =
       let now = instant_of decision in
       let due = calls_due inputs.calls past now in
       let next = due_first inputs.calls past now rising in
@@ -302,7 +302,7 @@ module _ (inputs : Inputs) (rising : IsRising (map (λ (call : Call). call.insta
   unfolding past_after
   laid_after past step laid = laid_finish (fold with_delivery (tested_past inputs past step) step.deliveries) (decision_in step)
       (laid_deliveries (tested_past inputs past step) step.deliveries
-      (laid_tested inputs.disk.map inputs.calls (settled_past inputs past (decision_in step)) (laid_settled past (decision_in step) laid) step.settled))
+      (laid_tested inputs.disk.map inputs.calls (chosen_past inputs past (decision_in step)) (laid_chosen past (decision_in step) laid) step.settled))
 
   -- the wanted blocks lie on the disk
   pub wanted_lies : (past : Past) → AreLaid inputs past → AllByRecursion (LiesOn inputs.disk.map) (wanted past)

@@ -23,7 +23,7 @@ use Rattle.fb_model.specs.Decisions.{Decision, serves, idles, ends, instant_of}
 use Rattle.fb_model.specs.History.{Event, called, chose, tested, delivered, finished, Past, aborts, bare_state, blocks_of, calls_of, is_open_backup, is_sealed, overwrites, registered, registers, same_block, state, state_after_event, tasks, terms_of, wanted}
 use Rattle.fb_model.specs.Completion.{is_complete, is_complete_as, is_closed, is_over, own_of, segments, work}
 use Rattle.fb_model.specs.Segments.{choose_in, choose_up_to, numbered, with_choices}
-use Rattle.fb_model.specs.Steps.{Delivery, Step, decision_in, calls_due, past_after, settled_past, take_call, tested_past, with_delivery, with_finish}
+use Rattle.fb_model.specs.Steps.{Delivery, Step, decision_in, calls_due, past_after, chosen_past, take_call, tested_past, with_delivery, with_finish}
 use Rattle.fb_model.proofs.Lists.{all_filter, by_is}
 use Rattle.fb_mirror.specs.Script.{rebuild_calls}
 use Rattle.fb_mirror.proofs.CutCover.{HasSectors, cuts_some}
@@ -124,9 +124,9 @@ no_choice disk past are =
 both_due : (disk : Shape) (now : ℕ) → filter (λ (call : Call). nat_le call.instant now) (rebuild_calls disk) ≡ rebuild_calls disk
 both_due disk now = rw (by_is 0 now (omega arith)) refl
 
-first_settled : (inputs : Inputs) (decision : Decision) → inputs.calls ≡ rebuild_calls inputs.disk.map → settled_past inputs [] decision ≡ begun inputs.disk.map
-unfolding settled_past
-first_settled inputs decision calls =
+first_chosen : (inputs : Inputs) (decision : Decision) → inputs.calls ≡ rebuild_calls inputs.disk.map → chosen_past inputs [] decision ≡ begun inputs.disk.map
+unfolding chosen_past
+first_chosen inputs decision calls =
     ap (λ calls. with_choices inputs.disk.map (fold (take_call inputs.disk.map) [] (calls_due calls [] (instant_of decision)))) calls
     ∙ ap (λ calls. with_choices inputs.disk.map (fold (take_call inputs.disk.map) [] calls)) (both_due inputs.disk.map (instant_of decision))
     ∙ no_choice inputs.disk.map (begun inputs.disk.map) refl
@@ -135,9 +135,9 @@ none_due : (disk : Shape) (past : Past) (now : ℕ) → length (calls_of past) �
 none_due disk past now taken = ap (λ n. filter (λ (call : Call). nat_le call.instant now) (drop n (rebuild_calls disk))) taken
 
 module _ (P : DeliveryRow → Type 0) (inputs : Inputs) (calls : inputs.calls ≡ rebuild_calls inputs.disk.map) where
-  still_settled : (past : Past) (decision : Decision) → IsRebuilding P inputs.disk.map past → settled_past inputs past decision ≡ past
-  unfolding settled_past
-  still_settled past decision is =
+  still_chosen : (past : Past) (decision : Decision) → IsRebuilding P inputs.disk.map past → chosen_past inputs past decision ≡ past
+  unfolding chosen_past
+  still_chosen past decision is =
       ap (λ calls. with_choices inputs.disk.map (fold (take_call inputs.disk.map) past (calls_due calls past (instant_of decision)))) calls
       ∙ ap (λ due. with_choices inputs.disk.map (fold (take_call inputs.disk.map) past due)) (none_due inputs.disk.map past (instant_of decision) (taken_are P inputs.disk.map past is))
       ∙ no_choice inputs.disk.map past (task_is P inputs.disk.map past is)
@@ -146,9 +146,9 @@ module _ (P : DeliveryRow → Type 0) (inputs : Inputs) (calls : inputs.calls �
   abbrev pub IsUnderWay : Past → Type 0
   IsUnderWay past = (past ≡ []) ⊎ IsRebuilding P inputs.disk.map past
 
-  pub settled_rebuilds : (past : Past) (decision : Decision) → IsUnderWay past → IsRebuilding P inputs.disk.map (settled_past inputs past decision)
-  settled_rebuilds past decision (inl none) = record { events = []; is = ap (λ past. settled_past inputs past decision) none ∙ first_settled inputs decision calls; quiet = tt }
-  settled_rebuilds past decision (inr is) = subst (IsRebuilding P inputs.disk.map) (sym (still_settled past decision is)) is
+  pub chosen_rebuilds : (past : Past) (decision : Decision) → IsUnderWay past → IsRebuilding P inputs.disk.map (chosen_past inputs past decision)
+  chosen_rebuilds past decision (inl none) = record { events = []; is = ap (λ past. chosen_past inputs past decision) none ∙ first_chosen inputs decision calls; quiet = tt }
+  chosen_rebuilds past decision (inr is) = subst (IsRebuilding P inputs.disk.map) (sym (still_chosen past decision is)) is
 
   deliveries_rebuild : (past : Past) (deliveries : List Delivery) → IsRebuilding P inputs.disk.map past → AllByRecursion P (map (λ (delivery : Delivery). delivery.got) deliveries)
       → IsRebuilding P inputs.disk.map (fold with_delivery past deliveries)
@@ -166,7 +166,7 @@ module _ (P : DeliveryRow → Type 0) (inputs : Inputs) (calls : inputs.calls �
   unfolding past_after
   after_rebuilds past step is each = finish_rebuilds (fold with_delivery (tested_past inputs past step) step.deliveries) (decision_in step)
       (deliveries_rebuild (tested_past inputs past step) step.deliveries
-      (rebuilding_more P inputs.disk.map (settled_past inputs past (decision_in step)) (tested step.settled) (settled_rebuilds past (decision_in step) is) tt) each)
+      (rebuilding_more P inputs.disk.map (chosen_past inputs past (decision_in step)) (tested step.settled) (chosen_rebuilds past (decision_in step) is) tt) each)
 
 -- ---- blocks by their numbers
 

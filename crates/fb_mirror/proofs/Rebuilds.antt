@@ -32,7 +32,7 @@ use Rattle.fb_model.specs.Laws.{ForegroundListsAscend, OnePlainReplay}
 use Rattle.fb_model.specs.PlainReplay.{Served, first_track}
 use Rattle.fb_model.specs.Segments.{numbered}
 use Rattle.fb_model.specs.SoundRun.{IsDelivered, IsPlanned, IsTested}
-use Rattle.fb_model.specs.Steps.{AtEach, Step, decision_in, decisions_in, step_rows, past_after, settled_past}
+use Rattle.fb_model.specs.Steps.{AtEach, Step, decision_in, decisions_in, step_rows, past_after, chosen_past}
 use Rattle.fb_model.proofs.Due.{HasBytes, IsDueRow, due_block, delivery_true}
 use Rattle.fb_model.proofs.Lists.{all_both, by_is, same_map_where}
 use Rattle.fb_model.proofs.HistoriesUpTo.{HasSector}
@@ -45,7 +45,7 @@ use Rattle.fb_mirror.proofs.Covering.{range_long}
 use Rattle.fb_mirror.proofs.CutCover.{HoldsIn, cuts_hold}
 use Rattle.fb_mirror.proofs.EventLaws.{none_some, same_one}
 use Rattle.fb_mirror.proofs.Ordered.{AreInTurn, NoEarlier, decisions_in_turn, due_ascends}
-use Rattle.fb_mirror.proofs.RebuildPast.{IsOneOf, IsRebuilding, IsUnderWay, after_rebuilds, complete_delivered, disk_blocks, disk_ones, disk_some, rebuilding_more, rebuilding_weaker, settled_rebuilds, wanted_have}
+use Rattle.fb_mirror.proofs.RebuildPast.{IsOneOf, IsRebuilding, IsUnderWay, after_rebuilds, complete_delivered, disk_blocks, disk_ones, disk_some, rebuilding_more, rebuilding_weaker, chosen_rebuilds, wanted_have}
 use Rattle.fb_mirror.proofs.RunRows.{AreLinked, IsKept, NoFact, RowsFit, back_fits, gots, gots_of_back, step_fits, rows_weaker}
 use Rattle.fb_mirror.proofs.Survival.{IsFoundIn, back_found, decided-append, event_of}
 use Rattle.fb_mirror.proofs.Writing.{are_served, medium_with}
@@ -180,16 +180,16 @@ module _ (inputs : Inputs) (replay : List Served) (rows : List BackRow) (calls :
 
   module _ (past : Past) (step : Step) (come : HasComeTo (instant_of (decision_in step)) past) (placed : IsPlaced inputs.disk 0 replay (decision_in step)) (planned : IsPlanned inputs survivor past step)
       (some : IsDelivered inputs survivor past step) where
-    settled_then : IsRebuiltBy (instant_of (decision_in step)) (settled_past inputs past (decision_in step))
-    settled_then = settled_rebuilds (IsCopiedBy (instant_of (decision_in step))) inputs calls past (decision_in step) come
+    settled_then : IsRebuiltBy (instant_of (decision_in step)) (chosen_past inputs past (decision_in step))
+    settled_then = chosen_rebuilds (IsCopiedBy (instant_of (decision_in step))) inputs calls past (decision_in step) come
 
-    wanted_some : AllByRecursion HasSector (wanted (settled_past inputs past (decision_in step)))
-    wanted_some = wanted_have (IsCopiedBy (instant_of (decision_in step))) inputs.disk.map (settled_past inputs past (decision_in step)) HasSector settled_then (disk_some inputs.disk.map)
+    wanted_some : AllByRecursion HasSector (wanted (chosen_past inputs past (decision_in step)))
+    wanted_some = wanted_have (IsCopiedBy (instant_of (decision_in step))) inputs.disk.map (chosen_past inputs past (decision_in step)) HasSector settled_then (disk_some inputs.disk.map)
 
     got_copied : AllByRecursion (CoversIn keep rows) (gots step) → AllByRecursion IsCopied (gots step)
     got_copied cover =
         let One = IsOneOf (disk_blocks inputs.disk.map) in
-        let due = delivery_true inputs survivor past step One some (wanted_have (IsCopiedBy (instant_of (decision_in step))) inputs.disk.map (settled_past inputs past (decision_in step)) One settled_then (disk_ones inputs.disk.map)) in
+        let due = delivery_true inputs survivor past step One some (wanted_have (IsCopiedBy (instant_of (decision_in step))) inputs.disk.map (chosen_past inputs past (decision_in step)) One settled_then (disk_ones inputs.disk.map)) in
         all_both (λ row. One row.block) (CoversIn keep rows) (gots step)
         (all_weaker (IsDueRow survivor.disk (contents_at survivor) step.act One) (λ row. One row.block) (λ row due_row. due_block survivor.disk (contents_at survivor) step.act One row due_row) (gots step) due) cover
 
@@ -199,7 +199,7 @@ module _ (inputs : Inputs) (replay : List Served) (rows : List BackRow) (calls :
         (gots step) (delivery_true inputs survivor past step HasSector some wanted_some)
 
     got_linked : IsAllDelivered inputs survivor past step → AreLinked NoEarlier (instant_of (decision_in step)) (gots step)
-    got_linked all = subst (AreLinked NoEarlier (instant_of (decision_in step))) (sym all) (due_ascends survivor step.act (wanted (settled_past inputs past (decision_in step))) placed.of_disk planned wanted_some)
+    got_linked all = subst (AreLinked NoEarlier (instant_of (decision_in step))) (sym all) (due_ascends survivor step.act (wanted (chosen_past inputs past (decision_in step))) placed.of_disk planned wanted_some)
 
   abbrev Copies : Past → List Step → Type 0
   Copies past steps = AtEach (λ past step. RowsFit IsCopied AreAllCovered (step_rows inputs.disk step)) inputs past steps

@@ -16,7 +16,7 @@ use Rattle.fb_model.specs.History.{Past, delivered, is_open_backup, task_numbers
 use Rattle.fb_model.specs.Completion.{Choice, choices, is_complete, was_complete, work}
 use Rattle.fb_model.specs.Segments.{live_count}
 use Rattle.fb_model.specs.Images.{bad_sectors, complete_rows, findings, image, is_newly_cleaned, is_scrub, packed, seal_rows, segment_rows, test_rows}
-use Rattle.fb_model.specs.Steps.{AtEach, Delivery, Step, decision_in, history, opening, step_rows, past_after, settled_past, task_row, task_rows, tested_past, with_delivery}
+use Rattle.fb_model.specs.Steps.{AtEach, Delivery, Step, decision_in, history, opening, step_rows, past_after, chosen_past, task_row, task_rows, tested_past, with_delivery}
 use Rattle.fb_model.specs.SoundRun.{AreFollowed, IsSoundBy, IsTested}
 use Rattle.fb_model.proofs.Lists.{all_append, all_flat_map, all_left, all_right}
 
@@ -130,14 +130,14 @@ module _ (P : DeliveryRow → Type 0) (C : ℕ → Type 0) where
         (followed_fit medium delivery.got.end (with_delivery past delivery) deliveries (kept.tests delivery.got.end (delivered delivery.got ∷ past) delivery.after next) followed.1 each.1 linked.1)
 
     -- a step's rows have what its deliveries have
-    pub step_fits : (inputs : Inputs) (medium : Medium) (past : Past) (step : Step) → I (instant_of (decision_in step)) (settled_past inputs past (decision_in step)) → IsTested inputs medium past step
+    pub step_fits : (inputs : Inputs) (medium : Medium) (past : Past) (step : Step) → I (instant_of (decision_in step)) (chosen_past inputs past (decision_in step)) → IsTested inputs medium past step
         → AllByRecursion P (gots step) → AreLinked R (instant_of (decision_in step)) (gots step) → RowsFit P C (step_rows inputs.disk step)
     step_fits inputs medium past step holds is each linked =
         all_append (RowFits P C) (step.settled ++ opening inputs.disk step.act) (flat_map (λ (delivery : Delivery). GotLine delivery.got ∷ delivery.after) step.deliveries)
         (all_append (RowFits P C) step.settled (opening inputs.disk step.act)
-        (subst (RowsFit P C) (sym is.settled) (test_fits medium (settled_past inputs past (decision_in step)) (instant_of (decision_in step)) holds))
+        (subst (RowsFit P C) (sym is.settled) (test_fits medium (chosen_past inputs past (decision_in step)) (instant_of (decision_in step)) holds))
         (opening_fits inputs.disk step.act))
-        (followed_fit medium (instant_of (decision_in step)) (tested_past inputs past step) step.deliveries (kept.tests (instant_of (decision_in step)) (settled_past inputs past (decision_in step)) step.settled holds) is.followed each linked)
+        (followed_fit medium (instant_of (decision_in step)) (tested_past inputs past step) step.deliveries (kept.tests (instant_of (decision_in step)) (chosen_past inputs past (decision_in step)) step.settled holds) is.followed each linked)
 
 -- where no fact comes with seals
 any_kept : (P : DeliveryRow → Type 0) → IsKept P NoFact (λ now past. Unit {0}) AnyEnds

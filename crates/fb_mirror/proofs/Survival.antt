@@ -28,7 +28,7 @@ use Rattle.fb_model.specs.Accepted.{IsAccepted}
 use Rattle.fb_model.specs.Content.{Medium, Written, content, content_by, contents_at, fore_row, fore_rows, medium_of, number_of, writes_of}
 use Rattle.fb_model.specs.Decisions.{Decision, serves, decisions, decisions_from, end_of, idle_until, instant_of, instants_of, last_decision, run_end}
 use Rattle.fb_model.specs.History.{Past, wanted}
-use Rattle.fb_model.specs.Steps.{AtEach, Delivery, Step, decision_in, decisions_in, step_rows, past_after, settled_past}
+use Rattle.fb_model.specs.Steps.{AtEach, Delivery, Step, decision_in, decisions_in, step_rows, past_after, chosen_past}
 use Rattle.fb_model.specs.SoundRun.{HasPlan, IsDelivered, IsPlanned, IsTested}
 use Rattle.fb_model.specs.Laws.{ForegroundListsAscend, OnePlainReplay}
 use Rattle.fb_model.specs.FullRun.{IsFull}
@@ -306,7 +306,7 @@ module _ (inputs : Inputs) (medium : Medium) (replay : List Served) (same_disk :
         between = λ some. between_within replay (instant_of (decision_in step)) (quiet_until (decision_in step)) row.begin row.end (lies some).begins (lies some).ends placed.between;
       })
       (map (λ (delivery : Delivery). delivery.got) step.deliveries)
-      (delivery_true inputs medium past step AnyBlock some (any_blocks (wanted (settled_past inputs past (decision_in step)))))
+      (delivery_true inputs medium past step AnyBlock some (any_blocks (wanted (chosen_past inputs past (decision_in step)))))
 
   steps_found : (past : Past) (steps : List Step) → AllByRecursion (IsPlaced medium.disk 0 replay) (decisions_in steps) → AtEach (IsPlanned inputs medium) inputs past steps → AtEach (IsDelivered inputs medium) inputs past steps
       → AtEach (IsTested inputs medium) inputs past steps → AtEach (λ past step. RowsFit (IsFound medium replay) NoFact (step_rows inputs.disk step)) inputs past steps

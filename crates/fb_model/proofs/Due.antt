@@ -15,7 +15,7 @@ use Rattle.fb_model.specs.Plans.{block_begin, block_end, catches, early_dwell, l
 use Rattle.fb_model.specs.Inputs.{Inputs}
 use Rattle.fb_model.specs.Decisions.{Act, serving, idling, ending}
 use Rattle.fb_model.specs.History.{Past, wanted}
-use Rattle.fb_model.specs.Steps.{Step, decision_in, settled_past}
+use Rattle.fb_model.specs.Steps.{Step, decision_in, chosen_past}
 use Rattle.fb_model.specs.Rides.{gap_of, due, delivery, is_before, placed, in_order, caught, missed, lies_in, rides, begin_at, end_at}
 use Rattle.fb_model.specs.SoundRun.{IsSublist, none, left_out, taken, IsDelivered}
 use Rattle.fb_model.proofs.Lists.{all_append, all_filter}
@@ -153,6 +153,6 @@ due_true disk contents (ending now) Q wanted qs = tt
 
 -- and so is each delivery of a sound run, of a block wanted at its decision
 pub delivery_true : (inputs : Inputs) (medium : Medium) (past : Past) (step : Step) (Q : Block → Type 0) → IsDelivered inputs medium past step
-    → AllByRecursion Q (wanted (settled_past inputs past (decision_in step))) → AllByRecursion (IsDueRow medium.disk (contents_at medium) step.act Q) (map (λ delivery. delivery.got) step.deliveries)
+    → AllByRecursion Q (wanted (chosen_past inputs past (decision_in step))) → AllByRecursion (IsDueRow medium.disk (contents_at medium) step.act Q) (map (λ delivery. delivery.got) step.deliveries)
 delivery_true inputs medium past step Q some qs = all_some (IsDueRow medium.disk (contents_at medium) step.act Q) some
-    (due_true medium.disk (contents_at medium) step.act Q (wanted (settled_past inputs past (decision_in step))) qs)
+    (due_true medium.disk (contents_at medium) step.act Q (wanted (chosen_past inputs past (decision_in step))) qs)

@@ -18,7 +18,7 @@ use Rattle.fb_model.specs.Decisions.{Decision, instant_of, Act, serving, idling,
 use Rattle.fb_model.specs.History.{Past, tested, delivered, wanted}
 use Rattle.fb_model.specs.Rides.{gap_of, due}
 use Rattle.fb_model.specs.Images.{findings, test_rows}
-use Rattle.fb_model.specs.Steps.{Delivery, Step, decision_in, decisions_in, settled_past, tested_past, with_delivery, past_after, AtEach, history, step_rows, task_rows}
+use Rattle.fb_model.specs.Steps.{Delivery, Step, decision_in, decisions_in, chosen_past, tested_past, with_delivery, past_after, AtEach, history, step_rows, task_rows}
 use Rattle.fb_model.specs.SoundRun.{AreFollowed, IsTested}
 use Rattle.fb_model.specs.FullRun.{HasBestPlan, IsBestPlanned, IsAllDelivered, IsFull}
 use Rattle.fb_model.proofs.Lists.{same_first, same_rest, not_none}
@@ -92,7 +92,7 @@ pub record IsFullStep (inputs : Inputs) (medium : Medium) (past : Past) (step : 
 pub one_step : (inputs : Inputs) (medium : Medium) (past : Past) (a b : Step) → decision_in a ≡ decision_in b
     → IsFullStep inputs medium past a → IsFullStep inputs medium past b → a ≡ b
 one_step inputs medium past a b same h k =
-    let settles = λ (decision : Decision). settled_past inputs past decision in
+    let settles = λ (decision : Decision). chosen_past inputs past decision in
     let best = subst (λ d. HasBestPlan inputs.disk (wanted (settles d)) a.act) same h.best in
     let act : a.act ≡ b.act = one_act inputs.disk (wanted (settles (decision_in b))) a.act b.act same best k.best in
     let rows : a.settled ≡ b.settled =

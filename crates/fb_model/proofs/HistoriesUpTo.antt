@@ -21,7 +21,7 @@ use Rattle.fb_model.specs.Decisions.{Decision, serves, idles, ends, instant_of}
 use Rattle.fb_model.specs.History.{Event, called, chose, tested, delivered, finished, Past, LogSegment, task_numbers, terms_of, blocks_of, registered, wanted, state, calls_of}
 use Rattle.fb_model.specs.Completion.{work, segments, is_closed}
 use Rattle.fb_model.specs.Segments.{numbered, is_better, is_busy, unchosen, choose_best, choose_once, choose_up_to, choose_in, with_choices}
-use Rattle.fb_model.specs.Steps.{Delivery, Step, decision_in, blocks_by, take_call, calls_left, calls_due, settled_past, with_delivery, with_finish, tested_past, past_after}
+use Rattle.fb_model.specs.Steps.{Delivery, Step, decision_in, blocks_by, take_call, calls_left, calls_due, chosen_past, with_delivery, with_finish, tested_past, past_after}
 use Rattle.fb_model.specs.Accepted.{IsRising}
 use Rattle.fb_model.proofs.Lists.{all_append, all_filter, kept_twice, by_later, is_after, after_is}
 
@@ -122,9 +122,9 @@ module _ (P : DeliveryRow → Type 0) where
   choices_fine disk [] past all = all
   choices_fine disk (task ∷ tasks) past all = choices_fine disk tasks (choose_in disk past task) (in_fine disk past task all)
 
-  pub settled_fine : (inputs : Inputs) (past : Past) (decision : Decision) → AreFine P past → AreFine P (settled_past inputs past decision)
-  unfolding settled_past with_choices
-  settled_fine inputs past decision all =
+  pub chosen_fine : (inputs : Inputs) (past : Past) (decision : Decision) → AreFine P past → AreFine P (chosen_past inputs past decision)
+  unfolding chosen_past with_choices
+  chosen_fine inputs past decision all =
       let called = fold (take_call inputs.disk.map) past (calls_due inputs.calls past (instant_of decision)) in
       choices_fine inputs.disk.map (task_numbers called) called (calls_fine inputs.disk.map (calls_due inputs.calls past (instant_of decision)) past all)
 
@@ -140,7 +140,7 @@ module _ (P : DeliveryRow → Type 0) where
   pub after_fine : (inputs : Inputs) (past : Past) (step : Step) → AllByRecursion (λ (d : Delivery). P d.got) step.deliveries → AreFine P past → AreFine P (past_after inputs past step)
   unfolding past_after
   after_fine inputs past step each all = finish_fine (fold with_delivery (tested_past inputs past step) step.deliveries) (decision_in step)
-      (deliveries_fine step.deliveries (tested_past inputs past step) each (tt, settled_fine inputs past (decision_in step) all))
+      (deliveries_fine step.deliveries (tested_past inputs past step) each (tt, chosen_fine inputs past (decision_in step) all))
 
 -- ---- no test looks back further than to the last delivery's beginning
 
@@ -197,8 +197,8 @@ due_first calls past now rising = come_first now (calls_left calls past) (rising
 pub same_settled : (a b : Inputs) (t : ℕ) (past : Past) (decision other : Decision) → a.disk ≡ b.disk
     → RiseInTime a.calls → RiseInTime b.calls → filter (calls_by t) a.calls ≡ filter (calls_by t) b.calls
     → instant_of decision ≤ t
-    → instant_of decision ≡ instant_of other → settled_past a past decision ≡ settled_past b past other
-unfolding settled_past
+    → instant_of decision ≡ instant_of other → chosen_past a past decision ≡ chosen_past b past other
+unfolding chosen_past
 same_settled a b t past decision other disk rising_a rising_b calls h at =
     let now = instant_of decision in
     let twice = λ (calls : List Call). kept_twice (calls_by now) (calls_by t) (λ call by. by_later now t call.instant h by) calls in

@@ -21,7 +21,7 @@ use Rattle.fb_model.specs.Decisions.{Decision, idles, instant_of, end_of, Act, s
 use Rattle.fb_model.specs.History.{Past, tested, wanted}
 use Rattle.fb_model.specs.Images.{test_rows}
 use Rattle.fb_model.specs.Rides.{due}
-use Rattle.fb_model.specs.Steps.{Delivery, Step, decision_in, decisions_in, settled_past, with_delivery, with_finish, tested_past, past_after, AtEach, opening, step_rows}
+use Rattle.fb_model.specs.Steps.{Delivery, Step, decision_in, decisions_in, chosen_past, with_delivery, with_finish, tested_past, past_after, AtEach, opening, step_rows}
 use Rattle.fb_model.specs.Accepted.{IsAccepted, IsRising}
 use Rattle.fb_model.specs.SoundRun.{AreFollowed}
 use Rattle.fb_model.specs.FullRun.{HasBestPlan, IsFull}
@@ -37,7 +37,7 @@ use Rattle.fb_model.proofs.Passages.{LiesOnDisk, are_services, requests_lie, wri
 use Rattle.fb_model.proofs.ContentsUpTo.{medium_with, HoldSame, same_contents, hold_same, same_fore}
 use Rattle.fb_model.proofs.Instants.{instants_from, rising_all_among, all_come, same_instants}
 use Rattle.fb_model.proofs.DecisionsUpTo.{IsMade, IsLater, AlikeDecisions, same, dwelling, later, end_from, alike_decisions}
-use Rattle.fb_model.proofs.HistoriesUpTo.{HasSector, AreFine, HasBegun, wanted_fine, settled_fine, after_fine, all_fine_weaker, calls_by, RiseInTime, same_settled}
+use Rattle.fb_model.proofs.HistoriesUpTo.{HasSector, AreFine, HasBegun, wanted_fine, chosen_fine, after_fine, all_fine_weaker, calls_by, RiseInTime, same_settled}
 use Rattle.fb_model.proofs.RowsUpTo.{AreUnknown, AreKnownAlike, IsUnknown, unknown_before, alike_behind, tests_unknown, tasks_unknown, delivered_rows, deliveries_unknown, same_tests, same_followed, ends_by_then, RisingEnds, alike_deliveries}
 use Rattle.fb_model.proofs.Unlined.{unlined_inputs, steps_same, instants_same}
 use Rattle.fb_model.proofs.DueUpTo.{LiesBetween, AgreeBetween, delivers_by, due_between, same_due, rising_caught, same_by_then}
@@ -67,7 +67,7 @@ module _ (disk : Disk) (latent : List ℕ) (key : Key) (trace : List Request) (p
   step_between : (P : DeliveryRow → Type 0) (past : Past) (step : Step) → IsFullStep inputs medium past step → IsMade disk (decision_in step) → AreFine P past
       → AllByRecursion (LiesBetween (instant_of (decision_in step)) (end_of (decision_in step))) (gots step.deliveries)
   step_between P past step full made fine =
-      let blocks = wanted (settled_past inputs past (decision_in step)) in
+      let blocks = wanted (chosen_past inputs past (decision_in step)) in
       subst (AllByRecursion (LiesBetween (instant_of (decision_in step)) (end_of (decision_in step)))) (sym full.all)
       (all_weaker (IsDueRow disk (contents_at medium) step.act HasSector) (LiesBetween (instant_of (decision_in step)) (end_of (decision_in step)))
       (λ row due_row.
@@ -76,7 +76,7 @@ module _ (disk : Disk) (latent : List ℕ) (key : Key) (trace : List Request) (p
       due_between disk (contents_at medium) step.act HasSector (end_of (decision_in step)) made
       (best_is_plan disk blocks step.act full.best) over row block due_row)
       (due disk (contents_at medium) step.act blocks)
-      (due_true disk (contents_at medium) step.act HasSector blocks (wanted_fine P (settled_past inputs past (decision_in step)) (settled_fine P inputs past (decision_in step) fine))))
+      (due_true disk (contents_at medium) step.act HasSector blocks (wanted_fine P (chosen_past inputs past (decision_in step)) (chosen_fine P inputs past (decision_in step) fine))))
 
   -- nothing of decisions after t is known
   steps_unknown : (t : ℕ) (P : DeliveryRow → Type 0) → ((row : DeliveryRow) → P row) → (past : Past) (steps : List Step) (more : List BackRow) → AllByRecursion (IsLater t disk) (decisions_in steps)
@@ -91,7 +91,7 @@ module _ (disk : Disk) (latent : List ℕ) (key : Key) (trace : List Request) (p
       (after_fine P inputs past step (gots_all P step.deliveries (all_weaker (LiesBetween (instant_of d) (end_of d)) P (λ row h. any row) (gots step.deliveries) between)) fine) unknown in
       subst (AreUnknown t) (sym (regroup step.settled (opening disk step.act) (delivered_rows step.deliveries) rest more))
       (unknown_before t step.settled (opening disk step.act ++ (delivered_rows step.deliveries ++ (rest ++ more)))
-      (subst (AllByRecursion (IsUnknown t)) (sym full.0.tests.settled) (tests_unknown t medium (settled_past inputs past d) (instant_of d) instant))
+      (subst (AllByRecursion (IsUnknown t)) (sym full.0.tests.settled) (tests_unknown t medium (chosen_past inputs past d) (instant_of d) instant))
       (unknown_before t (opening disk step.act) (delivered_rows step.deliveries ++ (rest ++ more)) (opening_unknown t disk step.act late.0)
       (deliveries_unknown t medium (tested_past inputs past step) step.deliveries (rest ++ more) full.0.tests.followed
       (all_weaker (LiesBetween (instant_of d) (end_of d)) (λ (row : DeliveryRow). t < row.end) (λ row h. let begins = h.begins in let in_turn = h.in_turn in omega (arith, begins, in_turn, instant)) (gots step.deliveries) between)
@@ -121,7 +121,7 @@ module _ (disk : Disk) (latent : List ℕ) (key : Key) (trace_a trace_b : List R
   agree : AgreeBetween 0 done (contents_at medium_a) (contents_at medium_b)
   agree lbn n u after before = same_contents done medium_a medium_b hold lbn n u before
 
-  settles : (past : Past) (d e : Decision) → instant_of d ≤ t → instant_of d ≡ instant_of e → settled_past inputs_a past d ≡ settled_past inputs_b past e
+  settles : (past : Past) (d e : Decision) → instant_of d ≤ t → instant_of d ≡ instant_of e → chosen_past inputs_a past d ≡ chosen_past inputs_b past e
   settles past d e h at = same_settled inputs_a inputs_b t past d e refl rising_a rising_b come h at
 
   -- a step of the one run's would do in the other
@@ -130,9 +130,9 @@ module _ (disk : Disk) (latent : List ℕ) (key : Key) (trace_a trace_b : List R
   as_well past step h ended made fine full =
       let d = decision_in step in
       let settled = settles past d d h refl in
-      let settled_a = settled_past inputs_a past d in
-      let blocks = wanted (settled_past inputs_b past d) in
-      let fine_a = settled_fine (HasBegun done) inputs_a past d fine in
+      let settled_a = chosen_past inputs_a past d in
+      let blocks = wanted (chosen_past inputs_b past d) in
+      let fine_a = chosen_fine (HasBegun done) inputs_a past d fine in
       let between = step_between disk latent key trace_b over_b calls_b until_b writes_b (HasBegun done) past step full made fine in
       record {
         tests = record {
@@ -161,10 +161,10 @@ module _ (disk : Disk) (latent : List ℕ) (key : Key) (trace_a trace_b : List R
       let dwell_b : Dwell = record { track = head; begin = now; end = end_b } in
       let d_a = idles dwell_a in
       let d_b = idles dwell_b in
-      let settled_a = settled_past inputs_a past d_a in
-      let settled_b = settled_past inputs_b past d_b in
+      let settled_a = chosen_past inputs_a past d_a in
+      let settled_b = chosen_past inputs_b past d_b in
       let settled : settled_a ≡ settled_b = settles past d_a d_b h refl in
-      let fine_a = settled_fine (HasBegun done) inputs_a past d_a fine in
+      let fine_a = chosen_fine (HasBegun done) inputs_a past d_a fine in
       let rows : x.settled ≡ y.settled = full_a.tests.settled ∙ (same_tests done medium_a medium_b hold settled_a now fine_a (omega arith)
       ∙ (ap (λ past. test_rows medium_b past now) settled ∙ sym full_b.tests.settled)) in
       let pasts : tested x.settled ∷ settled_a ≡ tested y.settled ∷ settled_b = ap₂ (λ rows past. tested rows ∷ past) rows settled in

@@ -29,7 +29,7 @@ use Rattle.fb_model.specs.Completion.{segment_by, segments, Choice, choices, is_
 use Rattle.fb_model.specs.Segments.{numbered, next_blocks, live_count, is_better, unchosen, is_busy, choose_best, choose_once, choose_up_to, choose_in, with_choices}
 use Rattle.fb_model.specs.Images.{bad_sectors, is_scrub, findings, held_at_delivery, packed, is_newly_cleaned, segment_rows, image, seal_rows, complete_rows, test_rows}
 use Rattle.fb_model.specs.Rides.{due}
-use Rattle.fb_model.specs.Steps.{Delivery, Step, decision_in, blocks_by, take_call, calls_due, settled_past, with_delivery, with_finish, tested_past, past_after, AtEach}
+use Rattle.fb_model.specs.Steps.{Delivery, Step, decision_in, blocks_by, take_call, calls_due, chosen_past, with_delivery, with_finish, tested_past, past_after, AtEach}
 use Rattle.fb_model.specs.SoundRun.{AreFollowed}
 use Rattle.fb_model.specs.FullRun.{HasBestPlan}
 use Rattle.fb_model.specs.Known.{without_line}
@@ -243,9 +243,9 @@ with_choices_same : (disk : Shape) (past : Past) → with_choices disk (unlined_
 unfolding with_choices
 with_choices_same disk past = ap (fold (choose_in disk) (unlined_past past)) (same_numbers past) ∙ choose_all_same disk (task_numbers past) past
 
-settled_same : (inputs : Inputs) (past : Past) (decision : Decision) → settled_past (unlined_inputs inputs) (unlined_past past) decision ≡ unlined_past (settled_past inputs past decision)
-unfolding settled_past
-settled_same inputs past decision =
+chosen_same : (inputs : Inputs) (past : Past) (decision : Decision) → chosen_past (unlined_inputs inputs) (unlined_past past) decision ≡ unlined_past (chosen_past inputs past decision)
+unfolding chosen_past
+chosen_same inputs past decision =
     let disk = inputs.disk.map in
     let due = calls_due inputs.calls past (instant_of decision) in
     ap (λ calls. with_choices disk (fold (take_call disk) (unlined_past past) calls)) (same_calls inputs.calls past (instant_of decision))
@@ -263,7 +263,7 @@ finish_same past (ends now) = refl
 after_same : (inputs : Inputs) (past : Past) (step : Step) → past_after (unlined_inputs inputs) (unlined_past past) step ≡ unlined_past (past_after inputs past step)
 unfolding past_after
 after_same inputs past step =
-    ap (λ past. with_finish (fold with_delivery (tested step.settled ∷ past) step.deliveries) (decision_in step)) (settled_same inputs past (decision_in step))
+    ap (λ past. with_finish (fold with_delivery (tested step.settled ∷ past) step.deliveries) (decision_in step)) (chosen_same inputs past (decision_in step))
     ∙ (ap (λ past. with_finish past (decision_in step)) (deliver_all step.deliveries (tested_past inputs past step)) ∙ finish_same (fold with_delivery (tested_past inputs past step) step.deliveries) (decision_in step))
 
 -- ---- rows
@@ -312,9 +312,9 @@ module _ (medium : Medium) where
 
   step_same : (inputs : Inputs) (past : Past) (step : Step) → IsFullStep inputs medium past step → IsFullStep (unlined_inputs inputs) medium (unlined_past past) step
   step_same inputs past step full =
-      let settled = settled_past inputs past (decision_in step) in
-      let is = settled_same inputs past (decision_in step) in
-      let blocks : wanted settled ≡ wanted (settled_past (unlined_inputs inputs) (unlined_past past) (decision_in step)) = sym (ap wanted is ∙ same_wanted settled) in
+      let settled = chosen_past inputs past (decision_in step) in
+      let is = chosen_same inputs past (decision_in step) in
+      let blocks : wanted settled ≡ wanted (chosen_past (unlined_inputs inputs) (unlined_past past) (decision_in step)) = sym (ap wanted is ∙ same_wanted settled) in
       record {
         tests = record {
           settled = full.tests.settled ∙ sym (ap (λ past. test_rows medium past (instant_of (decision_in step))) is ∙ tests_same settled (instant_of (decision_in step)));

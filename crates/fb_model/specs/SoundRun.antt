@@ -15,7 +15,7 @@ use Rattle.fb_model.specs.Decisions.{Act, serving, instant_of, decisions, run_en
 use Rattle.fb_model.specs.History.{Past, delivered, wanted}
 use Rattle.fb_model.specs.Images.{findings, test_rows}
 use Rattle.fb_model.specs.Rides.{gap_of, due}
-use Rattle.fb_model.specs.Steps.{Delivery, Step, decision_in, decisions_in, settled_past, tested_past, with_delivery, history, AtEach, step_rows, task_rows}
+use Rattle.fb_model.specs.Steps.{Delivery, Step, decision_in, decisions_in, chosen_past, tested_past, with_delivery, history, AtEach, step_rows, task_rows}
 
 -- some of the elements, in their order
 pub data IsSublist {A : Type 0} : List A → List A → Type 0 where
@@ -38,7 +38,7 @@ IsPlanned inputs medium past step = HasPlan inputs.disk step.act
 
 -- all deliveries that are due at a step
 abbrev pub due_at : Inputs → Medium → Past → Step → List DeliveryRow
-due_at inputs medium past step = due medium.disk (contents_at medium) step.act (wanted (settled_past inputs past (decision_in step)))
+due_at inputs medium past step = due medium.disk (contents_at medium) step.act (wanted (chosen_past inputs past (decision_in step)))
 
 -- the deliveries are some of those that are due, in their order
 abbrev pub IsDelivered : Inputs → Medium → Past → Step → Type 0
@@ -53,7 +53,7 @@ AreFollowed medium past (delivery ∷ deliveries) =
 
 -- a step's test gives its rows, and each delivery's
 pub record IsTested (inputs : Inputs) (medium : Medium) (past : Past) (step : Step) : Type 0 where
-  pub settled : step.settled ≡ test_rows medium (settled_past inputs past (decision_in step)) (instant_of (decision_in step))
+  pub settled : step.settled ≡ test_rows medium (chosen_past inputs past (decision_in step)) (instant_of (decision_in step))
   pub followed : AreFollowed medium (tested_past inputs past step) step.deliveries
 
 -- each step meets the condition

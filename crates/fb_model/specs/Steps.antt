@@ -56,8 +56,8 @@ abbrev pub calls_due : List Call → Past → ℕ → List Call
 calls_due calls past now = filter (λ call. nat_le call.instant now) (calls_left calls past)
 
 -- after the calls and choices of a decision
-unfoldable pub settled_past : Inputs → Past → Decision → Past
-settled_past inputs past decision = with_choices inputs.disk.map
+unfoldable pub chosen_past : Inputs → Past → Decision → Past
+chosen_past inputs past decision = with_choices inputs.disk.map
     (fold (take_call inputs.disk.map) past (calls_due inputs.calls past (instant_of decision)))
 
 -- after a delivery and its test
@@ -71,7 +71,7 @@ with_finish past _ = past
 
 -- after its test
 abbrev pub tested_past : Inputs → Past → Step → Past
-tested_past inputs past step = tested step.settled ∷ settled_past inputs past (decision_in step)
+tested_past inputs past step = tested step.settled ∷ chosen_past inputs past (decision_in step)
 
 -- after the whole step
 unfoldable pub past_after : Inputs → Past → Step → Past

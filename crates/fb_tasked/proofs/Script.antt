@@ -3,7 +3,7 @@ use Rattle.fb_tasks.proofs.Words.{◌≡◌, ℕ, zero, suc, ◌+◌, ◌^◌, �
 use Rattle.fb_tasks.proofs.Words.{arith, subst, length-map-range_with_len, true≢false, Request, Shape, Call, IsScript, Content, Gives}
 use Rattle.fb_tasks.proofs.Words.{Block, Entry, Wanted, is_wanted, BackRow, DeliveryRow, Past, finished, registered, state, tasks, wanted}
 use Rattle.fb_tasks.proofs.Words.{view, with_choices, test_rows_found, take_call, with_delivery, task_row, task_rows, delivery_of}
-use Rattle.fb_tasks.proofs.Words.{Tells, MayTake, MaySettle, MayDeliver, IsSettled, settled_at, IsCalled, all_at, filter_to, some_same}
+use Rattle.fb_tasks.proofs.Words.{Tells, MayTake, MaySettle, MayDeliver, IsSettled, tested_at, IsCalled, all_at, filter_to, some_same}
 use Rattle.fb_tasks.proofs.Calls.{may-take, called-more, called-tested, called-chosen, called-delivered, called-finished}
 use Rattle.std.specs.Prelude.{slice_get}
 use Rattle.fb_tasks.specs.declared.session.Session.{Session}
@@ -28,8 +28,8 @@ module _ {settled : Bool} {disk : Shape} {calls : List Call} {next : ℕ} {sessi
   pub follows-may-settle : MaySettle disk h.past sessions held
   follows-may-settle = record { tells = h.tells; few = omega (arith, h.called.few) }
 
-  pub follows-settled : (instant : ℕ) (now : List Session) (after : List Entry) → Tells disk (settled_at disk h.past instant) now after → IsSettled (settled_at disk h.past instant) → Follows true disk calls next now after
-  follows-settled instant now after tells all = follows-on true (settled_at disk h.past instant) now after next
+  pub follows-settled : (instant : ℕ) (now : List Session) (after : List Entry) → Tells disk (tested_at disk h.past instant) now after → IsSettled (tested_at disk h.past instant) → Follows true disk calls next now after
+  follows-settled instant now after tells all = follows-on true (tested_at disk h.past instant) now after next
       (called-tested disk calls (with_choices disk h.past) next (called-chosen disk calls h.past next h.called sessions held h.tells) (test_rows_found (with_choices disk h.past) instant)) tells (λ _. all)
 
   -- a block is delivered

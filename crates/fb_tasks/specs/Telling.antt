@@ -50,8 +50,8 @@ pub record IsSettled (past : Past) : Type 0 where
   pub no_rows : (now : ℕ) → test_rows_found past now ≡ []
 
 -- after the choices and their test
-abbrev pub settled_at : Shape → Past → ℕ → Past
-settled_at disk past now = tested (test_rows_found (with_choices disk past) now) ∷ with_choices disk past
+abbrev pub tested_at : Shape → Past → ℕ → Past
+tested_at disk past now = tested (test_rows_found (with_choices disk past) now) ∷ with_choices disk past
 
 -- a delivery of a wanted block, with the contents of its sectors, after a test
 pub record MayDeliver (disk : Shape) (past : Past) (sessions : List Session) (entries : List Entry) (got : DeliveryRow) : Type 0 where

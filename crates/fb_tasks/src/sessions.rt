@@ -19,7 +19,7 @@ ghost use Rattle.fb_tasks.specs.Taken.{segment_rows_found, test_rows_found, rows
 ghost use Rattle.fb_tasks.specs.Standing.{HaveChosen, ends_of};
 ghost use Rattle.fb_tasks.specs.Leaving.{HasGrown, HasBegun, entries_by, OnlyRegisters, MayClean, OnlyTouched};
 ghost use Rattle.fb_tasks.specs.Writing.{left_by_write, left_in};
-ghost use Rattle.fb_tasks.specs.Telling.{Tells, MayTake, MaySettle, MayDeliver, IsSettled, IsCall, settled_at};
+ghost use Rattle.fb_tasks.specs.Telling.{Tells, MayTake, MaySettle, MayDeliver, IsSettled, IsCall, tested_at};
 
 use crate::session::{Session, Stamp};
 use crate::touched::{forget, next_noted, next_touched, note, note_touch};
@@ -140,8 +140,8 @@ impl Sessions {
         rows: &mut BackRows,
     ) -> Result<(), NoMemory>
         requires { (past : Past) × MaySettle map.now past self.old wanted.old }
-        ensures tells { OnOk result ((past : Past) → MaySettle map.now past self.old wanted.old → Tells map.now (settled_at map.now past now) self.new wanted.new) }
-        ensures settled { OnOk result ((past : Past) → MaySettle map.now past self.old wanted.old → IsSettled (settled_at map.now past now)) }
+        ensures tells { OnOk result ((past : Past) → MaySettle map.now past self.old wanted.old → Tells map.now (tested_at map.now past now) self.new wanted.new) }
+        ensures settled { OnOk result ((past : Past) → MaySettle map.now past self.old wanted.old → IsSettled (tested_at map.now past now)) }
         ensures rows { OnOk result ((past : Past) → MaySettle map.now past self.old wanted.old → rows.new ≡ rows.old ++ test_rows_found (with_choices map.now past) now) }
         ensures stay_sessions { OnlyTouched self.old self.new }
         ensures stay_blocks { OnlyRegisters (MayClean self.old) wanted.old wanted.new }
