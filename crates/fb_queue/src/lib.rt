@@ -6,12 +6,10 @@
 //! every pending request: they follow the definitions step by step, and don't promise speed.
 #![tactic(auto)]
 
-mod fcfs;
 mod keyed;
 mod policies;
 mod queue;
 
-pub use fcfs::Fcfs;
 pub use keyed::Keyed;
-pub use policies::{Clook, Nearest, Policy, Soonest, Sptf, Sstf, Upwards};
+pub use policies::{Clook, Earliest, Fcfs, Nearest, Policy, Soonest, Sptf, Sstf, Upwards};
 pub use queue::Queue;

@@ -2,7 +2,7 @@
 ghost use Rattle.std.specs.Prelude.{◌≡◌, [], ◌≤◌, ◌^◌, ◌*◌};
 ghost use Rattle.fb_geometry.specs.Shape.{IsTrackOf};
 ghost use Rattle.fb_model.specs.Accepted.{IsRequestOf};
-ghost use Rattle.fb_model.specs.PlainReplay.{Key, sstf, clook, sptf};
+ghost use Rattle.fb_model.specs.PlainReplay.{Key, fcfs, sstf, clook, sptf};
 
 use crate::Keyed;
 use fb_service::{Disk, first_pass};
@@ -21,6 +21,10 @@ pub trait Policy: Drop {
         ensures { result ≡ key disk.now head now request.now };
 }
 
+/// The request that joined first: all keys are 0.
+#[derive(Clone, Copy, Debug, Default, PartialEq, Eq)]
+pub struct Earliest;
+
 /// The nearest cylinder first: the key is the distance in cylinders.
 #[derive(Clone, Copy, Debug, Default, PartialEq, Eq)]
 pub struct Nearest;
@@ -37,6 +41,9 @@ pub struct Upwards;
 #[derive(Clone, Copy, Debug, Default, PartialEq, Eq)]
 pub struct Soonest;
 
+/// First come, first served.
+pub type Fcfs = Keyed<Earliest>;
+
 /// Shortest seek time first, by distance in cylinders.
 pub type Sstf = Keyed<Nearest>;
 
@@ -45,6 +52,14 @@ pub type Clook = Keyed<Upwards>;
 
 /// Shortest positioning time first.
 pub type Sptf = Keyed<Soonest>;
+
+impl Policy for Earliest {
+    ghost key = { fcfs };
+
+    fn key_of(&self, _disk: &Disk, _head: Track, _now: Ns, _request: &Request) -> u64 {
+        0
+    }
+}
 
 impl Policy for Nearest {
     ghost key = { sstf };
