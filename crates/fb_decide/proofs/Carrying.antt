@@ -208,11 +208,6 @@ carried_whole passages extents request blocks laid apart some =
     all_added passages extents request request.lbn request.count laid blocks apart []
     ∙ ap (λ bs. fold place_in [] (map (ride_of passages) bs)) (filter_same _ (lies_in request) blocks (all_weaker _ _ (begins request) blocks some))
 
--- each registered block, from each place
-pub each_entry : (P : Entry → Type 0) (entries : List Entry) → ((i : ℕ) (entry : Entry) → slice_get entries i ≡ Some entry → P entry) → AllByRecursion P entries
-each_entry P [] each = tt
-each_entry P (entry ∷ entries) each = (each 0 entry refl, each_entry P entries (λ i e at. each (suc i) e at))
-
 pub each_wanted : (P : Block → Type 0) (entries : List Entry) → AllByRecursion (λ entry. P entry.block) entries → AllByRecursion P (wanted_of entries)
 each_wanted P [] all = tt
 each_wanted P (entry ∷ entries) all = grind (arith, all.0, each_wanted P entries all.1)

@@ -26,7 +26,7 @@ pub use Rattle.fb_sectormap.specs.Lookup.{IsAt, neighbour, track_at}
 unfoldable pub use Rattle.fb_sectormap.specs.Lookup.{place_at}
 pub use Rattle.fb_seek.specs.Positioning.{distance_of, seek}
 unfoldable pub use Rattle.fb_seek.specs.Positioning.{pos}
-pub use Rattle.fb_service.proofs.Joining.{same_tracks}
+pub use Rattle.fb_geometry.proofs.Laws.{same_tracks}
 pub use Rattle.fb_service.proofs.Turning.{in-turn, later-after, over, slot-is, within-turn}
 pub use Rattle.fb_service.specs.Passing.{begin_angle, end_angle, turned}
 unfoldable pub use Rattle.fb_service.specs.Passing.{begin_from}

@@ -2,6 +2,7 @@
 use Rattle.std.proofs.Common.{◌≡◌, ℕ, zero, suc, ◌+◌, List, [], ◌∷◌, ◌++◌, map, take, drop, slice_get, Option, Some, refl, sym, ap, ◌∙◌, arith, append_assoc, append-nil}
 use Rattle.std.specs.List.{flat_map}
 use Rattle.std.proofs.lemmas.Grind.{flat_map-append}
+use Rattle.std.proofs.lemmas.List.{map-append}
 use Rattle.fb_rows.specs.declared.back.BackRow.{BackRow}
 use Rattle.fb_rows.specs.declared.back.BackRow.TheVariants.{Gap, Idle, Got, Bad, Seal, Segment, Complete, Task}
 use Rattle.fb_rows.specs.declared.back.SealRow.{SealRow}
@@ -29,10 +30,6 @@ row_added f rows i row old now new is so_far added =
     let whole : flat_map f (take (i + 1) rows) ≡ before ++ f row = ap (flat_map f) (taken_one rows i row is) ∙ flat_map-append f (take i rows) (row ∷ []) ∙ ap (λ es. before ++ es) (append-nil (f row)) in
     added ∙ ap (λ cs. cs ++ changes_of (f row)) so_far ∙ append_assoc old (changes_of before) (changes_of (f row))
     ∙ ap (λ cs. old ++ cs) (sym (ap changes_of whole ∙ flat_map-append changes_in before (f row)))
-
-map-append : {X Y : Type 0} (f : X → Y) (xs ys : List X) → map f (xs ++ ys) ≡ map f xs ++ map f ys
-map-append f [] ys = refl
-map-append f (x ∷ xs) ys = ap (λ rest. f x ∷ rest) (map-append f xs ys)
 
 pub run_added : (f : ContentRun → Change) (runs : List ContentRun) (i : ℕ) (run : ContentRun) (old now new : List Change) → slice_get runs i ≡ Some run
     → now ≡ old ++ map f (take i runs) → new ≡ now ++ f run ∷ [] → new ≡ old ++ map f (take (i + 1) runs)

@@ -25,7 +25,7 @@ use Rattle.fb_model.specs.Decisions.{Decision, serves, Act, serving, idling, end
 use Rattle.fb_model.specs.Rides.{begin_at, caught, delivery, due, end_at, gap_of, in_order, is_before, lies_in, missed, placed, rides}
 use Rattle.fb_model.specs.SoundRun.{HasPlan}
 use Rattle.fb_model.proofs.Lists.{all_append, all_both, all_filter}
-use Rattle.fb_model.proofs.Due.{IsCaughtIn, caught_true}
+use Rattle.fb_model.proofs.Due.{IsCaughtIn, all_filtered, caught_true}
 use Rattle.fb_model.proofs.Passages.{IsServiceOf, passed_between}
 use Rattle.fb_model.proofs.Written.{begun_after}
 use Rattle.fb_model.proofs.HistoriesUpTo.{HasSector}
@@ -104,19 +104,11 @@ ascend_ordered : (a : ℕ) (rows before : List DeliveryRow) → AllByRecursion (
 ascend_ordered a [] before from up = up
 ascend_ordered a (row ∷ rows) before from up = ascend_ordered a rows (placed before row) from.1 (ascend_placed a before row from.0 up)
 
-all_made : (P : DeliveryRow → Type 0) (Q : Block → Type 0) (test : Block → Bool) (f : Block → DeliveryRow) → ((block : Block) → Q block → test block ≡ true → P (f block)) → (blocks : List Block) → AllByRecursion Q blocks
-    → AllByRecursion P (map f (filter test blocks))
-all_made P Q test f each [] all = tt
-all_made P Q test f each (block ∷ blocks) all = elim (cases_Bool (test block)) [
-  | inl kept ↦ rw kept (each block all.0 kept, all_made P Q test f each blocks all.1)
-  | inr dropped ↦ rw dropped (all_made P Q test f each blocks all.1)
-]
-
 caught_ascend : (medium : Medium) (how : How) (dwell : Dwell) (blocks : List Block) → AllByRecursion HasSector blocks
     → Ascend dwell.begin (caught medium.disk (contents_at medium) how dwell blocks)
 caught_ascend medium how dwell blocks all = ascend_ordered dwell.begin
     (map (λ block. delivery (contents_at medium) how block (block_begin medium.disk.map block dwell.begin) (block_end medium.disk.map block dwell.begin)) (filter (catches medium.disk dwell) blocks)) []
-    (all_made (λ (row : DeliveryRow). dwell.begin ≤ row.end) HasSector (catches medium.disk dwell) (λ block. delivery (contents_at medium) how block (block_begin medium.disk.map block dwell.begin) (block_end medium.disk.map block dwell.begin))
+    (all_filtered (λ (row : DeliveryRow). dwell.begin ≤ row.end) HasSector (catches medium.disk dwell) (λ block. delivery (contents_at medium) how block (block_begin medium.disk.map block dwell.begin) (block_end medium.disk.map block dwell.begin))
     (λ block some is. let later = begins_later medium.disk block dwell.begin in let behind = ends_behind medium.disk block dwell.begin in omega (arith, later, behind)) blocks all) tt
 
 caught_by : (medium : Medium) (how : How) (dwell : Dwell) (blocks : List Block) → AllByRecursion HasSector blocks
@@ -151,7 +143,7 @@ rides_ascend medium served blocks is all = by served.request.write
     by : (write : Bool) → Ascend (media served) (if write then [] else in_order (map (λ block. delivery (contents_at medium) ByRide block (begin_at served.passages block.lbn) (end_at served.passages (block.lbn + block.count - 1))) (filter (lies_in served.request) blocks)))
     by true = tt
     by false = ascend_ordered (media served) (map (λ block. delivery (contents_at medium) ByRide block (begin_at served.passages block.lbn) (end_at served.passages (block.lbn + block.count - 1))) (filter (lies_in served.request) blocks)) []
-        (all_made (λ (row : DeliveryRow). media served ≤ row.end) HasSector (lies_in served.request) (λ block. delivery (contents_at medium) ByRide block (begin_at served.passages block.lbn) (end_at served.passages (block.lbn + block.count - 1)))
+        (all_filtered (λ (row : DeliveryRow). media served ≤ row.end) HasSector (lies_in served.request) (λ block. delivery (contents_at medium) ByRide block (begin_at served.passages block.lbn) (end_at served.passages (block.lbn + block.count - 1)))
         (λ block some lies. ride_end medium.disk served block is some lies) blocks all) tt
 
 -- the early dwell, then the late one

@@ -52,7 +52,7 @@ all_one : (P : DeliveryRow → Type 0) (b : Bool) (f : Block → DeliveryRow) (b
 all_one P true f block xs p ps = (p refl, ps)
 all_one P false f block xs p ps = ps
 
-all_filtered : (P : DeliveryRow → Type 0) (Q : Block → Type 0) (test : Block → Bool) (f : Block → DeliveryRow) → ((block : Block) → Q block → test block ≡ true → P (f block))
+pub all_filtered : (P : DeliveryRow → Type 0) (Q : Block → Type 0) (test : Block → Bool) (f : Block → DeliveryRow) → ((block : Block) → Q block → test block ≡ true → P (f block))
     → (blocks : List Block) → AllByRecursion Q blocks → AllByRecursion P (map f (filter test blocks))
 all_filtered P Q test f each [] qs = tt
 all_filtered P Q test f each (block ∷ blocks) qs = all_one P (test block) f block (filter test blocks) (each block qs.0) (all_filtered P Q test f each blocks qs.1)
@@ -101,30 +101,26 @@ IsDueRow disk contents (serving served plan) Q row = IsCaughtIn disk contents By
 IsDueRow disk contents (idling dwell) Q row = IsCaughtIn disk contents ByIdle dwell Q row
 IsDueRow disk contents (ending now) Q row = ⊥
 
+-- it has its bytes, and is of a block of which the wanted blocks' property holds
+due_both : (disk : Disk) (contents : ContentsAt) (act : Act) (Q : Block → Type 0) (row : DeliveryRow)
+    → IsDueRow disk contents act Q row → HasBytes contents row × Q row.block
+due_both disk contents (serving served plan) Q row due_row = elim due_row [
+  | inl early ↦ (early.bytes, early.one_of)
+  | inr others ↦ elim others [
+    | inl late ↦ (late.bytes, late.one_of)
+    | inr ride ↦ (ride.bytes, ride.one_of)
+  ]
+]
+due_both disk contents (idling dwell) Q row due_row = (due_row.bytes, due_row.one_of)
+due_both disk contents (ending now) Q row due_row = absurd due_row
+
 pub due_bytes : (disk : Disk) (contents : ContentsAt) (act : Act) (Q : Block → Type 0) (row : DeliveryRow)
     → IsDueRow disk contents act Q row → HasBytes contents row
-due_bytes disk contents (serving served plan) Q row due_row = elim due_row [
-  | inl early ↦ early.bytes
-  | inr others ↦ elim others [
-    | inl late ↦ late.bytes
-    | inr ride ↦ ride.bytes
-  ]
-]
-due_bytes disk contents (idling dwell) Q row due_row = due_row.bytes
-due_bytes disk contents (ending now) Q row due_row = absurd due_row
+due_bytes disk contents act Q row due_row = (due_both disk contents act Q row due_row).0
 
--- of a block of which the wanted blocks' property holds
 pub due_block : (disk : Disk) (contents : ContentsAt) (act : Act) (Q : Block → Type 0) (row : DeliveryRow)
     → IsDueRow disk contents act Q row → Q row.block
-due_block disk contents (serving served plan) Q row due_row = elim due_row [
-  | inl early ↦ early.one_of
-  | inr others ↦ elim others [
-    | inl late ↦ late.one_of
-    | inr ride ↦ ride.one_of
-  ]
-]
-due_block disk contents (idling dwell) Q row due_row = due_row.one_of
-due_block disk contents (ending now) Q row due_row = absurd due_row
+due_block disk contents act Q row due_row = (due_both disk contents act Q row due_row).1
 
 all_some : (P : DeliveryRow → Type 0) {xs ys : List DeliveryRow} → IsSublist xs ys → AllByRecursion P ys → AllByRecursion P xs
 all_some P none ps = ps

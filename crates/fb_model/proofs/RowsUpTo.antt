@@ -18,7 +18,7 @@ use Rattle.fb_model.specs.Images.{bad_sectors, is_scrub, findings, held_at_deliv
 use Rattle.fb_model.specs.Steps.{Delivery, with_delivery, task_row, task_rows}
 use Rattle.fb_model.specs.SoundRun.{AreFollowed}
 use Rattle.fb_model.specs.Known.{is_known, follows_known, only_if, known_from}
-use Rattle.fb_model.proofs.Lists.{all_append, all_map, all_flat_map, all_dropped, same_map, same_flat_map, is_by, is_after, after_is, same_first, same_rest, not_none}
+use Rattle.fb_model.proofs.Lists.{all_any, all_append, all_map, all_flat_map, all_dropped, same_map, same_flat_map, is_by, is_after, after_is, same_first, same_rest, not_none}
 use Rattle.fb_model.proofs.FullRuns.{gots}
 use Rattle.fb_model.proofs.ContentsUpTo.{HoldSame, same_contents}
 use Rattle.fb_model.proofs.HistoriesUpTo.{AreFine, HasBegun}
@@ -51,10 +51,6 @@ module _ (t : ℕ) where
   one_unknown true row h = (h, tt)
   one_unknown false row h = tt
 
-  all_of : {X : Type 0} (P : X → Type 0) → ((x : X) → P x) → (xs : List X) → AllByRecursion P xs
-  all_of P each [] = tt
-  all_of P each (x ∷ xs) = (each x, all_of P each xs)
-
   -- a test after t
   pub tests_unknown : (medium : Medium) (past : Past) (now : ℕ) → t < now → AllByRecursion (IsUnknown t) (test_rows medium past now)
   unfolding test_rows
@@ -64,7 +60,7 @@ module _ (t : ℕ) where
       (all_flat_map (IsUnknown t) (segment_rows (packed medium past) past now) (λ task.
       all_map (IsUnknown t) (λ choice. SegmentLine (record { task = task; segment = choice.segment.number; instant = now; live = live_count choice.segment; content = packed medium past choice }))
       (filter (is_newly_cleaned (work past task)) (choices past task))
-      (all_of (λ (choice : Choice). (follows : Bool) → nat_le now t ≡ false) (λ choice follows. late) (filter (is_newly_cleaned (work past task)) (choices past task)))) (task_numbers past))
+      (all_any (λ (choice : Choice). (follows : Bool) → nat_le now t ≡ false) (λ choice follows. late) (filter (is_newly_cleaned (work past task)) (choices past task)))) (task_numbers past))
       (all_flat_map (IsUnknown t) (λ task. seal_rows (image medium past task now) past now task ++ complete_rows past now task) (λ task.
       all_append (IsUnknown t) (seal_rows (image medium past task now) past now task) (complete_rows past now task)
       (one_unknown (is_open_backup past task && is_complete past task) (SealLine (record { task = task; instant = now; content = image medium past task now })) (λ follows. late))

@@ -1,11 +1,10 @@
 -- An extent that goes on where the one before it ends.
 use Rattle.std.proofs.Common.{◌≡◌, ℕ, zero, suc, ◌+◌, ◌-◌, ◌<◌, ◌≤◌, List, [], ◌∷◌, ◌++◌, map, true, refl, ap, sym, ◌∙◌, arith, inl, inr, subst}
 use Rattle.std.specs.List.{range_with_len, AllByRecursion}
-use Rattle.std.specs.Prelude.{◌==◌}
-use Rattle.std.proofs.lemmas.Bool.{cases_lt, and_parts, eqb-true}
-use Rattle.fb_units.specs.declared.types.Track.{Track}
-use Rattle.fb_units.specs.Tracks.{same_track}
+use Rattle.std.proofs.lemmas.Bool.{cases_lt}
+use Rattle.std.proofs.lemmas.List.{map-append}
 use Rattle.fb_geometry.specs.Shape.{Shape}
+use Rattle.fb_geometry.proofs.Turns.{range-append}
 use Rattle.fb_sectormap.specs.Lookup.{place_at}
 use Rattle.fb_service.specs.declared.passage.Passage.{Passage}
 use Rattle.fb_service.specs.declared.passage.Extent.{Extent}
@@ -15,11 +14,6 @@ use Rattle.fb_service.specs.Extents.{passages_of, FollowOn, IsUnbroken}
 use Rattle.fb_service.proofs.Passes.{same_passage}
 use Rattle.fb_service.proofs.Serving.{from_begin}
 
-pub same_tracks : (a b : Track) → same_track a b ≡ true → a ≡ b
-same_tracks a b h =
-    let parts = and_parts (a.cylinder == b.cylinder) (a.head == b.head) h in
-    ap (λ c. record { cylinder = c; head = a.head }) (eqb-true a.cylinder b.cylinder parts.0) ∙ ap (λ k. record { cylinder = b.cylinder; head = k }) (eqb-true a.head b.head parts.1)
-
 -- passages without a wait, one after another
 pub follow-append : (t u end : ℕ) (ps qs : List Passage) → FollowOn t ps u → FollowOn u qs end → FollowOn t (ps ++ qs) end
 follow-append t u end [] qs before after = subst (λ x. FollowOn x qs end) (sym before) after
@@ -28,16 +22,6 @@ follow-append t u end (p ∷ ps) qs before after = (before.0, follow-append p.en
 pub all-more : {A : Type 0} (P : A → Type 0) (xs : List A) (x : A) → AllByRecursion P xs → P x → AllByRecursion P (xs ++ x ∷ [])
 all-more P [] x all one = (one, tt)
 all-more P (y ∷ ys) x all one = (all.0, all-more P ys x all.1 one)
-
-range-both : (a m n : ℕ) → range_with_len a (m + n) ≡ range_with_len a m ++ range_with_len (a + m) n
-range-both a zero n = ap (range_with_len a) (let none : 0 + n ≡ n = omega arith in none) ∙ ap (λ x. range_with_len x n) (let same : a ≡ a + 0 = omega arith in same)
-range-both a (suc m) n =
-    ap (range_with_len a) (let more : suc m + n ≡ suc (m + n) = omega arith in more)
-    ∙ ap (λ xs. a ∷ xs) (range-both (a + 1) m n ∙ ap (λ x. range_with_len (a + 1) m ++ range_with_len x n) (let same : a + 1 + m ≡ a + suc m = omega arith in same))
-
-map-both : {A B : Type 0} (f : A → B) (xs ys : List A) → map f (xs ++ ys) ≡ map f xs ++ map f ys
-map-both f [] ys = refl
-map-both f (x ∷ xs) ys = ap (λ zs. f x ∷ zs) (map-both f xs ys)
 
 module _ (disk : Shape) (first other begin next end : ℕ) where
   -- passages that end later than t begin no earlier
@@ -77,8 +61,8 @@ module _ (disk : Shape) (last next joined : Extent) (unbroken : IsUnbroken disk 
       ap (λ f. map (λ i. passage_from disk (f + i) joined.begin) (range_with_len 0 joined.count)) same-first
       ∙ ap (λ b. map (λ i. passage_from disk (last.first + i) b) (range_with_len 0 joined.count)) same-begin
       ∙ ap (λ n. map (λ i. passage_from disk (last.first + i) last.begin) (range_with_len 0 n)) size
-      ∙ ap (map (λ i. passage_from disk (last.first + i) last.begin)) (range-both 0 last.count next.count)
-      ∙ map-both (λ i. passage_from disk (last.first + i) last.begin) (range_with_len 0 last.count) (range_with_len (0 + last.count) next.count)
+      ∙ ap (map (λ i. passage_from disk (last.first + i) last.begin)) (range-append 0 last.count next.count)
+      ∙ map-append (λ i. passage_from disk (last.first + i) last.begin) (range_with_len 0 last.count) (range_with_len (0 + last.count) next.count)
       ∙ ap (λ x. passages_of disk last ++ map (λ i. passage_from disk (last.first + i) last.begin) (range_with_len x next.count)) (let same : 0 + last.count ≡ last.count + 0 = omega arith in same)
       ∙ ap (λ ps. passages_of disk last ++ ps) (same-passages disk last.first next.first last.begin next.begin next.end last.count 0 next.count next.begin behind
       (λ x more less. timed.angle x (omega arith)) (λ x more less. timed.long x (omega arith)) (omega arith) turn goes_on.without_wait)

@@ -7,7 +7,7 @@ use Rattle.std.proofs.lemmas.Option.{slice_get-map}
 pub use Rattle.fb_geometry.proofs.Faultless.{all_get as all_at, find-none as find_none, list_any-none as none_pass}
 pub use Rattle.fb_calls.proofs.Lists.{all_weaker}
 pub use Rattle.fb_wanted.proofs.Standing.{get_some as some_at}
-pub use Rattle.fb_model.proofs.Lists.{all_append, all_left, all_right, all_map, all_filter, none_kept as filter_none}
+pub use Rattle.fb_model.proofs.Lists.{all_any, all_append, all_left, all_right, all_map, all_filter, none_kept as filter_none}
 
 pub some_same : {X : Type 0} (x y : X) → Some x ≡ Some y → x ≡ y
 some_same x y h = cc
@@ -15,10 +15,6 @@ some_same x y h = cc
 pub all_with : {X : Type 0} (P Q R : X → Type 0) → ((x : X) → P x → Q x → R x) → (xs : List X) → AllByRecursion P xs → AllByRecursion Q xs → AllByRecursion R xs
 all_with P Q R f [] p q = tt
 all_with P Q R f (x ∷ xs) p q = (f x p.0 q.0, all_with P Q R f xs p.1 q.1)
-
-pub all_any : {X : Type 0} (P : X → Type 0) → ((x : X) → P x) → (xs : List X) → AllByRecursion P xs
-all_any P f [] = tt
-all_any P f (x ∷ xs) = (f x, all_any P f xs)
 
 pub all_placed : {X : Type 0} (P : X → Type 0) (xs : List X) → ((i : ℕ) (x : X) → slice_get xs i ≡ Some x → P x) → AllByRecursion P xs
 all_placed P [] f = tt

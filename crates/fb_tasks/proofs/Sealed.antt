@@ -13,6 +13,7 @@ use Rattle.fb_tasks.proofs.Words.{take-length, all_both, list_any-append}
 use Rattle.fb_tasks.proofs.{Complete.counts_same, States.seen, Registered.own, States.shown_aborted, Changes.open_by}
 use Rattle.std.proofs.lemmas.Grind.{flat_map-append}
 use Rattle.fb_geometry.proofs.Turns.{range-append}
+pub use Rattle.fb_store.proofs.Originals.{inside as within, before as before_it, after as behind_it}
 
 -- ascending blocks begin at the first sector or after it
 pub ascend_from : (low : ℕ) (bs : List Block) → Ascend low bs → AllByRecursion (λ b. low ≤ b.lbn) bs
@@ -27,15 +28,6 @@ held_same f g a (suc n) same = rw (same a (omega arith) (omega arith), held_same
 pub held_all : (f : ℕ → Option Content) (content_at : ℕ → Content) (a n : ℕ) → ((lbn : ℕ) → a ≤ lbn → lbn < a + n → f lbn ≡ Some (content_at lbn)) → held_in f (range_with_len a n) ≡ map (λ lbn. (lbn, content_at lbn)) (range_with_len a n)
 held_all f content_at a zero same = refl
 held_all f content_at a (suc n) same = rw (same a (omega arith) (omega arith), held_all f content_at (a + 1) n (λ lbn le lt. same lbn (omega arith) (omega arith))) refl
-
-pub within : (a n lbn : ℕ) → a ≤ lbn → lbn < a + n → is_within a n lbn ≡ true
-within a n lbn le lt = grind (arith, nat_tests)
-
-pub before_it : (a n lbn : ℕ) → lbn < a → is_within a n lbn ≡ false
-before_it a n lbn lt = grind (arith, nat_tests)
-
-pub behind_it : (a n lbn : ℕ) → a + n ≤ lbn → is_within a n lbn ≡ false
-behind_it a n lbn le = grind (arith, nat_tests)
 
 held_none : (now : ℕ → Option Content) (a n : ℕ) → ((k : ℕ) → a ≤ k → k < a + n → now k ≡ None) → held_in now (range_with_len a n) ≡ []
 held_none now a zero none = refl
