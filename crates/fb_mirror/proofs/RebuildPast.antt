@@ -78,39 +78,25 @@ rebuilding_weaker P Q disk past more is = record { events = is.events; is = is.i
 -- ---- its task and its blocks
 
 module _ (P : DeliveryRow → Type 0) (disk : Shape) where
-  tasks_then : (events : Past) → AreQuiet P events → tasks (events ++ begun disk) ≡ backup_terms ∷ []
-  tasks_then [] quiet = refl
-  tasks_then (called call blocks ∷ events) quiet = absurd quiet.0
-  tasks_then (chose task segment blocks ∷ events) quiet = absurd quiet.0
-  tasks_then (tested rows ∷ events) quiet = tasks_then events quiet.1
-  tasks_then (delivered row ∷ events) quiet = tasks_then events quiet.1
-  tasks_then (finished request ∷ events) quiet = tasks_then events quiet.1
-
-  registered_then : (events : Past) → AreQuiet P events → registered (events ++ begun disk) ≡ disk_blocks disk
-  registered_then [] quiet = refl
-  registered_then (called call blocks ∷ events) quiet = absurd quiet.0
-  registered_then (chose task segment blocks ∷ events) quiet = absurd quiet.0
-  registered_then (tested rows ∷ events) quiet = registered_then events quiet.1
-  registered_then (delivered row ∷ events) quiet = registered_then events quiet.1
-  registered_then (finished request ∷ events) quiet = registered_then events quiet.1
-
-  taken_then : (events : Past) → AreQuiet P events → length (calls_of (events ++ begun disk)) ≡ 2
-  taken_then [] quiet = refl
-  taken_then (called call blocks ∷ events) quiet = absurd quiet.0
-  taken_then (chose task segment blocks ∷ events) quiet = absurd quiet.0
-  taken_then (tested rows ∷ events) quiet = taken_then events quiet.1
-  taken_then (delivered row ∷ events) quiet = taken_then events quiet.1
-  taken_then (finished request ∷ events) quiet = taken_then events quiet.1
+  -- quiet events leave the task, its blocks and the calls as they began
+  kept_then : (events : Past) → AreQuiet P events
+      → (tasks (events ++ begun disk) ≡ backup_terms ∷ []) × (registered (events ++ begun disk) ≡ disk_blocks disk) × (length (calls_of (events ++ begun disk)) ≡ 2)
+  kept_then [] quiet = (refl, refl, refl)
+  kept_then (called call blocks ∷ events) quiet = absurd quiet.0
+  kept_then (chose task segment blocks ∷ events) quiet = absurd quiet.0
+  kept_then (tested rows ∷ events) quiet = kept_then events quiet.1
+  kept_then (delivered row ∷ events) quiet = kept_then events quiet.1
+  kept_then (finished request ∷ events) quiet = kept_then events quiet.1
 
   module _ (past : Past) (is : IsRebuilding P disk past) where
     task_is : tasks past ≡ backup_terms ∷ []
-    task_is = ap tasks is.is ∙ tasks_then is.events is.quiet
+    task_is = ap tasks is.is ∙ (kept_then is.events is.quiet).0
 
     blocks_are : registered past ≡ disk_blocks disk
-    blocks_are = ap registered is.is ∙ registered_then is.events is.quiet
+    blocks_are = ap registered is.is ∙ (kept_then is.events is.quiet).1
 
     taken_are : length (calls_of past) ≡ 2
-    taken_are = ap (λ past. length (calls_of past)) is.is ∙ taken_then is.events is.quiet
+    taken_are = ap (λ past. length (calls_of past)) is.is ∙ (kept_then is.events is.quiet).2
 
 -- ---- decisions
 
