@@ -2,6 +2,7 @@
 use Rattle.std.proofs.Common.{◌≡◌, ℕ, ◌+◌, ◌<◌, List, [], ◌∷◌, ◌++◌, Option, Some, None, Bool, true, false, refl, arith, ap, ap₂, sym, ◌∙◌, length, cond, take, slice_get, append-nil, zero, suc, ◌&&◌, ◌≤◌, IfSome, IfNone}
 use Rattle.std.specs.List.{best_of}
 use Rattle.std.proofs.lemmas.List.{take_all}
+use Rattle.std.proofs.lemmas.Option.{same_Some}
 use Rattle.fb_clean.specs.Segments.{LogSegment, is_better, first_best, waiting}
 use Rattle.fb_clean.specs.Best.{HoldsBest, beats_one, best_at, beats_best}
 
@@ -26,9 +27,6 @@ best_step false s xs = ap first_best (append-nil xs) ∙ sym (not_left s (first_
 best_step true s [] = refl
 best_step true s (x ∷ xs) = ap Some (best_of-more x s xs) ∙ some_cond (is_better s (best_of is_better x xs)) s (best_of is_better x xs)
 
-some_one : {X : Type 0} (x y : X) → Some x ≡ Some y → x ≡ y
-some_one x y e = grind arith
-
 waiting_one : (w : Bool) (s : LogSegment) → s.waits ≡ w → waiting (s ∷ []) ≡ cond w (s ∷ []) []
 waiting_one true s e = rw e refl
 waiting_one false s e = rw e refl
@@ -40,7 +38,7 @@ waiting_cons false x xs ys zs e = e
 -- those left to choose up to one more place
 waiting_more : (segments : List LogSegment) (n : ℕ) (s : LogSegment) → slice_get segments n ≡ Some s → waiting (take (n + 1) segments) ≡ waiting (take n segments) ++ cond s.waits (s ∷ []) []
 waiting_more [] n s at = absurd (grind arith)
-waiting_more (x ∷ segments) zero s at = ap (λ one. waiting (one ∷ [])) (some_one x s at) ∙ waiting_one s.waits s refl
+waiting_more (x ∷ segments) zero s at = ap (λ one. waiting (one ∷ [])) (same_Some x s at) ∙ waiting_one s.waits s refl
 waiting_more (x ∷ segments) (suc n) s at =
     let more : suc n + 1 ≡ suc (n + 1) = omega arith in
     ap (λ k. waiting (take k (x ∷ segments))) more ∙ waiting_cons x.waits x (take (n + 1) segments) (take n segments) (cond s.waits (s ∷ []) []) (waiting_more segments n s at)

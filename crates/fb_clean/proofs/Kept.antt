@@ -4,6 +4,7 @@ use Rattle.std.specs.Option.{is_some}
 use Rattle.std.specs.List.{AllByRecursion, flat_map, range_with_len}
 use Rattle.std.proofs.lemmas.Bool.Decides.{nat_tests}
 use Rattle.std.proofs.lemmas.List.{length_push, length-map, get_or_default, get_or-map}
+use Rattle.std.proofs.lemmas.Option.{same_Some}
 use Rattle.fb_store.specs.declared.content.Content.{Content}
 use Rattle.fb_store.specs.declared.content.ContentRun.{ContentRun}
 use Rattle.fb_store.specs.Index.{held_at}
@@ -12,13 +13,10 @@ use Rattle.fb_store.specs.Runs.{runs_of}
 use Rattle.fb_clean.specs.Segments.{LogSegment, Cleaning, left_out, without, number_of, first_best, waiting, choice_while, packed_sectors}
 use Rattle.fb_clean.specs.Numbers.{AreNumbered, AreWithin, IsSound}
 
-some_one : {X : Type 0} (x y : X) → Some x ≡ Some y → x ≡ y
-some_one x y e = grind arith
-
 -- the number of a segment says its place
 pub number_at : (n : ℕ) (segments : List LogSegment) (i : ℕ) (s : LogSegment) → AreNumbered n segments → slice_get segments i ≡ Some s → s.number ≡ n + i
 number_at n [] i s numbered at = absurd (grind arith)
-number_at n (x ∷ segments) zero s numbered at = let own = ap (λ y. y.number) (some_one x s at) in let first = numbered.0 in omega arith
+number_at n (x ∷ segments) zero s numbered at = let own = ap (λ y. y.number) (same_Some x s at) in let first = numbered.0 in omega arith
 number_at n (x ∷ segments) (suc i) s numbered at = let rest = number_at (n + 1) segments i s numbered.1 at in omega arith
 
 pub numbered_map : (f : LogSegment → LogSegment) → ((s : LogSegment) → (f s).number ≡ s.number) → (n : ℕ) (segments : List LogSegment) → AreNumbered n segments → AreNumbered n (map f segments)
@@ -39,7 +37,7 @@ within_more block (x ∷ segments) s within here = (within.0, within_more block 
 
 pub within_at : (block : ℕ) (segments : List LogSegment) (i : ℕ) (s : LogSegment) → AreWithin block segments → slice_get segments i ≡ Some s → AllByRecursion (λ lbn. lbn + block ≤ 10 ^ 12) s.live
 within_at block [] i s within at = absurd (grind arith)
-within_at block (x ∷ segments) zero s within at = subst (λ y. AllByRecursion (λ lbn. lbn + block ≤ 10 ^ 12) y.live) (some_one x s at) within.0
+within_at block (x ∷ segments) zero s within at = subst (λ y. AllByRecursion (λ lbn. lbn + block ≤ 10 ^ 12) y.live) (same_Some x s at) within.0
 within_at block (x ∷ segments) (suc i) s within at = within_at block segments i s within.1 at
 
 -- leaving one segment out
@@ -74,7 +72,7 @@ without_set n [] i s numbered at = absurd (grind arith)
 without_set n (x ∷ segments) zero s numbered at =
     let own = numbered.0 in
     let here : n + 0 ≡ n = omega arith in
-    ap (λ y. left_out y ∷ segments) (sym (some_one x s at))
+    ap (λ y. left_out y ∷ segments) (sym (same_Some x s at))
     ∙ sym (ap₂ (λ b rest. cond b (left_out x) x ∷ rest) (own_number x.number (n + 0) (omega arith)) (without_none (n + 0) (n + 1) segments numbered.1 (omega arith)))
 without_set n (x ∷ segments) (suc i) s numbered at =
     let own = numbered.0 in
@@ -114,7 +112,7 @@ sound_chosen block segments now unfinished taken i s sound at less e =
       few = omega arith;
       within = subst (AreWithin block) (sym e) (within_without (1 + i) block segments sound.within);
       as_many = omega arith;
-      known = λ n is. let same = some_one (i + 1) n is in (omega arith, omega arith);
+      known = λ n is. let same = same_Some (i + 1) n is in (omega arith, omega arith);
     }
 
 -- all left out
@@ -142,7 +140,7 @@ sound_either (Err e) block segments more unfinished taken more_taken s held soun
 
 pub get_one : (segments : List LogSegment) (i : ℕ) (s d : LogSegment) → slice_get segments i ≡ Some s → get_or segments i d ≡ s
 get_one [] i s d at = absurd (grind arith)
-get_one (x ∷ segments) zero s d at = some_one x s at
+get_one (x ∷ segments) zero s d at = same_Some x s at
 get_one (x ∷ segments) (suc i) s d at = get_one segments i s d at
 
 -- leaving out the segment at a place

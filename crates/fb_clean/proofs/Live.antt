@@ -1,6 +1,7 @@
 -- Where the live blocks of a segment begin.
 use Rattle.std.proofs.Common.{◌≡◌, ℕ, ◌+◌, ◌*◌, ◌≤◌, List, [], ◌∷◌, ◌++◌, Bool, true, false, refl, arith, ap, sym, ◌∙◌, length, filter, cond, drop, append_assoc, Some, slice_get, subst, zero, suc}
 use Rattle.std.specs.List.{AllByRecursion}
+use Rattle.std.proofs.lemmas.Option.{same_Some}
 use Rattle.fb_clean.specs.Segments.{live_blocks}
 
 -- they are as many as are named live
@@ -20,12 +21,9 @@ live_blocks-within block first bound [] within = tt
 live_blocks-within block first bound (true ∷ live) within = (omega arith, live_blocks-within block (first + block) bound live (omega arith))
 live_blocks-within block first bound (false ∷ live) within = live_blocks-within block (first + block) bound live (omega arith)
 
-some_one : {X : Type 0} (x y : X) → Some x ≡ Some y → x ≡ y
-some_one x y e = grind arith
-
 drop_one : (live : List Bool) (i : ℕ) (is_live : Bool) → slice_get live i ≡ Some is_live → drop i live ≡ is_live ∷ drop (i + 1) live
 drop_one [] i is_live at = absurd (grind arith)
-drop_one (x ∷ live) zero is_live at = ap (λ y. y ∷ live) (some_one x is_live at)
+drop_one (x ∷ live) zero is_live at = ap (λ y. y ∷ live) (same_Some x is_live at)
 drop_one (x ∷ live) (suc i) is_live at = let more : suc i + 1 ≡ suc (i + 1) = omega arith in rw more (drop_one live i is_live at)
 
 less_room : (n m lbn block bound : ℕ) → n ≡ suc m → lbn + n * block ≤ bound → lbn + block + m * block ≤ bound

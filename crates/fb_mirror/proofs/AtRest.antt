@@ -7,6 +7,7 @@ use Rattle.std.proofs.lemmas.Bool.{cases_Bool, cases_lt}
 use Rattle.std.proofs.lemmas.List.{map-append}
 use Rattle.std.proofs.lemmas.List.Elements.{filter-append}
 use Rattle.std.proofs.lemmas.List.Concat.{flat_map-append}
+use Rattle.std.proofs.lemmas.Option.{same_Some, none-some}
 use Rattle.fb_geometry.specs.Sound.{IsSound}
 use Rattle.fb_service.specs.declared.disk.Disk.{Disk}
 use Rattle.fb_store.specs.declared.content.Content.{Content}
@@ -25,7 +26,6 @@ use Rattle.fb_model.proofs.Lists.{all_append, all_left, all_unmapped, after_is, 
 use Rattle.fb_model.proofs.Passages.{served_between}
 use Rattle.fb_mirror.specs.Replacement.{Event, decided, deliveries_in, events, given, held_after, later, writes_in}
 use Rattle.fb_mirror.specs.Survivor.{IsAtRest, events_by}
-use Rattle.fb_mirror.proofs.EventLaws.{none_some, same_one}
 use Rattle.fb_mirror.proofs.Survival.{IsFoundAfter, back_found, decided-append, one_decides, rows_found, some_decided, survives_all, wrote}
 use Rattle.fb_mirror.proofs.Writing.{AreServed, all_late, all_writes, are_served, content_then, ended, free_until, late, medium_with}
 
@@ -134,8 +134,8 @@ given_at : (lbn : ℕ) (event : Event) (last : ℕ × Content) → given lbn eve
 given_at lbn event last is = by (after_taking (sectors_of event.contents) lbn None) is
   where
     by : (held : Option Content) → option_map (λ c. (event.instant, c)) held ≡ Some last → event.instant ≡ last.0
-    by None none = absurd (none_some last none)
-    by (Some c) some = ap (λ p. p.0) (same_one (event.instant, c) last some)
+    by None none = absurd (none-some last none)
+    by (Some c) some = ap (λ p. p.0) (same_Some (event.instant, c) last some)
 
 kept_found : (disk : Disk) (t : ℕ) (latent : List ℕ) (replay : List Served) (lbn : ℕ) (cut : IsCut disk t replay) (events : List Event)
     → AllByRecursion (λ event. (last : ℕ × Content) → given lbn event ≡ Some last → IsFoundAfter latent replay lbn last) events

@@ -1,12 +1,12 @@
 -- The lines of a copy by their index.
 use Rattle.std.proofs.Common.{◌≡◌, ℕ, zero, suc, ◌-◌, ◌<◌, ◌≤◌, List, [], ◌∷◌, ◌++◌, length, map, slice_get, Some, refl, ap, ◌∙◌, arith}
+use Rattle.std.proofs.lemmas.Option.{same_Some}
 use Rattle.fb_store.specs.declared.content.ContentRun.{ContentRun}
 use Rattle.fb_mirror.specs.Copy.{run_line}
-use Rattle.fb_mirror.proofs.EventLaws.{same_one}
 
 at_run : (runs : List ContentRun) (last : List ℕ) (i : ℕ) (run : ContentRun) → slice_get runs i ≡ Some run → slice_get (map run_line runs ++ last ∷ []) i ≡ Some (run_line run)
 at_run [] last i run is = absurd (grind arith)
-at_run (first ∷ runs) last zero run is = ap (λ r. Some (run_line r)) (same_one first run is)
+at_run (first ∷ runs) last zero run is = ap (λ r. Some (run_line r)) (same_Some first run is)
 at_run (first ∷ runs) last (suc i) run is = at_run runs last i run is
 
 at_last : (runs : List ContentRun) (last : List ℕ) (i : ℕ) → length runs ≤ i → i < length (map run_line runs ++ last ∷ []) → slice_get (map run_line runs ++ last ∷ []) i ≡ Some last

@@ -5,6 +5,7 @@ use Rattle.std.specs.List.{AllByRecursion}
 use Rattle.std.specs.Option.{option_map}
 use Rattle.std.proofs.lemmas.Bool.{cases_Bool}
 use Rattle.std.proofs.lemmas.Bool.Decides.{nat_tests}
+use Rattle.std.proofs.lemmas.Option.{none-some, same_Some}
 use Rattle.fb_store.specs.declared.content.Content.{Content}
 use Rattle.fb_store.specs.declared.content.Content.TheVariants.{Filled}
 use Rattle.fb_store.specs.declared.content.ContentRun.{ContentRun}
@@ -35,19 +36,13 @@ pub delivery_gives : (row : DeliveryRow) (content_of : ℕ → Content) (lbn : �
 delivery_gives row content_of lbn gives =
     one_decides (is_within row.block.lbn row.block.count lbn) row.end (content_of lbn) (after_taking (sectors_of row.content) lbn None) (taken_block content_of row.block.lbn row.block.count lbn (sectors_of row.content) None gives)
 
-pub none_some : {X : Type 0} (x : X) → None ≡ Some x → ⊥
-none_some x e = grind arith
-
-pub same_one : {X : Type 0} (x y : X) → Some x ≡ Some y → x ≡ y
-same_one x y e = grind arith
-
 one_or : (one other : ℕ × Content) (b : Bool) → cond b (Some one) (Some other) ≡ None → ⊥
-one_or one other true e = none_some one (sym e)
-one_or one other false e = none_some other (sym e)
+one_or one other true e = none-some one (sym e)
+one_or one other false e = none-some other (sym e)
 
 none_of : (first rest : Option (ℕ × Content)) → later first rest ≡ None → (first ≡ None) × (rest ≡ None)
 none_of None rest e = (refl, e)
-none_of (Some one) None e = absurd (none_some one (sym e))
+none_of (Some one) None e = absurd (none-some one (sym e))
 none_of (Some one) (Some other) e = absurd (one_or one other (nat_lt other.0 one.0) e)
 
 -- where none decides, none concerns the sector
@@ -60,7 +55,7 @@ Below lbn end other = (that : ℕ × Content) → given lbn other ≡ Some that 
 
 nothing_below : (lbn end : ℕ) (events : List Event) → AllByRecursion (λ event. given lbn event ≡ None) events → AllByRecursion (Below lbn end) events
 nothing_below lbn end [] none = tt
-nothing_below lbn end (event ∷ events) none = (λ that is. absurd (none_some that (sym none.0 ∙ is)), nothing_below lbn end events none.1)
+nothing_below lbn end (event ∷ events) none = (λ that is. absurd (none-some that (sym none.0 ∙ is)), nothing_below lbn end events none.1)
 
 below_more : (lbn end : ℕ) (one other : List Event) → AllByRecursion (Below lbn end) one → AllByRecursion (Below lbn end) other → AllByRecursion (Below lbn end) (one ++ other)
 below_more lbn end [] other first second = second
@@ -77,7 +72,7 @@ below_earlier lbn instant end (event ∷ events) less all = (λ that is. let her
 -- all events are earlier than what is later than the one that decides
 all_below : (lbn end : ℕ) (events : List Event) (last : ℕ × Content) → last.0 < end → Decides lbn events last → AllByRecursion (Below lbn end) events
 all_below lbn end events last less decides =
-    let here : Below lbn end decides.event = λ that is. let same = ap (λ p. p.0) (same_one last that (sym decides.gives ∙ is)) in omega arith in
+    let here : Below lbn end decides.event = λ that is. let same = ap (λ p. p.0) (same_Some last that (sym decides.gives ∙ is)) in omega arith in
     subst (AllByRecursion (Below lbn end)) (sym decides.split)
     (below_more lbn end decides.before (decides.event ∷ decides.behind) (below_later lbn last.0 end decides.before less decides.no_later) (here, below_earlier lbn last.0 end decides.behind less decides.earlier))
 
@@ -97,23 +92,23 @@ at_front lbn event events last gives earlier = record { before = []; event = eve
 
 one_more : (lbn : ℕ) (event : Event) (events : List Event) (last : ℕ × Content) (first rest : Option (ℕ × Content)) → given lbn event ≡ first → decided lbn events ≡ rest → later first rest ≡ Some last
     → ((other : ℕ × Content) → decided lbn events ≡ Some other → Decides lbn events other) → Decides lbn (event ∷ events) last
-one_more lbn event events last None rest f r e so_far = behind_one lbn event events last (λ that is. absurd (none_some that (sym f ∙ is))) (so_far last (r ∙ e))
+one_more lbn event events last None rest f r e so_far = behind_one lbn event events last (λ that is. absurd (none-some that (sym f ∙ is))) (so_far last (r ∙ e))
 one_more lbn event events last (Some one) None f r e so_far = at_front lbn event events last (f ∙ e) (nothing_below lbn last.0 events (none_given lbn events r))
 one_more lbn event events last (Some one) (Some other) f r e so_far = elim (cases_Bool (nat_lt other.0 one.0)) [
   | inl less ↦
       let is_one = sym (ap (λ b. cond b (Some one) (Some other)) less) ∙ e in
-      let same = ap (λ p. p.0) (same_one one last is_one) in
+      let same = ap (λ p. p.0) (same_Some one last is_one) in
       let before : other.0 < one.0 = grind (arith, nat_tests) in
       let under : other.0 < last.0 = omega arith in
       at_front lbn event events last (f ∙ is_one) (all_below lbn last.0 events other under (so_far other r))
   | inr more ↦
       let is_other = sym (ap (λ b. cond b (Some one) (Some other)) more) ∙ e in
-      let same = ap (λ p. p.0) (same_one other last is_other) in
+      let same = ap (λ p. p.0) (same_Some other last is_other) in
       let behind : one.0 ≤ other.0 = grind (arith, nat_tests) in
-      behind_one lbn event events last (λ that is. let first = ap (λ p. p.0) (same_one one that (sym f ∙ is)) in omega arith) (so_far last (r ∙ is_other))
+      behind_one lbn event events last (λ that is. let first = ap (λ p. p.0) (same_Some one that (sym f ∙ is)) in omega arith) (so_far last (r ∙ is_other))
 ]
 
 -- the latest of the events that concern a sector decides, and of equals the last
 pub latest_decides : (lbn : ℕ) (events : List Event) (last : ℕ × Content) → decided lbn events ≡ Some last → Decides lbn events last
-latest_decides lbn [] last is = absurd (none_some last is)
+latest_decides lbn [] last is = absurd (none-some last is)
 latest_decides lbn (event ∷ events) last is = one_more lbn event events last (given lbn event) (decided lbn events) refl refl is (λ other so. latest_decides lbn events other so)

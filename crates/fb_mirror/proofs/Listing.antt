@@ -2,7 +2,8 @@
 use Rattle.std.proofs.Common.{◌≡◌, ℕ, zero, suc, ◌+◌, List, [], ◌∷◌, ◌++◌, map, take, drop, slice_get, Option, Some, refl, sym, ap, ◌∙◌, arith, append_assoc, append-nil}
 use Rattle.std.specs.List.{flat_map}
 use Rattle.std.proofs.lemmas.Grind.{flat_map-append}
-use Rattle.std.proofs.lemmas.List.{map-append}
+use Rattle.std.proofs.lemmas.List.{drop_more, map-append, take_more}
+use Rattle.std.proofs.lemmas.Option.{get_or_from_slice_get, slice_get_within}
 use Rattle.fb_rows.specs.declared.back.BackRow.{BackRow}
 use Rattle.fb_rows.specs.declared.back.BackRow.TheVariants.{Gap, Idle, Got, Bad, Seal, Segment, Complete, Task}
 use Rattle.fb_rows.specs.declared.back.SealRow.{SealRow}
@@ -10,17 +11,12 @@ use Rattle.fb_store.specs.declared.content.ContentRun.{ContentRun}
 use Rattle.fb_mirror.specs.declared.changes.Change.{Change}
 use Rattle.fb_mirror.specs.Changes.{changes_in, changes_of}
 use Rattle.fb_mirror.specs.Replacement.{Event, sealed_by, sealed_in}
-use Rattle.fb_mirror.proofs.EventLaws.{same_one}
 
 taken_one : {X : Type 0} (xs : List X) (i : ℕ) (x : X) → slice_get xs i ≡ Some x → take (i + 1) xs ≡ take i xs ++ x ∷ []
-taken_one [] i x is = absurd (grind arith)
-taken_one (first ∷ xs) zero x is = ap (λ y. y ∷ []) (same_one first x is)
-taken_one (first ∷ xs) (suc i) x is = let more : suc i + 1 ≡ suc (i + 1) = omega arith in rw more (ap (λ rest. first ∷ rest) (taken_one xs i x is))
+taken_one xs i x is = take_more xs i x (slice_get_within xs i x is) ∙ ap (λ y. take i xs ++ y ∷ []) (get_or_from_slice_get xs i x x is)
 
 dropped_one : {X : Type 0} (xs : List X) (i : ℕ) (x : X) → slice_get xs i ≡ Some x → drop i xs ≡ x ∷ drop (i + 1) xs
-dropped_one [] i x is = absurd (grind arith)
-dropped_one (first ∷ xs) zero x is = ap (λ y. y ∷ xs) (same_one first x is)
-dropped_one (first ∷ xs) (suc i) x is = let more : suc i + 1 ≡ suc (i + 1) = omega arith in rw more (dropped_one xs i x is)
+dropped_one xs i x is = drop_more xs i x (slice_get_within xs i x is) ∙ ap (λ y. y ∷ drop (i + 1) xs) (get_or_from_slice_get xs i x x is)
 
 -- the changes of the rows so far, and of the next row
 pub row_added : {X : Type 0} (f : X → List Event) (rows : List X) (i : ℕ) (row : X) (old now new : List Change) → slice_get rows i ≡ Some row

@@ -3,6 +3,7 @@ use Rattle.std.proofs.Common.{◌≡◌, ◌⊎◌, ◌<◌, ℕ, zero, suc, ◌
 use Rattle.std.specs.Prelude.{filter, slice_get, nat_lt, ◌&&◌, ◌==◌, not, if◌then◌else◌}
 use Rattle.std.specs.List.{AllByRecursion, fold, list_all, range_with_len, slice_index_or}
 use Rattle.std.proofs.lemmas.Bool.{cases_Bool, true≢false, and_parts, eqb-true}
+use Rattle.std.proofs.lemmas.Option.{same_Some}
 use Rattle.fb_geometry.specs.Shape.{Shape}
 use Rattle.fb_geometry.specs.Places.{places}
 use Rattle.fb_sectormap.specs.declared.cut.Cut.{Cut}
@@ -27,7 +28,6 @@ use Rattle.fb_model.specs.Steps.{Delivery, Step, decision_in, calls_due, past_af
 use Rattle.fb_model.proofs.Lists.{all_filter, by_is}
 use Rattle.fb_mirror.specs.Script.{rebuild_calls}
 use Rattle.fb_mirror.proofs.CutCover.{HasSectors, cuts_some}
-use Rattle.fb_mirror.proofs.EventLaws.{same_one}
 
 -- the blocks of the whole disk
 abbrev pub disk_blocks : Shape → List Block
@@ -196,7 +196,7 @@ one_number disk a b is_a is_b same =
     let cuts = cutting disk 16 0 (length (places disk)) in
     let index = eqb-true a.index b.index (and_parts (a.task == b.task) (a.index == b.index) same).1 in
     let place : is_a.0 ≡ is_b.0 = omega (arith, (numbered_at 0 1 0 cuts is_a.0 a is_a.1).1, (numbered_at 0 1 0 cuts is_b.0 b is_b.1).1, index) in
-    same_one a b (sym is_a.1 ∙ ap (slice_get (disk_blocks disk)) place ∙ is_b.1)
+    same_Some a b (sym is_a.1 ∙ ap (slice_get (disk_blocks disk)) place ∙ is_b.1)
 
 -- ---- a complete rebuild has delivered each block
 

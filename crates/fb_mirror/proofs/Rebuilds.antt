@@ -5,6 +5,7 @@ use Rattle.std.specs.List.{AllByRecursion, flat_map, range_with_len}
 use Rattle.std.specs.Option.{option_map, unwrap_or}
 use Rattle.std.proofs.lemmas.Bool.{true≢false}
 use Rattle.std.proofs.lemmas.List.Elements.{filter-append}
+use Rattle.std.proofs.lemmas.Option.{same_Some, none-some}
 use Rattle.fb_geometry.specs.Sound.{IsSound}
 use Rattle.fb_sectormap.specs.declared.cut.Cut.{Cut}
 use Rattle.fb_sectormap.specs.Cutting.{cutting}
@@ -43,7 +44,6 @@ use Rattle.fb_mirror.proofs.AtRest.{by_then}
 use Rattle.fb_mirror.proofs.Between.{IsPlaced, decisions_placed, due_quiet, quiet_until}
 use Rattle.fb_mirror.proofs.Covering.{range_long}
 use Rattle.fb_mirror.proofs.CutCover.{HoldsIn, cuts_hold}
-use Rattle.fb_mirror.proofs.EventLaws.{none_some, same_one}
 use Rattle.fb_mirror.proofs.Ordered.{AreInTurn, NoEarlier, decisions_in_turn, due_ascends}
 use Rattle.fb_mirror.proofs.RebuildPast.{IsOneOf, IsRebuilding, IsUnderWay, after_rebuilds, complete_delivered, disk_blocks, disk_ones, disk_some, rebuilding_more, rebuilding_weaker, chosen_rebuilds, wanted_have}
 use Rattle.fb_mirror.proofs.RunRows.{AreLinked, IsKept, NoFact, RowsFit, back_fits, gots, gots_of_back, step_fits, rows_weaker}
@@ -109,8 +109,8 @@ all_cover keep (Task row ∷ rows) fit = (tt, all_cover keep rows fit.1)
 
 -- where there is a seal there is the fact that comes with it
 sealed_fact : (P : DeliveryRow → Type 0) (C : ℕ → Type 0) (rows : List BackRow) (sealed : ℕ) → RowsFit P C rows → sealed_in rows ≡ Some sealed → C sealed
-sealed_fact P C [] sealed fit is = absurd (none_some sealed is)
-sealed_fact P C (Seal row ∷ rows) sealed fit is = subst C (same_one row.instant sealed is) fit.0
+sealed_fact P C [] sealed fit is = absurd (none-some sealed is)
+sealed_fact P C (Seal row ∷ rows) sealed fit is = subst C (same_Some row.instant sealed is) fit.0
 sealed_fact P C (Gap row ∷ rows) sealed fit is = sealed_fact P C rows sealed fit.1 is
 sealed_fact P C (Idle row ∷ rows) sealed fit is = sealed_fact P C rows sealed fit.1 is
 sealed_fact P C (Got row ∷ rows) sealed fit is = sealed_fact P C rows sealed fit.1 is

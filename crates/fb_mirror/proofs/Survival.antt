@@ -6,6 +6,7 @@ use Rattle.std.specs.Option.{option_map, unwrap_or}
 use Rattle.std.proofs.lemmas.Bool.{cases_Bool}
 use Rattle.std.proofs.lemmas.Bool.Decides.{nat_tests}
 use Rattle.std.proofs.lemmas.List.Sums.{fold-append}
+use Rattle.std.proofs.lemmas.Option.{same_Some, none-some}
 use Rattle.fb_units.specs.declared.types.Track.{Track}
 use Rattle.fb_geometry.specs.Sound.{IsSound}
 use Rattle.fb_service.specs.declared.disk.Disk.{Disk}
@@ -39,7 +40,7 @@ use Rattle.fb_model.proofs.DecisionsUpTo.{greatest_from, end_from}
 use Rattle.fb_mirror.specs.Replacement.{Event, decided, deliveries_in, events, given, held_after, later, writes_in}
 use Rattle.fb_mirror.specs.Survivor.{survives}
 use Rattle.fb_mirror.proofs.Deciding.{later-assoc}
-use Rattle.fb_mirror.proofs.EventLaws.{none_some, same_one, write_gives}
+use Rattle.fb_mirror.proofs.EventLaws.{write_gives}
 use Rattle.fb_mirror.proofs.Between.{IsBetween, IsPlaced, between_within, decisions_placed, due_quiet, quiet_until}
 use Rattle.fb_mirror.proofs.RunRows.{NoFact, RowsFit, back_fits, gots_fit_step}
 use Rattle.fb_mirror.proofs.Writing.{AreServed, all_writes, are_served, content_then, ended, finishes_late, last_of, last_of-append, last_of-more, left_after, left_by, medium_with}
@@ -88,7 +89,7 @@ one_of_two (Some a) (Some b) last is = elim (cases_Bool (nat_lt b.0 a.0)) [
 -- what each event gives has a property, so what decides has it
 pub one_decides : (R : ℕ × Content → Type 0) (lbn : ℕ) (events : List Event) → AllByRecursion (λ event. (last : ℕ × Content) → given lbn event ≡ Some last → R last) events
     → (last : ℕ × Content) → decided lbn events ≡ Some last → R last
-one_decides R lbn [] all last is = absurd (none_some last is)
+one_decides R lbn [] all last is = absurd (none-some last is)
 one_decides R lbn (event ∷ events) all last is = elim (one_of_two (given lbn event) (decided lbn events) last is) [
   | inl here ↦ all.0 last here
   | inr behind ↦ one_decides R lbn events all.1 last behind
@@ -216,16 +217,16 @@ module _ (disk : Disk) (medium : Medium) (latent : List ℕ) (lbn : ℕ) where
   pub survives_all : (now : ℕ) (replay : List Served) (last : ℕ × Content) → AreServed disk now replay → (wrote_last got_last : Option (ℕ × Content)) → decided lbn (wrote medium replay) ≡ wrote_last
       → ((that : ℕ × Content) → got_last ≡ Some that → IsFoundAfter latent replay lbn that) → later wrote_last got_last ≡ Some last → last.1 ≡ left_after latent replay lbn
   survives_all now replay last are None got_last wrote_is found is = found_still now replay last are (found last is) (subst (IsAt (λ t. t ≤ last.0)) (sym wrote_is) tt)
-  survives_all now replay last are (Some one) None wrote_is found is = sym (written one last wrote_is (same_one one last is))
+  survives_all now replay last are (Some one) None wrote_is found is = sym (written one last wrote_is (same_Some one last is))
     where
       written : (one last : ℕ × Content) → decided lbn (wrote medium replay) ≡ Some one → one ≡ last → left_after latent replay lbn ≡ last.1
       written one last wrote_is same = left_decided disk medium lbn (unwritten latent lbn) now replay None are ∙ ap (λ d. unwrap_or (given_content d) (unwritten latent lbn)) wrote_is ∙ ap (λ p. p.1) same
   survives_all now replay last are (Some one) (Some other) wrote_is found is = elim (cases_Bool (nat_lt other.0 one.0)) [
     | inl less ↦
-        let same = same_one one last (sym (ap (λ c. cond c (Some one) (Some other)) less) ∙ is) in
+        let same = same_Some one last (sym (ap (λ c. cond c (Some one) (Some other)) less) ∙ is) in
         sym (left_decided disk medium lbn (unwritten latent lbn) now replay None are ∙ ap (λ d. unwrap_or (given_content d) (unwritten latent lbn)) wrote_is ∙ ap (λ p. p.1) same)
     | inr more ↦
-        let same = same_one other last (sym (ap (λ c. cond c (Some one) (Some other)) more) ∙ is) in
+        let same = same_Some other last (sym (ap (λ c. cond c (Some one) (Some other)) more) ∙ is) in
         let order : one.0 ≤ last.0 = let at = ap (λ p. p.0) same in let behind : one.0 ≤ other.0 = grind (arith, nat_tests) in omega arith in
         found_still now replay last are (found last (ap Some same)) (subst (IsAt (λ t. t ≤ last.0)) (sym wrote_is) order)
   ]
@@ -269,8 +270,8 @@ module _ (disk : Disk) (latent : List ℕ) (replay : List Served) where
       by : (within : Bool) → is_within row.block.lbn row.block.count lbn ≡ within → IsFoundAfter latent replay lbn last
       by true within =
           let some : 0 < row.block.count = grind (arith, nat_tests) in
-          here (is.between some) (is.order some) (same_one (row.end, held lbn) last (sym (value ∙ ap (λ b. option_map (λ c. (row.end, c)) (cond b (Some (held lbn)) None)) within) ∙ gives))
-      by false without = absurd (none_some last (sym (value ∙ ap (λ b. option_map (λ c. (row.end, c)) (cond b (Some (held lbn)) None)) without) ∙ gives))
+          here (is.between some) (is.order some) (same_Some (row.end, held lbn) last (sym (value ∙ ap (λ b. option_map (λ c. (row.end, c)) (cond b (Some (held lbn)) None)) within) ∙ gives))
+      by false without = absurd (none-some last (sym (value ∙ ap (λ b. option_map (λ c. (row.end, c)) (cond b (Some (held lbn)) None)) without) ∙ gives))
 
   -- what deliveries give a sector
   pub rows_found : (lbn : ℕ) (rows : List BackRow) → RowsFit (IsFound (medium_with disk latent replay) replay) NoFact rows
@@ -370,8 +371,8 @@ end_holds inputs run lbn are full =
     ∙ content_then inputs.disk inputs.latent (served inputs) [] lbn (run_end (decisions inputs)) (all_passed inputs.disk (instants_of inputs) inputs.until first_track 0 (served inputs) 0 are) tt
 
 pub some_decided : (last : Option (ℕ × Content)) (held : Content) → given_content last ≡ Some held → (one : ℕ × Content) × (last ≡ Some one) × (one.1 ≡ held)
-some_decided None held is = absurd (none_some held is)
-some_decided (Some one) held is = (one, refl, same_one one.1 held is)
+some_decided None held is = absurd (none-some held is)
+some_decided (Some one) held is = (one, refl, same_Some one.1 held is)
 
 pub held_survives : ForegroundListsAscend → OnePlainReplay → (inputs : Inputs) (run : Run) (lbn : ℕ) (held : Content) → IsSound inputs.disk.map → IsAccepted inputs → IsFull inputs run → held_after (events run) lbn ≡ Some held
     → held ≡ survives inputs run lbn

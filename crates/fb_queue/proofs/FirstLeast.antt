@@ -3,17 +3,14 @@ use Rattle.std.proofs.Common.{◌≡◌, ◌≢◌, ℕ, zero, suc, ◌+◌, ◌
 use Rattle.std.specs.Prelude.{slice_get, nat_le, remove, if◌then◌else◌}
 use Rattle.std.proofs.lemmas.Bool.{cases_lt, cases_eq}
 use Rattle.std.proofs.lemmas.Bool.Decides.{nat_tests}
-use Rattle.std.proofs.lemmas.Option.{slice_get_within}
+use Rattle.std.proofs.lemmas.Option.{same_Some, slice_get_within}
 use Rattle.fb_units.specs.declared.types.Request.{Request}
 use Rattle.fb_geometry.proofs.Grid.{within}
 use Rattle.fb_model.specs.PlainReplay.{first_least, better}
 use Rattle.fb_queue.specs.Least.{IsFirstLeastAt}
 
-pub some_injective : {X : Type 0} (x y : X) → Some x ≡ Some y → x ≡ y
-some_injective x y e = cc
-
 same_value : {X : Type 0} (o : Option X) (x y : X) → o ≡ Some x → o ≡ Some y → x ≡ y
-same_value o x y e f = some_injective x y (sym e ∙ f)
+same_value o x y e f = same_Some x y (sym e ∙ f)
 
 -- one more request, which is not better
 pub keeps_best : (key : Request → ℕ) (rs : List Request) (i best least : ℕ) (r b : Request) → IsFirstLeastAt key rs i best → slice_get rs best ≡ Some b → least ≡ key b → slice_get rs i ≡ Some r → least ≤ key r
@@ -74,7 +71,7 @@ picked_is_there key rs b e = subst (IsIn rs) e (is_in key rs)
 pub first_least_at : (key : Request → ℕ) (rs : List Request) (place : ℕ) (q : Request) → IsFirstLeastAt key rs (length rs) place → slice_get rs place ≡ Some q → first_least key rs ≡ Some (q, remove rs place)
 first_least_at key [] place q h at_q = absurd (omega (arith, h.within))
 first_least_at key (r ∷ rs) zero q h at_q =
-    let same : r ≡ q = some_injective r q at_q in
+    let same : r ≡ q = same_Some r q at_q in
     front_better key r rs (first_least key rs) (λ b e. let there = picked_is_there key rs b e in h.least (suc there.0) b.0 r (omega (arith, slice_get_within rs there.0 b.0 there.1)) there.1 refl)
     ∙ ap (λ x. Some (x, rs)) same
 first_least_at key (r ∷ rs) (suc place) q h at_q =

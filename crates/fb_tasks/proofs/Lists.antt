@@ -4,13 +4,11 @@ use Rattle.std.specs.List.{AllByRecursion, flat_map, list_any, list_all, range_w
 use Rattle.std.proofs.lemmas.Bool.{cases_Bool, cases_lt}
 use Rattle.std.proofs.lemmas.Bool.Decides.{nat_tests}
 use Rattle.std.proofs.lemmas.Option.{slice_get-map}
+pub use Rattle.std.proofs.lemmas.Option.{same_Some as some_same}
 pub use Rattle.fb_geometry.proofs.Faultless.{all_get as all_at, find-none as find_none, list_any-none as none_pass}
 pub use Rattle.fb_calls.proofs.Lists.{all_weaker}
 pub use Rattle.fb_wanted.proofs.Standing.{get_some as some_at}
 pub use Rattle.fb_model.proofs.Lists.{all_any, all_append, all_left, all_right, all_map, all_filter, none_kept as filter_none}
-
-pub some_same : {X : Type 0} (x y : X) → Some x ≡ Some y → x ≡ y
-some_same x y h = cc
 
 pub all_with : {X : Type 0} (P Q R : X → Type 0) → ((x : X) → P x → Q x → R x) → (xs : List X) → AllByRecursion P xs → AllByRecursion Q xs → AllByRecursion R xs
 all_with P Q R f [] p q = tt
