@@ -32,7 +32,7 @@ use Rattle.fb_model.specs.Completion.{is_closed, segment_by, segments, work}
 use Rattle.fb_model.specs.Segments.{choose_best, choose_in, choose_once, choose_up_to, is_better, is_busy, is_chosen, next_blocks, numbered, unchosen, with_choices}
 use Rattle.fb_model.specs.Steps.{Delivery, Step, decision_in, blocks_by, calls_due, past_after, chosen_past, take_call, tested_past, with_delivery, with_finish}
 use Rattle.std.proofs.Math.Seq.{drop-append_seam}
-use Rattle.fb_model.proofs.Lists.{all_append, all_filter}
+use Rattle.fb_model.proofs.Lists.{all_append, all_best, all_filter}
 use Rattle.fb_model.proofs.HistoriesUpTo.{due_first}
 use Rattle.fb_mirror.proofs.CutCover.{EndsBy, cuts_end}
 
@@ -226,13 +226,6 @@ all_called disk calls (call ∷ due) past laid more is = all_called disk calls d
 
 -- ---- choices
 
-best_is : {X : Type 0} (P : X → Type 0) (beats : X → X → Bool) (x : X) (xs : List X) → P x → AllByRecursion P xs → P (best_of beats x xs)
-best_is P beats x [] one all = one
-best_is P beats x (y ∷ ys) one all = elim (cases_Bool (beats y x)) [
-  | inl better ↦ rw better (best_is P beats y ys all.0 all.1)
-  | inr worse ↦ rw worse (best_is P beats x ys one all.1)
-]
-
 module _ (disk : Shape) (calls : List Call) where
   laid_best : (task : ℕ) (past : Past) (left : List LogSegment) → IsLaid disk calls past → AllByRecursion (SegmentLies disk (terms_of past task).block) left → IsLaid disk calls (choose_best disk task past left)
   laid_best task past [] laid lie = laid
@@ -242,7 +235,7 @@ module _ (disk : Shape) (calls : List Call) where
       let blocks = next_blocks past task cuts in
       same_laid disk calls past (chose task best blocks ∷ past) blocks refl refl (λ t. refl) refl
       (numbered_lie disk task (terms_of past task).weight (length (blocks_of past task)) cuts
-      (live_end disk (terms_of past task).block best.first (length (places disk)) best.live (best_is (SegmentLies disk (terms_of past task).block) is_better segment left lie.0 lie.1))) laid
+      (live_end disk (terms_of past task).block best.first (length (places disk)) best.live (all_best (SegmentLies disk (terms_of past task).block) is_better segment left lie.0 lie.1))) laid
 
   laid_once : (task : ℕ) (past : Past) → IsLaid disk calls past → IsLaid disk calls (choose_once disk task past)
   laid_once task past laid = by (is_busy (work past task))

@@ -35,7 +35,7 @@ use Rattle.fb_model.specs.Segments.{numbered}
 use Rattle.fb_model.specs.SoundRun.{IsDelivered, IsPlanned, IsTested}
 use Rattle.fb_model.specs.Steps.{AtEach, Step, decision_in, decisions_in, step_rows, past_after, chosen_past}
 use Rattle.fb_model.proofs.Due.{HasBytes, IsDueRow, due_block, delivery_true}
-use Rattle.fb_model.proofs.Lists.{all_both, by_is, same_map_where}
+use Rattle.fb_model.proofs.Lists.{all_both, all_range, by_is, same_map_where}
 use Rattle.fb_model.proofs.HistoriesUpTo.{HasSector}
 use Rattle.fb_mirror.specs.Replacement.{Event, decided, deliveries_in, events, given, held_after, later, sealed_in, writes_in}
 use Rattle.fb_mirror.specs.Script.{rebuild_calls}
@@ -251,10 +251,6 @@ kept_held keep run lbn got =
     some_held (decided lbn (filter keep (events run)))
     (ap (λ es. is_some (decided lbn es)) split ∙ ap is_some (decided-append lbn writes gots) ∙ some_behind (decided lbn writes) (decided lbn gots) got)
 
-range_all : (Q : ℕ → Type 0) (first n : ℕ) → ((x : ℕ) → first ≤ x → x < first + n → Q x) → AllByRecursion Q (range_with_len first n)
-range_all Q first zero each = tt
-range_all Q first (suc n) each = (each first (omega arith) (omega arith), range_all Q (first + 1) n (λ x from to. each x (omega arith) (omega arith)))
-
 all_kept : {X : Type 0} (p : X → Bool) (xs : List X) → AllByRecursion (λ x. p x ≡ true) xs → filter p xs ≡ xs
 all_kept p [] all = refl
 all_kept p (x ∷ xs) all = ap (λ b. cond b (x ∷ filter p xs) (filter p xs)) all.0 ∙ ap (λ ys. x ∷ ys) (all_kept p xs all.1)
@@ -275,7 +271,7 @@ module _ (ascend : ForegroundListsAscend) (one : OnePlainReplay) where
       → sealed_in run.back ≡ Some sealed → IsWhole inputs run
   sealed_whole survive inputs run sealed sound accepted full calls is =
       let count = sectors inputs in
-      let all = range_all (λ lbn. held_after (events run) lbn ≡ Some (survives inputs run lbn)) 0 count (λ lbn from to. each lbn (omega arith)) in
+      let all = all_range (λ lbn. held_after (events run) lbn ≡ Some (survives inputs run lbn)) 0 count (λ lbn from to. each lbn (omega arith)) in
       record {
         each = each;
         covered = ap length (all_kept (λ lbn. is_some (held_after (events run) lbn)) (range_with_len 0 count)

@@ -8,7 +8,7 @@ use Rattle.fb_units.specs.Tracks.{same_track}
 use Rattle.fb_seek.specs.Mechanics.{Mechanics}
 use Rattle.fb_seek.specs.Positioning.{pos}
 use Rattle.fb_service.specs.declared.disk.Disk.{Disk}
-use Rattle.fb_wanted.proofs.Kept.{same_one, same_itself}
+use Rattle.fb_wanted.proofs.Kept.{same_one, same_itself, turned_other}
 use Rattle.fb_rows.specs.declared.gap.Gap.{Gap}
 use Rattle.fb_rows.specs.declared.gap.Plan.{Plan}
 use Rattle.fb_rows.specs.declared.gap.Plan.TheVariants.{Direct, Detour}
@@ -25,9 +25,6 @@ lead_one disk from now leg h more = rw h refl
 
 pub lead_on : (disk : Disk) (from on to : Track) (now between end : ℕ) (xs ys : List Leg) → Leads disk from now xs on between → Leads disk on between ys to end → Leads disk from now (xs ++ ys) to end
 lead_on disk from on to now between end xs ys first later more = ap (led_to disk from now) (append_assoc xs ys more) ∙ (first (ys ++ more) ∙ later more)
-
-same_turned : (a b : Track) → same_track a b ≡ false → same_track b a ≡ false
-same_turned a b h = grind (arith, nat_tests)
 
 -- a stay on a track
 pub lead_stay : (disk : Disk) (on : Track) (now end : ℕ) → now ≤ end → Leads disk on now (stay on now end ∷ []) on end
@@ -71,7 +68,7 @@ lead_gap disk gap (Detour track leave) plan =
     let arrived = leave + pos disk.mechanism track gap.target gap.write in
     lead_on disk gap.source track gap.target gap.now there gap.deadline (move gap.source track false gap.now there ∷ [])
     (stay track there leave ∷ move track gap.target gap.write leave arrived ∷ arrival disk gap track leave ∷ [])
-    (lead_move disk gap.source track false gap.now (same_turned track gap.source plan.not_source))
+    (lead_move disk gap.source track false gap.now (turned_other track gap.source plan.not_source))
     (lead_on disk track track gap.target there leave gap.deadline (stay track there leave ∷ []) (move track gap.target gap.write leave arrived ∷ arrival disk gap track leave ∷ [])
     (lead_stay disk track there leave plan.after_arrival)
     (lead_on disk track gap.target gap.target leave arrived gap.deadline (move track gap.target gap.write leave arrived ∷ []) (arrival disk gap track leave ∷ [])

@@ -1,7 +1,7 @@
 -- Lists whose elements all have a property, and what a test keeps of them.
-use Rattle.std.proofs.Common.{◌≡◌, ℕ, ◌≤◌, ◌<◌, List, [], ◌∷◌, ◌++◌, Bool, true, false, map, inl, inr, refl, ap, ap₂, sym, ◌∙◌, arith, nat_le}
+use Rattle.std.proofs.Common.{◌≡◌, ℕ, zero, suc, ◌+◌, ◌≤◌, ◌<◌, List, [], ◌∷◌, ◌++◌, Bool, true, false, map, inl, inr, refl, ap, ap₂, sym, ◌∙◌, arith, nat_le}
 use Rattle.std.specs.Prelude.{filter}
-use Rattle.std.specs.List.{AllByRecursion, flat_map}
+use Rattle.std.specs.List.{AllByRecursion, best_of, flat_map, range_with_len}
 use Rattle.std.proofs.lemmas.Bool.{cases_Bool, true≢false}
 use Rattle.std.proofs.lemmas.Bool.Decides.{nat_tests}
 use Rattle.fb_units.specs.Rising.{IsRising}
@@ -44,6 +44,19 @@ all_filter P p (x ∷ xs) all = elim (cases_Bool (p x)) [
 pub all_flat_map : {X Y : Type 0} (P : Y → Type 0) (f : X → List Y) → ((x : X) → AllByRecursion P (f x)) → (xs : List X) → AllByRecursion P (flat_map f xs)
 all_flat_map P f each [] = tt
 all_flat_map P f each (x ∷ xs) = all_append P (f x) (flat_map f xs) (each x) (all_flat_map P f each xs)
+
+-- what holds of all holds of the best one
+pub all_best : {X : Type 0} (P : X → Type 0) (p : X → X → Bool) (x : X) (xs : List X) → P x → AllByRecursion P xs → P (best_of p x xs)
+all_best P p x [] one all = one
+all_best P p x (y ∷ ys) one all = elim (cases_Bool (p y x)) [
+  | inl better ↦ rw better (all_best P p y ys all.0 all.1)
+  | inr worse ↦ rw worse (all_best P p x ys one all.1)
+]
+
+-- what holds of each number of a range
+pub all_range : (P : ℕ → Type 0) (a n : ℕ) → ((k : ℕ) → a ≤ k → k < a + n → P k) → AllByRecursion P (range_with_len a n)
+all_range P a zero f = tt
+all_range P a (suc n) f = (f a (omega arith) (omega arith), all_range P (a + 1) n (λ k le lt. f k (omega arith) (omega arith)))
 
 pub rising_filter : (p : ℕ → Bool) (xs : List ℕ) → IsRising xs → IsRising (filter p xs)
 rising_filter p [] rising = tt

@@ -15,11 +15,12 @@ use Rattle.fb_tasks.proofs.Words.{is_clean, ContentRun, runs_of, sectors_of, Bac
 use Rattle.fb_tasks.proofs.Words.{found_for, held_at, HasTurned}
 use Rattle.fb_tasks.proofs.Registered.{fresh_wanted, no_smaller, indexed_append, registered-entries, named_same}
 use Rattle.fb_tasks.proofs.Cuts.{cuts_own, cuts_indexed, cuts_count}
-use Rattle.fb_tasks.proofs.Segmented.{NumberedFrom, at_number, all_best, live_placed, live_cover, live_ascend, numbered_given, choice_kept}
+use Rattle.fb_tasks.proofs.Segmented.{NumberedFrom, at_number, live_placed, live_cover, live_ascend, numbered_given, choice_kept}
 use Rattle.fb_tasks.proofs.Segmented.{live_there, live_some, cuts_of_live, sum_without}
 use Rattle.fb_tasks.proofs.{Complete.busy_by, States.seen}
 use Rattle.fb_clean.specs.Segments as clean
 use Rattle.fb_clean.proofs.Live.{live_blocks-count, live_blocks-within}
+use Rattle.fb_model.proofs.Lists.{all_best}
 use Rattle.fb_wanted.specs.Numbering as numbering
 
 -- what holds of a segment that is left to choose

@@ -8,7 +8,7 @@ pub use Rattle.std.proofs.lemmas.Option.{same_Some as some_same}
 pub use Rattle.fb_geometry.proofs.Faultless.{all_get as all_at, find-none as find_none, list_any-none as none_pass}
 pub use Rattle.fb_calls.proofs.Lists.{all_weaker}
 pub use Rattle.fb_wanted.proofs.Standing.{get_some as some_at}
-pub use Rattle.fb_model.proofs.Lists.{all_any, all_append, all_left, all_right, all_map, all_filter, none_kept as filter_none}
+pub use Rattle.fb_model.proofs.Lists.{all_any, all_range, all_append, all_left, all_right, all_map, all_filter, none_kept as filter_none}
 
 pub all_with : {X : Type 0} (P Q R : X → Type 0) → ((x : X) → P x → Q x → R x) → (xs : List X) → AllByRecursion P xs → AllByRecursion Q xs → AllByRecursion R xs
 all_with P Q R f [] p q = tt
@@ -103,11 +103,6 @@ list_all_each p (x ∷ xs) h = (grind arith, list_all_each p xs (grind arith))
 pub each_all : {X : Type 0} (p : X → Bool) (xs : List X) → AllByRecursion (λ x. p x ≡ true) xs → list_all p xs ≡ true
 each_all p [] h = refl
 each_all p (x ∷ xs) h = rw h.0 (each_all p xs h.1)
-
--- what holds of each number of a range
-pub all_range : (P : ℕ → Type 0) (a n : ℕ) → ((k : ℕ) → a ≤ k → k < a + n → P k) → AllByRecursion P (range_with_len a n)
-all_range P a zero f = tt
-all_range P a (suc n) f = (f a (omega arith) (omega arith), all_range P (a + 1) n (λ k le lt. f k (omega arith) (omega arith)))
 
 -- a number equals itself alone
 pub same_number : (a b : ℕ) → (a == b) ≡ true → a ≡ b

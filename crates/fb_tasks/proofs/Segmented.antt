@@ -53,14 +53,6 @@ best_map f p q same x (y ∷ ys) =
       pushed : (b : Bool) → (if b then f y else f x) ≡ f (if b then y else x)
       pushed b = grind arith
 
--- what holds of all holds of the best one
-pub all_best : {X : Type 0} (P : X → Type 0) (p : X → X → Bool) (x : X) (xs : List X) → P x → AllByRecursion P xs → P (best_of p x xs)
-all_best P p x [] one all = one
-all_best P p x (y ∷ ys) one all = elim (cases_Bool (p y x)) [
-  | inl better ↦ rw better (all_best P p y ys all.0 all.1)
-  | inr worse ↦ rw worse (all_best P p x ys one all.1)
-]
-
 -- the number of the best of those left to choose
 abbrev pub number_of_best : List LogSegment → Option ℕ
 number_of_best [] = None
