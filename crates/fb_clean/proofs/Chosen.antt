@@ -3,6 +3,7 @@ use Rattle.std.proofs.Common.{◌≡◌, ℕ, ◌+◌, ◌<◌, List, [], ◌∷
 use Rattle.std.specs.List.{best_of}
 use Rattle.std.proofs.lemmas.List.{take_all}
 use Rattle.std.proofs.lemmas.Option.{same_Some}
+use Rattle.fb_wanted.proofs.Standing.{get_some}
 use Rattle.fb_clean.specs.Segments.{LogSegment, is_better, first_best, waiting}
 use Rattle.fb_clean.specs.Best.{HoldsBest, beats_one, best_at, beats_best}
 
@@ -73,10 +74,10 @@ holds_still segments n best s at holds beats =
     let loses = ap₂ (λ one other. beats_one one other) (sym at) (sym found) ∙ sym beats in
     same_best segments n best holds (best_more segments n s at ∙ ap (λ b. cond b (Some s) (first_best (waiting (take n segments)))) loses)
 
-pub some_at : (segments : List LogSegment) (i : ℕ) → i < length segments → (s : LogSegment) × (slice_get segments i ≡ Some s)
-some_at [] i within = absurd (omega arith)
-some_at (s ∷ segments) zero within = (s, refl)
-some_at (s ∷ segments) (suc i) within = some_at segments i (omega arith)
+pub some_at : (seen segments : List LogSegment) (i : ℕ) → seen ≡ segments → i < length seen → (i < length segments) × (s : LogSegment) × (slice_get segments i ≡ Some s)
+some_at seen segments i same within =
+    let less : i < length segments = omega (arith, within, ap length same) in
+    let there = get_some segments i less in (less, there.0, there.1)
 
 -- the place that holds the best of all
 pub held_within : (segments : List LogSegment) (n : ℕ) (best : Option ℕ) → n ≤ length segments → HoldsBest segments n best → IfSome best (λ b. b < length segments)
