@@ -18,7 +18,7 @@ use Rattle.fb_model.specs.PlainReplay.{Key, Served, plain, service, media, finis
 use Rattle.fb_model.specs.Accepted.{IsRequestOf}
 use Rattle.fb_model.specs.Inputs.{Inputs, served}
 use Rattle.fb_model.specs.Content.{Written, medium_of, writes_of, number_of, content}
-use Rattle.fb_model.proofs.Passages.{passed_between, written_by}
+use Rattle.fb_model.proofs.Passages.{passages_long, passed_between, passes_late, written_by}
 use Rattle.fb_model.proofs.Lists.{all_both, all_append, all_map}
 use Rattle.fb_decide.specs.Deciding.{PassagesTakeTime}
 use Rattle.fb_decide.specs.Standing.{Mirrors}
@@ -28,29 +28,6 @@ use Rattle.fb_model.proofs.Replays.{start_from as start_after}
 use Rattle.fb_model.proofs.Picks.{all_picked, ready_pick}
 use Rattle.fb_model.proofs.Written.{begun_after, media_first}
 use Rattle.fb_model.specs.Laws.{IsReadyPickOf}
-
--- ---- passages take time
-
-pub passages_long : (disk : Disk) → PassagesTakeTime disk.map → (source : Track) (now : ℕ) (write : Bool) (lbn n : ℕ) → lbn + n ≤ length (places disk.map)
-    → AllByRecursion (λ (p : Passage). p.begin < p.end) (passages disk source now write lbn n)
-unfolding passages
-passages_long disk long source now write lbn zero inside = tt
-passages_long disk long source now write lbn (suc n) inside =
-    let some = long lbn (omega (arith, inside)) in (
-      (let h : (passage_from disk.map lbn (now + pos disk.mechanism source (track_at disk.map lbn) write)).begin < (passage_from disk.map lbn (now + pos disk.mechanism source (track_at disk.map lbn) write)).end = omega (arith, some) in h),
-      passages_long disk long (track_at disk.map lbn) (passage_from disk.map lbn (now + pos disk.mechanism source (track_at disk.map lbn) write)).end write (lbn + 1) n (omega (arith, inside)),
-    )
-
--- what is written by a service ends after its start
-written_late : (disk : Disk) → PassagesTakeTime disk.map → (head : Track) (start : ℕ) (request : Request) → IsRequestOf disk.map request
-    → AllByRecursion (λ (w : Written). start < w.passage.end) (writes_of (service disk head start request))
-written_late disk long head start request on_disk = elim (cases_Bool request.write) [
-  | inl writes ↦ rw writes (all_map (λ (w : Written). start < w.passage.end) (written_by (number_of request.name)) (passages disk head start true request.lbn request.count)
-      (all_weaker _ _ (λ (p : Passage) h. omega (arith, h.0.0, h.1)) (passages disk head start true request.lbn request.count)
-      (all_both _ _ (passages disk head start true request.lbn request.count) (passed_between disk head start true request.lbn request.count).1
-      (passages_long disk long head start true request.lbn request.count on_disk.range.inside))))
-  | inr reads ↦ rw reads tt
-]
 
 -- ---- the pick and the others are among those that are left
 
@@ -77,7 +54,7 @@ late_pick n disk long key head now start late (Some pick) picks later =
     let served = service disk head start pick.0 in
     let ends = passed_between disk head start pick.0.write pick.0.lbn pick.0.count in
     all_append _ (writes_of served) (all_writes (plain n disk key (last_track disk served) (finish served) pick.1))
-    (all_weaker _ _ (λ (w : Written) h. omega (arith, h, late)) (writes_of served) (written_late disk long head start pick.0 picks.0))
+    (all_weaker _ _ (λ (w : Written) h. omega (arith, h, late)) (writes_of served) (passes_late disk long head start pick.0 picks.0.range))
     (all_weaker _ _ (λ (w : Written) h. omega (arith, h, ends.0, late)) _ (later (last_track disk served) (finish served) pick.1 picks.1))
 
 pub all_late : (n : ℕ) (disk : Disk) → PassagesTakeTime disk.map → (key : Key) (head : Track) (now : ℕ) (left : List Request) → AllByRecursion (IsRequestOf disk.map) left

@@ -25,7 +25,7 @@ use Rattle.fb_model.specs.Accepted.{IsAccepted}
 use Rattle.fb_model.specs.Content.{Medium, Written, content, content_by, number_of, writes_of}
 use Rattle.fb_model.specs.Laws.{FollowsRules, ForegroundListsAscend, IsFirstReady, OnePlainReplay}
 use Rattle.fb_model.proofs.Lists.{all_append, all_both, all_map, all_unmapped}
-use Rattle.fb_model.proofs.Passages.{IsServiceOf, LiesOnDisk, passed_between, requests_lie, served_between, passages_long, written_by}
+use Rattle.fb_model.proofs.Passages.{IsServiceOf, LiesOnDisk, passed_between, long_slots, requests_lie, served_between, passages_long, written_by}
 use Rattle.fb_model.proofs.ContentsUpTo.{is_of_by}
 use Rattle.fb_model.proofs.Picks.{all_picked}
 use Rattle.fb_model.proofs.Written.{begun_after, content_then as writes_then, is_of, last_joined, media_first, own_writes}
@@ -79,7 +79,7 @@ late_by : (disk : Disk) → IsSound disk.map → (source : Track) (start : ℕ) 
 late_by disk sound source start true way lbn n number inside =
     all_map (λ (w : Written). media_of (passages disk source start way lbn n) < w.passage.end) (written_by number) (passages disk source start way lbn n)
     (all_weaker _ _ (λ (p : Passage) h. omega (arith, h.0, h.1)) (passages disk source start way lbn n)
-    (all_both _ _ (passages disk source start way lbn n) (begun_after disk source start way lbn n) (passages_long disk sound source start way lbn n inside)))
+    (all_both _ _ (passages disk source start way lbn n) (begun_after disk source start way lbn n) (passages_long disk (long_slots disk.map sound) source start way lbn n inside)))
 late_by disk sound source start false way lbn n number inside = tt
 
 -- what is written by a service has passed after that

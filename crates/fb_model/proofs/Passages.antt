@@ -32,6 +32,7 @@ use Rattle.fb_model.specs.Accepted.{IsAccepted, IsRequestOf}
 use Rattle.fb_model.specs.Content.{Written, number_of, writes_of}
 use Rattle.fb_model.specs.Rides.{begin_at, end_at, lies_in}
 use Rattle.fb_model.proofs.Lists.{all_both, all_append, all_map, all_left, all_right}
+use Rattle.fb_model.proofs.Picks.{all_picked}
 use Rattle.fb_model.proofs.Replays.{AreTurns, IsTurn}
 
 -- ---- between start and finish
@@ -144,8 +145,12 @@ slots_short rotation (zone ∷ zones) cylinder short = elim (cases_Bool (nat_le 
   | inr on ↦ rw on (slots_short rotation zones cylinder (λ i. short (suc i)))
 ]
 
-pub long_slots : (disk : Shape) → IsSound disk → (lbn : ℕ) → lbn < length (places disk) → 0 < length_of disk (place_at disk lbn)
-long_slots disk sound lbn inside =
+-- each sector takes some time to pass
+abbrev pub TakeTime : Shape → Type 0
+TakeTime disk = (lbn : ℕ) → lbn < length (places disk) → 0 < length_of disk (place_at disk lbn)
+
+pub long_slots : (disk : Shape) → IsSound disk → TakeTime disk
+long_slots disk sound = λ lbn inside.
     let found = has_place disk sound lbn inside in
     let lies = found.lies in
     let n = slots_at disk.zones found.place.track.cylinder in
@@ -153,14 +158,14 @@ long_slots disk sound lbn inside =
     let more = (cover disk.rotation n (omega (arith, slot)) (slots_short disk.rotation disk.zones found.place.track.cylinder sound.short_slots)).ascend found.place.slot slot in
     subst (λ (place : Place). 0 < length_of disk place) (sym found.placed_at) (omega (arith, more))
 
-pub passages_long : (disk : Disk) → IsSound disk.map → (source : Track) (now : ℕ) (write : Bool) (lbn n : ℕ) → lbn + n ≤ length (places disk.map)
+pub passages_long : (disk : Disk) → TakeTime disk.map → (source : Track) (now : ℕ) (write : Bool) (lbn n : ℕ) → lbn + n ≤ length (places disk.map)
     → AllByRecursion (λ (p : Passage). p.begin < p.end) (passages disk source now write lbn n)
 unfolding passages
-passages_long disk sound source now write lbn zero inside = tt
-passages_long disk sound source now write lbn (suc n) inside =
-    let some = long_slots disk.map sound lbn (omega (arith, inside)) in (
+passages_long disk long source now write lbn zero inside = tt
+passages_long disk long source now write lbn (suc n) inside =
+    let some = long lbn (omega (arith, inside)) in (
       (let h : (passage_from disk.map lbn (now + pos disk.mechanism source (track_at disk.map lbn) write)).begin < (passage_from disk.map lbn (now + pos disk.mechanism source (track_at disk.map lbn) write)).end = omega (arith, some) in h),
-      passages_long disk sound (track_at disk.map lbn) (passage_from disk.map lbn (now + pos disk.mechanism source (track_at disk.map lbn) write)).end write (lbn + 1) n (omega (arith, inside)),
+      passages_long disk long (track_at disk.map lbn) (passage_from disk.map lbn (now + pos disk.mechanism source (track_at disk.map lbn) write)).end write (lbn + 1) n (omega (arith, inside)),
     )
 
 -- what a service writes ends after its start
@@ -170,12 +175,12 @@ WritesLate served = AllByRecursion (λ (w : Written). served.start < w.passage.e
 abbrev pub written_by : ℕ → Passage → Written
 written_by writer passage = record { writer = writer; passage = passage }
 
-passes_late : (disk : Disk) → IsSound disk.map → (source : Track) (start : ℕ) (request : Request) → IsRange disk.map request.lbn request.count → WritesLate (service disk source start request)
-passes_late disk sound source start request range = elim (cases_Bool request.write) [
+pub passes_late : (disk : Disk) → TakeTime disk.map → (source : Track) (start : ℕ) (request : Request) → IsRange disk.map request.lbn request.count → WritesLate (service disk source start request)
+passes_late disk long source start request range = elim (cases_Bool request.write) [
   | inl writes ↦ rw writes (all_map (λ (w : Written). start < w.passage.end) (written_by (number_of request.name)) (passages disk source start true request.lbn request.count)
       (all_weaker _ _ (λ (p : Passage) h. omega (arith, h.0.0, h.1)) (passages disk source start true request.lbn request.count)
       (all_both _ _ (passages disk source start true request.lbn request.count) (passed_between disk source start true request.lbn request.count).1
-      (passages_long disk sound source start true request.lbn request.count range.inside))))
+      (passages_long disk long source start true request.lbn request.count range.inside))))
   | inr reads ↦ rw reads tt
 ]
 
@@ -226,17 +231,13 @@ are_services disk key head now left (served ∷ later) turns = (
 -- a property of all requests is one of each that is served
 pub turn_all : (P : Request → Type 0) (disk : Disk) (key : Key) (head : Track) (now : ℕ) (left others : List Request) (served : Served) → IsTurn disk key head now left served others
     → AllByRecursion P left → P served.request × AllByRecursion P others
-turn_all P disk key head now left others served turn all =
-    let m = turn.pick in
-    let whole : AllByRecursion P (m.front ++ served.request ∷ m.back) = subst (AllByRecursion P) m.whole all in
-    let back = all_right P m.front (served.request ∷ m.back) whole in
-    (back.0, subst (AllByRecursion P) (sym m.rest) (all_append P m.front m.back (all_left P m.front (served.request ∷ m.back) whole) back.1))
+turn_all P disk key head now left others served turn all = all_picked P (key disk head served.start) served.start left others served.request turn.pick all
 
 pub write_late : (disk : Disk) (key : Key) → IsSound disk.map → (head : Track) (now : ℕ) (left : List Request) (replay : List Served) → AreTurns disk key head now left replay
     → AllByRecursion (LiesOnDisk disk.map) left → AllByRecursion WritesLate replay
 write_late disk key sound head now left [] turns lie = tt
 write_late disk key sound head now left (served ∷ later) turns lie =
     let all = turn_all (LiesOnDisk disk.map) disk key head now left turns.0 served turns.1 lie in (
-      subst WritesLate (sym turns.1.passes) (passes_late disk sound head served.start served.request all.0),
+      subst WritesLate (sym turns.1.passes) (passes_late disk (long_slots disk.map sound) head served.start served.request all.0),
       write_late disk key sound (last_track disk served) (finish served) turns.0 later turns.2 all.1,
     )
