@@ -73,10 +73,10 @@ shared : (task first count longest : ℕ) (es : List Entry) (chosen : ℕ → Bo
     → (i : ℕ) (e : Entry) → slice_get es i ≡ Some e → of_task task e ≡ true
     → shares first count e.block ≡ true → chosen e.block.index ≡ true
 shared task first count longest es chosen from in_order short done rest i e at own inside =
-    let place = among (of_task task) es i e at own in
-    let index = index_at es task place.0 e in_order place.2 in
-    let lbn = lbn_at task es place.0 e place.2 in
-    let streak = streak_of (lbns task es) place.0 e.block.lbn lbn in
+    let it = among (of_task task) es i e at own in
+    let index = index_at es task it.0 e in_order it.2 in
+    let lbn = lbn_at task es it.0 e it.2 in
+    let streak = streak_of (lbns task es) it.0 e.block.lbn lbn in
     let few = short i e at in
     elim (up_or_not from streak.0) [
       | inl up ↦
@@ -85,8 +85,8 @@ shared task first count longest es chosen from in_order short done rest i e at o
       | inr not_up ↦
           let near : first < e.block.lbn + e.block.count = grind (arith, nat_tests) in
           let region : region_of (first - (longest - 1)) ≤ streak.0.region = omega (arith, near, few, streak.2) in
-          let within = slice_get_within (lbns task es) place.0 e.block.lbn lbn in
-          ap chosen index ∙ done streak.0 place.0 streak.1 region not_up within streak.3
+          let within = slice_get_within (lbns task es) it.0 e.block.lbn lbn in
+          ap chosen index ∙ done streak.0 it.0 streak.1 region not_up within streak.3
     ]
 
 -- so all blocks of the task are as after the change

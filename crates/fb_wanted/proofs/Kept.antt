@@ -13,10 +13,10 @@ use Rattle.fb_wanted.specs.Counting.{counts_of, no_counts, recounted}
 use Rattle.fb_wanted.specs.Numbering.{AreInOrder, AreSmall, blocks_of, registered}
 use Rattle.fb_wanted.specs.States.{is_wanted}
 use Rattle.fb_wanted.specs.Tracks.{wanted_weight}
-use Rattle.fb_wanted.specs.Index.{OnTrack, of_task, of_track, places, grown, reweighed, no_blocks, grown_task, counted_anew, kept_of_task}
+use Rattle.fb_wanted.specs.Index.{OnTrack, of_task, of_track, indexes_of, grown, reweighed, no_blocks, grown_task, counted_anew, kept_of_task}
 use Rattle.fb_wanted.specs.Index.{track_at, weight_kept, offers_at, IsKept, IsChanged, IsTaskChanged, with_state}
-use Rattle.fb_wanted.proofs.Standing.{length-with_state, items-with_state, blocks-with_state, places-with_state, places-more_yes}
-use Rattle.fb_wanted.proofs.Standing.{places-more_no}
+use Rattle.fb_wanted.proofs.Standing.{length-with_state, items-with_state, blocks-with_state, indexes_of-with_state, indexes_of-more_yes}
+use Rattle.fb_wanted.proofs.Standing.{indexes_of-more_no}
 use Rattle.fb_wanted.proofs.Numbers.{numbered-more, small-more}
 use Rattle.fb_wanted.proofs.Counted.{counts-grown, counts-grown_other, counts-with_state, counts-with_other}
 use Rattle.fb_wanted.proofs.Weights.{weight-append, weight-with_state, weight_elsewhere, weight_unwanted, weight_at}
@@ -38,7 +38,7 @@ pub turned_other : (a b : Track) → same_track a b ≡ false → same_track b a
 turned_other a b h = grind (arith, nat_tests)
 
 -- what the index has for two tasks is equal if each part is
-same_blocks : (a b : OfTask) → a.places ≡ b.places → a.counts ≡ b.counts → a ≡ b
+same_blocks : (a b : OfTask) → a.indexes ≡ b.indexes → a.counts ≡ b.counts → a ≡ b
 same_blocks a b x y = rw (x, y) refl
 
 -- the tracks after one of them has changed
@@ -50,11 +50,11 @@ module _ (tracks new : List (List OnTrack)) (track : Track) (change : OnTrack �
   pub unchanged : IsChanged tracks new track change → (t : Track) → same_track track t ≡ false → track_at new t ≡ track_at tracks t
   unchanged changed t other = changed t ∙ rw other refl
 
-  pub changed_places : ((o : OnTrack) → (change o).places ≡ o.places) → IsChanged tracks new track change → (t : Track) →
-      (track_at new t).places ≡ (track_at tracks t).places
-  changed_places stay changed t = elim (cases_Bool (same_track track t)) [
-    | inl here ↦ ap (λ o. o.places) (changed_here changed t here) ∙ stay (track_at tracks t)
-    | inr other ↦ ap (λ o. o.places) (unchanged changed t other)
+  pub changed_indexes : ((o : OnTrack) → (change o).indexes ≡ o.indexes) → IsChanged tracks new track change → (t : Track) →
+      (track_at new t).indexes ≡ (track_at tracks t).indexes
+  changed_indexes stay changed t = elim (cases_Bool (same_track track t)) [
+    | inl here ↦ ap (λ o. o.indexes) (changed_here changed t here) ∙ stay (track_at tracks t)
+    | inr other ↦ ap (λ o. o.indexes) (unchanged changed t other)
   ]
 
   pub changed_weight : ((o : OnTrack) → (change o).weight ≡ o.weight) → IsChanged tracks new track change → (t : Track)
@@ -71,17 +71,17 @@ module _ (tracks new : List (List OnTrack)) (track : Track) (change : OnTrack �
     | inr other ↦ ap (λ o. o.offers) (unchanged changed t other)
   ]
 
--- the indexes hold with other tracks whose places and weights are the same
+-- the indexes hold with other tracks whose indexes and weights are the same
 pub kept_still : (es : List Entry) (tasks : List OfTask) (tracks new : List (List OnTrack)) → IsKept es tasks tracks
-    → ((t : Track) → (track_at new t).places ≡ (track_at tracks t).places) → ((t : Track) → (track_at new t).weight ≡
+    → ((t : Track) → (track_at new t).indexes ≡ (track_at tracks t).indexes) → ((t : Track) → (track_at new t).weight ≡
     (track_at tracks t).weight) → IsKept es tasks new
-kept_still es tasks tracks new h same_places same_weights = record {
+kept_still es tasks tracks new h same_indexes same_weights = record {
   in_order = h.in_order;
   few = h.few;
   small = h.small;
   index = record {
     by_task = h.index.by_task;
-    by_track = λ t. same_places t ∙ h.index.by_track t;
+    by_track = λ t. same_indexes t ∙ h.index.by_track t;
     by_weight = λ t. same_weights t
         ∙ h.index.by_weight t;
   };
@@ -118,10 +118,10 @@ module _ (s : State) (n : ℕ) (e : Entry) (es : List Entry) (tracks new : List 
       let same : e.block.task ≡ task = grind (arith, nat_tests) in
       ap (counted_anew (counts_of e.block.task (e ∷ [])) (counts_of e.block.task (turned ∷ []))) kept
       ∙ (ap (λ u. counted_anew (counts_of u (e ∷ [])) (counts_of u (turned ∷ [])) (kept_of_task task es)) same
-      ∙ same_blocks _ _ (sym (places-with_state (λ b. b.task == task) s n es)) (counts-with_state task s n e es at))
+      ∙ same_blocks _ _ (sym (indexes_of-with_state (λ b. b.task == task) s n es)) (counts-with_state task s n e es at))
 
   kept_other : (task : ℕ) → (e.block.task == task) ≡ false → kept_of_task task es ≡ kept_of_task task (with_state s n es)
-  kept_other task other = same_blocks _ _ (sym (places-with_state (λ b. b.task == task) s n es)) (counts-with_other task s n e es at other)
+  kept_other task other = same_blocks _ _ (sym (indexes_of-with_state (λ b. b.task == task) s n es)) (counts-with_other task s n e es at other)
 
   kept_turned : (tasks more : List OfTask) → IsKept es tasks tracks
       → IsTaskChanged tasks more e.block.task (counted_anew (counts_of e.block.task (e ∷ [])) (counts_of e.block.task (turned ∷ [])))
@@ -135,8 +135,8 @@ module _ (s : State) (n : ℕ) (e : Entry) (es : List Entry) (tracks new : List 
         | inl own ↦ counted task ∙ rw own (kept_own task (get_or tasks task no_blocks) own (h.index.by_task task))
         | inr other ↦ counted task ∙ rw other (h.index.by_task task ∙ kept_other task other)
       ];
-      by_track = λ t. changed_places tracks new e.block.track change (λ o. refl) changed t
-          ∙ (h.index.by_track t ∙ sym (places-with_state (λ b. same_track t b.track) s n es));
+      by_track = λ t. changed_indexes tracks new e.block.track change (λ o. refl) changed t
+          ∙ (h.index.by_track t ∙ sym (indexes_of-with_state (λ b. same_track t b.track) s n es));
       by_weight = λ t. elim (cases_Bool (same_track e.block.track t)) [
         | inl here ↦ ap (λ o. o.weight) (changed_here tracks new e.block.track change changed t here) ∙ weight_there t
             (weight_kept tracks t) here (h.index.by_weight t)
@@ -162,11 +162,11 @@ module _ (e : Entry) (es : List Entry) (tasks newtasks : List OfTask) (tracks ne
   more_own task blocks own kept =
       let same : e.block.task ≡ task = grind (arith, nat_tests) in
       ap (grown_task (length es) e) kept
-      ∙ same_blocks _ _ (sym (places-more_yes (of_task task) es e own)) (ap (λ u. recounted no_counts (counts_of u (e ∷ []))
+      ∙ same_blocks _ _ (sym (indexes_of-more_yes (of_task task) es e own)) (ap (λ u. recounted no_counts (counts_of u (e ∷ []))
       (counts_of task es)) same ∙ counts-grown task es e)
 
   more_other : (task : ℕ) → (e.block.task == task) ≡ false → kept_of_task task es ≡ kept_of_task task (es ++ e ∷ [])
-  more_other task other = same_blocks _ _ (sym (places-more_no (of_task task) es e other)) (counts-grown_other task es e other)
+  more_other task other = same_blocks _ _ (sym (indexes_of-more_no (of_task task) es e other)) (counts-grown_other task es e other)
 
   more_of_task : (task : ℕ) → get_or tasks task no_blocks ≡ kept_of_task task es
       → IsTaskChanged tasks newtasks e.block.task (grown_task (length es) e)
@@ -176,16 +176,16 @@ module _ (e : Entry) (es : List Entry) (tasks newtasks : List OfTask) (tracks ne
     | inr other ↦ changed task ∙ rw other (kept ∙ more_other task other)
   ]
 
-  more_places : (t : Track) → (track_at tracks t).places ≡ places (of_track t) es
-      → IsChanged tracks new e.block.track (grown (length es)) → (track_at new t).places ≡ places (of_track t) (es ++ e ∷ [])
-  more_places t kept changed = elim (cases_Bool (same_track e.block.track t)) [
+  more_indexes : (t : Track) → (track_at tracks t).indexes ≡ indexes_of (of_track t) es
+      → IsChanged tracks new e.block.track (grown (length es)) → (track_at new t).indexes ≡ indexes_of (of_track t) (es ++ e ∷ [])
+  more_indexes t kept changed = elim (cases_Bool (same_track e.block.track t)) [
     | inl here ↦
         let on = turned_track e.block.track t here in
-        ap (λ o. o.places) (changed_here tracks new e.block.track (grown (length es)) changed t here)
-        ∙ (ap (λ l. l ++ length es ∷ []) kept ∙ sym (places-more_yes (of_track t) es e on))
+        ap (λ o. o.indexes) (changed_here tracks new e.block.track (grown (length es)) changed t here)
+        ∙ (ap (λ l. l ++ length es ∷ []) kept ∙ sym (indexes_of-more_yes (of_track t) es e on))
     | inr other ↦
-        ap (λ o. o.places) (unchanged tracks new e.block.track (grown (length es)) changed t other)
-        ∙ (kept ∙ sym (places-more_no (of_track t) es e (turned_other e.block.track t other)))
+        ap (λ o. o.indexes) (unchanged tracks new e.block.track (grown (length es)) changed t other)
+        ∙ (kept ∙ sym (indexes_of-more_no (of_track t) es e (turned_other e.block.track t other)))
   ]
 
   more_weight : (t : Track) → is_wanted e.state ≡ false → weight_kept tracks t ≡ wanted_weight t es
@@ -204,18 +204,18 @@ module _ (e : Entry) (es : List Entry) (tasks newtasks : List OfTask) (tracks ne
     small = small-more es e h.small light short;
     index = record {
       by_task = λ task. more_of_task task (h.index.by_task task) by_task;
-      by_track = λ t. more_places t (h.index.by_track t) by_track;
+      by_track = λ t. more_indexes t (h.index.by_track t) by_track;
       by_weight = λ t. more_weight t un (h.index.by_weight t) by_track;
     };
   }
 
   -- the indexes after a block is added at the end that isn't wanted
-  pub kept_pushed : (items : List Entry) (place : ℕ) → items ≡ es ++ e ∷ [] → place ≡ length es
+  pub kept_pushed : (items : List Entry) (index : ℕ) → items ≡ es ++ e ∷ [] → index ≡ length es
       → IsKept es tasks tracks → e.block.index ≡ registered e.block.task (blocks_of es) → length es < 16000000
       → e.block.weight ≤ 1000 → e.block.count ≤ 2048 → is_wanted e.state ≡ false
-      → IsTaskChanged tasks newtasks e.block.task (grown_task place e)
-      → IsChanged tracks new e.block.track (grown place) → IsKept items newtasks new
-  kept_pushed items place list is h free room light short un by_task by_track =
+      → IsTaskChanged tasks newtasks e.block.task (grown_task index e)
+      → IsChanged tracks new e.block.track (grown index) → IsKept items newtasks new
+  kept_pushed items index list is h free room light short un by_task by_track =
       subst (λ l. IsKept l newtasks new) (sym list) (kept_more h free room light short un
       (subst (λ p. IsTaskChanged tasks newtasks e.block.task (grown_task p e)) is by_task)
       (subst (λ p. IsChanged tracks new e.block.track (grown p)) is by_track))

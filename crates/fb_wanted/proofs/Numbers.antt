@@ -9,7 +9,7 @@ use Rattle.fb_wanted.specs.declared.block.Block.{Block}
 use Rattle.fb_wanted.specs.declared.block.Entry.{Entry}
 use Rattle.fb_wanted.specs.States.{is_block}
 use Rattle.fb_wanted.specs.Numbering.{AreInOrder, AreSmall, blocks_of, registered}
-use Rattle.fb_wanted.specs.Index.{of_task, places}
+use Rattle.fb_wanted.specs.Index.{of_task, indexes_of}
 use Rattle.fb_wanted.proofs.Standing.{among}
 
 -- an element of a list with one more at the end is in the list, or it is the new one
@@ -94,9 +94,9 @@ block_is task index e h = (grind (arith, nat_tests), grind (arith, nat_tests))
 -- the block with a number in its task is found at that index among the blocks of the task
 pub found : (es : List Entry) (task index i : ℕ) (e : Entry) → AreInOrder (blocks_of es) → slice_get es i ≡ Some e
     → is_block task index e ≡ true
-    → (slice_get (places (of_task task) es) index ≡ Some i) × (slice_get (filter (of_task task) es) index ≡ Some e)
+    → (slice_get (indexes_of (of_task task) es) index ≡ Some i) × (slice_get (filter (of_task task) es) index ≡ Some e)
 found es task index i e h at is =
     let own = block_is task index e is in
-    let place = among (of_task task) es i e at own.0 in
-    let same : place.0 ≡ index = sym (index_at es task place.0 e h place.2) ∙ own.1 in
-    (ap (slice_get (places (of_task task) es)) (sym same) ∙ place.1, ap (slice_get (filter (of_task task) es)) (sym same) ∙ place.2)
+    let it = among (of_task task) es i e at own.0 in
+    let same : it.0 ≡ index = sym (index_at es task it.0 e h it.2) ∙ own.1 in
+    (ap (slice_get (indexes_of (of_task task) es)) (sym same) ∙ it.1, ap (slice_get (filter (of_task task) es)) (sym same) ∙ it.2)

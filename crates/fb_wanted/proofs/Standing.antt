@@ -8,29 +8,29 @@ use Rattle.fb_wanted.specs.declared.block.Entry.{Entry}
 use Rattle.fb_wanted.specs.declared.block.Block.{Block}
 use Rattle.fb_wanted.specs.declared.block.State.{State}
 use Rattle.fb_wanted.specs.Numbering.{blocks_of}
-use Rattle.fb_wanted.specs.Index.{places, with_state, change_nth, change_first}
+use Rattle.fb_wanted.specs.Index.{indexes_of, with_state, change_nth, change_first}
 
-pub length-places : (p : Entry → Bool) (es : List Entry) → length (places p es) ≡ length (filter p es)
-length-places p [] = refl
-length-places p (e ∷ es) = elim (cases_Bool (p e)) [
-  | inl yes' ↦ rw yes' (ap (λ n. suc n) (length-map (places p es) (λ n. suc n) ∙ length-places p es))
-  | inr no' ↦ rw no' (length-map (places p es) (λ n. suc n) ∙ length-places p es)
+pub length-indexes_of : (p : Entry → Bool) (es : List Entry) → length (indexes_of p es) ≡ length (filter p es)
+length-indexes_of p [] = refl
+length-indexes_of p (e ∷ es) = elim (cases_Bool (p e)) [
+  | inl yes' ↦ rw yes' (ap (λ n. suc n) (length-map (indexes_of p es) (λ n. suc n) ∙ length-indexes_of p es))
+  | inr no' ↦ rw no' (length-map (indexes_of p es) (λ n. suc n) ∙ length-indexes_of p es)
 ]
 
-pub places-more_yes : (p : Entry → Bool) (es : List Entry) (e : Entry) → p e ≡ true
-    → places p (es ++ e ∷ []) ≡ places p es ++ length es ∷ []
-places-more_yes p [] e pass = rw pass refl
-places-more_yes p (x ∷ es) e pass =
-    let rest = ap (map (λ n. suc n)) (places-more_yes p es e pass) ∙ map-append (λ n. suc n) (places p es) (length es ∷ []) in
+pub indexes_of-more_yes : (p : Entry → Bool) (es : List Entry) (e : Entry) → p e ≡ true
+    → indexes_of p (es ++ e ∷ []) ≡ indexes_of p es ++ length es ∷ []
+indexes_of-more_yes p [] e pass = rw pass refl
+indexes_of-more_yes p (x ∷ es) e pass =
+    let rest = ap (map (λ n. suc n)) (indexes_of-more_yes p es e pass) ∙ map-append (λ n. suc n) (indexes_of p es) (length es ∷ []) in
     elim (cases_Bool (p x)) [
       | inl yes' ↦ rw yes' (ap (λ l. 0 ∷ l) rest)
       | inr no' ↦ rw no' rest
     ]
 
-pub places-more_no : (p : Entry → Bool) (es : List Entry) (e : Entry) → p e ≡ false → places p (es ++ e ∷ []) ≡ places p es
-places-more_no p [] e fail = rw fail refl
-places-more_no p (x ∷ es) e fail =
-    let rest = ap (map (λ n. suc n)) (places-more_no p es e fail) in
+pub indexes_of-more_no : (p : Entry → Bool) (es : List Entry) (e : Entry) → p e ≡ false → indexes_of p (es ++ e ∷ []) ≡ indexes_of p es
+indexes_of-more_no p [] e fail = rw fail refl
+indexes_of-more_no p (x ∷ es) e fail =
+    let rest = ap (map (λ n. suc n)) (indexes_of-more_no p es e fail) in
     elim (cases_Bool (p x)) [
       | inl yes' ↦ rw yes' (ap (λ l. 0 ∷ l) rest)
       | inr no' ↦ rw no' rest
@@ -54,49 +54,49 @@ get_some (x ∷ xs) (suc k) h = get_some xs k (omega arith)
 
 -- the entry at the k-th index is the k-th that passes the test
 at_step : (p : Entry → Bool) (x : Entry) (es : List Entry) (b : Bool) (k j : ℕ)
-    → ((i n : ℕ) → slice_get (places p es) i ≡ Some n → slice_get (filter p es) i ≡ slice_get es n)
-    → slice_get (if b then 0 ∷ map (λ n. suc n) (places p es) else map (λ n. suc n) (places p es)) k ≡ Some j
+    → ((i n : ℕ) → slice_get (indexes_of p es) i ≡ Some n → slice_get (filter p es) i ≡ slice_get es n)
+    → slice_get (if b then 0 ∷ map (λ n. suc n) (indexes_of p es) else map (λ n. suc n) (indexes_of p es)) k ≡ Some j
     → slice_get (if b then x ∷ filter p es else filter p es) k ≡ slice_get (x ∷ es) j
 at_step p x es true zero j rest h = ap (slice_get (x ∷ es)) (same_Some 0 j h)
-at_step p x es true (suc k) j rest h = let r = raised (places p es) k j h in rest k r.0 r.1 ∙ ap (slice_get (x ∷ es)) (sym r.2)
-at_step p x es false k j rest h = let r = raised (places p es) k j h in rest k r.0 r.1 ∙ ap (slice_get (x ∷ es)) (sym r.2)
+at_step p x es true (suc k) j rest h = let r = raised (indexes_of p es) k j h in rest k r.0 r.1 ∙ ap (slice_get (x ∷ es)) (sym r.2)
+at_step p x es false k j rest h = let r = raised (indexes_of p es) k j h in rest k r.0 r.1 ∙ ap (slice_get (x ∷ es)) (sym r.2)
 
-pub at_place : (p : Entry → Bool) (es : List Entry) (k j : ℕ) → slice_get (places p es) k ≡ Some j
+pub at_index : (p : Entry → Bool) (es : List Entry) (k j : ℕ) → slice_get (indexes_of p es) k ≡ Some j
     → slice_get (filter p es) k ≡ slice_get es j
-at_place p [] k j h = absurd (none-some j h)
-at_place p (x ∷ es) k j h = at_step p x es (p x) k j (at_place p es) h
+at_index p [] k j h = absurd (none-some j h)
+at_index p (x ∷ es) k j h = at_step p x es (p x) k j (at_index p es) h
 
 -- each index is one of the list's
-pub place_within : (p : Entry → Bool) (es : List Entry) (k j : ℕ) → slice_get (places p es) k ≡ Some j → j < length es
-place_within p es k j h =
-    let lt = slice_get_within (places p es) k j h in
-    let inside : k < length (filter p es) = omega (arith, lt, length-places p es) in
+pub index_within : (p : Entry → Bool) (es : List Entry) (k j : ℕ) → slice_get (indexes_of p es) k ≡ Some j → j < length es
+index_within p es k j h =
+    let lt = slice_get_within (indexes_of p es) k j h in
+    let inside : k < length (filter p es) = omega (arith, lt, length-indexes_of p es) in
     let e = get_some (filter p es) k inside in
-    slice_get_within es j e.0 (sym (at_place p es k j h) ∙ e.1)
+    slice_get_within es j e.0 (sym (at_index p es k j h) ∙ e.1)
 
 -- a list of these indexes is as long as the list of those that pass
-pub place_there : (p : Entry → Bool) (es : List Entry) (ps : List ℕ) (k : ℕ) → ps ≡ places p es → k < length (filter p es) → k < length ps
-place_there p es ps k same lt = omega (arith, lt, ap length same, length-places p es)
+pub index_there : (p : Entry → Bool) (es : List Entry) (ps : List ℕ) (k : ℕ) → ps ≡ indexes_of p es → k < length (filter p es) → k < length ps
+index_there p es ps k same lt = omega (arith, lt, ap length same, length-indexes_of p es)
 
-pub place_at : (p : Entry → Bool) (es : List Entry) (ps : List ℕ) (k : ℕ) → ps ≡ places p es → k < length (filter p es)
-    → slice_get (places p es) k ≡ Some (get_or ps k 0)
-place_at p es ps k same lt = ap (λ l. slice_get l k) (sym same) ∙ slice_get-get_or ps k 0 (place_there p es ps k same lt)
+pub index_read : (p : Entry → Bool) (es : List Entry) (ps : List ℕ) (k : ℕ) → ps ≡ indexes_of p es → k < length (filter p es)
+    → slice_get (indexes_of p es) k ≡ Some (get_or ps k 0)
+index_read p es ps k same lt = ap (λ l. slice_get l k) (sym same) ∙ slice_get-get_or ps k 0 (index_there p es ps k same lt)
 
 -- the k-th entry that passes is the entry at the k-th index
-pub read_at : (p : Entry → Bool) (es : List Entry) (ps : List ℕ) (k : ℕ) (d : Entry) → ps ≡ places p es → k < length (filter p es)
+pub read_at : (p : Entry → Bool) (es : List Entry) (ps : List ℕ) (k : ℕ) (d : Entry) → ps ≡ indexes_of p es → k < length (filter p es)
     → slice_get (filter p es) k ≡ Some (get_or es (get_or ps k 0) d)
 read_at p es ps k d same lt =
-    let at = place_at p es ps k same lt in
-    at_place p es k (get_or ps k 0) at ∙ slice_get-get_or es (get_or ps k 0) d (place_within p es k (get_or ps k 0) at)
+    let at = index_read p es ps k same lt in
+    at_index p es k (get_or ps k 0) at ∙ slice_get-get_or es (get_or ps k 0) d (index_within p es k (get_or ps k 0) at)
 
 -- an entry that passes is found among those that pass
 pub among : (p : Entry → Bool) (es : List Entry) (j : ℕ) (e : Entry) → slice_get es j ≡ Some e → p e ≡ true
-    → (k : ℕ) × (slice_get (places p es) k ≡ Some j) × (slice_get (filter p es) k ≡ Some e)
+    → (k : ℕ) × (slice_get (indexes_of p es) k ≡ Some j) × (slice_get (filter p es) k ≡ Some e)
 among p [] j e h pass = absurd (none-some e h)
 among p (x ∷ es) zero e h pass = let hit = ap p (same_Some x e h) ∙ pass in (0, rw hit refl, rw hit h)
 among p (x ∷ es) (suc j) e h pass =
     let r = among p es j e h pass in
-    let up = raised_at (places p es) r.0 j r.1 in
+    let up = raised_at (indexes_of p es) r.0 j r.1 in
     elim (cases_Bool (p x)) [
       | inl yes' ↦ (suc r.0, rw yes' up, rw yes' r.2)
       | inr no' ↦ (r.0, rw no' up, rw no' r.2)
@@ -114,12 +114,12 @@ blocks-with_state s zero (e ∷ es) = refl
 blocks-with_state s (suc n) (e ∷ es) = ap (λ l. e.block ∷ l) (blocks-with_state s n es)
 
 -- a change of state doesn't change the indexes that pass a test of the block alone
-pub places-with_state : (p : Block → Bool) (s : State) (n : ℕ) (es : List Entry)
-    → places (λ e. p e.block) (with_state s n es) ≡ places (λ e. p e.block) es
-places-with_state p s n [] = refl
-places-with_state p s zero (e ∷ es) = refl
-places-with_state p s (suc n) (e ∷ es) =
-    ap (λ ps. if p e.block then 0 ∷ map (λ k. suc k) ps else map (λ k. suc k) ps) (places-with_state p s n es)
+pub indexes_of-with_state : (p : Block → Bool) (s : State) (n : ℕ) (es : List Entry)
+    → indexes_of (λ e. p e.block) (with_state s n es) ≡ indexes_of (λ e. p e.block) es
+indexes_of-with_state p s n [] = refl
+indexes_of-with_state p s zero (e ∷ es) = refl
+indexes_of-with_state p s (suc n) (e ∷ es) =
+    ap (λ ps. if p e.block then 0 ∷ map (λ k. suc k) ps else map (λ k. suc k) ps) (indexes_of-with_state p s n es)
 
 -- writing an entry with its new state changes the state alone
 pub items-with_state : (s : State) (n : ℕ) (e : Entry) (es : List Entry) → slice_get es n ≡ Some e
@@ -131,9 +131,9 @@ items-with_state s (suc n) e (x ∷ es) h = ap (λ l. x ∷ l) (items-with_state
 
 -- changing the state at the k-th index is the change of the k-th entry that passes
 nth_step : (p : Entry → Bool) (f : Entry → Entry) (s : State) (x e : Entry) (es : List Entry) (b : Bool) (k j : ℕ)
-    → ((i n : ℕ) → slice_get (places p es) i ≡ Some n → slice_get es n ≡ Some e → with_state s n es ≡ change_nth p f i es)
+    → ((i n : ℕ) → slice_get (indexes_of p es) i ≡ Some n → slice_get es n ≡ Some e → with_state s n es ≡ change_nth p f i es)
     → p x ≡ b → f e ≡ record { block = e.block; state = s }
-    → slice_get (if b then 0 ∷ map (λ n. suc n) (places p es) else map (λ n. suc n) (places p es)) k ≡ Some j
+    → slice_get (if b then 0 ∷ map (λ n. suc n) (indexes_of p es) else map (λ n. suc n) (indexes_of p es)) k ≡ Some j
     → slice_get (x ∷ es) j ≡ Some e → with_state s j (x ∷ es) ≡ change_nth p f k (x ∷ es)
 nth_step p f s x e es true zero j rest is new h at =
     let first : j ≡ 0 = sym (same_Some 0 j h) in
@@ -141,18 +141,18 @@ nth_step p f s x e es true zero j rest is new h at =
     rw (first, is) (ap (λ y. y ∷ es) (ap (λ (y : Entry). let z : Entry = record { block = y.block; state = s } in z) same
     ∙ (sym new ∙ ap f (sym same))))
 nth_step p f s x e es true (suc k) j rest is new h at =
-    let r = raised (places p es) k j h in
+    let r = raised (indexes_of p es) k j h in
     rw (r.2, is) (ap (λ l. x ∷ l) (rest k r.0 r.1 (ap (slice_get (x ∷ es)) (sym r.2) ∙ at)))
 nth_step p f s x e es false zero j rest is new h at =
-    let r = raised (places p es) zero j h in
+    let r = raised (indexes_of p es) zero j h in
     rw (r.2, is) (ap (λ l. x ∷ l) (rest zero r.0 r.1 (ap (slice_get (x ∷ es)) (sym r.2) ∙ at)))
 nth_step p f s x e es false (suc k) j rest is new h at =
-    let r = raised (places p es) (suc k) j h in
+    let r = raised (indexes_of p es) (suc k) j h in
     rw (r.2, is) (ap (λ l. x ∷ l) (rest (suc k) r.0 r.1 (ap (slice_get (x ∷ es)) (sym r.2) ∙ at)))
 
 pub nth_turned : (p : Entry → Bool) (f : Entry → Entry) (s : State) (e : Entry) (es : List Entry) (k j : ℕ)
     → f e ≡ record { block = e.block; state = s }
-    → slice_get (places p es) k ≡ Some j → slice_get es j ≡ Some e → with_state s j es ≡ change_nth p f k es
+    → slice_get (indexes_of p es) k ≡ Some j → slice_get es j ≡ Some e → with_state s j es ≡ change_nth p f k es
 nth_turned p f s e [] k j new h at = refl
 nth_turned p f s e (x ∷ es) k j new h at = nth_step p f s x e es (p x) k j (λ i n. nth_turned p f s e es i n new) refl new h at
 

@@ -22,9 +22,9 @@ use Rattle.fb_wanted.specs.Numbering.{AreInOrder, AreSmall, blocks_of}
 use Rattle.fb_wanted.specs.Tracks.{wanted_weight}
 
 -- the indexes in the list of the entries that pass a test
-abbrev pub places : (Entry → Bool) → List Entry → List ℕ
-places test [] = []
-places test (e ∷ es) = if test e then 0 ∷ map (λ n. suc n) (places test es) else map (λ n. suc n) (places test es)
+abbrev pub indexes_of : (Entry → Bool) → List Entry → List ℕ
+indexes_of test [] = []
+indexes_of test (e ∷ es) = if test e then 0 ∷ map (λ n. suc n) (indexes_of test es) else map (λ n. suc n) (indexes_of test es)
 
 abbrev pub of_task : ℕ → Entry → Bool
 of_task task entry = entry.block.task == task
@@ -34,19 +34,19 @@ of_track track entry = same_track track entry.block.track
 
 -- a task with no block
 abbrev pub no_blocks : OfTask
-no_blocks = record { places = []; counts = no_counts }
+no_blocks = record { indexes = []; counts = no_counts }
 
 -- a task with the index of one more block, uncounted
 abbrev pub joined : ℕ → OfTask → OfTask
-joined place blocks = record { places = blocks.places ++ place ∷ []; counts = blocks.counts }
+joined index blocks = record { indexes = blocks.indexes ++ index ∷ []; counts = blocks.counts }
 
 -- a task whose counts are without `lost` and with `gained`
 abbrev pub counted_anew : Counts → Counts → OfTask → OfTask
-counted_anew lost gained blocks = record { places = blocks.places; counts = recounted lost gained blocks.counts }
+counted_anew lost gained blocks = record { indexes = blocks.indexes; counts = recounted lost gained blocks.counts }
 
 -- a task with one more block
 abbrev pub grown_task : ℕ → Entry → OfTask → OfTask
-grown_task place entry blocks = counted_anew no_counts (counts_of entry.block.task (entry ∷ [])) (joined place blocks)
+grown_task index entry blocks = counted_anew no_counts (counts_of entry.block.task (entry ∷ [])) (joined index blocks)
 
 -- what is kept of a task has changed so, and of no other task
 abbrev pub IsTaskChanged : List OfTask → List OfTask → ℕ → (OfTask → OfTask) → Type 0
@@ -55,33 +55,33 @@ IsTaskChanged old new task change = (k : ℕ)
 
 -- what the index has for a task
 abbrev pub kept_of_task : ℕ → List Entry → OfTask
-kept_of_task task entries = record { places = places (of_task task) entries; counts = counts_of task entries }
+kept_of_task task entries = record { indexes = indexes_of (of_task task) entries; counts = counts_of task entries }
 
 -- what the index has for a track: the indexes of its blocks, the weight of the wanted ones, and what they offer
 pub record OnTrack : Type 0 where
-  pub places : List ℕ
+  pub indexes : List ℕ
   pub weight : ℕ
   pub offers : List Offer
 
 -- a track with no block
 abbrev pub no_block_on : OnTrack
-no_block_on = record { places = []; weight = 0; offers = [] }
+no_block_on = record { indexes = []; weight = 0; offers = [] }
 
 -- a track with one more block, which isn't wanted
 abbrev pub grown : ℕ → OnTrack → OnTrack
-grown place on = record { places = on.places ++ place ∷ []; weight = on.weight; offers = on.offers }
+grown index on = record { indexes = on.indexes ++ index ∷ []; weight = on.weight; offers = on.offers }
 
 -- a track whose weight is without `lost` and with `gained`
 abbrev pub reweighed : ℕ → ℕ → OnTrack → OnTrack
-reweighed lost gained on = record { places = on.places; weight = on.weight - lost + gained; offers = on.offers }
+reweighed lost gained on = record { indexes = on.indexes; weight = on.weight - lost + gained; offers = on.offers }
 
 -- a track with one more offer
 abbrev pub with_offer : Offer → OnTrack → OnTrack
-with_offer offer on = record { places = on.places; weight = on.weight; offers = on.offers ++ offer ∷ [] }
+with_offer offer on = record { indexes = on.indexes; weight = on.weight; offers = on.offers ++ offer ∷ [] }
 
 -- what a block with no sector offers
 abbrev pub no_offer : Offer
-no_offer = record { sweep = record { begin = 0; length = 0 }; worth = 0; place = 0 }
+no_offer = record { sweep = record { begin = 0; length = 0 }; worth = 0; index = 0 }
 
 -- the last offer
 abbrev pub last_of : List Offer → Offer
@@ -93,7 +93,7 @@ taken_out index offers = swap_remove offers index no_offer
 
 -- a track without the offer at an index
 abbrev pub without_offer : ℕ → OnTrack → OnTrack
-without_offer index on = record { places = on.places; weight = on.weight; offers = taken_out index on.offers }
+without_offer index on = record { indexes = on.indexes; weight = on.weight; offers = taken_out index on.offers }
 
 -- what stands for a track in lists by cylinder and by head
 abbrev pub track_at : List (List OnTrack) → Track → OnTrack
@@ -116,7 +116,7 @@ IsThere tracks track = (track.cylinder < length tracks) × (track.head < length 
 -- the indexes by task and by track are those of the list
 pub record IsIndex (entries : List Entry) (tasks : List OfTask) (tracks : List (List OnTrack)) : Type 0 where
   pub by_task : (task : ℕ) → get_or tasks task no_blocks ≡ kept_of_task task entries
-  pub by_track : (track : Track) → (track_at tracks track).places ≡ places (of_track track) entries
+  pub by_track : (track : Track) → (track_at tracks track).indexes ≡ indexes_of (of_track track) entries
   pub by_weight : (track : Track) → (track_at tracks track).weight ≡ wanted_weight track entries
 
 -- the LBNs of a task's blocks, in order of registration
@@ -173,20 +173,20 @@ abbrev pub offers_at : List (List OnTrack) → Track → List Offer
 offers_at tracks track = (track_at tracks track).offers
 
 -- an offer is that of a wanted block of the track, and it stands at the index that is noted for this block
-pub record IsItsOffer (entries : List Entry) (indexes : List ℕ) (track : Track) (index : ℕ) (offer : Offer) : Type 0 where
+pub record IsItsOffer (entries : List Entry) (offer_indexes : List ℕ) (track : Track) (i : ℕ) (offer : Offer) : Type 0 where
   pub entry : Entry
-  pub there : slice_get entries offer.place ≡ Some entry
+  pub there : slice_get entries offer.index ≡ Some entry
   pub on : same_track entry.block.track track ≡ true
   pub wanted : is_wanted entry.state ≡ true
-  pub index_is : slice_get indexes offer.place ≡ Some index
+  pub index_is : slice_get offer_indexes offer.index ≡ Some i
 
 -- the offers of each track are those of its wanted blocks, in some order, and each stands at the index that is noted for its block
-pub record AreOffered (entries : List Entry) (offers : Track → List Offer) (indexes : List ℕ) : Type 0 where
+pub record AreOffered (entries : List Entry) (offers : Track → List Offer) (offer_indexes : List ℕ) : Type 0 where
   pub sums : (track : Track) → AreSameBlocks (offered_blocks entries (offers track)) (wanted_of (on_track track entries))
-  pub each : (track : Track) (i : ℕ) (offer : Offer) → slice_get (offers track) i ≡ Some offer → IsItsOffer entries indexes track i offer
-  pub all : (place : ℕ) (entry : Entry) → slice_get entries place ≡ Some entry → is_wanted entry.state ≡ true
-      → (i : ℕ) × (slice_get indexes place ≡ Some i) × (slice_get (offers entry.block.track) i ≡ Some (offer_of place entry.block))
-  pub one_each : length indexes ≡ length entries
+  pub each : (track : Track) (i : ℕ) (offer : Offer) → slice_get (offers track) i ≡ Some offer → IsItsOffer entries offer_indexes track i offer
+  pub all : (index : ℕ) (entry : Entry) → slice_get entries index ≡ Some entry → is_wanted entry.state ≡ true
+      → (i : ℕ) × (slice_get offer_indexes index ≡ Some i) × (slice_get (offers entry.block.track) i ≡ Some (offer_of index entry.block))
+  pub one_each : length offer_indexes ≡ length entries
 
 -- no track has more wanted weight than the bound of its cylinder, and each cylinder in the index has a bound
 pub record AreGreatest (tracks : List (List OnTrack)) (greatest : List ℕ) : Type 0 where

@@ -21,7 +21,7 @@ AreSameBlocks blocks others = (measure : Block → ℕ) → sum_by measure block
 
 -- what a block offers, with its index among all registered ones
 abbrev pub offer_of : ℕ → Block → Offer
-offer_of place block = record { sweep = block.sweep; worth = block.weight * block.count; place = place }
+offer_of index block = record { sweep = block.sweep; worth = block.weight * block.count; index = index }
 
 -- a block with no sector, which stands for none
 abbrev pub no_block : Block
@@ -37,9 +37,9 @@ no_block = record {
 
 -- the blocks of some offers, each found by its index among all registered ones
 abbrev pub offered_blocks : List Entry → List Offer → List Block
-offered_blocks entries offers = map (λ offer. get_or (blocks_of entries) offer.place no_block) offers
+offered_blocks entries offers = map (λ offer. get_or (blocks_of entries) offer.index no_block) offers
 
 -- each offer is what the registered block at its index offers
 abbrev pub AreFound : List Entry → List Offer → Type 0
 AreFound entries offers = (i : ℕ) (offer : Offer) → slice_get offers i ≡ Some offer
-    → (block : Block) × (slice_get (blocks_of entries) offer.place ≡ Some block) × (offer ≡ offer_of offer.place block)
+    → (block : Block) × (slice_get (blocks_of entries) offer.index ≡ Some block) × (offer ≡ offer_of offer.index block)

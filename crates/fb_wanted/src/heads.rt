@@ -26,15 +26,15 @@ impl Model for Heads {
 
 // Adds a block that isn't wanted to a track. Out of memory, it returns `NoMemory` and no track has
 // changed.
-fn add_to(tracks: &mut Vec<OnTrack>, alloc: Global, head: u32, place: u32) -> Result<(), NoMemory>
-    ensures ok { OnOk result (IsHeadChanged tracks.old.items tracks.new.items head (grown place)) }
+fn add_to(tracks: &mut Vec<OnTrack>, alloc: Global, head: u32, index: u32) -> Result<(), NoMemory>
+    ensures ok { OnOk result (IsHeadChanged tracks.old.items tracks.new.items head (grown index)) }
     ensures err { OnErr result ((h : ℕ) → get_or tracks.new.items h no_block_on ≡ get_or tracks.old.items h no_block_on) }
 {
     let head = head as usize;
     for _ in tracks.len()..head + 1 {
         tracks.push(OnTrack::new(alloc))?;
     }
-    tracks[head].add(place)?;
+    tracks[head].add(index)?;
     Ok(())
 }
 
@@ -76,11 +76,11 @@ impl Heads {
 
     /// Adds a block that isn't wanted to the track of a head. Out of memory, it returns `NoMemory`
     /// and no track has changed.
-    pub fn add(&mut self, alloc: Global, head: u32, place: u32) -> Result<(), NoMemory>
-        ensures ok { OnOk result (IsHeadChanged self.old self.new head (grown place)) }
+    pub fn add(&mut self, alloc: Global, head: u32, index: u32) -> Result<(), NoMemory>
+        ensures ok { OnOk result (IsHeadChanged self.old self.new head (grown index)) }
         ensures err { OnErr result ((h : ℕ) → get_or self.new h no_block_on ≡ get_or self.old h no_block_on) }
     {
-        add_to(&mut self.items, alloc, head, place)
+        add_to(&mut self.items, alloc, head, index)
     }
 
     /// Takes `lost` from the wanted weight of a head's track and adds `gained`, and returns the
@@ -98,7 +98,7 @@ impl Heads {
     /// Adds an offer to those of a head's track, and returns its index there.
     pub fn offer(&mut self, head: u32, offer: Offer) -> u32
         requires there { head < length self.old }
-        requires room { length (get_or self.old head no_block_on).offers < length (get_or self.old head no_block_on).places }
+        requires room { length (get_or self.old head no_block_on).offers < length (get_or self.old head no_block_on).indexes }
         requires few { length (get_or self.old head no_block_on).offers < 2 ^ 32 }
         ensures tracks { IsHeadChanged self.old self.new head (with_offer offer) }
         ensures index { result ≡ length (get_or self.old head no_block_on).offers }
@@ -112,12 +112,12 @@ impl Heads {
         requires there { head < length self.old }
         requires index { index < length (get_or self.old head no_block_on).offers }
         ensures tracks { IsHeadChanged self.old self.new head (without_offer index) }
-        ensures moved { result ≡ (last_of (get_or self.old head no_block_on).offers).place }
+        ensures moved { result ≡ (last_of (get_or self.old head no_block_on).offers).index }
     {
         self.items[head as usize].withdraw(index)
     }
 
-    /// The registered blocks of a head's track; none if there is no place for it yet.
+    /// The registered blocks of a head's track; none if there is no room for it yet.
     pub fn at(&self, head: u32) -> Option<&OnTrack>
         ensures some { IfSome result (λ on. on.now ≡ get_or self.now head no_block_on) }
         ensures none { IfNone result (no_block_on ≡ get_or self.now head no_block_on) }

@@ -13,18 +13,18 @@ pub struct Offer {
     /// Weight times sectors, at most 2,048,000.
     pub worth: u32,
     // The index of the block among all registered ones.
-    pub(crate) place: u32,
+    pub(crate) index: u32,
 }
 
-/// What a block offers whose index among all registered ones is `place`.
-pub fn offer_of(place: u32, block: Block) -> Offer
+/// What a block offers whose index among all registered ones is `index`.
+pub fn offer_of(index: u32, block: Block) -> Offer
     requires light { block.weight ≤ 1000 }
     requires short { block.count ≤ 2048 }
-    ensures { result ≡ offer_of place block }
+    ensures { result ≡ offer_of index block }
 {
     Offer {
         sweep: block.sweep,
         worth: block.weight * block.count,
-        place,
+        index,
     }
 }

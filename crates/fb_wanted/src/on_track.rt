@@ -11,7 +11,7 @@ use std::marker::Model;
 #[derive(Drop)]
 pub struct OnTrack {
     // Their indexes among all registered blocks.
-    places: Items<u32>,
+    indexes: Items<u32>,
     // The sum of weight times sectors over the wanted ones.
     weight: u64,
     // What the wanted ones offer, in any order; there is room for an offer of each block.
@@ -24,9 +24,9 @@ impl Model for OnTrack {
 
     ghost Value = { index.OnTrack };
 
-    ghost view = { λ t. record { places = t.places; weight = t.weight; offers = t.offers.items } };
+    ghost view = { λ t. record { indexes = t.indexes; weight = t.weight; offers = t.offers.items } };
 
-    ghost invariant = { λ t. length t.places ≤ vec_capacity t.offers };
+    ghost invariant = { λ t. length t.indexes ≤ vec_capacity t.offers };
 }
 
 impl OnTrack {
@@ -35,21 +35,21 @@ impl OnTrack {
         ensures { result ≡ no_block_on }
     {
         OnTrack {
-            places: Items::new(alloc),
+            indexes: Items::new(alloc),
             weight: 0,
             offers: Vec::new(alloc),
         }
     }
 
     /// Adds a block that isn't wanted. Out of memory, it returns `NoMemory` and nothing has changed.
-    pub fn add(&mut self, place: u32) -> Result<(), NoMemory>
-        ensures ok { OnOk result (self.new ≡ grown place self.old) }
+    pub fn add(&mut self, index: u32) -> Result<(), NoMemory>
+        ensures ok { OnOk result (self.new ≡ grown index self.old) }
         ensures err { OnErr result (self.new ≡ self.old) }
     {
-        let blocks = self.places.len() + 1;
+        let blocks = self.indexes.len() + 1;
         self.offers
             .reserve(blocks.saturating_sub(self.offers.len()))?;
-        self.places.push(place)
+        self.indexes.push(index)
     }
 
     /// Takes `lost` from the wanted weight and adds `gained`.
@@ -63,7 +63,7 @@ impl OnTrack {
 
     /// Adds an offer, and returns its index.
     pub fn offer(&mut self, offer: Offer) -> u32
-        requires room { length self.old.offers < length self.old.places }
+        requires room { length self.old.offers < length self.old.indexes }
         requires few { length self.old.offers < 2 ^ 32 }
         ensures offers { self.new ≡ with_offer offer self.old }
         ensures index { result ≡ length self.old.offers }
@@ -80,18 +80,18 @@ impl OnTrack {
     pub fn withdraw(&mut self, index: u32) -> u32
         requires { index < length self.old.offers }
         ensures offers { self.new ≡ without_offer index self.old }
-        ensures moved { result ≡ (last_of self.old.offers).place }
+        ensures moved { result ≡ (last_of self.old.offers).index }
     {
         let last = self.offers[self.offers.len() - 1];
         self.offers.swap_remove(index as usize);
-        last.place
+        last.index
     }
 
     /// The indexes of the blocks among all registered ones, in order of registration.
-    pub fn places(&self) -> &[u32]
-        ensures { result.now ≡ self.now.places }
+    pub fn indexes(&self) -> &[u32]
+        ensures { result.now ≡ self.now.indexes }
     {
-        self.places.as_slice()
+        self.indexes.as_slice()
     }
 
     /// The sum of weight times sectors over the wanted blocks.

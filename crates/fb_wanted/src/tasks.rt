@@ -12,42 +12,42 @@ use std::alloc::Global;
 #[derive(Drop)]
 pub struct OfTask {
     /// Their indexes among all registered blocks.
-    pub places: Items<u32>,
+    pub indexes: Items<u32>,
     /// How many there are, and how many of them are delivered and aborted.
     pub counts: Counts,
 }
 
 /// Adds the index of a block to those of the task, without counting the block. Out of memory, it
 /// returns `NoMemory` and no task has changed.
-pub fn add_place(
+pub fn add_index(
     tasks: &mut Vec<OfTask>,
     alloc: Global,
     task: u32,
-    place: u32,
+    index: u32,
 ) -> Result<(), NoMemory>
-    ensures ok { OnOk result (IsTaskChanged tasks.old.items tasks.new.items task (joined place)) }
+    ensures ok { OnOk result (IsTaskChanged tasks.old.items tasks.new.items task (joined index)) }
     ensures there { OnOk result (task < length tasks.new.items) }
     ensures err { OnErr result ((k : ℕ) → get_or tasks.new.items k no_blocks ≡ get_or tasks.old.items k no_blocks) }
 {
     let task = task as usize;
     for _ in tasks.len()..task + 1 {
         tasks.push(OfTask {
-            places: Items::new(alloc),
+            indexes: Items::new(alloc),
             counts: no_counts(),
         })?;
     }
-    tasks[task].places.push(place)?;
+    tasks[task].indexes.push(index)?;
     Ok(())
 }
 
 /// Removes the last index of the task.
-pub fn take_place_back(tasks: &mut Vec<OfTask>, task: u32)
+pub fn take_index_back(tasks: &mut Vec<OfTask>, task: u32)
     ensures { (blocks : OfTask) (last : ℕ) → get_or tasks.old.items task no_blocks ≡ joined last blocks
         → IsTaskChanged tasks.old.items tasks.new.items task (λ _. blocks) }
 {
     let task = task as usize;
     if task < tasks.len() {
-        tasks[task].places.pop();
+        tasks[task].indexes.pop();
     }
 }
 

@@ -67,13 +67,13 @@ impl Tracks {
 
     /// Adds a block that isn't wanted to a track. Out of memory, it returns `NoMemory` and no track
     /// has changed.
-    pub fn add(&mut self, alloc: Global, track: Track, place: u32) -> Result<(), NoMemory>
-        ensures ok { OnOk result (IsChanged self.old self.new track (grown place)) }
+    pub fn add(&mut self, alloc: Global, track: Track, index: u32) -> Result<(), NoMemory>
+        ensures ok { OnOk result (IsChanged self.old self.new track (grown index)) }
         ensures err { OnErr result ((t : Track) → track_at self.new t ≡ track_at self.old t) }
         ensures no_longer { (n : ℕ) → length self.old ≤ n → track.cylinder < n → length self.new ≤ n }
     {
         add_cylinders(&mut self.cylinders, alloc, track.cylinder)?;
-        self.cylinders[track.cylinder as usize].add(alloc, track.head, place)
+        self.cylinders[track.cylinder as usize].add(alloc, track.head, index)
     }
 
     /// Takes `lost` from the wanted weight of a track and adds `gained`, and returns the weight
@@ -92,7 +92,7 @@ impl Tracks {
     /// Adds an offer to those of a track, and returns its index there.
     pub fn offer(&mut self, track: Track, offer: Offer) -> u32
         requires there { IsThere self.old track }
-        requires room { length (offers_at self.old track) < length (track_at self.old track).places }
+        requires room { length (offers_at self.old track) < length (track_at self.old track).indexes }
         requires few { length (offers_at self.old track) < 2 ^ 32 }
         ensures tracks { IsChanged self.old self.new track (with_offer offer) }
         ensures index { result ≡ length (offers_at self.old track) }
@@ -107,13 +107,13 @@ impl Tracks {
         requires there { IsThere self.old track }
         requires index { index < length (offers_at self.old track) }
         ensures tracks { IsChanged self.old self.new track (without_offer index) }
-        ensures moved { result ≡ (last_of (offers_at self.old track)).place }
+        ensures moved { result ≡ (last_of (offers_at self.old track)).index }
         ensures length { length self.new ≡ length self.old }
     {
         self.cylinders[track.cylinder as usize].withdraw(track.head, index)
     }
 
-    /// The registered blocks of a track; none if there is no place for it yet.
+    /// The registered blocks of a track; none if there is no room for it yet.
     pub fn at(&self, track: Track) -> Option<&OnTrack>
         ensures some { IfSome result (λ on. on.now ≡ track_at self.now track) }
         ensures none { IfNone result (no_block_on ≡ track_at self.now track) }

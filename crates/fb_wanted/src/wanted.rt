@@ -10,7 +10,7 @@ ghost use Rattle.fb_wanted.specs.Counting.{counts_of, sum_of, Fit};
 ghost use Rattle.fb_wanted.specs.Tracks.{wanted_weight};
 ghost use Rattle.fb_wanted.specs.Depth.{depth_at};
 ghost use Rattle.fb_wanted.specs.Near.{near_of, SharesNone};
-ghost use Rattle.fb_wanted.specs.Index.{places, of_task, lbns, region_of, HasChanged, IsStable, IsWithin, changed_where, with_state};
+ghost use Rattle.fb_wanted.specs.Index.{indexes_of, of_task, lbns, region_of, HasChanged, IsStable, IsWithin, changed_where, with_state};
 ghost use Rattle.fb_wanted.specs.Index.{change_nth, track_at, grown, no_blocks, grown_task, IsChanged, IsTaskChanged};
 ghost use Rattle.fb_units.specs.declared.types.Track.{Track};
 ghost use Rattle.fb_units.specs.Tracks.{same_track};
@@ -24,7 +24,7 @@ use crate::near::{chunk_of, next_near};
 use crate::notes::note;
 use crate::offers::reoffer;
 use crate::streaks::{Streak, forget_streak, is_behind, next_streak, note_streak, region_of};
-use crate::tasks::{OfTask, add_place, recount, take_place_back};
+use crate::tasks::{OfTask, add_index, recount, take_index_back};
 use crate::tracks::{Tracks, weight_of};
 use crate::{Block, Change, Counts, Entry, State, TrackBlocks};
 use fb_units::{NoMemory, Track};
@@ -97,25 +97,25 @@ fn add_to_index(
     tasks: &mut Vec<OfTask>,
     tracks: &mut Tracks,
     alloc: Global,
-    place: u32,
+    index: u32,
     entry: Entry,
 ) -> Result<(), NoMemory>
     requires { Fit (sum_of (get_or tasks.old.items entry.block.task no_blocks).counts (counts_of entry.block.task (entry ∷ []))) }
-    ensures tasks { OnOk result (IsTaskChanged tasks.old.items tasks.new.items entry.block.task (grown_task place entry)) }
-    ensures tracks { OnOk result (IsChanged tracks.old tracks.new entry.block.track (grown place)) }
+    ensures tasks { OnOk result (IsTaskChanged tasks.old.items tasks.new.items entry.block.task (grown_task index entry)) }
+    ensures tracks { OnOk result (IsChanged tracks.old tracks.new entry.block.track (grown index)) }
     ensures tasks_stay { OnErr result ((k : ℕ) → get_or tasks.new.items k no_blocks ≡ get_or tasks.old.items k no_blocks) }
     ensures no_longer { (n : ℕ) → length tracks.old ≤ n → entry.block.track.cylinder < n → length tracks.new ≤ n }
     ensures tracks_stay { OnErr result ((t : Track) → track_at tracks.new t ≡ track_at tracks.old t) }
 {
     let block = entry.block;
-    add_place(tasks, alloc, block.task, place)?;
-    match tracks.add(alloc, block.track, place) {
+    add_index(tasks, alloc, block.task, index)?;
+    match tracks.add(alloc, block.track, index) {
         Ok(()) => {
             recount(tasks, block.task, no_counts(), counts_of(entry));
             Ok(())
         }
         Err(error) => {
-            take_place_back(tasks, block.task);
+            take_index_back(tasks, block.task);
             Err(error)
         }
     }
@@ -130,19 +130,19 @@ impl Wanted {
     }
 
     // The index, among all registered blocks, of the k-th block of the task.
-    fn place_of(&self, task: u32, k: u32) -> u32
+    fn index_of(&self, task: u32, k: u32) -> u32
         requires { k < length (filter (of_task task) self.now) }
-        ensures { slice_get (places (of_task task) self.now) k ≡ Some result }
+        ensures { slice_get (indexes_of (of_task task) self.now) k ≡ Some result }
     {
-        *self.tasks[task as usize].places.get(k as usize)
+        *self.tasks[task as usize].indexes.get(k as usize)
     }
 
     // The entry with an index among all registered blocks.
-    fn entry_at(&self, place: u32) -> Entry
-        requires { place < length self.now }
-        ensures { slice_get self.now place ≡ Some result }
+    fn entry_at(&self, index: u32) -> Entry
+        requires { index < length self.now }
+        ensures { slice_get self.now index ≡ Some result }
     {
-        self.entries[place as usize]
+        self.entries[index as usize]
     }
 
     // The k-th block of the task.
@@ -150,27 +150,27 @@ impl Wanted {
         requires { k < length (filter (of_task task) self.now) }
         ensures { slice_get (filter (of_task task) self.now) k ≡ Some result }
     {
-        self.entry_at(self.place_of(task, k))
+        self.entry_at(self.index_of(task, k))
     }
 
     // Changes the state of the entry with this index.
-    fn set_state(&mut self, place: u32, state: State)
-        requires { place < length self.old }
-        ensures { self.new ≡ with_state state place self.old }
+    fn set_state(&mut self, index: u32, state: State)
+        requires { index < length self.old }
+        ensures { self.new ≡ with_state state index self.old }
     {
-        let entry = self.entries[place as usize];
+        let entry = self.entries[index as usize];
         reoffer(
             &mut self.tracks,
             &mut self.offer_indexes,
             &self.entries,
-            place,
+            index,
             state,
         );
         let turned = Entry {
             block: entry.block,
             state,
         };
-        self.entries[place as usize] = turned;
+        self.entries[index as usize] = turned;
         recount(
             &mut self.tasks,
             entry.block.task,
@@ -194,9 +194,9 @@ impl Wanted {
         requires { k < length (filter (of_task task) self.old) }
         ensures { self.new ≡ change_nth (of_task task) (entry_after task change) k self.old }
     {
-        let place = self.place_of(task, k);
-        let entry = self.entry_at(place);
-        self.set_state(place, state_after(change, entry.block, entry.state));
+        let index = self.index_of(task, k);
+        let entry = self.entry_at(index);
+        self.set_state(index, state_after(change, entry.block, entry.state));
     }
 
     // Changes each block of the task.
@@ -304,7 +304,7 @@ impl Wanted {
         };
         let is_new = self.is_new_near(block);
         let chunk = chunk_of(block.lbn);
-        let place = self.entries.len() as u32;
+        let index = self.entries.len() as u32;
         let band = band_of(block);
         self.entries.reserve(1)?;
         self.offer_indexes.reserve(1)?;
@@ -312,7 +312,7 @@ impl Wanted {
         self.greatest.add_room(block.track.cylinder)?;
         add_bands(&mut self.depths, band, NO_DEPTH)?;
         note_streak(&mut self.streaks, block.task, streak, begins_streak)?;
-        match add_to_index(&mut self.tasks, &mut self.tracks, self.alloc, place, entry) {
+        match add_to_index(&mut self.tasks, &mut self.tracks, self.alloc, index, entry) {
             Ok(()) => {
                 deepen(&mut self.depths, band, block);
                 self.longest = self.longest.max(block.count);
@@ -355,10 +355,10 @@ impl Wanted {
         ensures ok { OnOk result (self.new ≡ self.old ++ record { block = block; state = wanted_unless suspended } ∷ []) }
         ensures err { OnErr result (self.new ≡ self.old) }
     {
-        let place = self.entries.len() as u32;
+        let index = self.entries.len() as u32;
         self.add(block)?;
         if !suspended {
-            self.set_state(place, State::Wanted);
+            self.set_state(index, State::Wanted);
         }
         Ok(())
     }
@@ -467,7 +467,7 @@ impl Wanted {
             Some(on) => TrackBlocks::new(
                 track,
                 self.entries.as_slice(),
-                on.places(),
+                on.indexes(),
                 on.weight(),
                 on.offers(),
             ),

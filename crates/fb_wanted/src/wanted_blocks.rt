@@ -61,6 +61,6 @@ impl<'a> WantedBlocks<'a> {
         requires { i < length self.now }
         ensures { slice_get self.now i ≡ Some result }
     {
-        self.entries[self.offers[i as usize].place as usize].block
+        self.entries[self.offers[i as usize].index as usize].block
     }
 }

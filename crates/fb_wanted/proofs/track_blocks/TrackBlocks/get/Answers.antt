@@ -1,19 +1,19 @@
 use Rattle.std.proofs.Common.{◌<◌, ◌∙◌, ap, sym, subst, length, slice_get, get_or}
 use Rattle.fb_wanted.specs.Index.{of_track}
-use Rattle.fb_wanted.proofs.Standing.{place_within, place_there, place_at, read_at}
+use Rattle.fb_wanted.proofs.Standing.{index_within, index_there, index_read, read_at}
 use Rattle.fb_wanted.proofs.track_blocks.TrackBlocks.get.Goals as goal
 
 pub bounds-self-inside-i : goal.bounds-self-inside-i
 bounds-self-inside-i c =
     let room = subst (λ es. c.args.i < length es) (sym c.self.view_is) c.requires in
-    place_there (of_track c.self.inside.track) c.self.inside.entries.now c.self.inside.at.now c.args.i c.self.invariant.0 room
+    index_there (of_track c.self.inside.track) c.self.inside.entries.now c.self.inside.at.now c.args.i c.self.invariant.0 room
 
 pub bounds-self-inside-self-inside : goal.bounds-self-inside-self-inside
 bounds-self-inside-self-inside c =
     let test = of_track c.self.inside.track in
     let room = subst (λ es. c.args.i < length es) (sym c.self.view_is) c.requires in
-    place_within test c.self.inside.entries.now c.args.i (get_or c.self.inside.at.now c.args.i 0)
-    (place_at test c.self.inside.entries.now c.self.inside.at.now c.args.i c.self.invariant.0 room)
+    index_within test c.self.inside.entries.now c.args.i (get_or c.self.inside.at.now c.args.i 0)
+    (index_read test c.self.inside.entries.now c.self.inside.at.now c.args.i c.self.invariant.0 room)
 
 pub returns : goal.returns
 returns c =

@@ -46,13 +46,13 @@ invariant_of-self-in-Ok c =
     let free = c.requires.numbered ∙ ap (λ es. registered task (blocks_of es)) (sym c.self.view_is) in
     let room = subst (λ es. length es < 16000000) (sym c.self.view_is) c.requires.room in
     let list = c.in_ok-push-in-Ok-2.ensures.items ∙ ap (λ l. l ++ entry ∷ []) c.in_ok-reserve.ensures.items in
-    let indexes = c.in_ok-push-in-Ok.ensures.items ∙ ap (λ l. l ++ 0 ∷ []) c.in_ok-reserve-2.ensures.items in
-    let place = c.len-place.ensures ∙ self.entries.ok.0 in
+    let offer_indexes = c.in_ok-push-in-Ok.ensures.items ∙ ap (λ l. l ++ 0 ∷ []) c.in_ok-reserve-2.ensures.items in
+    let index = c.len-index.ensures ∙ self.entries.ok.0 in
     let next = its_number c.args.block items free in
     let roomy = greatest_still self.tracks self.greatest c.add_room.new.self c.self.invariant.2 c.in_ok-add_room.ensures.stay
     c.in_ok-add_room.ensures.longer in (
       kept_pushed entry items self.tasks.items c.add_to_index.new.tasks.items self.tracks c.add_to_index.new.tracks
-          c.push-in-Ok.new.self.items c.len-place.result list place c.self.invariant.0 free room c.requires.light c.requires.short
+          c.push-in-Ok.new.self.items c.len-index.result list index c.self.invariant.0 free room c.requires.light c.requires.short
           refl c.in-Ok.ensures.tasks c.in-Ok.ensures.tracks,
       subst (λ l. AreNoted l c.note_streak.new.streaks) (sym list)
           (noted_more items task c.region_of.result c.args.block.index self.streaks c.note_streak.new.streaks
@@ -69,7 +69,7 @@ invariant_of-self-in-Ok c =
           (λ new i before to at same. c.begins_streak-begins_streak.ensures.new new i before to
           (ap (λ es. slice_get (lbns task es) i) (sym c.self.view_is) ∙ at) (same ∙ c.region_of.ensures))),
       greatest_same self.tracks c.add_to_index.new.tracks c.add_room.new.self roomy
-          (changed_weight self.tracks c.add_to_index.new.tracks c.args.block.track (grown c.len-place.result) (λ o. refl)
+          (changed_weight self.tracks c.add_to_index.new.tracks c.args.block.track (grown c.len-index.result) (λ o. refl)
           c.in-Ok.ensures.tracks)
           (c.in-Ok.ensures.no_longer (length c.add_room.new.self) roomy.there c.in_ok-add_room.ensures.there),
       deep_pushed items c.push-in-Ok.new.self.items entry c.band_of-band.result c.add_bands.new.bands.items c.deepen.new.depths.items list
@@ -85,10 +85,10 @@ invariant_of-self-in-Ok c =
           (short_more items entry self.longest c.max-self-inside.result c.self.invariant.5 (omega (arith, c.max-self-inside.ensures))
           (omega (arith, c.max-self-inside.ensures))),
       subst (λ l. AreOffered l (offers_at c.add_to_index.new.tracks) c.push.new.self.items) (sym list)
-          (subst (λ l. AreOffered (items ++ entry ∷ []) (offers_at c.add_to_index.new.tracks) l) (sym indexes)
+          (subst (λ l. AreOffered (items ++ entry ∷ []) (offers_at c.add_to_index.new.tracks) l) (sym offer_indexes)
           (offered_pushed items (offers_at c.add_to_index.new.tracks) self.offer_indexes.items entry 0
           (offered_still items (offers_at self.tracks) (offers_at c.add_to_index.new.tracks) self.offer_indexes.items c.self.invariant.6
-          (changed_offers self.tracks c.add_to_index.new.tracks c.args.block.track (grown c.len-place.result) (λ o. refl)
+          (changed_offers self.tracks c.add_to_index.new.tracks c.args.block.track (grown c.len-index.result) (λ o. refl)
           c.in-Ok.ensures.tracks)) refl)),
     )
 
@@ -110,7 +110,7 @@ invariant_of-self-in-Err c =
         small = old.small;
         index = record {
           by_task = λ t. stay.tasks_stay t ∙ old.index.by_task t;
-          by_track = λ t. ap (λ o. o.places) (stay.tracks_stay t) ∙ old.index.by_track t;
+          by_track = λ t. ap (λ o. o.indexes) (stay.tracks_stay t) ∙ old.index.by_track t;
           by_weight = λ t. ap (λ o. o.weight) (stay.tracks_stay t) ∙ old.index.by_weight t;
         };
       }),

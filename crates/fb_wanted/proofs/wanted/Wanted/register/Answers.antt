@@ -10,8 +10,8 @@ pub returns-then-not-suspended-clause-ok : goal.returns-then-not-suspended-claus
 returns-then-not-suspended-clause-ok c =
     let now = c.args.self.now in
     let entry : Entry = record { block = c.args.block; state = Suspended } in
-    let place : c.len-place.result ≡ length now = c.len-place.ensures ∙ (c.self.inside.entries.ok.0 ∙ ap length c.self.view_is) in
+    let index : c.len-index.result ≡ length now = c.len-index.ensures ∙ (c.self.inside.entries.ok.0 ∙ ap length c.self.view_is) in
     c.set_state.ensures
-    ∙ (ap (λ n. with_state Wanted n c.add.new.self) place ∙ (ap (with_state Wanted (length now)) c.in_ok-add.ensures.ok
+    ∙ (ap (λ n. with_state Wanted n c.add.new.self) index ∙ (ap (with_state Wanted (length now)) c.in_ok-add.ensures.ok
     ∙ state_last Wanted now entry))
     ∙ ap (λ b. let e : Entry = record { block = c.args.block; state = wanted_unless b } in now ++ e ∷ []) (sym c.if-not-suspended.true)

@@ -1,7 +1,7 @@
 use Rattle.std.proofs.Common.{◌≡◌, ◌<◌, ◌≤◌, Some, set, slice_get, ◌∙◌, ap, sym, subst, refl, length, arith}
 use Rattle.std.proofs.lemmas.Option.{slice_get_read}
 use Rattle.fb_wanted.specs.declared.block.Entry.{Entry}
-use Rattle.fb_wanted.specs.Index.{with_state, reweighed, places, of_track, offers_at, AreGreatest, AreNoted, AreShort, AreOffered, IsKept}
+use Rattle.fb_wanted.specs.Index.{with_state, reweighed, indexes_of, of_track, offers_at, AreGreatest, AreNoted, AreShort, AreOffered, IsKept}
 use Rattle.fb_wanted.specs.Numbering.{AreSmall, blocks_of}
 use Rattle.fb_wanted.specs.Near.{AreNear}
 use Rattle.fb_wanted.proofs.Standing.{items-with_state}
@@ -20,32 +20,32 @@ pub reoffer-requires : goal.reoffer-requires
 reoffer-requires c =
     let items = c.self.inside.entries.items in
     let is = sym c.deref.ensures.value in
-    let there = subst (λ es. c.args.place < length es) (sym c.self.view_is) c.requires in
+    let there = subst (λ es. c.args.index < length es) (sym c.self.view_is) c.requires in
     let kept = c.self.invariant.0 in
     record {
-      there = subst (λ es. c.args.place < length es) is there;
+      there = subst (λ es. c.args.index < length es) is there;
       small = subst (λ es. AreSmall (blocks_of es)) is kept.small;
       few = subst (λ es. length es ≤ 16000000) is kept.few;
-      places = λ t. kept.index.by_track t ∙ ap (places (of_track t)) is;
-      tracks = λ e at. its_track_there items c.self.inside.tasks.items c.self.inside.tracks kept c.args.place e
-          (ap (λ l. slice_get l c.args.place) is ∙ at);
+      indexes = λ t. kept.index.by_track t ∙ ap (indexes_of (of_track t)) is;
+      tracks = λ e at. its_track_there items c.self.inside.tasks.items c.self.inside.tracks kept c.args.index e
+          (ap (λ l. slice_get l c.args.index) is ∙ at);
       offered = subst (λ l. AreOffered l (offers_at c.self.inside.tracks) c.self.inside.offer_indexes.items) is c.self.invariant.6;
     }
 
 -- the entry that changes is there
-here : (c : After-reoffer) → slice_get c.self.inside.entries.items c.args.place ≡ Some c.index-entry.result.now
+here : (c : After-reoffer) → slice_get c.self.inside.entries.items c.args.index ≡ Some c.index-entry.result.now
 here c =
     let items = c.self.inside.entries.items in
-    let there = subst (λ es. c.args.place < length es) (sym c.self.view_is) c.requires in
-    slice_get_read items (length items) c.args.place c.index-entry.result.now refl there c.index-entry.ensures
+    let there = subst (λ es. c.args.index < length es) (sym c.self.view_is) c.requires in
+    slice_get_read items (length items) c.args.index c.index-entry.result.now refl there c.index-entry.ensures
 
 small : (c : After-reoffer) → (c.index-entry.result.now.block.weight ≤ 1000) × (c.index-entry.result.now.block.count ≤ 2048)
-small c = small_at c.self.inside.entries.items c.args.place c.index-entry.result.now c.self.invariant.0.small (here c)
+small c = small_at c.self.inside.entries.items c.args.index c.index-entry.result.now c.self.invariant.0.small (here c)
 
 -- the indexes hold with the offers brought up to date
 mid : (c : After-reoffer) → IsKept c.self.inside.entries.items c.self.inside.tasks.items c.reoffer.new.tracks
 mid c = kept_still c.self.inside.entries.items c.self.inside.tasks.items c.self.inside.tracks c.reoffer.new.tracks
-    c.self.invariant.0 c.reoffer.ensures.places c.reoffer.ensures.weights
+    c.self.invariant.0 c.reoffer.ensures.indexes c.reoffer.ensures.weights
 
 greatest_mid : (c : After-reoffer) → AreGreatest c.reoffer.new.tracks c.self.inside.greatest
 greatest_mid c = greatest_same c.self.inside.tracks c.reoffer.new.tracks c.self.inside.greatest c.self.invariant.2
@@ -68,8 +68,8 @@ recount-requires c =
     let at = here (goal.at.recount-requires c).After-reoffer in
     let turned : Entry = record { block = entry.block; state = c.args.state } in
     record {
-      there = its_task_there items tasks tracks c.self.invariant.0 c.args.place entry at;
-      part = counts_part items tasks tracks c.self.invariant.0 c.args.place entry c.counts_of.result at c.counts_of.ensures;
+      there = its_task_there items tasks tracks c.self.invariant.0 c.args.index entry at;
+      part = counts_part items tasks tracks c.self.invariant.0 c.args.index entry c.counts_of.result at c.counts_of.ensures;
       room = counts_room items tasks tracks c.self.invariant.0 entry.block.task turned c.counts_of-2.result c.counts_of-2.ensures;
     }
 
@@ -81,18 +81,18 @@ reweigh-weight-requires c =
     let entry = c.index-entry.result.now in
     let after = (goal.at.reweigh-weight-requires c).After-reoffer in
     record {
-      there = its_track_there items tasks tracks (mid after) c.args.place entry (here after);
-      part = weight_part items tasks tracks (mid after) c.args.place entry c.weight_of-lost.result (here after)
+      there = its_track_there items tasks tracks (mid after) c.args.index entry (here after);
+      part = weight_part items tasks tracks (mid after) c.args.index entry c.weight_of-lost.result (here after)
           c.weight_of-lost.ensures.value;
       room = omega (arith, weight_small items tasks tracks (mid after) entry.block.track, c.weight_of-gained.ensures.small);
     }
 
 -- the indexes hold with the block's new state
-kept : (c : After-reweigh-weight) → slice_get c.self.inside.entries.items c.args.place ≡ Some c.index-entry.result.now
+kept : (c : After-reweigh-weight) → slice_get c.self.inside.entries.items c.args.index ≡ Some c.index-entry.result.now
     → IsKept c.self.inside.entries.items c.self.inside.tasks.items c.reoffer.new.tracks
-    → IsKept (set c.self.inside.entries.items c.args.place (record { block = c.index-entry.result.now.block; state = c.args.state }))
+    → IsKept (set c.self.inside.entries.items c.args.index (record { block = c.index-entry.result.now.block; state = c.args.state }))
     c.recount.new.tasks.items c.reweigh-weight.new.self
-kept c at h = kept_set c.args.state c.args.place c.index-entry.result.now c.self.inside.entries.items
+kept c at h = kept_set c.args.state c.args.index c.index-entry.result.now c.self.inside.entries.items
     c.reoffer.new.tracks c.reweigh-weight.new.self at c.self.inside.tasks.items c.recount.new.tasks.items c.counts_of.result
     c.counts_of-2.result
     c.weight_of-lost.result c.weight_of-gained.result h c.counts_of.ensures c.counts_of-2.ensures
@@ -103,7 +103,7 @@ update_greatest-requires c =
     let items = c.self.inside.entries.items in
     let entry = c.index-entry.result.now in
     let after = (goal.at.update_greatest-requires c).After-reoffer in
-    let there = its_track_there items c.self.inside.tasks.items c.reoffer.new.tracks (mid after) c.args.place entry (here after) in
+    let there = its_track_there items c.self.inside.tasks.items c.reoffer.new.tracks (mid after) c.args.index entry (here after) in
     record {
       weight = c.reweigh-weight.ensures.weight;
       there = omega (arith, there.0, (greatest_mid after).there);
@@ -119,30 +119,30 @@ invariant_of-self c =
     let self = c.self.inside in
     let items = self.entries.items in
     let state = c.args.state in
-    let place = c.args.place in
+    let index = c.args.index in
     let entry = c.index-entry.result.now in
     let after = (goal.at.invariant_of-self c).After-reoffer in
     let old = c.reoffer.new.tracks in
     let new = c.reweigh-weight.new.self in
     let change = reweighed c.weight_of-lost.result c.weight_of-gained.result in
-    let indexes = c.reoffer.new.offer_indexes.items in
-    let offered = subst (λ l. AreOffered (with_state state place l) (offers_at old) indexes) c.deref.ensures.value
+    let offer_indexes = c.reoffer.new.offer_indexes.items in
+    let offered = subst (λ l. AreOffered (with_state state index l) (offers_at old) offer_indexes) c.deref.ensures.value
     c.reoffer.ensures.offered in
-    let same = sym (items-with_state state place entry items (here after)) in (
+    let same = sym (items-with_state state index entry items (here after)) in (
       kept (goal.at.invariant_of-self c).After-reweigh-weight (here after) (mid after),
-      subst (λ l. AreNoted l self.streaks) same (noted-with_state state place items self.streaks c.self.invariant.1),
+      subst (λ l. AreNoted l self.streaks) same (noted-with_state state index items self.streaks c.self.invariant.1),
       greatest_settled old new entry.block.track change self.greatest (greatest_mid after) c.reweigh-weight.ensures.tracks
           c.update_greatest.new.greatest (omega (arith, c.reweigh-weight.ensures.length, (greatest_mid after).there))
           c.update_greatest.ensures.length c.update_greatest.ensures.weights,
-      deep_set state place entry items self.depths.items (here after) c.self.invariant.3,
-      subst (λ l. AreNear l self.near) same (near-with_state state place items self.near c.self.invariant.4),
-      subst (AreShort self.longest) same (short-with_state self.longest state place items c.self.invariant.5),
-      subst (λ l. AreOffered l (offers_at new) indexes) same
-          (offered_still (with_state state place items) (offers_at old) (offers_at new) indexes offered
+      deep_set state index entry items self.depths.items (here after) c.self.invariant.3,
+      subst (λ l. AreNear l self.near) same (near-with_state state index items self.near c.self.invariant.4),
+      subst (AreShort self.longest) same (short-with_state self.longest state index items c.self.invariant.5),
+      subst (λ l. AreOffered l (offers_at new) offer_indexes) same
+          (offered_still (with_state state index items) (offers_at old) (offers_at new) offer_indexes offered
           (changed_offers old new entry.block.track change (λ o. refl) c.reweigh-weight.ensures.tracks)),
     )
 
 pub returns : goal.returns
 returns c =
-    items-with_state c.args.state c.args.place c.index-entry.result.now c.self.inside.entries.items (here (goal.at.returns c).After-reoffer)
-    ∙ ap (with_state c.args.state c.args.place) c.self.view_is
+    items-with_state c.args.state c.args.index c.index-entry.result.now c.self.inside.entries.items (here (goal.at.returns c).After-reoffer)
+    ∙ ap (with_state c.args.state c.args.index) c.self.view_is

@@ -1,8 +1,8 @@
 use Rattle.std.proofs.Common.{◌<◌, ◌∙◌, ap, sym, subst, length, filter, slice_get, arith}
 use Rattle.std.proofs.lemmas.List.{get_or_default}
-use Rattle.fb_wanted.specs.Index.{of_task, places, no_blocks}
-use Rattle.fb_wanted.proofs.Reading.{task_there, task_place}
-use Rattle.fb_wanted.proofs.wanted.Wanted.place_of.Goals as goal
+use Rattle.fb_wanted.specs.Index.{of_task, indexes_of, no_blocks}
+use Rattle.fb_wanted.proofs.Reading.{task_there, task_index}
+use Rattle.fb_wanted.proofs.wanted.Wanted.index_of.Goals as goal
 
 pub index-requires : goal.index-requires
 index-requires c =
@@ -17,7 +17,7 @@ get-requires c =
     let there = task_there c.self.inside.entries.items c.self.inside.tasks.items c.self.inside.tracks c.self.invariant.0 c.args.task
     c.args.k room in
     let at = c.index.ensures ∙ get_or_default c.self.inside.tasks.items c.args.task c.index.result.now no_blocks there in
-    task_place c.self.inside.entries.items c.self.inside.tasks.items c.self.inside.tracks c.self.invariant.0 c.args.task c.args.k
+    task_index c.self.inside.entries.items c.self.inside.tasks.items c.self.inside.tracks c.self.invariant.0 c.args.task c.args.k
     c.index.result.now at room
 
 pub returns : goal.returns
@@ -26,5 +26,5 @@ returns c =
     let there = task_there c.self.inside.entries.items c.self.inside.tasks.items c.self.inside.tracks c.self.invariant.0 c.args.task
     c.args.k room in
     let at = c.index.ensures ∙ get_or_default c.self.inside.tasks.items c.args.task c.index.result.now no_blocks there in
-    ap (λ es. slice_get (places (of_task c.args.task) es) c.args.k) (sym c.self.view_is)
-    ∙ (ap (λ blocks. slice_get blocks.places c.args.k) (sym (at ∙ c.self.invariant.0.index.by_task c.args.task)) ∙ c.get.ensures)
+    ap (λ es. slice_get (indexes_of (of_task c.args.task) es) c.args.k) (sym c.self.view_is)
+    ∙ (ap (λ blocks. slice_get blocks.indexes c.args.k) (sym (at ∙ c.self.invariant.0.index.by_task c.args.task)) ∙ c.get.ensures)
