@@ -3,6 +3,7 @@ pub mod Ceilings
 pub mod Found
 pub mod Ways
 pub mod Ranges
+pub mod Ahead
 pub mod Arrays
 pub mod Offers
 pub mod Binned

@@ -1,14 +1,13 @@
 // Upper bounds on the value of detours.
-ghost use Rattle.std.specs.Prelude.{◌≡◌, ◌+◌, ◌*◌, ◌≤◌, ◌<◌, ◌^◌, ℕ, true, false, nat_le, if◌then◌else◌};
+ghost use Rattle.std.specs.Prelude.{◌≡◌, ◌+◌, ◌*◌, ◌≤◌, ◌<◌, ◌^◌, ℕ, true, nat_le, if◌then◌else◌};
 ghost use Rattle.fb_units.specs.declared.types.Track.{Track};
 ghost use Rattle.fb_geometry.specs.Shape.{IsTrackOf, slots_at};
-ghost use Rattle.fb_model.specs.Plans.{IsTrackBefore};
 ghost use Rattle.fb_wanted.specs.Depth.{depth_at};
 ghost use Rattle.fb_plan.specs.Ways.{IsGap};
-ghost use Rattle.fb_detour.specs.Bounds.{distance_to, AreLeast, AreSeeks, IsAhead, IsEnough};
+ghost use Rattle.fb_detour.specs.Bounds.{distance_to, AreLeast, AreSeeks, IsEnough};
 
 use fb_geometry::Zone;
-use fb_plan::Scored;
+use fb_plan::{Scored, is_no_worse};
 use fb_rows::{Gap, Plan};
 use fb_service::Disk;
 use fb_units::{Ns, Track};
@@ -126,43 +125,14 @@ pub fn most_slots(disk: &Disk, from: u32, end: u32, other: Track) -> u32
     slots
 }
 
-// Whether the first track comes before the other: by cylinder, and then by head.
-pub fn is_track_before(a: Track, b: Track) -> bool
-    ensures { result ≡ true → IsTrackBefore a b }
-{
-    if a.cylinder < b.cylinder {
-        return true;
-    }
-    if b.cylinder < a.cylinder {
-        return false;
-    }
-    a.head < b.head
-}
-
-// Whether the plan comes first, in the order of ties, before every detour over this track or a
-// later one.
-fn is_ahead(plan: Plan, track: Track) -> bool
-    ensures { result ≡ true → IsAhead plan track }
-{
-    match plan {
-        Plan::Direct { leave: _ } => true,
-        Plan::Detour {
-            track: own,
-            leave: _,
-        } => is_track_before(own, track),
-    }
-}
-
 // Whether the best plan so far is at least as good as any detour over this track or a later one
-// whose value is at most the ceiling.
+// whose value is at most the ceiling: as good as one of that value which leaves this track first of all.
 pub fn is_enough(best: Scored, ceiling: u64, track: Track) -> bool
     ensures { result ≡ true → IsEnough best ceiling track }
 {
-    if ceiling < best.value {
-        return true;
-    }
-    if best.value < ceiling {
-        return false;
-    }
-    is_ahead(best.plan, track)
+    let most = Scored {
+        plan: Plan::Detour { track, leave: 0 },
+        value: ceiling,
+    };
+    is_no_worse(best, most)
 }

@@ -11,50 +11,27 @@ ghost use Rattle.fb_detour.specs.Bounds.{IsTrial, value_in};
 use crate::bins::{
     Bins, Leaves, NEVER, bin_at, bound_at, early_bins, fine_of, firsts_of, fullest, late_bins,
 };
-use crate::bounds::is_track_before;
 use crate::given::Search;
 use crate::intervals::{Ceilings, ceiling_at, ceilings_of};
 use crate::stop::{Stop, stop_at};
 use fb_plan::{
-    Scored, Sides, Way, blocks_on, is_same, move_on, plan_by, sides_of, stay_of, try_plan,
+    Scored, Sides, Way, blocks_on, is_no_worse, move_on, plan_by, sides_of, stay_of, try_plan,
 };
-use fb_rows::{Gap, Plan};
+use fb_rows::Gap;
 use fb_service::Disk;
 use fb_units::Ns;
 use fb_wanted::Wanted;
-
-// Whether the best so far comes no later, in the order of ties, than the plan of the way that leaves
-// at this instant.
-fn is_no_later(best: Plan, way: Way, leave: Ns) -> bool
-    ensures { result ≡ true → IsNoLater best (plan_by way leave) }
-{
-    match way {
-        Way::Source => match best {
-            Plan::Direct { leave: own } => own <= leave,
-            Plan::Detour { track: _, leave: _ } => false,
-        },
-        Way::Over(track) => match best {
-            Plan::Direct { leave: _ } => true,
-            Plan::Detour {
-                track: own,
-                leave: first,
-            } => is_track_before(own, track) || (is_same(own, track) && first <= leave),
-        },
-    }
-}
 
 // Whether the plan of the way that leaves at this instant, of no more value than the ceiling, is no
 // better than the best so far.
 fn is_beaten(best: Scored, ceiling: u64, way: Way, leave: Ns) -> bool
     ensures { result ≡ true → (ceiling < best.value) ⊎ ((ceiling ≡ best.value) × IsNoLater best.plan (plan_by way leave)) }
 {
-    if ceiling < best.value {
-        return true;
-    }
-    if best.value < ceiling {
-        return false;
-    }
-    is_no_later(best.plan, way, leave)
+    let most = Scored {
+        plan: plan_by(way, leave),
+        value: ceiling,
+    };
+    is_no_worse(best, most)
 }
 
 // A way on trial: the blocks of its track and of the target, and what its plans are worth at most.
