@@ -1,7 +1,7 @@
 -- Ranges of cylinders.
 use Rattle.fb_detour.proofs.Words.{Bool, arith, false, inl, inr, max, min, subst, sym, true, ℕ, ◌+◌, ◌-◌, ◌<◌, ◌==◌, ◌≡◌, ◌≤◌, cases_Bool}
-use Rattle.fb_detour.proofs.Words.{nat_tests, same_track, Track, distance_of, seek, pos, Plan, Detour, IsTrackBefore, BeatsTrack}
-use Rattle.fb_detour.proofs.Words.{BeatsTracks, IsNoWorse, distance_to, Search}
+use Rattle.fb_detour.proofs.Words.{nat_tests, same_track, Track, distance_of, seek, pos, Plan, Detour, IsTrackBefore, IsNoWorseThanTrack}
+use Rattle.fb_detour.proofs.Words.{IsNoWorseThanTracks, IsNoWorseIn, distance_to, Search}
 use Rattle.fb_seek.specs.Mechanics.{Mechanics}
 use Rattle.fb_seek.specs.Rising.{SeeksRise}
 use Rattle.fb_detour.proofs.Found.{through}
@@ -46,17 +46,17 @@ pub not_itself : (track : Track) → IsTrackBefore track track → ⊥
 not_itself track before = elim before [ inl x ↦ absurd (omega arith) | inr x ↦ absurd (omega (arith, x.1)) ]
 
 module _ (search : Search) where
-  -- what a better plan beats
-  pub range-kept : (new old : Plan) (from end : ℕ) → IsNoWorse search new old → BeatsTracks search old from end
-      → BeatsTracks search new from end
+  -- what a better plan is no worse than
+  pub range-kept : (new old : Plan) (from end : ℕ) → IsNoWorseIn search new old → IsNoWorseThanTracks search old from end
+      → IsNoWorseThanTracks search new from end
   range-kept new old from end keeps before track low high leave is =
       through search new old (Detour track leave) keeps (before track low high leave is)
 
   -- all heads of a cylinder
   pub cylinder-done : (best : Plan) (cylinder n : ℕ) → search.disk.now.map.heads ≤ n
-      → ((head : ℕ) → head < n → BeatsTrack search best (record { cylinder = cylinder; head = head }))
-      → BeatsTracks search best cylinder (cylinder + 1)
+      → ((head : ℕ) → head < n → IsNoWorseThanTrack search best (record { cylinder = cylinder; head = head }))
+      → IsNoWorseThanTracks search best cylinder (cylinder + 1)
   cylinder-done best cylinder n all each track low high leave is =
       let here : track.cylinder ≡ cylinder = omega (arith, low, high) in
-      subst (λ c. BeatsTrack search best (record { cylinder = c; head = track.head })) (sym here)
+      subst (λ c. IsNoWorseThanTrack search best (record { cylinder = c; head = track.head })) (sym here)
       (each track.head (omega (arith, is.on_disk.head))) leave is

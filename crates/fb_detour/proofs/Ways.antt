@@ -2,7 +2,7 @@
 use Rattle.fb_detour.proofs.Words.{List, arith, inl, inr, min, refl, ℕ, ◌*◌, ◌+◌, ◌-◌, ◌/◌, ◌<◌, ◌^◌, ◌≡◌, ◌≤◌, div-mul-le_self, cases_lt}
 use Rattle.fb_detour.proofs.Words.{mul-le, Track, Disk, wanted_weight, Entry, Dwell, Gap, Detour, early_dwell, late_dwell, arrival}
 use Rattle.fb_detour.proofs.Words.{early_track, move_on, plan_by, Scored, Way, Over, Source, IsDetourIn, IsEnough, IsFound, IsLate}
-use Rattle.fb_detour.proofs.Words.{IsNoWorse, IsReach, early_to, late_most, part_at, value_in, stay, Search, LateParts}
+use Rattle.fb_detour.proofs.Words.{IsNoWorseIn, IsReach, early_to, late_most, part_at, value_in, stay, Search, LateParts}
 use Rattle.fb_detour.specs.declared.steps.Reach.{Reach}
 use Rattle.fb_detour.proofs.Ceilings.{longer_stay, two_stays, weight_of_stay}
 use Rattle.fb_detour.proofs.Found.{not_better}
@@ -88,12 +88,12 @@ module _ (search : Search) where
       omega (arith, less (omega arith), is.each k (omega arith))
 
   -- the leaves of one interval more
-  pub interval_beaten : (best : Scored) (track : Track) (arrive way from upto early late : ℕ) → IsFound search best
+  pub none_better_in : (best : Scored) (track : Track) (arrive way from upto early late : ℕ) → IsFound search best
       → IsEnough best (early + late) track → arrive ≡ arrival disk gap (Over track) → way ≡ move_on disk gap (Over track)
       → stay disk (early_to track arrive upto) entries ≤ early → stay disk (late_most gap (from + way)) entries ≤ late
-      → ((leave : ℕ) → leave < from → IsDetourIn search track leave → IsNoWorse search best.plan (Detour track leave))
-      → (leave : ℕ) → leave ≤ upto → IsDetourIn search track leave → IsNoWorse search best.plan (Detour track leave)
-  interval_beaten best track arrive way from upto early late scored enough a w e l before leave high is = elim (cases_lt leave from) [
+      → ((leave : ℕ) → leave < from → IsDetourIn search track leave → IsNoWorseIn search best.plan (Detour track leave))
+      → (leave : ℕ) → leave ≤ upto → IsDetourIn search track leave → IsNoWorseIn search best.plan (Detour track leave)
+  none_better_in best track arrive way from upto early late scored enough a w e l before leave high is = elim (cases_lt leave from) [
     | inl less ↦ before leave less is
     | inr low ↦ not_better search best (early + late) track track leave scored enough (not_itself track)
         (omega (arith, by_interval (Over track) leave arrive upto (from + way) a high (omega (arith, w, low)), e, l))

@@ -21,7 +21,7 @@ use Rattle.fb_plan.specs.declared.sides.Sides.{Sides}
 use Rattle.fb_plan.specs.declared.turning.Turning.{Turning}
 use Rattle.fb_plan.specs.declared.way.Way.{Way}
 use Rattle.fb_plan.specs.declared.way.Way.TheVariants.{Over}
-use Rattle.fb_plan.specs.Ways.{Beats, AreOnDisk, IsGap, IsScored, IsWay, plan_by, early_track, arrival, move_on}
+use Rattle.fb_plan.specs.Ways.{IsNoWorse, AreOnDisk, IsGap, IsScored, IsWay, plan_by, early_track, arrival, move_on}
 use Rattle.fb_plan.specs.Turns.{added, passes_by, stay_of, AreInTurn, AreSides, IsTurning, Stands}
 use Rattle.fb_detour.specs.declared.bins.Bins.{Bins}
 use Rattle.fb_detour.specs.declared.bins.Leaves.{Leaves}
@@ -97,13 +97,13 @@ abbrev pub IsFound : Search → Scored → Type 0
 IsFound search found = IsScored search.disk.now search.gap.now (wanted_of search.wanted.now) found
 
 -- the plan is at least as good as the other
-abbrev pub IsNoWorse : Search → Plan → Plan → Type 0
-IsNoWorse search plan other = Beats search.disk.now search.gap.now (wanted_of search.wanted.now) plan other
+abbrev pub IsNoWorseIn : Search → Plan → Plan → Type 0
+IsNoWorseIn search plan other = IsNoWorse search.disk.now search.gap.now (wanted_of search.wanted.now) plan other
 
 -- the plan is at least as good as each plan of the way
-abbrev pub BeatsWay : Search → Way → Plan → Type 0
-BeatsWay search way plan = (leave : ℕ) → IsPlan search.disk.now search.gap.now (plan_by way leave)
-    → IsNoWorse search plan (plan_by way leave)
+abbrev pub IsNoWorseThanWay : Search → Way → Plan → Type 0
+IsNoWorseThanWay search way plan = (leave : ℕ) → IsPlan search.disk.now search.gap.now (plan_by way leave)
+    → IsNoWorseIn search plan (plan_by way leave)
 
 -- the value of a plan of the search's gap
 abbrev pub value_in : Search → Plan → ℕ
@@ -182,14 +182,14 @@ pub record IsTrial (trial : Trial) : Type 0 where
   pub ceilings : AreCeilings trial.search.now trial.way trial.ceilings.now
 
 -- the best so far is at least as good as the plan of the way that leaves then, if that is in time
-abbrev pub IsBeaten : Trial → Plan → ℕ → Type 0
-IsBeaten trial best leave =
+abbrev pub IsNoBetter : Trial → Plan → ℕ → Type 0
+IsNoBetter trial best leave =
     leave + move_on trial.search.now.disk.now trial.search.now.gap.now trial.way ≤ trial.search.now.gap.now.deadline
-    → IsNoWorse trial.search.now best (plan_by trial.way leave)
+    → IsNoWorseIn trial.search.now best (plan_by trial.way leave)
 
 -- no leave that is noted is better than the best so far
 abbrev pub AreNotes : Trial → Plan → List ℕ → Type 0
-AreNotes trial best notes = (k : ℕ) → k < length notes → IsBeaten trial best (get_or notes k 0)
+AreNotes trial best notes = (k : ℕ) → k < length notes → IsNoBetter trial best (get_or notes k 0)
 
 -- the stop weighs what its offers are worth together, and each of them passes once a rotation, from where the platter stands on
 -- arrival
@@ -215,12 +215,13 @@ abbrev pub distance_to : ℕ → ℕ → ℕ → ℕ
 distance_to from end cylinder = (from - cylinder) + (cylinder + 1 - end)
 
 -- the best so far is at least as good as each detour over the track
-abbrev pub BeatsTrack : Search → Plan → Track → Type 0
-BeatsTrack search best track = (leave : ℕ) → IsDetourIn search track leave → IsNoWorse search best (Detour track leave)
+abbrev pub IsNoWorseThanTrack : Search → Plan → Track → Type 0
+IsNoWorseThanTrack search best track = (leave : ℕ) → IsDetourIn search track leave → IsNoWorseIn search best (Detour track leave)
 
 -- and over each track of these cylinders
-abbrev pub BeatsTracks : Search → Plan → ℕ → ℕ → Type 0
-BeatsTracks search best from end = (track : Track) → from ≤ track.cylinder → track.cylinder < end → BeatsTrack search best track
+abbrev pub IsNoWorseThanTracks : Search → Plan → ℕ → ℕ → Type 0
+IsNoWorseThanTracks search best from end = (track : Track) → from ≤ track.cylinder → track.cylinder < end
+    → IsNoWorseThanTrack search best track
 
 -- in the order of ties the plan comes before every detour over this track or a later one
 abbrev pub IsAhead : Plan → Track → Type 0

@@ -5,8 +5,8 @@ ghost use Rattle.fb_wanted.specs.States.{on_track};
 ghost use Rattle.fb_model.specs.Plans.{IsNoLater, IsPlan};
 ghost use Rattle.fb_plan.specs.declared.way.Way.{Way};
 ghost use Rattle.fb_plan.specs.Ways.{IsWay, plan_by, arrival, early_track};
-ghost use Rattle.fb_detour.specs.Bounds.{AreBins, AreCeilings, AreNotes, BeatsWay, IsBeaten, IsFound, IsNoWorse, IsReady, IsSearch, IsStop};
-ghost use Rattle.fb_detour.specs.Bounds.{IsTrial, value_in};
+ghost use Rattle.fb_detour.specs.Bounds.{AreBins, AreCeilings, AreNotes, IsFound, IsNoBetter, IsNoWorseIn, IsNoWorseThanWay};
+ghost use Rattle.fb_detour.specs.Bounds.{IsReady, IsSearch, IsStop, IsTrial, value_in};
 
 use crate::bins::{
     Bins, Leaves, NEVER, bin_at, bound_at, early_bins, fine_of, firsts_of, fullest, late_bins,
@@ -24,7 +24,7 @@ use fb_wanted::Wanted;
 
 // Whether the plan of the way that leaves at this instant, of no more value than the ceiling, is no
 // better than the best so far.
-fn is_beaten(best: Scored, ceiling: u64, way: Way, leave: Ns) -> bool
+fn is_no_better(best: Scored, ceiling: u64, way: Way, leave: Ns) -> bool
     ensures { result ≡ true → (ceiling < best.value) ⊎ ((ceiling ≡ best.value) × IsNoLater best.plan (plan_by way leave)) }
 {
     let most = Scored {
@@ -69,15 +69,15 @@ fn try_leave(trial: &Trial, bins: Option<&Bins>, leave: Ns, best: Scored) -> Sco
     requires soon { leave ≤ 10 ^ 19 }
     requires best { IsFound trial.now.search.now best }
     ensures scored { IsFound trial.now.search.now result }
-    ensures keeps { IsNoWorse trial.now.search.now result.plan best.plan }
-    ensures tried { IsBeaten trial.now result.plan leave }
+    ensures keeps { IsNoWorseIn trial.now.search.now result.plan best.plan }
+    ensures tried { IsNoBetter trial.now result.plan leave }
 {
     let search = trial.search;
     if search.gap.deadline < leave + trial.ceilings.move_on {
         return best;
     }
     let ceiling = ceiling_of(trial, bins, leave);
-    if is_beaten(best, ceiling, trial.way, leave) {
+    if is_no_better(best, ceiling, trial.way, leave) {
         return best;
     }
     let plan = plan_by(trial.way, leave);
@@ -115,8 +115,8 @@ fn try_once(trial: &Trial, bins: Option<&Bins>, leave: Ns, notes: &mut [Ns], bes
     requires best { IsFound trial.now.search.now best }
     requires notes { AreNotes trial.now best.plan notes.old }
     ensures scored { IsFound trial.now.search.now result }
-    ensures keeps { IsNoWorse trial.now.search.now result.plan best.plan }
-    ensures tried { IsBeaten trial.now result.plan leave }
+    ensures keeps { IsNoWorseIn trial.now.search.now result.plan best.plan }
+    ensures tried { IsNoBetter trial.now result.plan leave }
     ensures notes { AreNotes trial.now result.plan notes.new }
 {
     if notes.len() < NOTED {
@@ -138,8 +138,8 @@ fn try_each(trial: &Trial, bins: Option<&Bins>, notes: &mut [Ns], start: Scored)
     requires best { IsFound trial.now.search.now start }
     requires notes { AreNotes trial.now start.plan notes.old }
     ensures scored { IsFound trial.now.search.now result }
-    ensures keeps { IsNoWorse trial.now.search.now result.plan start.plan }
-    ensures tried { BeatsWay trial.now.search.now trial.now.way result.plan }
+    ensures keeps { IsNoWorseIn trial.now.search.now result.plan start.plan }
+    ensures tried { IsNoWorseThanWay trial.now.search.now trial.now.way result.plan }
 {
     let sides = trial.sides;
     let offers = sides.early.offers();
@@ -157,8 +157,8 @@ fn try_noted(trial: &Trial, bins: Option<&Bins>, start: Scored) -> Scored
     requires bins { IfSome bins (λ bins. AreBins trial.now.search.now trial.now.way bins.now) }
     requires best { IsFound trial.now.search.now start }
     ensures scored { IsFound trial.now.search.now result }
-    ensures keeps { IsNoWorse trial.now.search.now result.plan start.plan }
-    ensures tried { BeatsWay trial.now.search.now trial.now.way result.plan }
+    ensures keeps { IsNoWorseIn trial.now.search.now result.plan start.plan }
+    ensures tried { IsNoWorseThanWay trial.now.search.now trial.now.way result.plan }
 {
     let mut notes = [NEVER; NOTED];
     try_each(trial, bins, &mut notes, start)
@@ -172,7 +172,7 @@ fn try_fullest(trial: &Trial, bins: &Bins, stop: &Stop, start: Scored) -> Scored
     requires from { stop.now.passing.from ≡ trial.now.ceilings.now.begin }
     requires best { IsFound trial.now.search.now start }
     ensures scored { IsFound trial.now.search.now result }
-    ensures keeps { IsNoWorse trial.now.search.now result.plan start.plan }
+    ensures keeps { IsNoWorseIn trial.now.search.now result.plan start.plan }
 {
     let latest = trial.search.gap.deadline - trial.ceilings.move_on;
     let most = fullest(bins, latest);
@@ -195,8 +195,8 @@ fn try_binned(trial: &Trial, bins: &Bins, stop: &Stop, start: Scored) -> Scored
     requires from { stop.now.passing.from ≡ trial.now.ceilings.now.begin }
     requires best { IsFound trial.now.search.now start }
     ensures scored { IsFound trial.now.search.now result }
-    ensures keeps { IsNoWorse trial.now.search.now result.plan start.plan }
-    ensures tried { BeatsWay trial.now.search.now trial.now.way result.plan }
+    ensures keeps { IsNoWorseIn trial.now.search.now result.plan start.plan }
+    ensures tried { IsNoWorseThanWay trial.now.search.now trial.now.way result.plan }
 {
     let best = try_fullest(trial, bins, stop, start);
     try_noted(trial, Some(bins), best)
@@ -210,8 +210,8 @@ fn try_many(trial: &Trial, stop: &Stop, start: Scored) -> Scored
     requires from { stop.now.passing.from ≡ trial.now.ceilings.now.begin }
     requires best { IsFound trial.now.search.now start }
     ensures scored { IsFound trial.now.search.now result }
-    ensures keeps { IsNoWorse trial.now.search.now result.plan start.plan }
-    ensures tried { BeatsWay trial.now.search.now trial.now.way result.plan }
+    ensures keeps { IsNoWorseIn trial.now.search.now result.plan start.plan }
+    ensures tried { IsNoWorseThanWay trial.now.search.now trial.now.way result.plan }
 {
     let search = trial.search;
     let gap = search.gap;
@@ -239,7 +239,7 @@ fn try_both_ends(trial: &Trial, start: Scored) -> Scored
     requires trial { IsTrial trial.now }
     requires best { IsFound trial.now.search.now start }
     ensures scored { IsFound trial.now.search.now result }
-    ensures keeps { IsNoWorse trial.now.search.now result.plan start.plan }
+    ensures keeps { IsNoWorseIn trial.now.search.now result.plan start.plan }
 {
     let begin = trial.ceilings.begin;
     let latest = trial.search.gap.deadline - trial.ceilings.move_on;
@@ -262,7 +262,7 @@ fn are_many_open(trial: &Trial, stop: &Stop, best: Scored) -> bool
     for offer in stop.offers {
         let end = stop.passing.end(offer.sweep);
         let ceiling = ceiling_at(trial.ceilings, end);
-        if end <= latest && !is_beaten(best, ceiling, trial.way, end) {
+        if end <= latest && !is_no_better(best, ceiling, trial.way, end) {
             open = open.saturating_add(1);
         }
         if OPEN < open {
@@ -280,8 +280,8 @@ fn try_dense(trial: &Trial, stop: &Stop, start: Scored) -> Scored
     requires from { stop.now.passing.from ≡ trial.now.ceilings.now.begin }
     requires best { IsFound trial.now.search.now start }
     ensures scored { IsFound trial.now.search.now result }
-    ensures keeps { IsNoWorse trial.now.search.now result.plan start.plan }
-    ensures tried { BeatsWay trial.now.search.now trial.now.way result.plan }
+    ensures keeps { IsNoWorseIn trial.now.search.now result.plan start.plan }
+    ensures tried { IsNoWorseThanWay trial.now.search.now trial.now.way result.plan }
 {
     let best = try_both_ends(trial, start);
     if are_many_open(trial, stop, best) {
@@ -312,8 +312,8 @@ pub fn try_leaves(
     requires ceilings { AreCeilings search.now way ceilings.now }
     requires best { IsFound search.now start }
     ensures scored { IsFound search.now result }
-    ensures keeps { IsNoWorse search.now result.plan start.plan }
-    ensures tried { BeatsWay search.now way result.plan }
+    ensures keeps { IsNoWorseIn search.now result.plan start.plan }
+    ensures tried { IsNoWorseThanWay search.now way result.plan }
 {
     let stay = stay_of(search.disk, search.gap, way);
     let both = sides_of(search.disk, search.wanted, search.gap.target, stay);
@@ -338,8 +338,8 @@ pub fn try_source(search: &Search, start: Scored) -> Scored
     requires search { IsSearch search.now }
     requires best { IsFound search.now start }
     ensures scored { IsFound search.now result }
-    ensures keeps { IsNoWorse search.now result.plan start.plan }
-    ensures tried { BeatsWay search.now Way.Source result.plan }
+    ensures keeps { IsNoWorseIn search.now result.plan start.plan }
+    ensures tried { IsNoWorseThanWay search.now Way.Source result.plan }
 {
     let blocks = blocks_on(search.disk, search.wanted, search.gap.source);
     let stop = stop_at(search.disk, &blocks, search.gap.source, search.gap.now);

@@ -6,14 +6,14 @@ ghost use Rattle.fb_units.specs.Tracks.{same_track};
 ghost use Rattle.fb_geometry.specs.Shape.{IsTrackOf};
 ghost use Rattle.fb_wanted.specs.States.{on_track};
 ghost use Rattle.fb_plan.specs.Ways.{AreOnDisk};
-ghost use Rattle.fb_detour.specs.Bounds.{AreRated, AreSeeks, IsCeiling, IsKey, IsReach, IsSearch, IsFound, IsNoWorse};
-ghost use Rattle.fb_detour.specs.Bounds.{BeatsTrack, BeatsTracks};
+ghost use Rattle.fb_detour.specs.Bounds.{AreRated, AreSeeks, IsCeiling, IsKey, IsReach, IsSearch, IsFound, IsNoWorseIn};
+ghost use Rattle.fb_detour.specs.Bounds.{IsNoWorseThanTrack, IsNoWorseThanTracks};
 
 use crate::bounds::{Seeks, is_enough, seeks_over};
 use crate::candidates::try_leaves;
 use crate::given::Search;
 use crate::intervals::ceilings_of;
-use crate::leaves::leaves_beaten;
+use crate::leaves::none_is_better;
 use crate::missing::misses_enough;
 use crate::parts::late_at;
 use crate::steps::{Reach, most_by_steps, most_over, rate_in, rate_over, reach_by};
@@ -39,8 +39,8 @@ fn try_stop(
     requires search { IsSearch search.now }
     requires best { IsFound search.now start }
     ensures scored { IsFound search.now result }
-    ensures keeps { IsNoWorse search.now result.plan start.plan }
-    ensures tried { BeatsTrack search.now result.plan track }
+    ensures keeps { IsNoWorseIn search.now result.plan start.plan }
+    ensures tried { IsNoWorseThanTrack search.now result.plan track }
 {
     let mechanism = &search.disk.mechanism;
     let there = mechanism.pos_with(seeks.there, search.gap.source, track, false);
@@ -56,7 +56,7 @@ fn try_stop(
     }
     let way = Way::Over(track);
     let ceilings = ceilings_of(search, way, &stop, on);
-    if leaves_beaten(search, &ceilings, track, start) {
+    if none_is_better(search, &ceilings, track, start) {
         return start;
     }
     try_leaves(search, way, &stop, &ceilings, start)
@@ -70,8 +70,8 @@ fn try_track(search: &Search, track: Track, seeks: Seeks, reach: Reach, start: S
     requires search { IsSearch search.now }
     requires best { IsFound search.now start }
     ensures scored { IsFound search.now result }
-    ensures keeps { IsNoWorse search.now result.plan start.plan }
-    ensures tried { BeatsTrack search.now result.plan track }
+    ensures keeps { IsNoWorseIn search.now result.plan start.plan }
+    ensures tried { IsNoWorseThanTrack search.now result.plan track }
 {
     if is_same(track, search.gap.source) {
         return start;
@@ -94,8 +94,8 @@ fn try_cylinder(search: &Search, cylinder: u32, rate: u64, start: Scored) -> Sco
     requires search { IsSearch search.now }
     requires best { IsFound search.now start }
     ensures scored { IsFound search.now result }
-    ensures keeps { IsNoWorse search.now result.plan start.plan }
-    ensures tried { BeatsTracks search.now result.plan cylinder (cylinder + 1) }
+    ensures keeps { IsNoWorseIn search.now result.plan start.plan }
+    ensures tried { IsNoWorseThanTracks search.now result.plan cylinder (cylinder + 1) }
 {
     let _cylinders = search.disk.map.geometry().cylinders();
     let seeks = seeks_over(search.disk, search.gap, cylinder);
@@ -199,8 +199,8 @@ fn visit(search: &Search, from: u32, end: u32, most: u64, rate: u64, start: Scor
     requires rate { AreRated search.now from end rate }
     requires best { IsFound search.now start }
     ensures scored { IsFound search.now result }
-    ensures keeps { IsNoWorse search.now result.plan start.plan }
-    ensures tried { BeatsTracks search.now result.plan from end }
+    ensures keeps { IsNoWorseIn search.now result.plan start.plan }
+    ensures tried { IsNoWorseThanTracks search.now result.plan from end }
 {
     if end <= from {
         return start;
@@ -239,8 +239,8 @@ pub fn try_all(search: &Search, start: Scored) -> Scored
     requires search { IsSearch search.now }
     requires best { IsFound search.now start }
     ensures scored { IsFound search.now result }
-    ensures keeps { IsNoWorse search.now result.plan start.plan }
-    ensures tried { BeatsTracks search.now result.plan 0 search.now.disk.now.mechanism.cylinders }
+    ensures keeps { IsNoWorseIn search.now result.plan start.plan }
+    ensures tried { IsNoWorseThanTracks search.now result.plan 0 search.now.disk.now.mechanism.cylinders }
 {
     let geometry = search.disk.map.geometry();
     geometry.sound();

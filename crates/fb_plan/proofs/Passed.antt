@@ -20,14 +20,14 @@ use Rattle.fb_model.specs.Plans.{block_end, value, early_dwell, IsPlan, IsDetour
 use Rattle.fb_plan.specs.declared.way.Way.{Way}
 use Rattle.fb_plan.specs.declared.way.Way.TheVariants.{Source, Over}
 use Rattle.fb_plan.specs.declared.turning.Turning.{Turning}
-use Rattle.fb_plan.specs.Ways.{plan_by, early_track, arrival, move_on, AreOnDisk, Beats}
+use Rattle.fb_plan.specs.Ways.{plan_by, early_track, arrival, move_on, AreOnDisk, IsNoWorse}
 use Rattle.fb_plan.specs.declared.sides.Sides.{Sides}
 use Rattle.fb_plan.specs.Turns.{AreSides, IsTurning, end_of, stay_of}
 use Rattle.fb_plan.proofs.Enough.{enough}
 use Rattle.fb_plan.proofs.Gains.{some-one}
 use Rattle.fb_plan.proofs.Offered.{entry-of, offer-of, to_filter, wanted-at}
 use Rattle.fb_plan.proofs.Swept.{turning-end}
-use Rattle.fb_plan.proofs.Ties.{later-leave, beats-self, beats-trans}
+use Rattle.fb_plan.proofs.Ties.{later-leave, no_worse-self, no_worse-trans}
 
 -- a wanted block of the track is among its entries
 in_track : (track : Track) (es : List Entry) (i : ℕ) (b : Block) → slice_get (wanted_of es) i ≡ Some b → same_track track b.track ≡ true
@@ -43,10 +43,10 @@ pub bounds : (disk : Disk) (gap : Gap) (way : Way) (u : ℕ) → IsPlan disk gap
 bounds disk gap Source u is = is
 bounds disk gap (Over track) u is = (is.after_arrival, is.in_time)
 
-pub leave-beats : (disk : Disk) (gap : Gap) (wanted : List Block) (way : Way) (v u : ℕ) → v ≤ u
+pub leave-no_worse : (disk : Disk) (gap : Gap) (wanted : List Block) (way : Way) (v u : ℕ) → v ≤ u
     → value disk gap wanted (plan_by way u) ≤ value disk gap wanted (plan_by way v)
-    → Beats disk gap wanted (plan_by way v) (plan_by way u)
-leave-beats disk gap wanted way v u le values =
+    → IsNoWorse disk gap wanted (plan_by way v) (plan_by way u)
+leave-no_worse disk gap wanted way v u le values =
     elim (cases_lt (value disk gap wanted (plan_by way u)) (value disk gap wanted (plan_by way v))) [
       | inl l ↦ inl l
       | inr m ↦ inr (omega arith, later-leave way v u le)
@@ -54,24 +54,24 @@ leave-beats disk gap wanted way v u le values =
 
 -- all leaves of a way, when the arrival and the ends of passages were tried
 pub all_leaves : (disk : Disk) (gap : Gap) (way : Way) (es : List Entry) (best : Plan) (u : ℕ) → 0 < disk.map.rotation
-    → Beats disk gap (wanted_of es) best (plan_by way (arrival disk gap way))
+    → IsNoWorse disk gap (wanted_of es) best (plan_by way (arrival disk gap way))
     → ((k : ℕ) (e : Entry) → slice_get (on_track (early_track gap way) es) k ≡ Some e → is_wanted e.state ≡ true
     → block_end disk.map e.block (arrival disk gap way) + move_on disk gap way ≤ gap.deadline
-    → Beats disk gap (wanted_of es) best (plan_by way (block_end disk.map e.block (arrival disk gap way))))
-    → IsPlan disk gap (plan_by way u) → Beats disk gap (wanted_of es) best (plan_by way u)
+    → IsNoWorse disk gap (wanted_of es) best (plan_by way (block_end disk.map e.block (arrival disk gap way))))
+    → IsPlan disk gap (plan_by way u) → IsNoWorse disk gap (wanted_of es) best (plan_by way u)
 all_leaves disk gap way es best u some first each is =
     let w = bounds disk gap way u is in
     let v = enough disk gap way (wanted_of es) u some w.0 in
-    let better : Beats disk gap (wanted_of es) best (plan_by way v.0) = elim v.1.tried [
-      | inl e ↦ subst (λ x. Beats disk gap (wanted_of es) best (plan_by way x)) (sym e) first
+    let better : IsNoWorse disk gap (wanted_of es) best (plan_by way v.0) = elim v.1.tried [
+      | inl e ↦ subst (λ x. IsNoWorse disk gap (wanted_of es) best (plan_by way x)) (sym e) first
       | inr q ↦
           let k = in_track (early_track gap way) es q.0 q.1 q.2 q.3 in
           let end : block_end disk.map k.1.block (arrival disk gap way) ≡ v.0 = ap (λ b. block_end disk.map b (arrival disk gap way)) k.3
           ∙ sym q.4 in
-          subst (λ x. Beats disk gap (wanted_of es) best (plan_by way x)) end (each k.0 k.1 k.2 k.4 (omega (arith, w.1, v.1.upto, end)))
+          subst (λ x. IsNoWorse disk gap (wanted_of es) best (plan_by way x)) end (each k.0 k.1 k.2 k.4 (omega (arith, w.1, v.1.upto, end)))
     ] in
-    beats-trans disk gap (wanted_of es) best (plan_by way v.0) (plan_by way u) better
-    (leave-beats disk gap (wanted_of es) way v.0 u v.1.upto v.2)
+    no_worse-trans disk gap (wanted_of es) best (plan_by way v.0) (plan_by way u) better
+    (leave-no_worse disk gap (wanted_of es) way v.0 u v.1.upto v.2)
 
 -- when the head leaves as the sweep of an offer ends
 abbrev pub leave_at : Turning → Offer → ℕ
@@ -80,33 +80,33 @@ leave_at turning offer = end_of turning.rotation offer.sweep turning.from
 -- of the first offers, so many, each leave that is in time is no better than this plan
 abbrev pub AreTried : Disk → Gap → Way → List Block → Turning → List Offer → ℕ → Plan → Type 0
 AreTried disk gap way wanted turning offers n best = (k : ℕ) (o : Offer) → k < n → slice_get offers k ≡ Some o
-    → leave_at turning o + move_on disk gap way ≤ gap.deadline → Beats disk gap wanted best (plan_by way (leave_at turning o))
+    → leave_at turning o + move_on disk gap way ≤ gap.deadline → IsNoWorse disk gap wanted best (plan_by way (leave_at turning o))
 
 module _ (disk : Disk) (gap : Gap) (way : Way) (wanted : List Block) (turning : Turning) (xs : List Offer) (i : ℕ) where
   -- one more offer
-  pub offers-more : (old new : Plan) (x : Offer) → slice_get xs i ≡ Some x → Beats disk gap wanted new old
-      → (leave_at turning x + move_on disk gap way ≤ gap.deadline → Beats disk gap wanted new (plan_by way (leave_at turning x)))
+  pub offers-more : (old new : Plan) (x : Offer) → slice_get xs i ≡ Some x → IsNoWorse disk gap wanted new old
+      → (leave_at turning x + move_on disk gap way ≤ gap.deadline → IsNoWorse disk gap wanted new (plan_by way (leave_at turning x)))
       → AreTried disk gap way wanted turning xs i old → AreTried disk gap way wanted turning xs (i + 1) new
   offers-more old new x at keeps this before k o less here fits = elim (cases_lt k i) [
-    | inl l ↦ beats-trans disk gap wanted new old (plan_by way (leave_at turning o)) keeps (before k o l here fits)
+    | inl l ↦ no_worse-trans disk gap wanted new old (plan_by way (leave_at turning o)) keeps (before k o l here fits)
     | inr m ↦
         let same : k ≡ i = omega arith in
         let one : x ≡ o = some-one x o (sym at ∙ (ap (slice_get xs) (sym same) ∙ here)) in
         let leave = λ (y : Offer). leave_at turning y in
-        subst (λ y. leave y + move_on disk gap way ≤ gap.deadline → Beats disk gap wanted new (plan_by way (leave y))) one this fits
+        subst (λ y. leave y + move_on disk gap way ≤ gap.deadline → IsNoWorse disk gap wanted new (plan_by way (leave y))) one this fits
   ]
 
   module _ (d : Offer) (less : i < length xs) (old : Plan) (before : AreTried disk gap way wanted turning xs i old) where
     -- whose leave was tried
-    pub offers-tried : (new plan : Plan) (end : ℕ) → Beats disk gap wanted new old → end ≡ leave_at turning (get_or xs i d)
-        → plan ≡ plan_by way end → Beats disk gap wanted new plan → AreTried disk gap way wanted turning xs (i + 1) new
+    pub offers-tried : (new plan : Plan) (end : ℕ) → IsNoWorse disk gap wanted new old → end ≡ leave_at turning (get_or xs i d)
+        → plan ≡ plan_by way end → IsNoWorse disk gap wanted new plan → AreTried disk gap way wanted turning xs (i + 1) new
     offers-tried new plan end keeps is by tried = offers-more old new (get_or xs i d) (slice_get-get_or xs i d less) keeps
-        (λ fits. subst (Beats disk gap wanted new) (by ∙ ap (plan_by way) is) tried) before
+        (λ fits. subst (IsNoWorse disk gap wanted new) (by ∙ ap (plan_by way) is) tried) before
 
     -- or is too late
     pub offers-late : (latest : ℕ) → latest < leave_at turning (get_or xs i d) → gap.deadline ≤ latest + move_on disk gap way
         → AreTried disk gap way wanted turning xs (i + 1) old
-    offers-late latest late most = offers-more old old (get_or xs i d) (slice_get-get_or xs i d less) (beats-self disk gap wanted old)
+    offers-late latest late most = offers-more old old (get_or xs i d) (slice_get-get_or xs i d less) (no_worse-self disk gap wanted old)
         (λ fits. absurd (omega (arith, late, most, fits))) before
 
 -- the loop over the offers of a way's track is through
@@ -124,37 +124,38 @@ module _ (disk : Disk) (gap : Gap) (way : Way) (es : List Entry) (turning : Turn
       (o.0, o.1, o.2, ap (λ s. end_of turning.rotation s turning.from) o.3 ∙ end)
 
   pub way_done : (best first start : Plan) (n u : ℕ) → start ≡ plan_by way turning.from → length offers ≤ n
-      → Beats disk gap (wanted_of es) best first → Beats disk gap (wanted_of es) first start
+      → IsNoWorse disk gap (wanted_of es) best first → IsNoWorse disk gap (wanted_of es) first start
       → AreTried disk gap way (wanted_of es) turning offers n best
-      → IsPlan disk gap (plan_by way u) → Beats disk gap (wanted_of es) best (plan_by way u)
+      → IsPlan disk gap (plan_by way u) → IsNoWorse disk gap (wanted_of es) best (plan_by way u)
   way_done best first start n u from all b f each is =
-      let arrived = beats-trans disk gap (wanted_of es) best first start b f in
+      let arrived = no_worse-trans disk gap (wanted_of es) best first start b f in
       all_leaves disk gap way es best u disk.some_rotation
-      (subst (λ p. Beats disk gap (wanted_of es) best p) (from ∙ ap (plan_by way) when) arrived)
+      (subst (λ p. IsNoWorse disk gap (wanted_of es) best p) (from ∙ ap (plan_by way) when) arrived)
       (λ k e at w fits.
       let o = offered k e at w in
       let within = slice_get_within offers o.0 o.1 o.2 in
       let in_time = subst (λ x. x + move_on disk gap way ≤ gap.deadline) (sym o.3) fits in
-      subst (λ x. Beats disk gap (wanted_of es) best (plan_by way x)) o.3 (each o.0 o.1 (omega (arith, all, within)) o.2 in_time))
+      subst (λ x. IsNoWorse disk gap (wanted_of es) best (plan_by way x)) o.3 (each o.0 o.1 (omega (arith, all, within)) o.2 in_time))
       is
 
 -- one more track
-pub tracks-more : (disk : Disk) (gap : Gap) (wanted : List Block) (new old : Plan) (at : ℕ → Track) (n : ℕ) → Beats disk gap wanted new old
-    → ((leave : ℕ) → IsDetour disk gap (at n) leave → Beats disk gap wanted new (Detour (at n) leave))
-    → ((h leave : ℕ) → h < n → IsDetour disk gap (at h) leave → Beats disk gap wanted old (Detour (at h) leave))
-    → (h leave : ℕ) → h < n + 1 → IsDetour disk gap (at h) leave → Beats disk gap wanted new (Detour (at h) leave)
+pub tracks-more : (disk : Disk) (gap : Gap) (wanted : List Block) (new old : Plan) (at : ℕ → Track) (n : ℕ)
+    → IsNoWorse disk gap wanted new old
+    → ((leave : ℕ) → IsDetour disk gap (at n) leave → IsNoWorse disk gap wanted new (Detour (at n) leave))
+    → ((h leave : ℕ) → h < n → IsDetour disk gap (at h) leave → IsNoWorse disk gap wanted old (Detour (at h) leave))
+    → (h leave : ℕ) → h < n + 1 → IsDetour disk gap (at h) leave → IsNoWorse disk gap wanted new (Detour (at h) leave)
 tracks-more disk gap wanted new old at n keeps this before h leave less is = elim (cases_lt h n) [
-  | inl l ↦ beats-trans disk gap wanted new old (Detour (at h) leave) keeps (before h leave l is)
+  | inl l ↦ no_worse-trans disk gap wanted new old (Detour (at h) leave) keeps (before h leave l is)
   | inr m ↦ let same : n ≡ h = omega arith in
-      subst (λ x. IsDetour disk gap (at x) leave → Beats disk gap wanted new (Detour (at x) leave)) same (this leave) is
+      subst (λ x. IsDetour disk gap (at x) leave → IsNoWorse disk gap wanted new (Detour (at x) leave)) same (this leave) is
 ]
 
 -- all plans of the gap
 pub all_plans : (disk : Disk) (gap : Gap) (wanted : List Block) (best : Plan) (n : ℕ) → cylinders_of disk.map.zones ≤ n
-    → ((leave : ℕ) → IsPlan disk gap (Direct leave) → Beats disk gap wanted best (Direct leave))
+    → ((leave : ℕ) → IsPlan disk gap (Direct leave) → IsNoWorse disk gap wanted best (Direct leave))
     → ((c h leave : ℕ) → c < n → IsDetour disk gap (record { cylinder = c; head = h }) leave
-    → Beats disk gap wanted best (Detour (record { cylinder = c; head = h }) leave))
-    → (q : Plan) → IsPlan disk gap q → Beats disk gap wanted best q
+    → IsNoWorse disk gap wanted best (Detour (record { cylinder = c; head = h }) leave))
+    → (q : Plan) → IsPlan disk gap q → IsNoWorse disk gap wanted best q
 all_plans disk gap wanted best n all direct detour (Direct leave) is = direct leave is
 all_plans disk gap wanted best n all direct detour (Detour track leave) is =
     detour track.cylinder track.head leave (omega (arith, is.on_disk.cylinder)) is

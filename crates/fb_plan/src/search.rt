@@ -4,7 +4,7 @@ ghost use Rattle.std.specs.Prelude.{◌≡◌, ◌+◌, ◌*◌, ◌≤◌, ◌<
 ghost use Rattle.fb_geometry.specs.Shape.{IsTrackOf};
 ghost use Rattle.fb_model.specs.Plans.{IsPlan, early_dwell};
 ghost use Rattle.fb_wanted.specs.States.{wanted_of};
-ghost use Rattle.fb_plan.specs.Ways.{AreOnDisk, IsGap, IsWay, IsScored, Beats, plan_by, early_track, arrival, move_on};
+ghost use Rattle.fb_plan.specs.Ways.{AreOnDisk, IsGap, IsWay, IsScored, IsNoWorse, plan_by, early_track, arrival, move_on};
 ghost use Rattle.fb_plan.specs.Turns.{Stands, IsInTurn, AreSides, end_of, stay_of};
 
 use crate::choice::choose;
@@ -108,8 +108,8 @@ pub fn try_plan(
     requires late { AreOnDisk disk.now sides.now.late }
     requires best { IsScored disk.now gap.now (wanted_of wanted.now) best }
     ensures scored { IsScored disk.now gap.entry.now (wanted_of wanted.now) result }
-    ensures keeps { Beats disk.now gap.entry.now (wanted_of wanted.now) result.plan best.plan }
-    ensures tried { Beats disk.now gap.entry.now (wanted_of wanted.now) result.plan plan }
+    ensures keeps { IsNoWorse disk.now gap.entry.now (wanted_of wanted.now) result.plan best.plan }
+    ensures tried { IsNoWorse disk.now gap.entry.now (wanted_of wanted.now) result.plan plan }
 {
     choose(best, scored_by(disk, wanted, gap, sides, plan))
 }
@@ -150,8 +150,9 @@ pub fn try_way(disk: &Disk, wanted: &Wanted, gap: &Gap, way: Way, start: Scored)
     requires blocks { AreOnDisk disk.now wanted.now }
     requires best { IsScored disk.now gap.now (wanted_of wanted.now) start }
     ensures scored { IsScored disk.now gap.entry.now (wanted_of wanted.now) result }
-    ensures keeps { Beats disk.now gap.entry.now (wanted_of wanted.now) result.plan start.plan }
-    ensures tried { (leave : ℕ) → IsPlan disk.now gap.entry.now (plan_by way leave) → Beats disk.now gap.entry.now (wanted_of wanted.now) result.plan (plan_by way leave) }
+    ensures keeps { IsNoWorse disk.now gap.entry.now (wanted_of wanted.now) result.plan start.plan }
+    ensures tried { (leave : ℕ) → IsPlan disk.now gap.entry.now (plan_by way leave)
+        → IsNoWorse disk.now gap.entry.now (wanted_of wanted.now) result.plan (plan_by way leave) }
 {
     let stay = stay_of(disk, gap, way);
     let on = move_on(disk, gap, way);
@@ -177,8 +178,9 @@ fn try_track(disk: &Disk, wanted: &Wanted, gap: &Gap, track: Track, start: Score
     requires blocks { AreOnDisk disk.now wanted.now }
     requires best { IsScored disk.now gap.now (wanted_of wanted.now) start }
     ensures scored { IsScored disk.now gap.entry.now (wanted_of wanted.now) result }
-    ensures keeps { Beats disk.now gap.entry.now (wanted_of wanted.now) result.plan start.plan }
-    ensures tried { (leave : ℕ) → IsPlan disk.now gap.entry.now (Plan.Detour track leave) → Beats disk.now gap.entry.now (wanted_of wanted.now) result.plan (Plan.Detour track leave) }
+    ensures keeps { IsNoWorse disk.now gap.entry.now (wanted_of wanted.now) result.plan start.plan }
+    ensures tried { (leave : ℕ) → IsPlan disk.now gap.entry.now (Plan.Detour track leave)
+        → IsNoWorse disk.now gap.entry.now (wanted_of wanted.now) result.plan (Plan.Detour track leave) }
 {
     if is_same(track, gap.source) {
         return start;
@@ -196,9 +198,10 @@ pub fn try_cylinder(disk: &Disk, wanted: &Wanted, gap: &Gap, cylinder: u32, star
     requires blocks { AreOnDisk disk.now wanted.now }
     requires best { IsScored disk.now gap.now (wanted_of wanted.now) start }
     ensures scored { IsScored disk.now gap.entry.now (wanted_of wanted.now) result }
-    ensures keeps { Beats disk.now gap.entry.now (wanted_of wanted.now) result.plan start.plan }
+    ensures keeps { IsNoWorse disk.now gap.entry.now (wanted_of wanted.now) result.plan start.plan }
     ensures tried { (head leave : ℕ) → IsPlan disk.now gap.entry.now (Plan.Detour (record { cylinder = cylinder; head = head }) leave)
-        → Beats disk.now gap.entry.now (wanted_of wanted.now) result.plan (Plan.Detour (record { cylinder = cylinder; head = head }) leave) }
+        → IsNoWorse disk.now gap.entry.now (wanted_of wanted.now) result.plan
+        (Plan.Detour (record { cylinder = cylinder; head = head }) leave) }
 {
     let mut best = start;
     for head in 0..disk.map.geometry().heads() {

@@ -1,5 +1,5 @@
 use Rattle.fb_detour.proofs.Words.{arith, get_or, refl, subst, sym, ◌∙◌, slice_get-get_or, wanted_of, offers-in-turn, bounds, offers-more}
-use Rattle.fb_detour.proofs.Words.{way_done, plan_by, IsBeaten, IsNoWorse}
+use Rattle.fb_detour.proofs.Words.{way_done, plan_by, IsNoBetter, IsNoWorseIn}
 use Rattle.fb_detour.proofs.Found.{through}
 use Rattle.fb_detour.proofs.candidates.try_each.Goals as goal
 
@@ -19,7 +19,7 @@ loop-offer-preserved c =
     let new = c.try_once-best-in-loop-offer.result.plan in
     let old = c.loop-offer.best.plan in
     let step = c.try_once-best-in-loop-offer.ensures in
-    let this = subst (IsBeaten trial new) c.end-end.ensures.value step.tried in record {
+    let this = subst (IsNoBetter trial new) c.end-end.ensures.value step.tried in record {
       scored = step.scored;
       keeps = through search new old c.try_once-best.result.plan step.keeps c.loop-offer.invariant.keeps;
       tried = offers-more search.disk.now search.gap.now trial.way (wanted_of search.wanted.now) trial.sides.now.passing offers i old new
@@ -41,4 +41,4 @@ returns-clause-tried c = λ leave is.
     way_done search.disk.now search.gap.now trial.way search.wanted.now sides.passing c.offers-offers.result.now sides.early
     its.passing its.from its.early c.requires.trial.sides.early c.offers-offers.ensures.its
     c.loop-offer.best.plan first (plan_by trial.way sides.passing.from) c.loop-offer.offer-index leave refl c.loop-offer-test.false
-    done.keeps (subst (λ t. IsNoWorse search first (plan_by trial.way t)) (begin ∙ sym its.from) arrived) done.tried is
+    done.keeps (subst (λ t. IsNoWorseIn search first (plan_by trial.way t)) (begin ∙ sym its.from) arrived) done.tried is

@@ -1,11 +1,11 @@
-use Rattle.fb_detour.proofs.Words.{wanted_of, AreTried, AreNotes, IsFound, IsNoWorse}
+use Rattle.fb_detour.proofs.Words.{wanted_of, AreTried, AreNotes, IsFound, IsNoWorseIn}
 use Rattle.fb_detour.proofs.candidates.try_each.Given as goal
 
 abbrev pub invariant-loop-offer : goal.invariant-loop-offer
 invariant-loop-offer l =
     let search = l.trial.search.now in record {
       scored : IsFound search l.best;
-      keeps : IsNoWorse search l.best.plan l.initial.best.plan;
+      keeps : IsNoWorseIn search l.best.plan l.initial.best.plan;
       tried : AreTried search.disk.now search.gap.now l.trial.way (wanted_of search.wanted.now) l.trial.sides.now.passing l.offers
           l.offer-index l.best.plan;
       notes : AreNotes l.trial l.best.plan l.notes;

@@ -1,6 +1,6 @@
 use Rattle.fb_detour.proofs.Words.{arith, ◌≡◌}
 use Rattle.fb_detour.proofs.Found.{itself, through}
-use Rattle.fb_detour.proofs.Keys.{part-more, parts-beaten, parts-done}
+use Rattle.fb_detour.proofs.Keys.{part-more, parts-no_better, parts-done}
 use Rattle.fb_detour.proofs.search.+visit.Goals as goal
 
 pub loop-key-init : goal.loop-key-init
@@ -42,7 +42,7 @@ returns-then-most-best-clause-tried n c =
     let width = c.width_of-width in
     let keys = c.keys_of-keys in
     let old = c.loop-key.invariant in
-    let all = parts-beaten search c.args.from c.args.end width.result keys.result keys.ensures c.loop-key.best c.loop-key.key
+    let all = parts-no_better search c.args.from c.args.end width.result keys.result keys.ensures c.loop-key.best c.loop-key.key
     old.scored old.done (omega (arith, c.if-most-best.true)) in
     parts-done search c.args.from c.args.end width.result keys.result keys.ensures c.loop-key.best.plan width.ensures.some
     (omega (arith, width.ensures.whole)) all

@@ -2,7 +2,7 @@ use Rattle.std.proofs.Common.{◌≤◌, arith, ap}
 use Rattle.fb_geometry.specs.Shape.{Shape, cylinders_of}
 use Rattle.fb_wanted.specs.States.{wanted_of}
 use Rattle.fb_rows.specs.declared.gap.Plan.TheVariants.{Direct}
-use Rattle.fb_plan.proofs.Ties.{beats-trans, best-of}
+use Rattle.fb_plan.proofs.Ties.{no_worse-trans, best-of}
 use Rattle.fb_plan.proofs.Passed.{tracks-more, all_plans}
 use Rattle.fb_plan.proofs.slow.SlowPlannerPlanner.best.Goals as goal
 
@@ -15,7 +15,7 @@ loop-cylinder-preserved c =
     let old = c.loop-cylinder.best.plan in
     let before = c.loop-cylinder.invariant in (
       new.ensures.scored,
-      λ leave is. beats-trans disk gap blocks new.result.plan old (Direct leave) new.ensures.keeps (before.1 leave is),
+      λ leave is. no_worse-trans disk gap blocks new.result.plan old (Direct leave) new.ensures.keeps (before.1 leave is),
       λ cylinder head. tracks-more disk gap blocks new.result.plan old (λ x. record { cylinder = x; head = head })
           c.loop-cylinder.cylinder new.ensures.keeps (new.ensures.tried head) (λ x leave. before.2 x head leave) cylinder,
     )

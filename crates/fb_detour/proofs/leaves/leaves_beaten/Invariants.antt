@@ -1,6 +1,0 @@
-use Rattle.fb_detour.proofs.Words.{ℕ, ◌*◌, ◌+◌, ◌<◌, Detour, IsDetourIn, IsNoWorse}
-use Rattle.fb_detour.proofs.leaves.leaves_beaten.Given as goal
-
-abbrev pub invariant-loop-k : goal.invariant-loop-k
-invariant-loop-k l = (leave : ℕ) → leave < l.ceilings.begin + l.k * l.ceilings.step → IsDetourIn l.search l.track leave
-    → IsNoWorse l.search l.best.plan (Detour l.track leave)
