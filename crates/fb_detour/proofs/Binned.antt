@@ -20,23 +20,23 @@ no_sum m zero = refl
 no_sum zero (suc n) = refl
 no_sum (suc m) (suc n) = omega (arith, sum-cons 0 (replicate m 0) n, no_sum m n)
 
--- one offer more, whose worth goes to all sums over its place
-module _ (f : Offer → ℕ) (offers : List Offer) (i : ℕ) (d : Offer) (within : i < length offers) (old new : List ℕ) (place n : ℕ)
-    (grown : sum_of_first n new ≡ sum_of_first n old + (if nat_lt place n then (get_or offers i d).worth else 0)) where
+-- one offer more, whose worth goes to all sums over its index
+module _ (f : Offer → ℕ) (offers : List Offer) (i : ℕ) (d : Offer) (within : i < length offers) (old new : List ℕ) (index n : ℕ)
+    (grown : sum_of_first n new ≡ sum_of_first n old + (if nat_lt index n then (get_or offers i d).worth else 0)) where
   -- the sum is no less than what it bounds, if that grows only where the sum does
   pub most-more : (passes : Sweep → Bool) → f (get_or offers i d) ≡ added passes (get_or offers i d)
-      → (passes (get_or offers i d).sweep ≡ true → place < n) → sum_by f (take i offers) ≤ sum_of_first n old
+      → (passes (get_or offers i d).sweep ≡ true → index < n) → sum_by f (take i offers) ≤ sum_of_first n old
       → sum_by f (take (i + 1) offers) ≤ sum_of_first n new
   most-more passes is inside so_far =
       let o = get_or offers i d in
-      let gain = if-le (passes o.sweep) (nat_lt place n) o.worth (λ by. let less = inside by in grind (arith, nat_tests)) in
+      let gain = if-le (passes o.sweep) (nat_lt index n) o.worth (λ by. let less = inside by in grind (arith, nat_tests)) in
       bound-more f offers i d within (sum_of_first n old) (sum_of_first n new) so_far (omega (arith, grown, gain, is))
 
   -- nor more than all worth
   pub worth-more : sum_of_first n old ≤ sum_by (λ (offer : Offer). offer.worth) (take i offers)
       → sum_of_first n new ≤ sum_by (λ (offer : Offer). offer.worth) (take (i + 1) offers)
   worth-more so_far = within-more (λ (offer : Offer). offer.worth) offers i d within (sum_of_first n old) (sum_of_first n new) so_far
-      (omega (arith, grown, if-le-n (nat_lt place n) (get_or offers i d).worth))
+      (omega (arith, grown, if-le-n (nat_lt index n) (get_or offers i d).worth))
 
 module _ (search : Search) (way : Way) (bins : Bins) (stop target : Stop) where
   abbrev disk : Disk

@@ -13,10 +13,10 @@ module _ (trial : Trial) where
       through trial.search.now new old (plan_by trial.way (get_or notes k 0)) keeps (are k less fits)
 
   -- nor is a leave that was tried
-  pub notes-more : (best : Plan) (notes : List ℕ) (part leave : ℕ) → part < length notes → AreNotes trial best notes
-      → IsNoBetter trial best leave → AreNotes trial best (slice_set notes part leave)
-  notes-more best notes part leave within are no_better k less = elim (cases_eq k part) [
-    | inl here ↦ subst (IsNoBetter trial best) (sym (get_or-set_at notes part k leave 0 here within)) no_better
-    | inr other ↦ subst (IsNoBetter trial best) (sym (get_or-set_other notes part k leave 0 other))
-        (are k (omega (arith, less, length-set notes part leave)))
+  pub notes-more : (best : Plan) (notes : List ℕ) (note leave : ℕ) → note < length notes → AreNotes trial best notes
+      → IsNoBetter trial best leave → AreNotes trial best (slice_set notes note leave)
+  notes-more best notes note leave within are no_better k less = elim (cases_eq k note) [
+    | inl here ↦ subst (IsNoBetter trial best) (sym (get_or-set_at notes note k leave 0 here within)) no_better
+    | inr other ↦ subst (IsNoBetter trial best) (sym (get_or-set_other notes note k leave 0 other))
+        (are k (omega (arith, less, length-set notes note leave)))
   ]

@@ -156,10 +156,10 @@ abbrev pub IsNoted : Leaves → ℕ → Type 0
 IsNoted leaves leave = get_or leaves.firsts.now (bin_at leaves.begin leaves.fine leave) 0 ≤ leave
 
 -- the last bins, so many, have no leave from which the head still catches what passes so at the target
-abbrev pub IsPlace : Search → Turning → Leaves → Sweep → ℕ → Type 0
-IsPlace search target leaves sweep place = (leave : ℕ) → leaves.begin ≤ leave → IsNoted leaves leave
+abbrev pub AreTooLate : Search → Turning → Leaves → Sweep → ℕ → Type 0
+AreTooLate search target leaves sweep bins = (leave : ℕ) → leaves.begin ≤ leave → IsNoted leaves leave
     → passes_by (turned_to target (leave + leaves.on)) search.gap.now.deadline sweep ≡ true
-    → place + bin_at leaves.begin leaves.fine leave < 16384
+    → bins + bin_at leaves.begin leaves.fine leave < 16384
 
 -- what the track and the target give at most to a head that leaves in the instant's bin
 abbrev pub bin_ceiling : Bins → ℕ → ℕ

@@ -4,7 +4,8 @@ ghost use Rattle.std.specs.Prelude.{◌≡◌, ◌+◌, ◌-◌, ◌*◌, ◌≤
 ghost use Rattle.std.specs.List.{sum_by};
 ghost use Rattle.fb_wanted.specs.States.{on_track};
 ghost use Rattle.fb_plan.specs.Turns.{IsInTurn, IsTurning};
-ghost use Rattle.fb_detour.specs.Bounds.{bin_at, bin_ceiling, late_gain, offered, AreLeaves, IsNoted, IsPlace, IsReady, IsSearch, IsStop};
+ghost use Rattle.fb_detour.specs.Bounds.{bin_at, bin_ceiling, late_gain, offered, AreLeaves, AreTooLate, IsNoted, IsReady, IsSearch};
+ghost use Rattle.fb_detour.specs.Bounds.{IsStop};
 
 use crate::given::Search;
 use crate::parts::{add_at, add_up, last_catch};
@@ -95,7 +96,7 @@ pub fn early_bins(stop: &Stop, fine: Ns) -> [u64; BINS]
 
 // How many bins, counted from the last one back, have no leave from which the head comes to the target by this
 // instant.
-fn place_of(leaves: &Leaves, last: Ns) -> usize
+fn too_late_by(leaves: &Leaves, last: Ns) -> usize
     requires some { 0 < leaves.now.fine }
     requires room { leaves.now.begin + leaves.now.on ≤ 9 * 10 ^ 18 }
     ensures { (leave : ℕ) → leaves.now.begin ≤ leave → IsNoted leaves.now leave → leave + leaves.now.on ≤ last
@@ -114,16 +115,16 @@ fn place_of(leaves: &Leaves, last: Ns) -> usize
 
 // How many bins, counted from the last one back, have no leave from which the head still catches at the target
 // what passes so.
-fn late_place(search: &Search, target: &Turning, leaves: &Leaves, sweep: Sweep) -> usize
+fn too_late_for(search: &Search, target: &Turning, leaves: &Leaves, sweep: Sweep) -> usize
     requires search { IsSearch search.now }
     requires target { IsTurning search.now.disk.now target.now }
     requires from { target.now.from ≡ search.now.gap.now.now }
     requires in_turn { IsInTurn target.now.rotation sweep }
     requires leaves { AreLeaves search.now leaves.now }
-    ensures { IsPlace search.now target.now leaves.now sweep result }
+    ensures { AreTooLate search.now target.now leaves.now sweep result }
 {
     if let Some(last) = last_catch(search.disk, search.gap, target, sweep) {
-        return place_of(leaves, last);
+        return too_late_by(leaves, last);
     }
     BINS
 }
@@ -141,7 +142,7 @@ pub fn late_bins(search: &Search, target: &Stop, leaves: &Leaves) -> [u64; BINS]
 {
     let mut bins = [0; BINS];
     for offer in target.offers {
-        let k = late_place(search, &target.passing, leaves, offer.sweep);
+        let k = too_late_for(search, &target.passing, leaves, offer.sweep);
         add_at(&mut bins, k, offer.worth);
     }
     add_up(&mut bins);

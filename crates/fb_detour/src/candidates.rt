@@ -94,15 +94,16 @@ fn try_leave(trial: &Trial, bins: Option<&Bins>, leave: Ns, best: Scored) -> Sco
 // Into how many parts two rotations are divided to note which leaves were tried.
 const NOTED: usize = 1_024;
 
-// The number of the part of two rotations in which the head leaves, counted from its arrival: what next
-// passes from then on ends within these. So leaves share a note only if less than a part lies between them.
-fn part_of(disk: &Disk, ceilings: &Ceilings, leave: Ns) -> usize
+// The index of a leave's note: the number of the part of two rotations in which the head leaves, counted from
+// its arrival. What next passes from then on ends within these. So leaves share a note only if less than a part
+// lies between them.
+fn note_of(disk: &Disk, ceilings: &Ceilings, leave: Ns) -> usize
     ensures { result < 1024 }
 {
     let rotation = disk.map.geometry().rotation();
     let part = 2 * rotation / NOTED as u64 + 1;
-    let stay = leave.saturating_sub(ceilings.begin);
-    (stay / part).min(NOTED as u64 - 1) as usize
+    let past = leave.saturating_sub(ceilings.begin);
+    (past / part).min(NOTED as u64 - 1) as usize
 }
 
 // Tries to leave at an instant, unless that is noted, and notes it. There are as many notes as parts, or
@@ -122,11 +123,11 @@ fn try_once(trial: &Trial, bins: Option<&Bins>, leave: Ns, notes: &mut [Ns], bes
     if notes.len() < NOTED {
         return try_leave(trial, bins, leave, best);
     }
-    let part = part_of(trial.search.disk, trial.ceilings, leave);
-    if notes[part] == leave {
+    let note = note_of(trial.search.disk, trial.ceilings, leave);
+    if notes[note] == leave {
         return best;
     }
-    notes[part] = leave;
+    notes[note] = leave;
     try_leave(trial, bins, leave, best)
 }
 

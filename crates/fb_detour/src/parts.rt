@@ -174,14 +174,14 @@ pub fn late_at(late: &LateParts, from: Ns) -> u64
 // Into how many intervals the time on a track is divided.
 pub const EARLY: usize = 16;
 
-// Adds the worth to the number at this place, if there is one.
-pub fn add_at(numbers: &mut [u64], place: usize, worth: u32)
+// Adds the worth to the number at this index, if there is one.
+pub fn add_at(numbers: &mut [u64], index: usize, worth: u32)
     requires room { (k : ℕ) → k < length numbers.old → sum_of_first (k + 1) numbers.old ≤ 16000000 * 2048000 }
     ensures { (n : ℕ) → n ≤ length numbers.old
-        → sum_of_first n numbers.new ≡ sum_of_first n numbers.old + (if nat_lt place n then worth else 0) }
+        → sum_of_first n numbers.new ≡ sum_of_first n numbers.old + (if nat_lt index n then worth else 0) }
 {
-    if place < numbers.len() {
-        numbers[place] += worth as u64;
+    if index < numbers.len() {
+        numbers[index] += worth as u64;
     }
 }
 

@@ -15,7 +15,7 @@ use fb_units::{Ns, Track};
 use fb_wanted::{Offer, Wanted};
 
 // What an offer adds if its passage ends by the instant `latest`, in ns.
-fn gain(offer: Offer, passing: &Turning, latest: Ns) -> u64
+fn added_until(offer: Offer, passing: &Turning, latest: Ns) -> u64
     requires stands { Stands passing.now }
     requires sweep { IsInTurn passing.now.rotation offer.sweep }
     ensures value { result ≡ added (passes_by passing.now latest) offer }
@@ -39,13 +39,13 @@ fn value_until(offers: &[Offer], passing: &Turning, latest: Ns) -> u64
 {
     let mut sum = 0;
     for offer in offers {
-        sum += gain(*offer, passing, latest);
+        sum += added_until(*offer, passing, latest);
     }
     sum
 }
 
 // What an offer adds if its passage ends in time in either dwell.
-fn gain_in_either(offer: Offer, pair: DwellPair, early: &Turning, late: &Turning) -> u64
+fn added_in_either(offer: Offer, pair: DwellPair, early: &Turning, late: &Turning) -> u64
     requires early { Stands early.now }
     requires late { Stands late.now }
     requires early_sweep { IsInTurn early.now.rotation offer.sweep }
@@ -56,7 +56,7 @@ fn gain_in_either(offer: Offer, pair: DwellPair, early: &Turning, late: &Turning
     if early.ends_by(offer.sweep, pair.early.end) {
         return offer.worth as u64;
     }
-    gain(offer, late, pair.late.end)
+    added_until(offer, late, pair.late.end)
 }
 
 // What the offers of a track add to the value of a plan that stays there twice.
@@ -70,7 +70,7 @@ fn value_in_either(offers: &[Offer], pair: DwellPair, early: &Turning, late: &Tu
 {
     let mut sum = 0;
     for offer in offers {
-        sum += gain_in_either(*offer, pair, early, late);
+        sum += added_in_either(*offer, pair, early, late);
     }
     sum
 }

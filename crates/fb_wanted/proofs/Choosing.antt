@@ -8,7 +8,7 @@ use Rattle.fb_wanted.specs.declared.block.Entry.{Entry}
 use Rattle.fb_wanted.specs.declared.block.State.{State}
 use Rattle.fb_wanted.specs.States.{after, entry_after}
 use Rattle.fb_wanted.specs.Numbering.{AreInOrder, blocks_of}
-use Rattle.fb_wanted.specs.Index.{of_task, lbns, IsStable, changed_where, change_nth}
+use Rattle.fb_wanted.specs.Index.{is_of_task, lbns, IsStable, changed_where, change_nth}
 use Rattle.fb_wanted.proofs.Standing.{nth_alone}
 use Rattle.fb_wanted.proofs.Numbers.{index_at}
 use Rattle.fb_wanted.proofs.OfTask.{others_after}
@@ -77,13 +77,13 @@ nth_same p f g (suc k) (e ∷ es) same = elim (cases_Bool (p e)) [
 
 -- to change the k-th block of a task is to choose number k
 nth_chosen : (task k : ℕ) (change : Change) (es : List Entry) → AreInOrder (blocks_of es)
-    → change_nth (of_task task) (entry_after task change) k es ≡ changed_where (λ i. i == k) task change es
+    → change_nth (is_of_task task) (entry_after task change) k es ≡ changed_where (λ i. i == k) task change es
 nth_chosen task k change es in_order =
     let one = λ (e : Entry). if e.block.index == k then entry_after task change e else e in
-    nth_same (of_task task) (entry_after task change) one k es (λ e at.
+    nth_same (is_of_task task) (entry_after task change) one k es (λ e at.
     let is = index_at es task k e in_order at in
     let here : (e.block.index == k) ≡ true = grind (arith, nat_tests) in rw here refl)
-    ∙ nth_alone (of_task task) one k es
+    ∙ nth_alone (is_of_task task) one k es
     (λ e other. elim (cases_Bool (e.block.index == k)) [
       | inl here ↦ rw here (others_after task change e other)
       | inr not_here ↦ rw not_here refl
@@ -101,7 +101,7 @@ stable_after task change e stable = elim (cases_Bool (e.block.task == task)) [
 
 -- one more block is changed
 pub one_more : (chosen : ℕ → Bool) (task k : ℕ) (change : Change) (es : List Entry) → AreInOrder (blocks_of es) → IsStable change
-    → change_nth (of_task task) (entry_after task change) k (changed_where chosen task change es)
+    → change_nth (is_of_task task) (entry_after task change) k (changed_where chosen task change es)
     ≡ changed_where (λ i. chosen i || (i == k)) task change es
 one_more chosen task k change es in_order stable =
     let f = entry_after task change in

@@ -13,7 +13,7 @@ use Rattle.fb_wanted.specs.declared.block.State.{State}
 use Rattle.fb_wanted.specs.declared.depths.Depth.{Depth}
 use Rattle.fb_wanted.specs.Tracks.{band_of}
 use Rattle.fb_wanted.specs.Depth.{is_in, weight_on, depth_at, band_depth, no_depth, spare_for, deepened, IsDeep, AreDeep}
-use Rattle.fb_wanted.specs.Index.{of_track, with_state}
+use Rattle.fb_wanted.specs.Index.{is_of_track, with_state}
 use Rattle.fb_wanted.proofs.Sums.{sum-with_state, sum-le}
 use Rattle.fb_wanted.proofs.Standing.{length-with_state, items-with_state}
 use Rattle.fb_wanted.proofs.Kept.{same_one}
@@ -45,11 +45,11 @@ one_le t lbn e = elim (cases_Bool (same_track t e.block.track)) [
       let its : band_of e.block ≡ t.cylinder / 64 = ap (λ u. u.cylinder / 64) (sym same) in
       let band : of_band (t.cylinder / 64) e ≡ true = grind (arith, nat_tests) in
       rw (here, band) (omega arith)
-  | inr off ↦ omega (arith, depth_elsewhere (of_track t) lbn e off)
+  | inr off ↦ omega (arith, depth_elsewhere (is_of_track t) lbn e off)
 ]
 
 pub depth-le_band : (t : Track) (lbn : ℕ) (es : List Entry) → depth_at t lbn es ≤ band_depth (t.cylinder / 64) lbn es
-depth-le_band t lbn es = sum-le (depth_at t lbn) (band_depth (t.cylinder / 64) lbn) (depth-cons (of_track t) lbn)
+depth-le_band t lbn es = sum-le (depth_at t lbn) (band_depth (t.cylinder / 64) lbn) (depth-cons (is_of_track t) lbn)
     (depth-cons (of_band (t.cylinder / 64)) lbn) (omega arith) (one_le t lbn) es
 
 -- a change of a block's state doesn't change depths

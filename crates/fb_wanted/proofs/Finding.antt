@@ -10,8 +10,8 @@ use Rattle.fb_wanted.specs.declared.block.Entry.{Entry}
 use Rattle.fb_wanted.specs.declared.streaks.Streak.{Streak}
 use Rattle.fb_wanted.specs.States.{shares, after}
 use Rattle.fb_wanted.specs.Numbering.{AreInOrder, blocks_of}
-use Rattle.fb_wanted.specs.Index.{of_task, lbns, region_of, IsUpTo, IsInStreak, BeginsStreak, AreNoted, AreShort, IsWithin, changed_where}
-use Rattle.fb_wanted.specs.Index.{key_of, streak_cmp}
+use Rattle.fb_wanted.specs.Index.{is_of_task, lbns, region_of, IsUpTo, IsInStreak, BeginsStreak, AreNoted, AreShort, IsWithin}
+use Rattle.fb_wanted.specs.Index.{changed_where, key_of, streak_cmp}
 use Rattle.fb_wanted.proofs.Standing.{among}
 use Rattle.fb_wanted.proofs.Numbers.{index_at}
 use Rattle.fb_wanted.proofs.OfTask.{own_after, others_after}
@@ -46,7 +46,13 @@ pub few_streaks : (task : ℕ) (es : List Entry) (streaks : BTreeSet (ℕ × ℕ
     → length es ≤ 16000000 → contains streak_cmp streaks (key_of task streak) ≡ true → streak.index < 16000000
 few_streaks task es streaks streak noted few has =
     let begins = (noted task streak).0 has in
-    omega (arith, slice_get_within (lbns task es) streak.index begins.lbn begins.at, length-lbns task es, filter-le (of_task task) es, few)
+    omega (
+      arith,
+      slice_get_within (lbns task es) streak.index begins.lbn begins.at,
+      length-lbns task es,
+      filter-le (is_of_task task) es,
+      few,
+    )
 
 -- the measure of a walk over streaks
 pub comes_later : (region index : ℕ) (streak : Streak) → IsUpTo (record { region = region; index = index }) streak → streak.region < 2 ^ 64
@@ -70,10 +76,10 @@ AreBehind task first count es from = (streak : Streak) (lbn : ℕ) → BeginsStr
 shared : (task first count longest : ℕ) (es : List Entry) (chosen : ℕ → Bool) (from : Streak)
     → AreInOrder (blocks_of es) → AreShort longest es
     → AreChosen task first longest es chosen from → AreBehind task first count es from
-    → (i : ℕ) (e : Entry) → slice_get es i ≡ Some e → of_task task e ≡ true
+    → (i : ℕ) (e : Entry) → slice_get es i ≡ Some e → is_of_task task e ≡ true
     → shares first count e.block ≡ true → chosen e.block.index ≡ true
 shared task first count longest es chosen from in_order short done rest i e at own inside =
-    let it = among (of_task task) es i e at own in
+    let it = among (is_of_task task) es i e at own in
     let index = index_at es task it.0 e in_order it.2 in
     let lbn = lbn_at task es it.0 e it.2 in
     let streak = streak_of (lbns task es) it.0 e.block.lbn lbn in
@@ -95,7 +101,7 @@ pub finished : (task first count longest : ℕ) (change : Change) (es : List Ent
     → AreChosen task first longest es chosen from → AreBehind task first count es from
     → changed_where chosen task change es ≡ after task change es
 finished task first count longest change es chosen from within in_order short done rest =
-    all_chosen chosen task change es (λ i e at. elim (cases_Bool (of_task task e)) [
+    all_chosen chosen task change es (λ i e at. elim (cases_Bool (is_of_task task e)) [
       | inl own ↦ elim (cases_Bool (shares first count e.block)) [
         | inl inside ↦ inl (shared task first count longest es chosen from in_order short done rest i e at own inside)
         | inr outside ↦ inr (own_after task change e e.state own (sym (within e.block e.state outside)))

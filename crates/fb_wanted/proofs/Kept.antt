@@ -13,8 +13,8 @@ use Rattle.fb_wanted.specs.Counting.{counts_of, no_counts, recounted}
 use Rattle.fb_wanted.specs.Numbering.{AreInOrder, AreSmall, blocks_of, registered}
 use Rattle.fb_wanted.specs.States.{is_wanted}
 use Rattle.fb_wanted.specs.Tracks.{wanted_weight}
-use Rattle.fb_wanted.specs.Index.{OnTrack, of_task, of_track, indexes_of, grown, reweighed, no_blocks, grown_task, counted_anew, kept_of_task}
-use Rattle.fb_wanted.specs.Index.{track_at, weight_kept, offers_at, IsKept, IsChanged, IsTaskChanged, with_state}
+use Rattle.fb_wanted.specs.Index.{OnTrack, is_of_task, is_of_track, indexes_of, grown, reweighed, no_blocks, grown_task, counted_anew}
+use Rattle.fb_wanted.specs.Index.{kept_of_task, track_at, weight_kept, offers_at, IsKept, IsChanged, IsTaskChanged, with_state}
 use Rattle.fb_wanted.proofs.Standing.{length-with_state, items-with_state, blocks-with_state, indexes_of-with_state, indexes_of-more_yes}
 use Rattle.fb_wanted.proofs.Standing.{indexes_of-more_no}
 use Rattle.fb_wanted.proofs.Numbers.{numbered-more, small-more}
@@ -121,7 +121,8 @@ module _ (s : State) (n : ℕ) (e : Entry) (es : List Entry) (tracks new : List 
       ∙ same_blocks _ _ (sym (indexes_of-with_state (λ b. b.task == task) s n es)) (counts-with_state task s n e es at))
 
   kept_other : (task : ℕ) → (e.block.task == task) ≡ false → kept_of_task task es ≡ kept_of_task task (with_state s n es)
-  kept_other task other = same_blocks _ _ (sym (indexes_of-with_state (λ b. b.task == task) s n es)) (counts-with_other task s n e es at other)
+  kept_other task other = same_blocks _ _ (sym (indexes_of-with_state (λ b. b.task == task) s n es))
+      (counts-with_other task s n e es at other)
 
   kept_turned : (tasks more : List OfTask) → IsKept es tasks tracks
       → IsTaskChanged tasks more e.block.task (counted_anew (counts_of e.block.task (e ∷ [])) (counts_of e.block.task (turned ∷ [])))
@@ -162,11 +163,11 @@ module _ (e : Entry) (es : List Entry) (tasks newtasks : List OfTask) (tracks ne
   more_own task blocks own kept =
       let same : e.block.task ≡ task = grind (arith, nat_tests) in
       ap (grown_task (length es) e) kept
-      ∙ same_blocks _ _ (sym (indexes_of-more_yes (of_task task) es e own)) (ap (λ u. recounted no_counts (counts_of u (e ∷ []))
+      ∙ same_blocks _ _ (sym (indexes_of-more_yes (is_of_task task) es e own)) (ap (λ u. recounted no_counts (counts_of u (e ∷ []))
       (counts_of task es)) same ∙ counts-grown task es e)
 
   more_other : (task : ℕ) → (e.block.task == task) ≡ false → kept_of_task task es ≡ kept_of_task task (es ++ e ∷ [])
-  more_other task other = same_blocks _ _ (sym (indexes_of-more_no (of_task task) es e other)) (counts-grown_other task es e other)
+  more_other task other = same_blocks _ _ (sym (indexes_of-more_no (is_of_task task) es e other)) (counts-grown_other task es e other)
 
   more_of_task : (task : ℕ) → get_or tasks task no_blocks ≡ kept_of_task task es
       → IsTaskChanged tasks newtasks e.block.task (grown_task (length es) e)
@@ -176,16 +177,16 @@ module _ (e : Entry) (es : List Entry) (tasks newtasks : List OfTask) (tracks ne
     | inr other ↦ changed task ∙ rw other (kept ∙ more_other task other)
   ]
 
-  more_indexes : (t : Track) → (track_at tracks t).indexes ≡ indexes_of (of_track t) es
-      → IsChanged tracks new e.block.track (grown (length es)) → (track_at new t).indexes ≡ indexes_of (of_track t) (es ++ e ∷ [])
+  more_indexes : (t : Track) → (track_at tracks t).indexes ≡ indexes_of (is_of_track t) es
+      → IsChanged tracks new e.block.track (grown (length es)) → (track_at new t).indexes ≡ indexes_of (is_of_track t) (es ++ e ∷ [])
   more_indexes t kept changed = elim (cases_Bool (same_track e.block.track t)) [
     | inl here ↦
         let on = turned_track e.block.track t here in
         ap (λ o. o.indexes) (changed_here tracks new e.block.track (grown (length es)) changed t here)
-        ∙ (ap (λ l. l ++ length es ∷ []) kept ∙ sym (indexes_of-more_yes (of_track t) es e on))
+        ∙ (ap (λ l. l ++ length es ∷ []) kept ∙ sym (indexes_of-more_yes (is_of_track t) es e on))
     | inr other ↦
         ap (λ o. o.indexes) (unchanged tracks new e.block.track (grown (length es)) changed t other)
-        ∙ (kept ∙ sym (indexes_of-more_no (of_track t) es e (turned_other e.block.track t other)))
+        ∙ (kept ∙ sym (indexes_of-more_no (is_of_track t) es e (turned_other e.block.track t other)))
   ]
 
   more_weight : (t : Track) → is_wanted e.state ≡ false → weight_kept tracks t ≡ wanted_weight t es

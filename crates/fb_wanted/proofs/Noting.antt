@@ -7,7 +7,7 @@ use Rattle.std.proofs.lemmas.Bool.Decides.{nat_tests}
 use Rattle.std.proofs.lemmas.Option.{slice_get_within}
 use Rattle.fb_wanted.specs.declared.block.Entry.{Entry}
 use Rattle.fb_wanted.specs.declared.streaks.Streak.{Streak}
-use Rattle.fb_wanted.specs.Index.{of_task, lbns, region_of, key_of, streak_cmp, BeginsStreak, AreNoted, AreShort}
+use Rattle.fb_wanted.specs.Index.{is_of_task, lbns, region_of, key_of, streak_cmp, BeginsStreak, AreNoted, AreShort}
 use Rattle.fb_wanted.proofs.Numbers.{in_either}
 use Rattle.fb_wanted.proofs.Regions.{length-lbns, lbns-own, lbns-other, streaks_stay, last_begins, streak_or_last}
 
@@ -27,7 +27,7 @@ same_triple : (a b c d e f : ℕ) → a ≡ b → c ≡ d → e ≡ f → ◌≡
 same_triple a b c d e f x y z = rw (x, y, z) refl
 
 module _ (es : List Entry) (task region index : ℕ) (old noted : BTreeSet (ℕ × ℕ × ℕ)) (begins : Bool) (h : AreNoted es old)
-    (next : index ≡ length (filter (of_task task) es))
+    (next : index ≡ length (filter (is_of_task task) es))
     (stay : (k : ℕ × ℕ × ℕ) → contains streak_cmp old k ≡ true → contains streak_cmp noted k ≡ true)
     (more : (k : ℕ × ℕ × ℕ) → contains streak_cmp noted k ≡ true
     → (contains streak_cmp old k ≡ true) ⊎ ((begins ≡ true) × (k ≡ (task, region, index)))) where

@@ -9,7 +9,7 @@ use Rattle.fb_wanted.specs.declared.block.Block.{Block}
 use Rattle.fb_wanted.specs.declared.block.Entry.{Entry}
 use Rattle.fb_wanted.specs.States.{is_block}
 use Rattle.fb_wanted.specs.Numbering.{AreInOrder, AreSmall, blocks_of, registered}
-use Rattle.fb_wanted.specs.Index.{of_task, indexes_of}
+use Rattle.fb_wanted.specs.Index.{is_of_task, indexes_of}
 use Rattle.fb_wanted.proofs.Standing.{among}
 
 -- an element of a list with one more at the end is in the list, or it is the new one
@@ -38,7 +38,8 @@ blocks-more [] e = refl
 blocks-more (x ∷ es) e = ap (λ l. x.block ∷ l) (blocks-more es e)
 
 -- the blocks of a task are those of its entries
-pub task-blocks : (task : ℕ) (es : List Entry) → filter (λ block. block.task == task) (blocks_of es) ≡ blocks_of (filter (of_task task) es)
+pub task-blocks : (task : ℕ) (es : List Entry) → filter (λ block. block.task == task) (blocks_of es)
+    ≡ blocks_of (filter (is_of_task task) es)
 task-blocks task [] = refl
 task-blocks task (e ∷ es) = elim (cases_Bool (e.block.task == task)) [
   | inl yes' ↦ rw yes' (ap (λ l. e.block ∷ l) (task-blocks task es))
@@ -84,19 +85,20 @@ pub small_at : (es : List Entry) (i : ℕ) (e : Entry) → AreSmall (blocks_of e
 small_at es i e h at = h i e.block (block_there es i e at)
 
 -- the k-th block of a task has the number k
-pub index_at : (es : List Entry) (task k : ℕ) (e : Entry) → AreInOrder (blocks_of es) → slice_get (filter (of_task task) es) k ≡ Some e
+pub index_at : (es : List Entry) (task k : ℕ) (e : Entry) → AreInOrder (blocks_of es) → slice_get (filter (is_of_task task) es) k ≡ Some e
     → e.block.index ≡ k
-index_at es task k e h at = h task k e.block (ap (λ l. slice_get l k) (task-blocks task es) ∙ block_there (filter (of_task task) es) k e at)
+index_at es task k e h at = h task k e.block
+    (ap (λ l. slice_get l k) (task-blocks task es) ∙ block_there (filter (is_of_task task) es) k e at)
 
-pub block_is : (task index : ℕ) (e : Entry) → is_block task index e ≡ true → (of_task task e ≡ true) × (e.block.index ≡ index)
+pub block_is : (task index : ℕ) (e : Entry) → is_block task index e ≡ true → (is_of_task task e ≡ true) × (e.block.index ≡ index)
 block_is task index e h = (grind (arith, nat_tests), grind (arith, nat_tests))
 
 -- the block with a number in its task is found at that index among the blocks of the task
 pub found : (es : List Entry) (task index i : ℕ) (e : Entry) → AreInOrder (blocks_of es) → slice_get es i ≡ Some e
     → is_block task index e ≡ true
-    → (slice_get (indexes_of (of_task task) es) index ≡ Some i) × (slice_get (filter (of_task task) es) index ≡ Some e)
+    → (slice_get (indexes_of (is_of_task task) es) index ≡ Some i) × (slice_get (filter (is_of_task task) es) index ≡ Some e)
 found es task index i e h at is =
     let own = block_is task index e is in
-    let it = among (of_task task) es i e at own.0 in
+    let it = among (is_of_task task) es i e at own.0 in
     let same : it.0 ≡ index = sym (index_at es task it.0 e h it.2) ∙ own.1 in
-    (ap (slice_get (indexes_of (of_task task) es)) (sym same) ∙ it.1, ap (slice_get (filter (of_task task) es)) (sym same) ∙ it.2)
+    (ap (slice_get (indexes_of (is_of_task task) es)) (sym same) ∙ it.1, ap (slice_get (filter (is_of_task task) es)) (sym same) ∙ it.2)

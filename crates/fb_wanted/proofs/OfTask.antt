@@ -7,24 +7,24 @@ use Rattle.fb_wanted.specs.declared.block.Entry.{Entry}
 use Rattle.fb_wanted.specs.declared.block.State.{State}
 use Rattle.fb_wanted.specs.States.{after, entry_after, state_after}
 use Rattle.fb_wanted.specs.Numbering.{AreInOrder, blocks_of}
-use Rattle.fb_wanted.specs.Index.{of_task, change_nth}
+use Rattle.fb_wanted.specs.Index.{is_of_task, change_nth}
 use Rattle.fb_wanted.proofs.Numbers.{index_at}
 use Rattle.fb_wanted.proofs.Standing.{nth_alone, passes}
 
-pub own_after : (task : ℕ) (change : Change) (e : Entry) (s : State) → of_task task e ≡ true → s ≡ state_after change e.block e.state
+pub own_after : (task : ℕ) (change : Change) (e : Entry) (s : State) → is_of_task task e ≡ true → s ≡ state_after change e.block e.state
     → entry_after task change e ≡ record { block = e.block; state = s }
 own_after task change e s own is = rw own (ap (λ t. let x : Entry = record { block = e.block; state = t } in x) (sym is))
 
-pub others_after : (task : ℕ) (change : Change) (e : Entry) → of_task task e ≡ false → entry_after task change e ≡ e
+pub others_after : (task : ℕ) (change : Change) (e : Entry) → is_of_task task e ≡ false → entry_after task change e ≡ e
 others_after task change e other = rw other refl
 
-not_delivered : (task index : ℕ) (e : Entry) → of_task task e ≡ true → (e.block.index == index) ≡ false
+not_delivered : (task index : ℕ) (e : Entry) → is_of_task task e ≡ true → (e.block.index == index) ≡ false
     → entry_after task (Deliver index) e ≡ e
 not_delivered task index e own other = rw (own, other) refl
 
 pub delivered_alone : (task index : ℕ) (es : List Entry) → AreInOrder (blocks_of es)
-    → change_nth (of_task task) (entry_after task (Deliver index)) index es ≡ after task (Deliver index) es
-delivered_alone task index es h = nth_alone (of_task task) (entry_after task (Deliver index)) index es (others_after task (Deliver index))
-    (λ j e at ne.
+    → change_nth (is_of_task task) (entry_after task (Deliver index)) index es ≡ after task (Deliver index) es
+delivered_alone task index es h = nth_alone (is_of_task task) (entry_after task (Deliver index)) index es
+    (others_after task (Deliver index)) (λ j e at ne.
     let is = index_at es task j e h at in
-    not_delivered task index e (passes (of_task task) es j e at) (grind (arith, nat_tests)))
+    not_delivered task index e (passes (is_of_task task) es j e at) (grind (arith, nat_tests)))

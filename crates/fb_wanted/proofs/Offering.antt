@@ -15,8 +15,8 @@ use Rattle.fb_wanted.specs.declared.block.State.TheVariants.{Wanted}
 use Rattle.fb_wanted.specs.declared.offer.Offer.{Offer}
 use Rattle.fb_wanted.specs.Offers.{AreSameBlocks, offer_of, offered_blocks, no_block}
 use Rattle.fb_wanted.specs.States.{is_wanted, on_track, wanted_of}
-use Rattle.fb_wanted.specs.Index.{OnTrack, indexes_of, of_track, no_offer, last_of, taken_out, with_offer, without_offer, offers_at, with_state}
-use Rattle.fb_wanted.specs.Index.{AreOffered, IsItsOffer, IsChanged}
+use Rattle.fb_wanted.specs.Index.{OnTrack, indexes_of, is_of_track, no_offer, last_of, taken_out, with_offer, without_offer, offers_at}
+use Rattle.fb_wanted.specs.Index.{with_state, AreOffered, IsItsOffer, IsChanged}
 use Rattle.fb_wanted.proofs.Counted.{filter-le}
 use Rattle.fb_wanted.proofs.Found.{block_at, block_is, blocks_still, found_each}
 use Rattle.fb_wanted.proofs.Kept.{same_one, same_itself, turned_track, turned_other, changed_here, unchanged}
@@ -32,8 +32,8 @@ same_index : (p q : ℕ) (a b : Block) → offer_of p a ≡ offer_of q b → p �
 same_index p q a b h = ap (λ o. o.index) h
 
 -- the offers hold with other tracks that have the same ones
-pub offered_still : (es : List Entry) (was is : Track → List Offer) (offer_indexes : List ℕ) → AreOffered es was offer_indexes → ((t : Track)
-    → is t ≡ was t) → AreOffered es is offer_indexes
+pub offered_still : (es : List Entry) (was is : Track → List Offer) (offer_indexes : List ℕ) → AreOffered es was offer_indexes
+    → ((t : Track) → is t ≡ was t) → AreOffered es is offer_indexes
 offered_still es was is offer_indexes h same = record {
   sums = λ t. subst (λ l. AreSameBlocks (offered_blocks es l) (wanted_of (on_track t es))) (sym (same t)) (h.sums t);
   each = λ t i o at. h.each t i o (ap (λ l. slice_get l i) (sym (same t)) ∙ at);
@@ -50,8 +50,8 @@ offered_pushed es offers offer_indexes e offer_index h un = record {
     arith,
     ap (sum_by measure) (blocks_still es e (offers t) (found_each es offers offer_indexes t h)),
     h.sums t measure,
-    by-append measure (of_track t) es (e ∷ []),
-    by_unwanted measure (of_track t) e un,
+    by-append measure (is_of_track t) es (e ∷ []),
+    by_unwanted measure (is_of_track t) e un,
   );
   each = λ t i o at. let its = h.each t i o at in
       record {
@@ -108,7 +108,7 @@ module _ (es : List Entry) (offer_indexes : List ℕ) (p : ℕ) (e : Entry) (s :
       (with_state s p es) offers offer_indexes
   offered_alike offers h alike = record {
     sums = λ t measure.
-        let part : sum_wanted measure (of_track t) (turned ∷ []) ≡ sum_wanted measure (of_track t) (e ∷ [])
+        let part : sum_wanted measure (is_of_track t) (turned ∷ []) ≡ sum_wanted measure (is_of_track t) (e ∷ [])
         = elim (cases_Bool (same_track t e.block.track)) [
           | inl on ↦ elim (cases_Bool (is_wanted e.state)) [
             | inl yes' ↦ rw (on, alike, yes') refl
@@ -116,7 +116,7 @@ module _ (es : List Entry) (offer_indexes : List ℕ) (p : ℕ) (e : Entry) (s :
           ]
           | inr off ↦ rw off refl
         ] in
-        omega (arith, same_sum measure (offers t), h.sums t measure, by-with_state measure (of_track t) s p e es at, part);
+        omega (arith, same_sum measure (offers t), h.sums t measure, by-with_state measure (is_of_track t) s p e es at, part);
     each = λ t i o there. let its = h.each t i o there in elim (cases_eq o.index p) [
       | inl here ↦
           let one = same_Some e its.entry (sym at ∙ (ap (slice_get es) (sym here) ∙ its.there)) in
@@ -176,15 +176,15 @@ module _ (es : List Entry) (offer_indexes : List ℕ) (p : ℕ) (e : Entry) (s :
         (wanted_of (on_track t (with_state s p es)))
     given_sums t measure =
         let same = same_sum measure (offers_at new t) in
-        let change = by-with_state measure (of_track t) s p e es at in
-        let none = by_unwanted measure (of_track t) e un in
+        let change = by-with_state measure (is_of_track t) s p e es at in
+        let none = by_unwanted measure (is_of_track t) e un in
         elim (cases_Bool (same_track track t)) [
           | inl here ↦
-              let own = by_wanted measure (of_track t) turned (turned_track track t here) wanted in
+              let own = by_wanted measure (is_of_track t) turned (turned_track track t here) wanted in
               let sums = ap (λ os. sum_by measure (offered_blocks es os)) (one_more t here) ∙ pushed_sum measure (offers_at tracks t) in
               omega (arith, same, sums, h.sums t measure, change, none, own)
           | inr other ↦
-              let off = by_elsewhere measure (of_track t) turned (turned_other track t other) in
+              let off = by_elsewhere measure (is_of_track t) turned (turned_other track t other) in
               let sums = ap (λ os. sum_by measure (offered_blocks es os)) (as_before t other) in
               omega (arith, same, sums, h.sums t measure, change, none, off)
         ]
@@ -210,7 +210,8 @@ module _ (es : List Entry) (offer_indexes : List ℕ) (p : ℕ) (e : Entry) (s :
                   there = ap (slice_get (with_state s p es)) index ∙ state_at s p e es at;
                   on = here;
                   wanted = wanted;
-                  index_is = ap (slice_get (set offer_indexes p offer_index)) index ∙ (set_same offer_indexes p offer_index room ∙ ap (λ k. Some k) (sym is));
+                  index_is = ap (slice_get (set offer_indexes p offer_index)) index
+                      ∙ (set_same offer_indexes p offer_index room ∙ ap (λ k. Some k) (sym is));
                 }
           ]
       | inr other ↦ old_its t i o (ap (λ l. slice_get l i) (sym (as_before t other)) ∙ there)
@@ -291,16 +292,16 @@ module _ (es : List Entry) (offer_indexes : List ℕ) (p : ℕ) (e : Entry) (s :
           (wanted_of (on_track t (with_state s p es)))
       taken_sums t measure =
           let same = same_sum measure (offers_at new t) in
-          let change = by-with_state measure (of_track t) s p e es at in
-          let none = by_unwanted measure (of_track t) turned un in
+          let change = by-with_state measure (is_of_track t) s p e es at in
+          let none = by_unwanted measure (is_of_track t) turned un in
           elim (cases_Bool (same_track own_track t)) [
             | inl here ↦
-                let own = by_wanted measure (of_track t) e (turned_track own_track t here) was in
+                let own = by_wanted measure (is_of_track t) e (turned_track own_track t here) was in
                 let sums = ap (λ os. sum_by measure (offered_blocks es os)) (one_less t here) in
                 let before = ap (λ u. sum_by measure (offered_blocks es (offers_at tracks u))) (same_one own_track t here) in
                 omega (arith, same, sums, rest_sum measure, before, h.sums t measure, change, none, own)
             | inr other ↦
-                let off = by_elsewhere measure (of_track t) e (turned_other own_track t other) in
+                let off = by_elsewhere measure (is_of_track t) e (turned_other own_track t other) in
                 let sums = ap (λ os. sum_by measure (offered_blocks es os)) (as_they_were t other) in
                 omega (arith, same, sums, h.sums t measure, change, none, off)
           ]
@@ -312,8 +313,8 @@ module _ (es : List Entry) (offer_indexes : List ℕ) (p : ℕ) (e : Entry) (s :
           (set_other offer_indexes moved.index o.index i not_moved) its
 
       -- a block with another index is another
-      apart : (q : ℕ) (j k : ℕ) → slice_get offer_indexes q ≡ Some j → (index : ℕ) → slice_get offer_indexes index ≡ Some k → (j ≡ k → ⊥) → index ≡ q
-          → ⊥
+      apart : (q : ℕ) (j k : ℕ) → slice_get offer_indexes q ≡ Some j → (index : ℕ) → slice_get offer_indexes index ≡ Some k
+          → (j ≡ k → ⊥) → index ≡ q → ⊥
       apart q j k here index there ne same = ne (same_Some j k (sym here ∙ (ap (slice_get offer_indexes) (sym same) ∙ there)))
 
       -- a block of another track is another
@@ -432,23 +433,23 @@ wanted-le es = omega (arith, length-map (filter (λ e. is_wanted e.state) es) (�
 -- there are no more offers than blocks
 pub offers-few : (t : Track) (os : List Offer) (es : List Entry) → AreSameBlocks (offered_blocks es os) (wanted_of (on_track t es))
     → length es ≤ 16000000 → length os ≤ 16000000
-offers-few t os es h few = omega (arith, length-offers t os es h, wanted-le (on_track t es), filter-le (of_track t) es, few)
+offers-few t os es h few = omega (arith, length-offers t os es h, wanted-le (on_track t es), filter-le (is_of_track t) es, few)
 
 -- a block of a track isn't wanted: there are fewer offers than blocks of the track
 pub offers-room : (es : List Entry) (p : ℕ) (e : Entry) (os : List Offer) → slice_get es p ≡ Some e → is_wanted e.state ≡ false
     → AreSameBlocks (offered_blocks es os) (wanted_of (on_track e.block.track es))
-    → length os < length (indexes_of (of_track e.block.track) es)
+    → length os < length (indexes_of (is_of_track e.block.track) es)
 offers-room es p e os at un h =
     let t = e.block.track in
     let own : Entry = record { block = e.block; state = Wanted } in
     let all = with_state Wanted p es in
-    let more = by-with_state (λ b. 1) (of_track t) Wanted p e es at in
-    let none = by_unwanted (λ b. 1) (of_track t) e un in
-    let one = by_wanted (λ b. 1) (of_track t) own (same_itself t) refl in
+    let more = by-with_state (λ b. 1) (is_of_track t) Wanted p e es at in
+    let none = by_unwanted (λ b. 1) (is_of_track t) e un in
+    let one = by_wanted (λ b. 1) (is_of_track t) own (same_itself t) refl in
     let most = wanted-le (on_track t all) in
     let count = ones (wanted_of (on_track t all)) in
     let is = ones (wanted_of (on_track t es)) in
-    let same = sym (length-indexes_of (of_track t) all) ∙ ap length (indexes_of-with_state (λ b. same_track t b.track) Wanted p es) in
+    let same = sym (length-indexes_of (is_of_track t) all) ∙ ap length (indexes_of-with_state (λ b. same_track t b.track) Wanted p es) in
     omega (arith, length-offers t os es h, more, none, one, most, count, is, same)
 
 -- the entry that stands for none

@@ -12,7 +12,8 @@ use Rattle.fb_wanted.specs.declared.tasks.OfTask.{OfTask}
 use Rattle.fb_wanted.specs.Counting.{counts_of, sum_of, AreNoMore, Fit}
 use Rattle.fb_wanted.specs.States.{on_track}
 use Rattle.fb_wanted.specs.Tracks.{wanted_weight}
-use Rattle.fb_wanted.specs.Index.{OnTrack, indexes_of, of_task, of_track, track_at, weight_kept, IsThere, IsKept, no_blocks, no_block_on}
+use Rattle.fb_wanted.specs.Index.{OnTrack, indexes_of, is_of_task, is_of_track, track_at, weight_kept, IsThere, IsKept, no_blocks}
+use Rattle.fb_wanted.specs.Index.{no_block_on}
 use Rattle.fb_wanted.proofs.Standing.{length-indexes_of, among}
 use Rattle.fb_wanted.proofs.Counted.{counts_at, counts-few}
 use Rattle.fb_wanted.proofs.Kept.{same_itself}
@@ -20,19 +21,19 @@ use Rattle.fb_wanted.proofs.Weights.{weight_at, weight-le}
 
 module _ (es : List Entry) (tasks : List OfTask) (tracks : List (List OnTrack)) (h : IsKept es tasks tracks) where
   task_length : (task : ℕ) (blocks : OfTask) → blocks ≡ get_or tasks task no_blocks
-      → length blocks.indexes ≡ length (filter (of_task task) es)
-  task_length task blocks at = ap (λ b. length b.indexes) (at ∙ h.index.by_task task) ∙ length-indexes_of (of_task task) es
+      → length blocks.indexes ≡ length (filter (is_of_task task) es)
+  task_length task blocks at = ap (λ b. length b.indexes) (at ∙ h.index.by_task task) ∙ length-indexes_of (is_of_task task) es
 
-  no_task : (task : ℕ) → length tasks ≤ task → 0 ≡ length (filter (of_task task) es)
+  no_task : (task : ℕ) → length tasks ≤ task → 0 ≡ length (filter (is_of_task task) es)
   no_task task past = task_length task no_blocks (sym (get_or_past tasks task no_blocks past))
 
-  pub task_there : (task k : ℕ) → k < length (filter (of_task task) es) → task < length tasks
+  pub task_there : (task k : ℕ) → k < length (filter (is_of_task task) es) → task < length tasks
   task_there task k lt = elim (cases_lt task (length tasks)) [
     | inl there ↦ there
     | inr past ↦ absurd (omega (arith, no_task task past, lt))
   ]
 
-  pub task_index : (task k : ℕ) (blocks : OfTask) → blocks ≡ get_or tasks task no_blocks → k < length (filter (of_task task) es)
+  pub task_index : (task k : ℕ) (blocks : OfTask) → blocks ≡ get_or tasks task no_blocks → k < length (filter (is_of_task task) es)
       → k < length blocks.indexes
   task_index task k blocks at lt = omega (arith, task_length task blocks at, lt)
 
@@ -46,9 +47,9 @@ module _ (es : List Entry) (tasks : List OfTask) (tracks : List (List OnTrack)) 
   -- the task of a registered block has an entry in the index, and its counts have the block's part
   pub its_task_there : (n : ℕ) (e : Entry) → slice_get es n ≡ Some e → e.block.task < length tasks
   its_task_there n e at =
-      let own : of_task e.block.task e ≡ true = grind (arith, nat_tests) in
-      let it = among (of_task e.block.task) es n e at own in
-      task_there e.block.task it.0 (slice_get_within (filter (of_task e.block.task) es) it.0 e it.2)
+      let own : is_of_task e.block.task e ≡ true = grind (arith, nat_tests) in
+      let it = among (is_of_task e.block.task) es n e at own in
+      task_there e.block.task it.0 (slice_get_within (filter (is_of_task e.block.task) es) it.0 e it.2)
 
   pub counts_part : (n : ℕ) (e : Entry) (lost : Counts) → slice_get es n ≡ Some e → lost ≡ counts_of e.block.task (e ∷ [])
       → AreNoMore lost (get_or tasks e.block.task no_blocks).counts
@@ -63,7 +64,7 @@ module _ (es : List Entry) (tasks : List OfTask) (tracks : List (List OnTrack)) 
       rw (is, kept_counts task) (omega (arith, one.0, all.0, h.few), omega (arith, one.1, all.1, h.few), omega (arith, one.2, all.2, h.few))
 
   pub track_kept : (t : Track) (on : OnTrack) → on ≡ track_at tracks t
-      → (on.indexes ≡ indexes_of (of_track t) es) × (on.weight ≡ wanted_weight t es)
+      → (on.indexes ≡ indexes_of (is_of_track t) es) × (on.weight ≡ wanted_weight t es)
   track_kept t on at = (ap (λ o. o.indexes) at ∙ h.index.by_track t, ap (λ o. o.weight) at ∙ h.index.by_weight t)
 
   pub track_weight : (t : Track) (on : OnTrack) → on ≡ track_at tracks t → on.weight ≤ 16000000 * 2048000
@@ -81,13 +82,13 @@ module _ (es : List Entry) (tasks : List OfTask) (tracks : List (List OnTrack)) 
   weight_part n e lost at is = omega (arith, is, weight_read e.block.track, weight_at e.block.track n e es at)
 
   track_length : (t : Track) → length (track_at tracks t).indexes ≡ length (on_track t es)
-  track_length t = ap length (h.index.by_track t) ∙ length-indexes_of (of_track t) es
+  track_length t = ap length (h.index.by_track t) ∙ length-indexes_of (is_of_track t) es
 
   -- the lists reach to the track of a registered block
   pub its_track_there : (n : ℕ) (e : Entry) → slice_get es n ≡ Some e → IsThere tracks e.block.track
   its_track_there n e at =
       let t = e.block.track in
-      let it = among (of_track t) es n e at (same_itself t) in
+      let it = among (is_of_track t) es n e at (same_itself t) in
       let some = slice_get_within (on_track t es) it.0 e it.2 in
       let heads = get_or tracks t.cylinder [] in
       let by_head : t.head < length heads = elim (cases_lt t.head (length heads)) [

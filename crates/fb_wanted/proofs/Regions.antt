@@ -9,18 +9,18 @@ use Rattle.std.proofs.lemmas.Option.{slice_get-map, slice_get_within, same_Some,
 use Rattle.fb_wanted.specs.declared.block.Entry.{Entry}
 use Rattle.fb_wanted.specs.declared.block.State.{State}
 use Rattle.fb_wanted.specs.declared.streaks.Streak.{Streak}
-use Rattle.fb_wanted.specs.Index.{of_task, lbns, region_of, key_of, streak_cmp, IsInStreak, BeginsStreak, AreNoted, AreShort, with_state}
+use Rattle.fb_wanted.specs.Index.{is_of_task, lbns, region_of, key_of, streak_cmp, IsInStreak, BeginsStreak, AreNoted, AreShort, with_state}
 use Rattle.fb_wanted.proofs.Standing.{get_some}
 use Rattle.fb_wanted.proofs.Numbers.{in_either}
 use Rattle.fb_wanted.proofs.Elements.{at_left, at_end}
 
 -- the LBN of the k-th block of a task
-pub lbn_at : (task : ℕ) (es : List Entry) (k : ℕ) (e : Entry) → slice_get (filter (of_task task) es) k ≡ Some e
+pub lbn_at : (task : ℕ) (es : List Entry) (k : ℕ) (e : Entry) → slice_get (filter (is_of_task task) es) k ≡ Some e
     → slice_get (lbns task es) k ≡ Some e.block.lbn
-lbn_at task es k e at = slice_get-map (λ x. x.block.lbn) (filter (of_task task) es) k ∙ ap (option_map (λ x. x.block.lbn)) at
+lbn_at task es k e at = slice_get-map (λ x. x.block.lbn) (filter (is_of_task task) es) k ∙ ap (option_map (λ x. x.block.lbn)) at
 
-pub length-lbns : (task : ℕ) (es : List Entry) → length (lbns task es) ≡ length (filter (of_task task) es)
-length-lbns task es = length-map (filter (of_task task) es) (λ e. e.block.lbn)
+pub length-lbns : (task : ℕ) (es : List Entry) → length (lbns task es) ≡ length (filter (is_of_task task) es)
+length-lbns task es = length-map (filter (is_of_task task) es) (λ e. e.block.lbn)
 
 -- a change of states doesn't change the LBNs
 pub lbns-with_state : (task : ℕ) (s : State) (n : ℕ) (es : List Entry) → lbns task (with_state s n es) ≡ lbns task es

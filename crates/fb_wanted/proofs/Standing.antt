@@ -75,7 +75,8 @@ index_within p es k j h =
     slice_get_within es j e.0 (sym (at_index p es k j h) ∙ e.1)
 
 -- a list of these indexes is as long as the list of those that pass
-pub index_there : (p : Entry → Bool) (es : List Entry) (ps : List ℕ) (k : ℕ) → ps ≡ indexes_of p es → k < length (filter p es) → k < length ps
+pub index_there : (p : Entry → Bool) (es : List Entry) (ps : List ℕ) (k : ℕ) → ps ≡ indexes_of p es → k < length (filter p es)
+    → k < length ps
 index_there p es ps k same lt = omega (arith, lt, ap length same, length-indexes_of p es)
 
 pub index_read : (p : Entry → Bool) (es : List Entry) (ps : List ℕ) (k : ℕ) → ps ≡ indexes_of p es → k < length (filter p es)

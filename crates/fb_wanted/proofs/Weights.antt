@@ -14,7 +14,7 @@ use Rattle.fb_wanted.specs.declared.block.State.{State}
 use Rattle.fb_wanted.specs.States.{is_wanted, wanted_of}
 use Rattle.fb_wanted.specs.Numbering.{AreSmall, blocks_of}
 use Rattle.fb_wanted.specs.Tracks.{wanted_weight}
-use Rattle.fb_wanted.specs.Index.{of_track, with_state}
+use Rattle.fb_wanted.specs.Index.{is_of_track, with_state}
 use Rattle.fb_wanted.proofs.Sums.{sum-with_state, sum_at}
 
 pub wanted-append : (xs ys : List Entry) → wanted_of (xs ++ ys) ≡ wanted_of xs ++ wanted_of ys
@@ -80,21 +80,21 @@ module _ (p : Entry → Bool) where
 
 -- the wanted weight of a track over two lists is the sum of both
 pub weight-append : (t : Track) (xs ys : List Entry) → wanted_weight t (xs ++ ys) ≡ wanted_weight t xs + wanted_weight t ys
-weight-append t xs ys = by-append (λ (b : Block). b.weight * b.count) (of_track t) xs ys
+weight-append t xs ys = by-append (λ (b : Block). b.weight * b.count) (is_of_track t) xs ys
 
 pub weight-with_state : (t : Track) (s : State) (n : ℕ) (e : Entry) (es : List Entry) → slice_get es n ≡ Some e
     → wanted_weight t (with_state s n es) + wanted_weight t (e ∷ [])
     ≡ wanted_weight t es + wanted_weight t (record { block = e.block; state = s } ∷ [])
-weight-with_state t s n e es at = by-with_state (λ (b : Block). b.weight * b.count) (of_track t) s n e es at
+weight-with_state t s n e es at = by-with_state (λ (b : Block). b.weight * b.count) (is_of_track t) s n e es at
 
 pub weight_elsewhere : (t : Track) (e : Entry) → same_track t e.block.track ≡ false → wanted_weight t (e ∷ []) ≡ 0
-weight_elsewhere t e other = by_elsewhere (λ (b : Block). b.weight * b.count) (of_track t) e other
+weight_elsewhere t e other = by_elsewhere (λ (b : Block). b.weight * b.count) (is_of_track t) e other
 
 pub weight_unwanted : (t : Track) (e : Entry) → is_wanted e.state ≡ false → wanted_weight t (e ∷ []) ≡ 0
-weight_unwanted t e un = by_unwanted (λ (b : Block). b.weight * b.count) (of_track t) e un
+weight_unwanted t e un = by_unwanted (λ (b : Block). b.weight * b.count) (is_of_track t) e un
 
 pub weight_at : (t : Track) (n : ℕ) (e : Entry) (es : List Entry) → slice_get es n ≡ Some e → wanted_weight t (e ∷ []) ≤ wanted_weight t es
-weight_at t n e es at = by_at (λ (b : Block). b.weight * b.count) (of_track t) n e es at
+weight_at t n e es at = by_at (λ (b : Block). b.weight * b.count) (is_of_track t) n e es at
 
 pub weight-le : (t : Track) (es : List Entry) → AreSmall (blocks_of es) → wanted_weight t es ≤ 2048000 * length es
-weight-le t es h = by-le (of_track t) es h
+weight-le t es h = by-le (is_of_track t) es h

@@ -26,11 +26,11 @@ abbrev pub indexes_of : (Entry → Bool) → List Entry → List ℕ
 indexes_of test [] = []
 indexes_of test (e ∷ es) = if test e then 0 ∷ map (λ n. suc n) (indexes_of test es) else map (λ n. suc n) (indexes_of test es)
 
-abbrev pub of_task : ℕ → Entry → Bool
-of_task task entry = entry.block.task == task
+abbrev pub is_of_task : ℕ → Entry → Bool
+is_of_task task entry = entry.block.task == task
 
-abbrev pub of_track : Track → Entry → Bool
-of_track track entry = same_track track entry.block.track
+abbrev pub is_of_track : Track → Entry → Bool
+is_of_track track entry = same_track track entry.block.track
 
 -- a task with no block
 abbrev pub no_blocks : OfTask
@@ -55,7 +55,7 @@ IsTaskChanged old new task change = (k : ℕ)
 
 -- what the index has for a task
 abbrev pub kept_of_task : ℕ → List Entry → OfTask
-kept_of_task task entries = record { indexes = indexes_of (of_task task) entries; counts = counts_of task entries }
+kept_of_task task entries = record { indexes = indexes_of (is_of_task task) entries; counts = counts_of task entries }
 
 -- what the index has for a track: the indexes of its blocks, the weight of the wanted ones, and what they offer
 pub record OnTrack : Type 0 where
@@ -116,12 +116,12 @@ IsThere tracks track = (track.cylinder < length tracks) × (track.head < length 
 -- the indexes by task and by track are those of the list
 pub record IsIndex (entries : List Entry) (tasks : List OfTask) (tracks : List (List OnTrack)) : Type 0 where
   pub by_task : (task : ℕ) → get_or tasks task no_blocks ≡ kept_of_task task entries
-  pub by_track : (track : Track) → (track_at tracks track).indexes ≡ indexes_of (of_track track) entries
+  pub by_track : (track : Track) → (track_at tracks track).indexes ≡ indexes_of (is_of_track track) entries
   pub by_weight : (track : Track) → (track_at tracks track).weight ≡ wanted_weight track entries
 
 -- the LBNs of a task's blocks, in order of registration
 abbrev pub lbns : ℕ → List Entry → List ℕ
-lbns task entries = map (λ entry. entry.block.lbn) (filter (of_task task) entries)
+lbns task entries = map (λ entry. entry.block.lbn) (filter (is_of_task task) entries)
 
 -- pairs are ordered by their first numbers, and then by the second ones
 abbrev pub pair_cmp : ℕ × ℕ → ℕ × ℕ → Ordering
@@ -183,7 +183,8 @@ pub record IsItsOffer (entries : List Entry) (offer_indexes : List ℕ) (track :
 -- the offers of each track are those of its wanted blocks, in some order, and each stands at the index that is noted for its block
 pub record AreOffered (entries : List Entry) (offers : Track → List Offer) (offer_indexes : List ℕ) : Type 0 where
   pub sums : (track : Track) → AreSameBlocks (offered_blocks entries (offers track)) (wanted_of (on_track track entries))
-  pub each : (track : Track) (i : ℕ) (offer : Offer) → slice_get (offers track) i ≡ Some offer → IsItsOffer entries offer_indexes track i offer
+  pub each : (track : Track) (i : ℕ) (offer : Offer) → slice_get (offers track) i ≡ Some offer
+      → IsItsOffer entries offer_indexes track i offer
   pub all : (index : ℕ) (entry : Entry) → slice_get entries index ≡ Some entry → is_wanted entry.state ≡ true
       → (i : ℕ) × (slice_get offer_indexes index ≡ Some i) × (slice_get (offers entry.block.track) i ≡ Some (offer_of index entry.block))
   pub one_each : length offer_indexes ≡ length entries

@@ -4,7 +4,7 @@ ghost use Rattle.fb_units.specs.declared.types.Track.{Track};
 ghost use Rattle.fb_units.specs.Tracks.{same_track};
 ghost use Rattle.fb_wanted.specs.Numbering.{AreSmall, blocks_of};
 ghost use Rattle.fb_wanted.specs.Offers.{offer_of};
-ghost use Rattle.fb_wanted.specs.Index.{track_at, offers_at, with_offer, without_offer, last_of, with_state, indexes_of, of_track};
+ghost use Rattle.fb_wanted.specs.Index.{track_at, offers_at, with_offer, without_offer, last_of, with_state, indexes_of, is_of_track};
 ghost use Rattle.fb_wanted.specs.Index.{AreOffered, IsChanged, IsThere};
 
 use crate::offer::offer_of;
@@ -54,7 +54,7 @@ pub fn reoffer(
     requires there { index < length entries.now }
     requires small { AreSmall (blocks_of entries.now) }
     requires few { length entries.now ≤ 16000000 }
-    requires indexes { (t : Track) → (track_at tracks.old t).indexes ≡ indexes_of (of_track t) entries.now }
+    requires indexes { (t : Track) → (track_at tracks.old t).indexes ≡ indexes_of (is_of_track t) entries.now }
     requires tracks { (e : Entry) → slice_get entries.now index ≡ Some e → IsThere tracks.old e.block.track }
     requires offered { AreOffered entries.now (offers_at tracks.old) offer_indexes.old.items }
     ensures offered { AreOffered (with_state state index entries.now) (offers_at tracks.new) offer_indexes.new.items }

@@ -4,7 +4,7 @@ ghost use Rattle.std.specs.List.{sum_by};
 ghost use Rattle.fb_wanted.specs.States.{on_track, wanted_of};
 ghost use Rattle.fb_wanted.specs.Offers.{AreOffers, AreSameBlocks, AreFound, offered_blocks};
 ghost use Rattle.fb_wanted.specs.Tracks.{wanted_weight};
-ghost use Rattle.fb_wanted.specs.Index.{indexes_of, of_track};
+ghost use Rattle.fb_wanted.specs.Index.{indexes_of, is_of_track};
 
 use crate::{Entry, Offer, WantedBlocks};
 use fb_units::Track;
@@ -33,13 +33,13 @@ impl<'a> Model for TrackBlocks<'a> {
     ghost use Rattle.fb_wanted.specs.States.{on_track, wanted_of};
     ghost use Rattle.fb_wanted.specs.Offers.{AreSameBlocks, AreFound, offered_blocks};
     ghost use Rattle.fb_wanted.specs.Tracks.{wanted_weight};
-    ghost use Rattle.fb_wanted.specs.Index.{indexes_of, of_track};
+    ghost use Rattle.fb_wanted.specs.Index.{indexes_of, is_of_track};
 
     ghost Value = { List Entry };
 
     ghost view = { λ t. on_track t.track t.entries.now };
 
-    ghost invariant = { λ t. (t.at.now ≡ indexes_of (of_track t.track) t.entries.now)
+    ghost invariant = { λ t. (t.at.now ≡ indexes_of (is_of_track t.track) t.entries.now)
         × (length t.entries.now ≤ 16000000)
         × (t.weight ≡ wanted_weight t.track t.entries.now)
         × (t.weight ≤ 16000000 * 2048000)
@@ -56,7 +56,7 @@ impl<'a> TrackBlocks<'a> {
         weight: u64,
         offers: &'a [Offer],
     ) -> Self
-        requires its { at.now ≡ indexes_of (of_track track) entries.now }
+        requires its { at.now ≡ indexes_of (is_of_track track) entries.now }
         requires few { length entries.now ≤ 16000000 }
         requires weight { weight ≡ wanted_weight track entries.now }
         requires small { weight ≤ 16000000 * 2048000 }

@@ -10,7 +10,7 @@ ghost use Rattle.fb_wanted.specs.Counting.{counts_of, sum_of, Fit};
 ghost use Rattle.fb_wanted.specs.Tracks.{wanted_weight};
 ghost use Rattle.fb_wanted.specs.Depth.{depth_at};
 ghost use Rattle.fb_wanted.specs.Near.{near_of, SharesNone};
-ghost use Rattle.fb_wanted.specs.Index.{indexes_of, of_task, lbns, region_of, HasChanged, IsStable, IsWithin, changed_where, with_state};
+ghost use Rattle.fb_wanted.specs.Index.{indexes_of, is_of_task, lbns, region_of, HasChanged, IsStable, IsWithin, changed_where, with_state};
 ghost use Rattle.fb_wanted.specs.Index.{change_nth, track_at, grown, no_blocks, grown_task, IsChanged, IsTaskChanged};
 ghost use Rattle.fb_units.specs.declared.types.Track.{Track};
 ghost use Rattle.fb_units.specs.Tracks.{same_track};
@@ -124,15 +124,15 @@ fn add_to_index(
 impl Wanted {
     // How many blocks of the task are registered.
     fn registered_by(&self, task: u32) -> u32
-        ensures { result ≡ length (filter (of_task task) self.now) }
+        ensures { result ≡ length (filter (is_of_task task) self.now) }
     {
         self.counts(task).registered
     }
 
     // The index, among all registered blocks, of the k-th block of the task.
     fn index_of(&self, task: u32, k: u32) -> u32
-        requires { k < length (filter (of_task task) self.now) }
-        ensures { slice_get (indexes_of (of_task task) self.now) k ≡ Some result }
+        requires { k < length (filter (is_of_task task) self.now) }
+        ensures { slice_get (indexes_of (is_of_task task) self.now) k ≡ Some result }
     {
         *self.tasks[task as usize].indexes.get(k as usize)
     }
@@ -147,8 +147,8 @@ impl Wanted {
 
     // The k-th block of the task.
     fn entry_of(&self, task: u32, k: u32) -> Entry
-        requires { k < length (filter (of_task task) self.now) }
-        ensures { slice_get (filter (of_task task) self.now) k ≡ Some result }
+        requires { k < length (filter (is_of_task task) self.now) }
+        ensures { slice_get (filter (is_of_task task) self.now) k ≡ Some result }
     {
         self.entry_at(self.index_of(task, k))
     }
@@ -191,8 +191,8 @@ impl Wanted {
 
     // Changes the k-th block of the task.
     fn change_block(&mut self, task: u32, k: u32, change: Change)
-        requires { k < length (filter (of_task task) self.old) }
-        ensures { self.new ≡ change_nth (of_task task) (entry_after task change) k self.old }
+        requires { k < length (filter (is_of_task task) self.old) }
+        ensures { self.new ≡ change_nth (is_of_task task) (entry_after task change) k self.old }
     {
         let index = self.index_of(task, k);
         let entry = self.entry_at(index);
@@ -211,7 +211,7 @@ impl Wanted {
     // Whether a block that is to be registered begins a streak: the first of its task does, and one
     // in another region than the block of its task before it.
     fn begins_streak(&self, block: Block) -> bool
-        requires { block.index ≡ length (filter (of_task block.task) self.now) }
+        requires { block.index ≡ length (filter (is_of_task block.task) self.now) }
         ensures new { result ≡ true → (i last : ℕ) → suc i ≡ block.index → slice_get (lbns block.task self.now) i ≡ Some last
             → region_of last ≡ region_of block.lbn → ⊥ }
         ensures same { result ≡ false → (last : ℕ) × (0 < block.index)
@@ -447,7 +447,7 @@ impl Wanted {
         ensures { result ≡ counts_of task self.now }
     {
         match self.tasks.get(task as usize) {
-            Some(of_task) => of_task.counts,
+            Some(blocks) => blocks.counts,
             None => no_counts(),
         }
     }

@@ -28,12 +28,12 @@ loop-offer-preserved c =
     let within = c.loop-offer-test.true in
     let old = c.loop-offer.bins in
     let new = c.add_at.new.numbers in
-    let k = c.late_place-k.result in record {
+    let k = c.too_late_for-k.result in record {
       most = λ leave after noted.
           let n = 16383 - bin_at leaves.begin leaves.fine leave + 1 in
           most-more (late_gain passing gap (leave + leaves.on)) offers i _ within old new k n (c.add_at.ensures n (omega arith))
           (passes_by (turned_to passing (leave + leaves.on)) gap.deadline) refl
-          (λ by. let less = c.late_place-k.ensures leave after noted by in omega (arith, less))
+          (λ by. let less = c.too_late_for-k.ensures leave after noted by in omega (arith, less))
           (c.loop-offer.invariant.most leave after noted);
       small = λ n less.
           worth-more (λ (offer : Offer). offer.worth) offers i _ within old new k n (c.add_at.ensures n (omega (arith, less)))

@@ -6,7 +6,7 @@ use Rattle.fb_wanted.specs.declared.block.Entry.{Entry}
 use Rattle.fb_wanted.specs.Near.{near_of, AreNear}
 use Rattle.fb_wanted.specs.Numbering.{blocks_of, registered}
 use Rattle.fb_wanted.specs.Depth.{AreDeep}
-use Rattle.fb_wanted.specs.Index.{of_task, lbns, grown, offers_at, AreNoted, AreShort, AreOffered, IsKept}
+use Rattle.fb_wanted.specs.Index.{is_of_task, lbns, grown, offers_at, AreNoted, AreShort, AreOffered, IsKept}
 use Rattle.fb_wanted.specs.declared.block.State.TheVariants.{Suspended}
 use Rattle.fb_wanted.proofs.Offering.{offered_still, offered_pushed}
 use Rattle.fb_wanted.proofs.Numbers.{task-blocks}
@@ -19,8 +19,8 @@ use Rattle.fb_wanted.proofs.Nearby.{near_pushed, near_still}
 use Rattle.fb_wanted.proofs.wanted.Wanted.add.Goals as goal
 
 its_number : (block : Block) (es : List Entry) → block.index ≡ registered block.task (blocks_of es)
-    → block.index ≡ length (filter (of_task block.task) es)
-its_number block es free = free ∙ (ap length (task-blocks block.task es) ∙ length-map (filter (of_task block.task) es) (λ e. e.block))
+    → block.index ≡ length (filter (is_of_task block.task) es)
+its_number block es free = free ∙ (ap length (task-blocks block.task es) ∙ length-map (filter (is_of_task block.task) es) (λ e. e.block))
 
 pub begins_streak-begins_streak-requires : goal.begins_streak-begins_streak-requires
 begins_streak-begins_streak-requires c = its_number c.args.block c.args.self.now c.requires.numbered

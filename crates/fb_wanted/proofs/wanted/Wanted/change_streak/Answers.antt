@@ -4,7 +4,7 @@ use Rattle.std.proofs.lemmas.Bool.Decides.{nat_tests}
 use Rattle.std.proofs.lemmas.Option.{same_Some}
 use Rattle.fb_wanted.specs.States.{entry_after, shares}
 use Rattle.fb_wanted.specs.Numbering.{AreInOrder, blocks_of}
-use Rattle.fb_wanted.specs.Index.{of_task, lbns, change_nth}
+use Rattle.fb_wanted.specs.Index.{is_of_task, lbns, change_nth}
 use Rattle.fb_wanted.proofs.Standing.{nth_stays, passes, passing-nth}
 use Rattle.fb_wanted.proofs.OfTask.{own_after}
 use Rattle.fb_wanted.proofs.Regions.{lbn_at, length-lbns}
@@ -27,7 +27,7 @@ change_block-requires c = omega (arith, c.loop-k.invariant.size, c.loop-k-test.t
 
 pub loop-k-preserved : goal.loop-k-preserved
 loop-k-preserved c =
-    let test = of_task c.args.task in
+    let test = is_of_task c.args.task in
     let step = entry_after c.args.task c.args.change in
     let k = c.loop-k.k in
     let turned : c.if-shares.self ≡ change_nth test step k c.loop-k.self = elim c.if-shares.branch [

@@ -9,7 +9,7 @@ pub returns-in-Some : goal.returns-in-Some
 returns-in-Some c =
     let at = c.in-Some.ensures.lookup.3.1 no_blocks ∙ ap (λ xs. get_or xs c.args.task no_blocks) c.deref.ensures.value in
     task_counts c.self.inside.entries.items c.self.inside.tasks.items c.self.inside.tracks c.self.invariant.0 c.args.task
-    c.in-Some.of_task.now at ∙ ap (counts_of c.args.task) c.self.view_is
+    c.in-Some.blocks.now at ∙ ap (counts_of c.args.task) c.self.view_is
 
 pub returns-in-None : goal.returns-in-None
 returns-in-None c =

@@ -1,19 +1,19 @@
 use Rattle.std.proofs.Common.{◌<◌, ◌∙◌, ap, sym, subst, length, filter, slice_get, arith}
 use Rattle.std.proofs.lemmas.List.{get_or_default}
-use Rattle.fb_wanted.specs.Index.{of_task, indexes_of, no_blocks}
+use Rattle.fb_wanted.specs.Index.{is_of_task, indexes_of, no_blocks}
 use Rattle.fb_wanted.proofs.Reading.{task_there, task_index}
 use Rattle.fb_wanted.proofs.wanted.Wanted.index_of.Goals as goal
 
 pub index-requires : goal.index-requires
 index-requires c =
-    let room = subst (λ es. c.args.k < length (filter (of_task c.args.task) es)) (sym c.self.view_is) c.requires in
+    let room = subst (λ es. c.args.k < length (filter (is_of_task c.args.task) es)) (sym c.self.view_is) c.requires in
     let there = task_there c.self.inside.entries.items c.self.inside.tasks.items c.self.inside.tracks c.self.invariant.0 c.args.task
     c.args.k room in
     omega (arith, there, c.self.inside.tasks.ok.0)
 
 pub get-requires : goal.get-requires
 get-requires c =
-    let room = subst (λ es. c.args.k < length (filter (of_task c.args.task) es)) (sym c.self.view_is) c.requires in
+    let room = subst (λ es. c.args.k < length (filter (is_of_task c.args.task) es)) (sym c.self.view_is) c.requires in
     let there = task_there c.self.inside.entries.items c.self.inside.tasks.items c.self.inside.tracks c.self.invariant.0 c.args.task
     c.args.k room in
     let at = c.index.ensures ∙ get_or_default c.self.inside.tasks.items c.args.task c.index.result.now no_blocks there in
@@ -22,9 +22,9 @@ get-requires c =
 
 pub returns : goal.returns
 returns c =
-    let room = subst (λ es. c.args.k < length (filter (of_task c.args.task) es)) (sym c.self.view_is) c.requires in
+    let room = subst (λ es. c.args.k < length (filter (is_of_task c.args.task) es)) (sym c.self.view_is) c.requires in
     let there = task_there c.self.inside.entries.items c.self.inside.tasks.items c.self.inside.tracks c.self.invariant.0 c.args.task
     c.args.k room in
     let at = c.index.ensures ∙ get_or_default c.self.inside.tasks.items c.args.task c.index.result.now no_blocks there in
-    ap (λ es. slice_get (indexes_of (of_task c.args.task) es) c.args.k) (sym c.self.view_is)
+    ap (λ es. slice_get (indexes_of (is_of_task c.args.task) es) c.args.k) (sym c.self.view_is)
     ∙ (ap (λ blocks. slice_get blocks.indexes c.args.k) (sym (at ∙ c.self.invariant.0.index.by_task c.args.task)) ∙ c.get.ensures)

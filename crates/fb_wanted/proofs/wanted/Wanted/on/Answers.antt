@@ -3,7 +3,7 @@ use Rattle.std.proofs.lemmas.Option.{none-some}
 use Rattle.fb_units.specs.declared.types.Track.{Track}
 use Rattle.fb_wanted.specs.declared.block.Entry.{Entry}
 use Rattle.fb_wanted.specs.declared.offer.Offer.{Offer}
-use Rattle.fb_wanted.specs.Index.{no_block_on, indexes_of, of_track, offers_at}
+use Rattle.fb_wanted.specs.Index.{no_block_on, indexes_of, is_of_track, offers_at}
 use Rattle.fb_wanted.specs.Offers.{AreSameBlocks, AreFound, offered_blocks}
 use Rattle.fb_wanted.specs.States.{on_track, wanted_of}
 use Rattle.fb_wanted.specs.Tracks.{wanted_weight}
@@ -31,7 +31,7 @@ new-requires c =
     let same = c.offers.ensures ∙ ap (λ o. o.offers) on in
     let found = found_each es (offers_at self.tracks) self.offer_indexes.items t c.self.invariant.6 in
     record {
-      its = c.indexes.ensures ∙ (kept.0 ∙ ap (indexes_of (of_track t)) (sym is));
+      its = c.indexes.ensures ∙ (kept.0 ∙ ap (indexes_of (is_of_track t)) (sym is));
       few = omega (arith, ap length is, c.self.invariant.0.few);
       weight = c.weight.ensures ∙ (kept.1 ∙ ap (wanted_weight t) (sym is));
       small = omega (arith, c.weight.ensures, most);
@@ -49,7 +49,7 @@ new-requires-in-None c =
     let on = c.in-None.ensures.none in
     let kept = track_kept es self.tasks.items self.tracks c.self.invariant.0 t no_block_on on in
     record {
-      its = kept.0 ∙ ap (indexes_of (of_track t)) (sym is);
+      its = kept.0 ∙ ap (indexes_of (is_of_track t)) (sym is);
       few = omega (arith, ap length is, c.self.invariant.0.few);
       weight = kept.1 ∙ ap (wanted_weight t) (sym is);
       small = omega arith;

@@ -1,6 +1,6 @@
 use Rattle.fb_detour.proofs.Words.{arith, get_or, inl, inr, subst, ◌-◌, ◌≡◌, ◌≤◌, cases_lt, bin_at}
 use Rattle.fb_detour.proofs.Binned.{no_earlier_bin}
-use Rattle.fb_detour.proofs.bins.place_of.Goals as goal
+use Rattle.fb_detour.proofs.bins.too_late_by.Goals as goal
 
 pub returns-then-latest-leaves : goal.returns-then-latest-leaves
 returns-then-latest-leaves c = λ leave after noted by.
