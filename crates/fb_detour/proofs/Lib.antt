@@ -8,7 +8,6 @@ pub mod Arrays
 pub mod Offers
 pub mod Binned
 pub mod Missed
-pub mod Leaving
 pub mod Noted
 pub mod Counted
 pub mod Spread

@@ -1,15 +1,33 @@
--- What no detour over a track can exceed.
-use Rattle.fb_detour.proofs.Words.{List, arith, inl, inr, min, refl, ℕ, ◌*◌, ◌+◌, ◌-◌, ◌/◌, ◌<◌, ◌^◌, ◌≡◌, ◌≤◌, div-mul-le_self, cases_lt}
-use Rattle.fb_detour.proofs.Words.{mul-le, Track, Disk, wanted_weight, Entry, Dwell, Gap, Detour, early_dwell, late_dwell, arrival}
-use Rattle.fb_detour.proofs.Words.{early_track, move_on, plan_by, Scored, Way, Over, Source, IsDetourIn, IsEnough, IsFound, IsLate}
-use Rattle.fb_detour.proofs.Words.{IsNoWorseIn, IsReach, early_to, late_most, part_at, value_in, stay, Search, LateParts}
+-- What no plan of a way is worth more than.
+use Rattle.fb_detour.proofs.Words.{List, arith, get_or, inl, inr, min, refl, ℕ, ◌*◌, ◌+◌, ◌-◌, ◌/◌, ◌<◌, ◌^◌, ◌≡◌, ◌≤◌, div-mul-le_self}
+use Rattle.fb_detour.proofs.Words.{mod-lt, mul-le, mul-le-mul_right, cases_lt, div-add-mod', sum_by, Track, Disk, on_track, wanted_weight}
+use Rattle.fb_detour.proofs.Words.{Entry, Dwell, Gap, Detour, IsPlan, early_dwell, late_dwell, bounds, arrival, early_track, move_on}
+use Rattle.fb_detour.proofs.Words.{plan_by, Scored, Way, Over, Source, AreBins, IsNoted, IsStop, bin_at, IsDetourIn, IsEnough, IsFound}
+use Rattle.fb_detour.proofs.Words.{IsLate, IsNoWorseIn, IsReach, early_to, late_gain, late_most, offered, part_at, value_in, stay, Bins}
+use Rattle.fb_detour.proofs.Words.{Search, LateParts, Stop}
 use Rattle.fb_detour.specs.declared.steps.Reach.{Reach}
+use Rattle.fb_detour.proofs.Arrays.{over_all}
 use Rattle.fb_detour.proofs.Ceilings.{longer_stay, two_stays, weight_of_stay}
 use Rattle.fb_detour.proofs.Found.{not_better}
+use Rattle.fb_detour.proofs.Offers.{gives}
 use Rattle.fb_detour.proofs.Ranges.{not_itself}
 
 least_step : (n step : ℕ) → min (n / step) 31 * step ≤ n
 least_step n step = omega (arith, div-mul-le_self n step, mul-le (min (n / step) 31) step (n / step) step (omega arith) (omega arith))
+
+-- the interval in which the head leaves ends no sooner
+in_interval : (n past : ℕ) → past ≤ n → past ≤ (min (past / (n / 16 + 1)) 15 + 1) * (n / 16 + 1)
+in_interval n past le =
+    let step = n / 16 + 1 in
+    let whole = div-add-mod' past step in
+    let rest = mod-lt past {m = step} (omega arith) in
+    let over = over_all n in
+    elim (cases_lt (past / step) 16) [
+      | inl less ↦
+          let same : min (past / step) 15 ≡ past / step = omega (arith, less) in
+          rw same (omega (arith, whole, rest))
+      | inr more ↦ absurd (let most = mul-le-mul_right step more in omega (arith, whole, over, le, most))
+    ]
 
 module _ (search : Search) where
   abbrev disk : Disk
@@ -98,3 +116,53 @@ module _ (search : Search) where
     | inr low ↦ not_better search best (early + late) track track leave scored enough (not_itself track)
         (omega (arith, by_interval (Over track) leave arrive upto (from + way) a high (omega (arith, w, low)), e, l))
   ]
+
+  pub from_now : (way : Way) → gap.now ≤ arrival disk gap way
+  from_now Source = omega arith
+  from_now (Over track) = omega arith
+
+  pub below_ceiling : (way : Way) (late : LateParts) (parts : List ℕ) (begin on leave : ℕ) → IsLate disk gap entries late
+      → begin ≡ arrival disk gap way → on ≡ move_on disk gap way
+      → ((k : ℕ) → k < 16 → get_or parts k 0
+      ≡ stay disk (early_to (early_track gap way) begin (begin + (k + 1) * ((gap.deadline - on - begin) / 16 + 1))) entries)
+      → IsPlan disk gap (plan_by way leave) → value_in search (plan_by way leave)
+      ≤ get_or parts (min ((leave - begin) / ((gap.deadline - on - begin) / 16 + 1)) 15) 0 + part_at late (leave + on)
+  below_ceiling way late parts begin on leave is-late b o each is =
+      let n = gap.deadline - on - begin in
+      let step = n / 16 + 1 in
+      let k = min ((leave - begin) / step) 15 in
+      let within = bounds disk gap way leave is in
+      let near = in_interval n (leave - begin) (omega (arith, within.0, within.1, b, o)) in
+      let upto : leave ≤ begin + (k + 1) * step = omega (arith, near, within.0, b) in
+      let target = late-part late (leave + on) is-late (omega (arith, from_now way, within.0)) in
+      let most = by_interval way leave begin (begin + (k + 1) * step) (leave + on) b upto (omega (arith, o)) in
+      omega (arith, most, each k (omega arith), target)
+
+  module _ (way : Way) (bins : Bins) (stop target : Stop) where
+    -- what bounds each of its two stays bounds a plan
+    pub are_bins : IsStop disk (on_track (early_track gap way) entries) stop → IsStop disk (on_track gap.target entries) target
+        → 0 < bins.leaves.now.fine → bins.leaves.now.begin ≡ stop.passing.from → stop.passing.from ≡ arrival disk gap way
+        → bins.leaves.now.on ≡ move_on disk gap way
+        → ((k : ℕ) → k < 16384 → get_or bins.early.now k 0 ≤ 16000000 * 2048000)
+        → ((k : ℕ) → k < 16384 → get_or bins.late.now k 0 ≤ 16000000 * 2048000)
+        → ((leave : ℕ) → offered stop leave ≤ get_or bins.early.now (bin_at bins.leaves.now.begin bins.leaves.now.fine leave) 0)
+        → ((leave : ℕ) → bins.leaves.now.begin ≤ leave → IsNoted bins.leaves.now leave
+        → sum_by (late_gain target.passing gap (leave + bins.leaves.now.on)) target.offers.now
+        ≤ get_or bins.late.now (16383 - bin_at bins.leaves.now.begin bins.leaves.now.fine leave) 0)
+        → AreBins search way bins
+    are_bins its ends some begin arrive on small_early small_late early late = record {
+      some = some;
+      early = small_early;
+      late = small_late;
+      most = λ leave is noted.
+          let on_time = (bounds disk gap way leave is).0 in
+          let from = stop.passing.from in
+          omega (
+            arith,
+            by_interval way leave from leave (leave + bins.leaves.now.on) arrive (omega arith) (omega (arith, on)),
+            gives disk (early_to (early_track gap way) from leave) entries stop its,
+            gives disk (late_most gap (leave + bins.leaves.now.on)) entries target ends,
+            early leave,
+            late leave (omega (arith, on_time, begin, arrive)) noted,
+          );
+    }

@@ -1,12 +1,13 @@
 -- The sectors of a block pass, each for the least length of a slot, before the block has passed.
-use Rattle.fb_detour.proofs.Words.{List, [], ap, arith, inl, inr, length, nat_le, nat_lt, refl, subst, suc, sym, zero, ℕ, ◌%◌, ◌*◌, ◌+◌}
-use Rattle.fb_detour.proofs.Words.{◌-◌, ◌/◌, ◌<◌, ◌∙◌, ◌∷◌, ◌≡◌, ◌≤◌, add-mod_right, mod-add-mod, mod-eq_of_lt, mod-lt}
-use Rattle.fb_detour.proofs.Words.{mul-add-mod_self_right, and_parts, cases_Bool, cases_lt, ltb-true, div-add-mod', least_of, least_unique}
+use Rattle.fb_detour.proofs.Words.{ap, arith, inl, inr, length, nat_lt, refl, subst, suc, sym, zero, ℕ, ◌%◌, ◌*◌, ◌+◌}
+use Rattle.fb_detour.proofs.Words.{◌-◌, ◌/◌, ◌<◌, ◌∙◌, ◌≡◌, ◌≤◌, add-mod_right, mod-add-mod, mod-eq_of_lt, mod-lt}
+use Rattle.fb_detour.proofs.Words.{mul-add-mod_self_right, and_parts, cases_lt, ltb-true, div-add-mod', least_of, least_unique}
 use Rattle.fb_detour.proofs.Words.{wait_least, same_track, wait, Place, Track, slot_begin, places, IsTrackOf, Shape, offset_at, slots_at}
-use Rattle.fb_detour.proofs.Words.{turn_position, IsSound, Zone, neighbour, track_at, place_at, same_tracks, in-turn, later-after, over}
+use Rattle.fb_detour.proofs.Words.{turn_position, IsSound, neighbour, track_at, place_at, same_tracks, in-turn, later-after, over}
 use Rattle.fb_detour.proofs.Words.{slot-is, within-turn, begin_angle, end_angle, turned, begin_from, Disk, Block, block_end, next-le}
 use Rattle.fb_detour.proofs.Words.{FitsDisk}
 use Rattle.fb_sectormap.proofs.ByCylinder.{has_place}
+use Rattle.fb_sectormap.proofs.Turns.{offset-below}
 use Rattle.fb_sectormap.specs.Cutting.{IsOneTurn, is_later}
 use Rattle.fb_service.proofs.Unbroken.{at_angle, neighbour-begins}
 use Rattle.fb_detour.proofs.Spread.{apart, slots_short}
@@ -28,15 +29,6 @@ place_of disk lbn sound inside =
     })
 
 -- ---- one turn
-
--- a track's offset is one of its slots
-offset-below : (zones : List Zone) (heads : ℕ) (track : Track) → 0 < slots_at zones track.cylinder
-    → offset_at zones heads track < slots_at zones track.cylinder
-offset-below [] heads track some = absurd (omega arith)
-offset-below (zone ∷ zones) heads track some = elim (cases_Bool (nat_le track.cylinder zone.last)) [
-  | inl here ↦ let sectors : 0 < zone.sectors = rw here at some in rw here (mod-lt _ sectors)
-  | inr later ↦ let rest : 0 < slots_at zones track.cylinder = rw later at some in rw later (offset-below zones heads track rest)
-]
 
 module _ (slots offset : ℕ) (low : offset ≤ slots) where
   -- the slot by its position in the turn

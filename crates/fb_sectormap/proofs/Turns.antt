@@ -16,7 +16,7 @@ itself track = and_from (track.cylinder == track.cylinder) (track.head == track.
     (eq-eqb track.head track.head refl)
 
 -- a track's offset is one of its slots
-offset-below : (zones : List Zone) (heads : ℕ) (track : Track) → 0 < slots_at zones track.cylinder
+pub offset-below : (zones : List Zone) (heads : ℕ) (track : Track) → 0 < slots_at zones track.cylinder
     → offset_at zones heads track < slots_at zones track.cylinder
 offset-below [] heads track some = absurd (omega arith)
 offset-below (zone ∷ zones) heads track some = elim (cases_Bool (nat_le track.cylinder zone.last)) [

@@ -1,6 +1,6 @@
 use Rattle.fb_detour.proofs.Words.{arith, refl, ◌+◌, ◌≤◌, nat_tests, added, passes_by, Offer, bin_at}
-use Rattle.fb_detour.proofs.Binned.{most-more, no_earlier_bin, no_sum, worth-more}
-use Rattle.fb_detour.proofs.Offers.{all-of, small-sum}
+use Rattle.fb_detour.proofs.Binned.{bins-small, most-more, no_earlier_bin, no_sum, worth-more}
+use Rattle.fb_detour.proofs.Offers.{all-of}
 use Rattle.fb_detour.proofs.bins.early_bins.Goals as goal
 
 pub loop-offer-init : goal.loop-offer-init
@@ -12,9 +12,8 @@ loop-offer-init c = record {
 pub add_at-requires : goal.add_at-requires
 add_at-requires c = record {
   room = λ k less.
-      let stop = c.args.stop.now in
-      let small = small-sum stop (λ (o : Offer). o.worth) c.loop-offer.offer-index (λ o. omega arith) c.requires.stop in
-      omega (arith, c.loop-offer.invariant.small (k + 1) (omega (arith, less)), small);
+      bins-small c.args.stop.now c.loop-offer.offer-index k c.loop-offer.bins c.requires.stop
+      c.loop-offer.invariant.small (omega (arith, less));
 }
 
 pub loop-offer-preserved : goal.loop-offer-preserved
@@ -45,9 +44,8 @@ loop-offer-preserved c =
 pub add_up-requires : goal.add_up-requires
 add_up-requires c = record {
   room = λ k less.
-      let stop = c.args.stop.now in
-      let small = small-sum stop (λ (o : Offer). o.worth) c.loop-offer.offer-index (λ o. omega arith) c.requires.stop in
-      omega (arith, c.loop-offer.invariant.small (k + 1) (omega (arith, less)), small);
+      bins-small c.args.stop.now c.loop-offer.offer-index k c.loop-offer.bins c.requires.stop
+      c.loop-offer.invariant.small (omega (arith, less));
 }
 
 pub returns : goal.returns
@@ -60,6 +58,6 @@ returns c =
           let all = all-of (added (passes_by stop.passing leave)) stop.offers.now i c.loop-offer-test.false in
           omega (arith, all, so_far.most leave, c.add_up.ensures k (omega arith));
       small = λ k less.
-          let small = small-sum stop (λ (o : Offer). o.worth) i (λ o. omega arith) c.requires.stop in
-          omega (arith, small, so_far.small (k + 1) (omega (arith, less)), c.add_up.ensures k (omega (arith, less)));
+          let small = bins-small stop i k c.loop-offer.bins c.requires.stop so_far.small less in
+          omega (arith, small, c.add_up.ensures k (omega (arith, less)));
     }

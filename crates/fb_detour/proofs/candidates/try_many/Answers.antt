@@ -1,6 +1,5 @@
 use Rattle.fb_detour.proofs.Words.{arith, refl, subst, ◌∙◌, IsStop}
-use Rattle.fb_detour.proofs.Binned.{are_bins}
-use Rattle.fb_detour.proofs.Leaving.{from_now}
+use Rattle.fb_detour.proofs.Ways.{are_bins, from_now}
 use Rattle.fb_detour.proofs.candidates.try_many.Goals as goal
 
 pub late_bins-late-requires : goal.late_bins-late-requires

@@ -1,6 +1,6 @@
 use Rattle.fb_detour.proofs.Words.{arith, get_or, ℕ, ◌*◌, ◌+◌, ◌-◌, ◌/◌, ◌<◌, ◌∙◌, ◌≡◌, early_track, early_to, stay}
 use Rattle.fb_detour.proofs.Arrays.{over_all, sixteen}
-use Rattle.fb_detour.proofs.Leaving.{below_ceiling}
+use Rattle.fb_detour.proofs.Ways.{below_ceiling}
 use Rattle.fb_detour.proofs.Offers.{gives}
 use Rattle.fb_detour.proofs.intervals.ceilings_of.Goals as goal
 
