@@ -179,27 +179,36 @@ mapped_as : (seen disk : Shape) (items starts : List ZoneStart) (count : ℕ) �
 mapped_as seen disk items starts count mapped same are =
     subst (λ xs. IsMapped disk xs count) (sym are) (subst (λ d. IsMapped d items count) same mapped)
 
--- the same for the searches of the code, in which closures make the tests
+-- the same for the searches of the code, in which closures make the tests: the search by one of the starts' numbers finds
+-- the start that tells of a number
+abbrev Searches : {F : Type 0} → Mut F (Bor ZoneStart × Unit {0}) Bool → F → List ZoneStart → (ZoneStart → ℕ) → (ZoneStart → ℕ → Type 0)
+    → ℕ → Type 0
+Searches {F = F} g f starts key Tells end = (x i : ℕ) (d : ZoneStart) → i ≤ length starts → x < end
+    → ((q : ZoneStart → Bool) → ComputesKey g q f → IsPartitionedBy q starts
+    → IsPartitionPoint (λ start. q start ≡ true) (λ start. q start ≡ false) starts i)
+    → ((a : Bor ZoneStart × Unit {0}) (r : Bool) (f' : F) → Called g f a r f' → (r ≡ nat_le (key a.0.now) x) × (f' ≡ f))
+    → (0 < i) × Tells (get_or starts (i - 1) d) x
+
 module _ {F : Type 0} {g : Mut F (Bor ZoneStart × Unit {0}) Bool} {f : F} (seen disk : Shape) (items starts : List ZoneStart) (count : ℕ)
     (mapped : IsMapped seen items count) (same : seen ≡ disk) (are : starts ≡ items) where
-  pub lbn-searched : (lbn i : ℕ) (d : ZoneStart) → i ≤ length starts → lbn < length (places disk)
-      → ((q : ZoneStart → Bool) → ComputesKey g q f → IsPartitionedBy q starts
-      → IsPartitionPoint (λ start. q start ≡ true) (λ start. q start ≡ false) starts i)
-      → ((a : Bor ZoneStart × Unit {0}) (r : Bool) (f' : F) → Called g f a r f' → (r ≡ nat_le a.0.now.lbn lbn) × (f' ≡ f))
-      → (0 < i) × TellsSector disk (get_or starts (i - 1) d) lbn
-  lbn-searched lbn i d bound below clause each =
-      finds-lbn disk starts count (mapped_as seen disk items starts count mapped same are) lbn i d
-      (IsPartitionPoint-from_clause (λ start. nat_le start.lbn lbn) starts i clause
-      (IsPartitionedBy-leb (λ start. start.lbn) starts lbn
-      (by_lbn-rises disk starts count (mapped_as seen disk items starts count mapped same are))) each) bound below
+  searched : (key : ZoneStart → ℕ) (Tells : ZoneStart → ℕ → Type 0) (end : ℕ) → IsNonDecreasingBy key starts
+      → ((x i : ℕ) (d : ZoneStart)
+      → IsPartitionPoint (λ start. nat_le (key start) x ≡ true) (λ start. nat_le (key start) x ≡ false) starts i
+      → i ≤ length starts → x < end → (0 < i) × Tells (get_or starts (i - 1) d) x)
+      → Searches g f starts key Tells end
+  searched key Tells end rises finds x i d bound below clause each =
+      finds x i d
+      (IsPartitionPoint-from_clause (λ start. nat_le (key start) x) starts i clause (IsPartitionedBy-leb key starts x rises) each)
+      bound below
 
-  pub cylinder-searched : (cylinder i : ℕ) (d : ZoneStart) → i ≤ length starts → cylinder < cylinders_of disk.zones
-      → ((q : ZoneStart → Bool) → ComputesKey g q f → IsPartitionedBy q starts
-      → IsPartitionPoint (λ start. q start ≡ true) (λ start. q start ≡ false) starts i)
-      → ((a : Bor ZoneStart × Unit {0}) (r : Bool) (f' : F) → Called g f a r f' → (r ≡ nat_le a.0.now.cylinder cylinder) × (f' ≡ f))
-      → (0 < i) × TellsFirst disk (get_or starts (i - 1) d) cylinder
-  cylinder-searched cylinder i d bound below clause each =
-      finds-cylinder disk starts count (mapped_as seen disk items starts count mapped same are) cylinder i d
-      (IsPartitionPoint-from_clause (λ start. nat_le start.cylinder cylinder) starts i clause
-      (IsPartitionedBy-leb (λ start. start.cylinder) starts cylinder
-      (by_cylinder-rises disk starts count (mapped_as seen disk items starts count mapped same are))) each) bound below
+  pub lbn-searched : Searches g f starts (λ start. start.lbn) (TellsSector disk) (length (places disk))
+  lbn-searched =
+      let is = mapped_as seen disk items starts count mapped same are in
+      searched (λ start. start.lbn) (TellsSector disk) (length (places disk)) (by_lbn-rises disk starts count is)
+      (finds-lbn disk starts count is)
+
+  pub cylinder-searched : Searches g f starts (λ start. start.cylinder) (TellsFirst disk) (cylinders_of disk.zones)
+  cylinder-searched =
+      let is = mapped_as seen disk items starts count mapped same are in
+      searched (λ start. start.cylinder) (TellsFirst disk) (cylinders_of disk.zones) (by_cylinder-rises disk starts count is)
+      (finds-cylinder disk starts count is)
