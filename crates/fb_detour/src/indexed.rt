@@ -20,15 +20,6 @@ use fb_wanted::Wanted;
 #[derive(Clone, Copy)]
 pub struct IndexedPlanner;
 
-impl IndexedPlanner {
-    /// The planner; it keeps nothing from one gap to the next.
-    pub fn new() -> IndexedPlanner
-        ensures { result ≡ record {} }
-    {
-        IndexedPlanner
-    }
-}
-
 // True only if no block is wanted. Then the direct plan that leaves at once is the best of each gap, as the
 // first in the order of ties.
 fn wants_nothing(disk: &Disk, wanted: &Wanted) -> bool
