@@ -133,7 +133,7 @@ impl Pending {
         ensures its { result ≡ on_track track self.now }
         ensures on_disk { AreOnDisk disk.now result }
     {
-        blocks_on(disk, &self.wanted, track)
+        blocks_on(&self.wanted, track)
     }
 
     /// An upper bound on the sectors of the pending blocks of each track of these cylinders.

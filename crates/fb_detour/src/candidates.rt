@@ -342,7 +342,7 @@ pub fn try_source(search: &Search, start: Scored) -> Scored
     ensures keeps { IsNoWorseIn search.now result.plan start.plan }
     ensures tried { IsNoWorseThanWay search.now Way.Source result.plan }
 {
-    let blocks = blocks_on(search.disk, search.wanted, search.gap.source);
+    let blocks = blocks_on(search.wanted, search.gap.source);
     let stop = stop_at(search.disk, &blocks, search.gap.source, search.gap.now);
     let on = move_on(search.disk, search.gap, Way::Source);
     let ceilings = ceilings_of(search, Way::Source, &stop, on);

@@ -143,7 +143,7 @@ pub fn late_parts(disk: &Disk, wanted: &Wanted, gap: &Gap) -> LateParts
     requires blocks { AreOnDisk disk.now wanted.now }
     ensures late { IsLate disk.now gap.entry.now wanted.now result }
 {
-    let blocks = blocks_on(disk, wanted, gap.target);
+    let blocks = blocks_on(wanted, gap.target);
     let stop = stop_at(disk, &blocks, gap.target, gap.now);
     let step = (gap.deadline - gap.now) / LATE as u64 + 1;
     let mut parts = [0; LATE];

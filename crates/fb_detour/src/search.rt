@@ -79,7 +79,7 @@ fn try_track(search: &Search, track: Track, seeks: Seeks, reach: Reach, start: S
     if is_same(track, search.gap.target) {
         return start;
     }
-    let blocks = blocks_on(search.disk, search.wanted, track);
+    let blocks = blocks_on(search.wanted, track);
     let most = most_by_steps(search, reach, blocks.wanted_weight(), start.value);
     if is_enough(start, most, track) {
         return start;

@@ -1,5 +1,6 @@
 // The blocks that plans may catch, looked up once.
 ghost use Rattle.std.specs.Prelude.{◌≡◌, ◌*◌, ◌≤◌, ◌^◌};
+ghost use Rattle.fb_service.specs.declared.disk.Disk.{Disk};
 ghost use Rattle.fb_wanted.specs.States.{on_track};
 ghost use Rattle.fb_plan.specs.Ways.{AreOnDisk};
 ghost use Rattle.fb_plan.specs.Turns.{AreSides};
@@ -22,12 +23,10 @@ pub struct Sides<'a> {
 }
 
 /// The registered blocks of a track, wanted or not.
-pub fn blocks_on<'a>(disk: &Disk, wanted: &'a Wanted, track: Track) -> TrackBlocks<'a>
-    requires blocks { AreOnDisk disk.now wanted.now }
+pub fn blocks_on(wanted: &Wanted, track: Track) -> TrackBlocks<'_>
     ensures its { result ≡ on_track track wanted.now }
-    ensures on_disk { AreOnDisk disk.now result }
+    ensures on_disk { (disk : Disk) → AreOnDisk disk wanted.now → AreOnDisk disk result }
 {
-    let _ = disk;
     wanted.on(track)
 }
 
@@ -41,8 +40,8 @@ pub fn sides_of<'a>(disk: &Disk, wanted: &'a Wanted, target: Track, dwell: Dwell
     ensures late { AreOnDisk disk.now result.late }
 {
     Sides {
-        early: blocks_on(disk, wanted, dwell.track),
+        early: blocks_on(wanted, dwell.track),
         passing: Turning::new(disk, dwell.begin),
-        late: blocks_on(disk, wanted, target),
+        late: blocks_on(wanted, target),
     }
 }

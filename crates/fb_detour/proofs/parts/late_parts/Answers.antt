@@ -3,6 +3,9 @@ use Rattle.fb_detour.proofs.Words.{IsStop, late_gain, late_most}
 use Rattle.fb_detour.proofs.Offers.{all-of, bound-more, gives, none-more, small-sum, sums-fall, within-more}
 use Rattle.fb_detour.proofs.parts.late_parts.Goals as goal
 
+pub stop_at-stop-requires-clause-on_disk : goal.stop_at-stop-requires-clause-on_disk
+stop_at-stop-requires-clause-on_disk c = c.blocks_on-blocks.ensures.on_disk c.args.disk.now c.requires.blocks
+
 pub loop-offer-init : goal.loop-offer-init
 loop-offer-init c = record {
   parts = λ k less. omega arith;

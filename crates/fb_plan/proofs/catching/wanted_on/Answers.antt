@@ -4,15 +4,13 @@ use Rattle.fb_plan.proofs.catching.wanted_on.Goals as goal
 
 pub returns : goal.returns
 returns c =
-    let disk = c.args.disk.now in
     let dwell = c.args.dwell in
     let entries = c.args.wanted.now in
     let its = c.blocks_on.ensures.its in
     let numbers = c.numbered_in_order.ensures in
-    let on = on-its-track dwell.track entries c.blocks_on.result c.wanted.result numbers its c.wanted.ensures
-    (FitsDisk disk) c.requires.blocks in
+    let on = on-its-track dwell.track entries c.blocks_on.result c.wanted.result numbers its c.wanted.ensures in
     record {
-      on_disk = λ i b at. (on i b at).0;
-      track = λ i b at. (on i b at).1;
-      caught = caught-whole disk dwell entries c.blocks_on.result c.wanted.result numbers its c.wanted.ensures;
+      on_disk = λ disk fits i b at. (on (FitsDisk disk) fits i b at).0;
+      track = λ i b at. (on (λ b. Unit {0}) (λ i e there. tt) i b at).1;
+      caught = λ disk. caught-whole disk dwell entries c.blocks_on.result c.wanted.result numbers its c.wanted.ensures;
     }

@@ -4,7 +4,7 @@ use Rattle.fb_plan.proofs.Gains.{in_filter}
 use Rattle.fb_plan.proofs.sides.blocks_on.Goals as goal
 
 pub returns-clause-on_disk : goal.returns-clause-on_disk
-returns-clause-on_disk c = λ i e at.
+returns-clause-on_disk c = λ disk fits i e at.
     let found = in_filter (λ x. same_track c.args.track x.block.track) c.args.wanted.now i e
     (ap (λ xs. slice_get xs i) (sym c.on.ensures) ∙ at) in
-    c.requires.blocks found.0 e found.1
+    fits found.0 e found.1

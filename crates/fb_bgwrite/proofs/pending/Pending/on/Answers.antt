@@ -1,5 +1,6 @@
 use Rattle.fb_bgwrite.proofs.Words.{sym, subst, AreOnDisk}
 use Rattle.fb_bgwrite.proofs.pending.Pending.on.Goals as goal
 
-pub blocks_on-requires : goal.blocks_on-requires
-blocks_on-requires c = record { blocks = subst (AreOnDisk c.args.disk.now) (sym c.self.view_is) c.requires.blocks }
+pub returns-clause-on_disk : goal.returns-clause-on_disk
+returns-clause-on_disk c =
+    c.blocks_on.ensures.on_disk c.args.disk.now (subst (AreOnDisk c.args.disk.now) (sym c.self.view_is) c.requires.blocks)
