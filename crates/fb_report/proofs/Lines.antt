@@ -1,10 +1,10 @@
 -- The lines of a report: a first one, one for each row in order, and a last one.
-use Rattle.fb_report.proofs.Words.{◌≡◌, ℕ, suc, ◌+◌, ◌-◌, ◌<◌, ◌≤◌, List, [], ◌∷◌, ◌++◌, length, map, refl, sym, ap, ◌∙◌, arith, append-nil}
-use Rattle.fb_report.proofs.Words.{drop, Some, slice_get, option_map, flat_map, length-map, drop_all, slice_get-map, slice_get_within}
+use Rattle.fb_report.proofs.Words.{◌≡◌, ℕ, suc, ◌+◌, ◌-◌, ◌<◌, List, [], ◌∷◌, ◌++◌, length, map, refl, ap, ◌∙◌, arith}
+use Rattle.fb_report.proofs.Words.{Some, slice_get, option_map, length-map, slice_get-map, slice_get_within}
 use Rattle.fb_report.proofs.Words.{Bytes, fore_line, fore_first, fore_last, fore_lines, back_line, back_first, back_last, back_lines}
 use Rattle.std.proofs.lemmas.List.{length-append}
 use Rattle.fb_rows.specs.declared.run.Run.{Run}
-use Rattle.fb_report.proofs.Ranges.{get_left, get_right, drop_got, part_more}
+use Rattle.fb_report.proofs.Ranges.{get_left, get_right}
 
 -- these lines are a first one, a line for each row, and a last one
 pub record AreLines {X : Type 0} (first : List ℕ) (line : X → List ℕ) (rows : List X) (last : List ℕ) (lines : List (List ℕ)) : Type 0 where
@@ -38,12 +38,3 @@ fore_are size bytes run = record { are = refl }
 pub back_are : (names : List (List ℕ)) (size : ℕ) (bytes : Bytes) (run : Run) → AreLines back_first (back_line names size bytes) run.back (back_last run.end) (back_lines names size bytes run)
 unfolding back_lines
 back_are names size bytes run = record { are = refl }
-
--- a line more of a text
-pub text_more : (lines : List (List ℕ)) (k : ℕ) (now new line : List ℕ) (whole : List ℕ) → now ++ flat_map (λ x. x) (drop k lines) ≡ whole
-    → slice_get lines k ≡ Some line → new ≡ now ++ line → new ++ flat_map (λ x. x) (drop (k + 1) lines) ≡ whole
-text_more lines k now new line whole so_far at is = part_more (λ x. x) now new line line (drop k lines) (drop (k + 1) lines) whole so_far (drop_got lines k line at) refl is
-
--- no line is left
-pub text_whole : (lines : List (List ℕ)) (k : ℕ) (text whole : List ℕ) → text ++ flat_map (λ x. x) (drop k lines) ≡ whole → length lines ≤ k → text ≡ whole
-text_whole lines k text whole so_far past = sym (append-nil text) ∙ ap (λ rest. text ++ flat_map (λ x. x) rest) (sym (drop_all k lines past)) ∙ so_far

@@ -4,10 +4,6 @@ use Rattle.fb_report.proofs.Words.{append-nil, drop, take, subst, get_or, Some, 
 use Rattle.fb_report.proofs.Words.{get_or_from_slice_get, AllByRecursion, flat_map, range_with_len, sum_by, take_more, sum_by-append}
 use Rattle.std.proofs.lemmas.List.Concat.{flat_map-append}
 
--- a part more was added
-pub part_more : {X : Type 0} (f : X → List ℕ) (now new part : List ℕ) (x : X) (rest rest' : List X) (whole : List ℕ) → now ++ flat_map f rest ≡ whole → rest ≡ x ∷ rest' → part ≡ f x → new ≡ now ++ part → new ++ flat_map f rest' ≡ whole
-part_more f now new part x rest rest' whole h e p n = ap (λ xs. xs ++ flat_map f rest') (n ∙ ap (λ y. now ++ y) p) ∙ append_assoc now (f x) (flat_map f rest') ∙ ap (λ r. now ++ flat_map f r) (sym e) ∙ h
-
 pub drop_got : {X : Type 0} (xs : List X) (i : ℕ) (x : X) → slice_get xs i ≡ Some x → drop i xs ≡ x ∷ drop (i + 1) xs
 drop_got xs i x e = drop_more xs i x (slice_get_within xs i x e) ∙ ap (λ y. y ∷ drop (i + 1) xs) (get_or_from_slice_get xs i x x e)
 

@@ -28,10 +28,10 @@ pub use Rattle.fb_store.specs.Fill.{sector_bytes}
 unfoldable pub use Rattle.fb_store.specs.Fill.{fill, mark}
 pub use Rattle.fb_store.specs.declared.content.ContentRun.{ContentRun}
 pub use Rattle.fb_calls.specs.Names.{is_name, is_name_byte}
-pub use Rattle.fb_report.specs.Back.{back_first, back_last, back_line, back_text, digest_text, gap_fields, got_fields, how_text}
+pub use Rattle.fb_report.specs.Back.{back_first, back_last, back_line, digest_text, gap_fields, got_fields, how_text}
 pub use Rattle.fb_report.specs.Back.{is_complete_text, segment_fields, task_fields, task_kind_text, task_text}
 unfoldable pub use Rattle.fb_report.specs.Back.{back_lines}
-pub use Rattle.fb_report.specs.Fore.{fore_first, fore_last, fore_line, fore_text, kind_text, row_bytes, row_fields}
+pub use Rattle.fb_report.specs.Fore.{fore_first, fore_last, fore_line, kind_text, row_bytes, row_fields}
 unfoldable pub use Rattle.fb_report.specs.Fore.{fore_lines}
 pub use Rattle.fb_report.specs.Forms.{fits, grammar_of, listed, written}
 pub use Rattle.fb_report.specs.Grammar.{Form, Grammar, are_bytes, back_grammar, ended, ended_with, fore_grammar, has_no_leading_zero}

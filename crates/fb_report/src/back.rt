@@ -1,10 +1,10 @@
 // The background report.
-ghost use Rattle.std.specs.Prelude.{◌≡◌, ℕ, ◌+◌, ◌%◌, ◌<◌, List, length, Some, IfOk, OnOk, slice_get};
+ghost use Rattle.std.specs.Prelude.{◌≡◌, ℕ, ◌+◌, ◌%◌, ◌<◌, List, length, Some, IfOk, slice_get};
 ghost use Rattle.std.specs.List.{AllByRecursion};
 ghost use Rattle.fb_report.specs.declared.bytes.Bytes.{Bytes};
-ghost use Rattle.fb_report.specs.Back.{back_first, back_last, back_lines, back_text};
+ghost use Rattle.fb_report.specs.Back.{back_first, back_last, back_lines};
 ghost use Rattle.fb_report.specs.Grammar.{back_grammar};
-ghost use Rattle.fb_report.specs.Printed.{AreNames, CountsSectors, IsLine, IsReadBack, is_first, is_in_place, is_last};
+ghost use Rattle.fb_report.specs.Printed.{AreNames, CountsSectors, IsLine, is_first, is_in_place, is_last};
 ghost use Rattle.fb_rows.specs.Tasks.{HasNamedTask};
 
 use crate::Bytes;
@@ -49,27 +49,6 @@ pub fn back_piece(
     } else {
         Ok(back_last(alloc, run.end)?)
     }
-}
-
-/// The whole background report.
-pub fn back_text(
-    alloc: Global,
-    run: &Run,
-    names: &Names,
-    sector_bytes: u32,
-    bytes: Bytes,
-) -> Result<Vec<u8>, NoMemory>
-    requires whole { sector_bytes % 16 ≡ 0 }
-    requires named { AllByRecursion (HasNamedTask names.now) run.now.back }
-    ensures value { IfOk result (λ text. text.items ≡ back_text names.now sector_bytes bytes run.now) }
-    ensures read { OnOk result (0 < sector_bytes → AreNames names.now → AllByRecursion CountsSectors run.now.back → IsReadBack back_grammar (back_lines names.now sector_bytes bytes run.now)) }
-{
-    let mut text = Vec::new(alloc);
-    for k in 0..back_pieces(run) {
-        let line = back_piece(alloc, run, names, sector_bytes, bytes, k)?;
-        text.extend_from_slice(line.as_slice())?;
-    }
-    Ok(text)
 }
 
 /// The first line of every background report, with its line feed.

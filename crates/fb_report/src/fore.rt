@@ -3,9 +3,9 @@ ghost use Rattle.std.specs.Prelude.{◌≡◌, ℕ, ◌+◌, ◌%◌, ◌<◌, [
 ghost use Rattle.std.specs.List.{AllByRecursion};
 ghost use Rattle.fb_report.specs.declared.bytes.Bytes.{Bytes};
 ghost use Rattle.fb_report.specs.Lines.{with_fields};
-ghost use Rattle.fb_report.specs.Fore.{bad_count, kind_text, row_bytes, row_fields, fore_first, fore_line, fore_last, fore_lines, fore_text};
+ghost use Rattle.fb_report.specs.Fore.{bad_count, kind_text, row_bytes, row_fields, fore_first, fore_line, fore_last, fore_lines};
 ghost use Rattle.fb_report.specs.Grammar.{are_bytes, fore_grammar, is_one_of, numbers};
-ghost use Rattle.fb_report.specs.Printed.{AreFields, IsField, IsLine, IsReadBack, ReadsSectors, is_first, is_in_place, is_last, is_row};
+ghost use Rattle.fb_report.specs.Printed.{AreFields, IsField, IsLine, ReadsSectors, is_first, is_in_place, is_last, is_row};
 
 use crate::Bytes;
 use crate::contents::shown;
@@ -46,25 +46,6 @@ pub fn fore_piece(
     } else {
         Ok(fore_last(alloc, rows, run.passed_over)?)
     }
-}
-
-/// The whole foreground report.
-pub fn fore_text(
-    alloc: Global,
-    run: &Run,
-    sector_bytes: u32,
-    bytes: Bytes,
-) -> Result<Vec<u8>, NoMemory>
-    requires whole { sector_bytes % 16 ≡ 0 }
-    ensures value { IfOk result (λ text. text.items ≡ fore_text sector_bytes bytes run.now) }
-    ensures read { OnOk result (0 < sector_bytes → AllByRecursion ReadsSectors run.now.fore → IsReadBack fore_grammar (fore_lines sector_bytes bytes run.now)) }
-{
-    let mut text = Vec::new(alloc);
-    for k in 0..fore_pieces(run) {
-        let line = fore_piece(alloc, run, sector_bytes, bytes, k)?;
-        text.extend_from_slice(line.as_slice())?;
-    }
-    Ok(text)
 }
 
 /// The first line of every foreground report, with its line feed.

@@ -27,11 +27,11 @@ mod sectors;
 mod sink;
 mod summary;
 
-pub use back::{back_first, back_last, back_piece, back_pieces, back_text};
+pub use back::{back_first, back_last, back_piece, back_pieces};
 pub use back_rows::back_line;
 pub use bytes::Bytes;
 pub use contents::shown;
-pub use fore::{fore_first, fore_last, fore_line, fore_piece, fore_pieces, fore_text};
+pub use fore::{fore_first, fore_last, fore_line, fore_piece, fore_pieces};
 pub use line::Line;
 pub use printed::printed_reports_are_read;
 pub use reading::{
