@@ -1,8 +1,8 @@
 -- Notes, and what stays where one is written.
-use Rattle.std.proofs.Common.{◌≡◌, ℕ, ◌+◌, ◌≤◌, List, [], ◌∷◌, ◌++◌, length, take, drop, refl, sym, ap, ◌∙◌, inl, inr, append_assoc, append-nil, Option, Some, None, Result, Ok, Err, subst}
-use Rattle.std.specs.Prelude.{IfSome, OnOk, OnErr, codes, slice_get}
-use Rattle.std.proofs.lemmas.List.{drop_more, drop_all, take-append-drop}
-use Rattle.std.proofs.lemmas.Option.{slice_get_within, get_or_from_slice_get}
+use Rattle.std.proofs.Common.{◌≡◌, ℕ, ◌+◌, List, [], ◌++◌, take, drop, refl, sym, ap, ◌∙◌, inl, inr, subst}
+use Rattle.std.proofs.Common.{Option, Some, None, Result, Ok, Err}
+use Rattle.std.specs.Prelude.{IfSome, OnOk, OnErr, codes}
+use Rattle.std.proofs.lemmas.List.{take-append-drop}
 use Rattle.fb_words.specs.Command.{Terms, ReplayTerms, CheckTerms, ArrayTerms, replays, makes, checks, arrays}
 use Rattle.fb_words.specs.declared.fault.UsageFault.{UsageFault}
 use Rattle.fb_desk.specs.Calls.{ChangesOutput, Rose, behind}
@@ -27,18 +27,6 @@ use Rattle.fb_top.proofs.Fronts.{rose_since}
 use Rattle.fb_top.proofs.Making.{keeps_reports, keeps_still, make_cause_still}
 use Rattle.fb_top.proofs.Moved.{fore_is_no_note, holds_reports, keeps_but, stops_reports, stops_text, whole}
 use Rattle.fb_top.proofs.Spills.{spill_moved, stops_moved}
-
-next_byte : (key : List ℕ) (i byte : ℕ) → slice_get key i ≡ Some byte → drop i key ≡ byte ∷ drop (i + 1) key
-next_byte key i byte e = drop_more key i byte (slice_get_within key i byte e) ∙ ap (λ y. y ∷ drop (i + 1) key) (get_or_from_slice_get key i byte byte e)
-
--- one more byte was added
-pub key_more : (old now next key : List ℕ) (i byte : ℕ) → slice_get key i ≡ Some byte → now ++ drop i key ≡ old ++ key → next ≡ now ++ byte ∷ [] → next ++ drop (i + 1) key ≡ old ++ key
-key_more old now next key i byte e h f =
-    ap (λ xs. xs ++ drop (i + 1) key) f ∙ append_assoc now (byte ∷ []) (drop (i + 1) key) ∙ ap (λ xs. now ++ xs) (sym (next_byte key i byte e)) ∙ h
-
--- no byte is left
-pub key_all : (old now key : List ℕ) (i : ℕ) → now ++ drop i key ≡ old ++ key → length key ≤ i → now ≡ old ++ key
-key_all old now key i h le = sym (append-nil now) ∙ ap (λ xs. now ++ xs) (sym (drop_all i key le)) ∙ h
 
 whole_note : (first last : OutputView) (old new : Option (List ℕ)) (text line : List ℕ) → IfSome old (λ bytes. bytes ≡ []) → text ≡ line → new ≡ behind old text → IfSome new (IsNote line first last)
 whole_note first last None new text line empty is whole = rw whole tt

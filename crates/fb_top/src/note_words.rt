@@ -32,16 +32,6 @@ pub fn push_numbered(text: &mut Vec<u8>, what: &str, number: u64) -> Result<(), 
     push_words(text, ": ")
 }
 
-// Adds a key as it is.
-fn push_key(text: &mut Vec<u8>, key: &KeyText) -> Result<(), NoMemory>
-    ensures { OnOk result (text.new.items ≡ text.old.items ++ key.now) }
-{
-    for i in 0..key.len() {
-        text.push(*key.get(i))?;
-    }
-    Ok(())
-}
-
 // Adds a track: cylinder and head.
 fn push_track(text: &mut Vec<u8>, track: Track) -> Result<(), NoMemory>
     ensures { OnOk result (text.new.items ≡ text.old.items ++ track_text track) }
@@ -75,7 +65,8 @@ pub fn push_with_key(text: &mut Vec<u8>, name: &str, key: &KeyText) -> Result<()
 {
     push_words(text, name)?;
     text.push(b' ')?;
-    push_key(text, key)
+    text.extend_from_slice(key.as_slice())?;
+    Ok(())
 }
 
 /// Adds a reason that carries a track. The only error is out of memory.
