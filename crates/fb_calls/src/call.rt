@@ -1,5 +1,5 @@
 // The calls of a script.
-use crate::Names;
+use crate::TaskNames;
 use fb_units::{Items, Ns};
 
 /// What a task is for. A task is a session of the background.
@@ -77,7 +77,7 @@ pub struct Call {
 #[derive(Drop)]
 pub struct Calls {
     /// The names of the tasks, in order of opening.
-    pub names: Names,
+    pub names: TaskNames,
     /// The calls, in line order; their instants don't fall.
     pub calls: Vec<Call>,
 }

@@ -13,5 +13,5 @@ mod names;
 mod reads;
 
 pub use call::{Action, Call, Calls, Kind, Live};
-pub use names::{Names, is_name};
+pub use names::{TaskNames, is_name};
 pub use reads::promoted;

@@ -6,7 +6,7 @@ ghost use Rattle.fb_calls.specs.Names.{is_name_byte, is_name};
 use fb_units::{Items, KeyText};
 
 /// The names of the tasks, in order of opening.
-pub type Names = Items<KeyText>;
+pub type TaskNames = Items<KeyText>;
 
 /// Whether a text can be the name of a task: 1 to 32 letters, digits, underscores and hyphens.
 pub fn is_name(text: &[u8]) -> bool

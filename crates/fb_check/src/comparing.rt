@@ -15,7 +15,7 @@ ghost use Rattle.fb_check.specs.Comparing.{IsReady, IsDue, IsNotDue, HasCompared
 
 use crate::fields::first_wrong_field;
 use crate::{Mismatch, Rule};
-use fb_calls::Names;
+use fb_calls::TaskNames;
 use fb_report::{
     Bytes, Report, ReportLines, back_first, back_last, back_line, fore_first, fore_last, fore_line,
 };
@@ -161,7 +161,7 @@ impl<'a> Comparison<'a> {
         &mut self,
         alloc: Global,
         rows: &BackRows,
-        names: &Names,
+        names: &TaskNames,
         sector_bytes: u32,
         bytes: Bytes,
     ) -> Result<(), NoMemory>

@@ -10,7 +10,7 @@ ghost use Rattle.fb_rows.specs.Tasks.{HasNamedTask};
 use crate::Bytes;
 use crate::back_rows::back_line;
 use crate::line::Line;
-use fb_calls::Names;
+use fb_calls::TaskNames;
 use fb_rows::Run;
 use fb_units::{NoMemory, Ns};
 use std::alloc::Global;
@@ -29,7 +29,7 @@ pub fn back_pieces(run: &Run) -> u64
 pub fn back_piece(
     alloc: Global,
     run: &Run,
-    names: &Names,
+    names: &TaskNames,
     sector_bytes: u32,
     bytes: Bytes,
     k: u64,

@@ -10,7 +10,7 @@ ghost use Rattle.fb_rows.specs.Tasks.{HasNamedTask};
 use crate::Bytes;
 use crate::contents::{sectors, shown, shown_digest};
 use crate::line::Line;
-use fb_calls::{Kind, Names};
+use fb_calls::{Kind, TaskNames};
 use fb_rows::{
     BackRow, BadRow, CompleteRow, DeliveryRow, Dwell, GapRow, How, Plan, SealRow, SegmentRow,
     TaskRow,
@@ -24,7 +24,7 @@ use std::alloc::Global;
 pub fn back_line(
     alloc: Global,
     row: &BackRow,
-    names: &Names,
+    names: &TaskNames,
     sector_bytes: u32,
     bytes: Bytes,
 ) -> Result<Vec<u8>, NoMemory>
@@ -97,7 +97,7 @@ fn idle_line(alloc: Global, dwell: &Dwell) -> Result<Vec<u8>, NoMemory>
 fn got_line(
     alloc: Global,
     row: &DeliveryRow,
-    names: &Names,
+    names: &TaskNames,
     sector_bytes: u32,
     bytes: Bytes,
 ) -> Result<Vec<u8>, NoMemory>
@@ -116,7 +116,7 @@ fn got_line(
 fn push_delivery(
     line: &mut Line,
     row: &DeliveryRow,
-    names: &Names,
+    names: &TaskNames,
     found: &[u8],
 ) -> Result<(), NoMemory>
     requires named { row.now.block.task < length names.now }
@@ -144,7 +144,7 @@ fn how(how: How) -> &'static [u8]
     }
 }
 
-fn bad_line(alloc: Global, row: &BadRow, names: &Names) -> Result<Vec<u8>, NoMemory>
+fn bad_line(alloc: Global, row: &BadRow, names: &TaskNames) -> Result<Vec<u8>, NoMemory>
     requires named { row.now.task < length names.now }
     ensures value { IfOk result (λ line. line.items ≡ bad_line names.now row.now) }
     ensures form { IfOk result (λ line. AreNames names.now → IsLine (is_row back_grammar) line.items) }
@@ -158,7 +158,7 @@ fn bad_line(alloc: Global, row: &BadRow, names: &Names) -> Result<Vec<u8>, NoMem
 fn seal_line(
     alloc: Global,
     row: &SealRow,
-    names: &Names,
+    names: &TaskNames,
     sector_bytes: u32,
     bytes: Bytes,
 ) -> Result<Vec<u8>, NoMemory>
@@ -179,7 +179,7 @@ fn seal_line(
 fn segment_line(
     alloc: Global,
     row: &SegmentRow,
-    names: &Names,
+    names: &TaskNames,
     sector_bytes: u32,
     bytes: Bytes,
 ) -> Result<Vec<u8>, NoMemory>
@@ -198,7 +198,7 @@ fn segment_line(
 fn push_segment(
     line: &mut Line,
     row: &SegmentRow,
-    names: &Names,
+    names: &TaskNames,
     digest: &[u8],
 ) -> Result<(), NoMemory>
     requires named { row.now.task < length names.now }
@@ -212,7 +212,7 @@ fn push_segment(
     line.word(digest)
 }
 
-fn complete_line(alloc: Global, row: &CompleteRow, names: &Names) -> Result<Vec<u8>, NoMemory>
+fn complete_line(alloc: Global, row: &CompleteRow, names: &TaskNames) -> Result<Vec<u8>, NoMemory>
     requires named { row.now.task < length names.now }
     ensures value { IfOk result (λ line. line.items ≡ complete_line names.now row.now) }
     ensures form { IfOk result (λ line. AreNames names.now → IsLine (is_row back_grammar) line.items) }
@@ -223,7 +223,7 @@ fn complete_line(alloc: Global, row: &CompleteRow, names: &Names) -> Result<Vec<
     line.end()
 }
 
-fn task_line(alloc: Global, row: &TaskRow, names: &Names) -> Result<Vec<u8>, NoMemory>
+fn task_line(alloc: Global, row: &TaskRow, names: &TaskNames) -> Result<Vec<u8>, NoMemory>
     requires named { row.now.task < length names.now }
     ensures value { IfOk result (λ line. line.items ≡ task_line names.now row.now) }
     ensures form { IfOk result (λ line. AreNames names.now → IsLine (is_row back_grammar) line.items) }
@@ -233,7 +233,7 @@ fn task_line(alloc: Global, row: &TaskRow, names: &Names) -> Result<Vec<u8>, NoM
     line.end()
 }
 
-fn push_task(line: &mut Line, row: &TaskRow, names: &Names) -> Result<(), NoMemory>
+fn push_task(line: &mut Line, row: &TaskRow, names: &TaskNames) -> Result<(), NoMemory>
     requires named { row.now.task < length names.now }
     ensures value { OnOk result (line.new ≡ with_fields line.old (task_fields names.now row.now)) }
     ensures form { OnOk result (AreNames names.now → AreOneOf back_grammar.rows (codes "task" ∷ task_fields names.now row.now)) }

@@ -13,7 +13,7 @@ use crate::entry::Asked;
 use crate::judgement::Step;
 use crate::opened_task::OpenedTask;
 use crate::{CallsError, CallsFault};
-use fb_calls::{Call, Calls, Names};
+use fb_calls::{Call, Calls, TaskNames};
 use fb_sectormap::SectorMap;
 use fb_units::{KeyText, NoMemory, Ns, next_line};
 use indexmap::IndexSet;
@@ -204,10 +204,10 @@ impl Reader {
 }
 
 // The texts of the tasks' names.
-fn names_of(alloc: Global, keys: &[Vec<u8>]) -> Result<Names, NoMemory>
+fn names_of(alloc: Global, keys: &[Vec<u8>]) -> Result<TaskNames, NoMemory>
     ensures { IfOk result (λ texts. texts ≡ names keys.now) }
 {
-    let mut names = Names::new(alloc);
+    let mut names = TaskNames::new(alloc);
     for name in keys {
         names.push(key_text(alloc, name)?)?;
     }

@@ -3,7 +3,7 @@ ghost use Rattle.std.specs.Prelude.{◌≡◌, ℕ, ◌<◌, ◌≤◌, List, So
 ghost use Rattle.fb_report.specs.Grammar.{Grammar};
 ghost use Rattle.fb_report.specs.Printed.{IsLine, is_in_place};
 
-use fb_calls::Names;
+use fb_calls::TaskNames;
 use fb_report::{Bytes, back_piece, back_pieces, fore_piece, fore_pieces};
 use fb_rows::Run;
 use fb_units::NoMemory;
@@ -80,7 +80,7 @@ pub struct BackLines<'a> {
     /// The run that the report tells of.
     pub run: &'a Run,
     /// The names of the tasks, in order of opening.
-    pub names: &'a Names,
+    pub names: &'a TaskNames,
     /// The size of a sector in bytes, a multiple of 16.
     pub sector_bytes: u32,
     /// How the bytes of deliveries are shown.

@@ -24,7 +24,7 @@ ghost use Rattle.fb_top.specs.Calm.{AreInputsCalm};
 
 use crate::Outcome;
 use crate::streams::{InputError, read_whole};
-use fb_calls::{Calls, Names};
+use fb_calls::{Calls, TaskNames};
 use fb_decide::Asked;
 use fb_desk::{Desk, Input};
 use fb_params::{Parameters, ParamsError, read_params};
@@ -281,7 +281,7 @@ pub fn no_calls(alloc: Global) -> Calls
     ensures calls { result.calls.items ≡ [] }
 {
     Calls {
-        names: Names::new(alloc),
+        names: TaskNames::new(alloc),
         calls: Vec::new(alloc),
     }
 }
