@@ -3,7 +3,7 @@ use Rattle.std.specs.Prelude.{ℕ, ◌+◌, ◌^◌, ◌≤◌, List, [], ◌∷
 use Rattle.fb_store.specs.declared.content.Content.TheVariants.{Filled}
 use Rattle.fb_store.specs.declared.content.ContentRun.{ContentRun}
 use Rattle.fb_report.specs.declared.bytes.Bytes.{Bytes}
-use Rattle.fb_report.specs.Lines.{line_of, name_text, track_text}
+use Rattle.fb_report.specs.Lines.{first_line, line_of, name_text, track_text}
 use Rattle.fb_report.specs.Shown.{shown}
 use Rattle.fb_bgwrite.specs.declared.items.SpillItem.{SpillItem}
 use Rattle.fb_bgwrite.specs.declared.items.SpillItem.TheVariants.{Spill, Wrote}
@@ -33,7 +33,7 @@ item_line size bytes (Spill row) = line_of (codes "spill") (spill_fields row)
 item_line size bytes (Wrote row) = line_of (codes "wrote") (wrote_fields row (shown bytes size (content_of row)))
 
 abbrev pub spill_first : List ℕ
-spill_first = line_of (codes "freeblock") (codes "spill" ∷ codes "1" ∷ [])
+spill_first = first_line (codes "spill")
 
 -- how many sectors were written, and how many are left
 abbrev pub spill_last : ℕ → ℕ → List ℕ

@@ -2,10 +2,10 @@
 ghost use Rattle.std.specs.Prelude.{◌≡◌, ℕ, ◌+◌, ◌%◌, ◌<◌, ◌≤◌, ◌^◌, ◌++◌, length, slice_get, Some, IfOk, OnOk};
 ghost use Rattle.std.specs.List.{AllByRecursion};
 ghost use Rattle.fb_report.specs.declared.bytes.Bytes.{Bytes};
-ghost use Rattle.fb_bgwrite.specs.Text.{content_of, item_line, spill_first, spill_last, spill_lines, HasRange};
+ghost use Rattle.fb_bgwrite.specs.Text.{content_of, item_line, spill_last, spill_lines, HasRange};
 
 use crate::{SpillItem, SpillRow, SpillRun, WroteRow};
-use fb_report::{Bytes, Line, shown};
+use fb_report::{Bytes, Line, first_line, shown};
 use fb_store::{Content, ContentRun, Contents};
 use fb_units::NoMemory;
 use std::alloc::Global;
@@ -37,22 +37,13 @@ pub fn spill_piece(
 {
     let rows = spill.items.len() as u64;
     if k == 0 {
-        spill_first(alloc)
+        first_line(alloc, b"spill")
     } else if k <= rows {
         let item = spill.items.get(k as usize - 1);
         item_line(alloc, item, sector_bytes, bytes)
     } else {
         spill_last(alloc, spill.written, spill.left)
     }
-}
-
-fn spill_first(alloc: Global) -> Result<Vec<u8>, NoMemory>
-    ensures { IfOk result (λ line. line.items ≡ spill_first) }
-{
-    let mut line = Line::new(alloc, b"freeblock")?;
-    line.word(b"spill")?;
-    line.word(b"1")?;
-    line.end()
 }
 
 fn spill_last(alloc: Global, written: u64, left: u64) -> Result<Vec<u8>, NoMemory>

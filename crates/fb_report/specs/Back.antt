@@ -23,7 +23,7 @@ use Rattle.fb_rows.specs.declared.back.BackRow.TheVariants.{Gap, Idle, Got, Bad,
 use Rattle.fb_rows.specs.declared.run.Run.{Run}
 use Rattle.fb_report.specs.declared.bytes.Bytes.{Bytes}
 use Rattle.fb_report.specs.declared.bytes.Bytes.TheVariants.{Nothing, Digest, Dump}
-use Rattle.fb_report.specs.Lines.{line_of, name_text, track_text}
+use Rattle.fb_report.specs.Lines.{first_line, line_of, name_text, track_text}
 use Rattle.fb_report.specs.Shown.{shown, contents_bytes}
 
 -- what a task is called
@@ -120,7 +120,7 @@ back_line names size bytes (Complete row) = complete_line names row
 back_line names size bytes (Task row) = task_line names row
 
 abbrev pub back_first : List ℕ
-back_first = line_of (codes "freeblock") (codes "back" ∷ codes "1" ∷ [])
+back_first = first_line (codes "back")
 
 -- the run's end
 abbrev pub back_last : ℕ → List ℕ

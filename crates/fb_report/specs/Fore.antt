@@ -4,7 +4,7 @@ use Rattle.std.specs.List.{flat_map}
 use Rattle.fb_rows.specs.declared.fore.ForeRow.{ForeRow}
 use Rattle.fb_rows.specs.declared.run.Run.{Run}
 use Rattle.fb_report.specs.declared.bytes.Bytes.{Bytes}
-use Rattle.fb_report.specs.Lines.{line_of, name_text}
+use Rattle.fb_report.specs.Lines.{first_line, line_of, name_text}
 use Rattle.fb_report.specs.Shown.{shown}
 
 -- W for a write, R for a read
@@ -29,7 +29,7 @@ abbrev pub fore_line : ℕ → Bytes → ForeRow → List ℕ
 fore_line size bytes row = line_of (name_text row.request.name) (row_fields row (row_bytes size bytes row))
 
 abbrev pub fore_first : List ℕ
-fore_first = line_of (codes "freeblock") (codes "fore" ∷ codes "1" ∷ [])
+fore_first = first_line (codes "fore")
 
 -- how many rows there are, and how many requests were passed over
 abbrev pub fore_last : ℕ → ℕ → List ℕ

@@ -9,7 +9,7 @@ ghost use Rattle.fb_rows.specs.Tasks.{HasNamedTask};
 
 use crate::Bytes;
 use crate::back_rows::back_line;
-use crate::line::Line;
+use crate::line::{Line, first_line};
 use fb_calls::TaskNames;
 use fb_rows::Run;
 use fb_units::{NoMemory, Ns};
@@ -56,10 +56,7 @@ pub fn back_first(alloc: Global) -> Result<Vec<u8>, NoMemory>
     ensures value { IfOk result (λ line. line.items ≡ back_first) }
     ensures form { IfOk result (λ line. IsLine (is_first back_grammar) line.items) }
 {
-    let mut line = Line::new(alloc, b"freeblock")?;
-    line.word(b"back")?;
-    line.word(b"1")?;
-    line.end()
+    first_line(alloc, b"back")
 }
 
 /// The last line of a background report, with its line feed: the instant, in ns, at which the run

@@ -9,7 +9,7 @@ ghost use Rattle.fb_report.specs.Printed.{AreFields, IsField, IsLine, ReadsSecto
 
 use crate::Bytes;
 use crate::contents::shown;
-use crate::line::Line;
+use crate::line::{Line, first_line};
 use fb_rows::{ForeRow, Run};
 use fb_units::NoMemory;
 use std::alloc::Global;
@@ -53,10 +53,7 @@ pub fn fore_first(alloc: Global) -> Result<Vec<u8>, NoMemory>
     ensures value { IfOk result (λ line. line.items ≡ fore_first) }
     ensures form { IfOk result (λ line. IsLine (is_first fore_grammar) line.items) }
 {
-    let mut line = Line::new(alloc, b"freeblock")?;
-    line.word(b"fore")?;
-    line.word(b"1")?;
-    line.end()
+    first_line(alloc, b"fore")
 }
 
 /// The last line of a foreground report, with its line feed: how many rows it has, and how many

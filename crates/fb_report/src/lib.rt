@@ -32,7 +32,7 @@ pub use back_rows::back_line;
 pub use bytes::Bytes;
 pub use contents::shown;
 pub use fore::{fore_first, fore_last, fore_line, fore_piece, fore_pieces};
-pub use line::Line;
+pub use line::{Line, first_line};
 pub use printed::printed_reports_are_read;
 pub use reading::{
     Report, ReportLines, ReportsError, ReportsFault, read_back, read_fore, reports_end_once,

@@ -1,6 +1,9 @@
-use Rattle.fb_report.proofs.Words.{[], ◌∷◌, refl, codes, fore_grammar, IsLine, is_first}
-use Rattle.fb_report.proofs.PrintedRows.{ended_as, fore_first_is}
+use Rattle.fb_report.proofs.Words.{◌≡◌, sym, subst, IfOk-weaker, fore_first, fore_grammar, IsLine, is_first}
+use Rattle.fb_report.proofs.PrintedRows.{fore_first_is}
 use Rattle.fb_report.proofs.fore.fore_first.Goals as goal
 
 pub returns-clause-form : goal.returns-clause-form
-returns-clause-form c = ended_as (IsLine (is_first fore_grammar)) c.end.result c.word-2.new.self (codes "freeblock") (codes "fore" ∷ codes "1" ∷ []) c.end.ensures (rw (c.in_ok-word-2.ensures, c.in_ok-word.ensures, c.in_ok-line.ensures) refl) fore_first_is
+returns-clause-form c =
+    let P = IsLine (is_first fore_grammar) in
+    IfOk-weaker c.first_line.result (λ line. line.items ≡ fore_first) (λ line. P line.items) (λ line is. subst P (sym is) fore_first_is)
+    c.first_line.ensures
