@@ -1,8 +1,6 @@
 -- The background report.
 use Rattle.std.specs.Prelude.{ℕ, ◌-◌, map, List, [], ◌∷◌, ◌++◌, Bool, decimal, codes, if◌then◌else◌, slice_index_or}
 use Rattle.std.specs.List.{flat_map, sum_by}
-use Rattle.hex.specs.Hex.{encode_lower}
-use Rattle.sha2.specs.Sha256.{sha256}
 use Rattle.fb_store.specs.declared.content.ContentRun.{ContentRun}
 use Rattle.fb_calls.specs.declared.call.Kind.{Kind}
 use Rattle.fb_calls.specs.declared.call.Kind.TheVariants.{Plain, Backup, Scrub, Clean}
@@ -22,9 +20,8 @@ use Rattle.fb_rows.specs.declared.back.BackRow.{BackRow}
 use Rattle.fb_rows.specs.declared.back.BackRow.TheVariants.{Gap, Idle, Got, Bad, Seal, Segment, Complete, Task}
 use Rattle.fb_rows.specs.declared.run.Run.{Run}
 use Rattle.fb_report.specs.declared.bytes.Bytes.{Bytes}
-use Rattle.fb_report.specs.declared.bytes.Bytes.TheVariants.{Nothing, Digest, Dump}
 use Rattle.fb_report.specs.Lines.{first_line, line_of, name_text, track_text}
-use Rattle.fb_report.specs.Shown.{shown, contents_bytes}
+use Rattle.fb_report.specs.Shown.{digested, shown}
 
 -- what a task is called
 abbrev pub task_text : List (List ℕ) → ℕ → List ℕ
@@ -49,9 +46,7 @@ how_text ByRide = codes "ride"
 
 -- the digest of bytes, wherever bytes are shown
 abbrev pub digest_text : Bytes → ℕ → List ContentRun → List ℕ
-digest_text Nothing size runs = codes "-"
-digest_text Digest size runs = encode_lower (sha256 (contents_bytes size runs))
-digest_text Dump size runs = encode_lower (sha256 (contents_bytes size runs))
+digest_text bytes size runs = shown (digested bytes) size runs
 
 -- request, source, target, now, deadline and plan
 abbrev pub gap_fields : GapRow → List (List ℕ)

@@ -16,6 +16,12 @@ run_bytes size run = flat_map (λ i. sector_bytes (run.first + i) size run.conte
 abbrev pub contents_bytes : ℕ → List ContentRun → List ℕ
 contents_bytes size runs = flat_map (run_bytes size) runs
 
+-- in the same way, but as a digest wherever the bytes themselves are shown
+abbrev pub digested : Bytes → Bytes
+digested Nothing = Nothing
+digested Digest = Digest
+digested Dump = Digest
+
 -- a dash, the digest of the bytes, or the bytes themselves
 abbrev pub shown : Bytes → ℕ → List ContentRun → List ℕ
 shown Nothing size runs = codes "-"

@@ -8,7 +8,7 @@ ghost use Rattle.fb_report.specs.Printed.{AreNames, AreOneOf, CountsSectors, Has
 ghost use Rattle.fb_rows.specs.Tasks.{HasNamedTask};
 
 use crate::Bytes;
-use crate::contents::{sectors, shown, shown_digest};
+use crate::contents::{sectors, shown};
 use crate::line::Line;
 use fb_calls::{Kind, TaskNames};
 use fb_rows::{
@@ -167,7 +167,7 @@ fn seal_line(
     ensures value { IfOk result (λ line. line.items ≡ seal_line names.now sector_bytes bytes row.now) }
     ensures form { IfOk result (λ line. AreNames names.now → sum_by (λ run. run.count) row.now.content < 2 ^ 64 → IsLine (is_row back_grammar) line.items) }
 {
-    let digest = shown_digest(alloc, &row.content, sector_bytes, bytes)?;
+    let digest = shown(alloc, &row.content, sector_bytes, bytes.digested())?;
     let mut line = Line::new(alloc, b"seal")?;
     line.task(names, row.task)?;
     line.number(row.instant)?;
@@ -188,7 +188,7 @@ fn segment_line(
     ensures value { IfOk result (λ line. line.items ≡ segment_line names.now sector_bytes bytes row.now) }
     ensures form { IfOk result (λ line. AreNames names.now → IsLine (is_row back_grammar) line.items) }
 {
-    let digest = shown_digest(alloc, &row.content, sector_bytes, bytes)?;
+    let digest = shown(alloc, &row.content, sector_bytes, bytes.digested())?;
     let mut line = Line::new(alloc, b"seg")?;
     push_segment(&mut line, row, names, digest.as_slice())?;
     line.end()

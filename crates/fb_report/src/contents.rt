@@ -3,7 +3,6 @@ ghost use Rattle.std.specs.Prelude.{◌≡◌, ◌%◌, IfOk};
 ghost use Rattle.std.specs.List.{sum_by};
 ghost use Rattle.fb_report.specs.declared.bytes.Bytes.{Bytes};
 ghost use Rattle.fb_report.specs.Shown.{shown};
-ghost use Rattle.fb_report.specs.Back.{digest_text};
 
 use crate::Bytes;
 use crate::sectors::pour;
@@ -30,22 +29,6 @@ pub fn shown(
         Bytes::Nothing => Ok(b"-".to_vec(alloc)?),
         Bytes::Digest => digest(alloc, contents, sector_bytes),
         Bytes::Dump => dump(alloc, contents, sector_bytes),
-    }
-}
-
-/// The digest of contents, in every mode but that which shows nothing.
-pub fn shown_digest(
-    alloc: Global,
-    contents: &Contents,
-    sector_bytes: u32,
-    bytes: Bytes,
-) -> Result<Vec<u8>, NoMemory>
-    requires whole { sector_bytes % 16 ≡ 0 }
-    ensures { IfOk result (λ field. field.items ≡ digest_text bytes sector_bytes contents.now) }
-{
-    match bytes {
-        Bytes::Nothing => Ok(b"-".to_vec(alloc)?),
-        Bytes::Digest | Bytes::Dump => digest(alloc, contents, sector_bytes),
     }
 }
 

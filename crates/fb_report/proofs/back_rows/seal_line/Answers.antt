@@ -1,4 +1,4 @@
-use Rattle.fb_report.proofs.Words.{[], ◌∷◌, ◌≡◌, ◌<◌, ◌^◌, ◌∙◌, refl, inl, inr, codes, decimal, sum_by, digest_text, task_text}
+use Rattle.fb_report.proofs.Words.{[], ◌∷◌, ◌≡◌, ◌<◌, ◌^◌, ◌∙◌, refl, ap, inl, inr, codes, decimal, sum_by, digest_text, shown, task_text}
 use Rattle.fb_report.proofs.Words.{back_grammar, AreNames, IsLine, is_row}
 use Rattle.fb_report.proofs.{Fields.in_row, PrintedForms.number_is, PrintedForms.word_is, ShownForms.digest_is}
 use Rattle.fb_report.proofs.PrintedRows.{◌&◌, ended_as, named_is}
@@ -9,7 +9,8 @@ returns-clause-form c =
     let row = c.args.row.now in
     let names = c.args.names.now in
     let sum = sum_by (λ run. run.count) row.content in
-    let digest : c.as_slice.result.now ≡ digest_text c.args.bytes c.args.sector_bytes row.content = c.as_slice.ensures.value ∙ c.in_ok-digest.ensures in
+    let digest : c.as_slice.result.now ≡ digest_text c.args.bytes c.args.sector_bytes row.content =
+    c.as_slice.ensures.value ∙ c.in_ok-digest.ensures ∙ ap (λ bytes. shown bytes c.args.sector_bytes row.content) c.digested.ensures in
     let fields = task_text names row.task ∷ decimal row.instant ∷ decimal sum ∷ digest_text c.args.bytes c.args.sector_bytes row.content ∷ [] in
     ended_as (λ line. AreNames names → sum < 2 ^ 64 → IsLine (is_row back_grammar) line) c.end.result c.word.new.self (codes "seal") fields c.end.ensures
     (rw (c.in_ok-word.ensures, c.in_ok-sum.ensures, c.in_ok-number.ensures.value, c.in_ok-task.ensures, c.in_ok-line.ensures, digest, c.sectors.ensures) refl)
