@@ -77,6 +77,20 @@ macro_rules! may {
     };
 }
 
+// The keys of a zone, of which this is the last: how many sectors are spare.
+macro_rules! of_zone {
+    ($spares:expr) => {
+        [
+            must!("first", Kind::Number, 0..=999_999),
+            must!("last", Kind::Number, 0..=999_999),
+            must!("sectors", Kind::Number, 1..=10_000),
+            may!("track_skew", Kind::Number, 0..=10_000),
+            may!("cylinder_skew", Kind::Number, 0..=10_000),
+            $spares,
+        ]
+    };
+}
+
 static FRONT: [Key; 8] = [
     must!("version", Kind::Number, 1..=2),
     must!("rotation_ns", Kind::Number, 1..=1_000_000_000),
@@ -99,23 +113,10 @@ static BACK_WITH_GROWN: [Key; 3] = [
     may!("latent", Kind::Numbers, 0..=1_000_000_000_000),
 ];
 
-static ZONE: [Key; 6] = [
-    must!("first", Kind::Number, 0..=999_999),
-    must!("last", Kind::Number, 0..=999_999),
-    must!("sectors", Kind::Number, 1..=10_000),
-    may!("track_skew", Kind::Number, 0..=10_000),
-    may!("cylinder_skew", Kind::Number, 0..=10_000),
-    may!("spares", Kind::Number, 0..=10_000),
-];
+static ZONE: [Key; 6] = of_zone!(may!("spares", Kind::Number, 0..=10_000));
 
-static ZONE_WITH_CYLINDER_SPARES: [Key; 6] = [
-    must!("first", Kind::Number, 0..=999_999),
-    must!("last", Kind::Number, 0..=999_999),
-    must!("sectors", Kind::Number, 1..=10_000),
-    may!("track_skew", Kind::Number, 0..=10_000),
-    may!("cylinder_skew", Kind::Number, 0..=10_000),
-    may!("cylinder_spares", Kind::Number, 0..=640_000),
-];
+static ZONE_WITH_CYLINDER_SPARES: [Key; 6] =
+    of_zone!(may!("cylinder_spares", Kind::Number, 0..=640_000));
 
 // The keys of the file up to `zone`.
 pub fn front_keys() -> &'static [Key]
