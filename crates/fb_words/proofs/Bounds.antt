@@ -1,5 +1,5 @@
 -- The numbers that words give are within the limits.
-use Rattle.std.proofs.Common.{◌≡◌, ℕ, ◌+◌, ◌≤◌, ◌^◌, List, [], ◌∷◌, true, false, subst, inl, inr, arith, Option, Some, None, Result, Ok, Err}
+use Rattle.std.proofs.Common.{◌≡◌, ℕ, ◌+◌, ◌≤◌, ◌^◌, List, [], ◌∷◌, false, subst, inl, inr, arith, Option, Some, None, Result, Ok, Err}
 use Rattle.std.specs.Prelude.{IfSome, IfOk, not, ◌||◌, ◌==◌, ◌<◌, nat_lt, unwrap_or, length}
 use Rattle.std.proofs.lemmas.Bool.{cases_Bool}
 use Rattle.std.proofs.lemmas.Bool.Decides.{nat_tests}
@@ -22,12 +22,17 @@ use Rattle.fb_words.specs.declared.fault.UsageFault.{UsageFault}
 use Rattle.fb_words.specs.Verdict.{Answers, terms}
 use Rattle.fb_words.specs.Limits.{IsWithinLimits}
 
-record IsSmall (given : Options) : Type 0 where
-  until : IfSome given.until (λ until. until ≤ 10 ^ 15)
-  device : IfSome given.device (λ device. device ≤ 10 ^ 15)
-  number : IfSome given.number (λ number. number ≤ 10 ^ 15)
-  requests : IfSome given.requests (λ requests. requests ≤ 10 ^ 6)
-  devices : IfSome given.devices (λ devices. (0 < devices) × (devices ≤ 16))
+-- these numbers are within the limits, where they are given
+record AreSmall (instant place seed count disks : Option ℕ) : Type 0 where
+  until : IfSome instant (λ until. until ≤ 10 ^ 15)
+  device : IfSome place (λ device. device ≤ 10 ^ 15)
+  number : IfSome seed (λ number. number ≤ 10 ^ 15)
+  requests : IfSome count (λ requests. requests ≤ 10 ^ 6)
+  devices : IfSome disks (λ devices. (0 < devices) × (devices ≤ 16))
+
+-- the numbers of the options are, whatever the others are
+abbrev IsSmall : Options → Type 0
+IsSmall given = AreSmall given.until given.device given.number given.requests given.devices
 
 same_ok : {A E : Type 0} (a b : A) → ◌≡◌ {A = Result A E} (Ok a) (Ok b) → a ≡ b
 same_ok a b e = cc
@@ -54,16 +59,16 @@ devices_small value m given =
 
 small-with_form : (given next : Options) (option : OptionName) (value : List ℕ) → with_form given option value ≡ Ok next → IsSmall given → IsSmall next
 unfolding with_form
-small-with_form given next Params value e is = subst IsSmall (same_ok _ next e) (record { until = is.until; device = is.device; number = is.number; requests = is.requests; devices = is.devices })
-small-with_form given next Trace value e is = subst IsSmall (same_ok _ next e) (record { until = is.until; device = is.device; number = is.number; requests = is.requests; devices = is.devices })
+small-with_form given next Params value e is = subst IsSmall (same_ok _ next e) is
+small-with_form given next Trace value e is = subst IsSmall (same_ok _ next e) is
 small-with_form given next Policy value e is =
     let p = both_ok (or_refuse BadValue (policy_of value)) _ next e in
-    subst IsSmall (same_ok _ next p.2) (record { until = is.until; device = is.device; number = is.number; requests = is.requests; devices = is.devices })
-small-with_form given next Calls value e is = subst IsSmall (same_ok _ next e) (record { until = is.until; device = is.device; number = is.number; requests = is.requests; devices = is.devices })
-small-with_form given next Fore value e is = subst IsSmall (same_ok _ next e) (record { until = is.until; device = is.device; number = is.number; requests = is.requests; devices = is.devices })
-small-with_form given next Back value e is = subst IsSmall (same_ok _ next e) (record { until = is.until; device = is.device; number = is.number; requests = is.requests; devices = is.devices })
-small-with_form given next Puts value e is = subst IsSmall (same_ok _ next e) (record { until = is.until; device = is.device; number = is.number; requests = is.requests; devices = is.devices })
-small-with_form given next Spill value e is = subst IsSmall (same_ok _ next e) (record { until = is.until; device = is.device; number = is.number; requests = is.requests; devices = is.devices })
+    subst IsSmall (same_ok _ next p.2) is
+small-with_form given next Calls value e is = subst IsSmall (same_ok _ next e) is
+small-with_form given next Fore value e is = subst IsSmall (same_ok _ next e) is
+small-with_form given next Back value e is = subst IsSmall (same_ok _ next e) is
+small-with_form given next Puts value e is = subst IsSmall (same_ok _ next e) is
+small-with_form given next Spill value e is = subst IsSmall (same_ok _ next e) is
 small-with_form given next Until value e is =
     let p = both_ok (or_refuse BadValue (millis_of value)) _ next e in
     subst IsSmall (same_ok _ next p.2) (record { until = millis_small value p.0 (value_ok BadValue (millis_of value) p.0 p.1); device = is.device; number = is.number; requests = is.requests; devices = is.devices })
@@ -72,7 +77,7 @@ small-with_form given next Device value e is =
     subst IsSmall (same_ok _ next p.2) (record { until = is.until; device = number_small value p.0 (value_ok BadValue (number_of value) p.0 p.1); number = is.number; requests = is.requests; devices = is.devices })
 small-with_form given next Bytes value e is =
     let p = both_ok (or_refuse BadValue (bytes_of value)) _ next e in
-    subst IsSmall (same_ok _ next p.2) (record { until = is.until; device = is.device; number = is.number; requests = is.requests; devices = is.devices })
+    subst IsSmall (same_ok _ next p.2) is
 small-with_form given next Number value e is =
     let p = both_ok (or_refuse BadValue (number_of value)) _ next e in
     subst IsSmall (same_ok _ next p.2) (record { until = is.until; device = is.device; number = number_small value p.0 (value_ok BadValue (number_of value) p.0 p.1); requests = is.requests; devices = is.devices })
@@ -84,8 +89,8 @@ small-with_form given next Devices value e is =
     subst IsSmall (same_ok _ next p.2) (record { until = is.until; device = is.device; number = is.number; requests = is.requests; devices = devices_small value p.0 p.1 })
 small-with_form given next Rebuild value e is =
     let p = both_ok (or_refuse BadValue (number_of value)) _ next e in
-    subst IsSmall (same_ok _ next p.2) (record { until = is.until; device = is.device; number = is.number; requests = is.requests; devices = is.devices })
-small-with_form given next Copy value e is = subst IsSmall (same_ok _ next e) (record { until = is.until; device = is.device; number = is.number; requests = is.requests; devices = is.devices })
+    subst IsSmall (same_ok _ next p.2) is
+small-with_form given next Copy value e is = subst IsSmall (same_ok _ next e) is
 
 small-with_value : (given next : Options) (option : OptionName) (value : List ℕ) → with_value given option value ≡ Ok next → IsSmall given → IsSmall next
 unfolding with_value
@@ -100,7 +105,7 @@ small-with_summary : (given : Options) (next : Progress) → with_summary given 
 unfolding with_summary
 small-with_summary given next e is =
     let p = both_ok (refuse OptionTwice given.summary) _ next e in
-    subst IsSmallSoFar (same_ok _ next p.2) (let same : IsSmall (record given { summary = true }) = record { until = is.until; device = is.device; number = is.number; requests = is.requests; devices = is.devices } in same)
+    subst IsSmallSoFar (same_ok _ next p.2) is
 
 small-with_part : (place : ℕ) (given : Options) (option : OptionName) (value : Option (List ℕ)) (next : Progress) → with_part place given option value ≡ Ok next → IsSmall given → IsSmallSoFar next
 unfolding with_part
