@@ -1,9 +1,10 @@
 -- A block that is caught has no more sectors than all that are caught; so where each is longer than that, nothing is.
-use Rattle.fb_bgwrite.proofs.Words.{BeatsRange, IsMost, Part, all_get, ◌≡◌, ℕ, zero, suc, ◌+◌, ◌*◌, ◌<◌, ◌≤◌, ◌⊎◌, List, [], ◌∷◌}
+use Rattle.fb_bgwrite.proofs.Words.{all_get, ◌≡◌, ℕ, zero, suc, ◌+◌, ◌*◌, ◌<◌, ◌≤◌, ◌⊎◌, List, [], ◌∷◌}
+use Rattle.fb_bgwrite.proofs.Words.{AreTried, IsFound, IsPart, IsSearch, Part, Search}
 use Rattle.fb_bgwrite.proofs.Words.{true, ◌==◌, Option, Some, slice_get, get_or, min, inl, inr, refl, sym, ap, ◌∙◌, subst, arith}
 use Rattle.fb_bgwrite.proofs.Words.{AllByRecursion, sum_by, cases_Bool, true≢false, nat_tests, sum_by-cons, Track, same_track}
 use Rattle.fb_bgwrite.proofs.Words.{IsTrackOf, IsSound, Disk, Deliver, Entry, after, entry_after, is_wanted, on_track, wanted_of}
-use Rattle.fb_bgwrite.proofs.Words.{Dwell, Gap, AreOnDisk, stay_gain, stay-of, Spill, Valued, ArePending, IsValuedIf}
+use Rattle.fb_bgwrite.proofs.Words.{Dwell, Gap, AreOnDisk, stay_gain, stay-of, Spill, Valued, ArePending}
 use Rattle.fb_bgwrite.proofs.Words.{AreAtLeast, AreLight, IsAtLeast, IsNoShorter, stay_of, value, all_of, some_one}
 use Rattle.fb_bgwrite.proofs.Words.{◌-◌, get_or-le-sum_by, get_or_from_slice_get, length, slice_get_within, sum_by-le-sum_by}
 use Rattle.fb_bgwrite.proofs.Words.{sum_by_more, take, AreOffers, Block, Offer}
@@ -110,15 +111,17 @@ none_outside disk gap entries blocks spill least most from low high end before b
     ]
 
 -- the spills on some cylinders of a part are beaten where each pending block there is longer than what they may write
-pub range_beaten : (disk : Disk) (gap : Gap) (entries : List Entry) → ArePending disk entries → (best : Option Valued)
-    → IsValuedIf disk gap (wanted_of entries) best → (part : Part) → IsMost disk gap (wanted_of entries) part
-    → (least from end : ℕ) → part.from ≤ from → end ≤ part.end → min part.most 2048 < least → AreAtLeast from end least entries
-    → BeatsRange disk gap (wanted_of entries) best from end
-range_beaten disk gap entries blocks best valued part most least from end after inside less long track low high leave is =
+pub range_beaten : (search : Search) → IsSearch search → (best : Option Valued) → IsFound search best → (part : Part) → IsPart search part
+    → (least from end : ℕ) → part.from ≤ from → end ≤ part.end → min part.most 2048 < least
+    → AreAtLeast from end least search.pending.now → AreTried search best from end
+range_beaten search is_search best found part is_part least from end after inside less long track low high leave is =
+    let disk = search.disk.now in
+    let gap = search.gap.now in
+    let blocks = is_search.blocks in
     let spill : Spill = record { track = track; leave = leave } in
-    let few = most track (omega (arith, low, after)) (omega (arith, high, inside)) leave is in
-    nothing_beaten disk gap (wanted_of entries) best spill valued
-    (none_short disk gap entries spill blocks.light least from end long low high part.most blocks.on_disk few less)
+    let few = is_part.most track (omega (arith, low, after)) (omega (arith, high, inside)) leave is in
+    nothing_beaten disk gap (wanted_of search.pending.now) best spill found
+    (none_short disk gap search.pending.now spill blocks.light least from end long low high part.most blocks.on_disk few less)
 
 -- ---- the bounds of cylinders
 

@@ -81,8 +81,9 @@ pub use Rattle.fb_bgwrite.specs.AmendedWay.{amended, amended_legs, kept, kept_le
 unfoldable pub use Rattle.fb_bgwrite.specs.AmendedWay.{timeline_with}
 pub use Rattle.fb_bgwrite.specs.Blocks.{PutBlock, is_pending, is_written, put_blocks, sectors, writes}
 unfoldable pub use Rattle.fb_bgwrite.specs.Blocks.{blocks_from, pending}
-pub use Rattle.fb_bgwrite.specs.Choosing.{AreLeast, ArePending, Beats, BeatsOn, BeatsRange, IsBestIf, IsEnough, IsGap, IsLastEnd}
-pub use Rattle.fb_bgwrite.specs.Choosing.{IsMost, IsOnly, IsShare, IsValuedIf, Keeps, OneEndsAt, block_range}
+pub use Rattle.fb_bgwrite.specs.Choosing.{AreLeast, ArePending, AreTried, Beats, BeatsOn, BeatsRange, IsBestIf, IsEnough, IsFound}
+pub use Rattle.fb_bgwrite.specs.Choosing.{IsGap, IsKept, IsLastEnd, IsOnly, IsPart, IsSearch, IsShare, IsTried, IsValuedIf, Keeps}
+pub use Rattle.fb_bgwrite.specs.Choosing.{OneEndsAt, block_range}
 pub use Rattle.fb_bgwrite.specs.Gaps.{HasNoFree, RunGap, delivers, gaps}
 pub use Rattle.fb_bgwrite.specs.Shortest.{AreAtLeast, AreLight, IsAtLeast, IsNoShorter, IsUnder}
 pub use Rattle.fb_bgwrite.specs.Spilled.{AreGaps, AreOnce, IsGapOf, IsInTime, IsOfPut, IsSpillRun, fore_ranges, left_over, sectors_in}
@@ -100,4 +101,5 @@ pub use Rattle.fb_bgwrite.specs.declared.items.SpillItem.TheVariants.{Spill as S
 pub use Rattle.fb_bgwrite.specs.declared.items.SpillRow.{SpillRow}
 pub use Rattle.fb_bgwrite.specs.declared.items.WroteRow.{WroteRow}
 pub use Rattle.fb_bgwrite.specs.declared.search.Part.{Part}
+pub use Rattle.fb_bgwrite.specs.declared.search.Search.{Search}
 pub use Rattle.fb_bgwrite.specs.declared.spilling.Spilling.{Spilling}

@@ -7,6 +7,7 @@ use Rattle.fb_service.specs.declared.disk.Disk.{Disk}
 use Rattle.fb_wanted.specs.declared.block.Block.{Block}
 use Rattle.fb_wanted.specs.declared.block.Entry.{Entry}
 use Rattle.fb_wanted.specs.declared.offer.Offer.{Offer}
+use Rattle.fb_wanted.specs.States.{wanted_of}
 use Rattle.fb_rows.specs.declared.gap.Gap.{Gap}
 use Rattle.fb_plan.specs.declared.turning.Turning.{Turning}
 use Rattle.fb_plan.specs.Turns.{end_of}
@@ -17,6 +18,7 @@ use Rattle.fb_bgwrite.specs.declared.choice.Valued.{Valued}
 use Rattle.fb_puts.specs.declared.range.SectorRange.{SectorRange}
 use Rattle.fb_bgwrite.specs.declared.search.Moves.{Moves}
 use Rattle.fb_bgwrite.specs.declared.search.Part.{Part}
+use Rattle.fb_bgwrite.specs.declared.search.Search.{Search}
 use Rattle.fb_puts.specs.Ranges.{AreApart}
 use Rattle.fb_bgwrite.specs.Shortest.{AreLight}
 use Rattle.fb_bgwrite.specs.Spilling.{value, IsBest, IsNoLater, IsSpill, WritesNothing}
@@ -96,6 +98,38 @@ IsShare disk from end share = (0 < share)
 abbrev pub AreLeast : Disk → Gap → ℕ → ℕ → Moves → Type 0
 AreLeast disk gap from end moves = (track : Track) → from ≤ track.cylinder → track.cylinder < end
     → (moves.there ≤ pos disk.mechanism gap.source track true) × (moves.on ≤ pos disk.mechanism track gap.target gap.write)
+
+-- ---- a search
+
+-- the gap is one of the disk, and so are the registered blocks
+pub record IsSearch (search : Search) : Type 0 where
+  pub gap : IsGap search.disk.now search.gap.now
+  pub blocks : ArePending search.disk.now search.pending.now
+
+-- the cylinders of a part are the disk's, and its bounds hold there
+pub record IsPart (search : Search) (part : Part) : Type 0 where
+  pub order : part.from ≤ part.end
+  pub within : part.end ≤ search.disk.now.mechanism.cylinders
+  pub share : IsShare search.disk.now part.from part.end part.share
+  pub most : IsMost search.disk.now search.gap.now (wanted_of search.pending.now) part
+
+-- the best so far is a spill of the gap with its value, if there is one
+abbrev pub IsFound : Search → Option Valued → Type 0
+IsFound search best = IsValuedIf search.disk.now search.gap.now (wanted_of search.pending.now) best
+
+-- whatever the first beats, the second beats
+abbrev pub IsKept : Search → Option Valued → Option Valued → Type 0
+IsKept search old new = Keeps search.disk.now search.gap.now (wanted_of search.pending.now) old new
+
+-- the best so far is at least as good as each spill on the track
+abbrev pub IsTried : Search → Option Valued → Track → Type 0
+IsTried search best track = BeatsOn search.disk.now search.gap.now (wanted_of search.pending.now) best track
+
+-- and on each track of these cylinders
+abbrev pub AreTried : Search → Option Valued → ℕ → ℕ → Type 0
+AreTried search best from end = BeatsRange search.disk.now search.gap.now (wanted_of search.pending.now) best from end
+
+-- ---- the result
 
 -- the best spill, or none where none writes anything
 abbrev pub IsBestIf : Disk → Gap → List Block → Option Valued → Type 0

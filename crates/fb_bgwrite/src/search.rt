@@ -8,14 +8,12 @@ ghost use Rattle.fb_wanted.specs.declared.block.Entry.{Entry as Registered};
 ghost use Rattle.fb_wanted.specs.States.{on_track, wanted_of};
 ghost use Rattle.fb_wanted.specs.Tracks.{wanted_weight};
 ghost use Rattle.fb_units.specs.declared.types.Track.{Track};
-ghost use Rattle.fb_service.specs.declared.disk.Disk.{Disk};
-ghost use Rattle.fb_rows.specs.declared.gap.Gap.{Gap};
 ghost use Rattle.fb_plan.specs.Ways.{AreOnDisk};
 ghost use Rattle.fb_plan.specs.Turns.{added, end_of, passes_by, AreInTurn, IsInTurn, Stands};
 ghost use Rattle.fb_detour.specs.Bounds.{slots_within};
 ghost use Rattle.fb_bgwrite.specs.declared.choice.Spill.{Spill};
-ghost use Rattle.fb_bgwrite.specs.Choosing.{AreLeast, ArePending, BeatsOn, BeatsRange, IsBestIf, IsEnough, IsGap, IsLastEnd};
-ghost use Rattle.fb_bgwrite.specs.Choosing.{IsMost, IsMostOn, IsOnly, IsShare, IsValuedIf, Keeps};
+ghost use Rattle.fb_bgwrite.specs.Choosing.{AreLeast, ArePending, AreTried, BeatsOn, IsBestIf, IsEnough, IsFound, IsGap, IsKept};
+ghost use Rattle.fb_bgwrite.specs.Choosing.{IsLastEnd, IsMostOn, IsOnly, IsPart, IsSearch, IsShare, IsTried, IsValuedIf};
 ghost use Rattle.fb_bgwrite.specs.Shortest.{AreAtLeast};
 ghost use Rattle.fb_bgwrite.specs.Spilling.{value, IsSpill};
 
@@ -40,6 +38,14 @@ const FEW: u32 = 32;
 
 // At least so many cylinders of those on one side of a gap are looked at first, if little time is left.
 const NEAR: u32 = 512;
+
+// A gap on its disk, and the registered blocks.
+#[derive(Clone, Copy)]
+struct Search<'a> {
+    disk: &'a Disk,
+    pending: &'a Pending,
+    gap: &'a Gap,
+}
 
 // The cylinders from one up to another, the least time of a slot there, in ns, an upper bound on what a
 // spill writes on a track there, and whether less than a turn is left beside the moves, of which the
@@ -87,8 +93,9 @@ pub fn best_spill(disk: &Disk, pending: &Pending, gap: &Gap) -> Option<Valued>
         return None;
     }
     let share = least_share(disk, gap, from, end);
-    let all = part_of(disk, pending, gap, from, end, share);
-    visit(disk, pending, gap, all, None)
+    let search = Search { disk, pending, gap };
+    let all = part_of(&search, from, end, share);
+    visit(&search, all, None)
 }
 
 // Where the first of these cylinders is that may have a pending block of at most so many sectors, and
@@ -108,39 +115,29 @@ fn trimmed(pending: &Pending, from: u32, end: u32, most: u32) -> (u32, u32)
 
 // Tries the tracks of these cylinders, if their bound leaves it open whether a spill there is better
 // than the best so far: in two parts, that with the greater bound first.
-fn visit(
-    disk: &Disk,
-    pending: &Pending,
-    gap: &Gap,
-    part: Part,
-    start: Option<Valued>,
-) -> Option<Valued>
-    requires order { part.from ≤ part.end }
-    requires within { part.end ≤ disk.now.mechanism.cylinders }
-    requires share { IsShare disk.now part.from part.end part.share }
-    requires most { IsMost disk.now gap.now (wanted_of pending.now) part }
-    requires gap { IsGap disk.now gap.now }
-    requires blocks { ArePending disk.now pending.now }
-    requires best { IsValuedIf disk.now gap.now (wanted_of pending.now) start }
-    ensures valued { IsValuedIf disk.now gap.entry.now (wanted_of pending.now) result }
-    ensures keeps { Keeps disk.now gap.entry.now (wanted_of pending.now) start result }
-    ensures tried { BeatsRange disk.now gap.entry.now (wanted_of pending.now) result part.from part.end }
+fn visit(search: &Search, part: Part, start: Option<Valued>) -> Option<Valued>
+    requires search { IsSearch search.now }
+    requires part { IsPart search.now part }
+    requires best { IsFound search.now start }
+    ensures valued { IsFound search.now result }
+    ensures keeps { IsKept search.now start result }
+    ensures tried { AreTried search.now result part.from part.end }
 {
     if is_enough(start, part.most, part.from) {
         return start;
     }
-    if is_swept(gap, part) {
-        return sweep(disk, pending, gap, part, start);
+    if is_swept(search.gap, part) {
+        return sweep(search, part, start);
     }
-    let middle = split_at(gap, part);
-    let low = narrowed(disk, pending, gap, part, part.from, middle);
-    let high = narrowed(disk, pending, gap, part, middle, part.end);
+    let middle = split_at(search.gap, part);
+    let low = narrowed(search, part, part.from, middle);
+    let high = narrowed(search, part, middle, part.end);
     if low.most < high.most {
-        let best = visit(disk, pending, gap, high, start);
-        return visit(disk, pending, gap, low, best);
+        let best = visit(search, high, start);
+        return visit(search, low, best);
     }
-    let best = visit(disk, pending, gap, low, start);
-    visit(disk, pending, gap, high, best)
+    let best = visit(search, low, start);
+    visit(search, high, best)
 }
 
 // Whether the cylinders of a part are tried one after the other: if they are few, or if they lie on one
@@ -180,24 +177,19 @@ fn split_at(gap: &Gap, part: Part) -> u32
 
 // Some of the cylinders of a part, from the first to the last that may have a pending block short enough
 // for its bound, with a bound of their own.
-fn narrowed(disk: &Disk, pending: &Pending, gap: &Gap, whole: Part, from: u32, end: u32) -> Part
+fn narrowed(search: &Search, whole: Part, from: u32, end: u32) -> Part
     requires order { from ≤ end }
     requires after { whole.from ≤ from }
     requires inside { end ≤ whole.end }
-    requires within { whole.end ≤ disk.now.mechanism.cylinders }
-    requires share { IsShare disk.now whole.from whole.end whole.share }
-    requires most { IsMost disk.now gap.now (wanted_of pending.now) whole }
-    requires gap { IsGap disk.now gap.now }
-    requires blocks { ArePending disk.now pending.now }
+    requires search { IsSearch search.now }
+    requires whole { IsPart search.now whole }
     ensures after { from ≤ result.from }
-    ensures order { result.from ≤ result.end }
     ensures within { result.end ≤ end }
-    ensures share { IsShare disk.now result.from result.end result.share }
-    ensures most { IsMost disk.now gap.entry.now (wanted_of pending.now) result }
-    ensures only { IsOnly disk.now gap.entry.now (wanted_of pending.now) from end result }
+    ensures part { IsPart search.now result }
+    ensures only { IsOnly search.now.disk.now search.now.gap.now (wanted_of search.now.pending.now) from end result }
 {
     let short = whole.most.min(LONGEST as u64) as u32;
-    let (from, end) = trimmed(pending, from, end, short);
+    let (from, end) = trimmed(search.pending, from, end, short);
     if from == end {
         return Part {
             from,
@@ -206,45 +198,43 @@ fn narrowed(disk: &Disk, pending: &Pending, gap: &Gap, whole: Part, from: u32, e
             ..whole
         };
     }
-    let share = share_inside(disk, gap, whole, from, end);
-    part_of(disk, pending, gap, from, end, share)
+    let share = share_inside(search, whole, from, end);
+    part_of(search, from, end, share)
 }
 
 // The least time of a slot of some of the cylinders of a part: found anew where they are few of many.
-fn share_inside(disk: &Disk, gap: &Gap, whole: Part, from: u32, end: u32) -> Ns
+fn share_inside(search: &Search, whole: Part, from: u32, end: u32) -> Ns
     requires some { from < end }
     requires after { whole.from ≤ from }
     requires inside { end ≤ whole.end }
-    requires share { IsShare disk.now whole.from whole.end whole.share }
-    requires gap { IsGap disk.now gap.now }
-    ensures { IsShare disk.now from end result }
+    requires search { IsSearch search.now }
+    requires whole { IsPart search.now whole }
+    ensures { IsShare search.now.disk.now from end result }
 {
     if whole.end - whole.from > WIDE && end - from <= WIDE {
-        return least_share(disk, gap, from, end);
+        return least_share(search.disk, search.gap, from, end);
     }
     whole.share
 }
 
 // These cylinders with a bound of their own.
-fn part_of(disk: &Disk, pending: &Pending, gap: &Gap, from: u32, end: u32, share: Ns) -> Part
+fn part_of(search: &Search, from: u32, end: u32, share: Ns) -> Part
     requires some { from < end }
-    requires within { end ≤ disk.now.mechanism.cylinders }
-    requires share { IsShare disk.now from end share }
-    requires gap { IsGap disk.now gap.now }
-    requires blocks { ArePending disk.now pending.now }
+    requires within { end ≤ search.now.disk.now.mechanism.cylinders }
+    requires share { IsShare search.now.disk.now from end share }
+    requires search { IsSearch search.now }
     ensures from { result.from ≡ from }
     ensures end { result.end ≡ end }
-    ensures share { result.share ≡ share }
-    ensures most { IsMost disk.now gap.entry.now (wanted_of pending.now) result }
+    ensures part { IsPart search.now result }
 {
-    let passing = most_passing(disk, gap, from, end, share);
-    let most = unless_lighter(pending, from, end, passing);
+    let passing = most_passing(search.disk, search.gap, from, end, share);
+    let most = unless_lighter(search.pending, from, end, passing);
     Part {
         from,
         end,
         share,
         most,
-        brief: is_brief(disk, share, passing, most),
+        brief: is_brief(search.disk, share, passing, most),
     }
 }
 
@@ -361,23 +351,13 @@ fn is_above(gap: &Gap, from: u32) -> bool {
 
 // Tries the tracks of the cylinders of a part one after the other, beside the gap from the nearest one
 // on, until a bound shows that no other is better.
-fn sweep(
-    disk: &Disk,
-    pending: &Pending,
-    gap: &Gap,
-    part: Part,
-    start: Option<Valued>,
-) -> Option<Valued>
-    requires order { part.from ≤ part.end }
-    requires within { part.end ≤ disk.now.mechanism.cylinders }
-    requires share { IsShare disk.now part.from part.end part.share }
-    requires most { IsMost disk.now gap.now (wanted_of pending.now) part }
-    requires gap { IsGap disk.now gap.now }
-    requires blocks { ArePending disk.now pending.now }
-    requires best { IsValuedIf disk.now gap.now (wanted_of pending.now) start }
-    ensures valued { IsValuedIf disk.now gap.entry.now (wanted_of pending.now) result }
-    ensures keeps { Keeps disk.now gap.entry.now (wanted_of pending.now) start result }
-    ensures tried { BeatsRange disk.now gap.entry.now (wanted_of pending.now) result part.from part.end }
+fn sweep(search: &Search, part: Part, start: Option<Valued>) -> Option<Valued>
+    requires search { IsSearch search.now }
+    requires part { IsPart search.now part }
+    requires best { IsFound search.now start }
+    ensures valued { IsFound search.now result }
+    ensures keeps { IsKept search.now start result }
+    ensures tried { AreTried search.now result part.from part.end }
 {
     let mut swept = Swept {
         best: start,
@@ -387,67 +367,57 @@ fn sweep(
         if swept.rest.end == swept.rest.from {
             break;
         }
-        swept = try_next(disk, pending, gap, swept.rest, swept.best);
+        swept = try_next(search, swept.rest, swept.best);
     }
     swept.best
 }
 
 // Tries one more cylinder of a part, the first one if it lies behind the gap, else the last one; the
 // others are left.
-fn try_next(disk: &Disk, pending: &Pending, gap: &Gap, part: Part, start: Option<Valued>) -> Swept
+fn try_next(search: &Search, part: Part, start: Option<Valued>) -> Swept
     requires some { part.from < part.end }
-    requires within { part.end ≤ disk.now.mechanism.cylinders }
-    requires share { IsShare disk.now part.from part.end part.share }
-    requires most { IsMost disk.now gap.now (wanted_of pending.now) part }
-    requires gap { IsGap disk.now gap.now }
-    requires blocks { ArePending disk.now pending.now }
-    requires best { IsValuedIf disk.now gap.now (wanted_of pending.now) start }
+    requires search { IsSearch search.now }
+    requires part { IsPart search.now part }
+    requires best { IsFound search.now start }
     ensures after { part.from ≤ result.rest.from }
-    ensures order { result.rest.from ≤ result.rest.end }
     ensures within { result.rest.end ≤ part.end }
     ensures fewer { result.rest.end + part.from < part.end + result.rest.from }
-    ensures share { IsShare disk.now result.rest.from result.rest.end result.rest.share }
-    ensures most { IsMost disk.now gap.entry.now (wanted_of pending.now) result.rest }
-    ensures valued { IsValuedIf disk.now gap.entry.now (wanted_of pending.now) result.best }
-    ensures keeps { Keeps disk.now gap.entry.now (wanted_of pending.now) start result.best }
-    ensures before { BeatsRange disk.now gap.entry.now (wanted_of pending.now) result.best part.from result.rest.from }
-    ensures behind { BeatsRange disk.now gap.entry.now (wanted_of pending.now) result.best result.rest.end part.end }
+    ensures rest { IsPart search.now result.rest }
+    ensures valued { IsFound search.now result.best }
+    ensures keeps { IsKept search.now start result.best }
+    ensures before { AreTried search.now result.best part.from result.rest.from }
+    ensures behind { AreTried search.now result.best result.rest.end part.end }
 {
-    if is_above(gap, part.from) {
-        try_first(disk, pending, gap, part, start)
+    if is_above(search.gap, part.from) {
+        try_first(search, part, start)
     } else {
-        try_last(disk, pending, gap, part, start)
+        try_last(search, part, start)
     }
 }
 
 // Tries the last cylinder of a part that has a block short enough for the part's bound. The cylinders
 // before it are left, with a bound for all up to this one.
-fn try_last(disk: &Disk, pending: &Pending, gap: &Gap, part: Part, start: Option<Valued>) -> Swept
+fn try_last(search: &Search, part: Part, start: Option<Valued>) -> Swept
     requires some { part.from < part.end }
-    requires within { part.end ≤ disk.now.mechanism.cylinders }
-    requires share { IsShare disk.now part.from part.end part.share }
-    requires most { IsMost disk.now gap.now (wanted_of pending.now) part }
-    requires gap { IsGap disk.now gap.now }
-    requires blocks { ArePending disk.now pending.now }
-    requires best { IsValuedIf disk.now gap.now (wanted_of pending.now) start }
+    requires search { IsSearch search.now }
+    requires part { IsPart search.now part }
+    requires best { IsFound search.now start }
     ensures from { result.rest.from ≡ part.from }
-    ensures order { part.from ≤ result.rest.end }
     ensures fewer { result.rest.end < part.end }
-    ensures share { IsShare disk.now part.from result.rest.end result.rest.share }
-    ensures most { IsMost disk.now gap.entry.now (wanted_of pending.now) result.rest }
-    ensures valued { IsValuedIf disk.now gap.entry.now (wanted_of pending.now) result.best }
-    ensures keeps { Keeps disk.now gap.entry.now (wanted_of pending.now) start result.best }
-    ensures tried { BeatsRange disk.now gap.entry.now (wanted_of pending.now) result.best result.rest.end part.end }
+    ensures rest { IsPart search.now result.rest }
+    ensures valued { IsFound search.now result.best }
+    ensures keeps { IsKept search.now start result.best }
+    ensures tried { AreTried search.now result.best result.rest.end part.end }
 {
     let short = part.most.min(LONGEST as u64) as u32;
-    let end = pending.end_short(part.from, part.end, short);
+    let end = search.pending.end_short(part.from, part.end, short);
     if end == part.from {
         return Swept {
             best: start,
             rest: Part { end, ..part },
         };
     }
-    if is_light(pending, end - 1, start) {
+    if is_light(search, end - 1, start) {
         return Swept {
             best: start,
             rest: Part {
@@ -456,7 +426,8 @@ fn try_last(disk: &Disk, pending: &Pending, gap: &Gap, part: Part, start: Option
             },
         };
     }
-    let most = most_passing(disk, gap, part.from, end, part.share).min(part.most);
+    let passing = most_passing(search.disk, search.gap, part.from, end, part.share);
+    let most = passing.min(part.most);
     let own = Part {
         from: end - 1,
         end,
@@ -464,7 +435,7 @@ fn try_last(disk: &Disk, pending: &Pending, gap: &Gap, part: Part, start: Option
         ..part
     };
     Swept {
-        best: try_if_short(disk, pending, gap, own, start),
+        best: try_cylinder(search, own, start),
         rest: Part {
             end: end - 1,
             most,
@@ -475,32 +446,27 @@ fn try_last(disk: &Disk, pending: &Pending, gap: &Gap, part: Part, start: Option
 
 // Tries the first cylinder of a part that has a block short enough for the part's bound. The cylinders
 // behind it are left, with a bound for all from this one on.
-fn try_first(disk: &Disk, pending: &Pending, gap: &Gap, part: Part, start: Option<Valued>) -> Swept
+fn try_first(search: &Search, part: Part, start: Option<Valued>) -> Swept
     requires some { part.from < part.end }
-    requires within { part.end ≤ disk.now.mechanism.cylinders }
-    requires share { IsShare disk.now part.from part.end part.share }
-    requires most { IsMost disk.now gap.now (wanted_of pending.now) part }
-    requires gap { IsGap disk.now gap.now }
-    requires blocks { ArePending disk.now pending.now }
-    requires best { IsValuedIf disk.now gap.now (wanted_of pending.now) start }
+    requires search { IsSearch search.now }
+    requires part { IsPart search.now part }
+    requires best { IsFound search.now start }
     ensures end { result.rest.end ≡ part.end }
-    ensures order { result.rest.from ≤ part.end }
     ensures fewer { part.from < result.rest.from }
-    ensures share { IsShare disk.now result.rest.from part.end result.rest.share }
-    ensures most { IsMost disk.now gap.entry.now (wanted_of pending.now) result.rest }
-    ensures valued { IsValuedIf disk.now gap.entry.now (wanted_of pending.now) result.best }
-    ensures keeps { Keeps disk.now gap.entry.now (wanted_of pending.now) start result.best }
-    ensures tried { BeatsRange disk.now gap.entry.now (wanted_of pending.now) result.best part.from result.rest.from }
+    ensures rest { IsPart search.now result.rest }
+    ensures valued { IsFound search.now result.best }
+    ensures keeps { IsKept search.now start result.best }
+    ensures tried { AreTried search.now result.best part.from result.rest.from }
 {
     let short = part.most.min(LONGEST as u64) as u32;
-    let from = pending.first_short(part.from, part.end, short);
+    let from = search.pending.first_short(part.from, part.end, short);
     if from == part.end {
         return Swept {
             best: start,
             rest: Part { from, ..part },
         };
     }
-    if is_light(pending, from, start) {
+    if is_light(search, from, start) {
         return Swept {
             best: start,
             rest: Part {
@@ -509,7 +475,8 @@ fn try_first(disk: &Disk, pending: &Pending, gap: &Gap, part: Part, start: Optio
             },
         };
     }
-    let most = most_passing(disk, gap, from, part.end, part.share).min(part.most);
+    let passing = most_passing(search.disk, search.gap, from, part.end, part.share);
+    let most = passing.min(part.most);
     let own = Part {
         from,
         end: from + 1,
@@ -517,7 +484,7 @@ fn try_first(disk: &Disk, pending: &Pending, gap: &Gap, part: Part, start: Optio
         ..part
     };
     Swept {
-        best: try_if_short(disk, pending, gap, own, start),
+        best: try_cylinder(search, own, start),
         rest: Part {
             from: from + 1,
             most,
@@ -528,97 +495,61 @@ fn try_first(disk: &Disk, pending: &Pending, gap: &Gap, part: Part, start: Optio
 
 // Whether there is a best so far, and it is at least as good as each spill on a track of this cylinder, by
 // its weights.
-fn is_light(pending: &Pending, cylinder: u32, start: Option<Valued>) -> bool
-    requires { cylinder < 2 ^ 32 - 1 }
-    ensures { result ≡ true → (disk : Disk) (gap : Gap) → ArePending disk pending.now → BeatsRange disk gap (wanted_of pending.now) start cylinder (cylinder + 1) }
+fn is_light(search: &Search, cylinder: u32, start: Option<Valued>) -> bool
+    requires room { cylinder < 2 ^ 32 - 1 }
+    requires search { IsSearch search.now }
+    ensures { result ≡ true → AreTried search.now start cylinder (cylinder + 1) }
 {
     if start.is_none() {
         return false;
     }
-    let weight = pending.greatest_weight_in(cylinder, cylinder + 1);
+    let weight = search.pending.greatest_weight_in(cylinder, cylinder + 1);
     is_enough(start, weight, cylinder)
 }
 
-// Tries the tracks of a range of one cylinder, if a pending block there is short enough.
-fn try_if_short(
-    disk: &Disk,
-    pending: &Pending,
-    gap: &Gap,
-    part: Part,
-    start: Option<Valued>,
-) -> Option<Valued>
+// Tries the tracks of a part of one cylinder, if a pending block there is short enough.
+fn try_cylinder(search: &Search, part: Part, start: Option<Valued>) -> Option<Valued>
     requires one { part.end ≡ part.from + 1 }
-    requires cylinder { part.from < disk.now.mechanism.cylinders }
-    requires most { IsMost disk.now gap.now (wanted_of pending.now) part }
-    requires gap { IsGap disk.now gap.now }
-    requires blocks { ArePending disk.now pending.now }
-    requires best { IsValuedIf disk.now gap.now (wanted_of pending.now) start }
-    ensures valued { IsValuedIf disk.now gap.entry.now (wanted_of pending.now) result }
-    ensures keeps { Keeps disk.now gap.entry.now (wanted_of pending.now) start result }
-    ensures tried { BeatsRange disk.now gap.entry.now (wanted_of pending.now) result part.from part.end }
+    requires search { IsSearch search.now }
+    requires part { IsPart search.now part }
+    requires best { IsFound search.now start }
+    ensures valued { IsFound search.now result }
+    ensures keeps { IsKept search.now start result }
+    ensures tried { AreTried search.now result part.from part.end }
 {
-    if part.most < pending.shortest_at(part.from) as u64 {
+    if part.most < search.pending.shortest_at(part.from) as u64 {
         return start;
     }
-    try_cylinder(disk, pending, gap, part, start)
-}
-
-// Tries the tracks of a range of one cylinder.
-fn try_cylinder(
-    disk: &Disk,
-    pending: &Pending,
-    gap: &Gap,
-    part: Part,
-    start: Option<Valued>,
-) -> Option<Valued>
-    requires one { part.end ≡ part.from + 1 }
-    requires cylinder { part.from < disk.now.mechanism.cylinders }
-    requires most { IsMost disk.now gap.now (wanted_of pending.now) part }
-    requires gap { IsGap disk.now gap.now }
-    requires blocks { ArePending disk.now pending.now }
-    requires best { IsValuedIf disk.now gap.now (wanted_of pending.now) start }
-    ensures valued { IsValuedIf disk.now gap.entry.now (wanted_of pending.now) result }
-    ensures keeps { Keeps disk.now gap.entry.now (wanted_of pending.now) start result }
-    ensures tried { BeatsRange disk.now gap.entry.now (wanted_of pending.now) result part.from part.end }
-{
     let mut best = start;
-    for head in 0..disk.map.geometry().heads() {
+    for head in 0..search.disk.map.geometry().heads() {
         let track = Track {
             cylinder: part.from,
             head,
         };
-        best = try_track(disk, pending, gap, track, part.most, best);
+        best = try_track(search, track, part.most, best);
     }
     best
 }
 
 // Tries the spills on a track, none of which writes more than `most`, unless its pending blocks are
 // too few or each of them is too long.
-fn try_track(
-    disk: &Disk,
-    pending: &Pending,
-    gap: &Gap,
-    track: Track,
-    most: u64,
-    start: Option<Valued>,
-) -> Option<Valued>
-    requires track { IsTrackOf disk.now.map track }
-    requires most { IsMostOn disk.now gap.now (wanted_of pending.now) track most }
-    requires gap { IsGap disk.now gap.now }
-    requires blocks { ArePending disk.now pending.now }
-    requires best { IsValuedIf disk.now gap.now (wanted_of pending.now) start }
-    ensures valued { IsValuedIf disk.now gap.entry.now (wanted_of pending.now) result }
-    ensures keeps { Keeps disk.now gap.entry.now (wanted_of pending.now) start result }
-    ensures tried { BeatsOn disk.now gap.entry.now (wanted_of pending.now) result track }
+fn try_track(search: &Search, track: Track, most: u64, start: Option<Valued>) -> Option<Valued>
+    requires track { IsTrackOf search.now.disk.now.map track }
+    requires most { IsMostOn search.now.disk.now search.now.gap.now (wanted_of search.now.pending.now) track most }
+    requires search { IsSearch search.now }
+    requires best { IsFound search.now start }
+    ensures valued { IsFound search.now result }
+    ensures keeps { IsKept search.now start result }
+    ensures tried { IsTried search.now result track }
 {
-    let blocks = pending.on(disk, track);
+    let blocks = search.pending.on(search.disk, track);
     if is_enough(start, most.min(blocks.wanted_weight()), track.cylinder) {
         return start;
     }
     if most < least_on(&blocks, LONGEST) as u64 {
         return start;
     }
-    let found = spill_on(disk, gap, track, &blocks);
+    let found = spill_on(search.disk, search.gap, track, &blocks);
     match (start, found) {
         (Some(best), Some(found)) => Some(better(best, found)),
         (None, found) => found,

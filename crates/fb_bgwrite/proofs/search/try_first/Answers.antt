@@ -5,23 +5,24 @@ use Rattle.fb_bgwrite.proofs.search.try_first.Goals as goal
 pub returns-then-from-part-clause-tried : goal.returns-then-from-part-clause-tried
 returns-then-from-part-clause-tried c =
     let short = c.first_short-from in
-    range_beaten _ c.args.gap.now _ c.requires.blocks c.args.start c.requires.best c.args.part c.requires.most (c.min-short.result + 1)
+    range_beaten c.args.search.now c.requires.search c.args.start c.requires.best c.args.part c.requires.part (c.min-short.result + 1)
     c.args.part.from short.result (omega arith) short.ensures.within (omega (arith, c.min-short.ensures)) short.ensures.each
 
 pub returns-then-is_light-clause-tried : goal.returns-then-is_light-clause-tried
 returns-then-is_light-clause-tried c =
+    let search = c.args.search.now in
     let short = c.first_short-from in
-    let before = range_beaten _ c.args.gap.now _ c.requires.blocks c.args.start c.requires.best c.args.part c.requires.most
-    (c.min-short.result + 1) c.args.part.from short.result (omega arith) short.ensures.within (omega (arith, c.min-short.ensures))
-    short.ensures.each in
-    range_more c.args.disk.now c.args.gap.now _ c.args.start c.args.part.from short.result (short.result + 1) before
-    (c.is_light.ensures c.if-is_light.true c.args.disk.now c.args.gap.now c.requires.blocks)
+    let before = range_beaten search c.requires.search c.args.start c.requires.best c.args.part c.requires.part (c.min-short.result + 1)
+    c.args.part.from short.result (omega arith) short.ensures.within (omega (arith, c.min-short.ensures)) short.ensures.each in
+    range_more search.disk.now search.gap.now _ c.args.start c.args.part.from short.result (short.result + 1) before
+    (c.is_light.ensures c.if-is_light.true)
 
 pub returns-clause-tried : goal.returns-clause-tried
 returns-clause-tried c =
+    let search = c.args.search.now in
     let short = c.first_short-from in
-    let best = c.try_if_short in
-    let before = range_beaten _ c.args.gap.now _ c.requires.blocks best.result best.ensures.valued c.args.part c.requires.most
+    let best = c.try_cylinder in
+    let before = range_beaten search c.requires.search best.result best.ensures.valued c.args.part c.requires.part
     (c.min-short.result + 1) c.args.part.from short.result (omega arith) short.ensures.within (omega (arith, c.min-short.ensures))
     short.ensures.each in
-    range_more c.args.disk.now c.args.gap.now _ best.result c.args.part.from short.result (short.result + 1) before best.ensures.tried
+    range_more search.disk.now search.gap.now _ best.result c.args.part.from short.result (short.result + 1) before best.ensures.tried

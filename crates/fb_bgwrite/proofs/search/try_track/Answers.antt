@@ -4,19 +4,28 @@ use Rattle.fb_bgwrite.proofs.search.try_track.Goals as goal
 
 pub returns-then-is_enough-clause-tried : goal.returns-then-is_enough-clause-tried
 returns-then-is_enough-clause-tried c = λ leave is.
-    let disk = c.args.disk.now in
-    let gap = c.args.gap.now in
-    let entries = c.args.pending.now in
+    let disk = c.args.search.now.disk.now in
+    let gap = c.args.search.now.gap.now in
+    let entries = c.args.search.now.pending.now in
     let spill : Spill = record { track = c.args.track; leave = leave } in
     let weight = ap (λ xs. sum_by (λ b. b.weight * b.count) (wanted_of xs)) c.on-blocks.ensures.its in
-    let few : value disk gap (wanted_of entries) spill ≤ c.min.result = omega (arith, c.requires.most leave is, by_weight disk gap entries c.requires.blocks c.args.track leave, c.wanted_weight.ensures.sum, weight, c.min.ensures) in
+    let few : value disk gap (wanted_of entries) spill ≤ c.min.result =
+    omega (
+      arith,
+      c.requires.most leave is,
+      by_weight disk gap entries c.requires.search.blocks c.args.track leave,
+      c.wanted_weight.ensures.sum,
+      weight,
+      c.min.ensures,
+    ) in
     enough_beats disk gap (wanted_of entries) c.args.start c.min.result c.args.track.cylinder spill (c.is_enough.ensures c.if-is_enough.true) few (omega arith)
 
 pub returns-then-most-least_on-clause-tried : goal.returns-then-most-least_on-clause-tried
 returns-then-most-least_on-clause-tried c = λ leave is.
-    let disk = c.args.disk.now in
-    let gap = c.args.gap.now in
-    let entries = c.args.pending.now in
+    let disk = c.args.search.now.disk.now in
+    let gap = c.args.search.now.gap.now in
+    let entries = c.args.search.now.pending.now in
     let spill : Spill = record { track = c.args.track; leave = leave } in
     nothing_beaten disk gap (wanted_of entries) c.args.start spill c.requires.best
-    (too_long_on disk gap entries spill c.requires.blocks.light c.least_on.result c.on-blocks.result c.args.most c.on-blocks.ensures.its c.least_on.ensures.each (c.requires.most leave is) (omega (arith, c.if-most-least_on.true)))
+    (too_long_on disk gap entries spill c.requires.search.blocks.light c.least_on.result c.on-blocks.result c.args.most
+    c.on-blocks.ensures.its c.least_on.ensures.each (c.requires.most leave is) (omega (arith, c.if-most-least_on.true)))
