@@ -4,6 +4,7 @@ use Rattle.fb_params.proofs.Words.{subst, inl, inr, find, option_or, cases_Bool,
 use Rattle.fb_params.proofs.Words.{InRange, Key, front_keys, back_keys, zone_keys, zones_of, breaks, first_in, first_some, unless_fault}
 use Rattle.fb_params.proofs.Words.{keeps}
 use Rattle.std.proofs.lemmas.Option.{same_Some}
+use Rattle.fb_params.specs.Rules.{first_in_zones}
 use Rattle.fb_params.specs.declared.fault.ParamsFault.{ParamsFault}
 
 passed_over : {A : Type 0} (p : A → Bool) (y : A) (ys : List A) → find p (y ∷ ys) ≡ None → (p y ≡ false) × (find p ys ≡ None)
@@ -46,16 +47,20 @@ pub present : (layout : Layout) (table : Members) → keeps Present layout table
 unfolding keeps
 present layout table ok = (none-option_or _ _ (none-unless_fault tt _ _ ok)).0
 
-pub of_kind : (layout : Layout) (table : Members) → keeps OfKind layout table ≡ Ok tt → IsKept OfKind layout table
-unfolding keeps
-of_kind layout table ok =
-    let first = none-option_or _ _ (none-unless_fault tt _ _ ok) in
+-- no key in front, in a zone or behind breaks the rule
+kept : (rule : Rule) (layout : Layout) (table : Members)
+    → option_or (first_in rule front_keys table)
+    (option_or (first_in_zones rule layout table) (first_in rule (back_keys layout) table)) ≡ None
+    → IsKept rule layout table
+kept rule layout table none =
+    let first = none-option_or _ _ none in
     let then_ = none-option_or _ _ first.1 in
     record { front = first.0; zones = none-option_map _ _ then_.0; back = then_.1 }
 
+pub of_kind : (layout : Layout) (table : Members) → keeps OfKind layout table ≡ Ok tt → IsKept OfKind layout table
+unfolding keeps
+of_kind layout table ok = kept OfKind layout table (none-unless_fault tt _ _ ok)
+
 pub in_range : (layout : Layout) (table : Members) → keeps InRange layout table ≡ Ok tt → IsKept InRange layout table
 unfolding keeps
-in_range layout table ok =
-    let first = none-option_or _ _ (none-unless_fault tt _ _ ok) in
-    let then_ = none-option_or _ _ first.1 in
-    record { front = first.0; zones = none-option_map _ _ then_.0; back = then_.1 }
+in_range layout table ok = kept InRange layout table (none-unless_fault tt _ _ ok)

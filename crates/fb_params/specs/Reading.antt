@@ -89,4 +89,3 @@ params_of bytes = do
 -- the value that parameters hold
 abbrev pub held : Parameters → ParamsValue
 held params = record { outline = params.disk.map; mechanics = params.disk.mechanism; sector_bytes = params.disk.sector_bytes; latent = params.latent.items }
-

@@ -42,12 +42,9 @@ pub struct Key {
     pub required: bool,
 }
 
-// A required key, with the range of its numbers and what they are multiples of.
-macro_rules! must {
-    ($name:literal, $kind:expr, $low:literal..=$high:literal) => {
-        must!($name, $kind, $low..=$high, 1)
-    };
-    ($name:literal, $kind:expr, $low:literal..=$high:literal, $multiple:literal) => {
+// A key with the range of its numbers, what they are multiples of, and whether it is required.
+macro_rules! key {
+    ($name:literal, $kind:expr, $low:literal, $high:literal, $multiple:literal, $required:literal) => {
         Key {
             name: $name,
             kind: $kind,
@@ -56,24 +53,25 @@ macro_rules! must {
                 high: $high,
                 multiple: $multiple,
             },
-            required: true,
+            required: $required,
         }
+    };
+}
+
+// A required key.
+macro_rules! must {
+    ($name:literal, $kind:expr, $low:literal..=$high:literal) => {
+        key!($name, $kind, $low, $high, 1, true)
+    };
+    ($name:literal, $kind:expr, $low:literal..=$high:literal, $multiple:literal) => {
+        key!($name, $kind, $low, $high, $multiple, true)
     };
 }
 
 // A key that may be left out.
 macro_rules! may {
     ($name:literal, $kind:expr, $low:literal..=$high:literal) => {
-        Key {
-            name: $name,
-            kind: $kind,
-            range: Range {
-                low: $low,
-                high: $high,
-                multiple: 1,
-            },
-            required: false,
-        }
+        key!($name, $kind, $low, $high, 1, false)
     };
 }
 
@@ -115,8 +113,11 @@ static BACK_WITH_GROWN: [Key; 3] = [
 
 static ZONE: [Key; 6] = of_zone!(may!("spares", Kind::Number, 0..=10_000));
 
-static ZONE_WITH_CYLINDER_SPARES: [Key; 6] =
-    of_zone!(may!("cylinder_spares", Kind::Number, 0..=640_000));
+static ZONE_WITH_CYLINDER_SPARES: [Key; 6] = of_zone!(may!(
+    "cylinder_spares",
+    Kind::Number,
+    0..=640_000
+));
 
 // The keys of the file up to `zone`.
 pub fn front_keys() -> &'static [Key]
