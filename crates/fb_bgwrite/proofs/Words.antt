@@ -85,7 +85,7 @@ pub use Rattle.fb_bgwrite.specs.Choosing.{AreLeast, ArePending, AreTried, Beats,
 pub use Rattle.fb_bgwrite.specs.Choosing.{IsGap, IsKept, IsLastEnd, IsOnly, IsPart, IsSearch, IsShare, IsTried, IsValuedIf, Keeps}
 pub use Rattle.fb_bgwrite.specs.Choosing.{OneEndsAt, block_range}
 pub use Rattle.fb_bgwrite.specs.Gaps.{HasNoFree, RunGap, delivers, gaps}
-pub use Rattle.fb_bgwrite.specs.Shortest.{AreAtLeast, AreLight, IsAtLeast, IsNoShorter, IsUnder}
+pub use Rattle.fb_bgwrite.specs.Shortest.{AreAbove, AreAtLeast, AreLight, IsAtLeast, IsNoShorter, IsUnder}
 pub use Rattle.fb_bgwrite.specs.Spilled.{AreGaps, AreOnce, IsGapOf, IsInTime, IsOfPut, IsSpillRun, fore_ranges, left_over, sectors_in}
 pub use Rattle.fb_bgwrite.specs.Spilling.{IsBest, IsSpill, WritesNothing, ready, stay_of}
 unfoldable pub use Rattle.fb_bgwrite.specs.Spilling.{value}

@@ -12,6 +12,10 @@ AreLight entries = AllByRecursion (λ entry. entry.block.weight ≡ 1) entries
 abbrev pub IsUnder : List ℕ → List ℕ → Type 0
 IsUnder upper lower = (k : ℕ) → get_or upper (k / 32) 2049 ≤ get_or lower k 2049
 
+-- each of these bounds, of those from one index up to another, is greater than this number
+abbrev pub AreAbove : List ℕ → ℕ → ℕ → ℕ → Type 0
+AreAbove bounds most from end = (i : ℕ) → from ≤ i → i < end → most < get_or bounds i 2049
+
 -- the block, if it is pending, has at least as many sectors as its cylinder's bound
 abbrev pub IsNoShorter : List ℕ → Entry → Type 0
 IsNoShorter bounds entry = is_wanted entry.state ≡ true → get_or bounds entry.block.track.cylinder 2049 ≤ entry.block.count

@@ -1,5 +1,6 @@
 // For each cylinder a lower bound on the sectors of its pending blocks.
 ghost use Rattle.std.specs.Prelude.{◌≡◌, ◌⊎◌, ℕ, ◌+◌, ◌<◌, ◌≤◌, ◌==◌, [], min, if◌then◌else◌, get_or, OnOk, OnErr};
+ghost use Rattle.fb_bgwrite.specs.Shortest.{AreAbove};
 
 use fb_units::NoMemory;
 use std::alloc::Global;
@@ -63,7 +64,7 @@ fn end_low(bounds: &[u32], from: u32, end: u32, most: u32) -> u32
     requires short { most ≤ 2048 }
     ensures after { from ≤ result }
     ensures within { result ≤ end }
-    ensures each { (i : ℕ) → result ≤ i → i < end → most < get_or bounds.now i 2049 }
+    ensures each { AreAbove bounds.now most result end }
 {
     let mut next = end;
     while from < next && most < bound_at(bounds, next - 1) {
@@ -142,7 +143,7 @@ impl Shortest {
         requires some { 0 < end }
         requires short { most ≤ 2048 }
         ensures within { result ≤ end }
-        ensures each { (c : ℕ) → result ≤ c → c < end → most < get_or self.now c 2049 }
+        ensures each { AreAbove self.now most result end }
     {
         let band = (end - 1) / WIDTH;
         if bound_at(&self.bands, band) <= most {
@@ -176,7 +177,7 @@ impl Shortest {
         requires short { most ≤ 2048 }
         ensures after { from ≤ result }
         ensures within { result ≤ end }
-        ensures each { (c : ℕ) → result ≤ c → c < end → most < get_or self.now c 2049 }
+        ensures each { AreAbove self.now most result end }
     {
         let mut next = self.known_end(from, end);
         while from < next {
@@ -199,7 +200,7 @@ impl Shortest {
     // or else of its band; 0 if there is one in its band.
     fn long_from(&self, cylinder: u32, most: u32) -> u32
         requires short { most ≤ 2048 }
-        ensures each { (c : ℕ) → cylinder ≤ c → c < cylinder + result → most < get_or self.now c 2049 }
+        ensures each { AreAbove self.now most cylinder (cylinder + result) }
         ensures few { result ≤ 1024 }
     {
         let band = cylinder / WIDTH;
@@ -219,7 +220,7 @@ impl Shortest {
         requires short { most ≤ 2048 }
         ensures after { from ≤ result }
         ensures within { result ≤ end }
-        ensures each { (c : ℕ) → from ≤ c → c < result → most < get_or self.now c 2049 }
+        ensures each { AreAbove self.now most from result }
     {
         let mut next = from;
         while next < end {

@@ -1,4 +1,4 @@
-use Rattle.fb_bgwrite.proofs.Words.{◌<◌, ◌≤◌, ℕ, get_or}
+use Rattle.fb_bgwrite.proofs.Words.{◌≤◌, AreAbove}
 use Rattle.fb_bgwrite.proofs.shortest.end_low.Given as goal
 
 -- the bounds from here on are greater
@@ -6,7 +6,7 @@ abbrev pub invariant-loop-next : goal.invariant-loop-next
 invariant-loop-next l = record {
   after : l.from ≤ l.next;
   within : l.next ≤ l.end;
-  each : (i : ℕ) → l.next ≤ i → i < l.end → l.most < get_or l.bounds i 2049;
+  each : AreAbove l.bounds l.most l.next l.end;
 }
 
 abbrev pub decreases-loop-next : goal.decreases-loop-next

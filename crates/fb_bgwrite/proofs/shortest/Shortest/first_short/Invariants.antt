@@ -1,4 +1,4 @@
-use Rattle.fb_bgwrite.proofs.Words.{◌-◌, ◌<◌, ◌≤◌, ℕ, get_or}
+use Rattle.fb_bgwrite.proofs.Words.{◌-◌, ◌≤◌, AreAbove}
 use Rattle.fb_bgwrite.proofs.shortest.Shortest.first_short.Given as goal
 
 -- the bounds before this one are greater
@@ -6,7 +6,7 @@ abbrev pub invariant-loop-next : goal.invariant-loop-next
 invariant-loop-next l = record {
   after : l.from ≤ l.next;
   within : l.next ≤ l.end;
-  each : (c : ℕ) → l.from ≤ c → c < l.next → l.most < get_or l.self c 2049;
+  each : AreAbove l.self l.most l.from l.next;
 }
 
 abbrev pub decreases-loop-next : goal.decreases-loop-next
