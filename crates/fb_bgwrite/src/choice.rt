@@ -38,11 +38,9 @@ pub fn better(a: Valued, b: Valued) -> Valued
     ensures over_a { IsOver result a }
     ensures over_b { IsOver result b }
 {
-    if a.value < b.value {
-        return b;
+    if b.value < a.value || a.value == b.value && is_no_later(a.spill, b.spill) {
+        a
+    } else {
+        b
     }
-    if b.value < a.value {
-        return a;
-    }
-    if is_no_later(a.spill, b.spill) { a } else { b }
 }
