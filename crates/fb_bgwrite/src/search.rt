@@ -12,7 +12,7 @@ ghost use Rattle.fb_plan.specs.Ways.{AreOnDisk};
 ghost use Rattle.fb_plan.specs.Turns.{added, end_of, passes_by, AreInTurn, IsInTurn, Stands};
 ghost use Rattle.fb_detour.specs.Bounds.{slots_within};
 ghost use Rattle.fb_bgwrite.specs.declared.choice.Spill.{Spill};
-ghost use Rattle.fb_bgwrite.specs.Choosing.{AreLeast, ArePending, AreTried, BeatsOn, IsBestIf, IsEnough, IsFound, IsGap, IsKept};
+ghost use Rattle.fb_bgwrite.specs.Choosing.{AreLeast, ArePending, AreTried, IsBestIf, IsEnough, IsFound, IsGap, IsKept};
 ghost use Rattle.fb_bgwrite.specs.Choosing.{IsLastEnd, IsMostOn, IsOnly, IsPart, IsSearch, IsShare, IsTried, IsValuedIf};
 ghost use Rattle.fb_bgwrite.specs.Shortest.{AreAtLeast};
 ghost use Rattle.fb_bgwrite.specs.Spilling.{value, IsSpill};
@@ -549,7 +549,7 @@ fn try_track(search: &Search, track: Track, most: u64, start: Option<Valued>) ->
     if most < least_on(&blocks, LONGEST) as u64 {
         return start;
     }
-    let found = spill_on(search.disk, search.gap, track, &blocks);
+    let found = spill_on(search, track, &blocks);
     match (start, found) {
         (Some(best), Some(found)) => Some(better(best, found)),
         (None, found) => found,
@@ -557,15 +557,18 @@ fn try_track(search: &Search, track: Track, most: u64, start: Option<Valued>) ->
     }
 }
 
-// The best spill on a track with these blocks: it leaves as the last passage ends that the head can
+// The best spill on a track, whose blocks these are: it leaves as the last passage ends that the head can
 // wait for.
-fn spill_on(disk: &Disk, gap: &Gap, track: Track, blocks: &TrackBlocks) -> Option<Valued>
-    requires track { IsTrackOf disk.now.map track }
-    requires gap { IsGap disk.now gap.now }
-    requires on_disk { AreOnDisk disk.now blocks.now }
-    ensures valued { (entries : List Registered) → ArePending disk.now entries → blocks.now ≡ on_track track entries → IsValuedIf disk.now gap.entry.now (wanted_of entries) result }
-    ensures tried { (entries : List Registered) → ArePending disk.now entries → blocks.now ≡ on_track track entries → BeatsOn disk.now gap.entry.now (wanted_of entries) result track }
+fn spill_on(search: &Search, track: Track, blocks: &TrackBlocks) -> Option<Valued>
+    requires track { IsTrackOf search.now.disk.now.map track }
+    requires search { IsSearch search.now }
+    requires its { blocks.now ≡ on_track track search.now.pending.now }
+    requires on_disk { AreOnDisk search.now.disk.now blocks.now }
+    ensures valued { IsFound search.now result }
+    ensures tried { IsTried search.now result track }
 {
+    let disk = search.disk;
+    let gap = search.gap;
     let begin = gap.now + disk.mechanism.pos(gap.source, track, true);
     let on = disk.mechanism.pos(track, gap.target, gap.write);
     if gap.deadline < begin + on {
