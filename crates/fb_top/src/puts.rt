@@ -41,7 +41,7 @@ pub struct ReplayInputs {
 /// one.
 ///
 /// The error is the outcome of the first input that can't be read or is refused.
-pub fn read_replay<D: Desk>(
+pub fn read_replay_inputs<D: Desk>(
     alloc: Global,
     desk: &mut D,
     words: &ReplayWords,

@@ -81,8 +81,8 @@ struct Load {
 }
 
 impl ReplayFiles {
-    /// The inputs of a replay of these files. `until` is how long the head may go on reading when no request
-    /// and no call is left, in ns, at most 10^15.
+    /// The inputs of a replay of these files. `until` is the instant, in ns, at most 10^15, up to which
+    /// the head goes on reading background when nothing else is left to do.
     pub fn asked(&self, until: Ns) -> Asked<'_>
         ensures inputs { (key : Key) → asked_inputs result key ≡ inputs_of (files_of self.now) key until }
         ensures calls { result.calls.now ≡ self.now.calls }

@@ -22,7 +22,7 @@ ghost use Rattle.fb_top.specs.Unnamed.{KeepsInputs, KeepsUnnamed};
 
 use crate::Outcome;
 use crate::policy::replay_by;
-use crate::puts::{ReplayInputs, read_replay};
+use crate::puts::{ReplayInputs, read_replay_inputs};
 use crate::reading::ReplayFiles;
 use crate::report::write_reports;
 use crate::spill_text::SpillLines;
@@ -46,14 +46,14 @@ pub fn run_replay<D: Desk>(alloc: Global, desk: &mut D, words: &ReplayWords) -> 
     ensures calm { MeetsNoFault result (D.seen desk.old) (D.seen desk.new) }
     ensures no_note { (D.seen desk.new).outputs Output.Note ≡ (D.seen desk.old).outputs Output.Note }
 {
-    match read_replay(alloc, desk, words) {
-        Ok(inputs) => replay_read(alloc, desk, words, &inputs),
+    match read_replay_inputs(alloc, desk, words) {
+        Ok(inputs) => replay_and_write(alloc, desk, words, &inputs),
         Err(outcome) => outcome,
     }
 }
 
 // Replays inputs that were read, and writes what the words ask for.
-fn replay_read<D: Desk>(
+fn replay_and_write<D: Desk>(
     alloc: Global,
     desk: &mut D,
     words: &ReplayWords,

@@ -3,7 +3,7 @@ use Rattle.fb_top.proofs.Later.{replay_stopped}
 use Rattle.fb_top.proofs.replay.run_replay.Goals as goal
 
 pub returns-in-Ok-clause-cause : goal.returns-in-Ok-clause-cause
-returns-in-Ok-clause-cause g c = c.replay_read.ensures.cause (g.D.Desk.seen c.args.desk.now) (record {
+returns-in-Ok-clause-cause g c = c.replay_and_write.ensures.cause (g.D.Desk.seen c.args.desk.now) (record {
   accepts = c.in-Ok.ensures.accepts;
   accepts_puts = c.in-Ok.ensures.puts;
   sound = c.in-Ok.ensures.sound;
@@ -14,5 +14,5 @@ returns-in-Ok-clause-cause g c = c.replay_read.ensures.cause (g.D.Desk.seen c.ar
 
 pub returns-in-Err-clause-cause : goal.returns-in-Err-clause-cause
 returns-in-Err-clause-cause g c =
-    replay_stopped (replay_terms c.args.words.now) (g.D.Desk.seen c.args.desk.now) (g.D.Desk.seen c.read_replay.new.desk) c.in-Err.outcome
+    replay_stopped (replay_terms c.args.words.now) (g.D.Desk.seen c.args.desk.now) (g.D.Desk.seen c.read_replay_inputs.new.desk) c.in-Err.outcome
     c.in-Err.ensures.cause

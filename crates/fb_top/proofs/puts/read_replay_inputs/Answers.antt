@@ -10,7 +10,7 @@ use Rattle.fb_top.specs.Read.{Accepts, AcceptsPuts, files_of, key_of}
 use Rattle.fb_top.specs.Sources.{SourceTerms, files_alone, replay_inputs}
 use Rattle.fb_top.specs.Unnamed.{KeepsUnnamed}
 use Rattle.fb_top.proofs.MoreInputs.{files_opened, files_stopped, files_unnamed, puts_before, puts_calm, puts_opened, puts_stopped, puts_unnamed}
-use Rattle.fb_top.proofs.puts.read_replay.Goals as goal
+use Rattle.fb_top.proofs.puts.read_replay_inputs.Goals as goal
 
 pub returns-in-Err-clause-cause : goal.returns-in-Err-clause-cause
 returns-in-Err-clause-cause g c =

@@ -14,7 +14,7 @@ use Rattle.fb_top.specs.Done.{CanBeTold}
 use Rattle.fb_top.specs.Spilled.{HoldsReplay, StopsReplay}
 use Rattle.fb_top.proofs.Opened.{calm_both}
 use Rattle.fb_top.proofs.Spills.{all_written, at_replay, calm_done, replay_ran_out}
-use Rattle.fb_top.proofs.replay.replay_read.Goals as goal
+use Rattle.fb_top.proofs.replay.replay_and_write.Goals as goal
 
 pub replay_by-requires : goal.replay_by-requires
 replay_by-requires g c = record {
