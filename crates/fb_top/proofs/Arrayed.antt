@@ -57,37 +57,14 @@ module _ (terms : ArrayTerms) (old mid late new : DeskView) (runs : List Run) (a
   pub at_texts : (outcome : Outcome) → StopsTexts (array_texts terms are_runs.array runs) mid late outcome → ArrayHasCause terms old new outcome
   at_texts (outcomes.WriteFault output) h = array_cut (outcomes.WriteFault output) h
   at_texts outcomes.NoMemory h = inr (array_cut outcomes.NoMemory h)
-  at_texts (outcomes.Done run) h = absurd h
-  at_texts (outcomes.Made n) h = absurd h
-  at_texts (outcomes.Checked verdict) h = absurd h
-  at_texts (outcomes.Arrayed others copy) h = absurd h
-  at_texts (outcomes.Spilled ran spilled) h = absurd h
-  at_texts (outcomes.Puts fault) h = absurd h
-  at_texts (outcomes.Usage fault) h = absurd h
-  at_texts (outcomes.Params fault) h = absurd h
-  at_texts (outcomes.Trace fault) h = absurd h
-  at_texts (outcomes.Calls fault) h = absurd h
-  at_texts (outcomes.Reports fault) h = absurd h
-  at_texts (outcomes.TooLong input) h = absurd h
-  at_texts (outcomes.ReadFault input) h = absurd h
+  at_texts _ h = absurd h
 
 -- why the inputs were not accepted
 pub array_stopped : (terms : ArrayTerms) (old new : DeskView) (outcome : Outcome) → StopsArray terms old new outcome → ArrayHasCause terms old new outcome
 array_stopped terms old new outcomes.NoMemory h = inl h
-array_stopped terms old new (outcomes.Done run) h = absurd h
-array_stopped terms old new (outcomes.Made n) h = absurd h
-array_stopped terms old new (outcomes.Checked verdict) h = absurd h
 array_stopped terms old new (outcomes.Arrayed runs copy) h = absurd h
-array_stopped terms old new (outcomes.Spilled ran spilled) h = absurd h
-array_stopped terms old new (outcomes.Usage fault) h = absurd h
-array_stopped terms old new (outcomes.Params fault) h = h
-array_stopped terms old new (outcomes.Trace fault) h = h
-array_stopped terms old new (outcomes.Calls fault) h = h
-array_stopped terms old new (outcomes.Puts fault) h = h
-array_stopped terms old new (outcomes.Reports fault) h = h
-array_stopped terms old new (outcomes.TooLong input) h = h
-array_stopped terms old new (outcomes.ReadFault input) h = h
 array_stopped terms old new (outcomes.WriteFault output) h = absurd h
+array_stopped terms old new _ h = h
 
 -- memory ran out after the files were read
 pub ran_out : {terms : ArrayTerms} {array : Array} {old new : DeskView} → TakesArray terms array old new

@@ -27,21 +27,10 @@ use Rattle.fb_top.proofs.MoreInputs.{files_stopped}
 module _ (terms : CheckTerms) (old new : DeskView) where
   -- why the inputs were not accepted
   check_stopped : (outcome : Outcome) → StopsInputs (check_inputs terms) old new outcome → CheckHasCause terms old new outcome
-  check_stopped (outcomes.Params fault) h = h
-  check_stopped (outcomes.Trace fault) h = h
-  check_stopped (outcomes.Calls fault) h = h
-  check_stopped (outcomes.Puts fault) h = h
-  check_stopped (outcomes.Reports fault) h = h
-  check_stopped (outcomes.TooLong input) h = h
-  check_stopped (outcomes.ReadFault input) h = h
   check_stopped outcomes.NoMemory h = inl h
-  check_stopped (outcomes.Done run) h = absurd h
-  check_stopped (outcomes.Made n) h = absurd h
   check_stopped (outcomes.Checked verdict) h = absurd h
-  check_stopped (outcomes.Usage fault) h = absurd h
-  check_stopped (outcomes.Arrayed runs copy) h = absurd h
-  check_stopped (outcomes.Spilled ran spilled) h = absurd h
   check_stopped (outcomes.WriteFault output) h = absurd h
+  check_stopped _ h = h
 
   -- why the files were not read
   pub check_files_stopped : (outcome : Outcome) → StopsInputs (files_alone (check_sources terms)) old new outcome → CheckHasCause terms old new outcome
@@ -119,17 +108,7 @@ module _ (terms : CheckTerms) (old mid new : DeskView) (held : (name : List ℕ)
     fore_stopped (outcomes.TooLong input) h later = long_here input ForeReport terms.fore h.0 files refl (longer_before terms.fore h.1) (ends_fore later)
     fore_stopped (outcomes.ReadFault input) h later = unread_here input ForeReport h.0 files refl untouched.0 h.1 (ends_fore later)
     fore_stopped outcomes.NoMemory h later = inl (record { input = ForeReport; before = files; ends = ends_fore later })
-    fore_stopped (outcomes.Done run) h later = absurd h
-    fore_stopped (outcomes.Made n) h later = absurd h
-    fore_stopped (outcomes.Checked verdict) h later = absurd h
-    fore_stopped (outcomes.Usage fault) h later = absurd h
-    fore_stopped (outcomes.Arrayed runs copy) h later = absurd h
-    fore_stopped (outcomes.Spilled ran spilled) h later = absurd h
-    fore_stopped (outcomes.Puts fault) h later = absurd h
-    fore_stopped (outcomes.Params fault) h later = absurd h
-    fore_stopped (outcomes.Trace fault) h later = absurd h
-    fore_stopped (outcomes.Calls fault) h later = absurd h
-    fore_stopped (outcomes.WriteFault output) h later = absurd h
+    fore_stopped _ h later = absurd h
 
     -- or the background report
     back_stopped : (outcome : Outcome) → AcceptsFore old (check_inputs terms) → StopsReport reports.Back terms.back mid new outcome → CheckHasCause terms old new outcome
@@ -137,17 +116,7 @@ module _ (terms : CheckTerms) (old mid new : DeskView) (held : (name : List ℕ)
     back_stopped (outcomes.TooLong input) before h = long_here input BackReport terms.back h.0 before refl (longer_before terms.back h.1) ends_back
     back_stopped (outcomes.ReadFault input) before h = unread_here input BackReport h.0 before refl untouched.1 h.1 ends_back
     back_stopped outcomes.NoMemory before h = inl (record { input = BackReport; before = before; ends = ends_back })
-    back_stopped (outcomes.Done run) before h = absurd h
-    back_stopped (outcomes.Made n) before h = absurd h
-    back_stopped (outcomes.Checked verdict) before h = absurd h
-    back_stopped (outcomes.Usage fault) before h = absurd h
-    back_stopped (outcomes.Arrayed runs copy) before h = absurd h
-    back_stopped (outcomes.Spilled ran spilled) before h = absurd h
-    back_stopped (outcomes.Puts fault) before h = absurd h
-    back_stopped (outcomes.Params fault) before h = absurd h
-    back_stopped (outcomes.Trace fault) before h = absurd h
-    back_stopped (outcomes.Calls fault) before h = absurd h
-    back_stopped (outcomes.WriteFault output) before h = absurd h
+    back_stopped _ before h = absurd h
 
     -- why no verdict was reached
     pub printed_stopped : (outcome : Outcome) → StopsPrinted terms mid new outcome → CheckHasCause terms old new outcome
@@ -182,16 +151,4 @@ module _ (terms : CheckTerms) (old mid new : DeskView) (verdict : Verdict) (is_v
   pub line_stopped : (outcome : Outcome) → StopsText Fore (codes "-") (verdict_line verdict) mid new outcome → CheckHasCause terms old new outcome
   line_stopped (outcomes.WriteFault output) h = cut (outcomes.WriteFault output) h
   line_stopped outcomes.NoMemory h = inr (cut outcomes.NoMemory h)
-  line_stopped (outcomes.Done run) h = absurd h
-  line_stopped (outcomes.Made n) h = absurd h
-  line_stopped (outcomes.Checked other) h = absurd h
-  line_stopped (outcomes.Usage fault) h = absurd h
-  line_stopped (outcomes.Arrayed runs copy) h = absurd h
-  line_stopped (outcomes.Spilled ran spilled) h = absurd h
-  line_stopped (outcomes.Puts fault) h = absurd h
-  line_stopped (outcomes.Params fault) h = absurd h
-  line_stopped (outcomes.Trace fault) h = absurd h
-  line_stopped (outcomes.Calls fault) h = absurd h
-  line_stopped (outcomes.Reports fault) h = absurd h
-  line_stopped (outcomes.TooLong input) h = absurd h
-  line_stopped (outcomes.ReadFault input) h = absurd h
+  line_stopped _ h = absurd h

@@ -186,60 +186,22 @@ module _ (old new : DeskView) (terms : InputTerms) (well : ReadsWell old new ter
   goes_on (outcomes.TooLong input) cause = absurd (not_too_long input cause.0)
   goes_on (outcomes.ReadFault input) cause = absurd (well.calm input cause.0.rose)
   goes_on outcomes.NoMemory cause = refl
-  goes_on (outcomes.Done run) cause = absurd cause
-  goes_on (outcomes.Made n) cause = absurd cause
-  goes_on (outcomes.Checked verdict) cause = absurd cause
-  goes_on (outcomes.Usage fault) cause = absurd cause
-  goes_on (outcomes.Arrayed runs copy) cause = absurd cause
-  goes_on (outcomes.Spilled ran spilled) cause = absurd cause
-  goes_on (outcomes.WriteFault output) cause = absurd cause
+  goes_on _ cause = absurd cause
 
 module _ (old new : DeskView) (terms : ReplayTerms) (well : GoesWell old new terms) where
   not_cut_short : (outcome : Outcome) → IsCutShort old new terms outcome → IsMade outcome
   not_cut_short (outcomes.WriteFault Fore) cut = absurd (well.fore cut.stops.0)
   not_cut_short (outcomes.WriteFault Back) cut = absurd (well.back cut.stops.0)
-  not_cut_short (outcomes.WriteFault Note) cut = absurd cut.stops
-  not_cut_short (outcomes.WriteFault Copied) cut = absurd cut.stops
-  not_cut_short (outcomes.WriteFault Spill) cut = absurd cut.stops
-  not_cut_short (outcomes.WriteFault MadeTrace) cut = absurd cut.stops
-  not_cut_short (outcomes.WriteFault MadeCalls) cut = absurd cut.stops
   not_cut_short outcomes.NoMemory cut = tt
   not_cut_short (outcomes.Done run) cut = tt
-  not_cut_short (outcomes.Made n) cut = absurd cut.stops
-  not_cut_short (outcomes.Checked verdict) cut = absurd cut.stops
-  not_cut_short (outcomes.Reports fault) cut = absurd cut.stops
-  not_cut_short (outcomes.Usage fault) cut = absurd cut.stops
-  not_cut_short (outcomes.Arrayed runs copy) cut = absurd cut.stops
-  not_cut_short (outcomes.Spilled ran spilled) cut = absurd cut.stops
-  not_cut_short (outcomes.Puts fault) cut = absurd cut.stops
-  not_cut_short (outcomes.Params fault) cut = absurd cut.stops
-  not_cut_short (outcomes.Trace fault) cut = absurd cut.stops
-  not_cut_short (outcomes.Calls fault) cut = absurd cut.stops
-  not_cut_short (outcomes.TooLong input) cut = absurd cut.stops
-  not_cut_short (outcomes.ReadFault input) cut = absurd cut.stops
+  not_cut_short _ cut = absurd cut.stops
 
   no_spill_cut : (outcome : Outcome) → IsSpillCut old new terms outcome → IsMade outcome
   no_spill_cut (outcomes.WriteFault Spill) cut = absurd (well.spill cut.stops.0)
-  no_spill_cut (outcomes.WriteFault Fore) cut = absurd cut.stops
-  no_spill_cut (outcomes.WriteFault Back) cut = absurd cut.stops
-  no_spill_cut (outcomes.WriteFault Note) cut = absurd cut.stops
-  no_spill_cut (outcomes.WriteFault Copied) cut = absurd cut.stops
-  no_spill_cut (outcomes.WriteFault MadeTrace) cut = absurd cut.stops
-  no_spill_cut (outcomes.WriteFault MadeCalls) cut = absurd cut.stops
   no_spill_cut outcomes.NoMemory cut = tt
   no_spill_cut (outcomes.Done run) cut = tt
   no_spill_cut (outcomes.Spilled run spill) cut = tt
-  no_spill_cut (outcomes.Made n) cut = absurd cut.stops
-  no_spill_cut (outcomes.Checked verdict) cut = absurd cut.stops
-  no_spill_cut (outcomes.Reports fault) cut = absurd cut.stops
-  no_spill_cut (outcomes.Usage fault) cut = absurd cut.stops
-  no_spill_cut (outcomes.Arrayed runs copy) cut = absurd cut.stops
-  no_spill_cut (outcomes.Params fault) cut = absurd cut.stops
-  no_spill_cut (outcomes.Trace fault) cut = absurd cut.stops
-  no_spill_cut (outcomes.Calls fault) cut = absurd cut.stops
-  no_spill_cut (outcomes.Puts fault) cut = absurd cut.stops
-  no_spill_cut (outcomes.TooLong input) cut = absurd cut.stops
-  no_spill_cut (outcomes.ReadFault input) cut = absurd cut.stops
+  no_spill_cut _ cut = absurd cut.stops
 
   not_cut : (outcome : Outcome) → IsCut old new terms outcome → IsMade outcome
   not_cut outcome (inl cut) = not_cut_short outcome cut
@@ -250,20 +212,10 @@ module _ (old new : DeskView) (terms : ReplayTerms) (well : GoesWell old new ter
 
   made : (outcome : Outcome) → HasCause terms old new outcome → IsMade outcome
   made (outcomes.Done run) cause = tt
-  made (outcomes.Made n) cause = absurd cause
-  made (outcomes.Checked verdict) cause = absurd cause
-  made (outcomes.Usage fault) cause = absurd cause
-  made (outcomes.Arrayed runs copy) cause = absurd cause
   made (outcomes.Spilled ran spilled) cause = tt
-  made (outcomes.Puts fault) cause = stopped (outcomes.Puts fault) cause
-  made (outcomes.Params fault) cause = stopped (outcomes.Params fault) cause
-  made (outcomes.Trace fault) cause = stopped (outcomes.Trace fault) cause
-  made (outcomes.Calls fault) cause = stopped (outcomes.Calls fault) cause
-  made (outcomes.Reports fault) cause = stopped (outcomes.Reports fault) cause
-  made (outcomes.TooLong input) cause = stopped (outcomes.TooLong input) cause
-  made (outcomes.ReadFault input) cause = stopped (outcomes.ReadFault input) cause
   made (outcomes.WriteFault output) cause = not_cut (outcomes.WriteFault output) cause
   made outcomes.NoMemory cause = tt
+  made outcome cause = stopped outcome cause
 
 module _ (old new : DeskView) (terms : CheckTerms) (well : CheckGoesWell old new terms) where
   check_stopped : (outcome : Outcome) → StopsInputs (check_inputs terms) old new outcome → IsJudged outcome
@@ -271,54 +223,20 @@ module _ (old new : DeskView) (terms : CheckTerms) (well : CheckGoesWell old new
 
   judged : (outcome : Outcome) → CheckHasCause terms old new outcome → IsJudged outcome
   judged (outcomes.Checked verdict) cause = tt
-  judged (outcomes.Done run) cause = absurd cause
-  judged (outcomes.Made n) cause = absurd cause
-  judged (outcomes.Usage fault) cause = absurd cause
-  judged (outcomes.Arrayed runs copy) cause = absurd cause
-  judged (outcomes.Spilled ran spilled) cause = absurd cause
-  judged (outcomes.Puts fault) cause = check_stopped (outcomes.Puts fault) cause
-  judged (outcomes.Params fault) cause = check_stopped (outcomes.Params fault) cause
-  judged (outcomes.Trace fault) cause = check_stopped (outcomes.Trace fault) cause
-  judged (outcomes.Calls fault) cause = check_stopped (outcomes.Calls fault) cause
-  judged (outcomes.Reports fault) cause = check_stopped (outcomes.Reports fault) cause
-  judged (outcomes.TooLong input) cause = check_stopped (outcomes.TooLong input) cause
-  judged (outcomes.ReadFault input) cause = check_stopped (outcomes.ReadFault input) cause
   judged (outcomes.WriteFault output) cause = absurd (well.fore cause.stops.1)
   judged outcomes.NoMemory cause = tt
+  judged outcome cause = check_stopped outcome cause
 
 made_texts : (old new : DeskView) (terms : MakeTerms) (outcome : Outcome) → MakeHasCause terms old new outcome → MakeGoesWell old new terms → MakesAll terms outcome
 made_texts old new terms (outcomes.Made n) cause well = cause.count
-made_texts old new terms (outcomes.Done run) cause well = absurd cause
-made_texts old new terms (outcomes.Usage fault) cause well = absurd cause
-made_texts old new terms (outcomes.Arrayed runs copy) cause well = absurd cause
-made_texts old new terms (outcomes.Spilled ran spilled) cause well = absurd cause
-made_texts old new terms (outcomes.Puts fault) cause well = absurd cause
-made_texts old new terms (outcomes.Checked verdict) cause well = absurd cause
-made_texts old new terms (outcomes.Reports fault) cause well = absurd cause
 made_texts old new terms (outcomes.Params fault) cause well = not_refused old terms.params well.makes.disk well.makes.latent well.params_told well.makes.reads_disk fault cause.0
-made_texts old new terms (outcomes.Trace fault) cause well = absurd cause
-made_texts old new terms (outcomes.Calls fault) cause well = absurd cause
 made_texts old new terms (outcomes.TooLong Params) cause well =
     not_longer (old.held terms.params) well.makes.reads_disk.bytes (2 ^ 20) well.params_told well.makes.reads_disk.held well.makes.reads_disk.within cause.0
-made_texts old new terms (outcomes.TooLong Trace) cause well = absurd cause
-made_texts old new terms (outcomes.TooLong Calls) cause well = absurd cause
-made_texts old new terms (outcomes.TooLong Puts) cause well = absurd cause
-made_texts old new terms (outcomes.TooLong ForeReport) cause well = absurd cause
-made_texts old new terms (outcomes.TooLong BackReport) cause well = absurd cause
 made_texts old new terms (outcomes.ReadFault Params) cause well = well.params cause.0
-made_texts old new terms (outcomes.ReadFault Trace) cause well = absurd cause
-made_texts old new terms (outcomes.ReadFault Calls) cause well = absurd cause
-made_texts old new terms (outcomes.ReadFault Puts) cause well = absurd cause
-made_texts old new terms (outcomes.ReadFault ForeReport) cause well = absurd cause
-made_texts old new terms (outcomes.ReadFault BackReport) cause well = absurd cause
 made_texts old new terms (outcomes.WriteFault MadeTrace) cause well = absurd (well.trace cause.0)
 made_texts old new terms (outcomes.WriteFault MadeCalls) cause well = absurd (well.calls cause.0)
-made_texts old new terms (outcomes.WriteFault Fore) cause well = absurd cause
-made_texts old new terms (outcomes.WriteFault Back) cause well = absurd cause
-made_texts old new terms (outcomes.WriteFault Note) cause well = absurd cause
-made_texts old new terms (outcomes.WriteFault Copied) cause well = absurd cause
-made_texts old new terms (outcomes.WriteFault Spill) cause well = absurd cause
 made_texts old new terms outcomes.NoMemory cause well = tt
+made_texts old new terms _ cause well = absurd cause
 
 -- nor is what an array needs
 module _ (old new : DeskView) (terms : ArrayTerms) (well : ArrayGoesWell old new terms) where
@@ -358,7 +276,6 @@ module _ (old new : DeskView) (terms : ArrayTerms) (well : ArrayGoesWell old new
 
   replayed : (outcome : Outcome) → ArrayHasCause terms old new outcome → IsReplayed outcome
   replayed (outcomes.Arrayed runs copy) cause = tt
-  replayed (outcomes.Spilled ran spilled) cause = absurd cause
   replayed (outcomes.Puts fault) cause = absurd (is_named cause.0.name (sym cause.0.given))
   replayed (outcomes.Params fault) cause = absurd (not_refused old terms.params well.array.disk well.array.latent well.params_told well.accepts.disk fault cause.0)
   replayed (outcomes.Trace fault) cause = absurd (devices_once fault cause.0)
@@ -369,10 +286,7 @@ module _ (old new : DeskView) (terms : ArrayTerms) (well : ArrayGoesWell old new
   replayed (outcomes.WriteFault output) cause =
       absurd (well.outputs output (cut_is_no_note output (array_texts terms cause.are_runs.array cause.runs) old new (texts_no_note terms cause.are_runs.array cause.runs) cause.stops.1) cause.stops.0)
   replayed outcomes.NoMemory cause = tt
-  replayed (outcomes.Done run) cause = absurd cause
-  replayed (outcomes.Made n) cause = absurd cause
-  replayed (outcomes.Checked verdict) cause = absurd cause
-  replayed (outcomes.Usage fault) cause = absurd cause
+  replayed _ cause = absurd cause
 
 -- an answer with its cause is complete
 pub complete : (reading : Result Terms UsageFault) (old new : DeskView) (outcome : Outcome) → AnswersWords reading old new outcome → IsComplete reading old new outcome

@@ -36,21 +36,9 @@ sources terms = record { params = terms.params; trace = terms.trace; calls = Non
 
 -- why the parameter file was not read
 pub array_at_params : (terms : ArrayTerms) (old new : DeskView) (outcome : Outcome) → ChangesInput Params old new → StopsDisk terms.params old new outcome → StopsArray terms old new outcome
-array_at_params terms old new (outcomes.Done run) only h = at_params (sources terms) old new (outcomes.Done run) only h
-array_at_params terms old new (outcomes.Made n) only h = at_params (sources terms) old new (outcomes.Made n) only h
-array_at_params terms old new (outcomes.Checked verdict) only h = at_params (sources terms) old new (outcomes.Checked verdict) only h
-array_at_params terms old new (outcomes.Arrayed runs copy) only h = at_params (sources terms) old new (outcomes.Arrayed runs copy) only h
-array_at_params terms old new (outcomes.Spilled ran spilled) only h = at_params (sources terms) old new (outcomes.Spilled ran spilled) only h
-array_at_params terms old new (outcomes.Puts fault) only h = at_params (sources terms) old new (outcomes.Puts fault) only h
-array_at_params terms old new (outcomes.Usage fault) only h = at_params (sources terms) old new (outcomes.Usage fault) only h
-array_at_params terms old new (outcomes.Params fault) only h = at_params (sources terms) old new (outcomes.Params fault) only h
 array_at_params terms old new (outcomes.Trace fault) only h = absurd h
 array_at_params terms old new (outcomes.Calls fault) only h = absurd h
-array_at_params terms old new (outcomes.Reports fault) only h = at_params (sources terms) old new (outcomes.Reports fault) only h
-array_at_params terms old new (outcomes.TooLong input) only h = at_params (sources terms) old new (outcomes.TooLong input) only h
-array_at_params terms old new (outcomes.ReadFault input) only h = at_params (sources terms) old new (outcomes.ReadFault input) only h
-array_at_params terms old new (outcomes.WriteFault output) only h = at_params (sources terms) old new (outcomes.WriteFault output) only h
-array_at_params terms old new outcomes.NoMemory only h = at_params (sources terms) old new outcomes.NoMemory only h
+array_at_params terms old new outcome only h = at_params (sources terms) old new outcome only h
 
 -- the trace is held before as it is held after the parameter file was read
 pub traces_before : (old mid : DeskView) (name : List ℕ) (devices : ℕ) (disk : Disk) (traces : List Accepted) → ChangesInput Params old mid → ReadsTraces mid name devices disk traces → ReadsTraces old name devices disk traces
@@ -79,27 +67,7 @@ array_at_trace terms old mid new (outcomes.Trace fault) before first second h = 
 array_at_trace terms old mid new (outcomes.TooLong Trace) before first second h = at_trace (sources terms) old mid new (outcomes.TooLong Trace) before first second h
 array_at_trace terms old mid new (outcomes.ReadFault Trace) before first second h = at_trace (sources terms) old mid new (outcomes.ReadFault Trace) before first second h
 array_at_trace terms old mid new outcomes.NoMemory before first second h = at_trace (sources terms) old mid new outcomes.NoMemory before first second h
-array_at_trace terms old mid new (outcomes.Done run) before first second h = absurd h
-array_at_trace terms old mid new (outcomes.Made n) before first second h = absurd h
-array_at_trace terms old mid new (outcomes.Checked verdict) before first second h = absurd h
-array_at_trace terms old mid new (outcomes.Arrayed runs copy) before first second h = absurd h
-array_at_trace terms old mid new (outcomes.Spilled ran spilled) before first second h = absurd h
-array_at_trace terms old mid new (outcomes.Puts fault) before first second h = absurd h
-array_at_trace terms old mid new (outcomes.Usage fault) before first second h = absurd h
-array_at_trace terms old mid new (outcomes.Params fault) before first second h = absurd h
-array_at_trace terms old mid new (outcomes.Calls fault) before first second h = absurd h
-array_at_trace terms old mid new (outcomes.Reports fault) before first second h = absurd h
-array_at_trace terms old mid new (outcomes.TooLong Params) before first second h = absurd h
-array_at_trace terms old mid new (outcomes.TooLong Calls) before first second h = absurd h
-array_at_trace terms old mid new (outcomes.TooLong Puts) before first second h = absurd h
-array_at_trace terms old mid new (outcomes.TooLong ForeReport) before first second h = absurd h
-array_at_trace terms old mid new (outcomes.TooLong BackReport) before first second h = absurd h
-array_at_trace terms old mid new (outcomes.ReadFault Params) before first second h = absurd h
-array_at_trace terms old mid new (outcomes.ReadFault Calls) before first second h = absurd h
-array_at_trace terms old mid new (outcomes.ReadFault Puts) before first second h = absurd h
-array_at_trace terms old mid new (outcomes.ReadFault ForeReport) before first second h = absurd h
-array_at_trace terms old mid new (outcomes.ReadFault BackReport) before first second h = absurd h
-array_at_trace terms old mid new (outcomes.WriteFault output) before first second h = absurd h
+array_at_trace terms old mid new _ before first second h = absurd h
 
 -- why the script of the rebuild has no calls
 pub array_at_rebuild : (terms : ArrayTerms) (old mid new : DeskView) (outcome : Outcome) (before : AcceptsDisk old terms.params) (traces : List Accepted)
@@ -108,29 +76,7 @@ pub array_at_rebuild : (terms : ArrayTerms) (old mid new : DeskView) (outcome : 
 array_at_rebuild terms old mid new (outcomes.Calls fault) before traces reads first second h =
     (record { before = before; traces = traces; reads_traces = reads; given = h.0; refuses = h.1 }, ends_at_trace old mid new first second)
 array_at_rebuild terms old mid new outcomes.NoMemory before traces reads first second h = record { input = Trace; before = before; ends = ends_at_trace old mid new first second }
-array_at_rebuild terms old mid new (outcomes.Done run) before traces reads first second h = absurd h
-array_at_rebuild terms old mid new (outcomes.Made n) before traces reads first second h = absurd h
-array_at_rebuild terms old mid new (outcomes.Checked verdict) before traces reads first second h = absurd h
-array_at_rebuild terms old mid new (outcomes.Arrayed runs copy) before traces reads first second h = absurd h
-array_at_rebuild terms old mid new (outcomes.Spilled ran spilled) before traces reads first second h = absurd h
-array_at_rebuild terms old mid new (outcomes.Puts fault) before traces reads first second h = absurd h
-array_at_rebuild terms old mid new (outcomes.Usage fault) before traces reads first second h = absurd h
-array_at_rebuild terms old mid new (outcomes.Params fault) before traces reads first second h = absurd h
-array_at_rebuild terms old mid new (outcomes.Trace fault) before traces reads first second h = absurd h
-array_at_rebuild terms old mid new (outcomes.Reports fault) before traces reads first second h = absurd h
-array_at_rebuild terms old mid new (outcomes.TooLong Params) before traces reads first second h = absurd h
-array_at_rebuild terms old mid new (outcomes.TooLong Trace) before traces reads first second h = absurd h
-array_at_rebuild terms old mid new (outcomes.TooLong Calls) before traces reads first second h = absurd h
-array_at_rebuild terms old mid new (outcomes.TooLong Puts) before traces reads first second h = absurd h
-array_at_rebuild terms old mid new (outcomes.TooLong ForeReport) before traces reads first second h = absurd h
-array_at_rebuild terms old mid new (outcomes.TooLong BackReport) before traces reads first second h = absurd h
-array_at_rebuild terms old mid new (outcomes.ReadFault Params) before traces reads first second h = absurd h
-array_at_rebuild terms old mid new (outcomes.ReadFault Trace) before traces reads first second h = absurd h
-array_at_rebuild terms old mid new (outcomes.ReadFault Calls) before traces reads first second h = absurd h
-array_at_rebuild terms old mid new (outcomes.ReadFault Puts) before traces reads first second h = absurd h
-array_at_rebuild terms old mid new (outcomes.ReadFault ForeReport) before traces reads first second h = absurd h
-array_at_rebuild terms old mid new (outcomes.ReadFault BackReport) before traces reads first second h = absurd h
-array_at_rebuild terms old mid new (outcomes.WriteFault output) before traces reads first second h = absurd h
+array_at_rebuild terms old mid new _ before traces reads first second h = absurd h
 
 -- no calls are a script
 empty_script : (disk : Shape) (traced : ℕ) → IsScript disk traced []

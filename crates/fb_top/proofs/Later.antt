@@ -83,27 +83,7 @@ at_params words old new (outcomes.Params fault) only h = (h, ends_at_params old 
 at_params words old new (outcomes.TooLong Params) only h = (record { before = tt; name = words.params; given = refl; longer = h }, ends_at_params old new only)
 at_params words old new (outcomes.ReadFault Params) only h = (record { before = tt; given = refl; rose = h }, ends_at_params old new only)
 at_params words old new outcomes.NoMemory only h = (record { input = Params; before = tt; ends = ends_at_params old new only })
-at_params words old new (outcomes.Done run) only h = absurd h
-at_params words old new (outcomes.Made n) only h = absurd h
-at_params words old new (outcomes.Checked verdict) only h = absurd h
-at_params words old new (outcomes.Reports fault) only h = absurd h
-at_params words old new (outcomes.Usage fault) only h = absurd h
-at_params words old new (outcomes.Arrayed runs copy) only h = absurd h
-at_params words old new (outcomes.Spilled ran spilled) only h = absurd h
-at_params words old new (outcomes.Puts fault) only h = absurd h
-at_params words old new (outcomes.Trace fault) only h = absurd h
-at_params words old new (outcomes.Calls fault) only h = absurd h
-at_params words old new (outcomes.TooLong Trace) only h = absurd h
-at_params words old new (outcomes.TooLong Calls) only h = absurd h
-at_params words old new (outcomes.TooLong Puts) only h = absurd h
-at_params words old new (outcomes.TooLong ForeReport) only h = absurd h
-at_params words old new (outcomes.TooLong BackReport) only h = absurd h
-at_params words old new (outcomes.ReadFault Trace) only h = absurd h
-at_params words old new (outcomes.ReadFault Calls) only h = absurd h
-at_params words old new (outcomes.ReadFault Puts) only h = absurd h
-at_params words old new (outcomes.ReadFault ForeReport) only h = absurd h
-at_params words old new (outcomes.ReadFault BackReport) only h = absurd h
-at_params words old new (outcomes.WriteFault output) only h = absurd h
+at_params words old new _ only h = absurd h
 
 -- why the trace was not read
 pub at_trace : (words : SourceTerms) (old mid new : DeskView) (outcome : Outcome) (before : AcceptsDisk old words.params) → ChangesInput Params old mid → ChangesInput Trace mid new
@@ -134,27 +114,7 @@ at_trace words old mid new (outcomes.ReadFault Trace) before first second h = (
   ends_at_trace old mid new first second,
 )
 at_trace words old mid new outcomes.NoMemory before first second h = (record { input = Trace; before = before; ends = ends_at_trace old mid new first second })
-at_trace words old mid new (outcomes.Done run) before first second h = absurd h
-at_trace words old mid new (outcomes.Made n) before first second h = absurd h
-at_trace words old mid new (outcomes.Checked verdict) before first second h = absurd h
-at_trace words old mid new (outcomes.Reports fault) before first second h = absurd h
-at_trace words old mid new (outcomes.Usage fault) before first second h = absurd h
-at_trace words old mid new (outcomes.Arrayed runs copy) before first second h = absurd h
-at_trace words old mid new (outcomes.Spilled ran spilled) before first second h = absurd h
-at_trace words old mid new (outcomes.Puts fault) before first second h = absurd h
-at_trace words old mid new (outcomes.Params fault) before first second h = absurd h
-at_trace words old mid new (outcomes.Calls fault) before first second h = absurd h
-at_trace words old mid new (outcomes.TooLong Params) before first second h = absurd h
-at_trace words old mid new (outcomes.TooLong Calls) before first second h = absurd h
-at_trace words old mid new (outcomes.TooLong Puts) before first second h = absurd h
-at_trace words old mid new (outcomes.TooLong ForeReport) before first second h = absurd h
-at_trace words old mid new (outcomes.TooLong BackReport) before first second h = absurd h
-at_trace words old mid new (outcomes.ReadFault Params) before first second h = absurd h
-at_trace words old mid new (outcomes.ReadFault Calls) before first second h = absurd h
-at_trace words old mid new (outcomes.ReadFault Puts) before first second h = absurd h
-at_trace words old mid new (outcomes.ReadFault ForeReport) before first second h = absurd h
-at_trace words old mid new (outcomes.ReadFault BackReport) before first second h = absurd h
-at_trace words old mid new (outcomes.WriteFault output) before first second h = absurd h
+at_trace words old mid new _ before first second h = absurd h
 
 pub has_name : (given : Option (List ℕ)) (name : List ℕ) → given ≡ Some name → is_some given ≡ true
 has_name given name e = cc
@@ -195,27 +155,7 @@ at_calls words old mid late new (outcomes.ReadFault Calls) before name given fir
   ends_at_calls old mid late new first second third,
 )
 at_calls words old mid late new outcomes.NoMemory before name given first second third h = (record { input = Calls; before = before; ends = ends_at_calls old mid late new first second third })
-at_calls words old mid late new (outcomes.Done run) before name given first second third h = absurd h
-at_calls words old mid late new (outcomes.Made n) before name given first second third h = absurd h
-at_calls words old mid late new (outcomes.Checked verdict) before name given first second third h = absurd h
-at_calls words old mid late new (outcomes.Reports fault) before name given first second third h = absurd h
-at_calls words old mid late new (outcomes.Usage fault) before name given first second third h = absurd h
-at_calls words old mid late new (outcomes.Arrayed runs copy) before name given first second third h = absurd h
-at_calls words old mid late new (outcomes.Spilled ran spilled) before name given first second third h = absurd h
-at_calls words old mid late new (outcomes.Puts fault) before name given first second third h = absurd h
-at_calls words old mid late new (outcomes.Params fault) before name given first second third h = absurd h
-at_calls words old mid late new (outcomes.Trace fault) before name given first second third h = absurd h
-at_calls words old mid late new (outcomes.TooLong Params) before name given first second third h = absurd h
-at_calls words old mid late new (outcomes.TooLong Trace) before name given first second third h = absurd h
-at_calls words old mid late new (outcomes.TooLong Puts) before name given first second third h = absurd h
-at_calls words old mid late new (outcomes.TooLong ForeReport) before name given first second third h = absurd h
-at_calls words old mid late new (outcomes.TooLong BackReport) before name given first second third h = absurd h
-at_calls words old mid late new (outcomes.ReadFault Params) before name given first second third h = absurd h
-at_calls words old mid late new (outcomes.ReadFault Trace) before name given first second third h = absurd h
-at_calls words old mid late new (outcomes.ReadFault Puts) before name given first second third h = absurd h
-at_calls words old mid late new (outcomes.ReadFault ForeReport) before name given first second third h = absurd h
-at_calls words old mid late new (outcomes.ReadFault BackReport) before name given first second third h = absurd h
-at_calls words old mid late new (outcomes.WriteFault output) before name given first second third h = absurd h
+at_calls words old mid late new _ before name given first second third h = absurd h
 
 -- why the script that is given was not read
 pub at_script : (words : SourceTerms) (old mid late new : DeskView) (outcome : Outcome) (before : AcceptsTrace old words)
@@ -225,21 +165,11 @@ at_script words old mid late new outcome before first second third h = at_calls 
 
 -- why the files of a replay were not read
 pub replay_stopped : (terms : ReplayTerms) (old new : DeskView) (outcome : Outcome) → StopsInputs (replay_inputs terms) old new outcome → HasCause terms old new outcome
-replay_stopped terms old new (outcomes.Params fault) h = h
-replay_stopped terms old new (outcomes.Trace fault) h = h
-replay_stopped terms old new (outcomes.Calls fault) h = h
-replay_stopped terms old new (outcomes.Puts fault) h = h
-replay_stopped terms old new (outcomes.Reports fault) h = h
-replay_stopped terms old new (outcomes.TooLong input) h = h
-replay_stopped terms old new (outcomes.ReadFault input) h = h
 replay_stopped terms old new outcomes.NoMemory h = inl h
 replay_stopped terms old new (outcomes.Done run) h = absurd h
-replay_stopped terms old new (outcomes.Made n) h = absurd h
-replay_stopped terms old new (outcomes.Checked verdict) h = absurd h
-replay_stopped terms old new (outcomes.Usage fault) h = absurd h
-replay_stopped terms old new (outcomes.Arrayed runs copy) h = absurd h
-replay_stopped terms old new (outcomes.Spilled ran spilled) h = absurd h
+replay_stopped terms old new (outcomes.Spilled run spill) h = absurd h
 replay_stopped terms old new (outcomes.WriteFault output) h = absurd h
+replay_stopped terms old new _ h = h
 
 all_requests : (disk : Disk) (requests : List Request) → AllByRecursion (IsServable (length (places disk.map))) requests → AllByRecursion (IsRequestOf disk.map) requests
 all_requests disk [] all = tt

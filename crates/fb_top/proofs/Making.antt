@@ -73,30 +73,7 @@ module _ (terms : MakeTerms) (old mid new : DeskView) (only : ChangesOutput Note
   make_cause_still outcomes.NoMemory (inl keeps) = inl (keeps_still old mid new keeps only)
   make_cause_still outcomes.NoMemory (inr (inl cut)) = inr (inl (cuts_trace_still cut))
   make_cause_still outcomes.NoMemory (inr (inr cut)) = inr (inr (cuts_calls_still cut))
-  make_cause_still (outcomes.Done run) h = absurd h
-  make_cause_still (outcomes.Usage fault) h = absurd h
-  make_cause_still (outcomes.Arrayed runs copy) h = absurd h
-  make_cause_still (outcomes.Spilled ran spilled) h = absurd h
-  make_cause_still (outcomes.Puts fault) h = absurd h
-  make_cause_still (outcomes.Checked verdict) h = absurd h
-  make_cause_still (outcomes.Reports fault) h = absurd h
-  make_cause_still (outcomes.Trace fault) h = absurd h
-  make_cause_still (outcomes.Calls fault) h = absurd h
-  make_cause_still (outcomes.TooLong Trace) h = absurd h
-  make_cause_still (outcomes.TooLong Calls) h = absurd h
-  make_cause_still (outcomes.TooLong Puts) h = absurd h
-  make_cause_still (outcomes.TooLong ForeReport) h = absurd h
-  make_cause_still (outcomes.TooLong BackReport) h = absurd h
-  make_cause_still (outcomes.ReadFault Trace) h = absurd h
-  make_cause_still (outcomes.ReadFault Calls) h = absurd h
-  make_cause_still (outcomes.ReadFault Puts) h = absurd h
-  make_cause_still (outcomes.ReadFault ForeReport) h = absurd h
-  make_cause_still (outcomes.ReadFault BackReport) h = absurd h
-  make_cause_still (outcomes.WriteFault Fore) h = absurd h
-  make_cause_still (outcomes.WriteFault Back) h = absurd h
-  make_cause_still (outcomes.WriteFault Note) h = absurd h
-  make_cause_still (outcomes.WriteFault Copied) h = absurd h
-  make_cause_still (outcomes.WriteFault Spill) h = absurd h
+  make_cause_still _ h = absurd h
 
 cuts_trace : (terms : MakeTerms) (old mid new : DeskView) (makes : AcceptsDisk old terms.params) → ChangesInput Params old mid → ChangesOutput MadeTrace mid new
     → HoldsFront (new.outputs MadeTrace) terms.trace (trace_text terms makes.disk) → CutsTrace old new terms
@@ -108,26 +85,9 @@ pub stopped_trace : (terms : MakeTerms) (old mid new : DeskView) (outcome : Outc
     → StopsText MadeTrace terms.trace (trace_text terms makes.disk) mid new outcome → MakeHasCause terms old new outcome
 stopped_trace terms old mid new (outcomes.WriteFault MadeTrace) makes first second h =
     (subst (λ (v : OutputView). Rose v.faults (new.outputs MadeTrace).faults) (first.outputs MadeTrace) h.1, cuts_trace terms old mid new makes first second h.2)
-stopped_trace terms old mid new (outcomes.WriteFault MadeCalls) makes first second h = absurd (calls_are_no_trace h.0)
-stopped_trace terms old mid new (outcomes.WriteFault Fore) makes first second h = absurd (let other = h.0 in cc)
-stopped_trace terms old mid new (outcomes.WriteFault Back) makes first second h = absurd (let other = h.0 in cc)
-stopped_trace terms old mid new (outcomes.WriteFault Note) makes first second h = absurd (let other = h.0 in cc)
-stopped_trace terms old mid new (outcomes.WriteFault Copied) makes first second h = absurd (let other = h.0 in cc)
-stopped_trace terms old mid new (outcomes.WriteFault Spill) makes first second h = absurd (let other = h.0 in cc)
 stopped_trace terms old mid new outcomes.NoMemory makes first second h = inr (inl (cuts_trace terms old mid new makes first second h))
-stopped_trace terms old mid new (outcomes.Done run) makes first second h = absurd h
-stopped_trace terms old mid new (outcomes.Made n) makes first second h = absurd h
-stopped_trace terms old mid new (outcomes.Checked verdict) makes first second h = absurd h
-stopped_trace terms old mid new (outcomes.Reports fault) makes first second h = absurd h
-stopped_trace terms old mid new (outcomes.Usage fault) makes first second h = absurd h
-stopped_trace terms old mid new (outcomes.Arrayed runs copy) makes first second h = absurd h
-stopped_trace terms old mid new (outcomes.Spilled ran spilled) makes first second h = absurd h
-stopped_trace terms old mid new (outcomes.Puts fault) makes first second h = absurd h
-stopped_trace terms old mid new (outcomes.Params fault) makes first second h = absurd h
-stopped_trace terms old mid new (outcomes.Trace fault) makes first second h = absurd h
-stopped_trace terms old mid new (outcomes.Calls fault) makes first second h = absurd h
-stopped_trace terms old mid new (outcomes.TooLong input) makes first second h = absurd h
-stopped_trace terms old mid new (outcomes.ReadFault input) makes first second h = absurd h
+stopped_trace terms old mid new (outcomes.WriteFault output) makes first second h = absurd (let other = h.0 in cc)
+stopped_trace terms old mid new _ makes first second h = absurd h
 
 -- no output but the trace and the script was written
 keeps_unmade : (old mid late new : DeskView) → ChangesInput Params old mid → ChangesOutput MadeTrace mid late → ChangesOutput MadeCalls late new → KeepsButBoth MadeTrace MadeCalls old new
@@ -150,26 +110,9 @@ pub stopped_calls : (terms : MakeTerms) (old mid late new : DeskView) (outcome :
     → HoldsWhole (late.outputs MadeTrace) terms.trace (trace_text terms makes.disk) → StopsText MadeCalls terms.calls (script_text makes.disk.map) late new outcome → MakeHasCause terms old new outcome
 stopped_calls terms old mid late new (outcomes.WriteFault MadeCalls) makes first second third trace h =
     (subst (λ (v : OutputView). Rose v.faults (new.outputs MadeCalls).faults) (second.outputs MadeCalls calls_are_no_trace ∙ first.outputs MadeCalls) h.1, cuts_calls terms old mid late new makes first second third trace h.2)
-stopped_calls terms old mid late new (outcomes.WriteFault MadeTrace) makes first second third trace h = absurd (trace_is_no_calls h.0)
-stopped_calls terms old mid late new (outcomes.WriteFault Fore) makes first second third trace h = absurd (let other = h.0 in cc)
-stopped_calls terms old mid late new (outcomes.WriteFault Back) makes first second third trace h = absurd (let other = h.0 in cc)
-stopped_calls terms old mid late new (outcomes.WriteFault Note) makes first second third trace h = absurd (let other = h.0 in cc)
-stopped_calls terms old mid late new (outcomes.WriteFault Copied) makes first second third trace h = absurd (let other = h.0 in cc)
-stopped_calls terms old mid late new (outcomes.WriteFault Spill) makes first second third trace h = absurd (let other = h.0 in cc)
 stopped_calls terms old mid late new outcomes.NoMemory makes first second third trace h = inr (inr (cuts_calls terms old mid late new makes first second third trace h))
-stopped_calls terms old mid late new (outcomes.Done run) makes first second third trace h = absurd h
-stopped_calls terms old mid late new (outcomes.Made n) makes first second third trace h = absurd h
-stopped_calls terms old mid late new (outcomes.Checked verdict) makes first second third trace h = absurd h
-stopped_calls terms old mid late new (outcomes.Reports fault) makes first second third trace h = absurd h
-stopped_calls terms old mid late new (outcomes.Usage fault) makes first second third trace h = absurd h
-stopped_calls terms old mid late new (outcomes.Arrayed runs copy) makes first second third trace h = absurd h
-stopped_calls terms old mid late new (outcomes.Spilled ran spilled) makes first second third trace h = absurd h
-stopped_calls terms old mid late new (outcomes.Puts fault) makes first second third trace h = absurd h
-stopped_calls terms old mid late new (outcomes.Params fault) makes first second third trace h = absurd h
-stopped_calls terms old mid late new (outcomes.Trace fault) makes first second third trace h = absurd h
-stopped_calls terms old mid late new (outcomes.Calls fault) makes first second third trace h = absurd h
-stopped_calls terms old mid late new (outcomes.TooLong input) makes first second third trace h = absurd h
-stopped_calls terms old mid late new (outcomes.ReadFault input) makes first second third trace h = absurd h
+stopped_calls terms old mid late new (outcomes.WriteFault output) makes first second third trace h = absurd (let other = h.0 in cc)
+stopped_calls terms old mid late new _ makes first second third trace h = absurd h
 
 -- both texts were written
 pub wrote_both : (terms : MakeTerms) (old mid late new : DeskView) (makes : AcceptsDisk old terms.params) (n : ℕ) → n ≡ terms.requests → ChangesInput Params old mid → ChangesOutput MadeTrace mid late → ChangesOutput MadeCalls late new

@@ -39,9 +39,7 @@ module _ (terms : InputTerms) (old new : DeskView) where
   also_named Params given = refl
   also_named Trace given = refl
   also_named Calls given = given
-  also_named Puts given = cc
-  also_named ForeReport given = cc
-  also_named BackReport given = cc
+  also_named _ given = cc
 
   same_before : (input : Input) → AcceptsBefore old (files_alone terms.sources) input → AcceptsBefore old terms input
   same_before Params before = tt
@@ -61,13 +59,7 @@ module _ (terms : InputTerms) (old new : DeskView) where
   files_stopped (outcomes.TooLong input) h = (record { before = same_before input h.0.before; name = h.0.name; given = same_name input h.0.name h.0.given; longer = h.0.longer }, h.1)
   files_stopped (outcomes.ReadFault input) h = (record { before = same_before input h.0.before; given = also_named input h.0.given; rose = h.0.rose }, h.1)
   files_stopped outcomes.NoMemory h = record { input = h.input; before = same_before h.input h.before; ends = h.ends }
-  files_stopped (outcomes.Done run) h = absurd h
-  files_stopped (outcomes.Made n) h = absurd h
-  files_stopped (outcomes.Checked verdict) h = absurd h
-  files_stopped (outcomes.Usage fault) h = absurd h
-  files_stopped (outcomes.Arrayed runs copy) h = absurd h
-  files_stopped (outcomes.Spilled run spill) h = absurd h
-  files_stopped (outcomes.WriteFault output) h = absurd h
+  files_stopped _ h = absurd h
 
   module _ (unnamed : KeepsUnnamed (files_alone terms.sources) old new) where
     pub files_unnamed : KeepsUnnamed terms old new
@@ -121,27 +113,7 @@ module _ (terms : InputTerms) (sources : SourceTerms) (same : sources ≡ terms.
   at_puts (outcomes.ReadFault Puts) files name given h =
       (record { before = files; given = has_name terms.puts name given; rose = subst (λ (v : InputView). Rose v.faults (new.inputs Puts).faults) (unnamed Puts refl) h }, ends_at_puts)
   at_puts outcomes.NoMemory files name given h = record { input = Puts; before = files; ends = ends_at_puts }
-  at_puts (outcomes.Done run) files name given h = absurd h
-  at_puts (outcomes.Made n) files name given h = absurd h
-  at_puts (outcomes.Checked verdict) files name given h = absurd h
-  at_puts (outcomes.Arrayed runs copy) files name given h = absurd h
-  at_puts (outcomes.Spilled run spill) files name given h = absurd h
-  at_puts (outcomes.Usage fault) files name given h = absurd h
-  at_puts (outcomes.Params fault) files name given h = absurd h
-  at_puts (outcomes.Trace fault) files name given h = absurd h
-  at_puts (outcomes.Calls fault) files name given h = absurd h
-  at_puts (outcomes.Reports fault) files name given h = absurd h
-  at_puts (outcomes.TooLong Params) files name given h = absurd h
-  at_puts (outcomes.TooLong Trace) files name given h = absurd h
-  at_puts (outcomes.TooLong Calls) files name given h = absurd h
-  at_puts (outcomes.TooLong ForeReport) files name given h = absurd h
-  at_puts (outcomes.TooLong BackReport) files name given h = absurd h
-  at_puts (outcomes.ReadFault Params) files name given h = absurd h
-  at_puts (outcomes.ReadFault Trace) files name given h = absurd h
-  at_puts (outcomes.ReadFault Calls) files name given h = absurd h
-  at_puts (outcomes.ReadFault ForeReport) files name given h = absurd h
-  at_puts (outcomes.ReadFault BackReport) files name given h = absurd h
-  at_puts (outcomes.WriteFault output) files name given h = absurd h
+  at_puts _ files name given h = absurd h
 
   -- why the puts that are given were not read
   pub puts_stopped : (outcome : Outcome) (files : AcceptsFiles old terms.sources) → StopsGivenPuts terms.puts files.files mid new outcome → StopsInputs terms old new outcome

@@ -59,19 +59,7 @@ module _ (old mid late new : DeskView) (first : KeepsReports old mid) (last : Ke
   pub stops_text : (which : Output) (name text : List ℕ) (outcome : Outcome) → which ≢ Note → StopsText which name text mid late outcome → StopsText which name text old new outcome
   stops_text which name text (outcomes.WriteFault output) no_note h = (h.0, faults_rose which no_note h.1, front which name text no_note h.2)
   stops_text which name text outcomes.NoMemory no_note h = front which name text no_note h
-  stops_text which name text (outcomes.Done run) no_note h = absurd h
-  stops_text which name text (outcomes.Made n) no_note h = absurd h
-  stops_text which name text (outcomes.Checked verdict) no_note h = absurd h
-  stops_text which name text (outcomes.Usage fault) no_note h = absurd h
-  stops_text which name text (outcomes.Arrayed runs copy) no_note h = absurd h
-  stops_text which name text (outcomes.Spilled ran spilled) no_note h = absurd h
-  stops_text which name text (outcomes.Puts fault) no_note h = absurd h
-  stops_text which name text (outcomes.Params fault) no_note h = absurd h
-  stops_text which name text (outcomes.Trace fault) no_note h = absurd h
-  stops_text which name text (outcomes.Calls fault) no_note h = absurd h
-  stops_text which name text (outcomes.Reports fault) no_note h = absurd h
-  stops_text which name text (outcomes.TooLong input) no_note h = absurd h
-  stops_text which name text (outcomes.ReadFault input) no_note h = absurd h
+  stops_text which name text _ no_note h = absurd h
 
   pub wanted : (given : Option (List ℕ)) (text : List ℕ) → HoldsWanted given text (mid.outputs Back) (late.outputs Back) → HoldsWanted given text (old.outputs Back) (new.outputs Back)
   wanted None text same = last Back back_is_no_note ∙ same ∙ first Back back_is_no_note
@@ -97,21 +85,4 @@ module _ (old mid late new : DeskView) (first : KeepsReports old mid) (last : Ke
   stops_reports terms files run (outcomes.WriteFault Back) stops = (faults_rose Back back_is_no_note stops.0, cuts_back terms files run stops.1)
   stops_reports terms files run outcomes.NoMemory (inl cut) = inl (cuts_fore terms files run cut)
   stops_reports terms files run outcomes.NoMemory (inr cut) = inr (cuts_back terms files run cut)
-  stops_reports terms files run (outcomes.WriteFault Note) stops = absurd stops
-  stops_reports terms files run (outcomes.WriteFault Copied) stops = absurd stops
-  stops_reports terms files run (outcomes.WriteFault Spill) stops = absurd stops
-  stops_reports terms files run (outcomes.WriteFault MadeTrace) stops = absurd stops
-  stops_reports terms files run (outcomes.WriteFault MadeCalls) stops = absurd stops
-  stops_reports terms files run (outcomes.Done other) stops = absurd stops
-  stops_reports terms files run (outcomes.Made n) stops = absurd stops
-  stops_reports terms files run (outcomes.Checked verdict) stops = absurd stops
-  stops_reports terms files run (outcomes.Reports fault) stops = absurd stops
-  stops_reports terms files run (outcomes.Usage fault) stops = absurd stops
-  stops_reports terms files run (outcomes.Arrayed runs copy) stops = absurd stops
-  stops_reports terms files run (outcomes.Spilled ran spilled) stops = absurd stops
-  stops_reports terms files run (outcomes.Puts fault) stops = absurd stops
-  stops_reports terms files run (outcomes.Params fault) stops = absurd stops
-  stops_reports terms files run (outcomes.Trace fault) stops = absurd stops
-  stops_reports terms files run (outcomes.Calls fault) stops = absurd stops
-  stops_reports terms files run (outcomes.TooLong input) stops = absurd stops
-  stops_reports terms files run (outcomes.ReadFault input) stops = absurd stops
+  stops_reports terms files run _ stops = absurd stops

@@ -76,14 +76,8 @@ module _ (terms : InputTerms) (old mid new : DeskView) (only : ChangesOutput Not
     ends_still input old mid new h.1 only,
   )
   inputs_still outcomes.NoMemory h = out_still h
-  inputs_still (outcomes.Done run) h = absurd h
-  inputs_still (outcomes.Made n) h = absurd h
-  inputs_still (outcomes.Checked verdict) h = absurd h
-  inputs_still (outcomes.Usage fault) h = absurd h
-  inputs_still (outcomes.Arrayed runs copy) h = absurd h
-  inputs_still (outcomes.Spilled ran spilled) h = absurd h
   inputs_still (outcomes.Puts fault) h = (h.0, ends_still Puts old mid new h.1 only)
-  inputs_still (outcomes.WriteFault output) h = absurd h
+  inputs_still _ h = absurd h
 
 module _ (terms : ReplayTerms) (old mid new : DeskView) (only : ChangesOutput Note mid new) where
   same : KeepsReports old old
@@ -111,31 +105,18 @@ module _ (terms : ReplayTerms) (old mid new : DeskView) (only : ChangesOutput No
   cut_still outcome (inl cut) = inl (cut_short_still outcome cut)
   cut_still outcome (inr cut) = inr (spill_cut_still outcome cut)
 
-  stop_still : (outcome : Outcome) → StopsInputs (replay_inputs terms) old mid outcome → StopsInputs (replay_inputs terms) old new outcome
-  stop_still outcome h = inputs_still (replay_inputs terms) old mid new only outcome h
-
   cause_still : (outcome : Outcome) → HasCause terms old mid outcome → HasCause terms old new outcome
   cause_still (outcomes.Done run) h = record { no_puts = h.no_puts; is_run = h.is_run; reports = holds_reports old old mid new same (keeps_reports mid new only) terms h.is_run.files run h.reports; read = h.read }
-  cause_still (outcomes.Params fault) h = stop_still (outcomes.Params fault) h
-  cause_still (outcomes.Trace fault) h = stop_still (outcomes.Trace fault) h
-  cause_still (outcomes.Calls fault) h = stop_still (outcomes.Calls fault) h
-  cause_still (outcomes.Reports fault) h = stop_still (outcomes.Reports fault) h
-  cause_still (outcomes.TooLong input) h = stop_still (outcomes.TooLong input) h
-  cause_still (outcomes.ReadFault input) h = stop_still (outcomes.ReadFault input) h
   cause_still (outcomes.WriteFault output) h = cut_still (outcomes.WriteFault output) h
   cause_still outcomes.NoMemory (inl out) = inl (out_still (replay_inputs terms) old mid new only out)
   cause_still outcomes.NoMemory (inr cut) = inr (cut_still outcomes.NoMemory cut)
-  cause_still (outcomes.Made n) h = absurd h
-  cause_still (outcomes.Checked verdict) h = absurd h
-  cause_still (outcomes.Usage fault) h = absurd h
-  cause_still (outcomes.Arrayed runs copy) h = absurd h
   cause_still (outcomes.Spilled run spill) h = record {
     is_run = h.is_run;
     is_spill = h.is_spill;
     texts = spill_moved old old mid new same (keeps_reports mid new only) terms h.is_run.files run spill h.texts;
     read = h.read;
   }
-  cause_still (outcomes.Puts fault) h = stop_still (outcomes.Puts fault) h
+  cause_still outcome h = inputs_still (replay_inputs terms) old mid new only outcome h
 
 module _ (terms : CheckTerms) (old mid new : DeskView) (only : ChangesOutput Note mid new) where
   keeps : KeepsReports mid new
@@ -152,55 +133,29 @@ module _ (terms : CheckTerms) (old mid new : DeskView) (only : ChangesOutput Not
     stops = stops_text old old mid new unchanged keeps Fore (codes "-") (verdict_line cut.verdict) outcome fore_is_no_note cut.stops;
   }
 
-  check_stop_still : (outcome : Outcome) → StopsInputs (check_inputs terms) old mid outcome → StopsInputs (check_inputs terms) old new outcome
-  check_stop_still outcome h = inputs_still (check_inputs terms) old mid new only outcome h
-
   check_still : (outcome : Outcome) → CheckHasCause terms old mid outcome → CheckHasCause terms old new outcome
   check_still (outcomes.Checked verdict) h = record {
     is_verdict = h.is_verdict;
     others = keeps_but old old mid new unchanged keeps Fore h.others;
     line = whole old old mid new unchanged keeps Fore (codes "-") (verdict_line verdict) fore_is_no_note h.line;
   }
-  check_still (outcomes.Params fault) h = check_stop_still (outcomes.Params fault) h
-  check_still (outcomes.Trace fault) h = check_stop_still (outcomes.Trace fault) h
-  check_still (outcomes.Calls fault) h = check_stop_still (outcomes.Calls fault) h
-  check_still (outcomes.Reports fault) h = check_stop_still (outcomes.Reports fault) h
-  check_still (outcomes.TooLong input) h = check_stop_still (outcomes.TooLong input) h
-  check_still (outcomes.ReadFault input) h = check_stop_still (outcomes.ReadFault input) h
   check_still (outcomes.WriteFault output) h = verdict_cut_still (outcomes.WriteFault output) h
   check_still outcomes.NoMemory (inl out) = inl (out_still (check_inputs terms) old mid new only out)
   check_still outcomes.NoMemory (inr cut) = inr (verdict_cut_still outcomes.NoMemory cut)
-  check_still (outcomes.Done run) h = absurd h
-  check_still (outcomes.Made n) h = absurd h
-  check_still (outcomes.Usage fault) h = absurd h
-  check_still (outcomes.Arrayed runs copy) h = absurd h
-  check_still (outcomes.Spilled ran spilled) h = absurd h
-  check_still (outcomes.Puts fault) h = check_stop_still (outcomes.Puts fault) h
+  check_still outcome h = inputs_still (check_inputs terms) old mid new only outcome h
 
 module _ (terms : ArrayTerms) (old mid new : DeskView) (only : ChangesOutput Note mid new) where
   array_cut_still : (outcome : Outcome) → IsArrayCut old mid terms outcome → IsArrayCut old new terms outcome
   array_cut_still outcome cut = array_cut terms old old mid new cut.runs cut.are_runs (λ output no_note. refl) (keeps_reports mid new only) outcome cut.stops
 
-  array_stop_still : (outcome : Outcome) → StopsInputs (array_inputs terms) old mid outcome → StopsInputs (array_inputs terms) old new outcome
-  array_stop_still outcome h = inputs_still (array_inputs terms) old mid new only outcome h
-
   array_still : (outcome : Outcome) → ArrayHasCause terms old mid outcome → ArrayHasCause terms old new outcome
   array_still (outcomes.Arrayed runs copy) h = arrayed terms old old mid new runs h.are_runs (λ output no_note. refl) (keeps_reports mid new only) copy h.copied h.texts
-  array_still (outcomes.Params fault) h = array_stop_still (outcomes.Params fault) h
   array_still (outcomes.Trace fault) h = (h.0, ends_still Trace old mid new h.1 only)
   array_still (outcomes.Calls fault) h = (h.0, ends_still Trace old mid new h.1 only)
-  array_still (outcomes.Reports fault) h = array_stop_still (outcomes.Reports fault) h
-  array_still (outcomes.TooLong input) h = array_stop_still (outcomes.TooLong input) h
-  array_still (outcomes.ReadFault input) h = array_stop_still (outcomes.ReadFault input) h
   array_still (outcomes.WriteFault output) h = array_cut_still (outcomes.WriteFault output) h
   array_still outcomes.NoMemory (inl out) = inl (out_still (array_inputs terms) old mid new only out)
   array_still outcomes.NoMemory (inr cut) = inr (array_cut_still outcomes.NoMemory cut)
-  array_still (outcomes.Done run) h = absurd h
-  array_still (outcomes.Made n) h = absurd h
-  array_still (outcomes.Checked verdict) h = absurd h
-  array_still (outcomes.Puts fault) h = array_stop_still (outcomes.Puts fault) h
-  array_still (outcomes.Spilled run spill) h = absurd h
-  array_still (outcomes.Usage fault) h = absurd h
+  array_still outcome h = inputs_still (array_inputs terms) old mid new only outcome h
 
 -- an answer keeps its cause where nothing but the note changes
 pub answer_still : (reading : Result Terms UsageFault) (old mid new : DeskView) (outcome : Outcome) → ChangesOutput Note mid new → AnswersWords reading old mid outcome → AnswersWords reading old new outcome

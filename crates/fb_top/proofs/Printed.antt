@@ -81,16 +81,4 @@ pub answers_yes : (old new : DeskView) (terms : CheckTerms) (outcome : Outcome) 
     → (outcome ≡ outcomes.Checked Yes) ⊎ (outcome ≡ outcomes.NoMemory)
 answers_yes old new terms (outcomes.Checked verdict) right cause judged = inl (ap outcomes.Checked (right verdict cause.is_verdict))
 answers_yes old new terms outcomes.NoMemory right cause judged = inr refl
-answers_yes old new terms (outcomes.Done run) right cause judged = absurd judged
-answers_yes old new terms (outcomes.Made n) right cause judged = absurd judged
-answers_yes old new terms (outcomes.Usage fault) right cause judged = absurd judged
-answers_yes old new terms (outcomes.Arrayed runs copy) right cause judged = absurd judged
-answers_yes old new terms (outcomes.Spilled ran spilled) right cause judged = absurd judged
-answers_yes old new terms (outcomes.Puts fault) right cause judged = absurd judged
-answers_yes old new terms (outcomes.Params fault) right cause judged = absurd judged
-answers_yes old new terms (outcomes.Trace fault) right cause judged = absurd judged
-answers_yes old new terms (outcomes.Calls fault) right cause judged = absurd judged
-answers_yes old new terms (outcomes.Reports fault) right cause judged = absurd judged
-answers_yes old new terms (outcomes.TooLong input) right cause judged = absurd judged
-answers_yes old new terms (outcomes.ReadFault input) right cause judged = absurd judged
-answers_yes old new terms (outcomes.WriteFault output) right cause judged = absurd judged
+answers_yes old new terms _ right cause judged = absurd judged

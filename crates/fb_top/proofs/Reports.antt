@@ -18,12 +18,6 @@ fore_is_no_back e = cc
 back_is_no_fore : Back ≢ Fore
 back_is_no_fore e = cc
 
-pub note_is_no_fore : Note ≢ Fore
-note_is_no_fore e = cc
-
-pub note_is_no_back : Note ≢ Back
-note_is_no_back e = cc
-
 module _ (terms : ReplayTerms) (files : Files) (run : Run) where
   cuts_fore : (old new : DeskView) → ChangesOutput Fore old new → HoldsFront (new.outputs Fore) (codes "-") (fore_told terms files run) → CutsFore terms files run old new
   cuts_fore old new only front = record { others = λ output not_fore no_note. only.outputs output not_fore; front = front }
@@ -32,25 +26,8 @@ module _ (terms : ReplayTerms) (files : Files) (run : Run) where
   pub stopped_fore : (old new : DeskView) (outcome : Outcome) → ChangesOutput Fore old new → StopsText Fore (codes "-") (fore_told terms files run) old new outcome → StopsReports terms files run old new outcome
   stopped_fore old new (outcomes.WriteFault Fore) only h = (h.1, cuts_fore old new only h.2)
   stopped_fore old new outcomes.NoMemory only h = inl (cuts_fore old new only h)
-  stopped_fore old new (outcomes.WriteFault Back) only h = absurd (back_is_no_fore h.0)
-  stopped_fore old new (outcomes.WriteFault Note) only h = absurd (note_is_no_fore h.0)
-  stopped_fore old new (outcomes.WriteFault Copied) only h = absurd (let other = h.0 in cc)
-  stopped_fore old new (outcomes.WriteFault Spill) only h = absurd (let other = h.0 in cc)
-  stopped_fore old new (outcomes.WriteFault MadeTrace) only h = absurd (let other = h.0 in cc)
-  stopped_fore old new (outcomes.WriteFault MadeCalls) only h = absurd (let other = h.0 in cc)
-  stopped_fore old new (outcomes.Done other) only h = absurd h
-  stopped_fore old new (outcomes.Made n) only h = absurd h
-  stopped_fore old new (outcomes.Checked verdict) only h = absurd h
-  stopped_fore old new (outcomes.Reports fault) only h = absurd h
-  stopped_fore old new (outcomes.Usage fault) only h = absurd h
-  stopped_fore old new (outcomes.Arrayed runs copy) only h = absurd h
-  stopped_fore old new (outcomes.Spilled ran spilled) only h = absurd h
-  stopped_fore old new (outcomes.Puts fault) only h = absurd h
-  stopped_fore old new (outcomes.Params fault) only h = absurd h
-  stopped_fore old new (outcomes.Trace fault) only h = absurd h
-  stopped_fore old new (outcomes.Calls fault) only h = absurd h
-  stopped_fore old new (outcomes.TooLong input) only h = absurd h
-  stopped_fore old new (outcomes.ReadFault input) only h = absurd h
+  stopped_fore old new (outcomes.WriteFault output) only h = absurd (let other = h.0 in cc)
+  stopped_fore old new _ only h = absurd h
 
   module _ (old mid new : DeskView) (first : ChangesOutput Fore old mid) (second : ChangesOutput Back mid new) (whole : HoldsWhole (mid.outputs Fore) (codes "-") (fore_told terms files run)) where
     fore_stands : HoldsWhole (new.outputs Fore) (codes "-") (fore_told terms files run)
@@ -64,25 +41,8 @@ module _ (terms : ReplayTerms) (files : Files) (run : Run) where
     pub stopped_back : (outcome : Outcome) (name : List ℕ) → terms.back ≡ Some name → StopsText Back name (back_told terms files run) mid new outcome → StopsReports terms files run old new outcome
     stopped_back (outcomes.WriteFault Back) name given h = (subst (λ (v : OutputView). Rose v.faults (new.outputs Back).faults) (first.outputs Back back_is_no_fore) h.1, cuts_back name given h.2)
     stopped_back outcomes.NoMemory name given h = inr (cuts_back name given h)
-    stopped_back (outcomes.WriteFault Fore) name given h = absurd (fore_is_no_back h.0)
-    stopped_back (outcomes.WriteFault Note) name given h = absurd (note_is_no_back h.0)
-    stopped_back (outcomes.WriteFault Copied) name given h = absurd (let other = h.0 in cc)
-    stopped_back (outcomes.WriteFault Spill) name given h = absurd (let other = h.0 in cc)
-    stopped_back (outcomes.WriteFault MadeTrace) name given h = absurd (let other = h.0 in cc)
-    stopped_back (outcomes.WriteFault MadeCalls) name given h = absurd (let other = h.0 in cc)
-    stopped_back (outcomes.Done other) name given h = absurd h
-    stopped_back (outcomes.Made n) name given h = absurd h
-    stopped_back (outcomes.Checked verdict) name given h = absurd h
-    stopped_back (outcomes.Reports fault) name given h = absurd h
-    stopped_back (outcomes.Usage fault) name given h = absurd h
-    stopped_back (outcomes.Arrayed runs copy) name given h = absurd h
-    stopped_back (outcomes.Spilled ran spilled) name given h = absurd h
-    stopped_back (outcomes.Puts fault) name given h = absurd h
-    stopped_back (outcomes.Params fault) name given h = absurd h
-    stopped_back (outcomes.Trace fault) name given h = absurd h
-    stopped_back (outcomes.Calls fault) name given h = absurd h
-    stopped_back (outcomes.TooLong input) name given h = absurd h
-    stopped_back (outcomes.ReadFault input) name given h = absurd h
+    stopped_back (outcomes.WriteFault output) name given h = absurd (let other = h.0 in cc)
+    stopped_back _ name given h = absurd h
 
     -- both were written
     pub wrote_both : (name : List ℕ) → terms.back ≡ Some name → HoldsWhole (new.outputs Back) name (back_told terms files run) → HoldsReports terms files run old new

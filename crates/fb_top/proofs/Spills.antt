@@ -55,25 +55,7 @@ module _ (old mid late new : DeskView) (first : KeepsReports old mid) (last : Ke
   pub stops_moved : (spill : SpillRun) (outcome : Outcome) → StopsSpill terms files run spill mid late outcome → StopsSpill terms files run spill old new outcome
   stops_moved spill (outcomes.WriteFault Spill) h = (faults_rose old mid late new first last Spill spill_is_no_note h.0, cut_moved spill h.1)
   stops_moved spill outcomes.NoMemory h = cut_moved spill h
-  stops_moved spill (outcomes.WriteFault Fore) h = absurd h
-  stops_moved spill (outcomes.WriteFault Back) h = absurd h
-  stops_moved spill (outcomes.WriteFault Note) h = absurd h
-  stops_moved spill (outcomes.WriteFault Copied) h = absurd h
-  stops_moved spill (outcomes.WriteFault MadeTrace) h = absurd h
-  stops_moved spill (outcomes.WriteFault MadeCalls) h = absurd h
-  stops_moved spill (outcomes.Done ran) h = absurd h
-  stops_moved spill (outcomes.Made n) h = absurd h
-  stops_moved spill (outcomes.Checked verdict) h = absurd h
-  stops_moved spill (outcomes.Arrayed runs copy) h = absurd h
-  stops_moved spill (outcomes.Spilled ran spilled) h = absurd h
-  stops_moved spill (outcomes.Usage fault) h = absurd h
-  stops_moved spill (outcomes.Params fault) h = absurd h
-  stops_moved spill (outcomes.Trace fault) h = absurd h
-  stops_moved spill (outcomes.Calls fault) h = absurd h
-  stops_moved spill (outcomes.Puts fault) h = absurd h
-  stops_moved spill (outcomes.Reports fault) h = absurd h
-  stops_moved spill (outcomes.TooLong input) h = absurd h
-  stops_moved spill (outcomes.ReadFault input) h = absurd h
+  stops_moved spill _ h = absurd h
 
 -- the reports were written, and behind them the text of what was written in free gaps
 module _ (terms : ReplayTerms) (files : Files) (run : Run) (spill : SpillRun) (old mid new : DeskView) (reports : HoldsReports terms files run old mid) (only : ChangesOutput Spill mid new)
@@ -96,25 +78,8 @@ module _ (terms : ReplayTerms) (files : Files) (run : Run) (spill : SpillRun) (o
   stopped_spill (outcomes.WriteFault Spill) h =
       (subst (λ (v : OutputView). Rose v.faults (new.outputs Spill).faults) (reports.others Spill (λ e. cc) (λ e. cc) (λ e. cc)) h.1, cut h.2)
   stopped_spill outcomes.NoMemory h = cut h
-  stopped_spill (outcomes.WriteFault Fore) h = absurd (let other = h.0 in cc)
-  stopped_spill (outcomes.WriteFault Back) h = absurd (let other = h.0 in cc)
-  stopped_spill (outcomes.WriteFault Note) h = absurd (let other = h.0 in cc)
-  stopped_spill (outcomes.WriteFault Copied) h = absurd (let other = h.0 in cc)
-  stopped_spill (outcomes.WriteFault MadeTrace) h = absurd (let other = h.0 in cc)
-  stopped_spill (outcomes.WriteFault MadeCalls) h = absurd (let other = h.0 in cc)
-  stopped_spill (outcomes.Done ran) h = absurd h
-  stopped_spill (outcomes.Made n) h = absurd h
-  stopped_spill (outcomes.Checked verdict) h = absurd h
-  stopped_spill (outcomes.Arrayed runs copy) h = absurd h
-  stopped_spill (outcomes.Spilled ran spilled) h = absurd h
-  stopped_spill (outcomes.Usage fault) h = absurd h
-  stopped_spill (outcomes.Params fault) h = absurd h
-  stopped_spill (outcomes.Trace fault) h = absurd h
-  stopped_spill (outcomes.Calls fault) h = absurd h
-  stopped_spill (outcomes.Puts fault) h = absurd h
-  stopped_spill (outcomes.Reports fault) h = absurd h
-  stopped_spill (outcomes.TooLong input) h = absurd h
-  stopped_spill (outcomes.ReadFault input) h = absurd h
+  stopped_spill (outcomes.WriteFault output) h = absurd (let other = h.0 in cc)
+  stopped_spill _ h = absurd h
 
 -- where nothing is written in free gaps, the words name no puts
 no_puts : (desk : DeskView) (files : Files) (run : Run) (given : Option (List ℕ)) (puts : Option PutsRead) → AcceptsPuts desk given files puts → WritesGiven files.disk run puts None → given ≡ None
@@ -197,19 +162,7 @@ module _ (terms : ReplayTerms) (files : Files) (puts : Option PutsRead) (old mid
       pub at_replay : (outcome : Outcome) → StopsReplay terms files run given mid new outcome → HasCause terms old new outcome
       at_replay (outcomes.WriteFault output) h = is_cut (outcomes.WriteFault output) h
       at_replay outcomes.NoMemory h = inr (is_cut outcomes.NoMemory h)
-      at_replay (outcomes.Done ran) h = absurd (nothing_stops h)
-      at_replay (outcomes.Made n) h = absurd (nothing_stops h)
-      at_replay (outcomes.Checked verdict) h = absurd (nothing_stops h)
-      at_replay (outcomes.Arrayed runs copy) h = absurd (nothing_stops h)
-      at_replay (outcomes.Spilled ran spilled) h = absurd (nothing_stops h)
-      at_replay (outcomes.Usage fault) h = absurd (nothing_stops h)
-      at_replay (outcomes.Params fault) h = absurd (nothing_stops h)
-      at_replay (outcomes.Trace fault) h = absurd (nothing_stops h)
-      at_replay (outcomes.Calls fault) h = absurd (nothing_stops h)
-      at_replay (outcomes.Puts fault) h = absurd (nothing_stops h)
-      at_replay (outcomes.Reports fault) h = absurd (nothing_stops h)
-      at_replay (outcomes.TooLong input) h = absurd (nothing_stops h)
-      at_replay (outcomes.ReadFault input) h = absurd (nothing_stops h)
+      at_replay _ h = absurd (nothing_stops h)
 
 -- a replay that is done has met no fault, if none was met
 pub calm_done : (run : Run) (spill : Option SpillRun) (old new : DeskView) → IsCalm old new → MeetsNoFault (done_as run spill) old new

@@ -24,19 +24,7 @@ module _ (text : Text) (rest : List Text) (old new : DeskView) (only : ChangesOu
   pub stopped_first : (outcome : Outcome) → StopsText text.output text.name text.text old new outcome → StopsTexts (text ∷ rest) old new outcome
   stopped_first (outcomes.WriteFault output) h = subst (λ (which : Output). Rose (old.outputs which).faults (new.outputs which).faults × CutsAt which (text ∷ rest) old new) (sym h.0) (h.1, cut_here h.2)
   stopped_first outcomes.NoMemory h = (text.output, cut_here h)
-  stopped_first (outcomes.Done run) h = absurd h
-  stopped_first (outcomes.Made n) h = absurd h
-  stopped_first (outcomes.Checked verdict) h = absurd h
-  stopped_first (outcomes.Arrayed runs copy) h = absurd h
-  stopped_first (outcomes.Spilled ran spilled) h = absurd h
-  stopped_first (outcomes.Puts fault) h = absurd h
-  stopped_first (outcomes.Usage fault) h = absurd h
-  stopped_first (outcomes.Params fault) h = absurd h
-  stopped_first (outcomes.Trace fault) h = absurd h
-  stopped_first (outcomes.Calls fault) h = absurd h
-  stopped_first (outcomes.Reports fault) h = absurd h
-  stopped_first (outcomes.TooLong input) h = absurd h
-  stopped_first (outcomes.ReadFault input) h = absurd h
+  stopped_first _ h = absurd h
 
 all_before : (P : Text → Type 0) (before : List Text) (cut : Text) (behind : List Text) → AllByRecursion P (before ++ cut ∷ behind) → AllByRecursion P (before ++ cut ∷ [])
 all_before P [] cut behind all = (all.0, tt)
@@ -81,19 +69,7 @@ module _ (text : Text) (rest : List Text) (old mid new : DeskView) (only : Chang
   pub stopped_behind : (outcome : Outcome) → StopsTexts rest mid new outcome → StopsTexts (text ∷ rest) old new outcome
   stopped_behind (outcomes.WriteFault output) h = (rose_behind output h.1 h.0, cut_behind output h.1)
   stopped_behind outcomes.NoMemory h = (h.0, cut_behind h.0 h.1)
-  stopped_behind (outcomes.Done run) h = absurd h
-  stopped_behind (outcomes.Made n) h = absurd h
-  stopped_behind (outcomes.Checked verdict) h = absurd h
-  stopped_behind (outcomes.Arrayed runs copy) h = absurd h
-  stopped_behind (outcomes.Spilled ran spilled) h = absurd h
-  stopped_behind (outcomes.Puts fault) h = absurd h
-  stopped_behind (outcomes.Usage fault) h = absurd h
-  stopped_behind (outcomes.Params fault) h = absurd h
-  stopped_behind (outcomes.Trace fault) h = absurd h
-  stopped_behind (outcomes.Calls fault) h = absurd h
-  stopped_behind (outcomes.Reports fault) h = absurd h
-  stopped_behind (outcomes.TooLong input) h = absurd h
-  stopped_behind (outcomes.ReadFault input) h = absurd h
+  stopped_behind _ h = absurd h
 
 -- a text that is cut off is none of the note, where none of the texts is
 pub cut_is_no_note : (which : Output) (texts : List Text) (old new : DeskView) → AllByRecursion (λ text. text.output ≢ Note) texts → CutsAt which texts old new → which ≢ Note
@@ -136,16 +112,4 @@ module _ (old mid late new : DeskView) (first : KeepsReports old mid) (last : Ke
   pub stops_texts : (texts : List Text) → AllByRecursion (λ text. text.output ≢ Note) texts → (outcome : Outcome) → StopsTexts texts mid late outcome → StopsTexts texts old new outcome
   stops_texts texts no_note (outcomes.WriteFault output) h = (rose_there output (cut_is_no_note output texts mid late no_note h.1) h.0, cuts_at texts output no_note h.1)
   stops_texts texts no_note outcomes.NoMemory h = (h.0, cuts_at texts h.0 no_note h.1)
-  stops_texts texts no_note (outcomes.Done run) h = absurd h
-  stops_texts texts no_note (outcomes.Made n) h = absurd h
-  stops_texts texts no_note (outcomes.Checked verdict) h = absurd h
-  stops_texts texts no_note (outcomes.Arrayed runs copy) h = absurd h
-  stops_texts texts no_note (outcomes.Spilled ran spilled) h = absurd h
-  stops_texts texts no_note (outcomes.Puts fault) h = absurd h
-  stops_texts texts no_note (outcomes.Usage fault) h = absurd h
-  stops_texts texts no_note (outcomes.Params fault) h = absurd h
-  stops_texts texts no_note (outcomes.Trace fault) h = absurd h
-  stops_texts texts no_note (outcomes.Calls fault) h = absurd h
-  stops_texts texts no_note (outcomes.Reports fault) h = absurd h
-  stops_texts texts no_note (outcomes.TooLong input) h = absurd h
-  stops_texts texts no_note (outcomes.ReadFault input) h = absurd h
+  stops_texts texts no_note _ h = absurd h
