@@ -21,6 +21,7 @@ use Rattle.fb_top.specs.Sources.{check_inputs, check_sources, files_alone, name_
 use Rattle.fb_top.specs.Streams.{IsLonger}
 use Rattle.fb_top.specs.Taken.{KeepsOutputs, TakesCheck}
 use Rattle.fb_top.specs.Written.{KeepsBut, KeepsReports, StopsText}
+use Rattle.fb_top.proofs.Later.{at_reading}
 use Rattle.fb_top.proofs.Moved.{fore_is_no_note, stops_text}
 use Rattle.fb_top.proofs.MoreInputs.{files_stopped}
 
@@ -55,9 +56,6 @@ module _ (terms : CheckTerms) (old mid new : DeskView) (held : (name : List ℕ)
     spells = refuses.spells;
   }
 
-  longer_before : (name : List ℕ) → IsLonger mid name (2 ^ 28) → IsLonger old name (2 ^ 28)
-  longer_before name longer = subst (λ (told : Option (List ℕ)). IfSome told (λ here. 2 ^ 28 < length here)) (held name) longer
-
   -- the verdict on what was read
   pub judges_before : (files : Files) (verdict : Verdict) → JudgesBy mid terms files verdict → JudgesBy old terms files verdict
   judges_before files verdict judges = record {
@@ -91,32 +89,17 @@ module _ (terms : CheckTerms) (old mid new : DeskView) (held : (name : List ℕ)
         subst (λ (r : Report). RefusesReportInTurn old (check_inputs terms) (record { report = r; line = line }) × EndsAt (input_of r) old new) (sym is)
         (record { before = before; name = name; given = given; refuses = refuses }, ends)
 
-    long_here : (input here : Input) (name : List ℕ) → input ≡ here → AcceptsBefore old (check_inputs terms) here → name_of (check_inputs terms) here ≡ Some name → IsLonger old name (limit_of here) → EndsAt here old new
-        → IsTooLong old (check_inputs terms) input × EndsAt input old new
-    long_here input here name is before given longer ends =
-        subst (λ (i : Input). IsTooLong old (check_inputs terms) i × EndsAt i old new) (sym is) (record { before = before; name = name; given = given; longer = longer }, ends)
-
-    unread_here : (input here : Input) → input ≡ here → AcceptsBefore old (check_inputs terms) here → is_some (name_of (check_inputs terms) here) ≡ true → mid.inputs here ≡ old.inputs here → FaultsRose mid new here → EndsAt here old new
-        → IsUnread old new (check_inputs terms) input × EndsAt input old new
-    unread_here input here is before given same rose ends =
-        subst (λ (i : Input). IsUnread old new (check_inputs terms) i × EndsAt i old new) (sym is)
-        (record { before = before; given = given; rose = subst (λ (v : InputView). Rose v.faults (new.inputs here).faults) same rose }, ends)
-
     -- why the foreground report was not read
     fore_stopped : (outcome : Outcome) → StopsReport reports.Fore terms.fore mid new outcome → KeepsLater ForeReport mid new → CheckHasCause terms old new outcome
     fore_stopped (outcomes.Reports fault) h later = in_turn fault.report reports.Fore fault.line terms.fore h.0 files refl (refuses_before terms.fore fore_grammar fault.line h.1) (ends_fore later)
-    fore_stopped (outcomes.TooLong input) h later = long_here input ForeReport terms.fore h.0 files refl (longer_before terms.fore h.1) (ends_fore later)
-    fore_stopped (outcomes.ReadFault input) h later = unread_here input ForeReport h.0 files refl untouched.0 h.1 (ends_fore later)
-    fore_stopped outcomes.NoMemory h later = inl (record { input = ForeReport; before = files; ends = ends_fore later })
-    fore_stopped _ h later = absurd h
+    fore_stopped outcome h later =
+        check_stopped terms old new outcome (at_reading (check_inputs terms) old mid new ForeReport files terms.fore refl (held terms.fore) untouched.0 (ends_fore later) outcome h)
 
     -- or the background report
     back_stopped : (outcome : Outcome) → AcceptsFore old (check_inputs terms) → StopsReport reports.Back terms.back mid new outcome → CheckHasCause terms old new outcome
     back_stopped (outcomes.Reports fault) before h = in_turn fault.report reports.Back fault.line terms.back h.0 before refl (refuses_before terms.back back_grammar fault.line h.1) ends_back
-    back_stopped (outcomes.TooLong input) before h = long_here input BackReport terms.back h.0 before refl (longer_before terms.back h.1) ends_back
-    back_stopped (outcomes.ReadFault input) before h = unread_here input BackReport h.0 before refl untouched.1 h.1 ends_back
-    back_stopped outcomes.NoMemory before h = inl (record { input = BackReport; before = before; ends = ends_back })
-    back_stopped _ before h = absurd h
+    back_stopped outcome before h =
+        check_stopped terms old new outcome (at_reading (check_inputs terms) old mid new BackReport before terms.back refl (held terms.back) untouched.1 ends_back outcome h)
 
     -- why no verdict was reached
     pub printed_stopped : (outcome : Outcome) → StopsPrinted terms mid new outcome → CheckHasCause terms old new outcome

@@ -24,11 +24,11 @@ use Rattle.fb_report.proofs.Ranges.{all_get}
 use Rattle.fb_words.specs.Command.{ArrayTerms, RebuildTerms}
 use Rattle.fb_top.specs.declared.outcome.Outcome.{Outcome}
 use Rattle.fb_top.specs.declared.outcome.Outcome.TheVariants as outcomes
-use Rattle.fb_top.specs.Sources.{SourceTerms}
+use Rattle.fb_top.specs.Sources.{SourceTerms, array_inputs}
 use Rattle.fb_top.specs.Read.{key_of}
-use Rattle.fb_top.specs.Causes.{AcceptsDisk, StopsDisk}
+use Rattle.fb_top.specs.Causes.{AcceptsDisk, StopsDisk, StopsReading}
 use Rattle.fb_top.specs.Devices.{Array, ReadsTraces, StopsArray, StopsRebuild, StopsTraces, device_files, device_inputs, is_rebuilt_from}
-use Rattle.fb_top.proofs.Later.{at_params, at_trace, ends_at_trace, is_accepted}
+use Rattle.fb_top.proofs.Later.{at_params, at_reading, ends_at_trace, is_accepted, trace_is_no_params}
 
 -- the names of an array's files, and its first device
 abbrev pub sources : ArrayTerms → SourceTerms
@@ -64,10 +64,14 @@ array_at_trace terms old mid new (outcomes.Trace fault) before first second h = 
   },
   ends_at_trace old mid new first second,
 )
-array_at_trace terms old mid new (outcomes.TooLong Trace) before first second h = at_trace (sources terms) old mid new (outcomes.TooLong Trace) before first second h
-array_at_trace terms old mid new (outcomes.ReadFault Trace) before first second h = at_trace (sources terms) old mid new (outcomes.ReadFault Trace) before first second h
-array_at_trace terms old mid new outcomes.NoMemory before first second h = at_trace (sources terms) old mid new outcomes.NoMemory before first second h
-array_at_trace terms old mid new _ before first second h = absurd h
+array_at_trace terms old mid new (outcomes.Calls fault) before first second h = absurd h
+array_at_trace terms old mid new outcome before first second h =
+    at_reading (array_inputs terms) old mid new Trace before terms.trace refl (first.held terms.trace) (first.inputs Trace trace_is_no_params) (ends_at_trace old mid new first second) outcome h
+
+-- an input that was not read whole was not accepted
+pub traces_unread : (name : List ℕ) (devices : ℕ) (disk : Disk) (old new : DeskView) (outcome : Outcome) → StopsReading Trace name old new outcome → StopsTraces name devices disk old new outcome
+traces_unread name devices disk old new (outcomes.Trace fault) h = absurd h
+traces_unread name devices disk old new _ h = h
 
 -- why the script of the rebuild has no calls
 pub array_at_rebuild : (terms : ArrayTerms) (old mid new : DeskView) (outcome : Outcome) (before : AcceptsDisk old terms.params) (traces : List Accepted)

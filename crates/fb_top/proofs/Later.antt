@@ -1,5 +1,5 @@
 -- What was read or written later, told of the desk at the start.
-use Rattle.std.proofs.Common.{◌≡◌, ◌≢◌, ℕ, ◌<◌, ◌≤◌, ◌^◌, List, [], ◌∷◌, length, Option, Some, None, true, refl, subst, ◌∙◌, inl}
+use Rattle.std.proofs.Common.{◌≡◌, ◌≢◌, ℕ, ◌<◌, ◌≤◌, ◌^◌, List, [], ◌∷◌, length, Option, Some, None, true, refl, sym, subst, ◌∙◌, inl}
 use Rattle.std.specs.Prelude.{IfSome, is_some}
 use Rattle.std.specs.List.{AllByRecursion}
 use Rattle.fb_units.specs.declared.types.Request.{Request}
@@ -13,13 +13,15 @@ use Rattle.fb_model.specs.Accepted.{IsAccepted, IsRequestOf}
 use Rattle.fb_model.specs.PlainReplay.{Key}
 use Rattle.fb_desk.specs.Calls.{Rose, ChangesInput}
 use Rattle.fb_desk.specs.View.{DeskView, InputView}
+use Rattle.fb_desk.specs.declared.desk.Input.{Input}
 use Rattle.fb_desk.specs.declared.desk.Input.TheVariants.{Params, Trace, Calls, Puts, ForeReport, BackReport}
+use Rattle.fb_report.specs.declared.reading.Report.{Report}
 use Rattle.fb_words.specs.Command.{ReplayTerms}
-use Rattle.fb_top.specs.Sources.{SourceTerms, files_alone, replay_inputs}
+use Rattle.fb_top.specs.Sources.{InputTerms, SourceTerms, files_alone, name_of, replay_inputs}
 use Rattle.fb_top.specs.declared.outcome.Outcome.{Outcome}
 use Rattle.fb_top.specs.declared.outcome.Outcome.TheVariants as outcomes
 use Rattle.fb_top.specs.Read.{ReadsTrace, ReadsScript, Files, inputs_of}
-use Rattle.fb_top.specs.Causes.{AcceptsDisk, AcceptsTrace, EndsAt, HasCause, StopsInputs, StopsDisk, StopsTrace, StopsCalls, StopsScript}
+use Rattle.fb_top.specs.Causes.{AcceptsBefore, AcceptsDisk, AcceptsTrace, EndsAt, HasCause, IsTooLong, IsUnread, StopsCalls, StopsDisk, StopsInputs, StopsPuts, StopsReading, StopsReport, StopsScript, StopsTrace, input_of, limit_of}
 
 pub trace_is_no_params : Trace ≢ Params
 trace_is_no_params e = cc
@@ -77,13 +79,47 @@ script_before old mid late (Some name) disk traced script first second reads = r
   spells = reads.spells;
 }
 
+pub has_name : (given : Option (List ℕ)) (name : List ℕ) → given ≡ Some name → is_some given ≡ true
+has_name given name e = cc
+
+-- why an input was not read whole, told of the desk at the start; those before it are accepted
+module _ (terms : InputTerms) (old mid new : DeskView) (input : Input) (before : AcceptsBefore old terms input) (name : List ℕ) (given : name_of terms input ≡ Some name)
+    (held : mid.held name ≡ old.held name) (same : mid.inputs input ≡ old.inputs input) (ends : EndsAt input old new) where
+  pub at_reading : (outcome : Outcome) → StopsReading input name mid new outcome → StopsInputs terms old new outcome
+  at_reading (outcomes.TooLong which) h =
+      subst (λ (i : Input). IsTooLong old terms i × EndsAt i old new) (sym h.0)
+      (record { before = before; name = name; given = given; longer = subst (λ (told : Option (List ℕ)). IfSome told (λ bytes. limit_of input < length bytes)) held h.1 }, ends)
+  at_reading (outcomes.ReadFault which) h =
+      subst (λ (i : Input). IsUnread old new terms i × EndsAt i old new) (sym h.0)
+      (record { before = before; given = has_name (name_of terms input) name given; rose = subst (λ (v : InputView). Rose v.faults (new.inputs input).faults) same h.1 }, ends)
+  at_reading outcomes.NoMemory h = record { input = input; before = before; ends = ends }
+  at_reading _ h = absurd h
+
+-- an input that was not read whole was not accepted
+pub disk_unread : (name : List ℕ) (old new : DeskView) (outcome : Outcome) → StopsReading Params name old new outcome → StopsDisk name old new outcome
+disk_unread name old new (outcomes.Params fault) h = absurd h
+disk_unread name old new _ h = h
+
+pub trace_unread : (name : List ℕ) (device : ℕ) (disk : Disk) (old new : DeskView) (outcome : Outcome) → StopsReading Trace name old new outcome → StopsTrace name device disk old new outcome
+trace_unread name device disk old new (outcomes.Trace fault) h = absurd h
+trace_unread name device disk old new _ h = h
+
+pub calls_unread : (name : List ℕ) (disk : Disk) (traced : ℕ) (old new : DeskView) (outcome : Outcome) → StopsReading Calls name old new outcome → StopsCalls name disk traced old new outcome
+calls_unread name disk traced old new (outcomes.Calls fault) h = absurd h
+calls_unread name disk traced old new _ h = h
+
+pub puts_unread : (name : List ℕ) (files : Files) (old new : DeskView) (outcome : Outcome) → StopsReading Puts name old new outcome → StopsPuts name files old new outcome
+puts_unread name files old new (outcomes.Puts fault) h = absurd h
+puts_unread name files old new _ h = h
+
+pub report_unread : (report : Report) (name : List ℕ) (old new : DeskView) (outcome : Outcome) → StopsReading (input_of report) name old new outcome → StopsReport report name old new outcome
+report_unread report name old new (outcomes.Reports fault) h = absurd h
+report_unread report name old new _ h = h
+
 -- why the parameter file was not read
 pub at_params : (words : SourceTerms) (old new : DeskView) (outcome : Outcome) → ChangesInput Params old new → StopsDisk words.params old new outcome → StopsInputs (files_alone words) old new outcome
 at_params words old new (outcomes.Params fault) only h = (h, ends_at_params old new only)
-at_params words old new (outcomes.TooLong Params) only h = (record { before = tt; name = words.params; given = refl; longer = h }, ends_at_params old new only)
-at_params words old new (outcomes.ReadFault Params) only h = (record { before = tt; given = refl; rose = h }, ends_at_params old new only)
-at_params words old new outcomes.NoMemory only h = (record { input = Params; before = tt; ends = ends_at_params old new only })
-at_params words old new _ only h = absurd h
+at_params words old new outcome only h = at_reading (files_alone words) old old new Params tt words.params refl refl refl (ends_at_params old new only) outcome h
 
 -- why the trace was not read
 pub at_trace : (words : SourceTerms) (old mid new : DeskView) (outcome : Outcome) (before : AcceptsDisk old words.params) → ChangesInput Params old mid → ChangesInput Trace mid new
@@ -100,24 +136,8 @@ at_trace words old mid new (outcomes.Trace fault) before first second h = (
   },
   ends_at_trace old mid new first second,
 )
-at_trace words old mid new (outcomes.TooLong Trace) before first second h = (
-  record {
-    before = before;
-    name = words.trace;
-    given = refl;
-    longer = subst (λ (told : Option (List ℕ)). IfSome told (λ held. 2 ^ 28 < length held)) (first.held words.trace) h;
-  },
-  ends_at_trace old mid new first second,
-)
-at_trace words old mid new (outcomes.ReadFault Trace) before first second h = (
-  record { before = before; given = refl; rose = subst (λ (v : InputView). Rose v.faults (new.inputs Trace).faults) (first.inputs Trace trace_is_no_params) h },
-  ends_at_trace old mid new first second,
-)
-at_trace words old mid new outcomes.NoMemory before first second h = (record { input = Trace; before = before; ends = ends_at_trace old mid new first second })
-at_trace words old mid new _ before first second h = absurd h
-
-pub has_name : (given : Option (List ℕ)) (name : List ℕ) → given ≡ Some name → is_some given ≡ true
-has_name given name e = cc
+at_trace words old mid new outcome before first second h =
+    at_reading (files_alone words) old mid new Trace before words.trace refl (first.held words.trace) (first.inputs Trace trace_is_no_params) (ends_at_trace old mid new first second) outcome h
 
 -- why the script of this name was not read
 at_calls : (words : SourceTerms) (old mid late new : DeskView) (outcome : Outcome) (before : AcceptsTrace old words) (name : List ℕ) → words.calls ≡ Some name
@@ -137,25 +157,9 @@ at_calls words old mid late new (outcomes.Calls fault) before name given first s
   },
   ends_at_calls old mid late new first second third,
 )
-at_calls words old mid late new (outcomes.TooLong Calls) before name given first second third h = (
-  record {
-    before = before;
-    name = name;
-    given = given;
-    longer = subst (λ (told : Option (List ℕ)). IfSome told (λ held. 2 ^ 26 < length held)) (second.held name ∙ first.held name) h;
-  },
-  ends_at_calls old mid late new first second third,
-)
-at_calls words old mid late new (outcomes.ReadFault Calls) before name given first second third h = (
-  record {
-    before = before;
-    given = has_name words.calls name given;
-    rose = subst (λ (v : InputView). Rose v.faults (new.inputs Calls).faults) (second.inputs Calls calls_are_no_trace ∙ first.inputs Calls calls_are_no_params) h;
-  },
-  ends_at_calls old mid late new first second third,
-)
-at_calls words old mid late new outcomes.NoMemory before name given first second third h = (record { input = Calls; before = before; ends = ends_at_calls old mid late new first second third })
-at_calls words old mid late new _ before name given first second third h = absurd h
+at_calls words old mid late new outcome before name given first second third h =
+    at_reading (files_alone words) old late new Calls before name given (second.held name ∙ first.held name) (second.inputs Calls calls_are_no_trace ∙ first.inputs Calls calls_are_no_params)
+    (ends_at_calls old mid late new first second third) outcome h
 
 -- why the script that is given was not read
 pub at_script : (words : SourceTerms) (old mid late new : DeskView) (outcome : Outcome) (before : AcceptsTrace old words)

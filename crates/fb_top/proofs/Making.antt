@@ -22,7 +22,7 @@ use Rattle.fb_desk.specs.declared.desk.Output.TheVariants.{Fore, Back, Spill, No
 use Rattle.fb_words.specs.Command.{MakeTerms}
 use Rattle.fb_top.specs.declared.outcome.Outcome.{Outcome}
 use Rattle.fb_top.specs.declared.outcome.Outcome.TheVariants as outcomes
-use Rattle.fb_top.specs.Causes.{AcceptsDisk}
+use Rattle.fb_top.specs.Causes.{AcceptsDisk, StopsDisk}
 use Rattle.fb_top.specs.Written.{HoldsWhole, HoldsFront, KeepsReports, KeepsButBoth, StopsText}
 use Rattle.fb_top.specs.Make.{MakeHasCause, WritesBoth, CutsTrace, CutsCalls, trace_text, sectors_of}
 use Rattle.fb_top.proofs.Each.{counted}
@@ -74,6 +74,16 @@ module _ (terms : MakeTerms) (old mid new : DeskView) (only : ChangesOutput Note
   make_cause_still outcomes.NoMemory (inr (inl cut)) = inr (inl (cuts_trace_still cut))
   make_cause_still outcomes.NoMemory (inr (inr cut)) = inr (inr (cuts_calls_still cut))
   make_cause_still _ h = absurd h
+
+-- why the parameter file was not read
+pub disk_stopped : (terms : MakeTerms) (old new : DeskView) (outcome : Outcome) → ChangesInput Params old new → StopsDisk terms.params old new outcome → MakeHasCause terms old new outcome
+disk_stopped terms old new (outcomes.Params fault) only h = (h, λ output no_note. only.outputs output)
+disk_stopped terms old new (outcomes.TooLong Params) only h = (h.1, λ output no_note. only.outputs output)
+disk_stopped terms old new (outcomes.ReadFault Params) only h = (h.1, λ output no_note. only.outputs output)
+disk_stopped terms old new outcomes.NoMemory only h = inl (λ output no_note. only.outputs output)
+disk_stopped terms old new (outcomes.TooLong input) only h = absurd (let other = h.0 in cc)
+disk_stopped terms old new (outcomes.ReadFault input) only h = absurd (let other = h.0 in cc)
+disk_stopped terms old new _ only h = absurd h
 
 cuts_trace : (terms : MakeTerms) (old mid new : DeskView) (makes : AcceptsDisk old terms.params) → ChangesInput Params old mid → ChangesOutput MadeTrace mid new
     → HoldsFront (new.outputs MadeTrace) terms.trace (trace_text terms makes.disk) → CutsTrace old new terms

@@ -17,7 +17,7 @@ use Rattle.fb_top.specs.Read.{AcceptsPuts, Files}
 use Rattle.fb_top.specs.Sources.{InputTerms, SourceTerms, files_alone, name_of}
 use Rattle.fb_top.specs.Taken.{KeepsOutputs}
 use Rattle.fb_top.specs.Unnamed.{KeepsUnnamed}
-use Rattle.fb_top.proofs.Later.{has_name}
+use Rattle.fb_top.proofs.Later.{at_reading}
 use Rattle.fb_top.proofs.Opened.{told_before, unopened}
 use Rattle.fb_top.proofs.Unnamed.{is_named}
 
@@ -106,14 +106,7 @@ module _ (terms : InputTerms) (sources : SourceTerms) (same : sources ≡ terms.
     },
     ends_at_puts,
   )
-  at_puts (outcomes.TooLong Puts) files name given h = (
-    record { before = files; name = name; given = given; longer = subst (λ (told : Option (List ℕ)). IfSome told (λ here. 2 ^ 26 < length here)) (held name) h },
-    ends_at_puts,
-  )
-  at_puts (outcomes.ReadFault Puts) files name given h =
-      (record { before = files; given = has_name terms.puts name given; rose = subst (λ (v : InputView). Rose v.faults (new.inputs Puts).faults) (unnamed Puts refl) h }, ends_at_puts)
-  at_puts outcomes.NoMemory files name given h = record { input = Puts; before = files; ends = ends_at_puts }
-  at_puts _ files name given h = absurd h
+  at_puts outcome files name given h = at_reading terms old mid new Puts files name given (held name) (unnamed Puts refl) ends_at_puts outcome h
 
   -- why the puts that are given were not read
   pub puts_stopped : (outcome : Outcome) (files : AcceptsFiles old terms.sources) → StopsGivenPuts terms.puts files.files mid new outcome → StopsInputs terms old new outcome

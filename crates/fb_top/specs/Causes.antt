@@ -170,29 +170,27 @@ CheckHasCause terms old new (outcomes.WriteFault output) = IsVerdictCut old new 
 CheckHasCause terms old new outcomes.NoMemory = RunsOut old new (check_inputs terms) ⊎ IsVerdictCut old new terms outcomes.NoMemory
 CheckHasCause terms old new outcome = StopsInputs (check_inputs terms) old new outcome
 
+-- why an input was not read whole
+abbrev pub StopsReading : Input → List ℕ → DeskView → DeskView → Outcome → Type 0
+StopsReading input name old new (outcomes.TooLong which) = (which ≡ input) × IsLonger old name (limit_of input)
+StopsReading input name old new (outcomes.ReadFault which) = (which ≡ input) × FaultsRose old new input
+StopsReading input name old new outcomes.NoMemory = Unit {0}
+StopsReading input name old new _ = ⊥
+
 -- why no disk was read
 abbrev pub StopsDisk : List ℕ → DeskView → DeskView → Outcome → Type 0
 StopsDisk name old new (outcomes.Params fault) = RefusesDisk old name fault
-StopsDisk name old new (outcomes.TooLong Params) = IsLonger old name (limit_of Params)
-StopsDisk name old new (outcomes.ReadFault Params) = FaultsRose old new Params
-StopsDisk name old new outcomes.NoMemory = Unit {0}
-StopsDisk name old new _ = ⊥
+StopsDisk name old new outcome = StopsReading Params name old new outcome
 
 -- why no trace was read
 abbrev pub StopsTrace : List ℕ → ℕ → Disk → DeskView → DeskView → Outcome → Type 0
 StopsTrace name device disk old new (outcomes.Trace fault) = RefusesTrace old name device disk fault
-StopsTrace name device disk old new (outcomes.TooLong Trace) = IsLonger old name (limit_of Trace)
-StopsTrace name device disk old new (outcomes.ReadFault Trace) = FaultsRose old new Trace
-StopsTrace name device disk old new outcomes.NoMemory = Unit {0}
-StopsTrace name device disk old new _ = ⊥
+StopsTrace name device disk old new outcome = StopsReading Trace name old new outcome
 
 -- why no script was read
 abbrev pub StopsCalls : List ℕ → Disk → ℕ → DeskView → DeskView → Outcome → Type 0
 StopsCalls name disk traced old new (outcomes.Calls fault) = RefusesCalls old name disk traced fault
-StopsCalls name disk traced old new (outcomes.TooLong Calls) = IsLonger old name (limit_of Calls)
-StopsCalls name disk traced old new (outcomes.ReadFault Calls) = FaultsRose old new Calls
-StopsCalls name disk traced old new outcomes.NoMemory = Unit {0}
-StopsCalls name disk traced old new _ = ⊥
+StopsCalls name disk traced old new outcome = StopsReading Calls name old new outcome
 
 -- why no script was read where one is given
 abbrev pub StopsScript : Option (List ℕ) → Disk → ℕ → DeskView → DeskView → Outcome → Type 0
@@ -201,10 +199,7 @@ StopsScript given disk traced old new outcome = (name : List ℕ) × (given ≡ 
 -- why no puts were read
 abbrev pub StopsPuts : List ℕ → Files → DeskView → DeskView → Outcome → Type 0
 StopsPuts name files old new (outcomes.Puts fault) = RefusesPuts old name files fault
-StopsPuts name files old new (outcomes.TooLong Puts) = IsLonger old name (limit_of Puts)
-StopsPuts name files old new (outcomes.ReadFault Puts) = FaultsRose old new Puts
-StopsPuts name files old new outcomes.NoMemory = Unit {0}
-StopsPuts name files old new _ = ⊥
+StopsPuts name files old new outcome = StopsReading Puts name old new outcome
 
 -- why no puts were read where they are given
 abbrev pub StopsGivenPuts : Option (List ℕ) → Files → DeskView → DeskView → Outcome → Type 0
@@ -218,10 +213,7 @@ refused_as errors.NoMemory = outcomes.NoMemory
 -- why no report was read, or why reports were not judged
 abbrev pub StopsReport : Report → List ℕ → DeskView → DeskView → Outcome → Type 0
 StopsReport report name old new (outcomes.Reports fault) = (fault.report ≡ report) × RefusesReport old name (grammar_of report) fault.line
-StopsReport report name old new (outcomes.TooLong input) = (input ≡ input_of report) × IsLonger old name (limit_of (input_of report))
-StopsReport report name old new (outcomes.ReadFault input) = (input ≡ input_of report) × FaultsRose old new (input_of report)
-StopsReport report name old new outcomes.NoMemory = Unit {0}
-StopsReport report name old new _ = ⊥
+StopsReport report name old new outcome = StopsReading (input_of report) name old new outcome
 
 -- no foreground report was read, and the background report was not touched
 pub record StopsFore (terms : CheckTerms) (old new : DeskView) (outcome : Outcome) : Type 0 where

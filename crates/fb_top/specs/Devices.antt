@@ -20,9 +20,9 @@ use Rattle.fb_top.specs.declared.devices.ArrayFiles.{ArrayFiles}
 use Rattle.fb_top.specs.Read.{Files, ReadsDisk, inputs_of, key_of}
 use Rattle.fb_top.specs.declared.outcome.Outcome.{Outcome}
 use Rattle.fb_top.specs.declared.outcome.Outcome.TheVariants as outcomes
-use Rattle.fb_top.specs.Causes.{AcceptsDisk, EndsAt, FaultsRose, StopsInputs, limit_of}
+use Rattle.fb_top.specs.Causes.{AcceptsDisk, EndsAt, StopsInputs, StopsReading}
 use Rattle.fb_top.specs.Sources.{array_inputs}
-use Rattle.fb_top.specs.Streams.{IsHeld, IsLonger}
+use Rattle.fb_top.specs.Streams.{IsHeld}
 
 -- the trace under a name is accepted for each device of this disk, with these requests, by device
 pub record ReadsTraces (desk : DeskView) (name : List ℕ) (devices : ℕ) (disk : Disk) (traces : List Accepted) : Type 0 where
@@ -109,10 +109,7 @@ StopsArray terms old new outcome = StopsInputs (array_inputs terms) old new outc
 -- why no trace was read
 abbrev pub StopsTraces : List ℕ → ℕ → Disk → DeskView → DeskView → Outcome → Type 0
 StopsTraces name devices disk old new (outcomes.Trace fault) = RefusesTraces old name devices disk fault
-StopsTraces name devices disk old new (outcomes.TooLong Trace) = IsLonger old name (limit_of Trace)
-StopsTraces name devices disk old new (outcomes.ReadFault Trace) = FaultsRose old new Trace
-StopsTraces name devices disk old new outcomes.NoMemory = Unit {0}
-StopsTraces name devices disk old new _ = ⊥
+StopsTraces name devices disk old new outcome = StopsReading Trace name old new outcome
 
 -- why a rebuild has no calls
 abbrev pub StopsRebuild : Option RebuildTerms → Shape → Outcome → Type 0

@@ -24,8 +24,7 @@ ghost use Rattle.fb_top.specs.Taken.{KeepsOutputs};
 ghost use Rattle.fb_top.specs.Unnamed.{KeepsUnnamed};
 
 use crate::Outcome;
-use crate::reading::{TRACE_LIMIT, no_calls, read_disk};
-use crate::streams::{InputError, read_whole};
+use crate::reading::{no_calls, read_disk, read_input};
 use fb_calls::Calls;
 use fb_desk::{Desk, Input};
 use fb_mirror::{rebuild_script, rebuild_scripts_are_read};
@@ -141,11 +140,9 @@ fn read_devices<D: Desk>(
     ensures servable { IfOk result (λ traces. AllByRecursion (λ trace. IsTraceOf (length (places disk.now.map)) trace.requests.items) traces.items) }
     ensures stops { IfErr result (StopsTraces name.now devices disk.now (D.seen desk.old) (D.seen desk.new)) }
 {
-    let bytes = match read_whole(alloc, desk, Input::Trace, name, TRACE_LIMIT) {
+    let bytes = match read_input(alloc, desk, Input::Trace, name) {
         Ok(bytes) => bytes,
-        Err(InputError::Failed) => return Err(Outcome::ReadFault(Input::Trace)),
-        Err(InputError::TooLong) => return Err(Outcome::TooLong(Input::Trace)),
-        Err(InputError::NoMemory) => return Err(Outcome::NoMemory),
+        Err(outcome) => return Err(outcome),
     };
     match read_traces(alloc, bytes.as_slice(), devices, disk.map.count()) {
         Ok(traces) => Ok(traces),

@@ -18,15 +18,11 @@ ghost use Rattle.fb_top.specs.Taken.{KeepsOutputs};
 ghost use Rattle.fb_top.specs.Unnamed.{KeepsUnnamed};
 
 use crate::Outcome;
-use crate::reading::{ReplayFiles, Sources, read_inputs};
-use crate::streams::{InputError, read_whole};
+use crate::reading::{ReplayFiles, Sources, read_input, read_inputs};
 use fb_desk::{Desk, Input};
 use fb_puts::{Puts, PutsError, read_puts};
 use fb_words::ReplayWords;
 use std::alloc::Global;
-
-// The most bytes that a puts file may have.
-const PUTS_LIMIT: usize = 1 << 26;
 
 /// What the inputs of a replay say.
 #[derive(Drop)]
@@ -129,11 +125,9 @@ fn read_named_puts<D: Desk>(
     ensures fit { IfOk result (λ puts. CanBeSpilled (files_of files.now) (accepted puts)) }
     ensures stops { IfErr result (StopsPuts name.now (files_of files.now) (D.seen desk.old) (D.seen desk.new)) }
 {
-    let bytes = match read_whole(alloc, desk, Input::Puts, name, PUTS_LIMIT) {
+    let bytes = match read_input(alloc, desk, Input::Puts, name) {
         Ok(bytes) => bytes,
-        Err(InputError::Failed) => return Err(Outcome::ReadFault(Input::Puts)),
-        Err(InputError::TooLong) => return Err(Outcome::TooLong(Input::Puts)),
-        Err(InputError::NoMemory) => return Err(Outcome::NoMemory),
+        Err(outcome) => return Err(outcome),
     };
     let map = &files.params.disk.map;
     match read_puts(alloc, bytes.as_slice(), map, &files.trace, &files.calls) {

@@ -15,7 +15,7 @@ ghost use Rattle.fb_model.specs.Accepted.{IsAccepted};
 ghost use Rattle.fb_model.specs.PlainReplay.{Key};
 ghost use Rattle.fb_top.specs.Sources.{files_alone, sources_of};
 ghost use Rattle.fb_top.specs.Read.{Accepts, ReadsCalls, ReadsDisk, ReadsScript, ReadsTrace, files_of, inputs_of};
-ghost use Rattle.fb_top.specs.Causes.{StopsCalls, StopsDisk, StopsInputs, StopsReport, StopsScript, StopsTrace, input_of};
+ghost use Rattle.fb_top.specs.Causes.{StopsCalls, StopsDisk, StopsInputs, StopsReading, StopsReport, StopsScript, StopsTrace, input_of, limit_of};
 ghost use Rattle.fb_top.specs.Taken.{KeepsOutputs, files_on};
 ghost use Rattle.fb_top.specs.Unnamed.{KeepsUnnamed};
 ghost use Rattle.fb_top.specs.Opened.{IsOpenedAs, OpensAsNamed};
@@ -34,18 +34,6 @@ use fb_service::Disk;
 use fb_trace::{Trace, TraceError, read_trace};
 use fb_units::Ns;
 use std::alloc::Global;
-
-// The most bytes that a parameter file may have.
-const PARAMS_LIMIT: usize = 1 << 20;
-
-/// The most bytes that a trace may have.
-pub const TRACE_LIMIT: usize = 1 << 28;
-
-// The most bytes that a call script may have.
-const CALLS_LIMIT: usize = 1 << 26;
-
-// The most bytes that a printed report may have.
-const REPORT_LIMIT: usize = 1 << 28;
 
 /// The files of a run, by the names that the words give them.
 #[derive(Clone, Copy)]
@@ -167,6 +155,46 @@ fn read_load<D: Desk>(
     }
 }
 
+/// Reads the input under this name to its end.
+///
+/// The error is the outcome: it can't be read, has too many bytes, or memory ran out.
+pub fn read_input<D: Desk>(
+    alloc: Global,
+    desk: &mut D,
+    which: Input,
+    name: &str,
+) -> Result<Vec<u8>, Outcome>
+    requires fresh { ((D.seen desk.old).inputs which).opened ≡ false }
+    ensures only { ChangesInput which (D.seen desk.old) (D.seen desk.new) }
+    ensures opened { IsOpenedAs name.now (D.seen desk.old) ((D.seen desk.new).inputs which) }
+    ensures calm { IfOk result (λ _. ((D.seen desk.new).inputs which).faults ≡ ((D.seen desk.old).inputs which).faults) }
+    ensures whole { IfOk result (λ bytes. IsHeld (D.seen desk.old) name.now bytes.items) }
+    ensures few { IfOk result (λ bytes. length bytes.items ≤ limit_of which) }
+    ensures stops { IfErr result (StopsReading which name.now (D.seen desk.old) (D.seen desk.new)) }
+{
+    match read_whole(alloc, desk, which, name, limit_of(which)) {
+        Ok(bytes) => Ok(bytes),
+        Err(InputError::Failed) => Err(Outcome::ReadFault(which)),
+        Err(InputError::TooLong) => Err(Outcome::TooLong(which)),
+        Err(InputError::NoMemory) => Err(Outcome::NoMemory),
+    }
+}
+
+// How many bytes an input may have.
+fn limit_of(which: Input) -> usize
+    ensures value { result ≡ limit_of which }
+    ensures few { result ≤ 2 ^ 28 }
+{
+    match which {
+        Input::Params => 1 << 20,
+        Input::Trace => 1 << 28,
+        Input::Calls => 1 << 26,
+        Input::Puts => 1 << 26,
+        Input::ForeReport => 1 << 28,
+        Input::BackReport => 1 << 28,
+    }
+}
+
 /// Reads the parameter file under this name.
 ///
 /// The error is the outcome: it can't be read, has too many bytes, is refused, or memory ran out.
@@ -179,11 +207,9 @@ pub fn read_disk<D: Desk>(alloc: Global, desk: &mut D, name: &str) -> Result<Par
     ensures latent { IfOk result (λ params. AllByRecursion (λ lbn. lbn < length (places params.disk.map)) params.latent.items) }
     ensures stops { IfErr result (StopsDisk name.now (D.seen desk.old) (D.seen desk.new)) }
 {
-    let bytes = match read_whole(alloc, desk, Input::Params, name, PARAMS_LIMIT) {
+    let bytes = match read_input(alloc, desk, Input::Params, name) {
         Ok(bytes) => bytes,
-        Err(InputError::Failed) => return Err(Outcome::ReadFault(Input::Params)),
-        Err(InputError::TooLong) => return Err(Outcome::TooLong(Input::Params)),
-        Err(InputError::NoMemory) => return Err(Outcome::NoMemory),
+        Err(outcome) => return Err(outcome),
     };
     match read_params(alloc, bytes.as_slice()) {
         Ok(params) => Ok(params),
@@ -208,11 +234,9 @@ fn read_requests<D: Desk>(
     ensures servable { IfOk result (λ trace. IsTraceOf (length (places disk.now.map)) trace.requests.items) }
     ensures stops { IfErr result (StopsTrace name.now device disk.now (D.seen desk.old) (D.seen desk.new)) }
 {
-    let bytes = match read_whole(alloc, desk, Input::Trace, name, TRACE_LIMIT) {
+    let bytes = match read_input(alloc, desk, Input::Trace, name) {
         Ok(bytes) => bytes,
-        Err(InputError::Failed) => return Err(Outcome::ReadFault(Input::Trace)),
-        Err(InputError::TooLong) => return Err(Outcome::TooLong(Input::Trace)),
-        Err(InputError::NoMemory) => return Err(Outcome::NoMemory),
+        Err(outcome) => return Err(outcome),
     };
     match read_trace(alloc, bytes.as_slice(), device, disk.map.count()) {
         Ok(trace) => Ok(trace),
@@ -262,11 +286,9 @@ fn read_named_script<D: Desk>(
     ensures names { IfOk result (λ calls. length calls.names ≡ length (tasks calls.calls.items)) }
     ensures stops { IfErr result (StopsCalls name.now disk.now traced (D.seen desk.old) (D.seen desk.new)) }
 {
-    let bytes = match read_whole(alloc, desk, Input::Calls, name, CALLS_LIMIT) {
+    let bytes = match read_input(alloc, desk, Input::Calls, name) {
         Ok(bytes) => bytes,
-        Err(InputError::Failed) => return Err(Outcome::ReadFault(Input::Calls)),
-        Err(InputError::TooLong) => return Err(Outcome::TooLong(Input::Calls)),
-        Err(InputError::NoMemory) => return Err(Outcome::NoMemory),
+        Err(outcome) => return Err(outcome),
     };
     match read_calls(alloc, bytes.as_slice(), &disk.map, traced) {
         Ok(calls) => Ok(calls),
@@ -300,16 +322,10 @@ pub fn read_printed<D: Desk>(
     ensures opened { IsOpenedAs name.now (D.seen desk.old) ((D.seen desk.new).inputs (input_of report)) }
     ensures calm { IfOk result (λ _. ((D.seen desk.new).inputs (input_of report)).faults ≡ ((D.seen desk.old).inputs (input_of report)).faults) }
     ensures whole { IfOk result (λ bytes. IsHeld (D.seen desk.old) name.now bytes.items) }
-    ensures few { IfOk result (λ bytes. length bytes.items ≤ 2 ^ 28) }
+    ensures few { IfOk result (λ bytes. length bytes.items ≤ limit_of (input_of report)) }
     ensures stops { IfErr result (StopsReport report name.now (D.seen desk.old) (D.seen desk.new)) }
 {
-    let which = input_of(report);
-    match read_whole(alloc, desk, which, name, REPORT_LIMIT) {
-        Ok(bytes) => Ok(bytes),
-        Err(InputError::Failed) => Err(Outcome::ReadFault(which)),
-        Err(InputError::TooLong) => Err(Outcome::TooLong(which)),
-        Err(InputError::NoMemory) => Err(Outcome::NoMemory),
-    }
+    read_input(alloc, desk, input_of(report), name)
 }
 
 // The input that holds a report.

@@ -1,6 +1,9 @@
 use Rattle.std.proofs.Common.{List, ℕ, subst}
+use Rattle.fb_top.specs.Causes.{StopsDisk}
 use Rattle.fb_top.specs.Read.{ReadsDisk}
+use Rattle.fb_top.proofs.Making.{disk_stopped}
 use Rattle.fb_top.proofs.Unnamed.{later_at_params, later_after}
+use Rattle.fb_words.specs.Verdict.{make_terms}
 use Rattle.fb_top.proofs.make.run_make.Goals as goal
 
 pub returns-in-Ok-clause-cause : goal.returns-in-Ok-clause-cause
@@ -16,3 +19,10 @@ returns-in-Ok-clause-unnamed g c =
     let old = g.D.Desk.seen c.args.desk.now in
     let mid = g.D.Desk.seen c.read_disk.new.desk in
     later_after old mid (g.D.Desk.seen c.make_for.new.desk) (later_at_params old mid c.in-Ok.ensures.only) c.make_for.ensures.inputs
+
+pub returns-in-Err-clause-cause : goal.returns-in-Err-clause-cause
+returns-in-Err-clause-cause g c =
+    let old = g.D.Desk.seen c.args.desk.now in
+    let new = g.D.Desk.seen c.read_disk.new.desk in
+    disk_stopped (make_terms c.args.words.now) old new c.in-Err.outcome c.in-Err.ensures.only
+    (subst (λ (name : List ℕ). StopsDisk name old new c.in-Err.outcome) c.as_str.ensures.value c.in-Err.ensures.stops)
