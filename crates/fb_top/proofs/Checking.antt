@@ -21,7 +21,7 @@ use Rattle.fb_top.specs.Sources.{check_inputs, check_sources, files_alone, name_
 use Rattle.fb_top.specs.Streams.{IsLonger}
 use Rattle.fb_top.specs.Taken.{KeepsOutputs, TakesCheck}
 use Rattle.fb_top.specs.Written.{KeepsBut, KeepsReports, StopsText}
-use Rattle.fb_top.proofs.Later.{at_reading}
+use Rattle.fb_top.proofs.Later.{at_reading, reads_before}
 use Rattle.fb_top.proofs.Moved.{fore_is_no_note, stops_text}
 use Rattle.fb_top.proofs.MoreInputs.{files_stopped}
 
@@ -39,8 +39,8 @@ module _ (terms : CheckTerms) (old new : DeskView) where
 
 -- the files were read, and then the reports
 module _ (terms : CheckTerms) (old mid new : DeskView) (held : (name : List ℕ) → mid.held name ≡ old.held name) (outputs : KeepsOutputs old mid) (only : ChangesPrinted mid new) where
-  reads_before : (name : List ℕ) (grammar : Grammar) (lines : List (List ℕ)) → ReadsReport mid name grammar lines → ReadsReport old name grammar lines
-  reads_before name grammar lines reads = record {
+  report_before : (name : List ℕ) (grammar : Grammar) (lines : List (List ℕ)) → ReadsReport mid name grammar lines → ReadsReport old name grammar lines
+  report_before name grammar lines reads = record {
     bytes = reads.bytes;
     held = subst (λ (told : Option (List ℕ)). IfSome told (λ here. reads.bytes ≡ here)) (held name) reads.held;
     within = reads.within;
@@ -48,22 +48,14 @@ module _ (terms : CheckTerms) (old mid new : DeskView) (held : (name : List ℕ)
     whole = reads.whole;
   }
 
-  refuses_before : (name : List ℕ) (grammar : Grammar) (line : ℕ) → RefusesReport mid name grammar line → RefusesReport old name grammar line
-  refuses_before name grammar line refuses = record {
-    bytes = refuses.bytes;
-    held = subst (λ (told : Option (List ℕ)). IfSome told (λ here. refuses.bytes ≡ here)) (held name) refuses.held;
-    within = refuses.within;
-    spells = refuses.spells;
-  }
-
   -- the verdict on what was read
   pub judges_before : (files : Files) (verdict : Verdict) → JudgesBy mid terms files verdict → JudgesBy old terms files verdict
   judges_before files verdict judges = record {
     fore = judges.fore;
-    fore_read = reads_before terms.fore fore_grammar judges.fore judges.fore_read;
+    fore_read = report_before terms.fore fore_grammar judges.fore judges.fore_read;
     judges_back = record {
       back = judges.judges_back.back;
-      back_read = reads_before terms.back back_grammar judges.judges_back.back judges.judges_back.back_read;
+      back_read = report_before terms.back back_grammar judges.judges_back.back judges.judges_back.back_read;
       verdict_is = judges.judges_back.verdict_is;
     };
   }
@@ -79,7 +71,7 @@ module _ (terms : CheckTerms) (old mid new : DeskView) (held : (name : List ℕ)
     ends_back = record { later = tt; reports = keeps_reports }
 
     fore_before : (lines : List (List ℕ)) → ReadsReport mid terms.fore fore_grammar lines → AcceptsFore old (check_inputs terms)
-    fore_before lines reads = record { files = files; name = terms.fore; given = refl; lines = lines; reads_fore = reads_before terms.fore fore_grammar lines reads }
+    fore_before lines reads = record { files = files; name = terms.fore; given = refl; lines = lines; reads_fore = report_before terms.fore fore_grammar lines reads }
 
     -- the report that is refused is this one
     in_turn : (report here : Report) (line : ℕ) (name : List ℕ) → report ≡ here → AcceptsBefore old (check_inputs terms) (input_of here) → name_of (check_inputs terms) (input_of here) ≡ Some name
@@ -91,13 +83,13 @@ module _ (terms : CheckTerms) (old mid new : DeskView) (held : (name : List ℕ)
 
     -- why the foreground report was not read
     fore_stopped : (outcome : Outcome) → StopsReport reports.Fore terms.fore mid new outcome → KeepsLater ForeReport mid new → CheckHasCause terms old new outcome
-    fore_stopped (outcomes.Reports fault) h later = in_turn fault.report reports.Fore fault.line terms.fore h.0 files refl (refuses_before terms.fore fore_grammar fault.line h.1) (ends_fore later)
+    fore_stopped (outcomes.Reports fault) h later = in_turn fault.report reports.Fore fault.line terms.fore h.0 files refl (reads_before (held terms.fore) h.1) (ends_fore later)
     fore_stopped outcome h later =
         check_stopped terms old new outcome (at_reading (check_inputs terms) old mid new ForeReport files terms.fore refl (held terms.fore) untouched.0 (ends_fore later) outcome h)
 
     -- or the background report
     back_stopped : (outcome : Outcome) → AcceptsFore old (check_inputs terms) → StopsReport reports.Back terms.back mid new outcome → CheckHasCause terms old new outcome
-    back_stopped (outcomes.Reports fault) before h = in_turn fault.report reports.Back fault.line terms.back h.0 before refl (refuses_before terms.back back_grammar fault.line h.1) ends_back
+    back_stopped (outcomes.Reports fault) before h = in_turn fault.report reports.Back fault.line terms.back h.0 before refl (reads_before (held terms.back) h.1) ends_back
     back_stopped outcome before h =
         check_stopped terms old new outcome (at_reading (check_inputs terms) old mid new BackReport before terms.back refl (held terms.back) untouched.1 ends_back outcome h)
 

@@ -28,7 +28,7 @@ use Rattle.fb_top.specs.Sources.{SourceTerms, array_inputs}
 use Rattle.fb_top.specs.Read.{key_of}
 use Rattle.fb_top.specs.Causes.{AcceptsDisk, StopsDisk, StopsReading}
 use Rattle.fb_top.specs.Devices.{Array, ReadsTraces, StopsArray, StopsRebuild, StopsTraces, device_files, device_inputs, is_rebuilt_from}
-use Rattle.fb_top.proofs.Later.{at_params, at_reading, ends_at_trace, is_accepted, trace_is_no_params}
+use Rattle.fb_top.proofs.Later.{at_params, at_reading, ends_at_trace, is_accepted, reads_before, trace_is_no_params}
 
 -- the names of an array's files, and its first device
 abbrev pub sources : ArrayTerms → SourceTerms
@@ -40,30 +40,11 @@ array_at_params terms old new (outcomes.Trace fault) only h = absurd h
 array_at_params terms old new (outcomes.Calls fault) only h = absurd h
 array_at_params terms old new outcome only h = at_params (sources terms) old new outcome only h
 
--- the trace is held before as it is held after the parameter file was read
-pub traces_before : (old mid : DeskView) (name : List ℕ) (devices : ℕ) (disk : Disk) (traces : List Accepted) → ChangesInput Params old mid → ReadsTraces mid name devices disk traces → ReadsTraces old name devices disk traces
-traces_before old mid name devices disk traces only reads = record {
-  bytes = reads.bytes;
-  held = subst (λ (told : Option (List ℕ)). IfSome told (λ held. reads.bytes ≡ held)) (only.held name) reads.held;
-  within = reads.within;
-  spells = reads.spells;
-}
-
 -- why the trace was not read
 pub array_at_trace : (terms : ArrayTerms) (old mid new : DeskView) (outcome : Outcome) (before : AcceptsDisk old terms.params) → ChangesInput Params old mid → ChangesInput Trace mid new
     → StopsTraces terms.trace terms.devices before.disk mid new outcome → StopsArray terms old new outcome
-array_at_trace terms old mid new (outcomes.Trace fault) before first second h = (
-  record {
-    before = before;
-    refuses = record {
-      bytes = h.bytes;
-      held = subst (λ (told : Option (List ℕ)). IfSome told (λ held. h.bytes ≡ held)) (first.held terms.trace) h.held;
-      within = h.within;
-      spells = h.spells;
-    };
-  },
-  ends_at_trace old mid new first second,
-)
+array_at_trace terms old mid new (outcomes.Trace fault) before first second h =
+    (record { before = before; refuses = reads_before (first.held terms.trace) h }, ends_at_trace old mid new first second)
 array_at_trace terms old mid new (outcomes.Calls fault) before first second h = absurd h
 array_at_trace terms old mid new outcome before first second h =
     at_reading (array_inputs terms) old mid new Trace before terms.trace refl (first.held terms.trace) (first.inputs Trace trace_is_no_params) (ends_at_trace old mid new first second) outcome h

@@ -20,7 +20,8 @@ use Rattle.fb_words.specs.Command.{ReplayTerms}
 use Rattle.fb_top.specs.Sources.{InputTerms, SourceTerms, files_alone, name_of, replay_inputs}
 use Rattle.fb_top.specs.declared.outcome.Outcome.{Outcome}
 use Rattle.fb_top.specs.declared.outcome.Outcome.TheVariants as outcomes
-use Rattle.fb_top.specs.Read.{ReadsTrace, ReadsScript, Files, inputs_of}
+use Rattle.fb_top.specs.Read.{ReadsScript, Files, inputs_of}
+use Rattle.fb_top.specs.Streams.{ReadsAs}
 use Rattle.fb_top.specs.Causes.{AcceptsBefore, AcceptsDisk, AcceptsTrace, EndsAt, HasCause, IsTooLong, IsUnread, StopsCalls, StopsDisk, StopsInputs, StopsPuts, StopsReading, StopsReport, StopsScript, StopsTrace, input_of, limit_of}
 
 pub trace_is_no_params : Trace ≢ Params
@@ -59,25 +60,21 @@ ends_at_calls old mid late new first second third = record {
   reports = λ output no_note. third.outputs output ∙ second.outputs output ∙ first.outputs output;
 }
 
--- the trace is held before as it is held after the parameter file was read
-pub trace_before : (old mid : DeskView) (name : List ℕ) (device : ℕ) (disk : Disk) (trace : Accepted) → ChangesInput Params old mid → ReadsTrace mid name device disk trace → ReadsTrace old name device disk trace
-trace_before old mid name device disk trace only reads = record {
+-- bytes that are read later are read alike before
+pub reads_before : {A : Type 0} {old mid : DeskView} {name : List ℕ} {limit : ℕ} {read : List ℕ → A} {verdict : A} → mid.held name ≡ old.held name
+    → ReadsAs mid name limit read verdict → ReadsAs old name limit read verdict
+reads_before same reads = record {
   bytes = reads.bytes;
-  held = subst (λ (told : Option (List ℕ)). IfSome told (λ held. reads.bytes ≡ held)) (only.held name) reads.held;
+  held = subst (λ (told : Option (List ℕ)). IfSome told (λ held. reads.bytes ≡ held)) same reads.held;
   within = reads.within;
   spells = reads.spells;
 }
 
--- and the script as after both
+-- the script is held before as it is held after the parameter file and the trace were read
 pub script_before : (old mid late : DeskView) (given : Option (List ℕ)) (disk : Disk) (traced : ℕ) (script : Script) → ChangesInput Params old mid → ChangesInput Trace mid late
     → ReadsScript late given disk traced script → ReadsScript old given disk traced script
 script_before old mid late None disk traced script first second reads = reads
-script_before old mid late (Some name) disk traced script first second reads = record {
-  bytes = reads.bytes;
-  held = subst (λ (told : Option (List ℕ)). IfSome told (λ held. reads.bytes ≡ held)) (second.held name ∙ first.held name) reads.held;
-  within = reads.within;
-  spells = reads.spells;
-}
+script_before old mid late (Some name) disk traced script first second reads = reads_before (second.held name ∙ first.held name) reads
 
 pub has_name : (given : Option (List ℕ)) (name : List ℕ) → given ≡ Some name → is_some given ≡ true
 has_name given name e = cc
@@ -124,18 +121,8 @@ at_params words old new outcome only h = at_reading (files_alone words) old old 
 -- why the trace was not read
 pub at_trace : (words : SourceTerms) (old mid new : DeskView) (outcome : Outcome) (before : AcceptsDisk old words.params) → ChangesInput Params old mid → ChangesInput Trace mid new
     → StopsTrace words.trace words.device before.disk mid new outcome → StopsInputs (files_alone words) old new outcome
-at_trace words old mid new (outcomes.Trace fault) before first second h = (
-  record {
-    before = before;
-    refuses = record {
-      bytes = h.bytes;
-      held = subst (λ (told : Option (List ℕ)). IfSome told (λ held. h.bytes ≡ held)) (first.held words.trace) h.held;
-      within = h.within;
-      spells = h.spells;
-    };
-  },
-  ends_at_trace old mid new first second,
-)
+at_trace words old mid new (outcomes.Trace fault) before first second h =
+    (record { before = before; refuses = reads_before (first.held words.trace) h }, ends_at_trace old mid new first second)
 at_trace words old mid new outcome before first second h =
     at_reading (files_alone words) old mid new Trace before words.trace refl (first.held words.trace) (first.inputs Trace trace_is_no_params) (ends_at_trace old mid new first second) outcome h
 
@@ -143,20 +130,8 @@ at_trace words old mid new outcome before first second h =
 at_calls : (words : SourceTerms) (old mid late new : DeskView) (outcome : Outcome) (before : AcceptsTrace old words) (name : List ℕ) → words.calls ≡ Some name
     → ChangesInput Params old mid → ChangesInput Trace mid late → ChangesInput Calls late new
     → StopsCalls name before.params.disk (length before.trace.requests) late new outcome → StopsInputs (files_alone words) old new outcome
-at_calls words old mid late new (outcomes.Calls fault) before name given first second third h = (
-  record {
-    before = before;
-    name = name;
-    given = given;
-    refuses = record {
-      bytes = h.bytes;
-      held = subst (λ (told : Option (List ℕ)). IfSome told (λ held. h.bytes ≡ held)) (second.held name ∙ first.held name) h.held;
-      within = h.within;
-      spells = h.spells;
-    };
-  },
-  ends_at_calls old mid late new first second third,
-)
+at_calls words old mid late new (outcomes.Calls fault) before name given first second third h =
+    (record { before = before; name = name; given = given; refuses = reads_before (second.held name ∙ first.held name) h }, ends_at_calls old mid late new first second third)
 at_calls words old mid late new outcome before name given first second third h =
     at_reading (files_alone words) old late new Calls before name given (second.held name ∙ first.held name) (second.inputs Calls calls_are_no_trace ∙ first.inputs Calls calls_are_no_params)
     (ends_at_calls old mid late new first second third) outcome h

@@ -17,7 +17,7 @@ use Rattle.fb_top.specs.Read.{AcceptsPuts, Files}
 use Rattle.fb_top.specs.Sources.{InputTerms, SourceTerms, files_alone, name_of}
 use Rattle.fb_top.specs.Taken.{KeepsOutputs}
 use Rattle.fb_top.specs.Unnamed.{KeepsUnnamed}
-use Rattle.fb_top.proofs.Later.{at_reading}
+use Rattle.fb_top.proofs.Later.{at_reading, reads_before}
 use Rattle.fb_top.proofs.Opened.{told_before, unopened}
 use Rattle.fb_top.proofs.Unnamed.{is_named}
 
@@ -92,20 +92,7 @@ module _ (terms : InputTerms) (sources : SourceTerms) (same : sources ≡ terms.
 
   -- why the puts of this name were not read
   at_puts : (outcome : Outcome) (files : AcceptsFiles old terms.sources) (name : List ℕ) → terms.puts ≡ Some name → StopsPuts name files.files mid new outcome → StopsInputs terms old new outcome
-  at_puts (outcomes.Puts fault) files name given h = (
-    record {
-      before = files;
-      name = name;
-      given = given;
-      refuses = record {
-        bytes = h.bytes;
-        held = subst (λ (told : Option (List ℕ)). IfSome told (λ here. h.bytes ≡ here)) (held name) h.held;
-        within = h.within;
-        spells = h.spells;
-      };
-    },
-    ends_at_puts,
-  )
+  at_puts (outcomes.Puts fault) files name given h = (record { before = files; name = name; given = given; refuses = reads_before (held name) h }, ends_at_puts)
   at_puts outcome files name given h = at_reading terms old mid new Puts files name given (held name) (unnamed Puts refl) ends_at_puts outcome h
 
   -- why the puts that are given were not read
@@ -115,12 +102,7 @@ module _ (terms : InputTerms) (sources : SourceTerms) (same : sources ≡ terms.
   -- and where they were
   pub puts_before : (given : Option (List ℕ)) (files : Files) (puts : Option PutsRead) → AcceptsPuts mid given files puts → AcceptsPuts old given files puts
   puts_before None files None accepts = tt
-  puts_before (Some name) files (Some puts) accepts = record {
-    bytes = accepts.bytes;
-    held = subst (λ (told : Option (List ℕ)). IfSome told (λ here. accepts.bytes ≡ here)) (held name) accepts.held;
-    within = accepts.within;
-    spells = accepts.spells;
-  }
+  puts_before (Some name) files (Some puts) accepts = reads_before (held name) accepts
   puts_before None files (Some puts) accepts = absurd accepts
   puts_before (Some name) files None accepts = absurd accepts
 

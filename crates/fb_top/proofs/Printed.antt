@@ -20,7 +20,7 @@ use Rattle.fb_top.specs.Complete.{IsJudged, TellsReport}
 use Rattle.fb_top.specs.Done.{AreReadBack, HoldsWanted, IsRunOf, back_told, fore_told}
 use Rattle.fb_top.specs.Read.{Accepts, Files, ReadsScript}
 use Rattle.fb_top.specs.Sources.{SourceTerms}
-use Rattle.fb_top.specs.Streams.{IsHeld}
+use Rattle.fb_top.specs.Streams.{IsHeld, ReadsAs}
 use Rattle.fb_top.specs.Untouched.{HasReplayed, HoldAlike, HoldOneInput, HoldsLines, HoldsWritten}
 use Rattle.fb_top.specs.Written.{HoldsWhole, joined}
 use Rattle.fb_top.proofs.OneRun.{held_here}
@@ -62,17 +62,20 @@ module _ (one other : DeskView) where
   held_there : (name bytes : List ℕ) → HoldAlike one other name → IsHeld one name bytes → IsHeld other name bytes
   held_there name bytes alike held = subst (λ (told : Option (List ℕ)). IfSome told (λ here. bytes ≡ here)) (sym alike.2) (held_here (one.held name) bytes alike.0 alike.1 held)
 
+  reads_there : {A : Type 0} {limit : ℕ} {read : List ℕ → A} {verdict : A} (name : List ℕ) → HoldAlike one other name → ReadsAs one name limit read verdict → ReadsAs other name limit read verdict
+  reads_there name alike reads = record { bytes = reads.bytes; held = held_there name reads.bytes alike reads.held; within = reads.within; spells = reads.spells }
+
   pub told_there : (name : List ℕ) → HoldAlike one other name → is_some (other.held name) ≡ true
   told_there name alike = ap is_some alike.2
 
   script_there : (given : Option (List ℕ)) (disk : Disk) (traced : ℕ) (script : Script) → IfSome given (HoldAlike one other) → ReadsScript one given disk traced script → ReadsScript other given disk traced script
   script_there None disk traced script alike reads = reads
-  script_there (Some name) disk traced script alike reads = record { bytes = reads.bytes; held = held_there name reads.bytes alike reads.held; within = reads.within; spells = reads.spells }
+  script_there (Some name) disk traced script alike reads = reads_there name alike reads
 
   pub accepted_there : (terms : SourceTerms) (files : Files) → HoldOneInput one other terms → Accepts one terms files → Accepts other terms files
   accepted_there terms files alike reads = record {
-    disk = record { bytes = reads.disk.bytes; held = held_there terms.params reads.disk.bytes alike.params reads.disk.held; within = reads.disk.within; spells = reads.disk.spells };
-    trace = record { bytes = reads.trace.bytes; held = held_there terms.trace reads.trace.bytes alike.trace reads.trace.held; within = reads.trace.within; spells = reads.trace.spells };
+    disk = reads_there terms.params alike.params reads.disk;
+    trace = reads_there terms.trace alike.trace reads.trace;
     script = script_there terms.calls files.disk (length files.trace.requests) files.script alike.calls reads.script;
   }
 

@@ -22,21 +22,15 @@ use Rattle.fb_top.specs.declared.outcome.Outcome.{Outcome}
 use Rattle.fb_top.specs.declared.outcome.Outcome.TheVariants as outcomes
 use Rattle.fb_top.specs.Causes.{AcceptsDisk, EndsAt, StopsInputs, StopsReading}
 use Rattle.fb_top.specs.Sources.{array_inputs}
-use Rattle.fb_top.specs.Streams.{IsHeld}
+use Rattle.fb_top.specs.Streams.{ReadsAs}
 
 -- the trace under a name is accepted for each device of this disk, with these requests, by device
-pub record ReadsTraces (desk : DeskView) (name : List ℕ) (devices : ℕ) (disk : Disk) (traces : List Accepted) : Type 0 where
-  pub bytes : List ℕ
-  pub held : IsHeld desk name bytes
-  pub within : length bytes ≤ 2 ^ 28
-  pub spells : traces_of devices (length (places disk.map)) bytes ≡ Ok traces
+abbrev pub ReadsTraces : DeskView → List ℕ → ℕ → Disk → List Accepted → Type 0
+ReadsTraces desk name devices disk traces = ReadsAs desk name (2 ^ 28) (traces_of devices (length (places disk.map))) (Ok traces)
 
 -- or refused for one of them, and the least that is has this fault
-pub record RefusesTraces (desk : DeskView) (name : List ℕ) (devices : ℕ) (disk : Disk) (fault : TraceFault) : Type 0 where
-  pub bytes : List ℕ
-  pub held : IsHeld desk name bytes
-  pub within : length bytes ≤ 2 ^ 28
-  pub spells : traces_of devices (length (places disk.map)) bytes ≡ Err fault
+abbrev pub RefusesTraces : DeskView → List ℕ → ℕ → Disk → TraceFault → Type 0
+RefusesTraces desk name devices disk fault = ReadsAs desk name (2 ^ 28) (traces_of devices (length (places disk.map))) (Err fault)
 
 -- the calls that the script of the rebuild reads as, whatever the trace; without a rebuild there are none
 abbrev pub ReadsRebuild : Option RebuildTerms → Shape → Script → Type 0

@@ -22,49 +22,31 @@ use Rattle.fb_words.specs.declared.command.Policy.TheVariants.{Fcfs, Sstf, Clook
 use Rattle.fb_report.specs.Grammar.{Grammar, report_of, ended}
 use Rattle.fb_top.specs.declared.reading.ReplayFiles.{ReplayFiles}
 use Rattle.fb_top.specs.Sources.{SourceTerms}
-use Rattle.fb_top.specs.Streams.{IsHeld}
+use Rattle.fb_top.specs.Streams.{IsHeld, ReadsAs}
 
 -- the parameter file under a name is accepted, with this disk and these latent sectors
-pub record ReadsDisk (desk : DeskView) (name : List ℕ) (disk : Disk) (latent : List ℕ) : Type 0 where
-  pub bytes : List ℕ
-  pub held : IsHeld desk name bytes
-  pub within : length bytes ≤ 2 ^ 20
-  pub spells : params_of bytes ≡ Ok (record { outline = disk.map; mechanics = disk.mechanism; sector_bytes = disk.sector_bytes; latent = latent })
+abbrev pub ReadsDisk : DeskView → List ℕ → Disk → List ℕ → Type 0
+ReadsDisk desk name disk latent = ReadsAs desk name (2 ^ 20) params_of (Ok (record { outline = disk.map; mechanics = disk.mechanism; sector_bytes = disk.sector_bytes; latent = latent }))
 
 -- or refused, with this fault
-pub record RefusesDisk (desk : DeskView) (name : List ℕ) (fault : ParamsFault) : Type 0 where
-  pub bytes : List ℕ
-  pub held : IsHeld desk name bytes
-  pub within : length bytes ≤ 2 ^ 20
-  pub spells : params_of bytes ≡ Err fault
+abbrev pub RefusesDisk : DeskView → List ℕ → ParamsFault → Type 0
+RefusesDisk desk name fault = ReadsAs desk name (2 ^ 20) params_of (Err fault)
 
 -- the trace under a name is accepted for a device of the disk, with these requests
-pub record ReadsTrace (desk : DeskView) (name : List ℕ) (device : ℕ) (disk : Disk) (trace : Accepted) : Type 0 where
-  pub bytes : List ℕ
-  pub held : IsHeld desk name bytes
-  pub within : length bytes ≤ 2 ^ 28
-  pub spells : trace_of device (length (places disk.map)) bytes ≡ Ok trace
+abbrev pub ReadsTrace : DeskView → List ℕ → ℕ → Disk → Accepted → Type 0
+ReadsTrace desk name device disk trace = ReadsAs desk name (2 ^ 28) (trace_of device (length (places disk.map))) (Ok trace)
 
 -- or refused, with this fault
-pub record RefusesTrace (desk : DeskView) (name : List ℕ) (device : ℕ) (disk : Disk) (fault : TraceFault) : Type 0 where
-  pub bytes : List ℕ
-  pub held : IsHeld desk name bytes
-  pub within : length bytes ≤ 2 ^ 28
-  pub spells : trace_of device (length (places disk.map)) bytes ≡ Err fault
+abbrev pub RefusesTrace : DeskView → List ℕ → ℕ → Disk → TraceFault → Type 0
+RefusesTrace desk name device disk fault = ReadsAs desk name (2 ^ 28) (trace_of device (length (places disk.map))) (Err fault)
 
 -- the script under a name is accepted for the disk and a trace of this many requests, with these names and calls
-pub record ReadsCalls (desk : DeskView) (name : List ℕ) (disk : Disk) (traced : ℕ) (script : Script) : Type 0 where
-  pub bytes : List ℕ
-  pub held : IsHeld desk name bytes
-  pub within : length bytes ≤ 2 ^ 26
-  pub spells : calls_of disk.map traced bytes ≡ Ok script
+abbrev pub ReadsCalls : DeskView → List ℕ → Disk → ℕ → Script → Type 0
+ReadsCalls desk name disk traced script = ReadsAs desk name (2 ^ 26) (calls_of disk.map traced) (Ok script)
 
 -- or refused, with this fault
-pub record RefusesCalls (desk : DeskView) (name : List ℕ) (disk : Disk) (traced : ℕ) (fault : CallsFault) : Type 0 where
-  pub bytes : List ℕ
-  pub held : IsHeld desk name bytes
-  pub within : length bytes ≤ 2 ^ 26
-  pub spells : calls_of disk.map traced bytes ≡ Err fault
+abbrev pub RefusesCalls : DeskView → List ℕ → Disk → ℕ → CallsFault → Type 0
+RefusesCalls desk name disk traced fault = ReadsAs desk name (2 ^ 26) (calls_of disk.map traced) (Err fault)
 
 -- the script under the name that is given; without one there are no names and no calls
 abbrev pub ReadsScript : DeskView → Option (List ℕ) → Disk → ℕ → Script → Type 0
@@ -97,18 +79,12 @@ abbrev pub puts_terms : Files → PutsTerms
 puts_terms files = record { sectors = length (places files.disk.map); asked = asked files.trace.requests files.script.calls }
 
 -- the puts file under a name is accepted for these files, with this reserve and these puts
-pub record ReadsPuts (desk : DeskView) (name : List ℕ) (files : Files) (puts : PutsRead) : Type 0 where
-  pub bytes : List ℕ
-  pub held : IsHeld desk name bytes
-  pub within : length bytes ≤ 2 ^ 26
-  pub spells : puts_of (puts_terms files) bytes ≡ Ok puts
+abbrev pub ReadsPuts : DeskView → List ℕ → Files → PutsRead → Type 0
+ReadsPuts desk name files puts = ReadsAs desk name (2 ^ 26) (puts_of (puts_terms files)) (Ok puts)
 
 -- or refused, with this fault
-pub record RefusesPuts (desk : DeskView) (name : List ℕ) (files : Files) (fault : PutsFault) : Type 0 where
-  pub bytes : List ℕ
-  pub held : IsHeld desk name bytes
-  pub within : length bytes ≤ 2 ^ 26
-  pub spells : puts_of (puts_terms files) bytes ≡ Err fault
+abbrev pub RefusesPuts : DeskView → List ℕ → Files → PutsFault → Type 0
+RefusesPuts desk name files fault = ReadsAs desk name (2 ^ 26) (puts_of (puts_terms files)) (Err fault)
 
 -- the puts under the name that is given; without a name there are none
 abbrev pub AcceptsPuts : DeskView → Option (List ℕ) → Files → Option PutsRead → Type 0
@@ -144,8 +120,5 @@ pub record ReadsReport (desk : DeskView) (name : List ℕ) (grammar : Grammar) (
   pub whole : flat_map ended lines ≡ bytes
 
 -- or refused, from this line
-pub record RefusesReport (desk : DeskView) (name : List ℕ) (grammar : Grammar) (line : ℕ) : Type 0 where
-  pub bytes : List ℕ
-  pub held : IsHeld desk name bytes
-  pub within : length bytes ≤ 2 ^ 28
-  pub spells : report_of grammar bytes ≡ Err line
+abbrev pub RefusesReport : DeskView → List ℕ → Grammar → ℕ → Type 0
+RefusesReport desk name grammar line = ReadsAs desk name (2 ^ 28) (report_of grammar) (Err line)

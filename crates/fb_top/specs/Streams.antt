@@ -7,6 +7,13 @@ use Rattle.fb_desk.specs.View.{DeskView}
 abbrev pub IsHeld : DeskView → List ℕ → List ℕ → Type 0
 IsHeld desk name bytes = IfSome (desk.held name) (λ held. bytes ≡ held)
 
+-- the bytes under a name, at most so many, are read as this
+pub record ReadsAs {A : Type 0} (desk : DeskView) (name : List ℕ) (limit : ℕ) (read : List ℕ → A) (verdict : A) : Type 0 where
+  pub bytes : List ℕ
+  pub held : IsHeld desk name bytes
+  pub within : length bytes ≤ limit
+  pub spells : read bytes ≡ verdict
+
 -- more bytes than this are held under a name, where the desk tells them
 abbrev pub IsLonger : DeskView → List ℕ → ℕ → Type 0
 IsLonger desk name limit = IfSome (desk.held name) (λ held. limit < length held)

@@ -7,7 +7,8 @@ use Rattle.fb_top.specs.Causes.{StopsDisk}
 use Rattle.fb_top.specs.Devices.{array_of}
 use Rattle.fb_top.specs.Opened.{IsOpenedAs}
 use Rattle.fb_top.specs.Read.{ReadsDisk}
-use Rattle.fb_top.proofs.DeviceInputs.{array_at_params, each_fits, sources, traces_before}
+use Rattle.fb_top.proofs.DeviceInputs.{array_at_params, each_fits, sources}
+use Rattle.fb_top.proofs.Later.{reads_before}
 use Rattle.fb_top.proofs.Opened.{calm_inputs, opened_at_params, opened_at_trace}
 use Rattle.fb_top.proofs.Pieces.{input_same}
 use Rattle.fb_top.proofs.Unnamed.{unnamed_at_params, unnamed_at_trace}
@@ -38,8 +39,7 @@ returns-in-Ok-read_loads-clause-accepts g c =
     let disk = c.in-Ok.params.disk in
     record {
       disk = subst (λ (name : List ℕ). ReadsDisk old name disk c.in-Ok.params.latent.items) c.as_str.ensures.value c.in-Ok.ensures.disk;
-      traces = traces_before old (g.D.Desk.seen c.read_disk.new.desk) terms.trace terms.devices disk (map accepted c.in-Ok-read_loads.loads.traces.items)
-          c.in-Ok.ensures.only c.in-Ok-read_loads.ensures.traces;
+      traces = reads_before (c.in-Ok.ensures.only.held terms.trace) c.in-Ok-read_loads.ensures.traces;
       script = c.in-Ok-read_loads.ensures.script;
     }
 

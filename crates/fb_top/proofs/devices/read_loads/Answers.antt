@@ -6,7 +6,8 @@ use Rattle.fb_trace.specs.Verdict.{accepted}
 use Rattle.fb_calls.specs.Allowed.{IsScript}
 use Rattle.fb_words.specs.Verdict.{array_terms}
 use Rattle.fb_top.specs.Devices.{ReadsTraces, StopsTraces, is_rebuilt_from}
-use Rattle.fb_top.proofs.DeviceInputs.{array_at_rebuild, array_at_trace, traces_before}
+use Rattle.fb_top.proofs.DeviceInputs.{array_at_rebuild, array_at_trace}
+use Rattle.fb_top.proofs.Later.{reads_before}
 use Rattle.fb_top.proofs.Values.{each_counted}
 use Rattle.fb_top.proofs.devices.read_loads.Goals as goal
 
@@ -46,5 +47,5 @@ returns-in-Err-read_rebuild-clause-cause g c = λ first latent reads only.
     let disk = c.args.disk.now in
     let traces = map accepted c.in-Ok.traces.items in
     array_at_rebuild terms first mid (g.D.Desk.seen c.read_devices.new.desk) c.in-Err-read_rebuild.outcome (record { disk = disk; latent = latent; reads_disk = reads }) traces
-    (traces_before first mid terms.trace terms.devices disk traces only (subst (λ (name : List ℕ). ReadsTraces mid name terms.devices disk traces) c.as_str.ensures.value c.in-Ok.ensures.traces))
+    (reads_before (only.held terms.trace) (subst (λ (name : List ℕ). ReadsTraces mid name terms.devices disk traces) c.as_str.ensures.value c.in-Ok.ensures.traces))
     only c.in-Ok.ensures.only c.in-Err-read_rebuild.ensures.stops

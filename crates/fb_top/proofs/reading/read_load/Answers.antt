@@ -5,7 +5,7 @@ use Rattle.fb_calls.specs.Allowed.{IsScript}
 use Rattle.fb_top.specs.Sources.{sources_of}
 use Rattle.fb_top.specs.Read.{ReadsScript}
 use Rattle.fb_top.specs.Causes.{AcceptsTrace, StopsScript}
-use Rattle.fb_top.proofs.Later.{at_trace, at_script, script_before, trace_before}
+use Rattle.fb_top.proofs.Later.{at_trace, at_script, reads_before, script_before}
 use Rattle.fb_top.proofs.Unnamed.{unnamed_at_trace, unnamed_at_calls}
 use Rattle.fb_top.proofs.Opened.{calm_inputs, opened_at_trace, opened_at_calls}
 use Rattle.fb_top.proofs.reading.read_load.Goals as goal
@@ -34,7 +34,7 @@ returns-in-Ok-read_script-clause-accepts g c = λ first latent reads only.
     let script = accepted_calls c.in-Ok-read_script.calls in
     record {
       disk = reads;
-      trace = trace_before first mid words.trace words.device disk trace only c.in-Ok.ensures.trace;
+      trace = reads_before (only.held words.trace) c.in-Ok.ensures.trace;
       script = script_before first mid late words.calls disk (length trace.requests) script only c.in-Ok.ensures.only
           (subst (λ (traced : ℕ). ReadsScript late words.calls disk traced script) (ap length c.as_slice-requests.ensures.value) c.in-Ok-read_script.ensures.script);
     }
@@ -69,7 +69,7 @@ returns-in-Err-read_script-clause-cause g c = λ first latent reads only.
     let before : AcceptsTrace first words = record {
       params = record { disk = disk; latent = latent; reads_disk = reads };
       trace = trace;
-      reads_trace = trace_before first mid words.trace words.device disk trace only c.in-Ok.ensures.trace;
+      reads_trace = reads_before (only.held words.trace) c.in-Ok.ensures.trace;
     } in
     at_script words first mid late new c.in-Err-read_script.outcome before only c.in-Ok.ensures.only c.in-Err-read_script.ensures.only
     (subst (λ (traced : ℕ). StopsScript words.calls disk traced late new c.in-Err-read_script.outcome) (ap length c.as_slice-requests.ensures.value) c.in-Err-read_script.ensures.stops)
