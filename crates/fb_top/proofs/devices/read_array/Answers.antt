@@ -1,18 +1,38 @@
-use Rattle.std.proofs.Common.{List, ℕ, map, refl, subst}
+use Rattle.std.proofs.Common.{List, ℕ, refl, subst}
 use Rattle.fb_desk.specs.declared.desk.Input.TheVariants.{Params, Calls}
 use Rattle.fb_geometry.specs.Sound.{IsSound}
-use Rattle.fb_trace.specs.Verdict.{accepted}
 use Rattle.fb_words.specs.Verdict.{array_terms}
 use Rattle.fb_top.specs.Causes.{StopsDisk}
 use Rattle.fb_top.specs.Devices.{array_of}
-use Rattle.fb_top.specs.Opened.{IsOpenedAs}
+use Rattle.fb_top.specs.Opened.{IsOpenedAs, OpensAsNamed}
 use Rattle.fb_top.specs.Read.{ReadsDisk}
+use Rattle.fb_top.specs.Sources.{array_inputs}
+use Rattle.fb_top.specs.Unnamed.{KeepsUnnamed}
 use Rattle.fb_top.proofs.DeviceInputs.{array_at_params, each_fits, sources}
 use Rattle.fb_top.proofs.Later.{reads_before}
 use Rattle.fb_top.proofs.Opened.{calm_inputs, opened_at_params, opened_at_trace}
 use Rattle.fb_top.proofs.Pieces.{input_same}
 use Rattle.fb_top.proofs.Unnamed.{unnamed_at_params, unnamed_at_trace}
+use Rattle.fb_top.proofs.devices.read_array.Given as given
 use Rattle.fb_top.proofs.devices.read_array.Goals as goal
+use Rattle.fb_top.proofs.devices.read_array.Goals.{After-read_loads}
+
+-- the parameter file was read, and then the trace
+unnamed_then : (g : given.Over) (c : After-read_loads g)
+    → KeepsUnnamed (array_inputs (array_terms c.args.words.now)) (g.D.Desk.seen c.args.desk.now) (g.D.Desk.seen c.read_loads.new.desk)
+unnamed_then g c =
+    unnamed_at_trace (sources (array_terms c.args.words.now)) (g.D.Desk.seen c.args.desk.now) (g.D.Desk.seen c.read_disk.new.desk)
+    (g.D.Desk.seen c.read_loads.new.desk)
+    c.in-Ok.ensures.only c.read_loads.ensures.only
+
+opened_then : (g : given.Over) (c : After-read_loads g)
+    → OpensAsNamed (array_inputs (array_terms c.args.words.now)) (g.D.Desk.seen c.args.desk.now) (g.D.Desk.seen c.read_loads.new.desk)
+opened_then g c =
+    let old = g.D.Desk.seen c.args.desk.now in
+    let mid = g.D.Desk.seen c.read_disk.new.desk in
+    opened_at_trace (sources (array_terms c.args.words.now)) old c.requires.unused mid c.in-Ok.ensures.only
+    (subst (λ (name : List ℕ). IsOpenedAs name old (mid.inputs Params)) c.as_str.ensures.value c.in-Ok.ensures.opened)
+    (g.D.Desk.seen c.read_loads.new.desk) c.read_loads.ensures.only c.read_loads.ensures.opened
 
 pub returns-in-Err-clause-cause : goal.returns-in-Err-clause-cause
 returns-in-Err-clause-cause g c =
@@ -53,17 +73,10 @@ pub returns-in-Ok-read_loads-clause-sound : goal.returns-in-Ok-read_loads-clause
 returns-in-Ok-read_loads-clause-sound g c = subst IsSound c.geometry.ensures c.sound.ensures
 
 pub returns-in-Ok-read_loads-clause-unnamed : goal.returns-in-Ok-read_loads-clause-unnamed
-returns-in-Ok-read_loads-clause-unnamed g c =
-    unnamed_at_trace (sources (array_terms c.args.words.now)) (g.D.Desk.seen c.args.desk.now) (g.D.Desk.seen c.read_disk.new.desk) (g.D.Desk.seen c.read_loads.new.desk)
-    c.in-Ok.ensures.only c.in-Ok-read_loads.ensures.only
+returns-in-Ok-read_loads-clause-unnamed g c = unnamed_then g (goal.at.returns-in-Ok-read_loads-clause-unnamed g c).After-read_loads
 
 pub returns-in-Ok-read_loads-clause-opened : goal.returns-in-Ok-read_loads-clause-opened
-returns-in-Ok-read_loads-clause-opened g c =
-    let old = g.D.Desk.seen c.args.desk.now in
-    let mid = g.D.Desk.seen c.read_disk.new.desk in
-    opened_at_trace (sources (array_terms c.args.words.now)) old c.requires.unused mid c.in-Ok.ensures.only
-    (subst (λ (name : List ℕ). IsOpenedAs name old (mid.inputs Params)) c.as_str.ensures.value c.in-Ok.ensures.opened)
-    (g.D.Desk.seen c.read_loads.new.desk) c.in-Ok-read_loads.ensures.only c.in-Ok-read_loads.ensures.opened
+returns-in-Ok-read_loads-clause-opened g c = opened_then g (goal.at.returns-in-Ok-read_loads-clause-opened g c).After-read_loads
 
 pub returns-in-Ok-read_loads-clause-calm : goal.returns-in-Ok-read_loads-clause-calm
 returns-in-Ok-read_loads-clause-calm g c =
@@ -79,14 +92,7 @@ returns-in-Err-read_loads-clause-cause g c =
     (subst (λ (name : List ℕ). ReadsDisk old name c.in-Ok.params.disk latent) c.as_str.ensures.value c.in-Ok.ensures.disk) c.in-Ok.ensures.only
 
 pub returns-in-Err-read_loads-clause-unnamed : goal.returns-in-Err-read_loads-clause-unnamed
-returns-in-Err-read_loads-clause-unnamed g c =
-    unnamed_at_trace (sources (array_terms c.args.words.now)) (g.D.Desk.seen c.args.desk.now) (g.D.Desk.seen c.read_disk.new.desk) (g.D.Desk.seen c.read_loads.new.desk)
-    c.in-Ok.ensures.only c.in-Err-read_loads.ensures.only
+returns-in-Err-read_loads-clause-unnamed g c = unnamed_then g (goal.at.returns-in-Err-read_loads-clause-unnamed g c).After-read_loads
 
 pub returns-in-Err-read_loads-clause-opened : goal.returns-in-Err-read_loads-clause-opened
-returns-in-Err-read_loads-clause-opened g c =
-    let old = g.D.Desk.seen c.args.desk.now in
-    let mid = g.D.Desk.seen c.read_disk.new.desk in
-    opened_at_trace (sources (array_terms c.args.words.now)) old c.requires.unused mid c.in-Ok.ensures.only
-    (subst (λ (name : List ℕ). IsOpenedAs name old (mid.inputs Params)) c.as_str.ensures.value c.in-Ok.ensures.opened)
-    (g.D.Desk.seen c.read_loads.new.desk) c.in-Err-read_loads.ensures.only c.in-Err-read_loads.ensures.opened
+returns-in-Err-read_loads-clause-opened g c = opened_then g (goal.at.returns-in-Err-read_loads-clause-opened g c).After-read_loads

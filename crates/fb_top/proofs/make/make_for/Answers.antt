@@ -5,9 +5,21 @@ use Rattle.fb_maker.specs.Trace.{made_trace}
 use Rattle.fb_maker.specs.Script.{script_text}
 use Rattle.fb_words.specs.Verdict.{make_terms}
 use Rattle.fb_desk.specs.declared.desk.Output.TheVariants.{MadeTrace, MadeCalls}
+use Rattle.fb_top.specs.Make.{trace_text}
 use Rattle.fb_top.specs.Written.{HoldsWhole, StopsText}
 use Rattle.fb_top.proofs.Making.{some_sectors, stopped_trace, stopped_calls, wrote_both}
+use Rattle.fb_top.proofs.make.make_for.Given as given
 use Rattle.fb_top.proofs.make.make_for.Goals as goal
+use Rattle.fb_top.proofs.make.make_for.Goals.{In-Ok}
+
+-- the trace was written
+trace_whole : (g : given.Over) (c : In-Ok g)
+    → HoldsWhole ((g.D.Desk.seen c.write_trace.new.desk).outputs MadeTrace) (make_terms c.args.words.now).trace
+    (trace_text (make_terms c.args.words.now) c.args.disk.now)
+trace_whole g c =
+    let terms = make_terms c.args.words.now in
+    subst (λ (n : ℕ). HoldsWhole ((g.D.Desk.seen c.write_trace.new.desk).outputs MadeTrace) terms.trace
+    (made_trace terms.number terms.device n terms.requests)) c.count.ensures.value c.in-Ok.ensures.whole
 
 pub write_trace-requires-clause-some : goal.write_trace-requires-clause-some
 write_trace-requires-clause-some g c =
@@ -32,8 +44,7 @@ returns-in-Ok-write_calls-clause-cause g c = λ first latent reads only.
     let disk = c.args.disk.now in
     wrote_both terms first mid late new (record { disk = disk; latent = latent; reads_disk = reads }) terms.requests refl only
     c.in-Ok.ensures.only c.in-Ok-write_calls.ensures.only
-    (subst (λ (n : ℕ). HoldsWhole (late.outputs MadeTrace) terms.trace (made_trace terms.number terms.device n terms.requests))
-    c.count.ensures.value c.in-Ok.ensures.whole)
+    (trace_whole g (goal.at.returns-in-Ok-write_calls-clause-cause g c).In-Ok)
     (subst (λ (name : List ℕ). HoldsWhole (new.outputs MadeCalls) name (script_text disk.map)) c.as_str.ensures.value
     c.in-Ok-write_calls.ensures.whole)
     (c.made_traces_are_read.ensures terms.number terms.device (length (places disk.map)) terms.requests c.requires.limits.2
@@ -50,7 +61,6 @@ returns-in-Err-write_calls-clause-cause g c = λ first latent reads only.
     let disk = c.args.disk.now in
     stopped_calls terms first mid late new c.in-Err-write_calls.outcome (record { disk = disk; latent = latent; reads_disk = reads }) only
     c.in-Ok.ensures.only c.in-Err-write_calls.ensures.only
-    (subst (λ (n : ℕ). HoldsWhole (late.outputs MadeTrace) terms.trace (made_trace terms.number terms.device n terms.requests))
-    c.count.ensures.value c.in-Ok.ensures.whole)
+    (trace_whole g (goal.at.returns-in-Err-write_calls-clause-cause g c).In-Ok)
     (subst (λ (name : List ℕ). StopsText MadeCalls name (script_text disk.map) late new c.in-Err-write_calls.outcome) c.as_str.ensures.value
     c.in-Err-write_calls.ensures.stops)

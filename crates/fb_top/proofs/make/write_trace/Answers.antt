@@ -7,7 +7,18 @@ use Rattle.fb_maker.specs.Trace.{made_lines}
 use Rattle.fb_top.proofs.Pieces.{output_on}
 use Rattle.fb_top.proofs.Fronts.{front_of, front_more, holds_more, holds_all, rose_since, same_name}
 use Rattle.fb_top.proofs.Making.{line_at, lines_counted}
+use Rattle.fb_top.proofs.make.write_trace.Given as given
 use Rattle.fb_top.proofs.make.write_trace.Goals as goal
+use Rattle.fb_top.proofs.make.write_trace.Goals.{After-write_whole}
+
+-- what is written is the next line of the trace
+next_line : (g : given.Over) (c : After-write_whole g)
+    → slice_get (made_lines c.args.words.now.number c.args.words.now.device c.args.sectors c.args.words.now.requests) c.loop-place.place
+    ≡ Some c.as_slice.result.now
+next_line g c =
+    let words = c.args.words.now in
+    line_at words.number words.device c.args.sectors words.requests c.loop-place.place c.loop-place-test.true
+    ∙ ap Some (sym (c.as_slice.ensures.value ∙ c.in-Ok-next_line.ensures.line ∙ ap line_made c.loop-place.invariant.maker))
 
 pub returns-in-Err-next_line-clause-stops : goal.returns-in-Err-next_line-clause-stops
 returns-in-Err-next_line-clause-stops g c =
@@ -23,9 +34,7 @@ returns-in-Err-write_whole-clause-stops g c =
     let old = g.D.Desk.seen c.args.desk.now in
     let now = g.D.Desk.seen c.loop-place.desk in
     let new = g.D.Desk.seen c.write_whole.new.desk in
-    let line : slice_get lines place ≡ Some c.as_slice.result.now =
-    line_at words.number words.device c.args.sectors words.requests place c.loop-place-test.true
-    ∙ ap Some (sym (c.as_slice.ensures.value ∙ c.in-Ok-next_line.ensures.line ∙ ap line_made c.loop-place.invariant.maker)) in (
+    let line = next_line g (goal.at.returns-in-Err-write_whole-clause-stops g c).After-write_whole in (
       refl,
       rose_since (old.outputs MadeTrace).faults (now.outputs MadeTrace).faults (new.outputs MadeTrace).faults c.loop-place.invariant.calm c.in-Err-write_whole.ensures.cause.failed,
       λ begun. record {
@@ -43,9 +52,7 @@ loop-place-preserved g c =
     let now = g.D.Desk.seen c.loop-place.desk in
     let new = g.D.Desk.seen c.write_whole.new.desk in
     let told = c.in-Ok-write_whole.ensures in
-    let line : slice_get lines place ≡ Some c.as_slice.result.now =
-    line_at words.number words.device c.args.sectors words.requests place c.loop-place-test.true
-    ∙ ap Some (sym (c.as_slice.ensures.value ∙ c.in-Ok-next_line.ensures.line ∙ ap line_made c.loop-place.invariant.maker)) in
+    let line = next_line g (goal.at.loop-place-preserved g c).After-write_whole in
     record {
       only = output_on MadeTrace old now new c.loop-place.invariant.only told.only;
       calm = told.cause.calm ∙ c.loop-place.invariant.calm;

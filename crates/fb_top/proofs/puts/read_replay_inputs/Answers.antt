@@ -10,7 +10,33 @@ use Rattle.fb_top.specs.Read.{Accepts, AcceptsPuts, files_of, key_of}
 use Rattle.fb_top.specs.Sources.{SourceTerms, files_alone, replay_inputs}
 use Rattle.fb_top.specs.Unnamed.{KeepsUnnamed}
 use Rattle.fb_top.proofs.MoreInputs.{files_opened, files_stopped, files_unnamed, puts_before, puts_calm, puts_opened, puts_stopped, puts_unnamed}
+use Rattle.fb_top.proofs.puts.read_replay_inputs.Given as given
 use Rattle.fb_top.proofs.puts.read_replay_inputs.Goals as goal
+use Rattle.fb_top.proofs.puts.read_replay_inputs.Goals.{After-read_given_puts}
+
+-- the files were read, and then the puts, if they are given
+unnamed_then : (g : given.Over) (c : After-read_given_puts g)
+    → KeepsUnnamed (replay_inputs (replay_terms c.args.words.now)) (g.D.Desk.seen c.args.desk.now)
+    (g.D.Desk.seen c.read_given_puts.new.desk)
+unnamed_then g c =
+    puts_unnamed (replay_inputs (replay_terms c.args.words.now)) _ c.sources.ensures
+    (g.D.Desk.seen c.args.desk.now) (g.D.Desk.seen c.read_inputs.new.desk) (g.D.Desk.seen c.read_given_puts.new.desk)
+    c.in-Ok.ensures.held c.in-Ok.ensures.outputs c.in-Ok.ensures.unnamed c.read_given_puts.ensures.only
+    (λ none. c.read_given_puts.ensures.unnamed (c.puts_name.ensures ∙ none))
+
+opened_then : (g : given.Over) (c : After-read_given_puts g)
+    → OpensAsNamed (replay_inputs (replay_terms c.args.words.now)) (g.D.Desk.seen c.args.desk.now)
+    (g.D.Desk.seen c.read_given_puts.new.desk)
+opened_then g c =
+    let old = g.D.Desk.seen c.args.desk.now in
+    let mid = g.D.Desk.seen c.read_inputs.new.desk in
+    let new = g.D.Desk.seen c.read_given_puts.new.desk in
+    puts_opened (replay_inputs (replay_terms c.args.words.now)) _ c.sources.ensures old mid new c.in-Ok.ensures.held
+    c.in-Ok.ensures.outputs c.in-Ok.ensures.unnamed
+    c.read_given_puts.ensures.only c.requires.unused (subst (λ (s : SourceTerms). OpensAsNamed (files_alone s) old mid) c.sources.ensures
+    c.in-Ok.ensures.opened)
+    (subst (λ (given : Option (List ℕ)). IfSome given (λ name. IsOpenedAs name mid (new.inputs Puts))) c.puts_name.ensures
+    c.read_given_puts.ensures.opened)
 
 pub returns-in-Err-clause-cause : goal.returns-in-Err-clause-cause
 returns-in-Err-clause-cause g c =
@@ -51,19 +77,11 @@ returns-in-Ok-read_given_puts-clause-fit g c = c.in-Ok.ensures.fit (key_of c.arg
 
 pub returns-in-Ok-read_given_puts-clause-unnamed : goal.returns-in-Ok-read_given_puts-clause-unnamed
 returns-in-Ok-read_given_puts-clause-unnamed g c =
-    puts_unnamed (replay_inputs (replay_terms c.args.words.now)) _ c.sources.ensures
-    (g.D.Desk.seen c.args.desk.now) (g.D.Desk.seen c.read_inputs.new.desk) (g.D.Desk.seen c.read_given_puts.new.desk)
-    c.in-Ok.ensures.held c.in-Ok.ensures.outputs c.in-Ok.ensures.unnamed c.in-Ok-read_given_puts.ensures.only
-    (λ none. c.in-Ok-read_given_puts.ensures.unnamed (c.puts_name.ensures ∙ none))
+    unnamed_then g (goal.at.returns-in-Ok-read_given_puts-clause-unnamed g c).After-read_given_puts
 
 pub returns-in-Ok-read_given_puts-clause-opened : goal.returns-in-Ok-read_given_puts-clause-opened
 returns-in-Ok-read_given_puts-clause-opened g c =
-    let old = g.D.Desk.seen c.args.desk.now in
-    let mid = g.D.Desk.seen c.read_inputs.new.desk in
-    let new = g.D.Desk.seen c.read_given_puts.new.desk in
-    puts_opened (replay_inputs (replay_terms c.args.words.now)) _ c.sources.ensures old mid new c.in-Ok.ensures.held c.in-Ok.ensures.outputs c.in-Ok.ensures.unnamed
-    c.in-Ok-read_given_puts.ensures.only c.requires.unused (subst (λ (s : SourceTerms). OpensAsNamed (files_alone s) old mid) c.sources.ensures c.in-Ok.ensures.opened)
-    (subst (λ (given : Option (List ℕ)). IfSome given (λ name. IsOpenedAs name mid (new.inputs Puts))) c.puts_name.ensures c.in-Ok-read_given_puts.ensures.opened)
+    opened_then g (goal.at.returns-in-Ok-read_given_puts-clause-opened g c).After-read_given_puts
 
 pub returns-in-Ok-read_given_puts-clause-calm : goal.returns-in-Ok-read_given_puts-clause-calm
 returns-in-Ok-read_given_puts-clause-calm g c =
@@ -84,16 +102,8 @@ returns-in-Err-read_given_puts-clause-cause g c =
 
 pub returns-in-Err-read_given_puts-clause-unnamed : goal.returns-in-Err-read_given_puts-clause-unnamed
 returns-in-Err-read_given_puts-clause-unnamed g c =
-    puts_unnamed (replay_inputs (replay_terms c.args.words.now)) _ c.sources.ensures
-    (g.D.Desk.seen c.args.desk.now) (g.D.Desk.seen c.read_inputs.new.desk) (g.D.Desk.seen c.read_given_puts.new.desk)
-    c.in-Ok.ensures.held c.in-Ok.ensures.outputs c.in-Ok.ensures.unnamed c.in-Err-read_given_puts.ensures.only
-    (λ none. c.in-Err-read_given_puts.ensures.unnamed (c.puts_name.ensures ∙ none))
+    unnamed_then g (goal.at.returns-in-Err-read_given_puts-clause-unnamed g c).After-read_given_puts
 
 pub returns-in-Err-read_given_puts-clause-opened : goal.returns-in-Err-read_given_puts-clause-opened
 returns-in-Err-read_given_puts-clause-opened g c =
-    let old = g.D.Desk.seen c.args.desk.now in
-    let mid = g.D.Desk.seen c.read_inputs.new.desk in
-    let new = g.D.Desk.seen c.read_given_puts.new.desk in
-    puts_opened (replay_inputs (replay_terms c.args.words.now)) _ c.sources.ensures old mid new c.in-Ok.ensures.held c.in-Ok.ensures.outputs c.in-Ok.ensures.unnamed
-    c.in-Err-read_given_puts.ensures.only c.requires.unused (subst (λ (s : SourceTerms). OpensAsNamed (files_alone s) old mid) c.sources.ensures c.in-Ok.ensures.opened)
-    (subst (λ (given : Option (List ℕ)). IfSome given (λ name. IsOpenedAs name mid (new.inputs Puts))) c.puts_name.ensures c.in-Err-read_given_puts.ensures.opened)
+    opened_then g (goal.at.returns-in-Err-read_given_puts-clause-opened g c).After-read_given_puts

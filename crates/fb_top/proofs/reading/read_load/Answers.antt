@@ -2,13 +2,38 @@ use Rattle.std.proofs.Common.{ℕ, ap, length, subst}
 use Rattle.fb_trace.specs.Verdict.{accepted}
 use Rattle.fb_script.specs.Verdict.{accepted as accepted_calls}
 use Rattle.fb_calls.specs.Allowed.{IsScript}
-use Rattle.fb_top.specs.Sources.{sources_of}
+use Rattle.fb_desk.specs.Calls.{ChangesInput}
+use Rattle.fb_desk.specs.View.{DeskView, IsUnused}
+use Rattle.fb_desk.specs.declared.desk.Input.TheVariants.{Params}
+use Rattle.fb_top.specs.Opened.{IsOpenedAs, OpensAsNamed}
+use Rattle.fb_top.specs.Sources.{files_alone, sources_of}
+use Rattle.fb_top.specs.Unnamed.{KeepsUnnamed}
 use Rattle.fb_top.specs.Read.{ReadsScript}
 use Rattle.fb_top.specs.Causes.{AcceptsTrace, StopsScript}
 use Rattle.fb_top.proofs.Later.{at_trace, at_script, reads_before, script_before}
 use Rattle.fb_top.proofs.Unnamed.{unnamed_at_trace, unnamed_at_calls}
 use Rattle.fb_top.proofs.Opened.{calm_inputs, opened_at_trace, opened_at_calls}
+use Rattle.fb_top.proofs.reading.read_load.Given as given
 use Rattle.fb_top.proofs.reading.read_load.Goals as goal
+use Rattle.fb_top.proofs.reading.read_load.Goals.{After-read_script}
+
+-- the trace was read, and then the script, if there is one
+unnamed_then : (g : given.Over) (c : After-read_script g) (first : DeskView)
+    → ChangesInput Params first (g.D.Desk.seen c.args.desk.now)
+    → KeepsUnnamed (files_alone (sources_of c.args.sources.now)) first (g.D.Desk.seen c.read_script.new.desk)
+unnamed_then g c first only =
+    unnamed_at_calls (sources_of c.args.sources.now) first (g.D.Desk.seen c.args.desk.now) (g.D.Desk.seen c.read_requests.new.desk)
+    (g.D.Desk.seen c.read_script.new.desk)
+    only c.in-Ok.ensures.only c.read_script.ensures.only c.read_script.ensures.unnamed
+
+opened_then : (g : given.Over) (c : After-read_script g) (first : DeskView) → IsUnused first
+    → ChangesInput Params first (g.D.Desk.seen c.args.desk.now)
+    → IsOpenedAs (sources_of c.args.sources.now).params first ((g.D.Desk.seen c.args.desk.now).inputs Params)
+    → OpensAsNamed (files_alone (sources_of c.args.sources.now)) first (g.D.Desk.seen c.read_script.new.desk)
+opened_then g c first unused only opened =
+    opened_at_calls (sources_of c.args.sources.now) first unused (g.D.Desk.seen c.args.desk.now) only opened
+    (g.D.Desk.seen c.read_requests.new.desk) (g.D.Desk.seen c.read_script.new.desk)
+    c.in-Ok.ensures.only c.in-Ok.ensures.opened c.read_script.ensures.only c.read_script.ensures.opened
 
 pub returns-in-Err-clause-cause : goal.returns-in-Err-clause-cause
 returns-in-Err-clause-cause g c = λ first latent reads only.
@@ -44,14 +69,10 @@ returns-in-Ok-read_script-clause-fit g c =
     subst (λ (traced : ℕ). IsScript c.args.disk.now.map traced c.in-Ok-read_script.calls.calls.items) (ap length c.as_slice-requests.ensures.value) c.in-Ok-read_script.ensures.fit
 
 pub returns-in-Ok-read_script-clause-unnamed : goal.returns-in-Ok-read_script-clause-unnamed
-returns-in-Ok-read_script-clause-unnamed g c = λ first only.
-    unnamed_at_calls (sources_of c.args.sources.now) first (g.D.Desk.seen c.args.desk.now) (g.D.Desk.seen c.read_requests.new.desk) (g.D.Desk.seen c.read_script.new.desk)
-    only c.in-Ok.ensures.only c.in-Ok-read_script.ensures.only c.in-Ok-read_script.ensures.unnamed
+returns-in-Ok-read_script-clause-unnamed g c = unnamed_then g (goal.at.returns-in-Ok-read_script-clause-unnamed g c).After-read_script
 
 pub returns-in-Ok-read_script-clause-opened : goal.returns-in-Ok-read_script-clause-opened
-returns-in-Ok-read_script-clause-opened g c = λ first unused only opened.
-    opened_at_calls (sources_of c.args.sources.now) first unused (g.D.Desk.seen c.args.desk.now) only opened (g.D.Desk.seen c.read_requests.new.desk) (g.D.Desk.seen c.read_script.new.desk)
-    c.in-Ok.ensures.only c.in-Ok.ensures.opened c.in-Ok-read_script.ensures.only c.in-Ok-read_script.ensures.opened
+returns-in-Ok-read_script-clause-opened g c = opened_then g (goal.at.returns-in-Ok-read_script-clause-opened g c).After-read_script
 
 pub returns-in-Ok-read_script-clause-calm : goal.returns-in-Ok-read_script-clause-calm
 returns-in-Ok-read_script-clause-calm g c = λ first only calm.
@@ -75,11 +96,7 @@ returns-in-Err-read_script-clause-cause g c = λ first latent reads only.
     (subst (λ (traced : ℕ). StopsScript words.calls disk traced late new c.in-Err-read_script.outcome) (ap length c.as_slice-requests.ensures.value) c.in-Err-read_script.ensures.stops)
 
 pub returns-in-Err-read_script-clause-unnamed : goal.returns-in-Err-read_script-clause-unnamed
-returns-in-Err-read_script-clause-unnamed g c = λ first only.
-    unnamed_at_calls (sources_of c.args.sources.now) first (g.D.Desk.seen c.args.desk.now) (g.D.Desk.seen c.read_requests.new.desk) (g.D.Desk.seen c.read_script.new.desk)
-    only c.in-Ok.ensures.only c.in-Err-read_script.ensures.only c.in-Err-read_script.ensures.unnamed
+returns-in-Err-read_script-clause-unnamed g c = unnamed_then g (goal.at.returns-in-Err-read_script-clause-unnamed g c).After-read_script
 
 pub returns-in-Err-read_script-clause-opened : goal.returns-in-Err-read_script-clause-opened
-returns-in-Err-read_script-clause-opened g c = λ first unused only opened.
-    opened_at_calls (sources_of c.args.sources.now) first unused (g.D.Desk.seen c.args.desk.now) only opened (g.D.Desk.seen c.read_requests.new.desk) (g.D.Desk.seen c.read_script.new.desk)
-    c.in-Ok.ensures.only c.in-Ok.ensures.opened c.in-Err-read_script.ensures.only c.in-Err-read_script.ensures.opened
+returns-in-Err-read_script-clause-opened g c = opened_then g (goal.at.returns-in-Err-read_script-clause-opened g c).After-read_script

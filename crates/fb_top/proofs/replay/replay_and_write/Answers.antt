@@ -9,12 +9,20 @@ use Rattle.fb_words.specs.Verdict.{replay_terms}
 use Rattle.fb_top.specs.declared.outcome.Outcome.{Outcome}
 use Rattle.fb_top.specs.Calm.{MeetsNoFault}
 use Rattle.fb_top.specs.Causes.{HasCause}
-use Rattle.fb_top.specs.Read.{files_of, key_of}
+use Rattle.fb_top.specs.Read.{files_of, inputs_of, key_of}
 use Rattle.fb_top.specs.Done.{CanBeTold}
 use Rattle.fb_top.specs.Spilled.{HoldsReplay, StopsReplay}
 use Rattle.fb_top.proofs.Opened.{calm_both}
 use Rattle.fb_top.proofs.Spills.{all_written, at_replay, calm_done, replay_ran_out}
+use Rattle.fb_top.proofs.replay.replay_and_write.Given as given
 use Rattle.fb_top.proofs.replay.replay_and_write.Goals as goal
+use Rattle.fb_top.proofs.replay.replay_and_write.Goals.{In-Ok}
+
+-- the run is the full run of the files
+full : (g : given.Over) (c : In-Ok g)
+    → IsFull (inputs_of (files_of c.args.inputs.now.files) (key_of c.args.words.now.policy) c.args.words.now.until) c.in-Ok.run'
+full g c =
+    subst (λ (inputs : Inputs). IsFull inputs c.in-Ok.run') (c.asked.ensures.inputs (key_of c.args.words.now.policy)) c.in-Ok.ensures.full
 
 pub replay_by-requires : goal.replay_by-requires
 replay_by-requires g c = record {
@@ -29,8 +37,7 @@ pub spill_given-requires-clause-full : goal.spill_given-requires-clause-full
 spill_given-requires-clause-full g c = record {
   key = key_of c.args.words.now.policy;
   until = c.args.words.now.until;
-  full = subst (λ (inputs : Inputs). IsFull inputs c.in-Ok.run') (c.asked.ensures.inputs (key_of c.args.words.now.policy))
-      c.in-Ok.ensures.full;
+  full = full g (goal.at.spill_given-requires-clause-full g c).In-Ok;
 }
 
 pub returns-in-Err-spill_given-clause-cause : goal.returns-in-Err-spill_given-clause-cause
@@ -47,8 +54,9 @@ returns-in-Err-write_replay-clause-cause g c = λ first takes.
     let terms = replay_terms c.args.words.now in
     let files = files_of c.args.inputs.now.files in
     let run = c.in-Ok.run' in
-    let full = subst (λ (inputs : Inputs). IsFull inputs run) (c.asked.ensures.inputs (key_of c.args.words.now.policy)) c.in-Ok.ensures.full in
-    at_replay terms files _ first mid takes run full c.in-Ok-spill_given.spill c.in-Ok-spill_given.ensures.writes new c.in-Err-write_replay.outcome
+    let is_full = full g (goal.at.returns-in-Err-write_replay-clause-cause g c).In-Ok in
+    at_replay terms files _ first mid takes run is_full c.in-Ok-spill_given.spill c.in-Ok-spill_given.ensures.writes new
+    c.in-Err-write_replay.outcome
     (subst (λ (s : Option SpillRun). StopsReplay terms files run s mid new c.in-Err-write_replay.outcome) c.as_ref.ensures.value
     c.in-Err-write_replay.ensures.stops)
 
@@ -59,9 +67,9 @@ returns-in-Ok-write_replay-clause-cause g c = λ first takes.
     let terms = replay_terms c.args.words.now in
     let files = files_of c.args.inputs.now.files in
     let run = c.in-Ok.run' in
-    let full = subst (λ (inputs : Inputs). IsFull inputs run) (c.asked.ensures.inputs (key_of c.args.words.now.policy)) c.in-Ok.ensures.full in
+    let is_full = full g (goal.at.returns-in-Ok-write_replay-clause-cause g c).In-Ok in
     subst (λ (outcome : Outcome). HasCause terms first new outcome) (sym c.outcome_of.ensures)
-    (all_written terms files _ first mid takes run full c.in-Ok-spill_given.spill new c.in-Ok-spill_given.ensures.writes
+    (all_written terms files _ first mid takes run is_full c.in-Ok-spill_given.spill new c.in-Ok-spill_given.ensures.writes
     (subst (λ (s : Option SpillRun). HoldsReplay terms files run s mid new) c.as_ref.ensures.value c.in-Ok-write_replay.ensures.whole)
     c.in-Ok-write_replay.ensures.read)
 
