@@ -15,7 +15,7 @@ use Rattle.fb_mirror.specs.Script.{rebuild_text}
 use Rattle.fb_desk.specs.View.{DeskView}
 use Rattle.fb_desk.specs.declared.desk.Input.{Input}
 use Rattle.fb_desk.specs.declared.desk.Input.TheVariants.{Params, Trace, Calls, Puts, ForeReport, BackReport}
-use Rattle.fb_desk.specs.declared.desk.Output.TheVariants.{Fore, Back, Spill, Note, MadeTrace, MadeCalls, Copied}
+use Rattle.fb_desk.specs.declared.desk.Output.TheVariants.{Fore, Back, Spill, MadeTrace, MadeCalls}
 use Rattle.fb_words.specs.Command.{Terms, ReplayTerms, CheckTerms, MakeTerms, ArrayTerms, RebuildTerms, replays, makes, checks, arrays}
 use Rattle.fb_top.specs.Sources.{InputTerms, replay_inputs, check_inputs, array_inputs}
 use Rattle.fb_words.specs.declared.fault.UsageFault.{UsageFault}

@@ -1,6 +1,6 @@
 -- Why the inputs of an array were not all accepted, and what they mean where they were.
 use Rattle.std.proofs.Common.{◌≡◌, ℕ, ◌<◌, ◌≤◌, ◌^◌, List, [], get_or, length, map, Option, Some, None, true, false, refl, sym, ap, subst, ◌∙◌, arith, inl, inr}
-use Rattle.std.specs.Prelude.{IfSome, slice_get}
+use Rattle.std.specs.Prelude.{slice_get}
 use Rattle.std.specs.List.{AllByRecursion}
 use Rattle.std.specs.Option.{option_map}
 use Rattle.std.proofs.lemmas.Bool.{cases_Bool}
@@ -19,7 +19,7 @@ use Rattle.fb_model.specs.Accepted.{IsAccepted}
 use Rattle.fb_model.specs.Inputs.{Inputs}
 use Rattle.fb_desk.specs.Calls.{ChangesInput}
 use Rattle.fb_desk.specs.View.{DeskView}
-use Rattle.fb_desk.specs.declared.desk.Input.TheVariants.{Params, Trace, Calls, Puts, ForeReport, BackReport}
+use Rattle.fb_desk.specs.declared.desk.Input.TheVariants.{Params, Trace}
 use Rattle.fb_report.proofs.Ranges.{all_get}
 use Rattle.fb_words.specs.Command.{ArrayTerms, RebuildTerms}
 use Rattle.fb_top.specs.declared.outcome.Outcome.{Outcome}
@@ -28,7 +28,7 @@ use Rattle.fb_top.specs.Sources.{SourceTerms, array_inputs}
 use Rattle.fb_top.specs.Read.{key_of}
 use Rattle.fb_top.specs.Causes.{AcceptsDisk, StopsDisk, StopsReading}
 use Rattle.fb_top.specs.Devices.{Array, ReadsTraces, StopsArray, StopsRebuild, StopsTraces, device_files, device_inputs, is_rebuilt_from}
-use Rattle.fb_top.proofs.Later.{at_params, at_reading, ends_at_trace, is_accepted, reads_before, trace_is_no_params}
+use Rattle.fb_top.proofs.Later.{at_params, at_reading, ends_at_trace, is_accepted, reads_before}
 
 -- the names of an array's files, and its first device
 abbrev pub sources : ArrayTerms → SourceTerms
@@ -47,10 +47,12 @@ array_at_trace terms old mid new (outcomes.Trace fault) before first second h =
     (record { before = before; refuses = reads_before (first.held terms.trace) h }, ends_at_trace old mid new first second)
 array_at_trace terms old mid new (outcomes.Calls fault) before first second h = absurd h
 array_at_trace terms old mid new outcome before first second h =
-    at_reading (array_inputs terms) old mid new Trace before terms.trace refl (first.held terms.trace) (first.inputs Trace trace_is_no_params) (ends_at_trace old mid new first second) outcome h
+    at_reading (array_inputs terms) old mid new Trace before terms.trace refl (first.held terms.trace) (first.inputs Trace (λ e. cc))
+    (ends_at_trace old mid new first second) outcome h
 
 -- an input that was not read whole was not accepted
-pub traces_unread : (name : List ℕ) (devices : ℕ) (disk : Disk) (old new : DeskView) (outcome : Outcome) → StopsReading Trace name old new outcome → StopsTraces name devices disk old new outcome
+pub traces_unread : (name : List ℕ) (devices : ℕ) (disk : Disk) (old new : DeskView) (outcome : Outcome)
+    → StopsReading Trace name old new outcome → StopsTraces name devices disk old new outcome
 traces_unread name devices disk old new (outcomes.Trace fault) h = absurd h
 traces_unread name devices disk old new _ h = h
 

@@ -1,11 +1,10 @@
 -- What was read or written later, told of the desk at the start.
-use Rattle.std.proofs.Common.{◌≡◌, ◌≢◌, ℕ, ◌<◌, ◌≤◌, ◌^◌, List, [], ◌∷◌, length, Option, Some, None, true, refl, sym, subst, ◌∙◌, inl}
+use Rattle.std.proofs.Common.{◌≡◌, ℕ, ◌<◌, ◌≤◌, ◌^◌, List, [], ◌∷◌, length, Option, Some, None, true, refl, sym, subst, ◌∙◌, inl}
 use Rattle.std.specs.Prelude.{IfSome, is_some}
 use Rattle.std.specs.List.{AllByRecursion}
 use Rattle.fb_units.specs.declared.types.Request.{Request}
 use Rattle.fb_geometry.specs.Places.{places}
 use Rattle.fb_service.specs.declared.disk.Disk.{Disk}
-use Rattle.fb_trace.specs.Reading.{Accepted}
 use Rattle.fb_trace.specs.Servable.{IsServable, IsTraceOf}
 use Rattle.fb_calls.specs.Allowed.{IsScript}
 use Rattle.fb_script.specs.Reading.{Accepted as Script}
@@ -22,27 +21,21 @@ use Rattle.fb_top.specs.declared.outcome.Outcome.{Outcome}
 use Rattle.fb_top.specs.declared.outcome.Outcome.TheVariants as outcomes
 use Rattle.fb_top.specs.Read.{ReadsScript, Files, inputs_of}
 use Rattle.fb_top.specs.Streams.{ReadsAs}
-use Rattle.fb_top.specs.Causes.{AcceptsBefore, AcceptsDisk, AcceptsTrace, EndsAt, HasCause, IsTooLong, IsUnread, StopsCalls, StopsDisk, StopsInputs, StopsPuts, StopsReading, StopsReport, StopsScript, StopsTrace, input_of, limit_of}
+use Rattle.fb_top.specs.Causes.{AcceptsBefore, AcceptsDisk, AcceptsTrace, EndsAt, HasCause, IsTooLong, IsUnread, KeepsLater, StopsCalls, StopsDisk, StopsInputs, StopsPuts, StopsReading, StopsReport, StopsScript, StopsTrace, input_of, limit_of}
 
-pub trace_is_no_params : Trace ≢ Params
-trace_is_no_params e = cc
-
-pub calls_are_no_params : Calls ≢ Params
-calls_are_no_params e = cc
-
-pub calls_are_no_trace : Calls ≢ Trace
-calls_are_no_trace e = cc
+-- the parameter file alone was read
+pub later_at_params : (old new : DeskView) → ChangesInput Params old new → KeepsLater Params old new
+later_at_params old new only =
+    let same = only.inputs in
+    (same Trace (λ e. cc), same Calls (λ e. cc), same Puts (λ e. cc), same ForeReport (λ e. cc), same BackReport (λ e. cc))
 
 ends_at_params : (old new : DeskView) → ChangesInput Params old new → EndsAt Params old new
-ends_at_params old new only = record {
-  later = (only.inputs Trace trace_is_no_params, only.inputs Calls calls_are_no_params, only.inputs Puts (λ e. cc), only.inputs ForeReport (λ e. cc), only.inputs BackReport (λ e. cc));
-  reports = λ output no_note. only.outputs output;
-}
+ends_at_params old new only = record { later = later_at_params old new only; reports = λ output no_note. only.outputs output }
 
 pub ends_at_trace : (old mid new : DeskView) → ChangesInput Params old mid → ChangesInput Trace mid new → EndsAt Trace old new
 ends_at_trace old mid new first second = record {
   later = (
-    second.inputs Calls calls_are_no_trace ∙ first.inputs Calls calls_are_no_params,
+    second.inputs Calls (λ e. cc) ∙ first.inputs Calls (λ e. cc),
     second.inputs Puts (λ e. cc) ∙ first.inputs Puts (λ e. cc),
     second.inputs ForeReport (λ e. cc) ∙ first.inputs ForeReport (λ e. cc),
     second.inputs BackReport (λ e. cc) ∙ first.inputs BackReport (λ e. cc),
@@ -61,7 +54,8 @@ ends_at_calls old mid late new first second third = record {
 }
 
 -- bytes that are read later are read alike before
-pub reads_before : {A : Type 0} {old mid : DeskView} {name : List ℕ} {limit : ℕ} {read : List ℕ → A} {verdict : A} → mid.held name ≡ old.held name
+pub reads_before : {A : Type 0} {old mid : DeskView} {name : List ℕ} {limit : ℕ} {read : List ℕ → A} {verdict : A}
+    → mid.held name ≡ old.held name
     → ReadsAs mid name limit read verdict → ReadsAs old name limit read verdict
 reads_before same reads = record {
   bytes = reads.bytes;
@@ -80,43 +74,52 @@ pub has_name : (given : Option (List ℕ)) (name : List ℕ) → given ≡ Some 
 has_name given name e = cc
 
 -- why an input was not read whole, told of the desk at the start; those before it are accepted
-module _ (terms : InputTerms) (old mid new : DeskView) (input : Input) (before : AcceptsBefore old terms input) (name : List ℕ) (given : name_of terms input ≡ Some name)
+module _ (terms : InputTerms) (old mid new : DeskView) (input : Input) (before : AcceptsBefore old terms input)
+    (name : List ℕ) (given : name_of terms input ≡ Some name)
     (held : mid.held name ≡ old.held name) (same : mid.inputs input ≡ old.inputs input) (ends : EndsAt input old new) where
   pub at_reading : (outcome : Outcome) → StopsReading input name mid new outcome → StopsInputs terms old new outcome
   at_reading (outcomes.TooLong which) h =
+      let longer = subst (λ (told : Option (List ℕ)). IfSome told (λ bytes. limit_of input < length bytes)) held h.1 in
       subst (λ (i : Input). IsTooLong old terms i × EndsAt i old new) (sym h.0)
-      (record { before = before; name = name; given = given; longer = subst (λ (told : Option (List ℕ)). IfSome told (λ bytes. limit_of input < length bytes)) held h.1 }, ends)
+      (record { before = before; name = name; given = given; longer = longer }, ends)
   at_reading (outcomes.ReadFault which) h =
+      let rose = subst (λ (v : InputView). Rose v.faults (new.inputs input).faults) same h.1 in
       subst (λ (i : Input). IsUnread old new terms i × EndsAt i old new) (sym h.0)
-      (record { before = before; given = has_name (name_of terms input) name given; rose = subst (λ (v : InputView). Rose v.faults (new.inputs input).faults) same h.1 }, ends)
+      (record { before = before; given = has_name (name_of terms input) name given; rose = rose }, ends)
   at_reading outcomes.NoMemory h = record { input = input; before = before; ends = ends }
   at_reading _ h = absurd h
 
 -- an input that was not read whole was not accepted
-pub disk_unread : (name : List ℕ) (old new : DeskView) (outcome : Outcome) → StopsReading Params name old new outcome → StopsDisk name old new outcome
+pub disk_unread : (name : List ℕ) (old new : DeskView) (outcome : Outcome) → StopsReading Params name old new outcome
+    → StopsDisk name old new outcome
 disk_unread name old new (outcomes.Params fault) h = absurd h
 disk_unread name old new _ h = h
 
-pub trace_unread : (name : List ℕ) (device : ℕ) (disk : Disk) (old new : DeskView) (outcome : Outcome) → StopsReading Trace name old new outcome → StopsTrace name device disk old new outcome
+pub trace_unread : (name : List ℕ) (device : ℕ) (disk : Disk) (old new : DeskView) (outcome : Outcome)
+    → StopsReading Trace name old new outcome → StopsTrace name device disk old new outcome
 trace_unread name device disk old new (outcomes.Trace fault) h = absurd h
 trace_unread name device disk old new _ h = h
 
-pub calls_unread : (name : List ℕ) (disk : Disk) (traced : ℕ) (old new : DeskView) (outcome : Outcome) → StopsReading Calls name old new outcome → StopsCalls name disk traced old new outcome
+pub calls_unread : (name : List ℕ) (disk : Disk) (traced : ℕ) (old new : DeskView) (outcome : Outcome)
+    → StopsReading Calls name old new outcome → StopsCalls name disk traced old new outcome
 calls_unread name disk traced old new (outcomes.Calls fault) h = absurd h
 calls_unread name disk traced old new _ h = h
 
-pub puts_unread : (name : List ℕ) (files : Files) (old new : DeskView) (outcome : Outcome) → StopsReading Puts name old new outcome → StopsPuts name files old new outcome
+pub puts_unread : (name : List ℕ) (files : Files) (old new : DeskView) (outcome : Outcome) → StopsReading Puts name old new outcome
+    → StopsPuts name files old new outcome
 puts_unread name files old new (outcomes.Puts fault) h = absurd h
 puts_unread name files old new _ h = h
 
-pub report_unread : (report : Report) (name : List ℕ) (old new : DeskView) (outcome : Outcome) → StopsReading (input_of report) name old new outcome → StopsReport report name old new outcome
+pub report_unread : (report : Report) (name : List ℕ) (old new : DeskView) (outcome : Outcome)
+    → StopsReading (input_of report) name old new outcome → StopsReport report name old new outcome
 report_unread report name old new (outcomes.Reports fault) h = absurd h
 report_unread report name old new _ h = h
 
 -- why the parameter file was not read
 pub at_params : (words : SourceTerms) (old new : DeskView) (outcome : Outcome) → ChangesInput Params old new → StopsDisk words.params old new outcome → StopsInputs (files_alone words) old new outcome
 at_params words old new (outcomes.Params fault) only h = (h, ends_at_params old new only)
-at_params words old new outcome only h = at_reading (files_alone words) old old new Params tt words.params refl refl refl (ends_at_params old new only) outcome h
+at_params words old new outcome only h =
+    at_reading (files_alone words) old old new Params tt words.params refl refl refl (ends_at_params old new only) outcome h
 
 -- why the trace was not read
 pub at_trace : (words : SourceTerms) (old mid new : DeskView) (outcome : Outcome) (before : AcceptsDisk old words.params) → ChangesInput Params old mid → ChangesInput Trace mid new
@@ -124,16 +127,20 @@ pub at_trace : (words : SourceTerms) (old mid new : DeskView) (outcome : Outcome
 at_trace words old mid new (outcomes.Trace fault) before first second h =
     (record { before = before; refuses = reads_before (first.held words.trace) h }, ends_at_trace old mid new first second)
 at_trace words old mid new outcome before first second h =
-    at_reading (files_alone words) old mid new Trace before words.trace refl (first.held words.trace) (first.inputs Trace trace_is_no_params) (ends_at_trace old mid new first second) outcome h
+    at_reading (files_alone words) old mid new Trace before words.trace refl (first.held words.trace) (first.inputs Trace (λ e. cc))
+    (ends_at_trace old mid new first second) outcome h
 
 -- why the script of this name was not read
 at_calls : (words : SourceTerms) (old mid late new : DeskView) (outcome : Outcome) (before : AcceptsTrace old words) (name : List ℕ) → words.calls ≡ Some name
     → ChangesInput Params old mid → ChangesInput Trace mid late → ChangesInput Calls late new
     → StopsCalls name before.params.disk (length before.trace.requests) late new outcome → StopsInputs (files_alone words) old new outcome
-at_calls words old mid late new (outcomes.Calls fault) before name given first second third h =
-    (record { before = before; name = name; given = given; refuses = reads_before (second.held name ∙ first.held name) h }, ends_at_calls old mid late new first second third)
+at_calls words old mid late new (outcomes.Calls fault) before name given first second third h = (
+  record { before = before; name = name; given = given; refuses = reads_before (second.held name ∙ first.held name) h },
+  ends_at_calls old mid late new first second third,
+)
 at_calls words old mid late new outcome before name given first second third h =
-    at_reading (files_alone words) old late new Calls before name given (second.held name ∙ first.held name) (second.inputs Calls calls_are_no_trace ∙ first.inputs Calls calls_are_no_params)
+    at_reading (files_alone words) old late new Calls before name given (second.held name ∙ first.held name)
+    (second.inputs Calls (λ e. cc) ∙ first.inputs Calls (λ e. cc))
     (ends_at_calls old mid late new first second third) outcome h
 
 -- why the script that is given was not read

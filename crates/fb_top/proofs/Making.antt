@@ -17,8 +17,8 @@ use Rattle.fb_maker.specs.Script.{script_text, script_calls}
 use Rattle.fb_script.specs.Reading.{calls_of}
 use Rattle.fb_desk.specs.Calls.{Rose, ChangesInput, ChangesOutput}
 use Rattle.fb_desk.specs.View.{DeskView, InputView, OutputView}
-use Rattle.fb_desk.specs.declared.desk.Input.TheVariants.{Params, Trace, Calls, Puts, ForeReport, BackReport}
-use Rattle.fb_desk.specs.declared.desk.Output.TheVariants.{Fore, Back, Spill, Note, MadeTrace, MadeCalls, Copied}
+use Rattle.fb_desk.specs.declared.desk.Input.TheVariants.{Params}
+use Rattle.fb_desk.specs.declared.desk.Output.TheVariants.{Note, MadeTrace, MadeCalls}
 use Rattle.fb_words.specs.Command.{MakeTerms}
 use Rattle.fb_top.specs.declared.outcome.Outcome.{Outcome}
 use Rattle.fb_top.specs.declared.outcome.Outcome.TheVariants as outcomes
@@ -76,7 +76,8 @@ module _ (terms : MakeTerms) (old mid new : DeskView) (only : ChangesOutput Note
   make_cause_still _ h = absurd h
 
 -- why the parameter file was not read
-pub disk_stopped : (terms : MakeTerms) (old new : DeskView) (outcome : Outcome) → ChangesInput Params old new → StopsDisk terms.params old new outcome → MakeHasCause terms old new outcome
+pub disk_stopped : (terms : MakeTerms) (old new : DeskView) (outcome : Outcome) → ChangesInput Params old new
+    → StopsDisk terms.params old new outcome → MakeHasCause terms old new outcome
 disk_stopped terms old new (outcomes.Params fault) only h = (h, λ output no_note. only.outputs output)
 disk_stopped terms old new (outcomes.TooLong Params) only h = (h.1, λ output no_note. only.outputs output)
 disk_stopped terms old new (outcomes.ReadFault Params) only h = (h.1, λ output no_note. only.outputs output)

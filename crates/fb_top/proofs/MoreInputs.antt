@@ -1,8 +1,8 @@
 -- Files that were read, told of all inputs that the words name.
-use Rattle.std.proofs.Common.{◌≡◌, ◌∙◌, ℕ, ◌<◌, ◌^◌, List, length, Option, Some, None, true, refl, sym, ap, subst}
+use Rattle.std.proofs.Common.{◌≡◌, ◌∙◌, ℕ, List, Option, Some, None, true, refl, sym, ap, subst}
 use Rattle.std.specs.Prelude.{IfSome, is_some}
 use Rattle.fb_puts.specs.Reading.{Accepted as PutsRead}
-use Rattle.fb_desk.specs.Calls.{ChangesInput, Rose}
+use Rattle.fb_desk.specs.Calls.{ChangesInput}
 use Rattle.fb_desk.specs.View.{DeskView, InputView, IsUnused}
 use Rattle.fb_desk.specs.declared.desk.Input.{Input}
 use Rattle.fb_desk.specs.declared.desk.Input.TheVariants.{Params, Trace, Calls, Puts, ForeReport, BackReport}
@@ -92,8 +92,10 @@ module _ (terms : InputTerms) (sources : SourceTerms) (same : sources ≡ terms.
 
   -- why the puts of this name were not read
   at_puts : (outcome : Outcome) (files : AcceptsFiles old terms.sources) (name : List ℕ) → terms.puts ≡ Some name → StopsPuts name files.files mid new outcome → StopsInputs terms old new outcome
-  at_puts (outcomes.Puts fault) files name given h = (record { before = files; name = name; given = given; refuses = reads_before (held name) h }, ends_at_puts)
-  at_puts outcome files name given h = at_reading terms old mid new Puts files name given (held name) (unnamed Puts refl) ends_at_puts outcome h
+  at_puts (outcomes.Puts fault) files name given h =
+      (record { before = files; name = name; given = given; refuses = reads_before (held name) h }, ends_at_puts)
+  at_puts outcome files name given h =
+      at_reading terms old mid new Puts files name given (held name) (unnamed Puts refl) ends_at_puts outcome h
 
   -- why the puts that are given were not read
   pub puts_stopped : (outcome : Outcome) (files : AcceptsFiles old terms.sources) → StopsGivenPuts terms.puts files.files mid new outcome → StopsInputs terms old new outcome

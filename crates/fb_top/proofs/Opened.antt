@@ -19,7 +19,6 @@ use Rattle.fb_top.specs.Noted.{LeavesNote}
 use Rattle.fb_top.specs.Taken.{KeepsOutputs}
 use Rattle.fb_top.specs.Unnamed.{KeepsInputs}
 use Rattle.fb_top.proofs.Unnamed.{is_named}
-use Rattle.fb_top.proofs.Later.{trace_is_no_params, calls_are_no_params, calls_are_no_trace}
 
 -- what was read and what is left are what is held
 pub left_here : (bytes : List ℕ) (left held : Option (List ℕ)) → before bytes left ≡ held → IsLeftOf held left
@@ -44,8 +43,8 @@ module _ (terms : SourceTerms) (old : DeskView) (unused : IsUnused old) where
   -- the parameter file was read
   pub opened_at_params : (new : DeskView) → ChangesInput Params old new → IsOpenedAs terms.params old (new.inputs Params) → OpensAsNamed (files_alone terms) old new
   opened_at_params new only opened Params name given = told_before terms.params name old old (new.inputs Params) refl given opened
-  opened_at_params new only opened Trace name given = unopened Trace name old new unused (only.inputs Trace trace_is_no_params)
-  opened_at_params new only opened Calls name given = unopened Calls name old new unused (only.inputs Calls calls_are_no_params)
+  opened_at_params new only opened Trace name given = unopened Trace name old new unused (only.inputs Trace (λ e. cc))
+  opened_at_params new only opened Calls name given = unopened Calls name old new unused (only.inputs Calls (λ e. cc))
   opened_at_params new only opened Puts name given = absurd (is_named name (sym given))
   opened_at_params new only opened ForeReport name given = absurd (is_named name (sym given))
   opened_at_params new only opened BackReport name given = absurd (is_named name (sym given))
@@ -58,7 +57,8 @@ module _ (terms : SourceTerms) (old : DeskView) (unused : IsUnused old) where
     pub opened_at_trace : (new : DeskView) → ChangesInput Trace mid new → IsOpenedAs terms.trace mid (new.inputs Trace) → OpensAsNamed (files_alone terms) old new
     opened_at_trace new second trace Params name given = params_still new name (second.inputs Params (λ e. cc)) given
     opened_at_trace new second trace Trace name given = told_before terms.trace name old mid (new.inputs Trace) (first.held terms.trace) given trace
-    opened_at_trace new second trace Calls name given = unopened Calls name old new unused (second.inputs Calls calls_are_no_trace ∙ first.inputs Calls calls_are_no_params)
+    opened_at_trace new second trace Calls name given =
+        unopened Calls name old new unused (second.inputs Calls (λ e. cc) ∙ first.inputs Calls (λ e. cc))
     opened_at_trace new second trace Puts name given = absurd (is_named name (sym given))
     opened_at_trace new second trace ForeReport name given = absurd (is_named name (sym given))
     opened_at_trace new second trace BackReport name given = absurd (is_named name (sym given))
@@ -93,9 +93,10 @@ pub calm_inputs : (old mid late new : DeskView) → ChangesInput Params old mid 
 calm_inputs old mid late new first second third params trace script Params =
     ap (λ (v : InputView). v.faults) (third.inputs Params (λ e. cc) ∙ second.inputs Params (λ e. cc)) ∙ params
 calm_inputs old mid late new first second third params trace script Trace =
-    ap (λ (v : InputView). v.faults) (third.inputs Trace (λ e. cc)) ∙ trace ∙ ap (λ (v : InputView). v.faults) (first.inputs Trace trace_is_no_params)
+    ap (λ (v : InputView). v.faults) (third.inputs Trace (λ e. cc)) ∙ trace ∙ ap (λ (v : InputView). v.faults)
+    (first.inputs Trace (λ e. cc))
 calm_inputs old mid late new first second third params trace script Calls =
-    script ∙ ap (λ (v : InputView). v.faults) (second.inputs Calls calls_are_no_trace ∙ first.inputs Calls calls_are_no_params)
+    script ∙ ap (λ (v : InputView). v.faults) (second.inputs Calls (λ e. cc) ∙ first.inputs Calls (λ e. cc))
 calm_inputs old mid late new first second third params trace script Puts =
     ap (λ (v : InputView). v.faults) (third.inputs Puts (λ e. cc) ∙ second.inputs Puts (λ e. cc) ∙ first.inputs Puts (λ e. cc))
 calm_inputs old mid late new first second third params trace script ForeReport =

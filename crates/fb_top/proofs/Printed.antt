@@ -62,8 +62,10 @@ module _ (one other : DeskView) where
   held_there : (name bytes : List ℕ) → HoldAlike one other name → IsHeld one name bytes → IsHeld other name bytes
   held_there name bytes alike held = subst (λ (told : Option (List ℕ)). IfSome told (λ here. bytes ≡ here)) (sym alike.2) (held_here (one.held name) bytes alike.0 alike.1 held)
 
-  reads_there : {A : Type 0} {limit : ℕ} {read : List ℕ → A} {verdict : A} (name : List ℕ) → HoldAlike one other name → ReadsAs one name limit read verdict → ReadsAs other name limit read verdict
-  reads_there name alike reads = record { bytes = reads.bytes; held = held_there name reads.bytes alike reads.held; within = reads.within; spells = reads.spells }
+  reads_there : {A : Type 0} {limit : ℕ} {read : List ℕ → A} {verdict : A} (name : List ℕ) → HoldAlike one other name
+      → ReadsAs one name limit read verdict → ReadsAs other name limit read verdict
+  reads_there name alike reads =
+      record { bytes = reads.bytes; held = held_there name reads.bytes alike reads.held; within = reads.within; spells = reads.spells }
 
   pub told_there : (name : List ℕ) → HoldAlike one other name → is_some (other.held name) ≡ true
   told_there name alike = ap is_some alike.2

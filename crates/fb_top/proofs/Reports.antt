@@ -4,7 +4,7 @@ use Rattle.std.specs.Prelude.{codes}
 use Rattle.fb_rows.specs.declared.run.Run.{Run}
 use Rattle.fb_desk.specs.Calls.{Rose, ChangesOutput}
 use Rattle.fb_desk.specs.View.{DeskView, OutputView}
-use Rattle.fb_desk.specs.declared.desk.Output.TheVariants.{Fore, Back, Spill, Note, MadeTrace, MadeCalls, Copied}
+use Rattle.fb_desk.specs.declared.desk.Output.TheVariants.{Fore, Back}
 use Rattle.fb_words.specs.Command.{ReplayTerms}
 use Rattle.fb_top.specs.declared.outcome.Outcome.{Outcome}
 use Rattle.fb_top.specs.declared.outcome.Outcome.TheVariants as outcomes

@@ -8,7 +8,7 @@ use Rattle.fb_bgwrite.specs.declared.items.SpillRun.{SpillRun}
 use Rattle.fb_desk.specs.Calls.{ChangesOutput, Rose}
 use Rattle.fb_desk.specs.View.{DeskView, OutputView}
 use Rattle.fb_desk.specs.declared.desk.Input.TheVariants.{Puts, ForeReport, BackReport}
-use Rattle.fb_desk.specs.declared.desk.Output.TheVariants.{Fore, Back, Spill, Note, MadeTrace, MadeCalls, Copied}
+use Rattle.fb_desk.specs.declared.desk.Output.TheVariants.{Fore, Back, Spill}
 use Rattle.fb_words.specs.Command.{ReplayTerms}
 use Rattle.fb_top.specs.declared.outcome.Outcome.{Outcome}
 use Rattle.fb_top.specs.declared.outcome.Outcome.TheVariants as outcomes

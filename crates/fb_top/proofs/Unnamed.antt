@@ -10,7 +10,6 @@ use Rattle.fb_top.specs.Sources.{InputTerms, SourceTerms, files_alone}
 use Rattle.fb_words.specs.declared.fault.UsageFault.{UsageFault}
 use Rattle.fb_top.specs.Causes.{KeepsLater}
 use Rattle.fb_top.specs.Unnamed.{KeepsInputs, KeepsUnnamed, LeavesUnnamed}
-use Rattle.fb_top.proofs.Later.{trace_is_no_params, calls_are_no_params, calls_are_no_trace}
 
 pub is_named : (name : List ℕ) → Some name ≢ None
 is_named name e = cc
@@ -18,8 +17,8 @@ is_named name e = cc
 -- the parameter file was read
 pub unnamed_at_params : (terms : SourceTerms) (old new : DeskView) → ChangesInput Params old new → KeepsUnnamed (files_alone terms) old new
 unnamed_at_params terms old new only Params e = absurd (is_named terms.params e)
-unnamed_at_params terms old new only Trace e = only.inputs Trace trace_is_no_params
-unnamed_at_params terms old new only Calls e = only.inputs Calls calls_are_no_params
+unnamed_at_params terms old new only Trace e = only.inputs Trace (λ e. cc)
+unnamed_at_params terms old new only Calls e = only.inputs Calls (λ e. cc)
 unnamed_at_params terms old new only Puts e = only.inputs Puts (λ e. cc)
 unnamed_at_params terms old new only ForeReport e = only.inputs ForeReport (λ e. cc)
 unnamed_at_params terms old new only BackReport e = only.inputs BackReport (λ e. cc)
@@ -28,7 +27,7 @@ unnamed_at_params terms old new only BackReport e = only.inputs BackReport (λ e
 pub unnamed_at_trace : (terms : SourceTerms) (old mid new : DeskView) → ChangesInput Params old mid → ChangesInput Trace mid new → KeepsUnnamed (files_alone terms) old new
 unnamed_at_trace terms old mid new first second Params e = absurd (is_named terms.params e)
 unnamed_at_trace terms old mid new first second Trace e = absurd (is_named terms.trace e)
-unnamed_at_trace terms old mid new first second Calls e = second.inputs Calls calls_are_no_trace ∙ first.inputs Calls calls_are_no_params
+unnamed_at_trace terms old mid new first second Calls e = second.inputs Calls (λ e. cc) ∙ first.inputs Calls (λ e. cc)
 unnamed_at_trace terms old mid new first second Puts e = second.inputs Puts (λ e. cc) ∙ first.inputs Puts (λ e. cc)
 unnamed_at_trace terms old mid new first second ForeReport e = second.inputs ForeReport (λ e. cc) ∙ first.inputs ForeReport (λ e. cc)
 unnamed_at_trace terms old mid new first second BackReport e = second.inputs BackReport (λ e. cc) ∙ first.inputs BackReport (λ e. cc)
@@ -37,14 +36,11 @@ unnamed_at_trace terms old mid new first second BackReport e = second.inputs Bac
 pub unnamed_at_calls : (terms : SourceTerms) (old mid late new : DeskView) → ChangesInput Params old mid → ChangesInput Trace mid late → ChangesInput Calls late new → (terms.calls ≡ None → new.inputs Calls ≡ late.inputs Calls) → KeepsUnnamed (files_alone terms) old new
 unnamed_at_calls terms old mid late new first second third kept Params e = absurd (is_named terms.params e)
 unnamed_at_calls terms old mid late new first second third kept Trace e = absurd (is_named terms.trace e)
-unnamed_at_calls terms old mid late new first second third kept Calls e = kept e ∙ second.inputs Calls calls_are_no_trace ∙ first.inputs Calls calls_are_no_params
+unnamed_at_calls terms old mid late new first second third kept Calls e =
+    kept e ∙ second.inputs Calls (λ e. cc) ∙ first.inputs Calls (λ e. cc)
 unnamed_at_calls terms old mid late new first second third kept Puts e = third.inputs Puts (λ e. cc) ∙ second.inputs Puts (λ e. cc) ∙ first.inputs Puts (λ e. cc)
 unnamed_at_calls terms old mid late new first second third kept ForeReport e = third.inputs ForeReport (λ e. cc) ∙ second.inputs ForeReport (λ e. cc) ∙ first.inputs ForeReport (λ e. cc)
 unnamed_at_calls terms old mid late new first second third kept BackReport e = third.inputs BackReport (λ e. cc) ∙ second.inputs BackReport (λ e. cc) ∙ first.inputs BackReport (λ e. cc)
-
--- a make reads the parameter file alone
-pub later_at_params : (old new : DeskView) → ChangesInput Params old new → KeepsLater Params old new
-later_at_params old new only = (only.inputs Trace trace_is_no_params, only.inputs Calls calls_are_no_params, only.inputs Puts (λ e. cc), only.inputs ForeReport (λ e. cc), only.inputs BackReport (λ e. cc))
 
 -- outputs leave the inputs alone
 pub later_after : (old mid new : DeskView) → KeepsLater Params old mid → KeepsInputs mid new → KeepsLater Params old new

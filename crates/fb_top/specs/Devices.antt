@@ -1,5 +1,5 @@
 -- What the accepted inputs of an array mean.
-use Rattle.std.specs.Prelude.{◌≡◌, ℕ, ◌≤◌, ◌^◌, List, [], length, map, Bool, true, false, nat_eq, Option, Some, None, Ok, Err, if◌then◌else◌, is_some}
+use Rattle.std.specs.Prelude.{◌≡◌, ℕ, ◌^◌, List, [], length, map, Bool, true, false, nat_eq, Option, Some, None, Ok, Err, if◌then◌else◌, is_some}
 use Rattle.fb_geometry.specs.Shape.{Shape}
 use Rattle.fb_geometry.specs.Places.{places}
 use Rattle.fb_service.specs.declared.disk.Disk.{Disk}

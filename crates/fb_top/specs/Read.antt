@@ -26,7 +26,8 @@ use Rattle.fb_top.specs.Streams.{IsHeld, ReadsAs}
 
 -- the parameter file under a name is accepted, with this disk and these latent sectors
 abbrev pub ReadsDisk : DeskView → List ℕ → Disk → List ℕ → Type 0
-ReadsDisk desk name disk latent = ReadsAs desk name (2 ^ 20) params_of (Ok (record { outline = disk.map; mechanics = disk.mechanism; sector_bytes = disk.sector_bytes; latent = latent }))
+ReadsDisk desk name disk latent = ReadsAs desk name (2 ^ 20) params_of
+    (Ok (record { outline = disk.map; mechanics = disk.mechanism; sector_bytes = disk.sector_bytes; latent = latent }))
 
 -- or refused, with this fault
 abbrev pub RefusesDisk : DeskView → List ℕ → ParamsFault → Type 0

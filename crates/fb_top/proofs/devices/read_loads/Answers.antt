@@ -47,5 +47,6 @@ returns-in-Err-read_rebuild-clause-cause g c = λ first latent reads only.
     let disk = c.args.disk.now in
     let traces = map accepted c.in-Ok.traces.items in
     array_at_rebuild terms first mid (g.D.Desk.seen c.read_devices.new.desk) c.in-Err-read_rebuild.outcome (record { disk = disk; latent = latent; reads_disk = reads }) traces
-    (reads_before (only.held terms.trace) (subst (λ (name : List ℕ). ReadsTraces mid name terms.devices disk traces) c.as_str.ensures.value c.in-Ok.ensures.traces))
+    (reads_before (only.held terms.trace) (subst (λ (name : List ℕ). ReadsTraces mid name terms.devices disk traces)
+    c.as_str.ensures.value c.in-Ok.ensures.traces))
     only c.in-Ok.ensures.only c.in-Err-read_rebuild.ensures.stops

@@ -2,7 +2,8 @@ use Rattle.std.proofs.Common.{List, ℕ, subst}
 use Rattle.fb_top.specs.Causes.{StopsDisk}
 use Rattle.fb_top.specs.Read.{ReadsDisk}
 use Rattle.fb_top.proofs.Making.{disk_stopped}
-use Rattle.fb_top.proofs.Unnamed.{later_at_params, later_after}
+use Rattle.fb_top.proofs.Later.{later_at_params}
+use Rattle.fb_top.proofs.Unnamed.{later_after}
 use Rattle.fb_words.specs.Verdict.{make_terms}
 use Rattle.fb_top.proofs.make.run_make.Goals as goal
 

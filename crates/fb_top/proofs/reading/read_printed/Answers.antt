@@ -11,4 +11,5 @@ returns-clause-stops g c =
     let old = g.D.Desk.seen c.args.desk.now in
     let new = g.D.Desk.seen c.read_input.new.desk in
     IfErr-weaker c.read_input.result _ _ (λ outcome stops.
-    report_unread c.args.report name old new outcome (subst (λ (input : Input). StopsReading input name old new outcome) c.input_of.ensures stops)) c.read_input.ensures.stops
+    report_unread c.args.report name old new outcome (subst (λ (input : Input). StopsReading input name old new outcome)
+    c.input_of.ensures stops)) c.read_input.ensures.stops

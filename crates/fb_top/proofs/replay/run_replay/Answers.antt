@@ -14,5 +14,6 @@ returns-in-Ok-clause-cause g c = c.replay_and_write.ensures.cause (g.D.Desk.seen
 
 pub returns-in-Err-clause-cause : goal.returns-in-Err-clause-cause
 returns-in-Err-clause-cause g c =
-    replay_stopped (replay_terms c.args.words.now) (g.D.Desk.seen c.args.desk.now) (g.D.Desk.seen c.read_replay_inputs.new.desk) c.in-Err.outcome
+    replay_stopped (replay_terms c.args.words.now) (g.D.Desk.seen c.args.desk.now) (g.D.Desk.seen c.read_replay_inputs.new.desk)
+    c.in-Err.outcome
     c.in-Err.ensures.cause
