@@ -4,7 +4,7 @@ use Rattle.std.specs.List.{fold, AllByRecursion}
 use Rattle.std.proofs.lemmas.Bool.{cases_Bool}
 use Rattle.std.proofs.lemmas.Bool.Decides.{nat_tests}
 use Rattle.fb_wanted.specs.declared.block.Block.{Block}
-use Rattle.fb_model.specs.History.{same_block, Past, registered, wanted}
+use Rattle.fb_model.specs.History.{same_block, Past, wanted}
 use Rattle.fb_plan.specs.declared.catching.Catch.{Catch}
 use Rattle.fb_plan.specs.Order.{is_before, place_in}
 use Rattle.fb_plan.proofs.Sorted.{put_front, put_behind}
@@ -26,16 +26,13 @@ use Rattle.fb_wanted.specs.States.{on_track, wanted_of}
 use Rattle.fb_model.specs.Rides.{lies_in, begin_at, end_at, in_order, rides, delivery}
 use Rattle.fb_decide.specs.Carried.{added, ride_of, begins_in, begun_in, carried_of, AreLaid, AreExtents}
 use Rattle.fb_wanted.proofs.Kept.{same_itself as track_itself}
-use Rattle.fb_tasks.proofs.Lists.{filter_none, filter_same, all_any, all_at, all_weaker, all_map}
+use Rattle.fb_tasks.proofs.Lists.{filter_none, filter_same, all_any, all_at, all_weaker}
 use Rattle.fb_geometry.specs.Places.{places}
 use Rattle.fb_service.specs.declared.disk.Disk.{Disk}
 use Rattle.fb_store.specs.Index.{Holding}
 use Rattle.fb_rows.specs.declared.back.DeliveryRow.{DeliveryRow}
 use Rattle.fb_rows.specs.declared.gap.How.TheVariants.{Ride as ByRide}
 use Rattle.fb_model.specs.PlainReplay.{Served}
-use Rattle.fb_tasks.specs.declared.session.Session.{Session}
-use Rattle.fb_tasks.specs.Standing.{entry_of}
-use Rattle.fb_tasks.specs.Telling.{Tells}
 use Rattle.fb_decide.proofs.Placing.{rows-in_order, due-filtered, take_at}
 
 -- ---- catches that are placed one after another stand in the order of deliveries, whichever of them is placed first

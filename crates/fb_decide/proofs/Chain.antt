@@ -2,14 +2,14 @@
 use Rattle.std.proofs.Common.{◌≡◌, ◌⊎◌, ℕ, zero, suc, ◌≤◌, List, [], ◌∷◌, ◌++◌, length, map, refl, ap, sym, subst, ◌∙◌, arith, inl, inr, max}
 use Rattle.std.specs.Prelude.{Option, Some, None, unwrap_or, nat_le, nat_lt, filter}
 use Rattle.std.specs.Option.{option_map}
-use Rattle.std.specs.List.{AllByRecursion, fold, list_any}
+use Rattle.std.specs.List.{AllByRecursion, fold}
 use Rattle.std.proofs.lemmas.Bool.{cases_Bool}
 use Rattle.std.proofs.lemmas.Bool.Decides.{nat_tests}
 use Rattle.fb_units.specs.declared.types.Request.{Request}
 use Rattle.fb_units.specs.declared.types.Track.{Track}
 use Rattle.fb_service.specs.declared.disk.Disk.{Disk}
 use Rattle.fb_calls.proofs.Lists.{all_weaker}
-use Rattle.fb_model.specs.PlainReplay.{Key, Served, service, finish, last_track, has_arrived, first_ready, start_of, plain, first_track}
+use Rattle.fb_model.specs.PlainReplay.{Key, Served, service, finish, last_track, first_ready, start_of, plain, first_track}
 use Rattle.fb_model.specs.Inputs.{Inputs, requests, served}
 use Rattle.fb_model.specs.Decisions.{Decision, serves, idles, ends, instants_of, idle_until, last_decision, decisions_from, decisions}
 use Rattle.fb_model.specs.Laws.{IsReadyPickOf}

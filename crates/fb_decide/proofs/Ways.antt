@@ -5,9 +5,7 @@ use Rattle.fb_geometry.specs.Shape.{Shape, slots_at}
 use Rattle.fb_geometry.specs.Sound.{IsSound, LiesOn}
 use Rattle.fb_sectormap.proofs.ByCylinder.{has_place}
 use Rattle.fb_service.specs.Passing.{length_of, begin_angle, begin_from, end_from}
-use Rattle.fb_model.specs.Laws.{SlotsCoverRotation}
 use Rattle.fb_model.proofs.Passages.{slots_short, from_on, LiesOnDisk}
-use Rattle.fb_decide.specs.Deciding.{PassagesTakeTime}
 use Rattle.std.specs.Prelude.{Bool, ◌&&◌, ◌==◌, ◌%◌}
 use Rattle.std.proofs.lemmas.Bool.Decides.{nat_tests}
 use Rattle.fb_units.specs.declared.types.Track.{Track}

@@ -1,20 +1,16 @@
 -- The services of a replay: one after another, what they write takes time, and what it leaves.
-use Rattle.std.proofs.Common.{◌≡◌, ℕ, zero, suc, ◌+◌, ◌<◌, ◌≤◌, List, [], ◌∷◌, ◌++◌, length, map, Option, Some, None, Bool, true, false, refl, ap, sym, subst, ◌∙◌, arith, inl, inr, append-nil, nat_le}
+use Rattle.std.proofs.Common.{◌≡◌, ℕ, zero, suc, ◌+◌, ◌<◌, ◌≤◌, List, [], ◌∷◌, ◌++◌, length, map, Option, Some, None, Bool, true, false, refl, ap, sym, subst, ◌∙◌, arith, inl, inr}
 use Rattle.std.specs.Prelude.{filter, ◌==◌, ◌&&◌, if◌then◌else◌}
 use Rattle.std.specs.List.{AllByRecursion, flat_map, last_or}
-use Rattle.std.proofs.lemmas.Bool.{cases_Bool}
-use Rattle.std.proofs.lemmas.Bool.Decides.{nat_tests}
 use Rattle.std.proofs.lemmas.List.Elements.{filter-append}
 use Rattle.std.proofs.lemmas.List.Concat.{flat_map-append}
 use Rattle.fb_units.specs.declared.types.Request.{Request}
 use Rattle.fb_units.specs.declared.types.Track.{Track}
 use Rattle.fb_geometry.specs.Places.{places}
 use Rattle.fb_geometry.specs.Sound.{IsSound}
-use Rattle.fb_sectormap.specs.Lookup.{track_at}
-use Rattle.fb_seek.specs.Positioning.{pos}
 use Rattle.fb_service.specs.declared.disk.Disk.{Disk}
 use Rattle.fb_service.specs.declared.passage.Passage.{Passage}
-use Rattle.fb_service.specs.Service.{passages, passage_from, finish_of, media_of}
+use Rattle.fb_service.specs.Service.{passages, finish_of, media_of}
 use Rattle.fb_store.specs.declared.content.Content.{Content}
 use Rattle.fb_store.specs.declared.content.Content.TheVariants.{Filled}
 use Rattle.fb_store.specs.Writes.{is_within, unwritten}
@@ -23,7 +19,7 @@ use Rattle.fb_model.specs.PlainReplay.{Key, Served, finish, first_track, last_tr
 use Rattle.fb_model.specs.Inputs.{Inputs, requests, served}
 use Rattle.fb_model.specs.Accepted.{IsAccepted}
 use Rattle.fb_model.specs.Content.{Medium, Written, content, content_by, number_of, writes_of}
-use Rattle.fb_model.specs.Laws.{FollowsRules, ForegroundListsAscend, IsFirstReady, OnePlainReplay}
+use Rattle.fb_model.specs.Laws.{FollowsRules, ForegroundListsAscend, OnePlainReplay}
 use Rattle.fb_model.proofs.Lists.{all_append, all_both, all_map, all_unmapped}
 use Rattle.fb_model.proofs.Passages.{IsServiceOf, LiesOnDisk, passed_between, long_slots, requests_lie, served_between, passages_long, written_by}
 use Rattle.fb_model.proofs.ContentsUpTo.{is_of_by}

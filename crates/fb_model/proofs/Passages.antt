@@ -31,7 +31,7 @@ use Rattle.fb_model.specs.Inputs.{Inputs, requests}
 use Rattle.fb_model.specs.Accepted.{IsAccepted, IsRequestOf}
 use Rattle.fb_model.specs.Content.{Written, number_of, writes_of}
 use Rattle.fb_model.specs.Rides.{begin_at, end_at, lies_in}
-use Rattle.fb_model.proofs.Lists.{all_both, all_append, all_map, all_left, all_right}
+use Rattle.fb_model.proofs.Lists.{all_both, all_append, all_map}
 use Rattle.fb_model.proofs.Picks.{all_picked}
 use Rattle.fb_model.proofs.Replays.{AreTurns, IsTurn}
 

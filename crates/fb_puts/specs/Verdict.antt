@@ -1,7 +1,6 @@
 -- What the result of reading says of the text.
 use Rattle.std.specs.Prelude.{◌≡◌, Result, Ok, Err}
 pub use Rattle.fb_units.specs.Reading.{Answers}
-use Rattle.fb_puts.specs.declared.fault.PutsFault.{PutsFault}
 use Rattle.fb_puts.specs.declared.puts.Puts.{Puts}
 use Rattle.fb_puts.specs.Reading.{Accepted}
 use Rattle.fb_puts.specs.declared.range.SectorRange.{SectorRange}

@@ -2,7 +2,6 @@
 use Rattle.std.specs.Prelude.{◌≡◌, Result, Ok, Err}
 pub use Rattle.fb_units.specs.Reading.{Answers}
 use Rattle.fb_calls.specs.declared.call.Calls.{Calls}
-use Rattle.fb_script.specs.declared.fault.CallsFault.{CallsFault}
 use Rattle.fb_script.specs.Reading.{Accepted}
 
 -- the value of a script

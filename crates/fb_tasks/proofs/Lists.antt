@@ -1,6 +1,6 @@
 -- What holds of each element, and lists that are mapped, filtered and tested.
 use Rattle.std.proofs.Common.{◌≡◌, ℕ, zero, suc, ◌+◌, ◌<◌, ◌≤◌, ◌==◌, List, [], ◌∷◌, Bool, true, false, Some, inl, inr, length, filter, map, find, set, slice_get, refl, arith, subst, ◌++◌}
-use Rattle.std.specs.List.{AllByRecursion, flat_map, list_any, list_all, range_with_len}
+use Rattle.std.specs.List.{AllByRecursion, flat_map, list_any, list_all}
 use Rattle.std.proofs.lemmas.Bool.{cases_Bool, cases_lt}
 use Rattle.std.proofs.lemmas.Bool.Decides.{nat_tests}
 use Rattle.std.proofs.lemmas.Option.{slice_get-map}

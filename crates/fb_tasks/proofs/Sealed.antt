@@ -2,7 +2,7 @@
 use Rattle.fb_tasks.proofs.Words.{◌≡◌, ℕ, zero, suc, ◌+◌, ◌<◌, ◌≤◌, List, [], ◌∷◌, true, false, Some, Option, map, refl, arith, append-nil}
 use Rattle.fb_tasks.proofs.Words.{◌-◌, ◌==◌, ◌&&◌, ◌^◌, not, nat_lt, if◌then◌else◌, ◌++◌, Bool, None, length, filter, take, slice_get}
 use Rattle.fb_tasks.proofs.Words.{ap, ap₂, sym, ◌∙◌, subst, inl, inr, AllByRecursion, range_with_len, flat_map, list_any, list_all}
-use Rattle.fb_tasks.proofs.Words.{nat_tests, Content, held_in, EndsBy, is_within, Block, Ascend, entry_of, entry_in, AreIndexed, IsBlockOf}
+use Rattle.fb_tasks.proofs.Words.{Content, held_in, EndsBy, is_within, Block, Ascend, entry_of, entry_in, AreIndexed, IsBlockOf}
 use Rattle.fb_tasks.proofs.Words.{HoldsBlock, HoldsBlocks, HoldsImage, Stands, all_weaker, all_with, all_filter, all_at, some_same}
 use Rattle.fb_tasks.proofs.Words.{filter_from, map_at, some_at, list_all_each, and-false, and_comm, and-true, or-false, slice_get_within}
 use Rattle.fb_tasks.proofs.Words.{get_or_from_slice_get, take_more, and_parts, cases_Bool, Shape, Kind, Backup, is_backup, ContentRun}

@@ -2,7 +2,6 @@
 use Rattle.std.specs.Prelude.{◌≡◌, ℕ, List, length, slice_get, Some, Ok}
 pub use Rattle.fb_units.specs.Reading.{Answers}
 use Rattle.fb_trace.specs.declared.trace.Trace.{Trace}
-use Rattle.fb_trace.specs.declared.trace.TraceFault.{TraceFault}
 use Rattle.fb_trace.specs.Reading.{Accepted, trace_of}
 
 -- the value of a trace

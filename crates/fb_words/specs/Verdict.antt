@@ -10,7 +10,6 @@ use Rattle.fb_words.specs.declared.command.ArrayWords.{ArrayWords}
 use Rattle.fb_words.specs.declared.command.RebuildWords.{RebuildWords}
 use Rattle.fb_words.specs.declared.command.Command.{Command}
 use Rattle.fb_words.specs.declared.command.Command.TheVariants.{Replay, Make, Check, Array}
-use Rattle.fb_words.specs.declared.fault.UsageFault.{UsageFault}
 use Rattle.fb_words.specs.Command.{ReplayTerms, MakeTerms, CheckTerms, RebuildTerms, ArrayTerms, Terms, replays, makes, checks, arrays}
 
 abbrev pub replay_terms : ReplayWords → ReplayTerms
