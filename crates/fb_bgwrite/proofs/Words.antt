@@ -81,7 +81,7 @@ pub use Rattle.fb_bgwrite.specs.AmendedWay.{amended, amended_legs, kept, kept_le
 unfoldable pub use Rattle.fb_bgwrite.specs.AmendedWay.{timeline_with}
 pub use Rattle.fb_bgwrite.specs.Blocks.{PutBlock, is_pending, is_written, put_blocks, sectors, writes}
 unfoldable pub use Rattle.fb_bgwrite.specs.Blocks.{blocks_from, pending}
-pub use Rattle.fb_bgwrite.specs.Choosing.{AreLeast, ArePending, AreTried, Beats, BeatsOn, BeatsRange, IsBestIf, IsEnough, IsFound}
+pub use Rattle.fb_bgwrite.specs.Choosing.{AreLeast, ArePending, AreTried, IsBestIf, IsEnough, IsFound, IsNoWorse, IsNoWorseThanTrack, IsNoWorseThanTracks}
 pub use Rattle.fb_bgwrite.specs.Choosing.{IsGap, IsKept, IsLastEnd, IsOnly, IsPart, IsSearch, IsShare, IsTried, IsValuedIf, Keeps}
 pub use Rattle.fb_bgwrite.specs.Choosing.{OneEndsAt, block_range}
 pub use Rattle.fb_bgwrite.specs.Gaps.{HasNoFree, RunGap, delivers, gaps}

@@ -51,25 +51,25 @@ IsValuedIf disk gap pending None = Unit {0}
 IsValuedIf disk gap pending (Some best) = IsValued disk gap pending best
 
 -- of greater value, or of the same and no later in the order of ties
-abbrev pub IsOver : Valued → Valued → Type 0
-IsOver a b = (b.value < a.value) ⊎ ((b.value ≡ a.value) × IsNoLater a.spill b.spill)
+abbrev pub IsNoWorseValued : Valued → Valued → Type 0
+IsNoWorseValued a b = (b.value < a.value) ⊎ ((b.value ≡ a.value) × IsNoLater a.spill b.spill)
 
 -- the best so far is at least as good as the spill; where there is none, the spill writes nothing
-abbrev pub Beats : Disk → Gap → List Block → Option Valued → Spill → Type 0
-Beats disk gap pending None other = value disk gap pending other ≡ 0
-Beats disk gap pending (Some best) other = (value disk gap pending other < best.value) ⊎ ((value disk gap pending other ≡ best.value) × IsNoLater best.spill other)
+abbrev pub IsNoWorse : Disk → Gap → List Block → Option Valued → Spill → Type 0
+IsNoWorse disk gap pending None other = value disk gap pending other ≡ 0
+IsNoWorse disk gap pending (Some best) other = (value disk gap pending other < best.value) ⊎ ((value disk gap pending other ≡ best.value) × IsNoLater best.spill other)
 
--- whatever the first beats, the second beats
+-- the second is no worse than whatever the first is no worse than
 abbrev pub Keeps : Disk → Gap → List Block → Option Valued → Option Valued → Type 0
-Keeps disk gap pending old new = (other : Spill) → Beats disk gap pending old other → Beats disk gap pending new other
+Keeps disk gap pending old new = (other : Spill) → IsNoWorse disk gap pending old other → IsNoWorse disk gap pending new other
 
 -- at least as good as each spill on the track
-abbrev pub BeatsOn : Disk → Gap → List Block → Option Valued → Track → Type 0
-BeatsOn disk gap pending best track = (leave : ℕ) → (let spill : Spill = record { track = track; leave = leave } in IsSpill disk gap spill → Beats disk gap pending best spill)
+abbrev pub IsNoWorseThanTrack : Disk → Gap → List Block → Option Valued → Track → Type 0
+IsNoWorseThanTrack disk gap pending best track = (leave : ℕ) → (let spill : Spill = record { track = track; leave = leave } in IsSpill disk gap spill → IsNoWorse disk gap pending best spill)
 
 -- and on each track of these cylinders
-abbrev pub BeatsRange : Disk → Gap → List Block → Option Valued → ℕ → ℕ → Type 0
-BeatsRange disk gap pending best from end = (track : Track) → from ≤ track.cylinder → track.cylinder < end → BeatsOn disk gap pending best track
+abbrev pub IsNoWorseThanTracks : Disk → Gap → List Block → Option Valued → ℕ → ℕ → Type 0
+IsNoWorseThanTracks disk gap pending best from end = (track : Track) → from ≤ track.cylinder → track.cylinder < end → IsNoWorseThanTrack disk gap pending best track
 
 -- at least as good as each spill of this value at most, on a track from this cylinder on
 abbrev pub IsEnough : Option Valued → ℕ → ℕ → Type 0
@@ -117,17 +117,17 @@ pub record IsPart (search : Search) (part : Part) : Type 0 where
 abbrev pub IsFound : Search → Option Valued → Type 0
 IsFound search best = IsValuedIf search.disk.now search.gap.now (wanted_of search.pending.now) best
 
--- whatever the first beats, the second beats
+-- the second is no worse than whatever the first is no worse than
 abbrev pub IsKept : Search → Option Valued → Option Valued → Type 0
 IsKept search old new = Keeps search.disk.now search.gap.now (wanted_of search.pending.now) old new
 
 -- the best so far is at least as good as each spill on the track
 abbrev pub IsTried : Search → Option Valued → Track → Type 0
-IsTried search best track = BeatsOn search.disk.now search.gap.now (wanted_of search.pending.now) best track
+IsTried search best track = IsNoWorseThanTrack search.disk.now search.gap.now (wanted_of search.pending.now) best track
 
 -- and on each track of these cylinders
 abbrev pub AreTried : Search → Option Valued → ℕ → ℕ → Type 0
-AreTried search best from end = BeatsRange search.disk.now search.gap.now (wanted_of search.pending.now) best from end
+AreTried search best from end = IsNoWorseThanTracks search.disk.now search.gap.now (wanted_of search.pending.now) best from end
 
 -- ---- the result
 

@@ -1,6 +1,6 @@
 // A spill with its value, and the better of two.
 ghost use Rattle.std.specs.Prelude.{◌≡◌, ◌⊎◌, true, false};
-ghost use Rattle.fb_bgwrite.specs.Choosing.{IsOver};
+ghost use Rattle.fb_bgwrite.specs.Choosing.{IsNoWorseValued};
 ghost use Rattle.fb_bgwrite.specs.Spilling.{IsNoLater};
 
 use fb_units::{Ns, Track};
@@ -35,8 +35,8 @@ fn is_no_later(a: Spill, b: Spill) -> bool
 /// The spill of greater value; of two with the same value, the first in the order of ties.
 pub fn better(a: Valued, b: Valued) -> Valued
     ensures either { (result ≡ a) ⊎ (result ≡ b) }
-    ensures over_a { IsOver result a }
-    ensures over_b { IsOver result b }
+    ensures no_worse_a { IsNoWorseValued result a }
+    ensures no_worse_b { IsNoWorseValued result b }
 {
     if b.value < a.value || a.value == b.value && is_no_later(a.spill, b.spill) {
         a

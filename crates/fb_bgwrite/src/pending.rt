@@ -8,6 +8,7 @@ ghost use Rattle.fb_wanted.specs.Tracks.{wanted_weight};
 ghost use Rattle.fb_units.specs.declared.types.Track.{Track};
 ghost use Rattle.fb_plan.specs.Order.{caught_of, AreOrdered};
 ghost use Rattle.fb_wanted.specs.Numbering.{blocks_of, registered};
+ghost use Rattle.fb_service.specs.declared.disk.Disk.{Disk};
 ghost use Rattle.fb_plan.specs.Ways.{AreOnDisk};
 ghost use Rattle.fb_model.specs.Segments.{numbered};
 ghost use Rattle.fb_bgwrite.specs.Shortest.{AreAtLeast};
@@ -128,10 +129,9 @@ impl Pending {
     }
 
     /// The registered blocks of a track.
-    pub fn on(&self, disk: &Disk, track: Track) -> TrackBlocks<'_>
-        requires blocks { AreOnDisk disk.now self.now }
+    pub fn on(&self, track: Track) -> TrackBlocks<'_>
         ensures its { result ≡ on_track track self.now }
-        ensures on_disk { AreOnDisk disk.now result }
+        ensures on_disk { (disk : Disk) → AreOnDisk disk self.now → AreOnDisk disk result }
     {
         blocks_on(&self.wanted, track)
     }

@@ -542,7 +542,7 @@ fn try_track(search: &Search, track: Track, most: u64, start: Option<Valued>) ->
     ensures keeps { IsKept search.now start result }
     ensures tried { IsTried search.now result track }
 {
-    let blocks = search.pending.on(search.disk, track);
+    let blocks = search.pending.on(track);
     if is_enough(start, most.min(blocks.wanted_weight()), track.cylinder) {
         return start;
     }

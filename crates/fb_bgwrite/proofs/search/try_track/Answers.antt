@@ -29,3 +29,6 @@ returns-then-most-least_on-clause-tried c = λ leave is.
     nothing_beaten disk gap (wanted_of entries) c.args.start spill c.requires.best
     (too_long_on disk gap entries spill c.requires.search.blocks.light c.least_on.result c.on-blocks.result c.args.most
     c.on-blocks.ensures.its c.least_on.ensures.each (c.requires.most leave is) (omega (arith, c.if-most-least_on.true)))
+
+pub spill_on-found-requires-clause-on_disk : goal.spill_on-found-requires-clause-on_disk
+spill_on-found-requires-clause-on_disk c = c.on-blocks.ensures.on_disk c.args.search.now.disk.now c.requires.search.blocks.on_disk
