@@ -2,7 +2,7 @@
 use Rattle.fb_detour.proofs.Words.{List, arith, get_or, inl, inr, min, refl, ℕ, ◌*◌, ◌+◌, ◌-◌, ◌/◌, ◌<◌, ◌^◌, ◌≡◌, ◌≤◌, div-mul-le_self}
 use Rattle.fb_detour.proofs.Words.{mod-lt, mul-le, mul-le-mul_right, cases_lt, div-add-mod', sum_by, Track, Disk, on_track, wanted_weight}
 use Rattle.fb_detour.proofs.Words.{Entry, Dwell, Gap, Detour, IsPlan, early_dwell, late_dwell, bounds, arrival, early_track, move_on}
-use Rattle.fb_detour.proofs.Words.{plan_by, Scored, Way, Over, Source, AreBins, IsNoted, IsStop, bin_at, IsDetourIn, IsEnough, IsFound}
+use Rattle.fb_detour.proofs.Words.{plan_by, Scored, Way, Over, Source, AreBins, IsBounded, IsStop, bin_at, IsDetourIn, IsEnough, IsFound}
 use Rattle.fb_detour.proofs.Words.{IsLate, IsNoWorseIn, IsReach, early_to, late_gain, late_most, offered, part_at, value_in, stay, Bins}
 use Rattle.fb_detour.proofs.Words.{Search, LateParts, Stop}
 use Rattle.fb_detour.specs.declared.steps.Reach.{Reach}
@@ -146,7 +146,7 @@ module _ (search : Search) where
         → ((k : ℕ) → k < 16384 → get_or bins.early.now k 0 ≤ 16000000 * 2048000)
         → ((k : ℕ) → k < 16384 → get_or bins.late.now k 0 ≤ 16000000 * 2048000)
         → ((leave : ℕ) → offered stop leave ≤ get_or bins.early.now (bin_at bins.leaves.now.begin bins.leaves.now.fine leave) 0)
-        → ((leave : ℕ) → bins.leaves.now.begin ≤ leave → IsNoted bins.leaves.now leave
+        → ((leave : ℕ) → bins.leaves.now.begin ≤ leave → IsBounded bins.leaves.now leave
         → sum_by (late_gain target.passing gap (leave + bins.leaves.now.on)) target.offers.now
         ≤ get_or bins.late.now (16383 - bin_at bins.leaves.now.begin bins.leaves.now.fine leave) 0)
         → AreBins search way bins

@@ -151,13 +151,13 @@ pub record AreLeaves (search : Search) (leaves : Leaves) : Type 0 where
   pub after : search.gap.now.now ≤ leaves.begin
   pub in_time : leaves.begin + leaves.on ≤ search.gap.now.deadline
 
--- the first leave of the instant's bin is no later than the instant
-abbrev pub IsNoted : Leaves → ℕ → Type 0
-IsNoted leaves leave = get_or leaves.firsts.now (bin_at leaves.begin leaves.fine leave) 0 ≤ leave
+-- the leave is no earlier than the first one in its bin, so that the bin's bounds hold for it
+abbrev pub IsBounded : Leaves → ℕ → Type 0
+IsBounded leaves leave = get_or leaves.firsts.now (bin_at leaves.begin leaves.fine leave) 0 ≤ leave
 
 -- the last bins, so many, have no leave from which the head still catches what passes so at the target
 abbrev pub AreTooLate : Search → Turning → Leaves → Sweep → ℕ → Type 0
-AreTooLate search target leaves sweep bins = (leave : ℕ) → leaves.begin ≤ leave → IsNoted leaves leave
+AreTooLate search target leaves sweep bins = (leave : ℕ) → leaves.begin ≤ leave → IsBounded leaves leave
     → passes_by (turned_to target (leave + leaves.on)) search.gap.now.deadline sweep ≡ true
     → bins + bin_at leaves.begin leaves.fine leave < 16384
 
@@ -171,7 +171,7 @@ pub record AreBins (search : Search) (way : Way) (bins : Bins) : Type 0 where
   pub some : 0 < bins.leaves.now.fine
   pub early : (k : ℕ) → k < 16384 → get_or bins.early.now k 0 ≤ 16000000 * 2048000
   pub late : (k : ℕ) → k < 16384 → get_or bins.late.now k 0 ≤ 16000000 * 2048000
-  pub most : (leave : ℕ) → IsPlan search.disk.now search.gap.now (plan_by way leave) → IsNoted bins.leaves.now leave
+  pub most : (leave : ℕ) → IsPlan search.disk.now search.gap.now (plan_by way leave) → IsBounded bins.leaves.now leave
       → value_in search (plan_by way leave) ≤ bin_ceiling bins leave
 
 -- the trial is of a way of the gap, with that way's sides and ceilings

@@ -4,7 +4,7 @@ ghost use Rattle.std.specs.Prelude.{◌≡◌, ◌+◌, ◌-◌, ◌*◌, ◌≤
 ghost use Rattle.std.specs.List.{sum_by};
 ghost use Rattle.fb_wanted.specs.States.{on_track};
 ghost use Rattle.fb_plan.specs.Turns.{IsInTurn, IsTurning};
-ghost use Rattle.fb_detour.specs.Bounds.{bin_at, bin_ceiling, late_gain, offered, AreLeaves, AreTooLate, IsNoted, IsReady, IsSearch};
+ghost use Rattle.fb_detour.specs.Bounds.{bin_at, bin_ceiling, late_gain, offered, AreLeaves, AreTooLate, IsBounded, IsReady, IsSearch};
 ghost use Rattle.fb_detour.specs.Bounds.{IsStop};
 
 use crate::given::Search;
@@ -14,8 +14,8 @@ use fb_plan::Turning;
 use fb_service::Disk;
 use fb_units::{Ns, Sweep};
 
-// How many bins there are. They go over a bit more than a rotation, so that each is shorter than a slot: a
-// track has 10,000 at most.
+// How many bins there are. They go over a bit more than a rotation; since a track has 10,000 slots at most, each
+// bin but the last, which has no end, is shorter than a slot wherever a rotation takes 0.1 ms or more.
 pub const BINS: usize = 16_384;
 
 // No leave: it is later than all.
@@ -30,7 +30,7 @@ pub struct Leaves<'a> {
     pub on: Ns,
     // How long each bin is, in ns.
     pub fine: Ns,
-    // The first leave in each bin.
+    // The first leave in each bin; `NEVER` where it has none.
     pub firsts: &'a [Ns; BINS],
 }
 
@@ -62,7 +62,8 @@ pub fn bin_at(begin: Ns, fine: Ns, instant: Ns) -> usize
     k.min(BINS as u64 - 1) as usize
 }
 
-// The first leave in each bin, of the arrival and the ends of all passages.
+// The first leave in each bin, of the arrival and the ends of all passages; `NEVER` where it has none. Nothing that
+// is promised rests on it: a leave before its bin's first one is tried without a bound.
 pub fn firsts_of(stop: &Stop, fine: Ns) -> [Ns; BINS]
     requires stop { IsReady stop.now }
     requires some { 0 < fine }
@@ -99,7 +100,7 @@ pub fn early_bins(stop: &Stop, fine: Ns) -> [u64; BINS]
 fn too_late_by(leaves: &Leaves, last: Ns) -> usize
     requires some { 0 < leaves.now.fine }
     requires room { leaves.now.begin + leaves.now.on ≤ 9 * 10 ^ 18 }
-    ensures { (leave : ℕ) → leaves.now.begin ≤ leave → IsNoted leaves.now leave → leave + leaves.now.on ≤ last
+    ensures { (leave : ℕ) → leaves.now.begin ≤ leave → IsBounded leaves.now leave → leave + leaves.now.on ≤ last
         → result + bin_at leaves.now.begin leaves.now.fine leave < 16384 }
 {
     if last < leaves.begin + leaves.on {
@@ -135,7 +136,7 @@ pub fn late_bins(search: &Search, target: &Stop, leaves: &Leaves) -> [u64; BINS]
     requires target { IsStop search.now.disk.now (on_track search.now.gap.now.target search.now.wanted.now) target.now }
     requires from { target.now.passing.from ≡ search.now.gap.now.now }
     requires leaves { AreLeaves search.now leaves.now }
-    ensures most { (leave : ℕ) → leaves.now.begin ≤ leave → IsNoted leaves.now leave
+    ensures most { (leave : ℕ) → leaves.now.begin ≤ leave → IsBounded leaves.now leave
         → sum_by (late_gain target.now.passing search.now.gap.now (leave + leaves.now.on)) target.now.offers.now
         ≤ get_or result (16383 - bin_at leaves.now.begin leaves.now.fine leave) 0 }
     ensures small { (k : ℕ) → k < 16384 → get_or result k 0 ≤ 16000000 * 2048000 }
@@ -154,7 +155,7 @@ pub fn bound_at(bins: &Bins, leave: Ns) -> Option<u64>
     requires some { 0 < bins.now.leaves.now.fine }
     requires early { (k : ℕ) → k < 16384 → get_or bins.now.early.now k 0 ≤ 16000000 * 2048000 }
     requires late { (k : ℕ) → k < 16384 → get_or bins.now.late.now k 0 ≤ 16000000 * 2048000 }
-    ensures { IfSome result (λ bound. IsNoted bins.now.leaves.now leave × (bound ≡ bin_ceiling bins.now leave)) }
+    ensures { IfSome result (λ bound. IsBounded bins.now.leaves.now leave × (bound ≡ bin_ceiling bins.now leave)) }
 {
     let k = bin_at(bins.leaves.begin, bins.leaves.fine, leave);
     if leave < bins.leaves.firsts[k] {

@@ -125,8 +125,9 @@ pub fn most_slots(disk: &Disk, from: u32, end: u32, other: Track) -> u32
     slots
 }
 
-// Whether the best plan so far is at least as good as any detour over this track or a later one
-// whose value is at most the ceiling: as good as one of that value which leaves this track first of all.
+// Whether the best plan so far is at least as good as any detour over this track or a later one whose value is
+// at most the ceiling. It is compared with a detour over this track of that value that leaves at instant 0: in
+// the order of ties none of these comes before it.
 pub fn is_enough(best: Scored, ceiling: u64, track: Track) -> bool
     ensures { result ≡ true → IsEnough best ceiling track }
 {

@@ -128,7 +128,7 @@ fn width_of(cylinders: u32) -> u32
 }
 
 // For each part of the range an upper bound on the value of detours over it, in one number with the
-// part: eight times the bound, and 8 for the first part, 7 for the second and so on. So numbers
+// part: eight times the bound, plus 8 for the first part, 7 for the second and so on. So numbers
 // differ, and a greater bound has a greater number.
 fn keys_of(search: &Search, from: u32, end: u32, width: u32, rate: u64, known: u64) -> [u64; WAYS]
     requires within { end ≤ search.now.disk.now.mechanism.cylinders }
