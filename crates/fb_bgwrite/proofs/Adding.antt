@@ -94,16 +94,16 @@ of_all old catch is are to =
     all_get (IsOfPuts disk 1 puts) (put_blocks disk.map puts) to.index to.put (all_of_puts disk 1 puts are.on_disk) at_all'
 
 pub wanted_there : (old : Spilling) (catch : Catch) → IsSpilling old → IsToWrite old catch
-    → (e : Entry) × (i : ℕ) × (slice_get old.pending i ≡ Some e) × (is_block catch.block.task catch.block.index e ≡ true) × (e.state ≡ Wanted)
+    → (e : Entry) × (i : ℕ) × (slice_get old.pending i ≡ Some e) × (is_block catch.block.task catch.block.number e ≡ true) × (e.state ≡ Wanted)
 wanted_there old catch is to =
     let entry = entry_of old.items to.put in
     let at : slice_get old.pending to.index ≡ Some entry = ap (λ es. slice_get es to.index) is.registered ∙ mapped (entry_of old.items) (first_blocks old.disk.now old.puts.now old.admitted) to.index to.put to.stands in
     let task : (to.put.block.task == catch.block.task) ≡ true = ap (λ (b : Block). to.put.block.task == b.task) to.block ∙ itself to.put.block.task in
-    let index : (to.put.block.index == catch.block.index) ≡ true = ap (λ (b : Block). to.put.block.index == b.index) to.block ∙ itself to.put.block.index in
-    (entry, to.index, at, both (to.put.block.task == catch.block.task) (to.put.block.index == catch.block.index) task index, ap (λ b. if b then Delivered else Wanted) to.unwritten)
+    let number : (to.put.block.number == catch.block.number) ≡ true = ap (λ (b : Block). to.put.block.number == b.number) to.block ∙ itself to.put.block.number in
+    (entry, to.index, at, both (to.put.block.task == catch.block.task) (to.put.block.number == catch.block.number) task number, ap (λ b. if b then Delivered else Wanted) to.unwritten)
 
 pub block_added : (old : Spilling) (catch : Catch) (pending : List Entry) (items : List SpillItem) (written : ℕ) → IsSpilling old → ArePutsOn (length (places old.disk.now.map)) old.puts.now → IsToWrite old catch
-    → items ≡ old.items ++ WroteLine (wrote_row catch) ∷ [] → pending ≡ after catch.block.task (Deliver catch.block.index) old.pending → written ≡ old.written + catch.block.count
+    → items ≡ old.items ++ WroteLine (wrote_row catch) ∷ [] → pending ≡ after catch.block.task (Deliver catch.block.number) old.pending → written ≡ old.written + catch.block.count
     → IsSpilling (changed old pending items written)
 block_added old catch pending items written is are to added delivers more_written =
     let disk = old.disk.now in
@@ -126,7 +126,7 @@ block_added old catch pending items written is are to added delivers more_writte
     subst (λ rows. IsSpilling (changed old pending rows written)) (sym added) (record {
       first = is.first;
       come = is.come;
-      registered = delivers ∙ ap (after block.task (Deliver block.index)) is.registered ∙ delivered old.items row block refl refl (first_blocks disk puts n) to.index to.put first_order to.stands own;
+      registered = delivers ∙ ap (after block.task (Deliver block.number)) is.registered ∙ delivered old.items row block refl refl (first_blocks disk puts n) to.index to.put first_order to.stands own;
       upto = all_push (IsUpTo n) old.items (WroteLine row) is.upto (omega (arith, upto, task));
       written = omega (arith, more_written, is.written, sum_by_push sectors_in old.items (WroteLine row));
       parts = omega (arith, more_written, is.parts, less);

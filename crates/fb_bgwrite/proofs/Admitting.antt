@@ -5,7 +5,7 @@ use Rattle.fb_bgwrite.proofs.Words.{false, Some, slice_get, take, drop, map, len
 use Rattle.fb_bgwrite.proofs.Words.{inr, append_assoc, append-nil, if◌then◌else◌, ◌==◌, AllByRecursion, sum_by, cases_Bool}
 use Rattle.fb_bgwrite.proofs.Words.{nat_tests, map-append, length-map, sum_by-cons, IsRising, Shape, places, Cut, cutting, Disk}
 use Rattle.fb_bgwrite.proofs.Words.{all_weaker, Block, Entry, Wanted, Delivered, blocks_of, registered, wanted_of, numbered}
-use Rattle.fb_bgwrite.proofs.Words.{AreOnDisk, FitsDisk, SpillItem, SpillLine, WroteLine, Put, Spilling, share, AreApart, PutBlock}
+use Rattle.fb_bgwrite.proofs.Words.{AreOnDisk, IsBlockOn, SpillItem, SpillLine, WroteLine, Put, Spilling, share, AreApart, PutBlock}
 use Rattle.fb_bgwrite.proofs.Words.{blocks_from, is_written, pending, put_blocks, writes, block_range, ArePending, entry_of}
 use Rattle.fb_bgwrite.proofs.Words.{first_blocks, wanted_entry, ArePutsOn, HasChosen, HasKept, IsSpilling, IsUpTo, IsBest}
 use Rattle.fb_bgwrite.proofs.Words.{WritesNothing, spill_rows, Spill, GapRow, none_any, some_one}
@@ -16,13 +16,14 @@ use Rattle.fb_bgwrite.specs.Blocks as puts
 
 -- ---- registering
 
-pub cut_more : (number index : ℕ) (before now : List Entry) (cut : Cut) (cuts rest : List Cut) → cuts ≡ cut ∷ rest
-    → now ≡ before ++ map wanted_entry (numbered number 1 index (cut ∷ []))
-    → now ++ map wanted_entry (numbered number 1 (index + 1) rest) ≡ before ++ map wanted_entry (numbered number 1 index cuts)
-cut_more number index before now cut cuts rest split added =
-    ap (λ es. es ++ map wanted_entry (numbered number 1 (index + 1) rest)) added
-    ∙ append_assoc before (map wanted_entry (numbered number 1 index (cut ∷ []))) (map wanted_entry (numbered number 1 (index + 1) rest))
-    ∙ ap (λ cs. before ++ map wanted_entry (numbered number 1 index cs)) (sym split)
+pub cut_more : (number block_number : ℕ) (before now : List Entry) (cut : Cut) (cuts rest : List Cut) → cuts ≡ cut ∷ rest
+    → now ≡ before ++ map wanted_entry (numbered number 1 block_number (cut ∷ []))
+    → now ++ map wanted_entry (numbered number 1 (block_number + 1) rest) ≡ before ++ map wanted_entry (numbered number 1 block_number cuts)
+cut_more number block_number before now cut cuts rest split added =
+    ap (λ es. es ++ map wanted_entry (numbered number 1 (block_number + 1) rest)) added
+    ∙ append_assoc before (map wanted_entry (numbered number 1 block_number (cut ∷ [])))
+        (map wanted_entry (numbered number 1 (block_number + 1) rest))
+    ∙ ap (λ cs. before ++ map wanted_entry (numbered number 1 block_number cs)) (sym split)
 
 pub one_counted : (number : ℕ) (before : List Entry) (entry : Entry) → entry.block.task ≡ number → registered number (blocks_of (before ++ entry ∷ [])) ≡ registered number (blocks_of before) + 1
 one_counted number [] entry same =
@@ -40,9 +41,9 @@ registered_few number (e ∷ es) = elim (cases_Bool (e.block.task == number)) [
   | inr other ↦ rw other (omega (arith, registered_few number es))
 ]
 
-pub none_left : (disk : Shape) (number index lbn left : ℕ) (entries : List Entry) → left ≡ 0 → entries ≡ entries ++ map wanted_entry (numbered number 1 index (cutting disk 2048 lbn left))
+pub none_left : (disk : Shape) (number block_number lbn left : ℕ) (entries : List Entry) → left ≡ 0 → entries ≡ entries ++ map wanted_entry (numbered number 1 block_number (cutting disk 2048 lbn left))
 unfolding cutting
-none_left disk number index lbn left entries none = sym (append-nil entries) ∙ ap (λ n. entries ++ map wanted_entry (numbered number 1 index (cutting disk 2048 lbn n))) (sym none)
+none_left disk number block_number lbn left entries none = sym (append-nil entries) ∙ ap (λ n. entries ++ map wanted_entry (numbered number 1 block_number (cutting disk 2048 lbn n))) (sym none)
 
 -- ---- the first blocks
 
@@ -84,7 +85,8 @@ none_yet_registered disk puts items n are =
 
 fits_all : (disk : Disk) (items : List SpillItem) (puts : List Put) (blocks : List PutBlock) → AllByRecursion (IsOfPuts disk 1 puts) blocks → AreOnDisk disk (map (entry_of items) blocks)
 fits_all disk items puts [] all i entry at = absurd (grind arith)
-fits_all disk items puts (b ∷ bs) all zero entry at = subst (FitsDisk disk) (ap (λ (e : Entry). e.block) (some_one (entry_of items b) entry at)) all.0.is.fits
+fits_all disk items puts (b ∷ bs) all zero entry at =
+    subst (IsBlockOn disk.map) (ap (λ (e : Entry). e.block) (some_one (entry_of items b) entry at)) all.0.is.fits
 fits_all disk items puts (b ∷ bs) all (suc i) entry at = fits_all disk items puts bs all.1 i entry at
 
 light_all : (disk : Disk) (items : List SpillItem) (puts : List Put) (blocks : List PutBlock) → AllByRecursion (IsOfPuts disk 1 puts) blocks → AllByRecursion (λ (e : Entry). e.block.weight ≡ 1) (map (entry_of items) blocks)

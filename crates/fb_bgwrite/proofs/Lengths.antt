@@ -54,9 +54,9 @@ some_caught disk dwell (e ∷ es) light = elim (cases_Bool (passes disk dwell e)
 pub passing_wanted : (disk : Disk) (dwell : Dwell) (e : Entry) → passes disk dwell e ≡ true → is_wanted e.state ≡ true
 passing_wanted disk dwell e passing = grind (arith, nat_tests)
 
-still_wanted : (put index : ℕ) (e : Entry) → is_wanted (entry_after put (Deliver index) e).state ≡ true → is_wanted e.state ≡ true
-still_wanted put index e wanted = elim (cases_Bool (e.block.task == put)) [
-  | inl own ↦ elim (cases_Bool (e.block.index == index)) [
+still_wanted : (put number : ℕ) (e : Entry) → is_wanted (entry_after put (Deliver number) e).state ≡ true → is_wanted e.state ≡ true
+still_wanted put number e wanted = elim (cases_Bool (e.block.task == put)) [
+  | inl own ↦ elim (cases_Bool (e.block.number == number)) [
     | inl this ↦ absurd (true≢false (sym wanted ∙ rw (own, this) refl))
     | inr other ↦ rw (own, other) at wanted
   ]
@@ -147,14 +147,15 @@ none_less least offers blocks are none i e at wanted =
     omega (arith, one, own, are (λ sweep worth. least - worth), none)
 
 -- what was delivered needs no bound
-pub delivered_too : (bounds : List ℕ) (put index : ℕ) (es : List Entry) → AllByRecursion (IsNoShorter bounds) es → AllByRecursion (IsNoShorter bounds) (after put (Deliver index) es)
-delivered_too bounds put index [] all = tt
-delivered_too bounds put index (e ∷ es) all = (λ wanted. all.0 (still_wanted put index e wanted), delivered_too bounds put index es all.1)
+pub delivered_too : (bounds : List ℕ) (put number : ℕ) (es : List Entry) → AllByRecursion (IsNoShorter bounds) es → AllByRecursion (IsNoShorter bounds) (after put (Deliver number) es)
+delivered_too bounds put number [] all = tt
+delivered_too bounds put number (e ∷ es) all =
+    (λ wanted. all.0 (still_wanted put number e wanted), delivered_too bounds put number es all.1)
 
 -- and weighs what it did
-pub still_light : (put index : ℕ) (es : List Entry) → AreLight es → AreLight (after put (Deliver index) es)
-still_light put index [] light = tt
-still_light put index (e ∷ es) light = (light.0, still_light put index es light.1)
+pub still_light : (put number : ℕ) (es : List Entry) → AreLight es → AreLight (after put (Deliver number) es)
+still_light put number [] light = tt
+still_light put number (e ∷ es) light = (light.0, still_light put number es light.1)
 
 -- the bound of a cylinder is replaced by another that holds
 pub renewed : (old new : List ℕ) (cylinder least : ℕ) → ((c : ℕ) → ((c ≡ cylinder) × (get_or new c 2049 ≡ least)) ⊎ (get_or new c 2049 ≡ get_or old c 2049)) → (es : List Entry) → AllByRecursion (IsNoShorter old) es

@@ -3,7 +3,7 @@ use Rattle.fb_bgwrite.proofs.Words.{option_map, append-nil, slice_get-map, all_m
 use Rattle.fb_bgwrite.proofs.Words.{List, [], ◌∷◌, ◌++◌, false, Some, slice_get, take, drop, map, length, refl, sym, ap, ◌∙◌, subst}
 use Rattle.fb_bgwrite.proofs.Words.{arith, inl, inr, append_assoc, ◌==◌, AllByRecursion, sum_by, nat_tests, map-append, sum_by-cons}
 use Rattle.fb_bgwrite.proofs.Words.{sum_by-append, Shape, places, Cut, IsOneTurn, sweep_of, cutting, track_at, Disk, all_weaker, Block}
-use Rattle.fb_bgwrite.proofs.Words.{registered, numbered, all_append, all_left, FitsDisk, Put, share, AreApart, range_of, PutBlock}
+use Rattle.fb_bgwrite.proofs.Words.{registered, numbered, all_append, all_left, IsBlockOn, Put, share, AreApart, range_of, PutBlock}
 use Rattle.fb_bgwrite.proofs.Words.{blocks_from, sectors, block_range, is_shares, some_one}
 use Rattle.fb_puts.proofs.Sharing.{not_share}
 use Rattle.fb_bgwrite.specs.Blocks.{blocks_of}
@@ -11,18 +11,18 @@ use Rattle.fb_model.proofs.Cuts.{AreCuts, cuts_are, cuts_rise}
 
 -- the first block has the lesser put, or is an earlier one of the same put; and they share no sector
 pub record IsBefore (a b : Block) : Type 0 where
-  pub order : (a.task < b.task) ⊎ ((a.task ≡ b.task) × (a.index < b.index) × (a.lbn < b.lbn))
+  pub order : (a.task < b.task) ⊎ ((a.task ≡ b.task) × (a.number < b.number) × (a.lbn < b.lbn))
   pub apart : share (block_range a) (block_range b) ≡ false
 
 abbrev pub AreInOrder : List PutBlock → Type 0
 AreInOrder [] = Unit {0}
 AreInOrder (put ∷ puts) = AllByRecursion (λ other. IsBefore put.block other.block) puts × AreInOrder puts
 
--- the block of this put and index that a cut gives
+-- the block of this put, with this number there, that a cut gives
 abbrev pub block_of : ℕ → ℕ → Cut → Block
-block_of number index cut = record {
+block_of number n cut = record {
   task = number;
-  index = index;
+  number = n;
   lbn = cut.lbn;
   count = cut.count;
   track = cut.track;
@@ -30,12 +30,12 @@ block_of number index cut = record {
   sweep = cut.sweep;
 }
 
--- a block of the put with this number, from a sector and an index on, before an end
+-- a block of the put with this number, from a sector and a number there on, before an end
 pub record IsOf (disk : Disk) (number n from end : ℕ) (block : Block) : Type 0 where
-  pub fits : FitsDisk disk block
+  pub fits : IsBlockOn disk.map block
   pub light : block.weight ≡ 1
   pub task : block.task ≡ number
-  pub index : n ≤ block.index
+  pub later : n ≤ block.number
   pub low : from ≤ block.lbn
   pub high : block.lbn + block.count ≤ end
 
@@ -44,7 +44,7 @@ of_earlier disk number n from end more at n_le from_le block is = record {
   fits = is.fits;
   light = is.light;
   task = is.task;
-  index = omega (arith, is.index);
+  later = omega (arith, is.later);
   low = omega (arith, is.low);
   high = is.high;
 }
@@ -65,7 +65,7 @@ all_numbered disk number n from end (cut ∷ cuts) on_disk are =
         };
         light = refl;
         task = refl;
-        index = omega arith;
+        later = omega arith;
         low = omega (arith, are.0);
         high = omega (arith, are.0, rise);
       },
@@ -73,9 +73,9 @@ all_numbered disk number n from end (cut ∷ cuts) on_disk are =
           (all_numbered disk number (n + 1) (from + cut.count) end cuts on_disk are.4),
     )
 
-first_before : (disk : Disk) (number n from end count : ℕ) (block other : Block) → 0 < count → block.task ≡ number → block.index ≡ n → block.lbn ≡ from → block.count ≡ count → IsOf disk number (n + 1) (from + count) end other → IsBefore block other
-first_before disk number n from end count block other some task index lbn its is = record {
-  order = inr (task ∙ sym is.task, omega (arith, index, is.index), omega (arith, lbn, is.low, some));
+first_before : (disk : Disk) (number n from end count : ℕ) (block other : Block) → 0 < count → block.task ≡ number → block.number ≡ n → block.lbn ≡ from → block.count ≡ count → IsOf disk number (n + 1) (from + count) end other → IsBefore block other
+first_before disk number n from end count block other some task same lbn its is = record {
+  order = inr (task ∙ sym is.task, omega (arith, same, is.later), omega (arith, lbn, is.low, some));
   apart = not_share (block_range block) (block_range other) (λ shares. omega (arith, shares.behind, lbn, its, is.low));
 }
 

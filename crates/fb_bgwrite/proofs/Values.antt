@@ -2,7 +2,7 @@
 use Rattle.fb_bgwrite.proofs.Words.{all_get, ◌≡◌, ℕ, ◌+◌, ◌*◌, ◌<◌, ◌≤◌, ◌⊎◌, List, [], ◌∷◌, Bool, true, false, Some, slice_get}
 use Rattle.fb_bgwrite.proofs.Words.{inl, inr, refl, ap, ◌∙◌, arith, if◌then◌else◌, filter, sum_by}
 use Rattle.fb_bgwrite.proofs.Words.{cases_Bool, nat_tests, sum_by-cons, same_track, Disk, Block, Entry, is_wanted}
-use Rattle.fb_bgwrite.proofs.Words.{◌&&◌, wanted_of, Dwell, Gap, block_end, catches, AreOnDisk, FitsDisk, stay_gain}
+use Rattle.fb_bgwrite.proofs.Words.{◌&&◌, wanted_of, Dwell, Gap, block_end, catches, AreOnDisk, IsBlockOn, stay_gain}
 use Rattle.fb_bgwrite.proofs.Words.{and_false, AreLight, Spill, stay_of, value, all_of}
 use Rattle.fb_plan.proofs.Gains.{one_part}
 use Rattle.fb_detour.specs.Bounds.{stay}
@@ -103,7 +103,8 @@ missed_before disk dwell e leave less =
     let late : passes disk (upto dwell leave) e ≡ false = grind (arith, nat_tests) in
     rw late refl
 
-weighs_some : (disk : Disk) (dwell : Dwell) (e : Entry) → FitsDisk disk e.block → e.block.weight ≡ 1 → passes disk dwell e ≡ true → 0 < stay_gain disk dwell e
+weighs_some : (disk : Disk) (dwell : Dwell) (e : Entry) → IsBlockOn disk.map e.block → e.block.weight ≡ 1
+    → passes disk dwell e ≡ true → 0 < stay_gain disk dwell e
 weighs_some disk dwell e fits light passing =
     let all : stay_gain disk dwell e ≡ e.block.weight * e.block.count = rw passing refl in
     omega (arith, all, its_sectors e light, fits.some)

@@ -59,6 +59,7 @@ pub use Rattle.fb_rows.specs.declared.gap.Gap.{Gap}
 pub use Rattle.fb_rows.specs.declared.gap.Plan.{Plan}
 pub use Rattle.fb_rows.specs.declared.gap.Plan.TheVariants.{Detour, Direct}
 pub use Rattle.fb_rows.specs.declared.run.Run.{Run}
+pub use Rattle.fb_model.specs.Blocks.{IsBlockOn}
 pub use Rattle.fb_model.specs.Plans.{IsPlan, block_end, catches}
 pub use Rattle.fb_model.specs.Segments.{numbered}
 pub use Rattle.fb_model.specs.Timeline.{IsPossible, Leg, arrival, can_follow, gap_legs, leaves_at, leaves_on, move, pass, passing}
@@ -68,7 +69,7 @@ pub use Rattle.fb_model.proofs.Leads.{Leads, lead_gap, lead_on, lead_stay, lead_
 pub use Rattle.fb_model.proofs.Lists.{all_append, all_left, all_map, all_right, none_kept}
 pub use Rattle.fb_plan.specs.Order.{catch_of, is_before, place_in}
 unfoldable pub use Rattle.fb_plan.specs.Order.{caught_of}
-pub use Rattle.fb_plan.specs.Ways.{AreOnDisk, FitsDisk}
+pub use Rattle.fb_plan.specs.Ways.{AreOnDisk}
 pub use Rattle.fb_plan.specs.declared.catching.Catch.{Catch}
 pub use Rattle.fb_plan.proofs.Ends.{begin-from-le}
 pub use Rattle.fb_plan.specs.declared.turning.Turning.{Turning}

@@ -25,23 +25,23 @@ wrote_one a b e = grind arith
 
 -- ---- blocks that are told apart
 
--- neither by index nor by sector is it the same block
+-- neither by number nor by sector is it the same block
 pub record IsOther (a b : Block) : Type 0 where
-  pub by_index : (a.task == b.task) && (a.index == b.index) ≡ false
+  pub by_number : (a.task == b.task) && (a.number == b.number) ≡ false
   pub by_lbn : (b.task == a.task) && (b.lbn == a.lbn) ≡ false
   pub turned : (a.task == b.task) && (a.lbn == b.lbn) ≡ false
 
--- not the same task, or neither the same index nor the same sector
-different : (a b : Block) → (a.task ≢ b.task) ⊎ ((a.index ≢ b.index) × (a.lbn ≢ b.lbn)) → IsOther a b
+-- not the same task, or neither the same number nor the same sector
+different : (a b : Block) → (a.task ≢ b.task) ⊎ ((a.number ≢ b.number) × (a.lbn ≢ b.lbn)) → IsOther a b
 different a b (inl task) = record {
-  by_index = grind (arith, nat_tests);
+  by_number = grind (arith, nat_tests);
   by_lbn = grind (arith, nat_tests);
   turned = grind (arith, nat_tests);
 }
 different a b (inr both) =
-    let index = both.0 in
+    let number = both.0 in
     let lbn = both.1 in
-    record { by_index = grind (arith, nat_tests); by_lbn = grind (arith, nat_tests); turned = grind (arith, nat_tests) }
+    record { by_number = grind (arith, nat_tests); by_lbn = grind (arith, nat_tests); turned = grind (arith, nat_tests) }
 
 pub before_other : (a b : Block) → IsBefore a b → IsOther a b
 before_other a b is = different a b (elim is.order [
@@ -87,10 +87,10 @@ module _ (items : List SpillItem) (row : WroteRow) (block : Block) (put_is : row
   neither true false state off = refl
   neither false b state off = refl
 
-  deliver_other : (put : PutBlock) → IsOther put.block block → entry_after block.task (Deliver block.index) (entry_of items put) ≡ entry_of more put
+  deliver_other : (put : PutBlock) → IsOther put.block block → entry_after block.task (Deliver block.number) (entry_of items put) ≡ entry_of more put
   deliver_other put is =
       let state : State = if is_written items put.block then Delivered else Wanted in
-      let kept : (if put.block.task == block.task then (if put.block.index == block.index then Delivered else state) else state) ≡ state = neither (put.block.task == block.task) (put.block.index == block.index) state is.by_index in
+      let kept : (if put.block.task == block.task then (if put.block.number == block.number then Delivered else state) else state) ≡ state = neither (put.block.task == block.task) (put.block.number == block.number) state is.by_number in
       ap (λ s. let e : Entry = record { block = put.block; state = s } in e) kept
       ∙ ap (λ b. let e : Entry = record { block = put.block; state = if b then Delivered else Wanted } in e) (sym (as_before put.block is))
 
@@ -100,15 +100,16 @@ module _ (items : List SpillItem) (row : WroteRow) (block : Block) (put_is : row
   both : (a b : Bool) (state : State) → a ≡ true → b ≡ true → (if a then (if b then Delivered else state) else state) ≡ Delivered
   both a b state on_a on_b = rw (on_a, on_b) refl
 
-  deliver_own : (put : PutBlock) → put.block ≡ block → entry_after block.task (Deliver block.index) (entry_of items put) ≡ entry_of more put
+  deliver_own : (put : PutBlock) → put.block ≡ block
+      → entry_after block.task (Deliver block.number) (entry_of items put) ≡ entry_of more put
   deliver_own put same =
       let state : State = if is_written items put.block then Delivered else Wanted in
       let task : (put.block.task == block.task) ≡ true = ap (λ (b : Block). b.task == block.task) same ∙ itself block.task in
-      let index : (put.block.index == block.index) ≡ true = ap (λ (b : Block). b.index == block.index) same ∙ itself block.index in
-      ap (λ s. let e : Entry = record { block = put.block; state = s } in e) (both (put.block.task == block.task) (put.block.index == block.index) state task index)
+      let number : (put.block.number == block.number) ≡ true = ap (λ (b : Block). b.number == block.number) same ∙ itself block.number in
+      ap (λ s. let e : Entry = record { block = put.block; state = s } in e) (both (put.block.task == block.task) (put.block.number == block.number) state task number)
       ∙ ap (λ b. let e : Entry = record { block = put.block; state = if b then Delivered else Wanted } in e) (sym (ap (is_written more) same ∙ now_written))
 
-  others_delivered : (puts : List PutBlock) → AllByRecursion (λ (put : PutBlock). IsOther put.block block) puts → map (entry_after block.task (Deliver block.index)) (map (entry_of items) puts) ≡ map (entry_of more) puts
+  others_delivered : (puts : List PutBlock) → AllByRecursion (λ (put : PutBlock). IsOther put.block block) puts → map (entry_after block.task (Deliver block.number)) (map (entry_of items) puts) ≡ map (entry_of more) puts
   others_delivered [] all = refl
   others_delivered (put ∷ puts) all = ap₂ (λ e es. e ∷ es) (deliver_other put all.0) (others_delivered puts all.1)
 
@@ -122,7 +123,7 @@ module _ (items : List SpillItem) (row : WroteRow) (block : Block) (put_is : row
   is_behind put (p ∷ puts) (suc i) own at same all = is_behind put puts i own at same all.1
 
   pub delivered : (puts : List PutBlock) (i : ℕ) (own : PutBlock) → AreInOrder puts → slice_get puts i ≡ Some own → own.block ≡ block
-      → after block.task (Deliver block.index) (map (entry_of items) puts) ≡ map (entry_of more) puts
+      → after block.task (Deliver block.number) (map (entry_of items) puts) ≡ map (entry_of more) puts
   delivered [] i own order at same = absurd (grind arith)
   delivered (put ∷ puts) zero own order at same =
       let its : put.block ≡ block = ap (λ (q : PutBlock). q.block) (some_one put own at) ∙ same in

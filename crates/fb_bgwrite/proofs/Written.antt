@@ -2,7 +2,7 @@
 use Rattle.fb_bgwrite.proofs.Words.{◌≡◌, ℕ, suc, ◌+◌, ◌<◌, ◌≤◌, List, [], ◌∷◌, true, false, Some, slice_get, length, max, inl, inr, refl}
 use Rattle.fb_bgwrite.proofs.Words.{sym, ap, ◌∙◌, subst, arith, if◌then◌else◌, ◌⊎◌, sum_by, nat_le, cases_lt, nat_tests, sum_by-cons}
 use Rattle.fb_bgwrite.proofs.Words.{slice_get_within, same_track, Sweep, Track, Disk, Block, Entry, is_wanted, on_track, Offer, AreOffers}
-use Rattle.fb_bgwrite.proofs.Words.{Dwell, block_end, AreOnDisk, FitsDisk, Turning, IsTurning, added, end_of, passes_by}
+use Rattle.fb_bgwrite.proofs.Words.{Dwell, block_end, AreOnDisk, IsBlockOn, Turning, IsTurning, added, end_of, passes_by}
 use Rattle.fb_bgwrite.proofs.Words.{stay_gain, some_one, OneEndsAt, IsLastEnd}
 use Rattle.fb_plan.proofs.{Gains.adds, Gains.in_filter}
 use Rattle.fb_plan.proofs.{Offered.block-of, Offered.entry-of, Offered.offer-of, Offered.sum-offered, Offered.wanted-at}
@@ -117,16 +117,16 @@ module _ (disk : Disk) (track : Track) (latest : ℕ) (entries blocks : List Ent
   abbrev sweep_end : Sweep → ℕ
   sweep_end sweep = end_of passing.rotation sweep passing.from
 
-  ends_as : (b : Block) → FitsDisk disk b → sweep_end b.sweep ≡ block_end disk.map b passing.from
+  ends_as : (b : Block) → IsBlockOn disk.map b → sweep_end b.sweep ≡ block_end disk.map b passing.from
   ends_as b fits = turning-end disk passing b turns fits
 
-  over : (b : Block) (o : Offer) → FitsDisk disk b → o.sweep ≡ b.sweep → sweep_end o.sweep ≡ block_end disk.map b passing.from
+  over : (b : Block) (o : Offer) → IsBlockOn disk.map b → o.sweep ≡ b.sweep → sweep_end o.sweep ≡ block_end disk.map b passing.from
   over b o fits same = ap sweep_end same ∙ ends_as b fits
 
   here : (i : ℕ) (e : Entry) → slice_get blocks i ≡ Some e → same_track track e.block.track ≡ true
   here i e at = (in_filter (λ (x : Entry). same_track track x.block.track) entries i e (ap (λ l. slice_get l i) (sym its) ∙ at)).2
 
-  adds_as : (e : Entry) → FitsDisk disk e.block → same_track track e.block.track ≡ true
+  adds_as : (e : Entry) → IsBlockOn disk.map e.block → same_track track e.block.track ≡ true
       → adds (λ b. passes_by passing latest b.sweep) e ≡ stay_gain disk stay e
   adds_as e fits y = ap (λ x. adds (λ b. nat_le x latest) e) (ends_as e.block fits) ∙ rw y refl
 

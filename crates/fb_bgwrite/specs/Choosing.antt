@@ -59,11 +59,11 @@ abbrev pub IsNoWorse : Disk → Gap → List Block → Option Valued → Spill �
 IsNoWorse disk gap pending None other = value disk gap pending other ≡ 0
 IsNoWorse disk gap pending (Some best) other = (value disk gap pending other < best.value) ⊎ ((value disk gap pending other ≡ best.value) × IsNoLater best.spill other)
 
--- the second is no worse than whatever the first is no worse than
+-- the second is at least as good as each spill that the first is at least as good as
 abbrev pub Keeps : Disk → Gap → List Block → Option Valued → Option Valued → Type 0
 Keeps disk gap pending old new = (other : Spill) → IsNoWorse disk gap pending old other → IsNoWorse disk gap pending new other
 
--- at least as good as each spill on the track
+-- the best so far is at least as good as each spill of the gap on the track
 abbrev pub IsNoWorseThanTrack : Disk → Gap → List Block → Option Valued → Track → Type 0
 IsNoWorseThanTrack disk gap pending best track = (leave : ℕ) → (let spill : Spill = record { track = track; leave = leave } in IsSpill disk gap spill → IsNoWorse disk gap pending best spill)
 
@@ -99,7 +99,7 @@ abbrev pub AreLeast : Disk → Gap → ℕ → ℕ → Moves → Type 0
 AreLeast disk gap from end moves = (track : Track) → from ≤ track.cylinder → track.cylinder < end
     → (moves.there ≤ pos disk.mechanism gap.source track true) × (moves.on ≤ pos disk.mechanism track gap.target gap.write)
 
--- ---- a search
+-- ---- a search: the relations above with its disk, its gap and its blocks still wanted
 
 -- the gap is one of the disk, and so are the registered blocks
 pub record IsSearch (search : Search) : Type 0 where
@@ -117,11 +117,11 @@ pub record IsPart (search : Search) (part : Part) : Type 0 where
 abbrev pub IsFound : Search → Option Valued → Type 0
 IsFound search best = IsValuedIf search.disk.now search.gap.now (wanted_of search.pending.now) best
 
--- the second is no worse than whatever the first is no worse than
+-- the second best of the search is at least as good as each spill that the first is at least as good as
 abbrev pub IsKept : Search → Option Valued → Option Valued → Type 0
 IsKept search old new = Keeps search.disk.now search.gap.now (wanted_of search.pending.now) old new
 
--- the best so far is at least as good as each spill on the track
+-- the best of the search so far is at least as good as each spill of its gap on the track
 abbrev pub IsTried : Search → Option Valued → Track → Type 0
 IsTried search best track = IsNoWorseThanTrack search.disk.now search.gap.now (wanted_of search.pending.now) best track
 

@@ -73,18 +73,18 @@ impl Pending {
         }
     }
 
-    /// Registers what a cut gives as a pending block of the put with this number. Its index is the next
-    /// of its put. The only error is `NoMemory`.
-    pub fn register(&mut self, number: u32, index: u32, cut: Cut) -> Result<(), NoMemory>
-        requires numbered { index ≡ registered number (blocks_of self.old) }
+    /// Registers what a cut gives as a pending block of the put with the number `put`. Its own number
+    /// is the next of that put. The only error is `NoMemory`.
+    pub fn register(&mut self, put: u32, number: u32, cut: Cut) -> Result<(), NoMemory>
+        requires numbered { number ≡ registered put (blocks_of self.old) }
         requires room { length self.old < 16000000 }
         requires short { cut.count ≤ 2048 }
-        ensures ok { OnOk result (self.new ≡ self.old ++ map wanted_entry (numbered number 1 index (cut ∷ []))) }
+        ensures ok { OnOk result (self.new ≡ self.old ++ map wanted_entry (numbered put 1 number (cut ∷ []))) }
     {
         self.shortest.lower(cut.track.cylinder, cut.count)?;
         let block = Block {
-            task: number,
-            index,
+            task: put,
+            number,
             lbn: cut.lbn,
             count: cut.count,
             track: cut.track,
@@ -95,11 +95,11 @@ impl Pending {
     }
 
     /// Marks a pending block as written, by its put and its number there.
-    pub fn deliver(&mut self, put: u32, index: u32)
-        requires { (e : Entry) × (i : ℕ) × (slice_get self.old i ≡ Some e) × (is_block put index e ≡ true) × (e.state ≡ StillWanted) }
-        ensures { self.new ≡ after put (Change.Deliver index) self.old }
+    pub fn deliver(&mut self, put: u32, number: u32)
+        requires { (e : Entry) × (i : ℕ) × (slice_get self.old i ≡ Some e) × (is_block put number e ≡ true) × (e.state ≡ StillWanted) }
+        ensures { self.new ≡ after put (Change.Deliver number) self.old }
     {
-        self.wanted.deliver(put, index);
+        self.wanted.deliver(put, number);
     }
 
     /// Looks at all pending blocks of a cylinder, so that those that were written no longer count when

@@ -189,7 +189,7 @@ impl<'a> Spilling<'a> {
         ensures items { OnOk result (self.new.items ≡ self.old.items ++ WroteLine (wrote_row catch) ∷ []) }
     {
         self.items.push(SpillItem::Wrote(wrote_row(catch)))?;
-        self.pending.deliver(catch.block.task, catch.block.index);
+        self.pending.deliver(catch.block.task, catch.block.number);
         self.written += catch.block.count as u64;
         Ok(())
     }
@@ -238,11 +238,11 @@ fn register_blocks(
     let mut span = sectors.span(put.first);
     let mut lbn = put.first;
     let mut left = put.count;
-    let mut index = 0;
+    let mut block_number = 0;
     while left > 0 {
         let cut = sectors.next_cut(&mut span, lbn, left, BLOCK);
-        pending.register(number, index, cut)?;
-        index += 1;
+        pending.register(number, block_number, cut)?;
+        block_number += 1;
         lbn += cut.count as u64;
         left -= cut.count as u64;
     }

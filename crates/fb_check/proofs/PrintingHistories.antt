@@ -28,7 +28,7 @@ use Rattle.fb_model.specs.Segments.{numbered, next_blocks, is_better, is_busy, u
 use Rattle.fb_model.specs.Steps.{Delivery, Step, decision_in, blocks_by, take_call, calls_due, chosen_past, with_delivery, with_finish, tested_past, past_after}
 use Rattle.fb_model.proofs.Views.{number_same}
 use Rattle.fb_model.proofs.HistoriesUpTo.{due_first}
-use Rattle.fb_tasks.proofs.Asked.{open_there, terms_there}
+use Rattle.fb_tasks.proofs.RunInputs.{open_there, terms_there}
 use Rattle.fb_tasks.proofs.Lists.{all_append, same_number, number_other}
 use Rattle.fb_check.proofs.PrintingSectors.{HasSector, IsSome, sectors, own, some_cut, some_live, some_numbered, numbered_have, none_other, some_have, cuts_have}
 
@@ -243,9 +243,9 @@ HoldsOf inputs past = Holds inputs.disk.map inputs.calls past
 pub at_first : (inputs : Inputs) → IsAccepted inputs → HoldsOf inputs []
 at_first inputs accepted = record { some = tt; unopened = λ task beyond. refl; backups = λ task backup. record { few = omega arith; none = λ none. refl }; left = accepted.calls }
 
-pub settled_holds : (inputs : Inputs) → IsAccepted inputs → (past : Past) (decision : Decision) → HoldsOf inputs past → HoldsOf inputs (chosen_past inputs past decision)
+pub chosen_holds : (inputs : Inputs) → IsAccepted inputs → (past : Past) (decision : Decision) → HoldsOf inputs past → HoldsOf inputs (chosen_past inputs past decision)
 unfolding chosen_past with_choices
-settled_holds inputs accepted past decision h =
+chosen_holds inputs accepted past decision h =
     let now = instant_of decision in
     let due = calls_due inputs.calls past now in
     let rest = due_first inputs.calls past now accepted.instants in

@@ -24,7 +24,7 @@ use Rattle.fb_tasks.proofs.Lists.{all_weaker, all_any, all_append, all_filter, a
 use Rattle.fb_report.specs.Printed.{HasSectors, CountsSectors}
 use Rattle.fb_check.specs.Printing.{RunsCanBePrinted}
 use Rattle.fb_check.proofs.PrintingSectors.{IsSome, runs_have, contents_have, some_have, blocks_have}
-use Rattle.fb_check.proofs.PrintingHistories.{HoldsOf, at_first, settled_holds, after_holds}
+use Rattle.fb_check.proofs.PrintingHistories.{HoldsOf, at_first, chosen_holds, after_holds}
 use Rattle.fb_check.proofs.PrintingReads.{reads_have}
 
 -- ---- deliveries
@@ -46,12 +46,12 @@ module _ (inputs : Inputs) where
   gots_some : (past : Past) (step : Step) → HoldsOf inputs (chosen_past inputs past (decision_in step)) → IsAllDelivered inputs medium past step
       → AllByRecursion (λ (got : DeliveryRow). HasSectors got.content) (map (λ delivery. delivery.got) step.deliveries)
   gots_some past step h all =
-      let settled = chosen_past inputs past (decision_in step) in
+      let chosen = chosen_past inputs past (decision_in step) in
       subst (AllByRecursion (λ (got : DeliveryRow). HasSectors got.content)) (sym all)
       (all_weaker (IsDueRow medium.disk (contents_at medium) step.act IsSome) (λ got. HasSectors got.content)
       (λ got is_due. bytes_some medium got (due_bytes medium.disk (contents_at medium) step.act IsSome got is_due) (due_block medium.disk (contents_at medium) step.act IsSome got is_due))
-      (due medium.disk (contents_at medium) step.act (wanted settled))
-      (due_true medium.disk (contents_at medium) step.act IsSome (wanted settled) (wanted_some settled h)))
+      (due medium.disk (contents_at medium) step.act (wanted chosen))
+      (due_true medium.disk (contents_at medium) step.act IsSome (wanted chosen) (wanted_some chosen h)))
 
   module _ (past : Past) (now : ℕ) (h : HoldsOf inputs past) where
     seals_count : (task : ℕ) → AllByRecursion CountsSectors (seal_rows (image medium past task now) past now task)
@@ -115,9 +115,9 @@ module _ (inputs : Inputs) where
 
   step_counts : (past : Past) (step : Step) → HoldsOf inputs (chosen_past inputs past (decision_in step)) → IsTested inputs medium past step → IsAllDelivered inputs medium past step → AllByRecursion CountsSectors (step_rows inputs.disk step)
   step_counts past step h tests all =
-      all_append CountsSectors (step.settled ++ opening inputs.disk step.act) (flat_map (λ (delivery : Delivery). GotLine delivery.got ∷ delivery.after) step.deliveries)
-      (all_append CountsSectors step.settled (opening inputs.disk step.act)
-      (subst (AllByRecursion CountsSectors) (sym tests.settled) (tests_count (chosen_past inputs past (decision_in step)) (instant_of (decision_in step)) h)) (opening_counts step.act))
+      all_append CountsSectors (step.test ++ opening inputs.disk step.act) (flat_map (λ (delivery : Delivery). GotLine delivery.got ∷ delivery.after) step.deliveries)
+      (all_append CountsSectors step.test (opening inputs.disk step.act)
+      (subst (AllByRecursion CountsSectors) (sym tests.test) (tests_count (chosen_past inputs past (decision_in step)) (instant_of (decision_in step)) h)) (opening_counts step.act))
       (followed_count (tested_past inputs past step) step.deliveries h (gots_some past step h all) tests.followed)
 
   module _ (accepted : IsAccepted inputs) where
@@ -125,9 +125,9 @@ module _ (inputs : Inputs) where
         → AllByRecursion CountsSectors (flat_map (step_rows inputs.disk) list)
     steps_count past [] h tests all = tt
     steps_count past (step ∷ list) h tests all =
-        let settled = settled_holds inputs accepted past (decision_in step) h in
-        all_append CountsSectors (step_rows inputs.disk step) (flat_map (step_rows inputs.disk) list) (step_counts past step settled tests.0 all.0)
-        (steps_count (past_after inputs past step) list (after_holds inputs past step settled) tests.1 all.1)
+        let chosen = chosen_holds inputs accepted past (decision_in step) h in
+        all_append CountsSectors (step_rows inputs.disk step) (flat_map (step_rows inputs.disk) list) (step_counts past step chosen tests.0 all.0)
+        (steps_count (past_after inputs past step) list (after_holds inputs past step chosen) tests.1 all.1)
 
 tasks_count : (past : Past) → AllByRecursion CountsSectors (task_rows past)
 unfolding task_rows

@@ -101,7 +101,7 @@ some_numbered task weight n (cut ∷ cuts) all = (all.0, some_numbered task weig
 pub numbered_have : (task weight n : ℕ) (cuts : List Cut) → sectors (numbered task weight n cuts) ≡ cut_sectors cuts
 numbered_have task weight n [] = refl
 numbered_have task weight n (cut ∷ cuts) =
-    let block : Block = record { task = task; index = n; lbn = cut.lbn; count = cut.count; track = cut.track; weight = weight; sweep = cut.sweep } in
+    let block : Block = record { task = task; number = n; lbn = cut.lbn; count = cut.count; track = cut.track; weight = weight; sweep = cut.sweep } in
     omega (arith, sum_by-cons (λ (block : Block). block.count) block (numbered task weight (n + 1) cuts), sum_by-cons (λ (cut : Cut). cut.count) cut cuts, numbered_have task weight (n + 1) cuts)
 
 pub none_other : (owner task weight n : ℕ) (cuts : List Cut) → (owner == task) ≡ false → own task (numbered owner weight n cuts) ≡ []

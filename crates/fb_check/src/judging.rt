@@ -5,7 +5,7 @@ ghost use Rattle.fb_calls.specs.Allowed.{tasks};
 ghost use Rattle.fb_rows.specs.Tasks.{HasNamedTask};
 ghost use Rattle.fb_rows.specs.declared.fore.ForeRow.{ForeRow};
 ghost use Rattle.fb_rows.specs.declared.back.BackRow.{BackRow};
-ghost use Rattle.fb_decide.specs.Asked.{inputs_of};
+ghost use Rattle.fb_decide.specs.RunInputs.{inputs_of};
 ghost use Rattle.fb_decide.specs.Making.{HasMade};
 ghost use Rattle.fb_model.specs.Accepted.{IsAccepted};
 ghost use Rattle.fb_report.specs.Grammar.{back_grammar, fore_grammar};
@@ -17,7 +17,7 @@ ghost use Rattle.fb_check.specs.Verdict.{IsVerdict};
 
 use crate::Verdict;
 use crate::comparing::Comparison;
-use fb_decide::{Asked, Decider, Rows, decisions_make_a_run};
+use fb_decide::{RunInputs, Decider, Rows, decisions_make_a_run};
 use fb_plan::Planner;
 use fb_queue::Queue;
 use fb_report::{Bytes, ReportLines, reports_end_once};
@@ -42,41 +42,41 @@ pub struct Printed<'a> {
 /// never used. The only error is out of memory.
 pub fn judge<Q: Queue, P: Planner>(
     alloc: Global,
-    asked: Asked<'_>,
+    inputs: RunInputs<'_>,
     queue: Q,
     planner: &P,
     printed: Printed<'_>,
 ) -> Result<Verdict, NoMemory>
     requires empty { Q.pending queue ≡ [] }
     requires fresh { Q.joined queue ≡ 0 }
-    requires accepted { IsAccepted (inputs_of asked Q.key) }
-    requires names { length asked.calls.now.names ≡ length (tasks asked.calls.now.calls.items) }
-    requires whole { asked.disk.now.sector_bytes % 16 ≡ 0 }
+    requires accepted { IsAccepted (inputs_of inputs Q.key) }
+    requires names { length inputs.calls.now.names ≡ length (tasks inputs.calls.now.calls.items) }
+    requires whole { inputs.disk.now.sector_bytes % 16 ≡ 0 }
     requires fore { IsReport fore_grammar printed.fore.now }
     requires back { IsReport back_grammar printed.back.now }
-    ensures { IfOk result (IsVerdict (inputs_of asked.entry Q.key) (reports_of asked.entry printed.entry)) }
+    ensures { IfOk result (IsVerdict (inputs_of inputs.entry Q.key) (reports_of inputs.entry printed.entry)) }
 {
-    let mut decider = Decider::new(alloc, asked, queue)?;
-    judge_over(alloc, asked, &mut decider, planner, printed)
+    let mut decider = Decider::new(alloc, inputs, queue)?;
+    judge_over(alloc, inputs, &mut decider, planner, printed)
 }
 
 // The verdict, where no decision has been made.
 fn judge_over<Q: Queue, P: Planner>(
     alloc: Global,
-    asked: Asked<'_>,
+    inputs: RunInputs<'_>,
     decider: &mut Decider<'_, Q>,
     planner: &P,
     printed: Printed<'_>,
 ) -> Result<Verdict, NoMemory>
-    requires made { HasMade (inputs_of asked Q.key) true [] decider.old.requests decider.old.course (Q.pending decider.old.queue) (Q.joined decider.old.queue) }
+    requires made { HasMade (inputs_of inputs Q.key) true [] decider.old.requests decider.old.course (Q.pending decider.old.queue) (Q.joined decider.old.queue) }
     requires no_fore { decider.old.course.fore ≡ [] }
     requires no_back { decider.old.course.background.rows ≡ [] }
-    requires serves { Q.serves decider.old.queue asked.disk.now }
-    requires names { length asked.calls.now.names ≡ length (tasks asked.calls.now.calls.items) }
-    requires whole { asked.disk.now.sector_bytes % 16 ≡ 0 }
+    requires serves { Q.serves decider.old.queue inputs.disk.now }
+    requires names { length inputs.calls.now.names ≡ length (tasks inputs.calls.now.calls.items) }
+    requires whole { inputs.disk.now.sector_bytes % 16 ≡ 0 }
     requires fore { IsReport fore_grammar printed.fore.now }
     requires back { IsReport back_grammar printed.back.now }
-    ensures { IfOk result (IsVerdict (inputs_of asked.entry Q.key) (reports_of asked.entry printed.entry)) }
+    ensures { IfOk result (IsVerdict (inputs_of inputs.entry Q.key) (reports_of inputs.entry printed.entry)) }
 {
     decisions_make_a_run();
     reports_end_once();
@@ -84,71 +84,71 @@ fn judge_over<Q: Queue, P: Planner>(
     let mut back = Comparison::begin_back(alloc, printed.back)?;
     let mut goes_on = true;
     while goes_on {
-        goes_on = decider.decide(alloc, asked, planner)?;
+        goes_on = decider.decide(alloc, inputs, planner)?;
         let rows = decider.take_rows(alloc);
-        let compared = compare_rows(alloc, asked, &rows, printed.bytes, &mut fore, &mut back);
+        let compared = compare_rows(alloc, inputs, &rows, printed.bytes, &mut fore, &mut back);
         drop(rows);
         compared?;
         if let Some(mismatch) = fore.wrong {
             return Ok(Verdict::No(mismatch));
         }
     }
-    judge_ends(alloc, asked, printed, decider, fore, back)
+    judge_ends(alloc, inputs, printed, decider, fore, back)
 }
 
 // Compares the lines of a decision's rows: the foreground's, and where none of those is wrong, the
 // background's too. The only error is out of memory.
 fn compare_rows(
     alloc: Global,
-    asked: Asked<'_>,
+    inputs: RunInputs<'_>,
     rows: &Rows,
     bytes: Bytes,
     fore: &mut Comparison<'_>,
     back: &mut Comparison<'_>,
 ) -> Result<(), NoMemory>
-    requires whole { asked.disk.now.sector_bytes % 16 ≡ 0 }
-    requires named { AllByRecursion (HasNamedTask asked.calls.now.names) rows.now.back }
+    requires whole { inputs.disk.now.sector_bytes % 16 ≡ 0 }
+    requires named { AllByRecursion (HasNamedTask inputs.calls.now.names) rows.now.back }
     requires fore_ready { IsReady fore.old }
     requires back_ready { IsReady back.old }
     ensures fore_ready { OnOk result (IsReady fore.new) }
-    ensures fore_compared { OnOk result ((printed : List (List ℕ)) (before : List ForeRow) → HasComparedFore asked.entry.disk.now.sector_bytes bytes printed fore.old before
-        → HasComparedFore asked.entry.disk.now.sector_bytes bytes printed fore.new (before ++ rows.now.fore)) }
+    ensures fore_compared { OnOk result ((printed : List (List ℕ)) (before : List ForeRow) → HasComparedFore inputs.entry.disk.now.sector_bytes bytes printed fore.old before
+        → HasComparedFore inputs.entry.disk.now.sector_bytes bytes printed fore.new (before ++ rows.now.fore)) }
     ensures back_ready { OnOk result (fore.new.wrong ≡ None → IsReady back.new) }
-    ensures back_compared { OnOk result (fore.new.wrong ≡ None → (printed : List (List ℕ)) (before : List BackRow) → HasComparedBack asked.entry.calls.now.names asked.entry.disk.now.sector_bytes bytes printed back.old before
-        → HasComparedBack asked.entry.calls.now.names asked.entry.disk.now.sector_bytes bytes printed back.new (before ++ rows.now.back)) }
+    ensures back_compared { OnOk result (fore.new.wrong ≡ None → (printed : List (List ℕ)) (before : List BackRow) → HasComparedBack inputs.entry.calls.now.names inputs.entry.disk.now.sector_bytes bytes printed back.old before
+        → HasComparedBack inputs.entry.calls.now.names inputs.entry.disk.now.sector_bytes bytes printed back.new (before ++ rows.now.back)) }
 {
-    let sector_bytes = asked.disk.sector_bytes;
+    let sector_bytes = inputs.disk.sector_bytes;
     fore.compare_fore(alloc, &rows.fore, sector_bytes, bytes)?;
     if fore.wrong.is_some() {
         return Ok(());
     }
-    back.compare_back(alloc, &rows.back, &asked.calls.names, sector_bytes, bytes)
+    back.compare_back(alloc, &rows.back, &inputs.calls.names, sector_bytes, bytes)
 }
 
 // The verdict where all decisions are made and no row of the foreground is wrong.
 fn judge_ends<Q: Queue>(
     alloc: Global,
-    asked: Asked<'_>,
+    inputs: RunInputs<'_>,
     printed: Printed<'_>,
     decider: &mut Decider<'_, Q>,
     mut fore: Comparison<'_>,
     mut back: Comparison<'_>,
 ) -> Result<Verdict, NoMemory>
-    requires judged { HasJudged (inputs_of asked Q.key) (reports_of asked printed) false decider.old.requests decider.old.course (Q.pending decider.old.queue) (Q.joined decider.old.queue) fore back }
+    requires judged { HasJudged (inputs_of inputs Q.key) (reports_of inputs printed) false decider.old.requests decider.old.course (Q.pending decider.old.queue) (Q.joined decider.old.queue) fore back }
     requires right { fore.wrong ≡ None }
-    requires names { length asked.calls.now.names ≡ length (tasks asked.calls.now.calls.items) }
-    requires whole { asked.disk.now.sector_bytes % 16 ≡ 0 }
-    ensures { IfOk result (IsVerdict (inputs_of asked.entry Q.key) (reports_of asked.entry printed.entry)) }
+    requires names { length inputs.calls.now.names ≡ length (tasks inputs.calls.now.calls.items) }
+    requires whole { inputs.disk.now.sector_bytes % 16 ≡ 0 }
+    ensures { IfOk result (IsVerdict (inputs_of inputs.entry Q.key) (reports_of inputs.entry printed.entry)) }
 {
     decisions_make_a_run();
-    fore.end_fore(alloc, asked.trace.passed_over)?;
+    fore.end_fore(alloc, inputs.trace.passed_over)?;
     if let Some(mismatch) = fore.wrong {
         return Ok(Verdict::No(mismatch));
     }
     decider.add_task_rows()?;
     let rows = decider.take_rows(alloc);
-    let sector_bytes = asked.disk.sector_bytes;
-    let names = &asked.calls.names;
+    let sector_bytes = inputs.disk.sector_bytes;
+    let names = &inputs.calls.names;
     let compared = back.compare_back(alloc, &rows.back, names, sector_bytes, printed.bytes);
     drop(rows);
     compared?;

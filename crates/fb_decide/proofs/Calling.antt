@@ -12,7 +12,7 @@ use Rattle.fb_model.specs.History.{Past}
 use Rattle.fb_model.specs.Steps.{take_call, calls_due, with_delivery}
 use Rattle.fb_tasks.specs.declared.session.Session.{Session}
 use Rattle.fb_tasks.specs.Taken.{delivery_of}
-use Rattle.fb_tasks.specs.Telling.{Tells, MayTake, MaySettle}
+use Rattle.fb_tasks.specs.Telling.{Tells, MayTake, MayChooseAndTest}
 use Rattle.fb_tasks.proofs.Calls.{count-is, left-is, may-take, called-more, called-delivered}
 use Rattle.fb_decide.specs.Calls.{IsScriptOf, IsCalled}
 use Rattle.fb_decide.specs.Deliveries.{past_with}
@@ -33,8 +33,8 @@ module _ (disk : Shape) (calls : List Call) (script : IsScriptOf disk calls) whe
   pub none_due : (past : Past) (next now : ℕ) → IsCalled disk calls past next → IfSome (slice_get calls next) (λ call. now < call.instant) → calls_due calls past now ≡ []
   none_due past next now h ahead = due_is past next now h ∙ none_ahead now next calls script.instants ahead
 
-  pub may-settle : (past : Past) (next : ℕ) (sessions : List Session) (held : List Entry) → IsCalled disk calls past next → Tells disk past sessions held → MaySettle disk past sessions held
-  may-settle past next sessions held h tells = record { tells = tells; few = omega (arith, h.few) }
+  pub may-choose : (past : Past) (next : ℕ) (sessions : List Session) (held : List Entry) → IsCalled disk calls past next → Tells disk past sessions held → MayChooseAndTest disk past sessions held
+  may-choose past next sessions held h tells = record { tells = tells; few = omega (arith, h.few) }
 
   module _ (past : Past) (next : ℕ) (h : IsCalled disk calls past next) (call : Call) (at : slice_get calls next ≡ Some call) (sessions : List Session) (held : List Entry) (tells : Tells disk past sessions held) where
     pub taken-call : IsCalled disk calls (take_call disk past call) (next + 1)

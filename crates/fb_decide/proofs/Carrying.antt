@@ -4,11 +4,11 @@ use Rattle.std.specs.List.{fold, AllByRecursion}
 use Rattle.std.proofs.lemmas.Bool.{cases_Bool}
 use Rattle.std.proofs.lemmas.Bool.Decides.{nat_tests}
 use Rattle.fb_wanted.specs.declared.block.Block.{Block}
+use Rattle.fb_model.specs.Blocks.{IsBlockOn}
 use Rattle.fb_model.specs.History.{same_block, Past, wanted}
 use Rattle.fb_plan.specs.declared.catching.Catch.{Catch}
 use Rattle.fb_plan.specs.Order.{is_before, place_in}
 use Rattle.fb_plan.proofs.Sorted.{put_front, put_behind}
-use Rattle.fb_plan.specs.Ways.{FitsDisk}
 use Rattle.fb_decide.specs.Deliveries.{AreDistinct, AreDue, row_in, held_now}
 use Rattle.std.specs.Prelude.{slice_get, nat_le, nat_lt}
 use Rattle.std.proofs.lemmas.List.{append_assoc, map-append, drop_more, drop_all}
@@ -235,7 +235,7 @@ pub none-carried : (holding : Holding) (served : Served) (blocks : List Block) �
 none-carried holding served blocks writes = rw writes refl
 
 -- no block of a disk ends behind the last sector that a disk may have
-pub ends_within : (disk : Disk) (block : Block) → FitsDisk disk block → block.lbn + block.count ≤ 10 ^ 12
+pub ends_within : (disk : Disk) (block : Block) → IsBlockOn disk.map block → block.lbn + block.count ≤ 10 ^ 12
 ends_within disk block fits = omega (arith, fits.on_disk, disk.few_blocks)
 
 pub all-extents : (disk : Disk) (extents : List Extent) → AllByRecursion (λ extent. extent.first + extent.count ≤ length (places disk.map)) extents → AllByRecursion (IsUnbroken disk.map) extents

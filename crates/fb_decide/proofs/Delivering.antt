@@ -3,6 +3,7 @@ use Rattle.std.proofs.Common.{◌≡◌, ℕ, zero, suc, ◌+◌, ◌^◌, ◌�
 use Rattle.std.specs.Prelude.{Result, Ok, Err, IfOk}
 use Rattle.std.specs.List.{AllByRecursion, list_any, range_with_len}
 use Rattle.std.proofs.lemmas.List.Concat.{flat_map-append}
+use Rattle.fb_model.specs.Blocks.{IsBlockOn}
 use Rattle.fb_model.specs.Rides.{delivery}
 use Rattle.fb_geometry.specs.Shape.{Shape}
 use Rattle.fb_wanted.specs.declared.block.Block.{Block}
@@ -23,10 +24,10 @@ use Rattle.fb_store.specs.Runs.{runs_of, bad_of}
 use Rattle.fb_model.specs.History.{Past, tasks, same_block, bare_state, is_suspended, state, registered, wanted}
 use Rattle.fb_model.specs.Completion.{view}
 use Rattle.fb_model.specs.Steps.{Delivery, with_delivery}
-use Rattle.fb_plan.specs.Ways.{FitsDisk, AreOnDisk}
+use Rattle.fb_plan.specs.Ways.{AreOnDisk}
 use Rattle.fb_tasks.specs.declared.session.Session.{Session}
 use Rattle.fb_tasks.specs.Taken.{delivery_of, rows_after}
-use Rattle.fb_tasks.specs.Telling.{Tells, MayDeliver, IsSettled, IsBlockOf, entry_of}
+use Rattle.fb_tasks.specs.Telling.{Tells, MayDeliver, IsUpToDate, IsBlockOf, entry_of}
 use Rattle.fb_tasks.proofs.Lists.{all_append, all_at, all_map, all_weaker, filter_from, filter_to, map_at}
 use Rattle.fb_tasks.proofs.States.{shown}
 use Rattle.fb_decide.specs.declared.background.Background.{Background}
@@ -44,9 +45,10 @@ wanted-told {past} tells = ap wanted_of tells.entries ∙ wanted_by past (regist
 
 -- each of them lies on the disk
 pub fits-told : (disk : Disk) (past : Past) (sessions : List Session) (held : List Entry) → Tells disk.map past sessions held → AreOnDisk disk held
-fits-told disk past sessions held tells = λ i entry at. all_at (λ (e : Entry). FitsDisk disk e.block) held i entry
-    (subst (AllByRecursion (λ (e : Entry). FitsDisk disk e.block)) (sym tells.entries) (all_map (λ (e : Entry). FitsDisk disk e.block) (entry_of past) (registered past)
-    (all_weaker _ (FitsDisk disk) (λ b h. h.on) (registered past) tells.on_disk))) at
+fits-told disk past sessions held tells = λ i entry at. all_at (λ (e : Entry). IsBlockOn disk.map e.block) held i entry
+    (subst (AllByRecursion (λ (e : Entry). IsBlockOn disk.map e.block)) (sym tells.entries)
+    (all_map (λ (e : Entry). IsBlockOn disk.map e.block) (entry_of past) (registered past)
+    (all_weaker _ (IsBlockOn disk.map) (λ b h. h.on) (registered past) tells.on_disk))) at
 
 pub wanted-registered : (past : Past) (place : ℕ) (block : Block) → slice_get (wanted past) place ≡ Some block → IsRegistered past block
 unfolding wanted
@@ -121,7 +123,7 @@ pub may-deliver : (disk : Shape) (past : Past) (place : ℕ) (got : DeliveryRow)
     → Gives got.content content_at got.block.lbn got.block.count → MayDeliver disk past background.sessions background.wanted got
 may-deliver disk past place got background content_at current at gives = record {
   tells = current.tells;
-  settled = current.settled;
+  up_to_date = current.up_to_date;
   place = place;
   wanted = at;
   content_at = content_at;
@@ -130,10 +132,10 @@ may-deliver disk past place got background content_at current at gives = record 
 
 -- and is delivered then
 pub delivered-one : (disk : Shape) (past : Past) (place : ℕ) (got row : DeliveryRow) (before after : Background) → got ≡ row → slice_get (wanted past) place ≡ Some got.block
-    → Tells disk (with_delivery past (delivery_of past got)) after.sessions after.wanted → IsSettled (with_delivery past (delivery_of past got)) → after.rows ≡ before.rows ++ GotLine got ∷ rows_after past got
+    → Tells disk (with_delivery past (delivery_of past got)) after.sessions after.wanted → IsUpToDate (with_delivery past (delivery_of past got)) → after.rows ≡ before.rows ++ GotLine got ∷ rows_after past got
     → HasDelivered disk past (row ∷ []) before.rows after
-delivered-one disk past place got row before after is at tells settled rows = subst (λ r. HasDelivered disk past (r ∷ []) before.rows after) is (record {
-  current = record { tells = tells; settled = settled };
+delivered-one disk past place got row before after is at tells up_to_date rows = subst (λ r. HasDelivered disk past (r ∷ []) before.rows after) is (record {
+  current = record { tells = tells; up_to_date = up_to_date };
   rows_after = rows ∙ ap (λ rs. before.rows ++ rs) (sym (append-nil (GotLine got ∷ rows_after past got)));
   registered = (wanted-registered past place got.block at, tt);
 })

@@ -30,7 +30,7 @@ use Rattle.fb_model.specs.SoundRun.{AreFollowed}
 use Rattle.fb_model.proofs.Lists.{all_append, all_left, all_map}
 use Rattle.fb_tasks.specs.declared.session.Session.{Session}
 use Rattle.fb_tasks.specs.Telling.{Tells, IsBlockOf, calls_of}
-use Rattle.fb_tasks.proofs.Asked.{opened_same}
+use Rattle.fb_tasks.proofs.RunInputs.{opened_same}
 use Rattle.fb_tasks.proofs.Lists.{all_any, all_filter, flat_all}
 use Rattle.fb_tasks.proofs.AllChoices.{all_range, by_all}
 use Rattle.fb_decide.proofs.Placing.{in_order-each}
@@ -76,9 +76,9 @@ module _ (n : ℕ) where
       fits_calls inputs.disk past (calls_due inputs.calls past (instant_of decision))
       (by_all (λ p. PastFits n p → PastFits n called) inputs.disk.map (λ p task segment blocks h now. h (fits_before p _ now)) called (λ h. h) fits)
 
-  fits_tested : (inputs : Inputs) (past : Past) (step : Step) → PastFits n (past_after inputs past step) → PastFits n (tested step.settled ∷ chosen_past inputs past (decision_in step))
+  fits_tested : (inputs : Inputs) (past : Past) (step : Step) → PastFits n (past_after inputs past step) → PastFits n (tested step.test ∷ chosen_past inputs past (decision_in step))
   unfolding past_after
-  fits_tested inputs past step fits = fits_deliveries (tested step.settled ∷ chosen_past inputs past (decision_in step)) step.deliveries (fits_finish _ (decision_in step) fits)
+  fits_tested inputs past step fits = fits_deliveries (tested step.test ∷ chosen_past inputs past (decision_in step)) step.deliveries (fits_finish _ (decision_in step) fits)
 
   -- ---- the rows of tests
 
@@ -176,12 +176,12 @@ module _ (n : ℕ) where
   step_fits inputs past step made fits =
       let medium = medium_of inputs in
       let tests = fits_tested inputs past step fits in
-      let settled = fits_before (chosen_past inputs past (decision_in step)) (tested step.settled) tests in
-      all_append (RowFits n) (step.settled ++ opening inputs.disk step.act) (flat_map (λ (delivery : Delivery). GotLine delivery.got ∷ delivery.after) step.deliveries)
-      (all_append (RowFits n) step.settled (opening inputs.disk step.act)
-      (subst (AllByRecursion (RowFits n)) (sym made.tested.settled) (tests_fit medium (chosen_past inputs past (decision_in step)) (instant_of (decision_in step)) settled)) (opening_fits inputs.disk step.act))
-      (followed_fit medium (tested step.settled ∷ chosen_past inputs past (decision_in step)) step.deliveries tests
-      (subst (AllByRecursion GotFits) (sym made.all) (due_fits medium step.act (wanted (chosen_past inputs past (decision_in step))) (wanted_fit (chosen_past inputs past (decision_in step)) settled))) made.tested.followed)
+      let test = fits_before (chosen_past inputs past (decision_in step)) (tested step.test) tests in
+      all_append (RowFits n) (step.test ++ opening inputs.disk step.act) (flat_map (λ (delivery : Delivery). GotLine delivery.got ∷ delivery.after) step.deliveries)
+      (all_append (RowFits n) step.test (opening inputs.disk step.act)
+      (subst (AllByRecursion (RowFits n)) (sym made.tested.test) (tests_fit medium (chosen_past inputs past (decision_in step)) (instant_of (decision_in step)) test)) (opening_fits inputs.disk step.act))
+      (followed_fit medium (tested step.test ∷ chosen_past inputs past (decision_in step)) step.deliveries tests
+      (subst (AllByRecursion GotFits) (sym made.all) (due_fits medium step.act (wanted (chosen_past inputs past (decision_in step))) (wanted_fit (chosen_past inputs past (decision_in step)) test))) made.tested.followed)
 
   pub tasks_fit : (past : Past) → PastFits n past → AllByRecursion (RowFits n) (task_rows past)
   unfolding task_rows

@@ -40,9 +40,9 @@ step_timeline : (disk : Disk) (step : Step) (back : List BackRow) (fore : List F
     → timeline disk (step_rows disk step ++ back) fore
     ≡ timeline disk (opening disk step.act ++ (delivered_rows step.deliveries ++ back)) fore
 step_timeline disk step back fore quiet =
-    ap (λ rows. timeline disk rows fore) (append_assoc (step.settled ++ opening disk step.act) (delivered_rows step.deliveries) back
-    ∙ append_assoc step.settled (opening disk step.act) (delivered_rows step.deliveries ++ back))
-    ∙ quiet_before disk step.settled (opening disk step.act ++ (delivered_rows step.deliveries ++ back)) fore quiet.settled
+    ap (λ rows. timeline disk rows fore) (append_assoc (step.test ++ opening disk step.act) (delivered_rows step.deliveries) back
+    ∙ append_assoc step.test (opening disk step.act) (delivered_rows step.deliveries ++ back))
+    ∙ quiet_before disk step.test (opening disk step.act ++ (delivered_rows step.deliveries ++ back)) fore quiet.test
 
 -- a gap by one of its plans, and the service behind it
 lead_serve : (disk : Disk) (medium : Medium) (head : Track) (now : ℕ) (request : Request) (plan : Plan) → IsSound disk.map → LiesOnDisk disk.map request

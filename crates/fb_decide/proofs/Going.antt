@@ -74,8 +74,8 @@ calls_after : (disk : Shape) (past : Past) (calls : List Call) → calls_of (fol
 calls_after disk past [] = sym (append-nil (calls_of past))
 calls_after disk past (call ∷ calls) = calls_after disk (take_call disk past call) calls ∙ append_assoc (calls_of past) (call ∷ []) calls
 
-calls_settled : (disk : Shape) (calls : List Call) (past : Past) (now : ℕ) → calls_of (tested_by disk calls past now) ≡ calls_of past ++ calls_due calls past now
-calls_settled disk calls past now =
+calls_tested : (disk : Shape) (calls : List Call) (past : Past) (now : ℕ) → calls_of (tested_by disk calls past now) ≡ calls_of past ++ calls_due calls past now
+calls_tested disk calls past now =
     let called = fold (take_call disk) past (calls_due calls past now) in
     by_all (λ p. calls_of p ≡ calls_of called) disk (λ p task segment blocks e. e) called refl
     ∙ calls_after disk past (calls_due calls past now)
@@ -159,13 +159,13 @@ module _ (inputs : Inputs) (known : AreKnown inputs) (before : Course) (pending 
   calls_taken : AllByRecursion (λ c. c.instant ≤ before.now) (take called inputs.calls)
   calls_taken =
       let past = history inputs steps in
-      subst (AllByRecursion (λ c. c.instant ≤ before.now)) (sym (calls_settled inputs.disk.map inputs.calls past before.now) ∙ ready.settled.called.taken)
+      subst (AllByRecursion (λ c. c.instant ≤ before.now)) (sym (calls_tested inputs.disk.map inputs.calls past before.now) ∙ ready.test.called.taken)
       (all_append (λ c. c.instant ≤ before.now) (calls_of past) (calls_due inputs.calls past before.now)
       (subst (AllByRecursion (λ c. c.instant ≤ before.now)) (sym so_far.called.taken) so_far.calls_taken)
       (all_come before.now (calls_left inputs.calls past)))
 
   come : HasCome inputs before.now joined called
-  come = record { rising = known.rising; instants = known.accepted.instants; arrivals = ready.come; calls = calls_taken; no_arrival = ready.ahead; no_call = ready.settled.ahead }
+  come = record { rising = known.rising; instants = known.accepted.instants; arrivals = ready.come; calls = calls_taken; no_arrival = ready.ahead; no_call = ready.test.ahead }
 
   -- a request is served
   module _ (request : Request) (others : List Request) (after : Course) (count_after : ℕ) (pick : first_least (inputs.key inputs.disk before.head before.now) waiting ≡ Some (request, others))
@@ -201,10 +201,10 @@ module _ (inputs : Inputs) (known : AreKnown inputs) (before : Course) (pending 
         (served_late (length (others ++ ahead)) inputs.disk known.takes_time inputs.key before.head before.now request (last_track inputs.disk this) (others ++ ahead) among.0 others_on_disk))
 
     abbrev act : Act
-    act = served_act inputs (history inputs steps) before background joined called ready.settled run.tells run.finds request among.0 after now_served mirrors
+    act = served_act inputs (history inputs steps) before background joined called ready.test run.tells run.finds request among.0 after now_served mirrors
 
     made : StepsBy inputs (history inputs steps) before act after
-    made = serves_step inputs (history inputs steps) before background joined called ready.settled run.tells run.finds request among.0 after now_served mirrors
+    made = serves_step inputs (history inputs steps) before background joined called ready.test run.tells run.finds request among.0 after now_served mirrors
 
     abbrev step : Step
     step = step_of act made.gots
@@ -257,7 +257,7 @@ module _ (inputs : Inputs) (known : AreKnown inputs) (before : Course) (pending 
   module _ (instant : ℕ) (upto : before.now ≤ instant) (after : Course) (stayed : HasStayed inputs.disk instant (prepared before background joined called) after)
       (late : AllByRecursion (λ (w : Written). instant < w.passage.end) (all_writes rest)) where
     stays : StepsBy inputs (history inputs steps) before (idling (stay_of before instant)) after
-    stays = stays_step inputs (history inputs steps) before background joined called ready.settled run.tells run.finds instant upto after stayed
+    stays = stays_step inputs (history inputs steps) before background joined called ready.test run.tells run.finds instant upto after stayed
         (mirrors_run inputs run.done rest before.now instant before.store run.replayed late)
 
   leads_by : (instant : ℕ) (after : Course) (count_after : ℕ) (more : Bool) → HasStayed inputs.disk instant (prepared before background joined called) after
@@ -375,7 +375,7 @@ module _ (inputs : Inputs) (known : AreKnown inputs) (before : Course) (pending 
 
     module _ (over : inputs.until ≤ before.now) where
       ends_now_by : StepsBy inputs (history inputs steps) before (ending before.now) (prepared before background joined called)
-      ends_now_by = ends_step inputs (history inputs steps) before background joined called ready.settled run.tells run.finds
+      ends_now_by = ends_step inputs (history inputs steps) before background joined called ready.test run.tells run.finds
           (mirrors_run inputs run.done rest before.now before.now before.store run.replayed (none_late before.now))
 
       abbrev step_end : Step

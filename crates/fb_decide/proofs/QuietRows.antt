@@ -71,7 +71,7 @@ tasks_quiet past = all_map IsQuiet (task_row past) (task_numbers past) (all_any 
 -- ---- a step's rows beside the one that opens it
 
 pub record IsQuietStep (step : Step) : Type 0 where
-  pub settled : AllByRecursion IsQuiet step.settled
+  pub test : AllByRecursion IsQuiet step.test
   pub delivered : AllByRecursion IsQuiet (delivered_rows step.deliveries)
 
 followed_quiet : (medium : Medium) (past : Past) (deliveries : List Delivery) → AreFollowed medium past deliveries → AllByRecursion IsQuiet (delivered_rows deliveries)
@@ -86,6 +86,6 @@ followed_quiet medium past (delivery ∷ deliveries) followed = (
 
 pub quiet_step : (inputs : Inputs) (medium : Medium) (past : Past) (step : Step) → IsTested inputs medium past step → IsQuietStep step
 quiet_step inputs medium past step tested = record {
-  settled = subst (AllByRecursion IsQuiet) (sym tested.settled) (test_quiet medium (chosen_past inputs past (decision_in step)) (instant_of (decision_in step)));
+  test = subst (AllByRecursion IsQuiet) (sym tested.test) (test_quiet medium (chosen_past inputs past (decision_in step)) (instant_of (decision_in step)));
   delivered = followed_quiet medium (tested_past inputs past step) step.deliveries tested.followed;
 }

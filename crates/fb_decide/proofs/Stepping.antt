@@ -22,7 +22,7 @@ use Rattle.fb_tasks.specs.Taken.{delivery_of}
 use Rattle.fb_tasks.specs.Telling.{Tells, IsBlockOf}
 use Rattle.fb_decide.specs.declared.background.Background.{Background}
 use Rattle.fb_decide.specs.declared.deciding.Course.{Course}
-use Rattle.fb_decide.specs.Calls.{IsCalled, HasSettled, tested_by, chosen_by, settling_rows}
+use Rattle.fb_decide.specs.Calls.{IsCalled, HasChosenAndTested, tested_by, chosen_by, test_rows_by}
 use Rattle.fb_decide.specs.Deliveries.{HasDelivered, HasServed, IsRegistered, followed, past_with, rows_of, held_now}
 use Rattle.fb_decide.specs.Standing.{Mirrors, IsFoundIn, IsTrue}
 use Rattle.fb_decide.specs.Deciding.{HasServedNext, HasStayed, stay_of, prepared}
@@ -65,9 +65,9 @@ unfolding wanted
 wanted_all P past all = all_filter P (λ block. is_wanted (state past block)) (registered past) all
 
 -- the rows of a step behind those before it
-rows_join : (before settled opens delivered : List BackRow) (rows middle : List BackRow) → middle ≡ before ++ settled → rows ≡ (middle ++ opens) ++ delivered → rows ≡ before ++ ((settled ++ opens) ++ delivered)
-rows_join before settled opens delivered rows middle e f =
-    f ∙ ap (λ m. (m ++ opens) ++ delivered) e ∙ ap (λ m. m ++ delivered) (append_assoc before settled opens) ∙ append_assoc before (settled ++ opens) delivered
+rows_join : (before test opens delivered : List BackRow) (rows middle : List BackRow) → middle ≡ before ++ test → rows ≡ (middle ++ opens) ++ delivered → rows ≡ before ++ ((test ++ opens) ++ delivered)
+rows_join before test opens delivered rows middle e f =
+    f ∙ ap (λ m. (m ++ opens) ++ delivered) e ∙ ap (λ m. m ++ delivered) (append_assoc before test opens) ∙ append_assoc before (test ++ opens) delivered
 
 -- ---- one decision
 
@@ -96,27 +96,27 @@ module _ (inputs : Inputs) (past : Past) (before : Course) (background : Backgro
     pub ends_at : end_of decision ≡ after.now
 
   module _ (end : ℕ) (h : HasDone end) (tells : Tells inputs.disk.map past before.background.sessions before.background.wanted) (finds : IsTrue (medium_of inputs) before.store past)
-      (settled : HasSettled inputs.disk.map inputs.calls past (instant_of decision) called before.background.rows background) where
+      (test : HasChosenAndTested inputs.disk.map inputs.calls past (instant_of decision) called before.background.rows background) where
     same_wanted : wanted then ≡ wanted (chosen_past inputs past decision)
     unfolding chosen_past
-    same_wanted = wanted_tested (chosen_by inputs.disk.map inputs.calls past (instant_of decision)) (settling_rows inputs.disk.map inputs.calls past (instant_of decision))
+    same_wanted = wanted_tested (chosen_by inputs.disk.map inputs.calls past (instant_of decision)) (test_rows_by inputs.disk.map inputs.calls past (instant_of decision))
 
     truths : IsTested inputs (medium_of inputs) past step × IsTrue (medium_of inputs) before.store (past_with then gots)
-    truths = decision_true inputs (medium_of inputs) before.store past act end gots finds h.mirrors h.order tells settled.current.tells h.found h.there
+    truths = decision_true inputs (medium_of inputs) before.store past act end gots finds h.mirrors h.order tells test.current.tells h.found h.there
 
     after_is : past_after inputs past step ≡ with_finish (past_with then gots) decision
     unfolding chosen_past past_after
     after_is = refl
 
     finished_called : (d : Decision) → IsCalled inputs.disk.map inputs.calls (with_finish (past_with then gots) d) called
-    finished_called (serves served) = called-finished inputs.disk.map inputs.calls (past_with then gots) called (called_delivered inputs.disk.map inputs.calls then called gots settled.called) served.request
-    finished_called (idles dwell) = called_delivered inputs.disk.map inputs.calls then called gots settled.called
-    finished_called (ends now) = called_delivered inputs.disk.map inputs.calls then called gots settled.called
+    finished_called (serves served) = called-finished inputs.disk.map inputs.calls (past_with then gots) called (called_delivered inputs.disk.map inputs.calls then called gots test.called) served.request
+    finished_called (idles dwell) = called_delivered inputs.disk.map inputs.calls then called gots test.called
+    finished_called (ends now) = called_delivered inputs.disk.map inputs.calls then called gots test.called
 
     pub stepped : HasStepped inputs past before step after
     stepped = record {
-      rows_after = rows_join before.background.rows (settling_rows inputs.disk.map inputs.calls past (instant_of decision)) (opening inputs.disk act) (rows_of (followed then gots))
-          after.background.rows background.rows settled.rows_after h.rows_behind;
+      rows_after = rows_join before.background.rows (test_rows_by inputs.disk.map inputs.calls past (instant_of decision)) (opening inputs.disk act) (rows_of (followed then gots))
+          after.background.rows background.rows test.rows_after h.rows_behind;
       tells = subst (λ p. Tells inputs.disk.map p after.background.sessions after.background.wanted) (sym after_is) h.tells_after;
       is_made = record {
         planned = best_is_plan inputs.disk (wanted then) act h.best;
@@ -132,7 +132,7 @@ module _ (inputs : Inputs) (past : Past) (before : Course) (background : Backgro
 -- ---- each kind of step
 
 module _ (inputs : Inputs) (past : Past) (before : Course) (background : Background) (joined called : ℕ)
-    (settled : HasSettled inputs.disk.map inputs.calls past before.now called before.background.rows background)
+    (test : HasChosenAndTested inputs.disk.map inputs.calls past before.now called before.background.rows background)
     (tells : Tells inputs.disk.map past before.background.sessions before.background.wanted) (finds : IsTrue (medium_of inputs) before.store past) where
   -- by its deliveries and what they leave
   abbrev stepped_by : (act : Act) → instant_of (decision_of act) ≡ before.now → (gots : List DeliveryRow) (after : Course) (end : ℕ)
@@ -140,18 +140,18 @@ module _ (inputs : Inputs) (past : Past) (before : Course) (background : Backgro
   stepped_by act now gots after end h = record {
     gots = gots;
     stepped = stepped inputs past before background called act gots after end h tells finds
-        (subst (λ t. HasSettled inputs.disk.map inputs.calls past t called before.background.rows background) (sym now) settled);
+        (subst (λ t. HasChosenAndTested inputs.disk.map inputs.calls past t called before.background.rows background) (sym now) test);
   }
 
   abbrev ready : Course
   ready = prepared before background joined called
 
-  abbrev settled_now : Past
-  settled_now = tested_by inputs.disk.map inputs.calls past before.now
+  abbrev tested_now : Past
+  tested_now = tested_by inputs.disk.map inputs.calls past before.now
 
-  all_some : AllByRecursion (λ (block : Block). 0 < block.count) (wanted settled_now)
-  all_some = wanted_all (λ (block : Block). 0 < block.count) settled_now
-      (all_weaker (IsBlockOf inputs.disk.map (length (tasks settled_now))) (λ (block : Block). 0 < block.count) (λ block h. h.some) (registered settled_now) settled.current.tells.on_disk)
+  all_some : AllByRecursion (λ (block : Block). 0 < block.count) (wanted tested_now)
+  all_some = wanted_all (λ (block : Block). 0 < block.count) tested_now
+      (all_weaker (IsBlockOf inputs.disk.map (length (tasks tested_now))) (λ (block : Block). 0 < block.count) (λ block h. h.some) (registered tested_now) test.current.tells.on_disk)
 
   -- a request is served
   module _ (request : Request) (inside : IsRequestOf inputs.disk.map request) (after : Course) (now_served : HasServedNext inputs.disk request ready after)
@@ -159,15 +159,15 @@ module _ (inputs : Inputs) (past : Past) (before : Course) (background : Backgro
     abbrev served : Served
     served = service inputs.disk before.head before.now request
 
-    abbrev has_served : HasServed inputs.disk before.store settled_now served background.rows after.background
-    has_served = now_served.served settled_now settled.current
+    abbrev has_served : HasServed inputs.disk before.store tested_now served background.rows after.background
+    has_served = now_served.served tested_now test.current
 
     -- after the plan that was found
     abbrev pub served_act : Act
     served_act = serving served has_served.plan
 
     abbrev served_gots : List DeliveryRow
-    served_gots = due inputs.disk (held_now before.store) served_act (wanted settled_now)
+    served_gots = due inputs.disk (held_now before.store) served_act (wanted tested_now)
 
     over : DeliversBy (held_until served) (serves served)
     over = (media_held served (media_before inputs.disk before.head before.now request inside.range.some), finish_held served)
@@ -177,11 +177,11 @@ module _ (inputs : Inputs) (past : Past) (before : Course) (background : Backgro
     serves_step = stepped_by served_act refl served_gots after (held_until served) (record {
       order = (held_between inputs.disk before.head before.now request inside.range.some).0;
       mirrors = mirrors;
-      found = due_found inputs.disk before.store served_act (held_until served) (wanted settled_now) refl has_served.best.is_plan over all_some;
+      found = due_found inputs.disk before.store served_act (held_until served) (wanted tested_now) refl has_served.best.is_plan over all_some;
       there = has_served.registered;
       best = has_served.best;
-      all = due_same (medium_of inputs) before.store served_act (held_until served) (wanted settled_now) refl has_served.best.is_plan over all_some mirrors;
-      rows_behind = has_served.rows_after ∙ sym (append_assoc background.rows (opening inputs.disk served_act) (rows_of (followed settled_now served_gots)));
+      all = due_same (medium_of inputs) before.store served_act (held_until served) (wanted tested_now) refl has_served.best.is_plan over all_some mirrors;
+      rows_behind = has_served.rows_after ∙ sym (append_assoc background.rows (opening inputs.disk served_act) (rows_of (followed tested_now served_gots)));
       tells_after = has_served.tells;
       leaves = now_served.leaves;
       same_called = now_served.same_called;
@@ -191,21 +191,21 @@ module _ (inputs : Inputs) (past : Past) (before : Course) (background : Backgro
   -- the head stays
   module _ (instant : ℕ) (later : before.now ≤ instant) (after : Course) (stayed : HasStayed inputs.disk instant ready after)
       (mirrors : Mirrors (medium_of inputs) before.store before.now instant) where
-    has_delivered : HasDelivered inputs.disk.map settled_now (caught inputs.disk (held_now before.store) ByIdle (stay_of ready instant) (wanted settled_now)) (background.rows ++ opening inputs.disk (idling (stay_of ready instant))) after.background
-    has_delivered = stayed.delivered settled_now settled.current
+    has_delivered : HasDelivered inputs.disk.map tested_now (caught inputs.disk (held_now before.store) ByIdle (stay_of ready instant) (wanted tested_now)) (background.rows ++ opening inputs.disk (idling (stay_of ready instant))) after.background
+    has_delivered = stayed.delivered tested_now test.current
 
     abbrev stayed_gots : List DeliveryRow
-    stayed_gots = caught inputs.disk (held_now before.store) ByIdle (stay_of ready instant) (wanted settled_now)
+    stayed_gots = caught inputs.disk (held_now before.store) ByIdle (stay_of ready instant) (wanted tested_now)
 
     pub stays_step : StepsBy inputs past before (idling (stay_of ready instant)) after
     unfolding due medium_of
     stays_step = stepped_by (idling (stay_of ready instant)) refl stayed_gots after instant (record {
       order = later;
       mirrors = mirrors;
-      found = due_found inputs.disk before.store (idling (stay_of ready instant)) instant (wanted settled_now) tt tt (omega arith) all_some;
+      found = due_found inputs.disk before.store (idling (stay_of ready instant)) instant (wanted tested_now) tt tt (omega arith) all_some;
       there = has_delivered.registered;
       best = tt;
-      all = due_same (medium_of inputs) before.store (idling (stay_of ready instant)) instant (wanted settled_now) tt tt (omega arith) all_some mirrors;
+      all = due_same (medium_of inputs) before.store (idling (stay_of ready instant)) instant (wanted tested_now) tt tt (omega arith) all_some mirrors;
       rows_behind = has_delivered.rows_after;
       tells_after = has_delivered.current.tells;
       leaves = stayed.same_store;
@@ -224,7 +224,7 @@ module _ (inputs : Inputs) (past : Past) (before : Course) (background : Backgro
     best = tt;
     all = refl;
     rows_behind = sym (append-nil (background.rows ++ []) ∙ append-nil background.rows);
-    tells_after = settled.current.tells;
+    tells_after = test.current.tells;
     leaves = refl;
     same_called = refl;
     ends_at = refl;

@@ -20,7 +20,7 @@ use Rattle.fb_model.specs.History.{Event, called, chose, tested, Past, LogSegmen
 use Rattle.fb_model.specs.Segments.{with_choices}
 use Rattle.fb_model.specs.Steps.{Step, take_call, calls_due, with_delivery, chosen_past, past_after}
 use Rattle.fb_model.specs.Images.{held_at_delivery, test_rows, findings}
-use Rattle.fb_decide.specs.Calls.{chosen_by, settling_rows, tested_by}
+use Rattle.fb_decide.specs.Calls.{chosen_by, test_rows_by, tested_by}
 use Rattle.fb_decide.specs.Deliveries.{IsRegistered, followed, past_with}
 use Rattle.fb_decide.specs.Standing.{IsTrue, Mirrors, IsFoundIn}
 use Rattle.fb_tasks.proofs.AllChoices.{by_all}
@@ -141,8 +141,8 @@ pub choices-still : (disk : Shape) (past : Past) → IsStill past (with_choices 
 choices-still disk past = by_all (IsStill past) disk (λ p task segment blocks h. still-then past p _ h (chosen-still p task segment blocks)) past (still-same past)
 
 -- the calls and choices of an instant
-pub settled-still : (disk : Shape) (calls : List Call) (past : Past) (now : ℕ) → IsStill past (chosen_by disk calls past now)
-settled-still disk calls past now =
+pub chosen_by-still : (disk : Shape) (calls : List Call) (past : Past) (now : ℕ) → IsStill past (chosen_by disk calls past now)
+chosen_by-still disk calls past now =
     let taken = fold (take_call disk) past (calls_due calls past now) in
     still-then past taken (with_choices disk taken) (calls-still disk past (calls_due calls past now)) (choices-still disk taken)
 
@@ -162,14 +162,14 @@ pub mirrors_within : (medium : Medium) (holding : Holding) (from to begin end : 
 mirrors_within medium holding from to begin end mirrors after before lbn t late early = mirrors lbn t (omega (arith, after, late)) (omega (arith, before, early))
 
 -- after calls and choices of an instant and their test
-pub settled_true : (medium : Medium) (holding : Holding) (disk : Shape) (calls : List Call) (past : Past) (now end : ℕ)
+pub tests_true : (medium : Medium) (holding : Holding) (disk : Shape) (calls : List Call) (past : Past) (now end : ℕ)
     → IsTrue medium holding past → Mirrors medium holding now end → now ≤ end → AreOpened past → AreOwn (chosen_by disk calls past now)
-    → (settling_rows disk calls past now ≡ test_rows medium (chosen_by disk calls past now) now) × IsTrue medium holding (tested_by disk calls past now)
-settled_true medium holding disk calls past now end before mirrors order opened own =
-    let settled = chosen_by disk calls past now in
-    let still = settled-still disk calls past now in (
-      rows-true medium holding settled (still-true medium holding past settled still opened before) own now (mirrors_within medium holding now end now now mirrors (let e : now ≤ now = omega arith in e) order),
-      still-true medium holding past (tested_by disk calls past now) (still-then past settled (tested_by disk calls past now) still (tested-still settled (settling_rows disk calls past now))) opened before,
+    → (test_rows_by disk calls past now ≡ test_rows medium (chosen_by disk calls past now) now) × IsTrue medium holding (tested_by disk calls past now)
+tests_true medium holding disk calls past now end before mirrors order opened own =
+    let chosen = chosen_by disk calls past now in
+    let still = chosen_by-still disk calls past now in (
+      rows-true medium holding chosen (still-true medium holding past chosen still opened before) own now (mirrors_within medium holding now end now now mirrors (let e : now ≤ now = omega arith in e) order),
+      still-true medium holding past (tested_by disk calls past now) (still-then past chosen (tested_by disk calls past now) still (tested-still chosen (test_rows_by disk calls past now))) opened before,
     )
 
 module _ (medium : Medium) (holding : Holding) (from to : ℕ) (mirrors : Mirrors medium holding from to) where
@@ -273,12 +273,12 @@ LeftBy (ends now) holding left = left ≡ holding
 abbrev pub step_by : Shape → List Call → Past → Act → List DeliveryRow → Step
 step_by disk calls past act gots =
     let now = instant_of (decision_of act) in
-    record { settled = settling_rows disk calls past now; act = act; deliveries = followed (tested_by disk calls past now) gots }
+    record { test = test_rows_by disk calls past now; act = act; deliveries = followed (tested_by disk calls past now) gots }
 
 module _ (inputs : Inputs) (medium : Medium) (holding : Holding) (past : Past) (act : Act) (end : ℕ) (gots : List DeliveryRow)
     (before : IsTrue medium holding past) (mirrors : Mirrors medium holding (instant_of (decision_of act)) end) (order : instant_of (decision_of act) ≤ end)
-    {sessions settled_sessions : List Session} {held settled_held : List Entry} (tells : Tells inputs.disk.map past sessions held)
-    (tells_settled : Tells inputs.disk.map (tested_by inputs.disk.map inputs.calls past (instant_of (decision_of act))) settled_sessions settled_held)
+    {sessions tested_sessions : List Session} {held tested_held : List Entry} (tells : Tells inputs.disk.map past sessions held)
+    (tells_tested : Tells inputs.disk.map (tested_by inputs.disk.map inputs.calls past (instant_of (decision_of act))) tested_sessions tested_held)
     (found : AllByRecursion (IsFoundIn holding (instant_of (decision_of act)) end) gots)
     (there : AllByRecursion (λ got. IsRegistered (tested_by inputs.disk.map inputs.calls past (instant_of (decision_of act))) got.block) gots) where
   pub decision_true : IsTested inputs medium past (step_by inputs.disk.map inputs.calls past act gots)
@@ -286,12 +286,12 @@ module _ (inputs : Inputs) (medium : Medium) (holding : Holding) (past : Past) (
   unfolding chosen_past
   decision_true =
       let now = instant_of (decision_of act) in
-      let settled = tested_by inputs.disk.map inputs.calls past now in
-      let own = own-told inputs.disk.map settled settled_sessions settled_held tells_settled in
-      let first = settled_true medium holding inputs.disk.map inputs.calls past now end before mirrors order (opened-told inputs.disk.map past sessions held tells) own in
-      let second = followed_true medium holding now end mirrors settled gots found there
-      (opened-told inputs.disk.map settled settled_sessions settled_held tells_settled) own (distinct-told inputs.disk.map settled settled_sessions settled_held tells_settled) first.1 in
-      (record { settled = first.0; followed = second.0 }, second.1)
+      let tests = tested_by inputs.disk.map inputs.calls past now in
+      let own = own-told inputs.disk.map tests tested_sessions tested_held tells_tested in
+      let first = tests_true medium holding inputs.disk.map inputs.calls past now end before mirrors order (opened-told inputs.disk.map past sessions held tells) own in
+      let second = followed_true medium holding now end mirrors tests gots found there
+      (opened-told inputs.disk.map tests tested_sessions tested_held tells_tested) own (distinct-told inputs.disk.map tests tested_sessions tested_held tells_tested) first.1 in
+      (record { test = first.0; followed = second.0 }, second.1)
 
 -- and after the decision
 pub after_true : (inputs : Inputs) (medium : Medium) (holding left : Holding) (past : Past) (act : Act) (gots : List DeliveryRow) → LeftBy (decision_of act) holding left

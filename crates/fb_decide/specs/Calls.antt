@@ -1,4 +1,4 @@
--- The calls between two decisions, and what a decision settles before its plan.
+-- The calls between two decisions, and what is chosen and tested before the plan of a decision.
 use Rattle.std.specs.Prelude.{◌≡◌, ◌<◌, ◌^◌, ℕ, List, [], ◌∷◌, ◌++◌, length, map, IfSome, slice_get}
 use Rattle.std.specs.List.{fold}
 use Rattle.fb_units.specs.Rising.{IsRising}
@@ -25,16 +25,16 @@ abbrev pub chosen_by : Shape → List Call → Past → ℕ → Past
 chosen_by disk calls past now = with_choices disk (fold (take_call disk) past (calls_due calls past now))
 
 -- the rows of its test
-abbrev pub settling_rows : Shape → List Call → Past → ℕ → List BackRow
-settling_rows disk calls past now = test_rows_found (chosen_by disk calls past now) now
+abbrev pub test_rows_by : Shape → List Call → Past → ℕ → List BackRow
+test_rows_by disk calls past now = test_rows_found (chosen_by disk calls past now) now
 
 -- after its test
 abbrev pub tested_by : Shape → List Call → Past → ℕ → Past
-tested_by disk calls past now = tested (settling_rows disk calls past now) ∷ chosen_by disk calls past now
+tested_by disk calls past now = tested (test_rows_by disk calls past now) ∷ chosen_by disk calls past now
 
 -- all calls up to now have taken effect, the tasks have chosen segments, and all tasks were tested
-pub record HasSettled (disk : Shape) (calls : List Call) (past : Past) (now later : ℕ) (rows : List BackRow) (after : Background) : Type 0 where
+pub record HasChosenAndTested (disk : Shape) (calls : List Call) (past : Past) (now later : ℕ) (rows : List BackRow) (after : Background) : Type 0 where
   pub current : IsCurrent disk (tested_by disk calls past now) after
   pub called : IsCalled disk calls (tested_by disk calls past now) later
-  pub rows_after : after.rows ≡ rows ++ settling_rows disk calls past now
+  pub rows_after : after.rows ≡ rows ++ test_rows_by disk calls past now
   pub ahead : IfSome (slice_get calls later) (λ call. now < call.instant)

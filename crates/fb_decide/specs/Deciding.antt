@@ -24,7 +24,7 @@ use Rattle.fb_decide.specs.declared.deciding.Course.{Course}
 use Rattle.fb_decide.specs.Contents.{left_by, IsRowOf}
 use Rattle.fb_decide.specs.Waiting.{left, IsWaiting, IsForegroundOf}
 use Rattle.fb_decide.specs.Deliveries.{IsCurrent, HasDelivered, HasServed, held_now}
-use Rattle.fb_decide.specs.Calls.{HasSettled, IsScriptOf}
+use Rattle.fb_decide.specs.Calls.{HasChosenAndTested, IsScriptOf}
 
 -- each sector of the disk takes some time to pass
 abbrev pub PassagesTakeTime : Shape → Type 0
@@ -109,7 +109,7 @@ pub record IsReady (disk : Disk) (requests : List Request) (calls : List Call) (
 -- all that is due at an instant has happened: calls have taken effect, with choices and tests, and the requests that have arrived wait
 pub record HasPrepared (disk : Disk) (requests : List Request) (calls : List Call) (past : Past) (before : Course) (pending : List Request)
     (background : Background) (joined called : ℕ) (waiting : List Request) : Type 0 where
-  pub settled : HasSettled disk.map calls past before.now called before.background.rows background
+  pub test : HasChosenAndTested disk.map calls past before.now called before.background.rows background
   pub same_left : left requests joined waiting ≡ left requests before.joined pending
   pub come : AllByRecursion (λ r. r.arrival ≤ before.now) (take joined requests)
   pub arrived : AllByRecursion (λ r. r.arrival ≤ before.now) waiting

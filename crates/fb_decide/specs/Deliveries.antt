@@ -18,7 +18,7 @@ use Rattle.fb_model.specs.Rides.{delivery, due, gap_of}
 use Rattle.fb_model.specs.History.{Past, finished, registered, same_block, wanted}
 use Rattle.fb_model.specs.Steps.{Delivery, with_delivery}
 use Rattle.fb_tasks.specs.Taken.{delivery_of}
-use Rattle.fb_tasks.specs.Telling.{Tells, IsSettled}
+use Rattle.fb_tasks.specs.Telling.{Tells, IsUpToDate}
 use Rattle.fb_plan.specs.declared.catching.Catch.{Catch}
 use Rattle.fb_decide.specs.declared.background.Background.{Background}
 
@@ -50,7 +50,7 @@ IsRegistered past block = (place : ℕ) × (slice_get (registered past) place �
 -- the sessions and the wanted set tell the history, and all of it was tested
 pub record IsCurrent (disk : Shape) (past : Past) (background : Background) : Type 0 where
   pub tells : Tells disk past background.sessions background.wanted
-  pub settled : IsSettled past
+  pub up_to_date : IsUpToDate past
 
 -- no two blocks are the same
 abbrev pub AreDistinct : List Block → Type 0

@@ -1,5 +1,5 @@
-pub mod Asked
-pub mod Turn
+pub mod RunInputs
+pub mod Start
 pub mod Contents
 pub mod Waiting
 pub mod Carried

@@ -51,7 +51,7 @@ impl Background {
             content,
         };
         self.sessions
-            .delivered(&mut self.wanted, got, &mut self.rows)
+            .deliver(&mut self.wanted, got, &mut self.rows)
     }
 
     /// Delivers these blocks one after another.

@@ -10,21 +10,21 @@ ghost use Rattle.fb_model.specs.History.{Past};
 ghost use Rattle.fb_model.specs.Steps.{Step, history, task_rows};
 ghost use Rattle.fb_model.specs.PlainReplay.{first_least};
 ghost use Rattle.fb_tasks.specs.Telling.{Tells};
-ghost use Rattle.fb_decide.specs.Asked.{inputs_of};
+ghost use Rattle.fb_decide.specs.RunInputs.{inputs_of};
 ghost use Rattle.fb_decide.specs.Waiting.{IsWaiting};
 ghost use Rattle.fb_decide.specs.Calls.{IsCalled};
 ghost use Rattle.fb_decide.specs.Deliveries.{IsCurrent};
 ghost use Rattle.fb_decide.specs.Deciding.{IsAtStart, IsReady, next_of, HasServedNext, HasStayed, HasActed, HasDecided};
 ghost use Rattle.fb_decide.specs.Making.{HasMade, HasMadeOne, RowFits};
 
-use crate::asked::Asked;
+use crate::run_inputs::RunInputs;
 use crate::background::Background;
 use crate::foreground::foreground;
 use crate::joining::join_arrived;
 use crate::requests::Requests;
 use crate::serving::serve_request;
 use crate::timing::disk_is_sound;
-use crate::turn::Turn;
+use crate::start::Start;
 use fb_calls::Calls;
 use fb_model::foreground_lists_ascend;
 use fb_plan::Planner;
@@ -76,19 +76,19 @@ impl<'a, Q: Queue> Decider<'a, Q> {
     /// A replay before its first decision.
     ///
     /// The queue must be new: empty, and never used. The only error is out of memory.
-    pub fn new(alloc: Global, asked: Asked<'a>, queue: Q) -> Result<Decider<'a, Q>, NoMemory>
+    pub fn new(alloc: Global, inputs: RunInputs<'a>, queue: Q) -> Result<Decider<'a, Q>, NoMemory>
         requires empty { Q.pending queue ≡ [] }
         requires fresh { Q.joined queue ≡ 0 }
-        requires accepted { IsAccepted (inputs_of asked Q.key) }
-        ensures made { IfOk result (λ decider. HasMade (inputs_of asked.entry Q.key) true [] decider.requests decider.course (Q.pending decider.queue) (Q.joined decider.queue)) }
+        requires accepted { IsAccepted (inputs_of inputs Q.key) }
+        ensures made { IfOk result (λ decider. HasMade (inputs_of inputs.entry Q.key) true [] decider.requests decider.course (Q.pending decider.queue) (Q.joined decider.queue)) }
         ensures no_fore { IfOk result (λ decider. decider.course.fore ≡ []) }
         ensures no_back { IfOk result (λ decider. decider.course.background.rows ≡ []) }
-        ensures serves { IfOk result (λ decider. Q.serves decider.queue asked.entry.disk.now) }
+        ensures serves { IfOk result (λ decider. Q.serves decider.queue inputs.entry.disk.now) }
     {
         foreground_lists_ascend();
-        disk_is_sound(asked.disk);
-        let requests = foreground(alloc, asked.trace.requests.as_slice(), asked.calls)?;
-        let course = at_start(alloc, asked.latent)?;
+        disk_is_sound(inputs.disk);
+        let requests = foreground(alloc, inputs.trace.requests.as_slice(), inputs.calls)?;
+        let course = at_start(alloc, inputs.latent)?;
         Ok(Decider {
             requests,
             queue,
@@ -98,25 +98,25 @@ impl<'a, Q: Queue> Decider<'a, Q> {
 
     /// Makes the next decision and adds its rows; returns whether another decision follows.
     ///
-    /// A request that is served has the best plan for its gap. What is asked must be the same at
+    /// A request that is served has the best plan for its gap. The inputs must be the same at
     /// each call, and what `new` was given. After it has returned `false` it must not be called
     /// again. The only error is out of memory, after which nothing is promised of the decider.
     pub fn decide<P: Planner>(
         &mut self,
         alloc: Global,
-        asked: Asked<'_>,
+        inputs: RunInputs<'_>,
         planner: &P,
     ) -> Result<bool, NoMemory>
-        requires made { (steps : List Step) × HasMade (inputs_of asked Q.key) true steps self.old.requests self.old.course (Q.pending self.old.queue) (Q.joined self.old.queue) }
-        requires serves { Q.serves self.old.queue asked.disk.now }
-        ensures decided { IfOk result (λ goes_on. (steps : List Step) → HasMade (inputs_of asked.entry Q.key) true steps self.old.requests self.old.course (Q.pending self.old.queue) (Q.joined self.old.queue)
-            → HasMadeOne (inputs_of asked.entry Q.key) steps goes_on self.old.requests self.old.course (Q.pending self.old.queue) self.new.course (Q.pending self.new.queue) (Q.joined self.new.queue)) }
+        requires made { (steps : List Step) × HasMade (inputs_of inputs Q.key) true steps self.old.requests self.old.course (Q.pending self.old.queue) (Q.joined self.old.queue) }
+        requires serves { Q.serves self.old.queue inputs.disk.now }
+        ensures decided { IfOk result (λ goes_on. (steps : List Step) → HasMade (inputs_of inputs.entry Q.key) true steps self.old.requests self.old.course (Q.pending self.old.queue) (Q.joined self.old.queue)
+            → HasMadeOne (inputs_of inputs.entry Q.key) steps goes_on self.old.requests self.old.course (Q.pending self.old.queue) self.new.course (Q.pending self.new.queue) (Q.joined self.new.queue)) }
         ensures requests { OnOk result (self.new.requests ≡ self.old.requests) }
-        ensures serves { OnOk result (Q.serves self.new.queue asked.entry.disk.now) }
+        ensures serves { OnOk result (Q.serves self.new.queue inputs.entry.disk.now) }
     {
         advance(
             alloc,
-            asked,
+            inputs,
             self.requests.as_slice(),
             planner,
             &mut self.queue,
@@ -197,61 +197,61 @@ fn at_start(alloc: Global, latent: &[u64]) -> Result<Course, NoMemory>
 // decision follows.
 fn advance<Q: Queue, P: Planner>(
     alloc: Global,
-    asked: Asked<'_>,
+    inputs: RunInputs<'_>,
     requests: &[Request],
     planner: &P,
     queue: &mut Q,
     course: &mut Course,
 ) -> Result<bool, NoMemory>
-    requires ready { IsReady asked.disk.now requests.now asked.calls.now.calls.items course.old (Q.joined queue.old) (Q.pending queue.old) }
-    requires serves { Q.serves queue.old asked.disk.now }
-    requires called { (past : Past) × IsCalled asked.disk.now.map asked.calls.now.calls.items past course.old.called × Tells asked.disk.now.map past course.old.background.sessions course.old.background.wanted }
-    ensures decided { IfOk result (λ goes_on. (past : Past) → IsCalled asked.entry.disk.now.map asked.entry.calls.now.calls.items past course.old.called
-        → Tells asked.entry.disk.now.map past course.old.background.sessions course.old.background.wanted
-        → HasDecided asked.entry.disk.now requests.now asked.entry.calls.now.calls.items Q.key asked.entry.until past course.old (Q.pending queue.old) goes_on course.new (Q.pending queue.new)) }
-    ensures waiting { IfOk result (λ goes_on. goes_on ≡ true → IsWaiting asked.entry.disk.now requests.now course.new.now course.new.joined (Q.joined queue.new) (Q.pending queue.new)) }
-    ensures serves { OnOk result (Q.serves queue.new asked.entry.disk.now) }
+    requires ready { IsReady inputs.disk.now requests.now inputs.calls.now.calls.items course.old (Q.joined queue.old) (Q.pending queue.old) }
+    requires serves { Q.serves queue.old inputs.disk.now }
+    requires called { (past : Past) × IsCalled inputs.disk.now.map inputs.calls.now.calls.items past course.old.called × Tells inputs.disk.now.map past course.old.background.sessions course.old.background.wanted }
+    ensures decided { IfOk result (λ goes_on. (past : Past) → IsCalled inputs.entry.disk.now.map inputs.entry.calls.now.calls.items past course.old.called
+        → Tells inputs.entry.disk.now.map past course.old.background.sessions course.old.background.wanted
+        → HasDecided inputs.entry.disk.now requests.now inputs.entry.calls.now.calls.items Q.key inputs.entry.until past course.old (Q.pending queue.old) goes_on course.new (Q.pending queue.new)) }
+    ensures waiting { IfOk result (λ goes_on. goes_on ≡ true → IsWaiting inputs.entry.disk.now requests.now course.new.now course.new.joined (Q.joined queue.new) (Q.pending queue.new)) }
+    ensures serves { OnOk result (Q.serves queue.new inputs.entry.disk.now) }
 {
     let now = course.now;
     course.called = course
         .background
-        .settle(asked.disk, asked.calls, course.called, now)?;
-    course.joined = join_arrived(asked.disk, requests, queue, course.joined, now)?;
-    act(alloc, asked, requests, planner, queue, course)
+        .prepare(inputs.disk, inputs.calls, course.called, now)?;
+    course.joined = join_arrived(inputs.disk, requests, queue, course.joined, now)?;
+    act(alloc, inputs, requests, planner, queue, course)
 }
 
 // Serves a request of those that wait, or, where none waits, lets the head stay until something
 // happens or the end is reached. Returns whether another decision follows.
 fn act<Q: Queue, P: Planner>(
     alloc: Global,
-    asked: Asked<'_>,
+    inputs: RunInputs<'_>,
     requests: &[Request],
     planner: &P,
     queue: &mut Q,
     course: &mut Course,
 ) -> Result<bool, NoMemory>
-    requires waiting { IsWaiting asked.disk.now requests.now course.old.now course.old.joined (Q.joined queue.old) (Q.pending queue.old) }
-    requires serves { Q.serves queue.old asked.disk.now }
-    requires head { IsTrackOf asked.disk.now.map course.old.head }
+    requires waiting { IsWaiting inputs.disk.now requests.now course.old.now course.old.joined (Q.joined queue.old) (Q.pending queue.old) }
+    requires serves { Q.serves queue.old inputs.disk.now }
+    requires head { IsTrackOf inputs.disk.now.map course.old.head }
     requires now { course.old.now ≤ 9 * 10 ^ 18 - 10 ^ 15 }
-    requires current { (past : Past) × IsCurrent asked.disk.now.map past course.old.background }
-    ensures acted { IfOk result (λ goes_on. HasActed asked.entry.disk.now Q.key asked.entry.until (next_of (slice_get requests.now course.old.joined) (slice_get asked.entry.calls.now.calls.items course.old.called))
+    requires current { (past : Past) × IsCurrent inputs.disk.now.map past course.old.background }
+    ensures acted { IfOk result (λ goes_on. HasActed inputs.entry.disk.now Q.key inputs.entry.until (next_of (slice_get requests.now course.old.joined) (slice_get inputs.entry.calls.now.calls.items course.old.called))
         (Q.pending queue.old) course.old goes_on (Q.pending queue.new) course.new) }
-    ensures waiting { IfOk result (λ goes_on. goes_on ≡ true → IsWaiting asked.entry.disk.now requests.now course.new.now course.new.joined (Q.joined queue.new) (Q.pending queue.new)) }
-    ensures serves { OnOk result (Q.serves queue.new asked.entry.disk.now) }
+    ensures waiting { IfOk result (λ goes_on. goes_on ≡ true → IsWaiting inputs.entry.disk.now requests.now course.new.now course.new.joined (Q.joined queue.new) (Q.pending queue.new)) }
+    ensures serves { OnOk result (Q.serves queue.new inputs.entry.disk.now) }
 {
     if !queue.is_empty() {
-        serve_next(alloc, asked.disk, planner, queue, course)?;
+        serve_next(alloc, inputs.disk, planner, queue, course)?;
         return Ok(true);
     }
-    match next_instant(requests, asked.calls, course.joined, course.called) {
+    match next_instant(requests, inputs.calls, course.joined, course.called) {
         Some(instant) => {
-            stay_until(alloc, asked.disk, course, instant)?;
+            stay_until(alloc, inputs.disk, course, instant)?;
             Ok(true)
         }
         None => {
-            if course.now < asked.until {
-                stay_until(alloc, asked.disk, course, asked.until)?;
+            if course.now < inputs.until {
+                stay_until(alloc, inputs.disk, course, inputs.until)?;
             }
             Ok(false)
         }
@@ -290,9 +290,9 @@ fn serve_next<Q: Queue, P: Planner>(
     ensures serves { OnOk result (Q.serves queue.new disk.now) }
 {
     let request = queue.take(disk, course.head, course.now);
-    let turn = Turn {
+    let start = Start {
         head: course.head,
-        start: course.now,
+        instant: course.now,
         request,
     };
     let serving = serve_request(
@@ -301,7 +301,7 @@ fn serve_next<Q: Queue, P: Planner>(
         planner,
         &mut course.store,
         &mut course.background,
-        turn,
+        start,
     )?;
     course.head = serving.head;
     course.now = serving.row.finish;

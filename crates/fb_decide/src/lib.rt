@@ -7,19 +7,19 @@
 //! their traits. After an error of `decide` nothing is promised of its decider.
 #![tactic(auto)]
 
-mod asked;
 mod background;
 mod deciding;
 mod foreground;
 mod full_runs;
 mod joining;
+mod preparing;
 mod requests;
 mod riding;
+mod run_inputs;
 mod serving;
-mod settling;
+mod start;
 mod timing;
-mod turn;
 
-pub use asked::Asked;
 pub use deciding::{Decider, Rows};
 pub use full_runs::decisions_make_a_run;
+pub use run_inputs::RunInputs;

@@ -2,17 +2,18 @@
 ghost use Rattle.std.specs.Prelude.{◌≡◌, ◌==◌, ◌∷◌, [], ◌+◌, ◌*◌, ◌≤◌, ◌<◌, ◌^◌, find, OnOk, IfOk};
 ghost use Rattle.std.specs.List.{AllByRecursion};
 ghost use Rattle.fb_service.specs.Extents.{all_passages_of, IsUnbroken};
+ghost use Rattle.fb_model.specs.Blocks.{IsBlockOn};
 ghost use Rattle.fb_model.specs.History.{Past, wanted};
 ghost use Rattle.fb_model.specs.Rides.{lies_in, rides};
 ghost use Rattle.fb_wanted.specs.States.{on_track, wanted_of};
 ghost use Rattle.fb_plan.specs.Order.{in_order};
-ghost use Rattle.fb_plan.specs.Ways.{AreOnDisk, FitsDisk};
+ghost use Rattle.fb_plan.specs.Ways.{AreOnDisk};
 ghost use Rattle.fb_decide.specs.Carried.{added, carried_of, ride_of, begins_in, AreExtents, AreLaid};
 ghost use Rattle.fb_decide.specs.Deliveries.{IsCurrent, HasDelivered, AreDistinct, held_now};
-ghost use Rattle.fb_decide.specs.Turn.{IsTurnOn, served_in};
+ghost use Rattle.fb_decide.specs.Start.{IsStartOn, served_in};
 
 use crate::background::Background;
-use crate::turn::Turn;
+use crate::start::Start;
 use fb_plan::{Catch, put_in_order};
 use fb_rows::How;
 use fb_service::{Disk, Extent, Passage, nth_passage};
@@ -30,21 +31,21 @@ impl Background {
         alloc: Global,
         disk: &Disk,
         store: &Store,
-        turn: Turn,
+        start: Start,
         extents: &[Extent],
     ) -> Result<(), NoMemory>
         requires current { (past : Past) × IsCurrent disk.now.map past self.old }
-        requires turn { IsTurnOn disk.now turn }
-        requires passages { all_passages_of disk.now.map extents.now ≡ (served_in disk.now turn).passages }
+        requires start { IsStartOn disk.now start }
+        requires passages { all_passages_of disk.now.map extents.now ≡ (served_in disk.now start).passages }
         requires unbroken { AllByRecursion (IsUnbroken disk.now.map) extents.now }
         requires early { AllByRecursion (λ extent. extent.begin ≤ 10 ^ 19) extents.now }
         ensures { OnOk result ((past : Past) → IsCurrent disk.now.map past self.old
-            → HasDelivered disk.now.map past (rides (held_now store.now) (served_in disk.now turn) (wanted past)) self.old.rows self.new) }
+            → HasDelivered disk.now.map past (rides (held_now store.now) (served_in disk.now start) (wanted past)) self.old.rows self.new) }
     {
-        if turn.request.write {
+        if start.request.write {
             return Ok(());
         }
-        let catches = carried(alloc, disk, &self.wanted, turn.request, extents)?;
+        let catches = carried(alloc, disk, &self.wanted, start.request, extents)?;
         self.deliver_all(alloc, store, How::Ride, catches.as_slice())
     }
 }
@@ -110,7 +111,7 @@ fn add_ride(
     requires extents { AreExtents disk.now.map extents.now }
     requires extent { extent.now.first + extent.now.count ≤ 10 ^ 12 }
     requires request { request.lbn + request.count ≤ 10 ^ 12 }
-    requires block { FitsDisk disk.now block }
+    requires block { IsBlockOn disk.now.map block }
     ensures { OnOk result (found.new.items
         ≡ added (all_passages_of disk.now.map extents.now) extent.now request found.old.items (block ∷ [])) }
 {

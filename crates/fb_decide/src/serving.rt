@@ -15,10 +15,10 @@ ghost use Rattle.fb_plan.specs.Ways.{IsGap};
 ghost use Rattle.fb_tasks.specs.Telling.{Tells};
 ghost use Rattle.fb_decide.specs.Contents.{found_in, left_by, IsRowOf};
 ghost use Rattle.fb_decide.specs.Deliveries.{IsCurrent, HasDelivered, HasPassed, HasServed, held_now, past_with};
-ghost use Rattle.fb_decide.specs.Turn.{IsTurnOn, served_in};
+ghost use Rattle.fb_decide.specs.Start.{IsStartOn, served_in};
 
 use crate::background::Background;
-use crate::turn::Turn;
+use crate::start::Start;
 use fb_plan::{Planner, dwells};
 use fb_rows::{BackRow, ForeRow, Gap, GapRow, How};
 use fb_service::{Access, Disk, serve};
@@ -47,7 +47,7 @@ struct Passing {
     head: Track,
 }
 
-/// Serves a request in its turn.
+/// Serves a request from its start on.
 ///
 /// The only error is out of memory.
 pub fn serve_request<P: Planner>(
@@ -56,30 +56,30 @@ pub fn serve_request<P: Planner>(
     planner: &P,
     store: &mut Store,
     background: &mut Background,
-    turn: Turn,
+    start: Start,
 ) -> Result<Serving, NoMemory>
-    requires turn { IsTurnOn disk.now turn }
+    requires start { IsStartOn disk.now start }
     requires current { (past : Past) × IsCurrent disk.now.map past background.old }
-    ensures row { IfOk result (λ serving. IsRowOf store.old (served_in disk.now turn) serving.row) }
-    ensures leaves { OnOk result ((lbn : ℕ) → content_in store.new lbn ≡ left_by turn.request lbn (content_in store.old lbn)) }
-    ensures head { IfOk result (λ serving. serving.head ≡ last_track disk.now (served_in disk.now turn)) }
+    ensures row { IfOk result (λ serving. IsRowOf store.old (served_in disk.now start) serving.row) }
+    ensures leaves { OnOk result ((lbn : ℕ) → content_in store.new lbn ≡ left_by start.request lbn (content_in store.old lbn)) }
+    ensures head { IfOk result (λ serving. serving.head ≡ last_track disk.now (served_in disk.now start)) }
     ensures on_disk { IfOk result (λ serving. IsTrackOf disk.now.map serving.head) }
-    ensures each { OnOk result (AllByRecursion (λ passage. passage.begin < passage.end) (served_in disk.now turn).passages) }
-    ensures later { IfOk result (λ serving. turn.start < serving.row.finish) }
-    ensures soon { IfOk result (λ serving. serving.row.finish ≤ turn.start + 2048 * (4 * 10 ^ 9)) }
+    ensures each { OnOk result (AllByRecursion (λ passage. passage.begin < passage.end) (served_in disk.now start).passages) }
+    ensures later { IfOk result (λ serving. start.instant < serving.row.finish) }
+    ensures soon { IfOk result (λ serving. serving.row.finish ≤ start.instant + 2048 * (4 * 10 ^ 9)) }
     ensures served { OnOk result ((past : Past) → IsCurrent disk.now.map past background.old
-        → HasServed disk.now store.old past (served_in disk.now turn) background.old.rows background.new) }
+        → HasServed disk.now store.old past (served_in disk.now start) background.old.rows background.new) }
 {
-    let request = turn.request;
-    let passing = background.deliver_around(alloc, disk, planner, store, turn)?;
+    let request = start.request;
+    let passing = background.deliver_around(alloc, disk, planner, store, start)?;
     let content = found(alloc, store, request)?;
     let bad = content.bad() as u32;
-    leave(store, request)?;
+    write_sectors(store, request)?;
     background.finish(request);
     Ok(Serving {
         row: ForeRow {
             request,
-            start: turn.start,
+            start: start.instant,
             media: passing.media,
             finish: passing.finish,
             bad,
@@ -98,38 +98,38 @@ impl Background {
         disk: &Disk,
         planner: &P,
         store: &Store,
-        turn: Turn,
+        start: Start,
     ) -> Result<Passing, NoMemory>
-        requires turn { IsTurnOn disk.now turn }
+        requires start { IsStartOn disk.now start }
         requires current { (past : Past) × IsCurrent disk.now.map past self.old }
-        ensures media { IfOk result (λ passing. passing.media ≡ media (served_in disk.now turn)) }
-        ensures finish { IfOk result (λ passing. passing.finish ≡ finish (served_in disk.now turn)) }
-        ensures head { IfOk result (λ passing. passing.head ≡ last_track disk.now (served_in disk.now turn)) }
+        ensures media { IfOk result (λ passing. passing.media ≡ media (served_in disk.now start)) }
+        ensures finish { IfOk result (λ passing. passing.finish ≡ finish (served_in disk.now start)) }
+        ensures head { IfOk result (λ passing. passing.head ≡ last_track disk.now (served_in disk.now start)) }
         ensures on_disk { IfOk result (λ passing. IsTrackOf disk.now.map passing.head) }
-        ensures each { OnOk result (AllByRecursion (λ passage. passage.begin < passage.end) (served_in disk.now turn).passages) }
-        ensures later { IfOk result (λ passing. turn.start < passing.finish) }
-        ensures soon { IfOk result (λ passing. passing.finish ≤ turn.start + turn.request.count * (4 * 10 ^ 9)) }
+        ensures each { OnOk result (AllByRecursion (λ passage. passage.begin < passage.end) (served_in disk.now start).passages) }
+        ensures later { IfOk result (λ passing. start.instant < passing.finish) }
+        ensures soon { IfOk result (λ passing. passing.finish ≤ start.instant + start.request.count * (4 * 10 ^ 9)) }
         ensures delivered { OnOk result ((past : Past) → IsCurrent disk.now.map past self.old
-            → HasPassed disk.now store.now past (served_in disk.now turn) self.old.rows self.new) }
+            → HasPassed disk.now store.now past (served_in disk.now start) self.old.rows self.new) }
     {
-        let request = turn.request;
+        let request = start.request;
         let access = Access {
             lbn: request.lbn,
             count: request.count,
             write: request.write,
         };
-        let service = serve(alloc, disk, turn.head, turn.start, access)?;
+        let service = serve(alloc, disk, start.head, start.instant, access)?;
         let gap = Gap {
-            source: turn.head,
+            source: start.head,
             target: disk.map.place(request.lbn).track,
-            now: turn.start,
+            now: start.instant,
             deadline: service.media,
             write: request.write,
         };
         let plan = planner.best(disk, &self.wanted, &gap);
         let name = request.name;
         self.pass(alloc, disk, store, GapRow { name, gap, plan })?;
-        self.ride(alloc, disk, store, turn, service.extents.as_slice())?;
+        self.ride(alloc, disk, store, start, service.extents.as_slice())?;
         Ok(Passing {
             media: service.media,
             finish: service.finish,
@@ -187,7 +187,7 @@ fn found(alloc: Global, store: &Store, request: Request) -> Result<Contents, NoM
 }
 
 // Leaves on the disk what the request writes. The only error is out of memory.
-fn leave(store: &mut Store, request: Request) -> Result<(), NoMemory>
+fn write_sectors(store: &mut Store, request: Request) -> Result<(), NoMemory>
     requires { request.lbn + request.count ≤ 10 ^ 12 }
     ensures { OnOk result ((lbn : ℕ) → content_in store.new lbn ≡ left_by request lbn (content_in store.old lbn)) }
 {

@@ -7,10 +7,10 @@ use Rattle.fb_detour.proofs.Ceilings.{if-le, if-le-n}
 use Rattle.fb_detour.proofs.Offers.{bound-more, small-sum, within-more}
 
 -- no instant lies in an earlier bin than an earlier one does
-pub no_earlier_bin : (begin fine a b : ℕ) → 0 < fine → a ≤ b → bin_at begin fine a ≤ bin_at begin fine b
-no_earlier_bin begin fine a b some le =
-    let past = (a - begin) / fine in
-    omega (arith, le-div past (b - begin) fine some (omega (arith, div-mul-le_self (a - begin) fine, le)))
+pub no_earlier_bin : (begin bin_length a b : ℕ) → 0 < bin_length → a ≤ b → bin_at begin bin_length a ≤ bin_at begin bin_length b
+no_earlier_bin begin bin_length a b some le =
+    let past = (a - begin) / bin_length in
+    omega (arith, le-div past (b - begin) bin_length some (omega (arith, div-mul-le_self (a - begin) bin_length, le)))
 
 -- no worth, no sum
 pub no_sum : (m n : ℕ) → sum_of_first n (replicate m 0) ≡ 0

@@ -3,7 +3,7 @@ use Rattle.fb_detour.proofs.Words.{Bool, List, Some, [], ap, arith, false, get_o
 use Rattle.fb_detour.proofs.Words.{suc, take, true, ℕ, ◌*◌, ◌+◌, ◌<◌, ◌∙◌, ◌∷◌, ◌≡◌, ◌≤◌, cases_Bool, cases_lt, nat_tests, take_all}
 use Rattle.fb_detour.proofs.Words.{sum_by-cons, sum_by-le-sum_by, sum_by-take-le, sum_by_more, AllByRecursion, sum_by, same_track, Sweep}
 use Rattle.fb_detour.proofs.Words.{Disk, is_wanted, on_track, wanted_of, Block, Entry, Offer, Dwell, Gap, next-le, added, end_of, passes_by}
-use Rattle.fb_detour.proofs.Words.{FitsDisk, Turning, IsReady, IsStop, late_gain, stay_gain, turned_to, stay, Stop}
+use Rattle.fb_detour.proofs.Words.{IsBlockOn, Turning, IsReady, IsStop, late_gain, stay_gain, turned_to, stay, Stop}
 use Rattle.fb_plan.proofs.Gains.{in_filter}
 use Rattle.fb_plan.proofs.Swept.{end-by-sweep}
 use Rattle.fb_detour.proofs.Ceilings.{if-le-n, worth}
@@ -32,7 +32,7 @@ module _ (disk : Disk) (dwell : Dwell) where
   abbrev by_sweep : Block → ℕ
   by_sweep b = if nat_le (end_of disk.map.rotation b.sweep dwell.begin) dwell.end then worth b else 0
 
-  on_its_track : (e : Entry) → FitsDisk disk e.block → same_track dwell.track e.block.track ≡ true
+  on_its_track : (e : Entry) → IsBlockOn disk.map e.block → same_track dwell.track e.block.track ≡ true
       → stay_gain disk dwell e ≡ (if is_wanted e.state then by_sweep e.block else 0)
   on_its_track e fits same = elim (cases_Bool (is_wanted e.state)) [
     | inl y ↦ rw (y, same, end-by-sweep disk e.block dwell.begin fits) refl

@@ -3,7 +3,7 @@ use Rattle.fb_detour.proofs.Words.{List, Some, ap, arith, if◌then◌else◌, i
 use Rattle.fb_detour.proofs.Words.{◌*◌, ◌+◌, ◌-◌, ◌/◌, ◌<◌, ◌∙◌, ◌≡◌, ◌≤◌, div-mul-le_self, and_parts, cases_Bool, leb-true}
 use Rattle.fb_detour.proofs.Words.{sum_by-le-sum_by, le-div, slice_get-get_or, same_track, Place, Track, places, Shape, slots_at}
 use Rattle.fb_detour.proofs.Words.{HasOwnPlaces, IsSound, IsAt, place_at, same_tracks, begin_from, Disk, depth_at, is_wanted, on_track}
-use Rattle.fb_detour.proofs.Words.{Entry, block_end, catches, AreOnDisk, FitsDisk, early_to, slots_within, stay_gain, stay}
+use Rattle.fb_detour.proofs.Words.{Entry, block_end, catches, AreOnDisk, IsBlockOn, early_to, slots_within, stay_gain, stay}
 use Rattle.fb_geometry.proofs.Laws.{all-filter}
 use Rattle.fb_detour.proofs.Ceilings.{if-le-n}
 use Rattle.fb_detour.proofs.Counted.{no_more}
@@ -46,7 +46,7 @@ module _ (disk : Disk) (track : Track) (from upto : ℕ) where
   few e = if-le-n (is_wanted e.state && catches disk (early_to track from upto) e.block) e.block.count
 
   module _ (sound : IsSound disk.map) where
-    in_passing : (e : Entry) → FitsDisk disk e.block → catches disk (early_to track from upto) e.block ≡ true → (i : ℕ)
+    in_passing : (e : Entry) → IsBlockOn disk.map e.block → catches disk (early_to track from upto) e.block ≡ true → (i : ℕ)
         → i < e.block.count → Passes (e.block.lbn + i)
     in_passing e fits caught' i inside =
         let both = and_parts (same_track track e.block.track) (nat_le (block_end disk.map e.block from) upto) caught' in
@@ -62,7 +62,7 @@ module _ (disk : Disk) (track : Track) (from upto : ℕ) where
           );
         }
 
-    each_passes : (e : Entry) → FitsDisk disk e.block → (i : ℕ) → i < caught e → Passes (e.block.lbn + i)
+    each_passes : (e : Entry) → IsBlockOn disk.map e.block → (i : ℕ) → i < caught e → Passes (e.block.lbn + i)
     unfolding caught
     each_passes e fits i = elim (cases_Bool (is_wanted e.state && catches disk (early_to track from upto) e.block)) [
       | inl yes' ↦ rw yes' (in_passing e fits (and_parts (is_wanted e.state) (catches disk (early_to track from upto) e.block) yes').1 i)

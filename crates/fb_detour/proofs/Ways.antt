@@ -4,7 +4,7 @@ use Rattle.fb_detour.proofs.Words.{mod-lt, mul-le, mul-le-mul_right, cases_lt, d
 use Rattle.fb_detour.proofs.Words.{Entry, Dwell, Gap, Detour, IsPlan, early_dwell, late_dwell, bounds, arrival, early_track, move_on}
 use Rattle.fb_detour.proofs.Words.{plan_by, Scored, Way, Over, Source, AreBins, IsBounded, IsStop, bin_at, IsDetourIn, IsEnough, IsFound}
 use Rattle.fb_detour.proofs.Words.{IsLate, IsNoWorseIn, IsReach, early_to, late_gain, late_most, offered, part_at, value_in, stay, Bins}
-use Rattle.fb_detour.proofs.Words.{Search, LateParts, Stop}
+use Rattle.fb_detour.proofs.Words.{AreSmallSums, Search, LateParts, Stop}
 use Rattle.fb_detour.specs.declared.steps.Reach.{Reach}
 use Rattle.fb_detour.proofs.Arrays.{over_all}
 use Rattle.fb_detour.proofs.Ceilings.{longer_stay, two_stays, weight_of_stay}
@@ -141,14 +141,13 @@ module _ (search : Search) where
   module _ (way : Way) (bins : Bins) (stop target : Stop) where
     -- what bounds each of its two stays bounds a plan
     pub are_bins : IsStop disk (on_track (early_track gap way) entries) stop → IsStop disk (on_track gap.target entries) target
-        → 0 < bins.leaves.now.fine → bins.leaves.now.begin ≡ stop.passing.from → stop.passing.from ≡ arrival disk gap way
-        → bins.leaves.now.on ≡ move_on disk gap way
-        → ((k : ℕ) → k < 16384 → get_or bins.early.now k 0 ≤ 16000000 * 2048000)
-        → ((k : ℕ) → k < 16384 → get_or bins.late.now k 0 ≤ 16000000 * 2048000)
-        → ((leave : ℕ) → offered stop leave ≤ get_or bins.early.now (bin_at bins.leaves.now.begin bins.leaves.now.fine leave) 0)
+        → 0 < bins.leaves.now.bin_length → bins.leaves.now.begin ≡ stop.passing.from → stop.passing.from ≡ arrival disk gap way
+        → bins.leaves.now.move_on ≡ move_on disk gap way
+        → AreSmallSums bins.early.now 16384 → AreSmallSums bins.late.now 16384
+        → ((leave : ℕ) → offered stop leave ≤ get_or bins.early.now (bin_at bins.leaves.now.begin bins.leaves.now.bin_length leave) 0)
         → ((leave : ℕ) → bins.leaves.now.begin ≤ leave → IsBounded bins.leaves.now leave
-        → sum_by (late_gain target.passing gap (leave + bins.leaves.now.on)) target.offers.now
-        ≤ get_or bins.late.now (16383 - bin_at bins.leaves.now.begin bins.leaves.now.fine leave) 0)
+        → sum_by (late_gain target.passing gap (leave + bins.leaves.now.move_on)) target.offers.now
+        ≤ get_or bins.late.now (16383 - bin_at bins.leaves.now.begin bins.leaves.now.bin_length leave) 0)
         → AreBins search way bins
     are_bins its ends some begin arrive on small_early small_late early late = record {
       some = some;
@@ -159,9 +158,9 @@ module _ (search : Search) where
           let from = stop.passing.from in
           omega (
             arith,
-            by_interval way leave from leave (leave + bins.leaves.now.on) arrive (omega arith) (omega (arith, on)),
+            by_interval way leave from leave (leave + bins.leaves.now.move_on) arrive (omega arith) (omega (arith, on)),
             gives disk (early_to (early_track gap way) from leave) entries stop its,
-            gives disk (late_most gap (leave + bins.leaves.now.on)) entries target ends,
+            gives disk (late_most gap (leave + bins.leaves.now.move_on)) entries target ends,
             early leave,
             late leave (omega (arith, on_time, begin, arrive)) noted,
           );

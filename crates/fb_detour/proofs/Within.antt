@@ -5,7 +5,7 @@ use Rattle.fb_detour.proofs.Words.{mul-add-mod_self_right, and_parts, cases_lt, 
 use Rattle.fb_detour.proofs.Words.{wait_least, same_track, wait, Place, Track, slot_begin, places, IsTrackOf, Shape, offset_at, slots_at}
 use Rattle.fb_detour.proofs.Words.{turn_position, IsSound, neighbour, track_at, place_at, same_tracks, in-turn, later-after, over}
 use Rattle.fb_detour.proofs.Words.{slot-is, within-turn, begin_angle, end_angle, turned, begin_from, Disk, Block, block_end, next-le}
-use Rattle.fb_detour.proofs.Words.{FitsDisk}
+use Rattle.fb_detour.proofs.Words.{IsBlockOn}
 use Rattle.fb_sectormap.proofs.ByCylinder.{has_place}
 use Rattle.fb_sectormap.proofs.Turns.{offset-below}
 use Rattle.fb_sectormap.specs.Cutting.{IsOneTurn, is_later}
@@ -88,7 +88,7 @@ rises disk lbn count one i (suc m) le inside = elim (cases_lt m i) [
 ]
 
 -- a block's sectors are on its track
-pub its_track : (disk : Disk) (block : Block) (i : ℕ) → FitsDisk disk block → i < block.count
+pub its_track : (disk : Disk) (block : Block) (i : ℕ) → IsBlockOn disk.map block → i < block.count
     → (place_at disk.map (block.lbn + i)).track ≡ block.track
 its_track disk block i fits inside =
     let on = rises disk.map block.lbn block.count fits.one_turn 0 i (omega arith) inside in
@@ -212,7 +212,7 @@ module _ (disk : Shape) (sound : IsSound disk) (lbn count from : ℕ) (some : 0 
       omega (arith, begins i (omega arith), ends last inside, more, later-after disk.rotation slots some-slots short slot (behind i))
 
 -- each sector of a block that has passed by then has begun to pass before, by the least length of a slot
-pub sectors_pass : (disk : Disk) (block : Block) (from upto i : ℕ) → IsSound disk.map → FitsDisk disk block → i < block.count
+pub sectors_pass : (disk : Disk) (block : Block) (from upto i : ℕ) → IsSound disk.map → IsBlockOn disk.map block → i < block.count
     → block_end disk.map block from ≤ upto
     → begin_from disk.map (place_at disk.map (block.lbn + i)) from + disk.map.rotation / slots_at disk.map.zones block.track.cylinder ≤ upto
 sectors_pass disk block from upto i sound fits inside ended =

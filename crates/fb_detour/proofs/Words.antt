@@ -41,17 +41,18 @@ pub use Rattle.fb_rows.specs.declared.gap.Dwell.{Dwell}
 pub use Rattle.fb_rows.specs.declared.gap.Gap.{Gap}
 pub use Rattle.fb_rows.specs.declared.gap.Plan.{Plan}
 pub use Rattle.fb_rows.specs.declared.gap.Plan.TheVariants.{Detour, Direct}
+pub use Rattle.fb_model.specs.Blocks.{IsBlockOn}
 pub use Rattle.fb_model.specs.Plans.{IsBest, IsNoLater, IsPlan, IsTrackBefore, block_end, catches, early_dwell, late_dwell, value}
 pub use Rattle.fb_plan.proofs.Ends.{end-le, next-le, wait-rest}
 pub use Rattle.fb_plan.proofs.Offered.{offers-in-turn}
 pub use Rattle.fb_plan.proofs.Passed.{AreTried, bounds, offers-more, tracks-more, way_done}
 pub use Rattle.fb_plan.specs.Turns.{added, begin_of, end_of, passes_by}
-pub use Rattle.fb_plan.specs.Ways.{AreOnDisk, FitsDisk, IsGap, arrival, early_track, gain, move_on, plan_by}
+pub use Rattle.fb_plan.specs.Ways.{AreOnDisk, IsGap, arrival, early_track, gain, move_on, plan_by}
 pub use Rattle.fb_plan.specs.declared.choice.Scored.{Scored}
 pub use Rattle.fb_plan.specs.declared.turning.Turning.{Turning}
 pub use Rattle.fb_plan.specs.declared.way.Way.{Way}
 pub use Rattle.fb_plan.specs.declared.way.Way.TheVariants.{Over, Source}
-pub use Rattle.fb_detour.specs.Bounds.{AreBins, AreLeaves, AreTooLate, IsBounded, IsTrial, bin_at, bin_ceiling}
+pub use Rattle.fb_detour.specs.Bounds.{AreBins, AreLeaves, AreSmallSums, AreTooLate, IsBounded, IsTrial, bin_at, bin_ceiling}
 pub use Rattle.fb_detour.specs.Bounds.{AreNotes, IsAhead, IsCeiling, IsDetourIn, IsEnough, IsFound, IsKey, IsLate, IsNoBetter, IsNoWorseIn}
 pub use Rattle.fb_detour.specs.Bounds.{IsNoWorseThanTrack, IsNoWorseThanTracks, IsReach, IsReady, IsStop, distance_to, early_to, late_gain}
 pub use Rattle.fb_detour.specs.Bounds.{late_most, late_step, missed, offered, part_at, slots_within, stay_gain, sum_of_first, turned_to}

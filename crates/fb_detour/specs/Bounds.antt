@@ -75,13 +75,17 @@ early_to track arrive upto = record { track = track; begin = arrive; end = upto 
 abbrev pub part_at : LateParts → ℕ → ℕ
 part_at late from = get_or late.parts (min ((from - late.begin) / late.step) 31) 0
 
+-- each of the first numbers, so many, is at most what all registered blocks can be worth together
+abbrev pub AreSmallSums : List ℕ → ℕ → Type 0
+AreSmallSums numbers count = (k : ℕ) → k < count → get_or numbers k 0 ≤ 16000000 * 2048000
+
 -- each part bounds what the target can still give from the beginning of that part on, and from its limit on;
 -- from the last limit on it gives nothing
 pub record IsLate (disk : Disk) (gap : Gap) (entries : List Entry) (late : LateParts) : Type 0 where
   pub some : 0 < late.step
   pub from_now : late.begin ≤ gap.now
   pub each : (k : ℕ) → k < 32 → stay disk (late_most gap (late.begin + k * late.step)) entries ≤ get_or late.parts k 0
-  pub small : (k : ℕ) → k < 32 → get_or late.parts k 0 ≤ 16000000 * 2048000
+  pub small : AreSmallSums late.parts 32
   pub start : get_or late.limits 0 0 ≡ gap.now
   pub limits : (k : ℕ) → k < 32 → stay disk (late_most gap (get_or late.limits k 0)) entries ≤ get_or late.parts k 0
   pub end : stay disk (late_most gap (get_or late.limits 32 0)) entries ≡ 0
@@ -137,40 +141,40 @@ pub record AreCeilings (search : Search) (way : Way) (ceilings : Ceilings) : Typ
       search.wanted.now ≤ get_or ceilings.early k 0
   pub upto : search.gap.now.deadline < ceilings.begin + ceilings.move_on + 16 * ceilings.step
   pub close : ceilings.begin + ceilings.move_on + 16 * ceilings.step ≤ search.gap.now.deadline + 16
-  pub small : (k : ℕ) → k < 16 → get_or ceilings.early k 0 ≤ 16000000 * 2048000
+  pub small : AreSmallSums ceilings.early 16
   pub most : (leave : ℕ) → IsPlan search.disk.now search.gap.now (plan_by way leave)
       → value_in search (plan_by way leave) ≤ ceiling_at ceilings leave
 
 -- the bin in which an instant lies, by when the first one begins and how long each is; the last one has no end
 abbrev pub bin_at : ℕ → ℕ → ℕ → ℕ
-bin_at begin fine instant = min ((instant - begin) / fine) 16383
+bin_at begin bin_length instant = min ((instant - begin) / bin_length) 16383
 
 -- bins have a length, and the head that leaves the track on arrival comes there and to the target within the gap
 pub record AreLeaves (search : Search) (leaves : Leaves) : Type 0 where
-  pub some : 0 < leaves.fine
+  pub some : 0 < leaves.bin_length
   pub after : search.gap.now.now ≤ leaves.begin
-  pub in_time : leaves.begin + leaves.on ≤ search.gap.now.deadline
+  pub in_time : leaves.begin + leaves.move_on ≤ search.gap.now.deadline
 
 -- the leave is no earlier than the first one in its bin, so that the bin's bounds hold for it
 abbrev pub IsBounded : Leaves → ℕ → Type 0
-IsBounded leaves leave = get_or leaves.firsts.now (bin_at leaves.begin leaves.fine leave) 0 ≤ leave
+IsBounded leaves leave = get_or leaves.firsts.now (bin_at leaves.begin leaves.bin_length leave) 0 ≤ leave
 
 -- the last bins, so many, have no leave from which the head still catches what passes so at the target
 abbrev pub AreTooLate : Search → Turning → Leaves → Sweep → ℕ → Type 0
 AreTooLate search target leaves sweep bins = (leave : ℕ) → leaves.begin ≤ leave → IsBounded leaves leave
-    → passes_by (turned_to target (leave + leaves.on)) search.gap.now.deadline sweep ≡ true
-    → bins + bin_at leaves.begin leaves.fine leave < 16384
+    → passes_by (turned_to target (leave + leaves.move_on)) search.gap.now.deadline sweep ≡ true
+    → bins + bin_at leaves.begin leaves.bin_length leave < 16384
 
 -- what the track and the target give at most to a head that leaves in the instant's bin
 abbrev pub bin_ceiling : Bins → ℕ → ℕ
-bin_ceiling bins leave = get_or bins.early.now (bin_at bins.leaves.now.begin bins.leaves.now.fine leave) 0
-    + get_or bins.late.now (16383 - bin_at bins.leaves.now.begin bins.leaves.now.fine leave) 0
+bin_ceiling bins leave = get_or bins.early.now (bin_at bins.leaves.now.begin bins.leaves.now.bin_length leave) 0
+    + get_or bins.late.now (16383 - bin_at bins.leaves.now.begin bins.leaves.now.bin_length leave) 0
 
 -- no plan of the way is worth more than the ceiling of its bin, if it leaves no earlier than that bin's first leave
 pub record AreBins (search : Search) (way : Way) (bins : Bins) : Type 0 where
-  pub some : 0 < bins.leaves.now.fine
-  pub early : (k : ℕ) → k < 16384 → get_or bins.early.now k 0 ≤ 16000000 * 2048000
-  pub late : (k : ℕ) → k < 16384 → get_or bins.late.now k 0 ≤ 16000000 * 2048000
+  pub some : 0 < bins.leaves.now.bin_length
+  pub early : AreSmallSums bins.early.now 16384
+  pub late : AreSmallSums bins.late.now 16384
   pub most : (leave : ℕ) → IsPlan search.disk.now search.gap.now (plan_by way leave) → IsBounded bins.leaves.now leave
       → value_in search (plan_by way leave) ≤ bin_ceiling bins leave
 
@@ -205,6 +209,10 @@ pub record IsStop (disk : Disk) (blocks : List Entry) (stop : Stop) : Type 0 whe
   pub its : AreOffers stop.offers.now blocks
   pub on_disk : AreOnDisk disk blocks
   pub passing : IsTurning disk stop.passing
+
+-- the stop is that of the early dwell of plans of the way
+abbrev pub IsStopOf : Search → Way → Stop → Type 0
+IsStopOf search way stop = IsStop search.disk.now (on_track (early_track search.gap.now way) search.wanted.now) stop
 
 -- what a stop gives to a head that stays up to an instant
 abbrev pub offered : Stop → ℕ → ℕ
@@ -256,7 +264,7 @@ AreRated search from end rate = (track : Track) → from ≤ track.cylinder → 
 -- no detour over the track reaches the target earlier, nor is more caught on the track in each nanosecond
 abbrev pub IsReach : Search → Track → Reach → Type 0
 IsReach search track reach =
-    (reach.back ≤ arrival search.disk.now search.gap.now (Over track) + move_on search.disk.now search.gap.now (Over track))
+    (reach.at_target ≤ arrival search.disk.now search.gap.now (Over track) + move_on search.disk.now search.gap.now (Over track))
     × IsRate search.disk.now search.wanted.now track reach.rate
 
 -- no detour over a track of these cylinders is worth more

@@ -5,7 +5,7 @@ ghost use Rattle.std.specs.List.{sum_by};
 ghost use Rattle.fb_wanted.specs.States.{on_track};
 ghost use Rattle.fb_plan.specs.Turns.{IsInTurn, IsTurning};
 ghost use Rattle.fb_detour.specs.Bounds.{bin_at, bin_ceiling, late_gain, offered, AreLeaves, AreTooLate, IsBounded, IsReady, IsSearch};
-ghost use Rattle.fb_detour.specs.Bounds.{IsStop};
+ghost use Rattle.fb_detour.specs.Bounds.{AreSmallSums, IsStop};
 
 use crate::given::Search;
 use crate::parts::{add_at, add_up, last_catch};
@@ -27,9 +27,9 @@ pub struct Leaves<'a> {
     // When the head arrives, in ns.
     pub begin: Ns,
     // How long the move on to the target takes, in ns.
-    pub on: Ns,
+    pub move_on: Ns,
     // How long each bin is, in ns.
-    pub fine: Ns,
+    pub bin_length: Ns,
     // The first leave in each bin; `NEVER` where it has none.
     pub firsts: &'a [Ns; BINS],
 }
@@ -45,7 +45,7 @@ pub struct Bins<'a> {
 }
 
 // How long each bin is on this disk, in ns.
-pub fn fine_of(disk: &Disk) -> Ns
+pub fn bin_length_on(disk: &Disk) -> Ns
     ensures { 0 < result }
 {
     let rotation = disk.map.geometry().rotation();
@@ -53,42 +53,42 @@ pub fn fine_of(disk: &Disk) -> Ns
 }
 
 // The bin in which an instant lies. The last one has no end.
-pub fn bin_at(begin: Ns, fine: Ns, instant: Ns) -> usize
-    requires some { 0 < fine }
-    ensures value { result ≡ bin_at begin fine instant }
+pub fn bin_at(begin: Ns, bin_length: Ns, instant: Ns) -> usize
+    requires some { 0 < bin_length }
+    ensures value { result ≡ bin_at begin bin_length instant }
     ensures within { result < 16384 }
 {
-    let k = instant.saturating_sub(begin) / fine;
+    let k = instant.saturating_sub(begin) / bin_length;
     k.min(BINS as u64 - 1) as usize
 }
 
 // The first leave in each bin, of the arrival and the ends of all passages; `NEVER` where it has none. Nothing that
 // is promised rests on it: a leave before its bin's first one is tried without a bound.
-pub fn firsts_of(stop: &Stop, fine: Ns) -> [Ns; BINS]
+pub fn firsts_of(stop: &Stop, bin_length: Ns) -> [Ns; BINS]
     requires stop { IsReady stop.now }
-    requires some { 0 < fine }
+    requires some { 0 < bin_length }
 {
     let mut firsts = [NEVER; BINS];
     firsts[0] = stop.passing.from;
     for offer in stop.offers {
         let end = stop.passing.end(offer.sweep);
-        let k = bin_at(stop.passing.from, fine, end);
+        let k = bin_at(stop.passing.from, bin_length, end);
         firsts[k] = firsts[k].min(end);
     }
     firsts
 }
 
 // What a stop gives at most to a head that leaves in each bin.
-pub fn early_bins(stop: &Stop, fine: Ns) -> [u64; BINS]
+pub fn early_bins(stop: &Stop, bin_length: Ns) -> [u64; BINS]
     requires stop { IsReady stop.now }
-    requires some { 0 < fine }
-    ensures most { (leave : ℕ) → offered stop.now leave ≤ get_or result (bin_at stop.now.passing.from fine leave) 0 }
-    ensures small { (k : ℕ) → k < 16384 → get_or result k 0 ≤ 16000000 * 2048000 }
+    requires some { 0 < bin_length }
+    ensures most { (leave : ℕ) → offered stop.now leave ≤ get_or result (bin_at stop.now.passing.from bin_length leave) 0 }
+    ensures small { AreSmallSums result 16384 }
 {
     let mut bins = [0; BINS];
     for offer in stop.offers {
         let end = stop.passing.end(offer.sweep);
-        let k = bin_at(stop.passing.from, fine, end);
+        let k = bin_at(stop.passing.from, bin_length, end);
         add_at(&mut bins, k, offer.worth);
     }
     add_up(&mut bins);
@@ -98,16 +98,16 @@ pub fn early_bins(stop: &Stop, fine: Ns) -> [u64; BINS]
 // How many bins, counted from the last one back, have no leave from which the head comes to the target by this
 // instant.
 fn too_late_by(leaves: &Leaves, last: Ns) -> usize
-    requires some { 0 < leaves.now.fine }
-    requires room { leaves.now.begin + leaves.now.on ≤ 9 * 10 ^ 18 }
-    ensures { (leave : ℕ) → leaves.now.begin ≤ leave → IsBounded leaves.now leave → leave + leaves.now.on ≤ last
-        → result + bin_at leaves.now.begin leaves.now.fine leave < 16384 }
+    requires some { 0 < leaves.now.bin_length }
+    requires room { leaves.now.begin + leaves.now.move_on ≤ 9 * 10 ^ 18 }
+    ensures { (leave : ℕ) → leaves.now.begin ≤ leave → IsBounded leaves.now leave → leave + leaves.now.move_on ≤ last
+        → result + bin_at leaves.now.begin leaves.now.bin_length leave < 16384 }
 {
-    if last < leaves.begin + leaves.on {
+    if last < leaves.begin + leaves.move_on {
         return BINS;
     }
-    let latest = last - leaves.on;
-    let k = bin_at(leaves.begin, leaves.fine, latest);
+    let latest = last - leaves.move_on;
+    let k = bin_at(leaves.begin, leaves.bin_length, latest);
     if latest < leaves.firsts[k] {
         return BINS - k;
     }
@@ -137,9 +137,9 @@ pub fn late_bins(search: &Search, target: &Stop, leaves: &Leaves) -> [u64; BINS]
     requires from { target.now.passing.from ≡ search.now.gap.now.now }
     requires leaves { AreLeaves search.now leaves.now }
     ensures most { (leave : ℕ) → leaves.now.begin ≤ leave → IsBounded leaves.now leave
-        → sum_by (late_gain target.now.passing search.now.gap.now (leave + leaves.now.on)) target.now.offers.now
-        ≤ get_or result (16383 - bin_at leaves.now.begin leaves.now.fine leave) 0 }
-    ensures small { (k : ℕ) → k < 16384 → get_or result k 0 ≤ 16000000 * 2048000 }
+        → sum_by (late_gain target.now.passing search.now.gap.now (leave + leaves.now.move_on)) target.now.offers.now
+        ≤ get_or result (16383 - bin_at leaves.now.begin leaves.now.bin_length leave) 0 }
+    ensures small { AreSmallSums result 16384 }
 {
     let mut bins = [0; BINS];
     for offer in target.offers {
@@ -152,12 +152,12 @@ pub fn late_bins(search: &Search, target: &Stop, leaves: &Leaves) -> [u64; BINS]
 
 // The upper bound on the value of the plan that leaves at this instant; `None` where its bin has no leave so early.
 pub fn bound_at(bins: &Bins, leave: Ns) -> Option<u64>
-    requires some { 0 < bins.now.leaves.now.fine }
-    requires early { (k : ℕ) → k < 16384 → get_or bins.now.early.now k 0 ≤ 16000000 * 2048000 }
-    requires late { (k : ℕ) → k < 16384 → get_or bins.now.late.now k 0 ≤ 16000000 * 2048000 }
+    requires some { 0 < bins.now.leaves.now.bin_length }
+    requires early { AreSmallSums bins.now.early.now 16384 }
+    requires late { AreSmallSums bins.now.late.now 16384 }
     ensures { IfSome result (λ bound. IsBounded bins.now.leaves.now leave × (bound ≡ bin_ceiling bins.now leave)) }
 {
-    let k = bin_at(bins.leaves.begin, bins.leaves.fine, leave);
+    let k = bin_at(bins.leaves.begin, bins.leaves.bin_length, leave);
     if leave < bins.leaves.firsts[k] {
         return None;
     }
@@ -166,8 +166,8 @@ pub fn bound_at(bins: &Bins, leave: Ns) -> Option<u64>
 
 // The bin whose bound is the greatest, of those with a leave up to the latest one; the first of several such bins.
 pub fn fullest(bins: &Bins, latest: Ns) -> usize
-    requires early { (k : ℕ) → k < 16384 → get_or bins.now.early.now k 0 ≤ 16000000 * 2048000 }
-    requires late { (k : ℕ) → k < 16384 → get_or bins.now.late.now k 0 ≤ 16000000 * 2048000 }
+    requires early { AreSmallSums bins.now.early.now 16384 }
+    requires late { AreSmallSums bins.now.late.now 16384 }
 {
     let mut fullest = 0;
     let mut most = 0;

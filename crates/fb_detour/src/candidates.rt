@@ -1,15 +1,14 @@
 // The plans of a way that can be better than the best so far.
 ghost use Rattle.std.specs.Prelude.{◌≡◌, ◌<◌, ◌≤◌, ◌^◌, ◌⊎◌, true, IfSome};
 ghost use Rattle.fb_geometry.specs.Shape.{IsTrackOf};
-ghost use Rattle.fb_wanted.specs.States.{on_track};
 ghost use Rattle.fb_model.specs.Plans.{IsNoLater, IsPlan};
 ghost use Rattle.fb_plan.specs.declared.way.Way.{Way};
 ghost use Rattle.fb_plan.specs.Ways.{IsWay, plan_by, arrival, early_track};
 ghost use Rattle.fb_detour.specs.Bounds.{AreBins, AreCeilings, AreNotes, IsFound, IsNoBetter, IsNoWorseIn, IsNoWorseThanWay};
-ghost use Rattle.fb_detour.specs.Bounds.{IsReady, IsSearch, IsStop, IsTrial, value_in};
+ghost use Rattle.fb_detour.specs.Bounds.{IsReady, IsSearch, IsStopOf, IsTrial, value_in};
 
 use crate::bins::{
-    Bins, Leaves, NEVER, bin_at, bound_at, early_bins, fine_of, firsts_of, fullest, late_bins,
+    Bins, Leaves, NEVER, bin_at, bin_length_on, bound_at, early_bins, firsts_of, fullest, late_bins,
 };
 use crate::given::Search;
 use crate::intervals::{Ceilings, ceiling_at, ceilings_of};
@@ -180,7 +179,7 @@ fn try_fullest(trial: &Trial, bins: &Bins, stop: &Stop, start: Scored) -> Scored
     let mut best = start;
     for offer in stop.offers {
         let end = stop.passing.end(offer.sweep);
-        if bin_at(bins.leaves.begin, bins.leaves.fine, end) == most {
+        if bin_at(bins.leaves.begin, bins.leaves.bin_length, end) == most {
             best = try_leave(trial, Some(bins), end, best);
         }
     }
@@ -206,8 +205,7 @@ fn try_binned(trial: &Trial, bins: &Bins, stop: &Stop, start: Scored) -> Scored
 // Tries all plans of a way by bins.
 fn try_many(trial: &Trial, stop: &Stop, start: Scored) -> Scored
     requires trial { IsTrial trial.now }
-    requires stop { IsStop trial.now.search.now.disk.now
-        (on_track (early_track trial.now.search.now.gap.now trial.now.way) trial.now.search.now.wanted.now) stop.now }
+    requires stop { IsStopOf trial.now.search.now trial.now.way stop.now }
     requires from { stop.now.passing.from ≡ trial.now.ceilings.now.begin }
     requires best { IsFound trial.now.search.now start }
     ensures scored { IsFound trial.now.search.now result }
@@ -217,15 +215,15 @@ fn try_many(trial: &Trial, stop: &Stop, start: Scored) -> Scored
     let search = trial.search;
     let gap = search.gap;
     let target = stop_at(search.disk, &trial.sides.late, gap.target, gap.now);
-    let fine = fine_of(search.disk);
-    let firsts = firsts_of(stop, fine);
+    let bin_length = bin_length_on(search.disk);
+    let firsts = firsts_of(stop, bin_length);
     let leaves = Leaves {
         begin: stop.passing.from,
-        on: trial.ceilings.move_on,
-        fine,
+        move_on: trial.ceilings.move_on,
+        bin_length,
         firsts: &firsts,
     };
-    let early = early_bins(stop, fine);
+    let early = early_bins(stop, bin_length);
     let late = late_bins(search, &target, &leaves);
     let bins = Bins {
         leaves: &leaves,
@@ -249,7 +247,7 @@ fn try_both_ends(trial: &Trial, start: Scored) -> Scored
 }
 
 // So many leaves are valued one by one, which takes less than to fill bins.
-const OPEN: usize = 16;
+const MOST_OPEN: usize = 16;
 
 // Whether the intervals leave it open for more leaves than that, of those in time, whether they are better than
 // the best so far.
@@ -266,7 +264,7 @@ fn are_many_open(trial: &Trial, stop: &Stop, best: Scored) -> bool
         if end <= latest && !is_no_better(best, ceiling, trial.way, end) {
             open = open.saturating_add(1);
         }
-        if OPEN < open {
+        if MOST_OPEN < open {
             return true;
         }
     }
@@ -276,8 +274,7 @@ fn are_many_open(trial: &Trial, stop: &Stop, best: Scored) -> bool
 // Tries all plans of a way whose track has many blocks, by bins where the intervals leave many of them open.
 fn try_dense(trial: &Trial, stop: &Stop, start: Scored) -> Scored
     requires trial { IsTrial trial.now }
-    requires stop { IsStop trial.now.search.now.disk.now
-        (on_track (early_track trial.now.search.now.gap.now trial.now.way) trial.now.search.now.wanted.now) stop.now }
+    requires stop { IsStopOf trial.now.search.now trial.now.way stop.now }
     requires from { stop.now.passing.from ≡ trial.now.ceilings.now.begin }
     requires best { IsFound trial.now.search.now start }
     ensures scored { IsFound trial.now.search.now result }
@@ -292,7 +289,7 @@ fn try_dense(trial: &Trial, stop: &Stop, start: Scored) -> Scored
 }
 
 // So many offers of a track are tried without notes, which take longer to clear than they spare.
-const FEW: usize = 16;
+const MOST_WITHOUT_NOTES: usize = 16;
 
 // So many are tried without bins, which take longer to clear and to fill than they spare.
 const UNBINNED: usize = 512;
@@ -308,7 +305,7 @@ pub fn try_leaves(
     requires way { IsWay search.now.disk.now search.now.gap.now way }
     requires track { IsTrackOf search.now.disk.now.map (early_track search.now.gap.now way) }
     requires search { IsSearch search.now }
-    requires stop { IsStop search.now.disk.now (on_track (early_track search.now.gap.now way) search.now.wanted.now) stop.now }
+    requires stop { IsStopOf search.now way stop.now }
     requires arrive { stop.now.passing.from ≡ arrival search.now.disk.now search.now.gap.now way }
     requires ceilings { AreCeilings search.now way ceilings.now }
     requires best { IsFound search.now start }
@@ -325,7 +322,7 @@ pub fn try_leaves(
         ceilings,
     };
     let offers = stop.offers.len();
-    if offers <= FEW {
+    if offers <= MOST_WITHOUT_NOTES {
         return try_each(&trial, None, &mut [], start);
     }
     if offers <= UNBINNED {

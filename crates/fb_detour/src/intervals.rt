@@ -1,11 +1,10 @@
 // Upper bounds on the value of the plans of a way, by the instant at which the head leaves.
-ghost use Rattle.std.specs.Prelude.{◌≡◌, ◌+◌, ◌*◌, ◌≤◌, ◌<◌, ◌^◌, ℕ, get_or};
-ghost use Rattle.fb_wanted.specs.States.{on_track};
-ghost use Rattle.fb_plan.specs.Ways.{early_track, arrival, move_on};
-ghost use Rattle.fb_detour.specs.Bounds.{IsStop, AreCeilings, ceiling_at, IsSearch};
+ghost use Rattle.std.specs.Prelude.{◌≡◌, ◌+◌, ◌*◌, ◌≤◌, ◌<◌, ◌^◌};
+ghost use Rattle.fb_plan.specs.Ways.{arrival, move_on};
+ghost use Rattle.fb_detour.specs.Bounds.{IsStopOf, AreCeilings, AreSmallSums, ceiling_at, IsSearch};
 
 use crate::given::Search;
-use crate::parts::{EARLY, LateParts, early_parts, late_at};
+use crate::parts::{INTERVALS, LateParts, early_parts, late_at};
 use crate::stop::Stop;
 use fb_plan::Way;
 use fb_units::Ns;
@@ -13,10 +12,15 @@ use fb_units::Ns;
 // What the track gives up to the end of each interval of leaves, and what the target gives after the move.
 #[derive(Clone, Copy)]
 pub struct Ceilings<'a> {
+    // When the head arrives, in ns.
     pub begin: Ns,
+    // How long each interval is, in ns.
     pub step: Ns,
-    pub early: [u64; EARLY],
+    // What the track gives up to the end of each interval, in weight times sectors.
+    pub early: [u64; INTERVALS],
+    // How long the move on to the target takes, in ns.
     pub move_on: Ns,
+    // What the target still gives after the move.
     pub late: &'a LateParts,
 }
 
@@ -24,7 +28,7 @@ pub struct Ceilings<'a> {
 // ns.
 pub fn ceilings_of<'a>(search: &Search<'a>, way: Way, stop: &Stop, on: Ns) -> Ceilings<'a>
     requires search { IsSearch search.now }
-    requires stop { IsStop search.now.disk.now (on_track (early_track search.now.gap.now way) search.now.wanted.now) stop.now }
+    requires stop { IsStopOf search.now way stop.now }
     requires arrive { stop.now.passing.from ≡ arrival search.now.disk.now search.now.gap.now way }
     requires on { on ≡ move_on search.now.disk.now search.now.gap.now way }
     requires soon { on ≤ 2 * 10 ^ 9 }
@@ -32,7 +36,7 @@ pub fn ceilings_of<'a>(search: &Search<'a>, way: Way, stop: &Stop, on: Ns) -> Ce
     ensures { AreCeilings search.now way result }
 {
     let begin = stop.passing.from;
-    let step = (search.gap.deadline - on - begin) / EARLY as u64 + 1;
+    let step = (search.gap.deadline - on - begin) / INTERVALS as u64 + 1;
     Ceilings {
         begin,
         step,
@@ -49,11 +53,11 @@ pub fn ceiling_at(ceilings: &Ceilings, leave: Ns) -> u64
     requires late_step { 0 < ceilings.now.late.now.step }
     requires late_begin { ceilings.now.late.now.begin ≤ leave }
     requires early_enough { leave + ceilings.now.move_on < 2 ^ 64 }
-    requires small { (k : ℕ) → k < 16 → get_or ceilings.now.early k 0 ≤ 16000000 * 2048000 }
-    requires late_small { (k : ℕ) → k < 32 → get_or ceilings.now.late.now.parts k 0 ≤ 16000000 * 2048000 }
+    requires small { AreSmallSums ceilings.now.early 16 }
+    requires late_small { AreSmallSums ceilings.now.late.now.parts 32 }
     ensures { result ≡ ceiling_at ceilings.now leave }
 {
     let k = (leave - ceilings.begin) / ceilings.step;
-    ceilings.early[k.min(EARLY as u64 - 1) as usize]
+    ceilings.early[k.min(INTERVALS as u64 - 1) as usize]
         + late_at(ceilings.late, leave + ceilings.move_on)
 }

@@ -8,7 +8,7 @@ ghost use Rattle.fb_detour.specs.Bounds.{AreCeilings, IsSearch, IsFound, IsNoWor
 use crate::bounds::is_enough;
 use crate::given::Search;
 use crate::intervals::Ceilings;
-use crate::parts::{EARLY, late_at};
+use crate::parts::{INTERVALS, late_at};
 use fb_plan::Scored;
 use fb_units::Track;
 
@@ -23,7 +23,7 @@ pub fn none_is_better(search: &Search, ceilings: &Ceilings, track: Track, best: 
     ensures { result ≡ true → IsNoWorseThanTrack search.now best.plan track }
 {
     let latest = search.gap.deadline - ceilings.move_on;
-    for k in 0..EARLY {
+    for k in 0..INTERVALS {
         let from = ceilings.begin + k as u64 * ceilings.step;
         if latest < from {
             return true;

@@ -3,7 +3,7 @@ ghost use Rattle.std.specs.Prelude.{◌≡◌, ◌+◌, ◌-◌, ◌*◌, ◌/�
 ghost use Rattle.std.specs.Prelude.{nat_le, nat_lt, if◌then◌else◌, IfSome, IfNone};
 ghost use Rattle.fb_plan.specs.Ways.{AreOnDisk, IsGap};
 ghost use Rattle.fb_plan.specs.Turns.{added, end_of, passes_by, IsInTurn, IsTurning, Stands};
-ghost use Rattle.fb_detour.specs.Bounds.{late_gain, late_step, offered, part_at, sum_of_first, IsLate, IsReady};
+ghost use Rattle.fb_detour.specs.Bounds.{late_gain, late_step, offered, part_at, sum_of_first, AreSmallSums, IsLate, IsReady};
 
 use crate::stop::{Stop, stop_at};
 use fb_plan::{Turning, blocks_on};
@@ -13,7 +13,7 @@ use fb_units::{Ns, Sweep};
 use fb_wanted::{Offer, Wanted};
 
 // Into how many parts the time of the gap is divided.
-pub const LATE: usize = 32;
+pub const GAP_PARTS: usize = 32;
 
 // How many limits there are: one for each part, and one behind the last.
 const LIMITS: usize = 33;
@@ -26,7 +26,7 @@ pub struct LateParts {
     // How long each part of the gap is, in ns.
     pub step: Ns,
     // Part `k` bounds what the target gives to a head that arrives at `begin + k * step` or later.
-    pub parts: [u64; LATE],
+    pub parts: [u64; GAP_PARTS],
     // Part `k` also bounds what it gives to one that arrives at `limits[k]` or later. From the last limit on
     // it gives nothing. A limit lies right behind the last instant at which some block of the part before
     // can be caught, so that bounds which change at limits lose nothing.
@@ -63,14 +63,14 @@ pub fn last_catch(disk: &Disk, gap: &Gap, passing: &Turning, sweep: Sweep) -> Op
 }
 
 // Adds the worth to each part that begins no later than the last instant.
-fn add_last(last: Ns, worth: u64, begin: Ns, step: Ns, parts: &mut [u64; LATE])
+fn add_last(last: Ns, worth: u64, begin: Ns, step: Ns, parts: &mut [u64; GAP_PARTS])
     requires begin { begin ≤ 9 * 10 ^ 18 }
     requires step { step ≤ 29 * 10 ^ 16 }
     requires worth { worth < 2 ^ 32 }
-    requires room { (k : ℕ) → k < 32 → get_or parts.old k 0 ≤ 16000000 * 2048000 }
+    requires room { AreSmallSums parts.old 32 }
     ensures { (k : ℕ) → k < 32 → get_or parts.new k 0 ≡ get_or parts.old k 0 + (if nat_le (begin + k * step) last then worth else 0) }
 {
-    for k in 0..LATE {
+    for k in 0..GAP_PARTS {
         parts[k] += worth_by(begin + k as u64 * step, last, worth);
     }
 }
@@ -82,7 +82,7 @@ fn first_limits(begin: Ns, step: Ns) -> [Ns; LIMITS]
     ensures { (k : ℕ) → k < 33 → get_or result k 0 ≡ begin + (k - 1) * step }
 {
     let mut limits = [begin; LIMITS];
-    for k in 0..LATE {
+    for k in 0..GAP_PARTS {
         limits[k + 1] = begin + k as u64 * step;
     }
     limits
@@ -112,7 +112,7 @@ fn add_late(
     gap: &Gap,
     passing: &Turning,
     offer: Offer,
-    parts: &mut [u64; LATE],
+    parts: &mut [u64; GAP_PARTS],
     limits: &mut [Ns; LIMITS],
 )
     requires gap { IsGap disk.now gap.now }
@@ -120,7 +120,7 @@ fn add_late(
     requires from { passing.now.from ≡ gap.now.now }
     requires in_turn { IsInTurn passing.now.rotation offer.sweep }
     requires spread { (k : ℕ) → k < 33 → gap.now.now + (k - 1) * late_step gap.now ≤ get_or limits.old k 0 }
-    requires room { (k : ℕ) → k < 32 → get_or parts.old k 0 ≤ 16000000 * 2048000 }
+    requires room { AreSmallSums parts.old 32 }
     ensures most { (k : ℕ) → k < 32 → get_or parts.old k 0
         + late_gain passing.now gap.entry.now (gap.entry.now.now + k * late_step gap.entry.now) offer ≤ get_or parts.new k 0 }
     ensures small { (k : ℕ) → k < 32 → get_or parts.new k 0 ≤ get_or parts.old k 0 + offer.worth }
@@ -131,7 +131,7 @@ fn add_late(
     ensures end { late_gain passing.now gap.entry.now (get_or limits.new 32 0) offer ≡ 0 }
 {
     if let Some(last) = last_catch(disk, gap, passing, offer.sweep) {
-        let step = (gap.deadline - gap.now) / LATE as u64 + 1;
+        let step = (gap.deadline - gap.now) / GAP_PARTS as u64 + 1;
         add_last(last, offer.worth as u64, gap.now, step, parts);
         add_limit(last, gap.now, step, limits);
     }
@@ -145,8 +145,8 @@ pub fn late_parts(disk: &Disk, wanted: &Wanted, gap: &Gap) -> LateParts
 {
     let blocks = blocks_on(wanted, gap.target);
     let stop = stop_at(disk, &blocks, gap.target, gap.now);
-    let step = (gap.deadline - gap.now) / LATE as u64 + 1;
-    let mut parts = [0; LATE];
+    let step = (gap.deadline - gap.now) / GAP_PARTS as u64 + 1;
+    let mut parts = [0; GAP_PARTS];
     let mut limits = first_limits(gap.now, step);
     for offer in stop.offers {
         add_late(disk, gap, &stop.passing, *offer, &mut parts, &mut limits);
@@ -163,16 +163,16 @@ pub fn late_parts(disk: &Disk, wanted: &Wanted, gap: &Gap) -> LateParts
 pub fn late_at(late: &LateParts, from: Ns) -> u64
     requires step { 0 < late.now.step }
     requires begin { late.now.begin ≤ from }
-    requires small { (k : ℕ) → k < 32 → get_or late.now.parts k 0 ≤ 16000000 * 2048000 }
+    requires small { AreSmallSums late.now.parts 32 }
     ensures value { result ≡ part_at late.now from }
     ensures small { result ≤ 16000000 * 2048000 }
 {
     let k = (from - late.begin) / late.step;
-    late.parts[k.min(LATE as u64 - 1) as usize]
+    late.parts[k.min(GAP_PARTS as u64 - 1) as usize]
 }
 
 // Into how many intervals the time on a track is divided.
-pub const EARLY: usize = 16;
+pub const INTERVALS: usize = 16;
 
 // Adds the worth to the number at this index, if there is one.
 pub fn add_at(numbers: &mut [u64], index: usize, worth: u32)
@@ -186,7 +186,7 @@ pub fn add_at(numbers: &mut [u64], index: usize, worth: u32)
 }
 
 // Adds the worth of an offer to the interval in which its passage ends.
-fn add_offer(stop: &Stop, step: Ns, offer: Offer, intervals: &mut [u64; EARLY])
+fn add_offer(stop: &Stop, step: Ns, offer: Offer, intervals: &mut [u64; INTERVALS])
     requires stands { Stands stop.now.passing }
     requires in_turn { IsInTurn stop.now.passing.rotation offer.sweep }
     requires some { 0 < step }
@@ -210,13 +210,13 @@ pub fn add_up(intervals: &mut [u64])
 }
 
 // What a stop gives to a head that stays from its arrival to the end of each interval.
-pub fn early_parts(stop: &Stop, step: Ns) -> [u64; EARLY]
+pub fn early_parts(stop: &Stop, step: Ns) -> [u64; INTERVALS]
     requires stop { IsReady stop.now }
     requires some { 0 < step }
     ensures each { (k : ℕ) → k < 16 → get_or result k 0 ≡ offered stop.now (stop.now.passing.from + (k + 1) * step) }
-    ensures small { (k : ℕ) → k < 16 → get_or result k 0 ≤ 16000000 * 2048000 }
+    ensures small { AreSmallSums result 16 }
 {
-    let mut parts = [0; EARLY];
+    let mut parts = [0; INTERVALS];
     for offer in stop.offers {
         add_offer(stop, step, *offer, &mut parts);
     }

@@ -109,7 +109,7 @@ fn try_cylinder(search: &Search, cylinder: u32, rate: u64, start: Scored) -> Sco
 }
 
 // Into how many parts a range of cylinders is divided, at most.
-const WAYS: usize = 8;
+const RANGE_PARTS: usize = 8;
 
 // How many cylinders each part of a range of so many has: a power of 8, so that parts and bands of
 // cylinders begin together.
@@ -130,7 +130,14 @@ fn width_of(cylinders: u32) -> u32
 // For each part of the range an upper bound on the value of detours over it, in one number with the
 // part: eight times the bound, plus 8 for the first part, 7 for the second and so on. So numbers
 // differ, and a greater bound has a greater number.
-fn keys_of(search: &Search, from: u32, end: u32, width: u32, rate: u64, known: u64) -> [u64; WAYS]
+fn keys_of(
+    search: &Search,
+    from: u32,
+    end: u32,
+    width: u32,
+    rate: u64,
+    known: u64,
+) -> [u64; RANGE_PARTS]
     requires within { end ≤ search.now.disk.now.mechanism.cylinders }
     requires order { from ≤ end }
     requires few { search.now.disk.now.mechanism.cylinders ≤ 10 ^ 6 }
@@ -139,8 +146,8 @@ fn keys_of(search: &Search, from: u32, end: u32, width: u32, rate: u64, known: u
     requires rate { AreRated search.now from end rate }
     ensures { (j : ℕ) → j < 8 → IsKey search.now from end width j (get_or result j 0) }
 {
-    let mut keys = [0; WAYS];
-    for j in 0..WAYS {
+    let mut keys = [0; RANGE_PARTS];
+    for j in 0..RANGE_PARTS {
         let first = from + j as u32 * width;
         let behind = first + width;
         let upto = end.min(behind);
@@ -165,13 +172,13 @@ fn most_within(search: &Search, from: u32, end: u32, rate: u64, known: u64) -> u
 }
 
 // The greatest of the numbers below this one; 0 if there is none.
-fn next_below(keys: &[u64; WAYS], below: u64) -> u64
+fn next_below(keys: &[u64; RANGE_PARTS], below: u64) -> u64
     ensures less { 0 < result → result < below }
     ensures its { 0 < result → (j : ℕ) × (j < 8) × (get_or keys.now j 0 ≡ result) }
     ensures greatest { (j : ℕ) → j < 8 → get_or keys.now j 0 < below → get_or keys.now j 0 ≤ result }
 {
     let mut key = 0;
-    for j in 0..WAYS {
+    for j in 0..RANGE_PARTS {
         key = greater_below(key, keys[j], below);
     }
     key

@@ -5,11 +5,11 @@ ghost use Rattle.fb_units.specs.declared.types.Track.{Track};
 ghost use Rattle.fb_rows.specs.declared.gap.Plan.{Plan};
 ghost use Rattle.fb_wanted.specs.Tracks.{wanted_weight};
 ghost use Rattle.fb_plan.specs.Ways.{AreOnDisk};
-ghost use Rattle.fb_detour.specs.Bounds.{value_in, AreRated, AreSeeks, IsCeiling, IsDetourIn, IsRate, IsReach, IsSearch};
+ghost use Rattle.fb_detour.specs.Bounds.{value_in, AreRated, AreSeeks, AreSmallSums, IsCeiling, IsDetourIn, IsRate, IsReach, IsSearch};
 
 use crate::bounds::{Seeks, least_moves, most_depth, most_slots};
 use crate::given::Search;
-use crate::parts::{LATE, LateParts};
+use crate::parts::{GAP_PARTS, LateParts};
 use fb_service::Disk;
 use fb_units::{Ns, Track};
 use fb_wanted::{BAND, Wanted};
@@ -27,7 +27,7 @@ const LONG: Ns = 1 << 32;
 #[derive(Clone, Copy)]
 pub struct Reach {
     // When it reaches the target at the earliest, in ns.
-    pub back: Ns,
+    pub at_target: Ns,
     // An upper bound on what passes in each ns on its track, in units of 2^-24.
     pub rate: u64,
 }
@@ -77,7 +77,7 @@ fn reach_of(search: &Search, from: u32, end: u32, rate: u64) -> Reach
 {
     let moves = least_moves(search.disk, search.gap, from, end);
     Reach {
-        back: search.gap.now + moves.there + moves.on,
+        at_target: search.gap.now + moves.there + moves.on,
         rate,
     }
 }
@@ -100,7 +100,7 @@ pub fn reach_by(search: &Search, cylinder: u32, seeks: Seeks, rate: u64) -> Reac
         .mechanism
         .pos_with(seeks.on, nearest, search.gap.target, search.gap.write);
     Reach {
-        back: search.gap.now + seeks.there + on,
+        at_target: search.gap.now + seeks.there + on,
         rate,
     }
 }
@@ -124,32 +124,33 @@ fn caught_in(rate: u64, weight: u64, time: Ns) -> u64
 // the limit behind part k, and no earlier than the part begins.
 fn worth_by_step(late: &LateParts, k: usize, reach: Reach, weight: u64) -> u64
     requires part { k < 32 }
-    requires parts { (k : ℕ) → k < 32 → get_or late.now.parts k 0 ≤ 16000000 * 2048000 }
+    requires parts { AreSmallSums late.now.parts 32 }
     requires light { weight ≤ 16000000 * 2048000 }
     ensures most { (caught time : ℕ) → caught ≤ weight → caught * 2 ^ 24 ≤ time * reach.rate
-        → reach.back + time < get_or late.now.limits (k + 1) 0 → caught + get_or late.now.parts k 0 ≤ result }
+        → reach.at_target + time < get_or late.now.limits (k + 1) 0 → caught + get_or late.now.parts k 0 ≤ result }
     ensures small { result ≤ 2 * (16000000 * 2048000) }
 {
     let limit = late.limits[k + 1];
-    if limit <= reach.back {
+    if limit <= reach.at_target {
         return 0;
     }
-    late.parts[k] + caught_in(reach.rate, weight, limit - 1 - reach.back)
+    late.parts[k] + caught_in(reach.rate, weight, limit - 1 - reach.at_target)
 }
 
-// The part in which an instant lies: no detour that reaches the target from then on is back before
-// the limit of this part.
-fn part_from(late: &LateParts, back: Ns) -> usize
+// The part in which an instant lies, or the last one for a later instant; 0 if that part's first limit
+// hasn't passed.
+fn part_from(late: &LateParts, instant: Ns) -> usize
     requires step { 0 < late.now.step }
     ensures part { result < 32 }
     ensures before { (result ≡ 0) ⊎ (get_or late.now.limits result 0 ≤ back) }
 {
-    let part = (back.saturating_sub(late.begin) / late.step).min(LATE as u64 - 1) as usize;
-    if late.limits[part] <= back { part } else { 0 }
+    let part = (instant.saturating_sub(late.begin) / late.step).min(GAP_PARTS as u64 - 1) as usize;
+    if late.limits[part] <= instant { part } else { 0 }
 }
 
 // An upper bound on the value of detours over a track of this reach and this weight; 0 where it is
-// out of reach. Once it is less than `known` whatever the steps left give, these are passed over.
+// out of reach. The steps that are left are passed over once none of them can raise the bound or lift
+// it to `known`.
 pub fn most_by_steps(search: &Search, reach: Reach, weight: u64, known: u64) -> u64
     requires search { IsSearch search.now }
     requires light { weight ≤ 16000000 * 2048000 }
@@ -157,12 +158,12 @@ pub fn most_by_steps(search: &Search, reach: Reach, weight: u64, known: u64) -> 
         → IsDetourIn search.now track leave → value_in search.now (Plan.Detour track leave) ≤ result }
     ensures small { result ≤ 2 * (16000000 * 2048000) }
 {
-    if search.gap.deadline < reach.back {
+    if search.gap.deadline < reach.at_target {
         return 0;
     }
-    let whole = caught_in(reach.rate, weight, search.gap.deadline - reach.back);
+    let whole = caught_in(reach.rate, weight, search.gap.deadline - reach.at_target);
     let mut most = whole;
-    for k in part_from(search.late, reach.back)..LATE {
+    for k in part_from(search.late, reach.at_target)..GAP_PARTS {
         let rest = search.late.parts[k] + whole;
         let enough = known.max(most + 1);
         if rest < enough {

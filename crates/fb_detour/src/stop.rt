@@ -11,9 +11,13 @@ use fb_wanted::{Offer, TrackBlocks};
 // What a track offers, the sum of its worth, and how its blocks pass from the arrival on.
 #[derive(Clone, Copy)]
 pub struct Stop<'a> {
+    // The track on which the head stops.
     pub track: Track,
+    // What the wanted blocks of the track offer.
     pub offers: &'a [Offer],
+    // What these are worth together, in weight times sectors.
     pub weight: u64,
+    // Where the platter stands as the head arrives; the arrival is `passing.from`, in ns.
     pub passing: Turning,
 }
 

@@ -5,10 +5,10 @@ ghost use Rattle.fb_rows.specs.Tasks.{HasNamedTask};
 ghost use Rattle.fb_calls.specs.Allowed.{tasks};
 ghost use Rattle.fb_model.specs.Accepted.{IsAccepted};
 ghost use Rattle.fb_model.specs.FullRun.{IsFull};
-ghost use Rattle.fb_decide.specs.Asked.{inputs_of};
+ghost use Rattle.fb_decide.specs.RunInputs.{inputs_of};
 ghost use Rattle.fb_engine.specs.Gone.{HasGone, IsWhole};
 
-use fb_decide::{Asked, Decider, decisions_make_a_run};
+use fb_decide::{RunInputs, Decider, decisions_make_a_run};
 use fb_plan::Planner;
 use fb_queue::Queue;
 use fb_rows::Run;
@@ -21,34 +21,34 @@ use std::alloc::Global;
 /// The queue must be new: empty, and never used. The only error is out of memory.
 pub fn replay<Q: Queue, P: Planner>(
     alloc: Global,
-    asked: Asked<'_>,
+    inputs: RunInputs<'_>,
     queue: Q,
     planner: &P,
 ) -> Result<Run, NoMemory>
     requires empty { Q.pending queue ≡ [] }
     requires fresh { Q.joined queue ≡ 0 }
-    requires accepted { IsAccepted (inputs_of asked Q.key) }
-    ensures full { IfOk result (λ run. IsFull (inputs_of asked.entry Q.key) run) }
+    requires accepted { IsAccepted (inputs_of inputs Q.key) }
+    ensures full { IfOk result (λ run. IsFull (inputs_of inputs.entry Q.key) run) }
     ensures few { IfOk result (λ run. length run.fore ≤ 10 ^ 6) }
     ensures early { IfOk result (λ run. run.end ≤ 9 * 10 ^ 18) }
-    ensures named { IfOk result (λ run. (names : List (List ℕ)) → length names ≡ length (tasks asked.entry.calls.now.calls.items) → AllByRecursion (HasNamedTask names) run.back) }
+    ensures named { IfOk result (λ run. (names : List (List ℕ)) → length names ≡ length (tasks inputs.entry.calls.now.calls.items) → AllByRecursion (HasNamedTask names) run.back) }
 {
-    let mut decider = Decider::new(alloc, asked, queue)?;
-    run_of(alloc, asked, planner, &mut decider)
+    let mut decider = Decider::new(alloc, inputs, queue)?;
+    run_of(alloc, inputs, planner, &mut decider)
 }
 
 // The run that a decider makes from its first decision on. The only error is out of memory.
 fn run_of<Q: Queue, P: Planner>(
     alloc: Global,
-    asked: Asked<'_>,
+    inputs: RunInputs<'_>,
     planner: &P,
     decider: &mut Decider<'_, Q>,
 ) -> Result<Run, NoMemory>
-    requires gone { HasGone (inputs_of asked Q.key) true decider.old.requests decider.old.course (Q.pending decider.old.queue) (Q.joined decider.old.queue) }
-    requires serves { Q.serves decider.old.queue asked.disk.now }
-    ensures { IfOk result (IsWhole (inputs_of asked.entry Q.key)) }
+    requires gone { HasGone (inputs_of inputs Q.key) true decider.old.requests decider.old.course (Q.pending decider.old.queue) (Q.joined decider.old.queue) }
+    requires serves { Q.serves decider.old.queue inputs.disk.now }
+    ensures { IfOk result (IsWhole (inputs_of inputs.entry Q.key)) }
 {
-    decide_all(alloc, asked, planner, decider)?;
+    decide_all(alloc, inputs, planner, decider)?;
     decisions_make_a_run();
     let end = decider.instant();
     decider.add_task_rows()?;
@@ -56,7 +56,7 @@ fn run_of<Q: Queue, P: Planner>(
     Ok(Run {
         fore: rows.fore,
         back: rows.back,
-        passed_over: asked.trace.passed_over,
+        passed_over: inputs.trace.passed_over,
         end,
     })
 }
@@ -64,18 +64,18 @@ fn run_of<Q: Queue, P: Planner>(
 // Makes one decision after another until none follows. The only error is out of memory.
 fn decide_all<Q: Queue, P: Planner>(
     alloc: Global,
-    asked: Asked<'_>,
+    inputs: RunInputs<'_>,
     planner: &P,
     decider: &mut Decider<'_, Q>,
 ) -> Result<(), NoMemory>
-    requires gone { HasGone (inputs_of asked Q.key) true decider.old.requests decider.old.course (Q.pending decider.old.queue) (Q.joined decider.old.queue) }
-    requires serves { Q.serves decider.old.queue asked.disk.now }
-    ensures gone { OnOk result (HasGone (inputs_of asked.entry Q.key) false decider.new.requests decider.new.course (Q.pending decider.new.queue) (Q.joined decider.new.queue)) }
+    requires gone { HasGone (inputs_of inputs Q.key) true decider.old.requests decider.old.course (Q.pending decider.old.queue) (Q.joined decider.old.queue) }
+    requires serves { Q.serves decider.old.queue inputs.disk.now }
+    ensures gone { OnOk result (HasGone (inputs_of inputs.entry Q.key) false decider.new.requests decider.new.course (Q.pending decider.new.queue) (Q.joined decider.new.queue)) }
 {
     decisions_make_a_run();
     let mut goes_on = true;
     while goes_on {
-        goes_on = decider.decide(alloc, asked, planner)?;
+        goes_on = decider.decide(alloc, inputs, planner)?;
     }
     Ok(())
 }

@@ -1,8 +1,8 @@
 -- Walks that break off at a lane, and go on behind it.
 use Rattle.fb_fastq.proofs.Words.{◌≡◌, ℕ, ◌+◌, ◌-◌, ◌^◌, ◌<◌, ◌≤◌, inl, inr, ◌⊎◌, arith, Option, Some, None, IfSome, BTreeMap, cases_lt}
 use Rattle.fb_fastq.proofs.Words.{Track, Request, Disk, Candidate, Visit, Ray, Side, Above, Below, IsOn, IsNearer, IsReached, beyond}
-use Rattle.fb_fastq.proofs.Words.{AllHeld, IsAlong, IsBefore, BeatsBetween, BeatsUntil, IsNoFarther, subst}
-use Rattle.fb_fastq.proofs.Sweeps.{beats_more}
+use Rattle.fb_fastq.proofs.Words.{AllHeld, IsAlong, IsBefore, ComesNoLaterBetween, ComesNoLaterUntil, IsNoFarther, subst}
+use Rattle.fb_fastq.proofs.Sweeps.{still_no_later}
 
 -- what is so of any is so of the one, if there is one
 pub if_some : (P Q : Visit → Type 0) (visit : Option Visit) → ((v : Visit) → P v → Q v) → IfSome visit P → IfSome visit Q
@@ -48,20 +48,20 @@ still_outside Below head start lane outside reached = omega arith
 
 module _ (disk : Disk) (head : Track) (now : ℕ) (waiting : BTreeMap (ℕ × ℕ) Request)
     (spots : AllHeld (λ key request. IsAlong disk request key.0) waiting) where
-  -- what is beaten up to a lane, in its room, and beyond it
+  -- what comes no sooner up to a lane, in its room, and beyond it
   pub goes_on : (old best new : Candidate) (ray rest : Ray) (visit : Visit) (full : Option Visit)
       → IsBefore best old → IsBefore new best
       → rest ≡ record { side = ray.side; start = beyond ray.side visit.lane.start }
-      → BeatsUntil disk head now waiting old ray (Some visit)
-      → BeatsBetween disk head now waiting best visit.lane.start (visit.lane.start + 2 ^ 30)
-      → BeatsUntil disk head now waiting new rest full
-      → BeatsUntil disk head now waiting new ray full
+      → ComesNoLaterUntil disk head now waiting old ray (Some visit)
+      → ComesNoLaterBetween disk head now waiting best visit.lane.start (visit.lane.start + 2 ^ 30)
+      → ComesNoLaterUntil disk head now waiting new rest full
+      → ComesNoLaterUntil disk head now waiting new ray full
   goes_on old best new ray rest visit full sooner first is seen lane more = λ k r held on before.
       elim (near_or_beyond ray.side visit.lane.start k.0) [
-        | inl nearer ↦ beats_more disk head now waiting spots new best k r first
-            (beats_more disk head now waiting spots best old k r sooner (seen k r held on nearer))
+        | inl nearer ↦ still_no_later disk head now waiting spots new best k r first
+            (still_no_later disk head now waiting spots best old k r sooner (seen k r held on nearer))
         | inr other ↦ elim other [
-          | inl inside ↦ beats_more disk head now waiting spots new best k r first (lane k r held inside.0 inside.1)
-          | inr out ↦ subst (λ (s : Ray). BeatsUntil disk head now waiting new s full) is more k r held out before
+          | inl inside ↦ still_no_later disk head now waiting spots new best k r first (lane k r held inside.0 inside.1)
+          | inr out ↦ subst (λ (s : Ray). ComesNoLaterUntil disk head now waiting new s full) is more k r held out before
         ]
       ]

@@ -1,8 +1,8 @@
 -- Requests that are divided among a map and rows.
 use Rattle.fb_fastq.proofs.Words.{◌≡◌, ◌≢◌, ℕ, ◌+◌, ◌-◌, ◌^◌, ◌<◌, ◌≤◌, List, [], ◌∷◌, ◌++◌, sym, subst, arith, inl, inr, length}
 use Rattle.fb_fastq.proofs.Words.{AllByRecursion, BTreeMap, cases_lt, Track, Request, Disk, sptf, Candidate, Waiting, number_of, pending_of}
-use Rattle.fb_fastq.proofs.Words.{AreNumbered, IsIndex, IsNoLater, IsFirst, IsFirstHeld, IsCandidate, IsBefore, Beats, IsMore, Row}
-use Rattle.fb_fastq.proofs.Words.{all_of_rows, AreRows, Settles, SettlesAll, IsDivided, length-append, nil_from_length, all_weaker}
+use Rattle.fb_fastq.proofs.Words.{AreNumbered, IsIndex, IsNoLater, IsFirst, IsFirstHeld, IsCandidate, IsBefore, ComesNoLater, IsMore, Row}
+use Rattle.fb_fastq.proofs.Words.{all_of_rows, AreRows, RulesOut, RulesOutAll, IsDivided, length-append, nil_from_length, all_weaker}
 use Rattle.fb_fastq.proofs.Words.{all_append, all_left}
 use Rattle.fb_fastq.proofs.{Least.first_listed, Least.length_pending, Sweeps.no_later_trans, OneMore.more_left, OneMore.more_right}
 use Rattle.fb_fastq.proofs.{OneMore.index_more, OneMore.index_less, OneMore.length_more}
@@ -13,48 +13,48 @@ numbered_left (x ∷ xs) ys h = (all_left (λ y. number_of y ≢ number_of x) xs
 
 module _ (disk : Disk) (head : Track) (now : ℕ) (map : BTreeMap (ℕ × ℕ) Request) (rows : List Row) where
   -- what is no later than the first of the map is no later than any of it
-  pub beats_map : (limit best : Candidate) → AreNumbered map.entries → (0 < length map.entries → IsCandidate disk head now map limit)
+  pub no_later_than_map : (limit best : Candidate) → AreNumbered map.entries → (0 < length map.entries → IsCandidate disk head now map limit)
       → (0 < length map.entries → IsFirstHeld (sptf disk head now) map limit.key) → IsBefore best limit
-      → AllByRecursion (λ w. Beats disk head now best w.0 w.1) map.entries
-  beats_map limit best apart found first before = elim (cases_lt 0 (length map.entries)) [
+      → AllByRecursion (λ w. ComesNoLater disk head now best w.0 w.1) map.entries
+  no_later_than_map limit best apart found first before = elim (cases_lt 0 (length map.entries)) [
     | inl some ↦
         let is = found some in
         let rank = sptf disk head now in
-        all_weaker (λ w. IsNoLater (rank is.request) limit.key.1 (rank w.1) (number_of w)) (λ w. Beats disk head now best w.0 w.1)
+        all_weaker (λ w. IsNoLater (rank is.request) limit.key.1 (rank w.1) (number_of w)) (λ w. ComesNoLater disk head now best w.0 w.1)
         (λ w own. no_later_trans best.wait best.key.1 limit.wait limit.key.1 (rank w.1) w.0.1 before
         (subst (λ n. IsNoLater n limit.key.1 (rank w.1) w.0.1) (sym is.wait) own)) map.entries
         (first_listed rank limit.key is.request map apart is.waits (first some))
-    | inr none ↦ subst (AllByRecursion (λ w. Beats disk head now best w.0 w.1)) (sym (nil_from_length map.entries (omega (arith, none)))) tt
+    | inr none ↦ subst (AllByRecursion (λ w. ComesNoLater disk head now best w.0 w.1)) (sym (nil_from_length map.entries (omega (arith, none)))) tt
   ]
 
   -- what is no later than all of both is the first
   pub first_of_both : (best : Candidate) (w : Waiting) → best.key ≡ w.0 → best.wait ≡ sptf disk head now w.1
-      → AllByRecursion (λ x. Beats disk head now best x.0 x.1) map.entries
-      → SettlesAll disk head now best (all_of_rows rows) → IsFirst (sptf disk head now) w (map.entries ++ all_of_rows rows)
-  first_of_both best w key wait over settles =
+      → AllByRecursion (λ x. ComesNoLater disk head now best x.0 x.1) map.entries
+      → RulesOutAll disk head now best (all_of_rows rows) → IsFirst (sptf disk head now) w (map.entries ++ all_of_rows rows)
+  first_of_both best w key wait over rules_out =
       let rank = sptf disk head now in
-      all_weaker (λ x. Beats disk head now best x.0 x.1) (λ x. IsNoLater (rank w.1) (number_of w) (rank x.1) (number_of x))
+      all_weaker (λ x. ComesNoLater disk head now best x.0 x.1) (λ x. IsNoLater (rank w.1) (number_of w) (rank x.1) (number_of x))
       (λ x own. subst (λ n. IsNoLater n w.0.1 (rank x.1) x.0.1) wait (subst (λ (q : ℕ × ℕ). IsNoLater best.wait q.1 (rank x.1) x.0.1) key
       own)) (map.entries ++ all_of_rows rows)
-      (all_append (λ x. Beats disk head now best x.0 x.1) map.entries (all_of_rows rows) over
-      (all_weaker (Settles disk head now best) (λ x. Beats disk head now best x.0 x.1) (λ x own. own.0) (all_of_rows rows) settles))
+      (all_append (λ x. ComesNoLater disk head now best x.0 x.1) map.entries (all_of_rows rows) over
+      (all_weaker (RulesOut disk head now best) (λ x. ComesNoLater disk head now best x.0 x.1) (λ x own. own.0) (all_of_rows rows) rules_out))
 
   -- where one that never passes is no later than the requests of the rows, there are none
-  pub none_settled : (best : Candidate) → best.wait ≡ 2 ^ 64 - 1 → SettlesAll disk head now best (all_of_rows rows)
+  pub none_left_in : (best : Candidate) → best.wait ≡ 2 ^ 64 - 1 → RulesOutAll disk head now best (all_of_rows rows)
       → length (all_of_rows rows) ≤ 0
-  none_settled best never settles = at (all_of_rows rows) settles
+  none_left_in best never rules_out = at (all_of_rows rows) rules_out
     where
-      at : (ws : List Waiting) → SettlesAll disk head now best ws → length ws ≤ 0
+      at : (ws : List Waiting) → RulesOutAll disk head now best ws → length ws ≤ 0
       at [] h = omega arith
       at (w ∷ ws) h = let soon = h.0.1 in absurd (omega (arith, never, soon))
 
   -- so where any wait, and none of the rows is picked, the map has one
   pub some_of_map : (limit : Candidate) → 0 < length (pending_of (map.entries ++ all_of_rows rows))
-      → (length map.entries ≡ 0 → limit.wait ≡ 2 ^ 64 - 1) → SettlesAll disk head now limit (all_of_rows rows) → 0 < length map.entries
-  some_of_map limit some none settles = elim (cases_lt 0 (length map.entries)) [
+      → (length map.entries ≡ 0 → limit.wait ≡ 2 ^ 64 - 1) → RulesOutAll disk head now limit (all_of_rows rows) → 0 < length map.entries
+  some_of_map limit some none rules_out = elim (cases_lt 0 (length map.entries)) [
     | inl any ↦ any
     | inr empty ↦
-        let left = none_settled limit (none (omega (arith, empty))) settles in
+        let left = none_left_in limit (none (omega (arith, empty))) rules_out in
         let all = length_pending (map.entries ++ all_of_rows rows) in
         absurd (omega (arith, some, all, length-append map.entries (all_of_rows rows), left, empty))
   ]

@@ -2,7 +2,7 @@
 use Rattle.fb_fastq.proofs.Words.{all_get, ◌≡◌, ℕ, zero, suc, ◌+◌, ◌*◌, ◌^◌, ◌<◌, ◌≤◌, List, [], ◌∷◌, refl, sym, ap, subst, ◌∙◌, arith, inl}
 use Rattle.fb_fastq.proofs.Words.{inr, ◌⊎◌, Some, slice_get, length, MatchOption, AllByRecursion, Track, cylinders_of, track_at, seek}
 use Rattle.fb_fastq.proofs.Words.{distance_of, Disk, sptf, Candidate, Place, Pick, Waiting, IsAlong, IsBefore, Row, all_of_rows, at_place}
-use Rattle.fb_fastq.proofs.Words.{IsOnCylinder, AreRows, IsAt, IsPick, Settles, SettlesAll, SeeksRise, none-some, all_append, all_left}
+use Rattle.fb_fastq.proofs.Words.{IsOnCylinder, AreRows, IsAt, IsPick, RulesOut, RulesOutAll, SeeksRise, none-some, all_append, all_left}
 use Rattle.fb_fastq.proofs.Words.{all_right}
 use Rattle.fb_fastq.proofs.{Swept.some_injective, Sweeps.no_later_trans, Far.waits_for_arm, OnLanes.on_cylinder}
 
@@ -35,21 +35,21 @@ row_on cylinder (x ∷ rows) (suc i) row h e =
     subst (λ c. AllByRecursion (λ (w : Waiting). IsOnCylinder c w.0.0) row.items) next (row_on (cylinder + 1) rows i row h.1 e)
 
 module _ (disk : Disk) (head : Track) (now : ℕ) where
-  -- one that is no later settles whatever is settled
-  pub settles_more : (a b : Candidate) (w : Waiting) → IsBefore a b → Settles disk head now b w → Settles disk head now a w
-  settles_more a b w before h = (
+  -- one that is no later rules out whatever is ruled out
+  pub still_ruled_out : (a b : Candidate) (w : Waiting) → IsBefore a b → RulesOut disk head now b w → RulesOut disk head now a w
+  still_ruled_out a b w before h = (
     no_later_trans a.wait a.key.1 b.wait b.key.1 (sptf disk head now w.1) w.0.1 before h.0,
     let le = h.1 in elim before [ inl less ↦ omega (arith, less, le) | inr tied ↦ (let same = tied.0 in omega (arith, same, le)) ],
   )
 
-  pub settles_all : (a b : Candidate) (ws : List Waiting) → IsBefore a b → SettlesAll disk head now b ws → SettlesAll disk head now a ws
-  settles_all a b [] before h = tt
-  settles_all a b (w ∷ ws) before h = (settles_more a b w before h.0, settles_all a b ws before h.1)
+  pub rules_out_all : (a b : Candidate) (ws : List Waiting) → IsBefore a b → RulesOutAll disk head now b ws → RulesOutAll disk head now a ws
+  rules_out_all a b [] before h = tt
+  rules_out_all a b (w ∷ ws) before h = (still_ruled_out a b w before h.0, rules_out_all a b ws before h.1)
 
-  -- a candidate that is no later than the one of a request settles the request
-  pub settles_own : (a next : Candidate) (w : Waiting) → IsBefore a next → next.key ≡ w.0 → next.wait ≡ sptf disk head now w.1 → next.wait ≤ 4 * 10 ^ 9 → Settles disk head now a w
-  settles_own a next w before key wait soon =
-      settles_more a next w before
+  -- a candidate that is no later than the one of a request rules the request out
+  pub rules_out_own : (a next : Candidate) (w : Waiting) → IsBefore a next → next.key ≡ w.0 → next.wait ≡ sptf disk head now w.1 → next.wait ≤ 4 * 10 ^ 9 → RulesOut disk head now a w
+  rules_out_own a next w before key wait soon =
+      still_ruled_out a next w before
       (inr (wait, let number = ap (λ (q : ℕ × ℕ). q.1) key in omega (arith, number)), soon)
 
   module _ (rows : List Row) where
@@ -103,8 +103,8 @@ module _ (disk : Disk) (rows : List Row) (own : AreRows 0 rows) (spots : AllByRe
 
   -- where the arm alone takes longer than the best
   pub far_row : (head : Track) (now distance time : ℕ) (best : Candidate) → SeeksRise disk.mechanism → time ≡ seek disk.mechanism distance → time ≤ 10 ^ 9 → best.wait < time
-      → distance ≤ distance_of head.cylinder i → SettlesAll disk head now best row.items
-  far_row head now distance time best rise is short longer far = all_at (Settles disk head now best) row.items (λ k w at.
+      → distance ≤ distance_of head.cylinder i → RulesOutAll disk head now best row.items
+  far_row head now distance time best rise is short longer far = all_at (RulesOut disk head now best) row.items (λ k w at.
       let on = (on_row k w at).0 in
       let farther : distance ≤ distance_of head.cylinder (track_at disk.map w.1.lbn).cylinder = subst (λ c. distance ≤ distance_of head.cylinder c) (sym on) far in
       let more = rise distance (distance_of head.cylinder (track_at disk.map w.1.lbn).cylinder) farther in
@@ -112,6 +112,6 @@ module _ (disk : Disk) (rows : List Row) (own : AreRows 0 rows) (spots : AllByRe
       (inl (omega (arith, is, longer, more, waits)), omega (arith, longer, short)))
 
 -- where there are none
-pub none_settles : (disk : Disk) (head : Track) (now : ℕ) (candidate : Candidate) (ws : List Waiting) → length ws ≡ 0 → SettlesAll disk head now candidate ws
-none_settles disk head now candidate [] none = tt
-none_settles disk head now candidate (w ∷ ws) none = absurd (omega (arith, none))
+pub none_ruled_out : (disk : Disk) (head : Track) (now : ℕ) (candidate : Candidate) (ws : List Waiting) → length ws ≡ 0 → RulesOutAll disk head now candidate ws
+none_ruled_out disk head now candidate [] none = tt
+none_ruled_out disk head now candidate (w ∷ ws) none = absurd (omega (arith, none))

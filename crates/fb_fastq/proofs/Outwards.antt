@@ -2,9 +2,9 @@
 use Rattle.fb_fastq.proofs.Words.{◌≡◌, ℕ, ◌<◌, ◌≤◌, List, [], ◌∷◌, refl, sym, ap, ◌∙◌, arith, true, inl, inr, Some, slice_get, length}
 use Rattle.fb_fastq.proofs.Words.{list_any, IsStrictlySortedBy, nat_cmp, is_at, contains, BTreeSet, cases_Bool, cases_lt, nat_tests}
 use Rattle.fb_fastq.proofs.Words.{Departure, Disk, seek, distance_of, Candidate, Pick, IsBefore, Row, AreOccupied, IsPick, IsArrival}
-use Rattle.fb_fastq.proofs.Words.{IsAlong, AreRows, all_of_rows, AllByRecursion, SettlesAll, ◌||◌, subst, map-id, SeeksRise, Arrival}
-use Rattle.fb_fastq.proofs.Words.{Side, Above, Below, IsOn, IsNoFarther, AreThose, cylinders_of, Settles}
-use Rattle.fb_fastq.proofs.{Keys.number_follows, Sweeps.no_later_trans, InRows.settles_all, InRows.none_settles, InRows.far_row, InRows.none_beyond, Swept.IsIn}
+use Rattle.fb_fastq.proofs.Words.{IsAlong, AreRows, all_of_rows, AllByRecursion, RulesOutAll, ◌||◌, subst, map-id, SeeksRise, Arrival}
+use Rattle.fb_fastq.proofs.Words.{Side, Above, Below, IsOn, IsNoFarther, AreThose, cylinders_of, RulesOut}
+use Rattle.fb_fastq.proofs.{Keys.number_follows, Sweeps.no_later_trans, InRows.rules_out_all, InRows.none_ruled_out, InRows.far_row, InRows.none_beyond, Swept.IsIn}
 use Rattle.fb_fastq.proofs.{Swept.rises_sorted, Swept.IsNext, Swept.IsSwept, Swept.swept_begins, Swept.swept_on, Swept.swept_stops}
 use Rattle.fb_fastq.proofs.Swept.{swept_ends, Takes, next_out, next_nearest}
 
@@ -23,7 +23,7 @@ module _ (disk : Disk) (from : Departure) (rows : List Row) (old : Pick) (side :
         → IsPick disk from.track from.instant rows limit pick
     pub before : IsBefore pick.best old.best
     pub swept : IsSwept (λ i. i) (λ i. IsOn side from.track.cylinder i × (i < cylinders_of disk.map.zones)) (λ i.
-        (row : Row) → slice_get rows i ≡ Some row → SettlesAll disk from.track from.instant pick.best row.items) left
+        (row : Row) → slice_get rows i ≡ Some row → RulesOutAll disk from.track from.instant pick.best row.items) left
 
   pub outwards_begins : (occupied : BTreeSet ℕ) (left : List ℕ) → AreOccupied occupied rows → IsStrictlySortedBy nat_cmp occupied.keys
       → AreThose (λ i. IsOn side from.track.cylinder i × (i < cylinders_of disk.map.zones)) occupied.keys left → IsOutwards old left
@@ -36,7 +36,7 @@ module _ (disk : Disk) (from : Departure) (rows : List Row) (old : Pick) (side :
         (λ k e on. on)
         (λ k on. elim (cases_Bool (contains nat_cmp occupied k)) [
           | inl has ↦ inr (is_among k occupied.keys has, on)
-          | inr without ↦ inl (λ row there. none_settles disk from.track from.instant old.best row.items
+          | inr without ↦ inl (λ row there. none_ruled_out disk from.track from.instant old.best row.items
               (elim (cases_lt 0 (length row.items)) [
                 | inl some ↦ absurd (let has = are k row there some in grind (arith, has, without))
                 | inr none ↦ omega (arith, none)
@@ -54,16 +54,16 @@ module _ {disk : Disk} {from : Departure} {rows : List Row} {old pick : Pick} {s
     (own : AreRows 0 rows) (spots : AllByRecursion (λ w. IsAlong disk w.1 w.0.0) (all_of_rows rows)) where
   -- beyond the disk none waits
   on_whole_side : ((i : ℕ) → IsOn side from.track.cylinder i × (i < cylinders_of disk.map.zones)
-      → (row : Row) → slice_get rows i ≡ Some row → SettlesAll disk from.track from.instant pick.best row.items)
+      → (row : Row) → slice_get rows i ≡ Some row → RulesOutAll disk from.track from.instant pick.best row.items)
       → (i : ℕ) (row : Row) → slice_get rows i ≡ Some row → IsOn side from.track.cylinder i
-      → SettlesAll disk from.track from.instant pick.best row.items
-  on_whole_side settled i row there on = elim (cases_lt i (cylinders_of disk.map.zones)) [
-    | inl within ↦ settled i (on, within) row there
-    | inr past ↦ none_beyond disk rows own spots i row there (Settles disk from.track from.instant pick.best) past
+      → RulesOutAll disk from.track from.instant pick.best row.items
+  on_whole_side ruled_out i row there on = elim (cases_lt i (cylinders_of disk.map.zones)) [
+    | inl within ↦ ruled_out i (on, within) row there
+    | inr past ↦ none_beyond disk rows own spots i row there (RulesOut disk from.track from.instant pick.best) past
   ]
 
   pub outwards_ends : left ≡ [] → (i : ℕ) (row : Row) → slice_get rows i ≡ Some row → IsOn side from.track.cylinder i
-      → SettlesAll disk from.track from.instant pick.best row.items
+      → RulesOutAll disk from.track from.instant pick.best row.items
   outwards_ends none = on_whole_side (swept_ends (λ i. i) walk.swept none)
 
   module _ (x : ℕ) (rest : List ℕ) (takes : Takes side left x rest) where
@@ -80,20 +80,20 @@ module _ {disk : Disk} {from : Departure} {rows : List Row} {old pick : Pick} {s
     pub outwards_goes_on : (new : Pick)
         → ((limit : Candidate) → IsPick disk from.track from.instant rows limit pick → IsPick disk from.track from.instant rows limit new)
         → IsBefore new.best pick.best
-        → ((row : Row) → slice_get rows x ≡ Some row → SettlesAll disk from.track from.instant new.best row.items)
+        → ((row : Row) → slice_get rows x ≡ Some row → RulesOutAll disk from.track from.instant new.best row.items)
         → IsOutwards disk from rows old side new rest
     outwards_goes_on new picks before least = record {
       picks = λ limit own. picks limit (walk.picks limit own);
       before = no_later_trans new.best.wait new.best.key.1 pick.best.wait pick.best.key.1 old.best.wait old.best.key.1 before walk.before;
       swept = swept_on (λ i. i) walk.swept x rest next
-          (λ i settled row there. settles_all disk from.track from.instant new.best pick.best row.items before (settled row there)) least;
+          (λ i ruled_out row there. rules_out_all disk from.track from.instant new.best pick.best row.items before (ruled_out row there)) least;
     }
 
     -- where the arm alone takes longer to a cylinder, and no others are nearer
     pub outwards_stops : SeeksRise disk.mechanism → (arrival : Arrival) → IsArrival disk from arrival → arrival.cylinder ≡ x
         → pick.best.wait < arrival.seek
         → (i : ℕ) (row : Row) → slice_get rows i ≡ Some row → IsOn side from.track.cylinder i
-        → SettlesAll disk from.track from.instant pick.best row.items
+        → RulesOutAll disk from.track from.instant pick.best row.items
     outwards_stops rise arrival is at longer =
         let seeks = is.seek_is ∙ ap (λ n. seek disk.mechanism (distance_of from.track.cylinder n)) at in
         on_whole_side (swept_stops (λ i. i) walk.swept (λ k has other here.

@@ -1,7 +1,7 @@
 -- A sweep over the lanes, from the head's cylinder outwards.
 use Rattle.fb_fastq.proofs.Words.{◌≡◌, ℕ, ◌+◌, ◌-◌, ◌*◌, ◌%◌, ◌^◌, ◌<◌, ◌≤◌, sym, ap, subst, ◌∙◌, arith, inl, inr, ◌⊎◌, BTreeMap, cases_lt}
 use Rattle.fb_fastq.proofs.Words.{Track, Request, track_at, pos, distance_of, Disk, sptf, Lane, Candidate, Holds, AllHeld, IsNoLater}
-use Rattle.fb_fastq.proofs.Words.{IsFirstHeld, turn, IsLane, IsAlong, IsCandidate, IsBefore, Beats, BeatsOn, BeatsBetween, Side, Above, Below}
+use Rattle.fb_fastq.proofs.Words.{IsFirstHeld, turn, IsLane, IsAlong, IsCandidate, IsBefore, ComesNoLater, ComesNoLaterOn, ComesNoLaterBetween, Side, Above, Below}
 use Rattle.fb_fastq.proofs.Words.{IsNoFarther, IsOn}
 use Rattle.fb_fastq.proofs.{Swept.some_injective, Least.waits_there, Turns.ComesFirst, OnLanes.on_cylinder, OnLanes.on_lane, OnLanes.begins}
 use Rattle.fb_fastq.proofs.{OnLanes.waits_on_lane}
@@ -28,17 +28,17 @@ is_one disk head now waiting old next new key r found held at wait (inr is) = su
 })
 
 module _ (disk : Disk) (head : Track) (now : ℕ) (waiting : BTreeMap (ℕ × ℕ) Request) (spots : AllHeld (λ key request. IsAlong disk request key.0) waiting) where
-  -- one that is sooner beats whatever is beaten
-  pub beats_more : (a b : Candidate) (key : ℕ × ℕ) (r : Request) → IsBefore a b → Beats disk head now b key r → Beats disk head now a key r
-  beats_more a b key r before beats = no_later_trans a.wait a.key.1 b.wait b.key.1 (sptf disk head now r) key.1 before beats
+  -- one that is no later comes no later than whatever the other comes no later than
+  pub still_no_later : (a b : Candidate) (key : ℕ × ℕ) (r : Request) → IsBefore a b → ComesNoLater disk head now b key r → ComesNoLater disk head now a key r
+  still_no_later a b key r before later = no_later_trans a.wait a.key.1 b.wait b.key.1 (sptf disk head now r) key.1 before later
 
   module _ (lane : Lane) (is_lane : IsLane lane) where
     module _ (length : ℕ) (whole : length ≡ disk.map.rotation) where
-      -- what comes first round the lane from the angle of arrival on beats the whole lane
-      pub beats_lane : (angle : ℕ) (w : (ℕ × ℕ) × Request) (candidate : Candidate) → angle ≡ (now + pos disk.mechanism head lane.track lane.write) % disk.map.rotation
+      -- what comes first round the lane from the angle of arrival on comes no later than the whole lane
+      pub no_later_than_lane : (angle : ℕ) (w : (ℕ × ℕ) × Request) (candidate : Candidate) → angle ≡ (now + pos disk.mechanism head lane.track lane.write) % disk.map.rotation
           → Holds waiting w.0 w.1 → lane.start ≤ w.0.0 → w.0.0 < lane.start + length → ComesFirst waiting lane.start length angle w
-          → candidate.key ≡ w.0 → candidate.wait ≡ sptf disk head now w.1 → BeatsBetween disk head now waiting candidate lane.start (lane.start + 2 ^ 30)
-      beats_lane angle w candidate is held from below first key wait = λ k s other inside under.
+          → candidate.key ≡ w.0 → candidate.wait ≡ sptf disk head now w.1 → ComesNoLaterBetween disk head now waiting candidate lane.start (lane.start + 2 ^ 30)
+      no_later_than_lane angle w candidate is held from below first key wait = λ k s other inside under.
           let way = pos disk.mechanism head lane.track lane.write in
           let short = disk.short_rotation in
           let own = spots w.0 w.1 held in
@@ -72,10 +72,10 @@ module _ (disk : Disk) (head : Track) (now : ℕ) (waiting : BTreeMap (ℕ × �
         let there = on_cylinder disk s w.0 (spots w s other) in
         omega (arith, here.0, here.1, there.0, there.1, outside, on, more)
 
--- a candidate that beats all is the first of all
+-- a candidate that comes no later than any is the first of all
 pub soonest_is_first : (disk : Disk) (head : Track) (now start : ℕ) (waiting : BTreeMap (ℕ × ℕ) Request) (above best : Candidate) → IsCandidate disk head now waiting best → IsBefore best above
-    → BeatsOn disk head now waiting above (record { side = Above; start = start })
-    → BeatsOn disk head now waiting best (record { side = Below; start = start })
+    → ComesNoLaterOn disk head now waiting above (record { side = Above; start = start })
+    → ComesNoLaterOn disk head now waiting best (record { side = Below; start = start })
     → IsFirstHeld (sptf disk head now) waiting best.key
 soonest_is_first disk head now start waiting above best found before over under = λ r e k s other.
     let rank = sptf disk head now in

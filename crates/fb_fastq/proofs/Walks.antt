@@ -2,7 +2,7 @@
 use Rattle.fb_fastq.proofs.Words.{◌≡◌, ℕ, ◌+◌, ◌<◌, ◌≤◌, ◌^◌, List, [], ◌∷◌, map, refl, sym, subst, arith, inl, inr}
 use Rattle.fb_fastq.proofs.Words.{◌⊎◌, Some, lookup, Less, BTreeMap, is_at, keys, IsStrictlySortedBy, Request, Track, Disk, Departure}
 use Rattle.fb_fastq.proofs.Words.{Visit, IsVisit, sptf, distance_of, track_at, Candidate, order, Waiting, Holds, AllHeld, IsAlong}
-use Rattle.fb_fastq.proofs.Words.{IsCandidate, IsBefore, Beats, BeatsOn, BeatsUntil, Ray, Side, Above, Below, IsOn, IsNoFarther, IsReached}
+use Rattle.fb_fastq.proofs.Words.{IsCandidate, IsBefore, ComesNoLater, ComesNoLaterOn, ComesNoLaterUntil, Ray, Side, Above, Below, IsOn, IsNoFarther, IsReached}
 use Rattle.fb_fastq.proofs.Words.{IsNearer, AreThose, ◌*◌, length}
 use Rattle.fb_fastq.proofs.{Keys.here_equal, Keys.follows, Keys.not_at, Least.held_is_in, Sweeps.no_later_trans, Sweeps.is_one, Sweeps.farther, Swept.IsIn}
 use Rattle.fb_fastq.proofs.{Swept.all_of, Swept.all_unmapped, Swept.rises_sorted, Swept.IsNext, Swept.IsSwept, Swept.swept_begins}
@@ -32,7 +32,7 @@ module _ (disk : Disk) (from : Departure) (waiting : BTreeMap (ℕ × ℕ) Reque
     pub found : IsCandidate disk from.track from.instant waiting best
     pub before : IsBefore best first
     pub swept : IsSwept spot (λ w. Holds waiting w.0 w.1 × IsOn ray.side ray.start w.0.0)
-        (λ w. Beats disk from.track from.instant best w.0 w.1) left
+        (λ w. ComesNoLater disk from.track from.instant best w.0 w.1) left
 
   pub walk_begins : (left : List Waiting) → IsCandidate disk from.track from.instant waiting first
       → IsStrictlySortedBy order (keys waiting)
@@ -89,7 +89,7 @@ module _ {disk : Disk} {from : Departure} {waiting : BTreeMap (ℕ × ℕ) Reque
     pub walk_reaches : IsReached ray.side ray.start visit.lane.start
     walk_reaches = reaches ray.side ray.start visit.lane.start x.0.0 start end (walk.swept.inside x next.there).1
 
-    pub walk_pauses : BeatsUntil disk from.track from.instant waiting best ray (Some visit)
+    pub walk_pauses : ComesNoLaterUntil disk from.track from.instant waiting best ray (Some visit)
     walk_pauses = λ k r held on nearer. elim (walk.swept.seen (k, r) (held, on)) [
       | inl beaten ↦ beaten
       | inr waits ↦ absurd (not_nearer ray.side visit.lane.start x.0.0 k.0 start end
@@ -100,7 +100,7 @@ module _ {disk : Disk} {from : Departure} {waiting : BTreeMap (ℕ × ℕ) Reque
     pub walk_stops : IsNoFarther ray.side (from.track.cylinder * 2 ^ 37) ray.start → IsVisit disk from visit
         → ((now : ℕ) (r : Request) → distance_of from.track.cylinder visit.lane.track.cylinder ≤ away disk from r
         → best.wait < sptf disk from.track now r)
-        → BeatsOn disk from.track from.instant waiting best ray
+        → ComesNoLaterOn disk from.track from.instant waiting best ray
     walk_stops outside is far k r held on =
         let same = is_there disk from visit is x.1 x.0.0 next_along start end in
         let here = walk.swept.inside x next.there in

@@ -31,9 +31,9 @@ pub use Rattle.fb_service.specs.declared.approach.Departure.{Departure}
 pub use Rattle.fb_service.specs.declared.disk.Disk.{Disk}
 pub use Rattle.fb_model.specs.PlainReplay.{better, first_least, sptf}
 pub use Rattle.fb_model.proofs.Lists.{all_append, all_filter, all_left, all_right}
-pub use Rattle.fb_fastq.specs.ByCylinder.{AreOccupied, AreRows, IsArrival, IsAt, IsDivided, IsOnCylinder, IsPick, Row, Settles, SettlesAll}
+pub use Rattle.fb_fastq.specs.ByCylinder.{AreOccupied, AreRows, IsArrival, IsAt, IsDivided, IsOnCylinder, IsPick, Row, RulesOut, RulesOutAll}
 pub use Rattle.fb_fastq.specs.ByCylinder.{all_of_rows, at_place}
-pub use Rattle.fb_fastq.specs.Candidates.{Beats, BeatsBetween, BeatsOn, BeatsUntil, IsBefore, IsCandidate}
+pub use Rattle.fb_fastq.specs.Candidates.{ComesNoLater, ComesNoLaterBetween, ComesNoLaterOn, ComesNoLaterUntil, IsBefore, IsCandidate}
 pub use Rattle.fb_fastq.specs.Joining.{AllHeld, AreNumbered, Holds, IsFirst, IsFirstHeld, IsIndex, IsNoLater, Waiting, Waits, in_order}
 pub use Rattle.fb_fastq.specs.Joining.{join_in, number_of, order, pending_of}
 pub use Rattle.fb_fastq.specs.Lanes.{IsAlong, IsLane, lane_start}

@@ -14,7 +14,7 @@ use Rattle.fb_fastq.specs.declared.arrival.Arrival.{Arrival}
 use Rattle.fb_fastq.specs.declared.rows.Place.{Place}
 use Rattle.fb_fastq.specs.declared.rows.Pick.{Pick}
 use Rattle.fb_fastq.specs.Joining.{Waiting, IsIndex}
-use Rattle.fb_fastq.specs.Candidates.{IsBefore, Beats}
+use Rattle.fb_fastq.specs.Candidates.{IsBefore, ComesNoLater}
 
 -- the requests of a cylinder
 abbrev pub Row : Type 0
@@ -65,13 +65,13 @@ pub record IsPick (disk : Disk) (head : Track) (now : ℕ) (rows : List Row) (li
   pub found : MatchOption pick.place (pick.best ≡ limit) (λ place. IsAt disk head now rows place pick.best)
   pub before : IsBefore pick.best limit
 
--- the candidate is no later than a request that waits, and so it comes soon
-abbrev pub Settles : Disk → Track → ℕ → Candidate → Waiting → Type 0
-Settles disk head now candidate w = Beats disk head now candidate w.0 w.1 × (candidate.wait ≤ 4 * 10 ^ 9)
+-- the candidate is no later than a request that waits, and it comes soon: the request need not be looked at
+abbrev pub RulesOut : Disk → Track → ℕ → Candidate → Waiting → Type 0
+RulesOut disk head now candidate w = ComesNoLater disk head now candidate w.0 w.1 × (candidate.wait ≤ 4 * 10 ^ 9)
 
 -- it is no later than any of these
-abbrev pub SettlesAll : Disk → Track → ℕ → Candidate → List Waiting → Type 0
-SettlesAll disk head now candidate ws = AllByRecursion (Settles disk head now candidate) ws
+abbrev pub RulesOutAll : Disk → Track → ℕ → Candidate → List Waiting → Type 0
+RulesOutAll disk head now candidate ws = AllByRecursion (RulesOut disk head now candidate) ws
 
 -- the requests that wait are divided among a map and the rows, and those of the rows are counted
 pub record IsDivided (entries : List Waiting) (rows : List Row) (in_rows joined : ℕ) : Type 0 where

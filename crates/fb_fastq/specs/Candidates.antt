@@ -21,21 +21,21 @@ pub record IsCandidate (disk : Disk) (head : Track) (now : ℕ) (waiting : BTree
 abbrev pub IsBefore : Candidate → Candidate → Type 0
 IsBefore a b = IsNoLater a.wait a.key.1 b.wait b.key.1
 
--- a candidate is sooner than a request that waits under a key, or as soon and joined no later
-abbrev pub Beats : Disk → Track → ℕ → Candidate → ℕ × ℕ → Request → Type 0
-Beats disk head now candidate key request = IsNoLater candidate.wait candidate.key.1 (sptf disk head now request) key.1
+-- a candidate is sooner than a request that waits under a key, or is as soon and joined no later
+abbrev pub ComesNoLater : Disk → Track → ℕ → Candidate → ℕ × ℕ → Request → Type 0
+ComesNoLater disk head now candidate key request = IsNoLater candidate.wait candidate.key.1 (sptf disk head now request) key.1
 
--- it beats all that wait at these spots
-abbrev pub BeatsBetween : Disk → Track → ℕ → BTreeMap (ℕ × ℕ) Request → Candidate → ℕ → ℕ → Type 0
-BeatsBetween disk head now waiting candidate start end = AllHeld (λ key request. start ≤ key.0 → key.0 < end → Beats disk head now candidate key request) waiting
+-- it comes no later than any that waits at these spots
+abbrev pub ComesNoLaterBetween : Disk → Track → ℕ → BTreeMap (ℕ × ℕ) Request → Candidate → ℕ → ℕ → Type 0
+ComesNoLaterBetween disk head now waiting candidate start end = AllHeld (λ key request. start ≤ key.0 → key.0 < end → ComesNoLater disk head now candidate key request) waiting
 
--- it beats all that wait on a ray
-abbrev pub BeatsOn : Disk → Track → ℕ → BTreeMap (ℕ × ℕ) Request → Candidate → Ray → Type 0
-BeatsOn disk head now waiting candidate ray = AllHeld (λ key request.
-    IsOn ray.side ray.start key.0 → Beats disk head now candidate key request) waiting
+-- it comes no later than any that waits on a ray
+abbrev pub ComesNoLaterOn : Disk → Track → ℕ → BTreeMap (ℕ × ℕ) Request → Candidate → Ray → Type 0
+ComesNoLaterOn disk head now waiting candidate ray = AllHeld (λ key request.
+    IsOn ray.side ray.start key.0 → ComesNoLater disk head now candidate key request) waiting
 
--- it beats all that wait there and are nearer than a lane, if there is one
-abbrev pub BeatsUntil : Disk → Track → ℕ → BTreeMap (ℕ × ℕ) Request → Candidate → Ray → Option Visit → Type 0
-BeatsUntil disk head now waiting candidate ray lane = AllHeld (λ key request.
+-- it comes no later than any that waits there and is nearer than a lane, if there is one
+abbrev pub ComesNoLaterUntil : Disk → Track → ℕ → BTreeMap (ℕ × ℕ) Request → Candidate → Ray → Option Visit → Type 0
+ComesNoLaterUntil disk head now waiting candidate ray lane = AllHeld (λ key request.
     IsOn ray.side ray.start key.0 → IfSome lane (λ visit. IsNearer ray.side visit.lane.start key.0)
-    → Beats disk head now candidate key request) waiting
+    → ComesNoLater disk head now candidate key request) waiting

@@ -14,7 +14,7 @@ ghost use Rattle.fb_fastq.specs.Lanes.{IsAlong};
 ghost use Rattle.fb_fastq.specs.Sides.{IsOn, AreThose};
 ghost use Rattle.fb_fastq.specs.Candidates.{IsBefore};
 ghost use Rattle.fb_fastq.specs.More.{IsMore};
-ghost use Rattle.fb_fastq.specs.ByCylinder.{Row, all_of_rows, at_place, IsOnCylinder, AreRows, AreOccupied, IsArrival, IsPick, SettlesAll, Numbers};
+ghost use Rattle.fb_fastq.specs.ByCylinder.{Row, all_of_rows, at_place, IsOnCylinder, AreRows, AreOccupied, IsArrival, IsPick, RulesOutAll, Numbers};
 
 use crate::arrival::{Arrival, arrival_at};
 use crate::side::Side;
@@ -72,7 +72,7 @@ fn soonest_of_row(
     ensures pick { (limit : Candidate) → IsPick disk.now from.now.track from.now.instant rows.now limit pick
         → IsPick disk.now from.now.track from.now.instant rows.now limit result }
     ensures first { IsBefore result.best pick.best }
-    ensures least { (row : Row) → slice_get rows.now arrival.now.cylinder ≡ Some row → SettlesAll disk.now from.now.track from.now.instant result.best row.items }
+    ensures least { (row : Row) → slice_get rows.now arrival.now.cylinder ≡ Some row → RulesOutAll disk.now from.now.track from.now.instant result.best row.items }
 {
     let number = arrival.cylinder as usize;
     if rows.len() <= number {
@@ -134,7 +134,7 @@ fn walk(
         → IsPick disk.now from.now.track from.now.instant rows.now limit result }
     ensures first { IsBefore result.best pick.best }
     ensures least { (i : ℕ) (row : Row) → slice_get rows.now i ≡ Some row → IsOn side from.now.track.cylinder i
-        → SettlesAll disk.now from.now.track from.now.instant result.best row.items }
+        → RulesOutAll disk.now from.now.track from.now.instant result.best row.items }
 {
     let mut pick = pick;
     let mut left = occupied_on(occupied, disk, from, side);
@@ -174,7 +174,7 @@ pub fn soonest_in_rows(
     requires occupied { AreOccupied occupied.now rows.now }
     requires from { IsDeparture disk.now from.now }
     ensures pick { IsPick disk.now from.now.track from.now.instant rows.now limit result }
-    ensures least { SettlesAll disk.now from.now.track from.now.instant result.best (all_of_rows rows.now) }
+    ensures least { RulesOutAll disk.now from.now.track from.now.instant result.best (all_of_rows rows.now) }
 {
     let pick = Pick {
         best: limit,

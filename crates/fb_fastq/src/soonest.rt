@@ -11,7 +11,7 @@ ghost use Rattle.fb_fastq.specs.Joining.{AllHeld, IsFirstHeld};
 ghost use Rattle.fb_fastq.specs.Lanes.{IsLane, IsAlong};
 ghost use Rattle.fb_fastq.specs.Visits.{IsVisit};
 ghost use Rattle.fb_fastq.specs.Sides.{IsNoFarther, IsReached};
-ghost use Rattle.fb_fastq.specs.Candidates.{IsCandidate, IsBefore, BeatsBetween, BeatsUntil, BeatsOn};
+ghost use Rattle.fb_fastq.specs.Candidates.{IsCandidate, IsBefore, ComesNoLaterBetween, ComesNoLaterUntil, ComesNoLaterOn};
 
 use crate::index::{next_or_first, next_round};
 use crate::lanes::cylinder_start;
@@ -81,7 +81,7 @@ fn soonest_of_lane(
     requires angle { visit.now.angle < disk.now.map.rotation }
     ensures found { (from : Departure) → IsVisit disk.now from visit.now → IsCandidate disk.now from.track from.instant waiting.now best → IsCandidate disk.now from.track from.instant waiting.now result }
     ensures first { IsBefore result best }
-    ensures least { (from : Departure) → IsVisit disk.now from visit.now → BeatsBetween disk.now from.track from.instant waiting.now result visit.now.lane.start (visit.now.lane.start + 2 ^ 30) }
+    ensures least { (from : Departure) → IsVisit disk.now from visit.now → ComesNoLaterBetween disk.now from.track from.instant waiting.now result visit.now.lane.start (visit.now.lane.start + 2 ^ 30) }
 {
     let rotation = disk.map.geometry().rotation();
     match next_round(waiting, visit.lane.start, rotation, visit.angle) {
@@ -111,7 +111,7 @@ fn walk(
     ensures first { IsBefore result.best first }
     ensures full { IfSome result.full (IsVisit disk.now from) }
     ensures reached { IfSome result.full (λ visit. IsReached ray.side ray.start visit.lane.start) }
-    ensures least { BeatsUntil disk.now from.track from.instant waiting.now result.best ray result.full }
+    ensures least { ComesNoLaterUntil disk.now from.track from.instant waiting.now result.best ray result.full }
 {
     let mut best = first;
     let mut visit = any;
@@ -153,7 +153,7 @@ fn soonest_on(
     requires first { IsCandidate disk.now from.track from.instant waiting.now first }
     ensures found { IsCandidate disk.now from.track from.instant waiting.now result }
     ensures first { IsBefore result first }
-    ensures least { BeatsOn disk.now from.track from.instant waiting.now result ray }
+    ensures least { ComesNoLaterOn disk.now from.track from.instant waiting.now result ray }
 {
     let mut walked = walk(waiting, disk, from, ray, any, first);
     while let Some(visit) = walked.full {

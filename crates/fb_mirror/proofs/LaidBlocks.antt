@@ -295,7 +295,7 @@ module _ (inputs : Inputs) (rising : IsRising (map (λ (call : Call). call.insta
   unfolding past_after
   laid_after past step laid = laid_finish (fold with_delivery (tested_past inputs past step) step.deliveries) (decision_in step)
       (laid_deliveries (tested_past inputs past step) step.deliveries
-      (laid_tested inputs.disk.map inputs.calls (chosen_past inputs past (decision_in step)) (laid_chosen past (decision_in step) laid) step.settled))
+      (laid_tested inputs.disk.map inputs.calls (chosen_past inputs past (decision_in step)) (laid_chosen past (decision_in step) laid) step.test))
 
   -- the wanted blocks lie on the disk
   pub wanted_lies : (past : Past) → AreLaid inputs past → AllByRecursion (LiesOn inputs.disk.map) (wanted past)

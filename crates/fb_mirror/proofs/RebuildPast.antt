@@ -152,7 +152,7 @@ module _ (P : DeliveryRow → Type 0) (inputs : Inputs) (calls : inputs.calls �
   unfolding past_after
   after_rebuilds past step is each = finish_rebuilds (fold with_delivery (tested_past inputs past step) step.deliveries) (decision_in step)
       (deliveries_rebuild (tested_past inputs past step) step.deliveries
-      (rebuilding_more P inputs.disk.map (chosen_past inputs past (decision_in step)) (tested step.settled) (chosen_rebuilds past (decision_in step) is) tt) each)
+      (rebuilding_more P inputs.disk.map (chosen_past inputs past (decision_in step)) (tested step.test) (chosen_rebuilds past (decision_in step) is) tt) each)
 
 -- ---- blocks by their numbers
 
@@ -180,11 +180,11 @@ pub wanted_have : (P : DeliveryRow → Type 0) (disk : Shape) (past : Past) (Q :
 unfolding wanted
 wanted_have P disk past Q is all = all_filter Q (λ block. is_wanted (state past block)) (registered past) (subst (AllByRecursion Q) (sym (blocks_are P disk past is)) all)
 
-numbered_at : (task weight n : ℕ) (cuts : List Cut) (i : ℕ) (block : Block) → slice_get (numbered task weight n cuts) i ≡ Some block → (block.task ≡ task) × (block.index ≡ n + i)
+numbered_at : (task weight n : ℕ) (cuts : List Cut) (i : ℕ) (block : Block) → slice_get (numbered task weight n cuts) i ≡ Some block → (block.task ≡ task) × (block.number ≡ n + i)
 numbered_at task weight n [] i block at = absurd (grind arith)
 numbered_at task weight n (cut ∷ cuts) zero block at =
     let same = some_is at in
-    (sym (ap (λ (b : Block). b.task) same), omega (arith, ap (λ (b : Block). b.index) same))
+    (sym (ap (λ (b : Block). b.task) same), omega (arith, ap (λ (b : Block). b.number) same))
   where
     some_is : {a b : Block} → Some a ≡ Some b → a ≡ b
     some_is e = grind arith
@@ -194,8 +194,8 @@ numbered_at task weight n (cut ∷ cuts) (suc i) block at = let rest = numbered_
 one_number : (disk : Shape) (a b : Block) → IsOneOf (disk_blocks disk) a → IsOneOf (disk_blocks disk) b → same_block a b ≡ true → a ≡ b
 one_number disk a b is_a is_b same =
     let cuts = cutting disk 16 0 (length (places disk)) in
-    let index = eqb-true a.index b.index (and_parts (a.task == b.task) (a.index == b.index) same).1 in
-    let place : is_a.0 ≡ is_b.0 = omega (arith, (numbered_at 0 1 0 cuts is_a.0 a is_a.1).1, (numbered_at 0 1 0 cuts is_b.0 b is_b.1).1, index) in
+    let number = eqb-true a.number b.number (and_parts (a.task == b.task) (a.number == b.number) same).1 in
+    let place : is_a.0 ≡ is_b.0 = omega (arith, (numbered_at 0 1 0 cuts is_a.0 a is_a.1).1, (numbered_at 0 1 0 cuts is_b.0 b is_b.1).1, number) in
     same_Some a b (sym is_a.1 ∙ ap (slice_get (disk_blocks disk)) place ∙ is_b.1)
 
 -- ---- a complete rebuild has delivered each block
@@ -245,7 +245,7 @@ complete_over past are done =
 
 own_blocks : (weight n : ℕ) (cuts : List Cut) → filter (λ (block : Block). block.task == 0) (numbered 0 weight n cuts) ≡ numbered 0 weight n cuts
 own_blocks weight n [] = refl
-own_blocks weight n (cut ∷ cuts) = ap (λ blocks. record { task = 0; index = n; lbn = cut.lbn; count = cut.count; track = cut.track; weight = weight; sweep = cut.sweep } ∷ blocks) (own_blocks weight (n + 1) cuts)
+own_blocks weight n (cut ∷ cuts) = ap (λ blocks. record { task = 0; number = n; lbn = cut.lbn; count = cut.count; track = cut.track; weight = weight; sweep = cut.sweep } ∷ blocks) (own_blocks weight (n + 1) cuts)
 
 all_passed : (test : Block → Bool) (Q : Block → Type 0) (blocks : List Block) → ((block : Block) → IsOneOf blocks block → test block ≡ true → Q block) → list_all test blocks ≡ true → AllByRecursion Q blocks
 all_passed test Q [] each passed = tt

@@ -180,16 +180,16 @@ module _ (inputs : Inputs) (replay : List Served) (rows : List BackRow) (calls :
 
   module _ (past : Past) (step : Step) (come : HasComeTo (instant_of (decision_in step)) past) (placed : IsPlaced inputs.disk 0 replay (decision_in step)) (planned : IsPlanned inputs survivor past step)
       (some : IsDelivered inputs survivor past step) where
-    settled_then : IsRebuiltBy (instant_of (decision_in step)) (chosen_past inputs past (decision_in step))
-    settled_then = chosen_rebuilds (IsCopiedBy (instant_of (decision_in step))) inputs calls past (decision_in step) come
+    chosen_then : IsRebuiltBy (instant_of (decision_in step)) (chosen_past inputs past (decision_in step))
+    chosen_then = chosen_rebuilds (IsCopiedBy (instant_of (decision_in step))) inputs calls past (decision_in step) come
 
     wanted_some : AllByRecursion HasSector (wanted (chosen_past inputs past (decision_in step)))
-    wanted_some = wanted_have (IsCopiedBy (instant_of (decision_in step))) inputs.disk.map (chosen_past inputs past (decision_in step)) HasSector settled_then (disk_some inputs.disk.map)
+    wanted_some = wanted_have (IsCopiedBy (instant_of (decision_in step))) inputs.disk.map (chosen_past inputs past (decision_in step)) HasSector chosen_then (disk_some inputs.disk.map)
 
     got_copied : AllByRecursion (CoversIn keep rows) (gots step) → AllByRecursion IsCopied (gots step)
     got_copied cover =
         let One = IsOneOf (disk_blocks inputs.disk.map) in
-        let due = delivery_true inputs survivor past step One some (wanted_have (IsCopiedBy (instant_of (decision_in step))) inputs.disk.map (chosen_past inputs past (decision_in step)) One settled_then (disk_ones inputs.disk.map)) in
+        let due = delivery_true inputs survivor past step One some (wanted_have (IsCopiedBy (instant_of (decision_in step))) inputs.disk.map (chosen_past inputs past (decision_in step)) One chosen_then (disk_ones inputs.disk.map)) in
         all_both (λ row. One row.block) (CoversIn keep rows) (gots step)
         (all_weaker (IsDueRow survivor.disk (contents_at survivor) step.act One) (λ row. One row.block) (λ row due_row. due_block survivor.disk (contents_at survivor) step.act One row due_row) (gots step) due) cover
 
@@ -216,7 +216,7 @@ module _ (inputs : Inputs) (replay : List Served) (rows : List BackRow) (calls :
       let after = come_later (instant_of d) (end_of d) past (omega (arith, turns.1, turns.2)) here in
       let copied_by = all_weaker (λ row. IsCopied row × (row.end ≤ end_of d)) (IsCopiedBy (end_of d)) (λ row both. (both.0.0, both.0.1, both.1)) (gots step)
       (all_both IsCopied (λ (row : DeliveryRow). row.end ≤ end_of d) (gots step) copied over) in (
-        step_fits IsCopied AreAllCovered IsRebuiltBy NoEarlier rebuild_kept inputs survivor past step (settled_then past step here placed.0 planned.0 some.0) tests.0 copied (got_linked past step here placed.0 planned.0 some.0 all.0),
+        step_fits IsCopied AreAllCovered IsRebuiltBy NoEarlier rebuild_kept inputs survivor past step (chosen_then past step here placed.0 planned.0 some.0) tests.0 copied (got_linked past step here placed.0 planned.0 some.0 all.0),
         steps_copied (end_of d) (past_after inputs past step) steps (inr (after_rebuilds (IsCopiedBy (end_of d)) inputs calls past step after copied_by)) turns.3 placed.1 planned.1 some.1 all.1 tests.1 cover.1,
       )
 

@@ -133,11 +133,11 @@ module _ (P : DeliveryRow → Type 0) (C : ℕ → Type 0) where
     pub step_fits : (inputs : Inputs) (medium : Medium) (past : Past) (step : Step) → I (instant_of (decision_in step)) (chosen_past inputs past (decision_in step)) → IsTested inputs medium past step
         → AllByRecursion P (gots step) → AreLinked R (instant_of (decision_in step)) (gots step) → RowsFit P C (step_rows inputs.disk step)
     step_fits inputs medium past step holds is each linked =
-        all_append (RowFits P C) (step.settled ++ opening inputs.disk step.act) (flat_map (λ (delivery : Delivery). GotLine delivery.got ∷ delivery.after) step.deliveries)
-        (all_append (RowFits P C) step.settled (opening inputs.disk step.act)
-        (subst (RowsFit P C) (sym is.settled) (test_fits medium (chosen_past inputs past (decision_in step)) (instant_of (decision_in step)) holds))
+        all_append (RowFits P C) (step.test ++ opening inputs.disk step.act) (flat_map (λ (delivery : Delivery). GotLine delivery.got ∷ delivery.after) step.deliveries)
+        (all_append (RowFits P C) step.test (opening inputs.disk step.act)
+        (subst (RowsFit P C) (sym is.test) (test_fits medium (chosen_past inputs past (decision_in step)) (instant_of (decision_in step)) holds))
         (opening_fits inputs.disk step.act))
-        (followed_fit medium (instant_of (decision_in step)) (tested_past inputs past step) step.deliveries (kept.tests (instant_of (decision_in step)) (chosen_past inputs past (decision_in step)) step.settled holds) is.followed each linked)
+        (followed_fit medium (instant_of (decision_in step)) (tested_past inputs past step) step.deliveries (kept.tests (instant_of (decision_in step)) (chosen_past inputs past (decision_in step)) step.test holds) is.followed each linked)
 
 -- where no fact comes with seals
 any_kept : (P : DeliveryRow → Type 0) → IsKept P NoFact (λ now past. Unit {0}) AnyEnds
@@ -177,7 +177,7 @@ gots_fit : (P : DeliveryRow → Type 0) (C : ℕ → Type 0) (inputs : Inputs) (
 gots_fit P C inputs past [] fit = tt
 gots_fit P C inputs past (step ∷ steps) fit = (
   gots_of P C step.deliveries
-      (all_right (RowFits P C) (step.settled ++ opening inputs.disk step.act) (flat_map (λ (delivery : Delivery). GotLine delivery.got ∷ delivery.after) step.deliveries)
+      (all_right (RowFits P C) (step.test ++ opening inputs.disk step.act) (flat_map (λ (delivery : Delivery). GotLine delivery.got ∷ delivery.after) step.deliveries)
       (all_left (RowFits P C) (step_rows inputs.disk step) (flat_map (step_rows inputs.disk) steps) fit)),
   gots_fit P C inputs (past_after inputs past step) steps (all_right (RowFits P C) (step_rows inputs.disk step) (flat_map (step_rows inputs.disk) steps) fit),
 )

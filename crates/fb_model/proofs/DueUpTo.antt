@@ -170,10 +170,10 @@ module _ (disk : Disk) (x y : ContentsAt) (from to : ℕ) (same : AgreeBetween f
 
 pub before_end : (end : ℕ) (block : Block) (other_end : ℕ) (other : Block) → is_before end block other_end other ≡ true → end ≤ other_end
 before_end end block other_end other h =
-    elim (or_cases (nat_lt end other_end) ((end == other_end) && (nat_lt block.task other.task || ((block.task == other.task) && nat_lt block.index other.index))) h) [
+    elim (or_cases (nat_lt end other_end) ((end == other_end) && (nat_lt block.task other.task || ((block.task == other.task) && nat_lt block.number other.number))) h) [
       | inl less ↦ grind (arith, nat_tests)
       | inr tie ↦
-          let same = eqb-true end other_end (and_parts (end == other_end) (nat_lt block.task other.task || ((block.task == other.task) && nat_lt block.index other.index)) tie).0 in
+          let same = eqb-true end other_end (and_parts (end == other_end) (nat_lt block.task other.task || ((block.task == other.task) && nat_lt block.number other.number)) tie).0 in
           omega arith
     ]
 

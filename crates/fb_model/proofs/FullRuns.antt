@@ -92,18 +92,18 @@ pub record IsFullStep (inputs : Inputs) (medium : Medium) (past : Past) (step : 
 pub one_step : (inputs : Inputs) (medium : Medium) (past : Past) (a b : Step) → decision_in a ≡ decision_in b
     → IsFullStep inputs medium past a → IsFullStep inputs medium past b → a ≡ b
 one_step inputs medium past a b same h k =
-    let settles = λ (decision : Decision). chosen_past inputs past decision in
-    let best = subst (λ d. HasBestPlan inputs.disk (wanted (settles d)) a.act) same h.best in
-    let act : a.act ≡ b.act = one_act inputs.disk (wanted (settles (decision_in b))) a.act b.act same best k.best in
-    let rows : a.settled ≡ b.settled =
-    h.tests.settled ∙ ap (λ d. test_rows medium (settles d) (instant_of d)) same ∙ sym k.tests.settled in
+    let chooses = λ (decision : Decision). chosen_past inputs past decision in
+    let best = subst (λ d. HasBestPlan inputs.disk (wanted (chooses d)) a.act) same h.best in
+    let act : a.act ≡ b.act = one_act inputs.disk (wanted (chooses (decision_in b))) a.act b.act same best k.best in
+    let rows : a.test ≡ b.test =
+    h.tests.test ∙ ap (λ d. test_rows medium (chooses d) (instant_of d)) same ∙ sym k.tests.test in
     let all : gots a.deliveries ≡ gots b.deliveries =
-    h.all ∙ ap (λ act. due medium.disk (contents_at medium) act (wanted (settles (decision_of act)))) act ∙ sym k.all in
-    let pasts : tested_past inputs past a ≡ tested_past inputs past b = ap₂ (λ rows d. tested rows ∷ settles d) rows same in
+    h.all ∙ ap (λ act. due medium.disk (contents_at medium) act (wanted (chooses (decision_of act)))) act ∙ sym k.all in
+    let pasts : tested_past inputs past a ≡ tested_past inputs past b = ap₂ (λ rows d. tested rows ∷ chooses d) rows same in
     let followed = subst (λ past. AreFollowed medium past a.deliveries) pasts h.tests.followed in
     let deliveries = one_following medium (tested_past inputs past b) a.deliveries b.deliveries followed k.tests.followed all in
     ap (λ act. record a { act = act }) act
-    ∙ ap (λ rows. record a { act = b.act; settled = rows }) rows
+    ∙ ap (λ rows. record a { act = b.act; test = rows }) rows
     ∙ ap (λ deliveries. record b { deliveries = deliveries }) deliveries
 
 -- ---- all steps

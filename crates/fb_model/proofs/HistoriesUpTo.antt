@@ -194,12 +194,12 @@ pub due_first : (calls : List Call) (past : Past) (now : ℕ) → RiseInTime cal
     → (rest : List Call) × (calls_left calls past ≡ calls_due calls past now ++ rest)
 due_first calls past now rising = come_first now (calls_left calls past) (rising_behind (length (calls_of past)) calls rising)
 
-pub same_settled : (a b : Inputs) (t : ℕ) (past : Past) (decision other : Decision) → a.disk ≡ b.disk
+pub same_chosen : (a b : Inputs) (t : ℕ) (past : Past) (decision other : Decision) → a.disk ≡ b.disk
     → RiseInTime a.calls → RiseInTime b.calls → filter (calls_by t) a.calls ≡ filter (calls_by t) b.calls
     → instant_of decision ≤ t
     → instant_of decision ≡ instant_of other → chosen_past a past decision ≡ chosen_past b past other
 unfolding chosen_past
-same_settled a b t past decision other disk rising_a rising_b calls h at =
+same_chosen a b t past decision other disk rising_a rising_b calls h at =
     let now = instant_of decision in
     let twice = λ (calls : List Call). kept_twice (calls_by now) (calls_by t) (λ call by. by_later now t call.instant h by) calls in
     let due : filter (calls_by now) a.calls ≡ filter (calls_by now) b.calls = sym (twice a.calls) ∙ (ap (filter (calls_by now)) calls ∙ twice b.calls) in

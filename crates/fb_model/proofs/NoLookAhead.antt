@@ -37,7 +37,7 @@ use Rattle.fb_model.proofs.Passages.{LiesOnDisk, are_services, requests_lie, wri
 use Rattle.fb_model.proofs.ContentsUpTo.{medium_with, HoldSame, same_contents, hold_same, same_fore}
 use Rattle.fb_model.proofs.Instants.{instants_from, rising_all_among, all_come, same_instants}
 use Rattle.fb_model.proofs.DecisionsUpTo.{IsMade, IsLater, AlikeDecisions, same, dwelling, later, end_from, alike_decisions}
-use Rattle.fb_model.proofs.HistoriesUpTo.{HasSector, AreFine, HasBegun, wanted_fine, chosen_fine, after_fine, all_fine_weaker, calls_by, RiseInTime, same_settled}
+use Rattle.fb_model.proofs.HistoriesUpTo.{HasSector, AreFine, HasBegun, wanted_fine, chosen_fine, after_fine, all_fine_weaker, calls_by, RiseInTime, same_chosen}
 use Rattle.fb_model.proofs.RowsUpTo.{AreUnknown, AreKnownAlike, IsUnknown, unknown_before, alike_behind, tests_unknown, tasks_unknown, delivered_rows, deliveries_unknown, same_tests, same_followed, ends_by_then, RisingEnds, alike_deliveries}
 use Rattle.fb_model.proofs.Unlined.{unlined_inputs, steps_same, instants_same}
 use Rattle.fb_model.proofs.DueUpTo.{LiesBetween, AgreeBetween, delivers_by, due_between, same_due, rising_caught, same_by_then}
@@ -48,8 +48,8 @@ gots_all : (P : DeliveryRow → Type 0) (deliveries : List Delivery) → AllByRe
 gots_all P [] all = tt
 gots_all P (d ∷ ds) all = (all.0, gots_all P ds all.1)
 
-regroup : (settled opened got rest more : List BackRow) → (((settled ++ opened) ++ got) ++ rest) ++ more ≡ settled ++ (opened ++ (got ++ (rest ++ more)))
-regroup settled opened got rest more = simp append_assoc
+regroup : (test opened got rest more : List BackRow) → (((test ++ opened) ++ got) ++ rest) ++ more ≡ test ++ (opened ++ (got ++ (rest ++ more)))
+regroup test opened got rest more = simp append_assoc
 
 opening_unknown : (t : ℕ) (disk : Disk) (act : Act) → IsLater t disk (decision_of act) → AllByRecursion (IsUnknown t) (opening disk act)
 opening_unknown t disk (serving served plan) late = (λ follows. after_is served.start t late.from, tt)
@@ -89,9 +89,9 @@ module _ (disk : Disk) (latent : List ℕ) (key : Key) (trace : List Request) (p
       let between = step_between P past step full.0 late.0.made fine in
       let others = steps_unknown t P any (past_after inputs past step) steps more late.1 full.1
       (after_fine P inputs past step (gots_all P step.deliveries (all_weaker (LiesBetween (instant_of d) (end_of d)) P (λ row h. any row) (gots step.deliveries) between)) fine) unknown in
-      subst (AreUnknown t) (sym (regroup step.settled (opening disk step.act) (delivered_rows step.deliveries) rest more))
-      (unknown_before t step.settled (opening disk step.act ++ (delivered_rows step.deliveries ++ (rest ++ more)))
-      (subst (AllByRecursion (IsUnknown t)) (sym full.0.tests.settled) (tests_unknown t medium (chosen_past inputs past d) (instant_of d) instant))
+      subst (AreUnknown t) (sym (regroup step.test (opening disk step.act) (delivered_rows step.deliveries) rest more))
+      (unknown_before t step.test (opening disk step.act ++ (delivered_rows step.deliveries ++ (rest ++ more)))
+      (subst (AllByRecursion (IsUnknown t)) (sym full.0.tests.test) (tests_unknown t medium (chosen_past inputs past d) (instant_of d) instant))
       (unknown_before t (opening disk step.act) (delivered_rows step.deliveries ++ (rest ++ more)) (opening_unknown t disk step.act late.0)
       (deliveries_unknown t medium (tested_past inputs past step) step.deliveries (rest ++ more) full.0.tests.followed
       (all_weaker (LiesBetween (instant_of d) (end_of d)) (λ (row : DeliveryRow). t < row.end) (λ row h. let begins = h.begins in let in_turn = h.in_turn in omega (arith, begins, in_turn, instant)) (gots step.deliveries) between)
@@ -121,34 +121,34 @@ module _ (disk : Disk) (latent : List ℕ) (key : Key) (trace_a trace_b : List R
   agree : AgreeBetween 0 done (contents_at medium_a) (contents_at medium_b)
   agree lbn n u after before = same_contents done medium_a medium_b hold lbn n u before
 
-  settles : (past : Past) (d e : Decision) → instant_of d ≤ t → instant_of d ≡ instant_of e → chosen_past inputs_a past d ≡ chosen_past inputs_b past e
-  settles past d e h at = same_settled inputs_a inputs_b t past d e refl rising_a rising_b come h at
+  chooses : (past : Past) (d e : Decision) → instant_of d ≤ t → instant_of d ≡ instant_of e → chosen_past inputs_a past d ≡ chosen_past inputs_b past e
+  chooses past d e h at = same_chosen inputs_a inputs_b t past d e refl rising_a rising_b come h at
 
   -- a step of the one run's would do in the other
   as_well : (past : Past) (step : Step) → instant_of (decision_in step) ≤ t → end_of (decision_in step) ≤ done → IsMade disk (decision_in step) → AreFine (HasBegun done) past
       → IsFullStep inputs_b medium_b past step → IsFullStep inputs_a medium_a past step
   as_well past step h ended made fine full =
       let d = decision_in step in
-      let settled = settles past d d h refl in
-      let settled_a = chosen_past inputs_a past d in
+      let chosen = chooses past d d h refl in
+      let chosen_a = chosen_past inputs_a past d in
       let blocks = wanted (chosen_past inputs_b past d) in
       let fine_a = chosen_fine (HasBegun done) inputs_a past d fine in
       let between = step_between disk latent key trace_b over_b calls_b until_b writes_b (HasBegun done) past step full made fine in
       record {
         tests = record {
-          settled = full.tests.settled ∙ (ap (λ past. test_rows medium_b past (instant_of d)) (sym settled) ∙ sym (same_tests done medium_a medium_b hold settled_a (instant_of d) fine_a (omega arith)));
-          followed = same_followed done medium_a medium_b hold (tested step.settled ∷ settled_a) step.deliveries (tt, fine_a)
+          test = full.tests.test ∙ (ap (λ past. test_rows medium_b past (instant_of d)) (sym chosen) ∙ sym (same_tests done medium_a medium_b hold chosen_a (instant_of d) fine_a (omega arith)));
+          followed = same_followed done medium_a medium_b hold (tested step.test ∷ chosen_a) step.deliveries (tt, fine_a)
               (all_weaker (LiesBetween (instant_of d) (end_of d)) (λ (row : DeliveryRow). (row.begin ≤ done) × (row.end ≤ done)) (λ row lies. let in_turn = lies.in_turn in let over = lies.ends in (omega (arith, in_turn, over, ended), omega (arith, over, ended))) (gots step.deliveries) between)
-              (subst (λ past. AreFollowed medium_b (tested step.settled ∷ past) step.deliveries) (sym settled) full.tests.followed);
+              (subst (λ past. AreFollowed medium_b (tested step.test ∷ past) step.deliveries) (sym chosen) full.tests.followed);
         };
-        best = subst (λ past. HasBestPlan disk (wanted past) step.act) (sym settled) full.best;
-        all = full.all ∙ (ap (λ past. due disk (contents_at medium_b) step.act (wanted past)) (sym settled)
-            ∙ sym (same_due disk (contents_at medium_a) (contents_at medium_b) 0 done agree step.act (wanted settled_a) made (best_is_plan disk blocks step.act full.best) (omega arith) (delivers_by disk d done made ended) (wanted_fine (HasBegun done) settled_a fine_a)));
+        best = subst (λ past. HasBestPlan disk (wanted past) step.act) (sym chosen) full.best;
+        all = full.all ∙ (ap (λ past. due disk (contents_at medium_b) step.act (wanted past)) (sym chosen)
+            ∙ sym (same_due disk (contents_at medium_a) (contents_at medium_b) 0 done agree step.act (wanted chosen_a) made (best_is_plan disk blocks step.act full.best) (omega arith) (delivers_by disk d done made ended) (wanted_fine (HasBegun done) chosen_a fine_a)));
       }
 
   goes_on : (past : Past) (step : Step) → instant_of (decision_in step) ≤ t → past_after inputs_a past step ≡ past_after inputs_b past step
   unfolding past_after
-  goes_on past step h = ap (λ past. with_finish (fold with_delivery (tested step.settled ∷ past) step.deliveries) (decision_in step)) (settles past (decision_in step) (decision_in step) h refl)
+  goes_on past step h = ap (λ past. with_finish (fold with_delivery (tested step.test ∷ past) step.deliveries) (decision_in step)) (chooses past (decision_in step) (decision_in step) h refl)
 
   -- a dwell that is under way
   dwell_alike : (past : Past) (head : Track) (now end_a end_b : ℕ) (x y : Step) (rest_a rest_b more_a more_b : List BackRow) → now ≤ t → t < end_a → t < end_b → AreFine (HasBegun done) past
@@ -161,21 +161,21 @@ module _ (disk : Disk) (latent : List ℕ) (key : Key) (trace_a trace_b : List R
       let dwell_b : Dwell = record { track = head; begin = now; end = end_b } in
       let d_a = idles dwell_a in
       let d_b = idles dwell_b in
-      let settled_a = chosen_past inputs_a past d_a in
-      let settled_b = chosen_past inputs_b past d_b in
-      let settled : settled_a ≡ settled_b = settles past d_a d_b h refl in
+      let chosen_a = chosen_past inputs_a past d_a in
+      let chosen_b = chosen_past inputs_b past d_b in
+      let chosen : chosen_a ≡ chosen_b = chooses past d_a d_b h refl in
       let fine_a = chosen_fine (HasBegun done) inputs_a past d_a fine in
-      let rows : x.settled ≡ y.settled = full_a.tests.settled ∙ (same_tests done medium_a medium_b hold settled_a now fine_a (omega arith)
-      ∙ (ap (λ past. test_rows medium_b past now) settled ∙ sym full_b.tests.settled)) in
-      let pasts : tested x.settled ∷ settled_a ≡ tested y.settled ∷ settled_b = ap₂ (λ rows past. tested rows ∷ past) rows settled in
+      let rows : x.test ≡ y.test = full_a.tests.test ∙ (same_tests done medium_a medium_b hold chosen_a now fine_a (omega arith)
+      ∙ (ap (λ past. test_rows medium_b past now) chosen ∙ sym full_b.tests.test)) in
+      let pasts : tested x.test ∷ chosen_a ≡ tested y.test ∷ chosen_b = ap₂ (λ rows past. tested rows ∷ past) rows chosen in
       let between = step_between disk latent key trace_a over_a calls_a until_a writes_a (HasBegun done) past (dwelt x dwell_a) full_a tt fine in
       let kept : filter (ends_by_then t) (gots x.deliveries) ≡ filter (ends_by_then t) (gots y.deliveries) =
-      ap (filter (ends_by_then t)) full_a.all ∙ (same_by_then disk (contents_at medium_a) (contents_at medium_b) t done since agree ByIdle head now end_a end_b late_a late_b (wanted settled_a)
-      ∙ (ap (λ past. filter (ends_by_then t) (due disk (contents_at medium_b) (idling dwell_b) (wanted past))) settled ∙ sym (ap (filter (ends_by_then t)) full_b.all))) in
-      let alike = alike_deliveries t done since medium_a medium_b hold (tested x.settled ∷ settled_a) x.deliveries y.deliveries (rest_a ++ more_a) (rest_b ++ more_b) (tt, fine_a) full_a.tests.followed
+      ap (filter (ends_by_then t)) full_a.all ∙ (same_by_then disk (contents_at medium_a) (contents_at medium_b) t done since agree ByIdle head now end_a end_b late_a late_b (wanted chosen_a)
+      ∙ (ap (λ past. filter (ends_by_then t) (due disk (contents_at medium_b) (idling dwell_b) (wanted past))) chosen ∙ sym (ap (filter (ends_by_then t)) full_b.all))) in
+      let alike = alike_deliveries t done since medium_a medium_b hold (tested x.test ∷ chosen_a) x.deliveries y.deliveries (rest_a ++ more_a) (rest_b ++ more_b) (tt, fine_a) full_a.tests.followed
       (subst (λ past. AreFollowed medium_b past y.deliveries) (sym pasts) full_b.tests.followed)
-      (subst RisingEnds (sym full_a.all) (rising_caught disk (contents_at medium_a) ByIdle (record { track = head; begin = now; end = end_a }) (wanted settled_a)))
-      (subst RisingEnds (sym full_b.all) (rising_caught disk (contents_at medium_b) ByIdle (record { track = head; begin = now; end = end_b }) (wanted settled_b)))
+      (subst RisingEnds (sym full_a.all) (rising_caught disk (contents_at medium_a) ByIdle (record { track = head; begin = now; end = end_a }) (wanted chosen_a)))
+      (subst RisingEnds (sym full_b.all) (rising_caught disk (contents_at medium_b) ByIdle (record { track = head; begin = now; end = end_b }) (wanted chosen_b)))
       (all_weaker (LiesBetween now end_a) (λ (row : DeliveryRow). row.begin ≤ row.end) (λ row lies. lies.in_turn) (gots x.deliveries) between)
       kept unknown_a unknown_b in
       let got_a = delivered_rows x.deliveries ++ (rest_a ++ more_a) in
@@ -184,10 +184,10 @@ module _ (disk : Disk) (latent : List ℕ) (key : Key) (trace_a trace_b : List R
       ap (λ b. only_if b (IdleLine (record { track = head; begin = now; end = end_a })) (known_from t false got_a)) (after_is end_a t late_a)
       ∙ (alike false ∙ sym (ap (λ b. only_if b (IdleLine (record { track = head; begin = now; end = end_b })) (known_from t false got_b)) (after_is end_b t late_b))) in
       λ follows.
-      ap (known_from t follows) (regroup x.settled (opening disk (idling dwell_a)) (delivered_rows x.deliveries) rest_a more_a)
-      ∙ (alike_behind t x.settled (IdleLine (record { track = head; begin = now; end = end_a }) ∷ got_a) (IdleLine (record { track = head; begin = now; end = end_b }) ∷ got_b) opened follows
+      ap (known_from t follows) (regroup x.test (opening disk (idling dwell_a)) (delivered_rows x.deliveries) rest_a more_a)
+      ∙ (alike_behind t x.test (IdleLine (record { track = head; begin = now; end = end_a }) ∷ got_a) (IdleLine (record { track = head; begin = now; end = end_b }) ∷ got_b) opened follows
       ∙ (ap (λ rows. known_from t follows (rows ++ (IdleLine (record { track = head; begin = now; end = end_b }) ∷ got_b))) rows
-      ∙ sym (ap (known_from t follows) (regroup y.settled (opening disk (idling dwell_b)) (delivered_rows y.deliveries) rest_b more_b))))
+      ∙ sym (ap (known_from t follows) (regroup y.test (opening disk (idling dwell_b)) (delivered_rows y.deliveries) rest_b more_b))))
 
   no_property : (past : Past) → AreFine (HasBegun done) past → AreFine any_delivery past
   unfolding any_delivery

@@ -263,7 +263,7 @@ finish_same past (ends now) = refl
 after_same : (inputs : Inputs) (past : Past) (step : Step) → past_after (unlined_inputs inputs) (unlined_past past) step ≡ unlined_past (past_after inputs past step)
 unfolding past_after
 after_same inputs past step =
-    ap (λ past. with_finish (fold with_delivery (tested step.settled ∷ past) step.deliveries) (decision_in step)) (chosen_same inputs past (decision_in step))
+    ap (λ past. with_finish (fold with_delivery (tested step.test ∷ past) step.deliveries) (decision_in step)) (chosen_same inputs past (decision_in step))
     ∙ (ap (λ past. with_finish past (decision_in step)) (deliver_all step.deliveries (tested_past inputs past step)) ∙ finish_same (fold with_delivery (tested_past inputs past step) step.deliveries) (decision_in step))
 
 -- ---- rows
@@ -312,13 +312,13 @@ module _ (medium : Medium) where
 
   step_same : (inputs : Inputs) (past : Past) (step : Step) → IsFullStep inputs medium past step → IsFullStep (unlined_inputs inputs) medium (unlined_past past) step
   step_same inputs past step full =
-      let settled = chosen_past inputs past (decision_in step) in
+      let chosen = chosen_past inputs past (decision_in step) in
       let is = chosen_same inputs past (decision_in step) in
-      let blocks : wanted settled ≡ wanted (chosen_past (unlined_inputs inputs) (unlined_past past) (decision_in step)) = sym (ap wanted is ∙ same_wanted settled) in
+      let blocks : wanted chosen ≡ wanted (chosen_past (unlined_inputs inputs) (unlined_past past) (decision_in step)) = sym (ap wanted is ∙ same_wanted chosen) in
       record {
         tests = record {
-          settled = full.tests.settled ∙ sym (ap (λ past. test_rows medium past (instant_of (decision_in step))) is ∙ tests_same settled (instant_of (decision_in step)));
-          followed = subst (λ past. AreFollowed medium (tested step.settled ∷ past) step.deliveries) (sym is) (followed_same (tested step.settled ∷ settled) step.deliveries full.tests.followed);
+          test = full.tests.test ∙ sym (ap (λ past. test_rows medium past (instant_of (decision_in step))) is ∙ tests_same chosen (instant_of (decision_in step)));
+          followed = subst (λ past. AreFollowed medium (tested step.test ∷ past) step.deliveries) (sym is) (followed_same (tested step.test ∷ chosen) step.deliveries full.tests.followed);
         };
         best = subst (λ blocks. HasBestPlan inputs.disk blocks step.act) blocks full.best;
         all = full.all ∙ ap (due medium.disk (contents_at medium) step.act) blocks;

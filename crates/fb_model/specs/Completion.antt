@@ -62,7 +62,7 @@ is_reported [] task number = false
 is_reported (tested rows ∷ past) task number = list_any (is_segment_of task number) rows || is_reported past task number
 is_reported (_ ∷ past) task number = is_reported past task number
 
--- a task's block of the same index: a task answers only for its own blocks
+-- a task's block of the same number: a task answers only for its own blocks
 abbrev pub own_of : ℕ → Block → Block
 own_of task block = record block { task = task }
 
@@ -207,8 +207,8 @@ chosen_view task choice view = record view { work = registering task choice.bloc
 abbrev pub delivered_view : DeliveryRow → TaskView → TaskView
 delivered_view row view = record view {
   work = record view.work {
-    bare = λ block. if row.block.index == block.index then Delivered else view.bare block;
-    found = λ block. if row.block.index == block.index then row.content else view.found block;
+    bare = λ block. if row.block.number == block.number then Delivered else view.bare block;
+    found = λ block. if row.block.number == block.number then row.content else view.found block;
   };
 }
 

@@ -81,9 +81,9 @@ registered (_ ∷ past) = registered past
 abbrev pub blocks_of : Past → ℕ → List Block
 blocks_of past task = filter (λ block. block.task == task) (registered past)
 
--- two blocks are one: the same task and the same index in it
+-- two blocks are one: the same task and the same number in it
 abbrev pub same_block : Block → Block → Bool
-same_block a b = (a.task == b.task) && (a.index == b.index)
+same_block a b = (a.task == b.task) && (a.number == b.number)
 
 -- the event registers the block
 abbrev pub registers : Event → Block → Bool

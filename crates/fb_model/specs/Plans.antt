@@ -65,7 +65,7 @@ value disk gap wanted plan = sum_by (λ block. block.weight * block.count) (filt
 abbrev pub IsTrackBefore : Track → Track → Type 0
 IsTrackBefore a b = (a.cylinder < b.cylinder) ⊎ ((a.cylinder ≡ b.cylinder) × (a.head < b.head))
 
--- the order of ties between plans of the same value: direct plans before detours, then the smaller track, then the earlier leave
+-- the order of ties between plans of the same value: direct plans before detours, then the lesser track, then the earlier leave
 abbrev pub IsNoLater : Plan → Plan → Type 0
 IsNoLater (Direct u) (Direct v) = u ≤ v
 IsNoLater (Direct u) (Detour d v) = Unit {0}

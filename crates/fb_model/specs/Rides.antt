@@ -28,10 +28,10 @@ delivery contents how block begin end =
     let runs = runs_of (contents block.lbn block.count begin) in
     record { block = block; begin = begin; end = end; how = how; bad = bad_of runs; content = runs }
 
--- a block is delivered before another one: by end, then by task, then by index
+-- a block is delivered before another one: by end, then by task, then by number
 abbrev pub is_before : ℕ → Block → ℕ → Block → Bool
 is_before end block other_end other = nat_lt end other_end
-    || ((end == other_end) && (nat_lt block.task other.task || ((block.task == other.task) && nat_lt block.index other.index)))
+    || ((end == other_end) && (nat_lt block.task other.task || ((block.task == other.task) && nat_lt block.number other.number)))
 
 -- a row put in its place among rows in the order of delivery
 abbrev pub placed : List DeliveryRow → DeliveryRow → List DeliveryRow

@@ -13,7 +13,7 @@ use Rattle.fb_model.specs.Completion.{Choice, Work, work, segments, is_choice_of
 -- blocks for cut ranges, numbered from n on
 abbrev pub numbered : ℕ → ℕ → ℕ → List Cut → List Block
 numbered task weight n [] = []
-numbered task weight n (cut ∷ cuts) = record { task = task; index = n; lbn = cut.lbn; count = cut.count; track = cut.track; weight = weight; sweep = cut.sweep }
+numbered task weight n (cut ∷ cuts) = record { task = task; number = n; lbn = cut.lbn; count = cut.count; track = cut.track; weight = weight; sweep = cut.sweep }
     ∷ numbered task weight (n + 1) cuts
 
 -- the next blocks of a task

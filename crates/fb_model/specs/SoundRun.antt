@@ -53,7 +53,7 @@ AreFollowed medium past (delivery ∷ deliveries) =
 
 -- a step's test gives its rows, and each delivery's
 pub record IsTested (inputs : Inputs) (medium : Medium) (past : Past) (step : Step) : Type 0 where
-  pub settled : step.settled ≡ test_rows medium (chosen_past inputs past (decision_in step)) (instant_of (decision_in step))
+  pub test : step.test ≡ test_rows medium (chosen_past inputs past (decision_in step)) (instant_of (decision_in step))
   pub followed : AreFollowed medium (tested_past inputs past step) step.deliveries
 
 -- each step meets the condition

@@ -26,7 +26,7 @@ pub record Delivery : Type 0 where
 
 -- one step of a run: the rows of the test at its decision, what is done there, and what that delivers
 pub record Step : Type 0 where
-  pub settled : List BackRow
+  pub test : List BackRow
   pub act : Act
   pub deliveries : List Delivery
 
@@ -60,6 +60,10 @@ unfoldable pub chosen_past : Inputs → Past → Decision → Past
 chosen_past inputs past decision = with_choices inputs.disk.map
     (fold (take_call inputs.disk.map) past (calls_due inputs.calls past (instant_of decision)))
 
+-- and after its test
+abbrev pub tested_past : Inputs → Past → Step → Past
+tested_past inputs past step = tested step.test ∷ chosen_past inputs past (decision_in step)
+
 -- after a delivery and its test
 abbrev pub with_delivery : Past → Delivery → Past
 with_delivery past delivery = tested delivery.after ∷ delivered delivery.got ∷ past
@@ -68,10 +72,6 @@ with_delivery past delivery = tested delivery.after ∷ delivered delivery.got �
 abbrev pub with_finish : Past → Decision → Past
 with_finish past (serves served) = finished served.request ∷ past
 with_finish past _ = past
-
--- after its test
-abbrev pub tested_past : Inputs → Past → Step → Past
-tested_past inputs past step = tested step.settled ∷ chosen_past inputs past (decision_in step)
 
 -- after the whole step
 unfoldable pub past_after : Inputs → Past → Step → Past
@@ -94,7 +94,7 @@ opening disk (ending now) = []
 
 -- a step's rows: those of its test, the gap or idle row, the deliveries with what follows each
 abbrev pub step_rows : Disk → Step → List BackRow
-step_rows disk step = step.settled ++ opening disk step.act ++ flat_map (λ delivery. GotLine delivery.got ∷ delivery.after) step.deliveries
+step_rows disk step = step.test ++ opening disk step.act ++ flat_map (λ delivery. GotLine delivery.got ∷ delivery.after) step.deliveries
 
 -- how a task stands
 abbrev pub task_row : Past → ℕ → BackRow

@@ -28,7 +28,7 @@ one-block : (x y : Block) → ((measure : Block → ℕ) → measure x ≡ measu
 one-block x y same = grind (
   arith,
   same (λ b. b.task),
-  same (λ b. b.index),
+  same (λ b. b.number),
   same (λ b. b.lbn),
   same (λ b. b.count),
   same (λ b. b.track.cylinder),
@@ -54,7 +54,7 @@ one-chosen p xs ys same most = one-list (filter p xs) (filter p ys)
 -- ---- registered blocks are told apart by task and number
 
 abbrev numbered : ℕ → ℕ → Block → Bool
-numbered task index b = (b.task == task) && (b.index == index)
+numbered task number b = (b.task == task) && (b.number == number)
 
 both-tests : (p q : Block → Bool) (bs : List Block) → filter q (filter p bs) ≡ filter (λ b. p b && q b) bs
 both-tests p q [] = refl
@@ -64,23 +64,23 @@ both-tests p q (b ∷ bs) = elim (cases_Bool (p b)) [
 ]
 
 -- a number stands once among numbers that go up one by one
-once : (index from : ℕ) (bs : List Block) → ((k : ℕ) (b : Block) → slice_get bs k ≡ Some b → b.index ≡ from + k)
-    → (length (filter (λ b. b.index == index) bs) ≤ 1) × (index < from → length (filter (λ b. b.index == index) bs) ≤ 0)
-once index from [] up = (omega arith, λ less. omega arith)
-once index from (b ∷ bs) up =
-    let rest = once index (suc from) bs (λ k c at. omega (arith, up (suc k) c at)) in
-    let here : b.index ≡ from = omega (arith, up 0 b refl) in
-    elim (cases_Bool (b.index == index)) [
+once : (number from : ℕ) (bs : List Block) → ((k : ℕ) (b : Block) → slice_get bs k ≡ Some b → b.number ≡ from + k)
+    → (length (filter (λ b. b.number == number) bs) ≤ 1) × (number < from → length (filter (λ b. b.number == number) bs) ≤ 0)
+once number from [] up = (omega arith, λ less. omega arith)
+once number from (b ∷ bs) up =
+    let rest = once number (suc from) bs (λ k c at. omega (arith, up (suc k) c at)) in
+    let here : b.number ≡ from = omega (arith, up 0 b refl) in
+    elim (cases_Bool (b.number == number)) [
       | inl t ↦
-          let same : b.index ≡ index = eqb-true b.index index t in
+          let same : b.number ≡ number = eqb-true b.number number t in
           let none = rest.1 (omega arith) in
           rw t (omega (arith, none), λ less. absurd (omega (arith, less)))
       | inr f ↦ rw f (rest.0, λ less. rest.1 (omega (arith, less)))
     ]
 
-numbered-once : (bs : List Block) → AreInOrder bs → (task index : ℕ) → length (filter (numbered task index) bs) ≤ 1
-numbered-once bs numbers task index = subst (λ l. length l ≤ 1) (both-tests (λ b. b.task == task) (λ b. b.index == index) bs)
-    (once index 0 (filter (λ b. b.task == task) bs) (λ k b at. omega (arith, numbers task k b at))).0
+numbered-once : (bs : List Block) → AreInOrder bs → (task number : ℕ) → length (filter (numbered task number) bs) ≤ 1
+numbered-once bs numbers task number = subst (λ l. length l ≤ 1) (both-tests (λ b. b.task == task) (λ b. b.number == number) bs)
+    (once number 0 (filter (λ b. b.task == task) bs) (λ k b at. omega (arith, numbers task k b at))).0
 
 -- of fewer entries no more blocks pass a narrower test
 fewer : (p q : Block → Bool) (among : Entry → Bool) → ((b : Block) → p b ≡ true → q b ≡ true) → (es : List Entry)
@@ -116,22 +116,22 @@ through f p q (b ∷ bs) = elim (cases_Bool (p b)) [
 module _ (track : Track) (es xs : List Entry) (blocks : List Block) (numbers : AreInOrder (blocks_of es))
     (its : xs ≡ on_track track es) (same : AreSameBlocks blocks (wanted_of xs)) where
   -- of a test that one number passes at most, both lists have the same block
-  the-one : (p : Block → Bool) (task index : ℕ) → ((b : Block) → p b ≡ true → numbered task index b ≡ true)
+  the-one : (p : Block → Bool) (task number : ℕ) → ((b : Block) → p b ≡ true → numbered task number b ≡ true)
       → filter p blocks ≡ filter p (wanted_of (on_track track es))
-  the-one p task index narrow =
-      let few = fewer p (numbered task index) (λ e. is_wanted e.state) narrow (on_track track es) in
-      let fewer_still = fewer (numbered task index) (numbered task index) (λ e. same_track track e.block.track) (λ b h. h) es in
+  the-one p task number narrow =
+      let few = fewer p (numbered task number) (λ e. is_wanted e.state) narrow (on_track track es) in
+      let fewer_still = fewer (numbered task number) (numbered task number) (λ e. same_track track e.block.track) (λ b h. h) es in
       one-chosen p blocks (wanted_of (on_track track es)) (subst (λ l. AreSameBlocks blocks (wanted_of l)) its same)
-      (omega (arith, few, fewer_still, numbered-once (blocks_of es) numbers task index))
+      (omega (arith, few, fewer_still, numbered-once (blocks_of es) numbers task number))
 
   -- each block is on the track, and has what all registered ones have
   pub on-its-track : (P : Block → Type 0) → ((i : ℕ) (e : Entry) → slice_get es i ≡ Some e → P e.block) → (i : ℕ) (b : Block)
       → slice_get blocks i ≡ Some b → P b × (same_track track b.track ≡ true)
   on-its-track P each i b at =
-      let itself = and_from (b.task == b.task) (b.index == b.index) (eq-eqb b.task b.task refl) (eq-eqb b.index b.index refl) in
-      let among = to_filter (numbered b.task b.index) blocks i b at itself in
-      let here = ap (λ l. slice_get l among.0) (sym (the-one (numbered b.task b.index) b.task b.index (λ c h. h))) ∙ among.1 in
-      let there = in_filter (numbered b.task b.index) (wanted_of (on_track track es)) among.0 b here in
+      let itself = and_from (b.task == b.task) (b.number == b.number) (eq-eqb b.task b.task refl) (eq-eqb b.number b.number refl) in
+      let among = to_filter (numbered b.task b.number) blocks i b at itself in
+      let here = ap (λ l. slice_get l among.0) (sym (the-one (numbered b.task b.number) b.task b.number (λ c h. h))) ∙ among.1 in
+      let there = in_filter (numbered b.task b.number) (wanted_of (on_track track es)) among.0 b here in
       let e = entry-of (on_track track es) there.0 b there.1 in
       let f = in_filter (λ (x : Entry). same_track track x.block.track) es e.0 e.1 e.2 in
       (subst P e.3 (each f.0 e.1 f.1), subst (λ (x : Block). same_track track x.track ≡ true) e.3 f.2)
@@ -147,14 +147,14 @@ module _ (track : Track) (es xs : List Entry) (blocks : List Block) (numbers : A
       added : List Block → List Catch
       added bs = map f (filter p bs)
 
-      narrow : (c : Catch) (b : Block) → p b && tied c (f b) ≡ true → numbered c.block.task c.block.index b ≡ true
-      narrow c b h = subst (λ x. numbered c.block.task c.block.index x ≡ true) (own b)
+      narrow : (c : Catch) (b : Block) → p b && tied c (f b) ≡ true → numbered c.block.task c.block.number b ≡ true
+      narrow c b h = subst (λ x. numbered c.block.task c.block.number x ≡ true) (own b)
           (tied-numbers c (f b) (and_parts (p b) (tied c (f b)) h).1)
 
       alike : (c : Catch) → filter (tied c) (found ++ added blocks) ≡ filter (tied c) (found ++ added others)
       alike c =
           let both = through f p (tied c) blocks
-          ∙ (ap (map f) (the-one _ c.block.task c.block.index (narrow c)) ∙ sym (through f p (tied c) others)) in
+          ∙ (ap (map f) (the-one _ c.block.task c.block.number (narrow c)) ∙ sym (through f p (tied c) others)) in
           filter-append (tied c) found (added blocks)
           ∙ (ap (λ l. filter (tied c) found ++ l) both ∙ sym (filter-append (tied c) found (added others)))
 

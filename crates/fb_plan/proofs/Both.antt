@@ -18,11 +18,12 @@ use Rattle.fb_rows.specs.declared.gap.Gap.{Gap}
 use Rattle.fb_rows.specs.declared.gap.Plan.{Plan}
 use Rattle.fb_rows.specs.declared.gap.Plan.TheVariants.{Direct, Detour}
 use Rattle.fb_rows.specs.declared.gap.Dwell.{Dwell}
+use Rattle.fb_model.specs.Blocks.{IsBlockOn}
 use Rattle.fb_model.specs.Plans.{block_end, value, early_dwell, late_dwell}
 use Rattle.fb_plan.specs.declared.dwell_pair.DwellPair.{DwellPair}
 use Rattle.fb_plan.specs.declared.sides.Sides.{Sides}
 use Rattle.fb_plan.specs.declared.turning.Turning.{Turning}
-use Rattle.fb_plan.specs.Ways.{FitsDisk, AreOnDisk}
+use Rattle.fb_plan.specs.Ways.{AreOnDisk}
 use Rattle.fb_plan.specs.Turns.{AreSides, IsTurning, passes_by, added}
 use Rattle.fb_plan.proofs.Gains.{adds, gain_by, in_filter, value-by-one, value-by-two}
 use Rattle.fb_plan.proofs.Offered.{sum-offered}
@@ -59,26 +60,26 @@ module _ (disk : Disk) (gap : Gap) (plan : Plan) (es : List Entry) (pair : Dwell
   abbrev early_end : Block → Bool
   early_end b = nat_le (block_end disk.map b pair.early.begin) pair.early.end
 
-  passes-early : (b : Block) → FitsDisk disk b → in_early b.sweep ≡ early_end b
+  passes-early : (b : Block) → IsBlockOn disk.map b → in_early b.sweep ≡ early_end b
   passes-early b fits = passes-as disk sides.passing b are.passing fits pair.early (are.from ∙ ap (λ (d : Dwell). d.begin) (sym p))
 
-  passes-late : (b : Block) → FitsDisk disk b → in_late b.sweep ≡ nat_le (block_end disk.map b pair.late.begin) pair.late.end
+  passes-late : (b : Block) → IsBlockOn disk.map b → in_late b.sweep ≡ nat_le (block_end disk.map b pair.late.begin) pair.late.end
   passes-late b fits = passes-as disk late b turns fits pair.late from
 
-  by-either : (e : Entry) → FitsDisk disk e.block → same_track pair.early.track e.block.track ≡ true
+  by-either : (e : Entry) → IsBlockOn disk.map e.block → same_track pair.early.track e.block.track ≡ true
       → same_track pair.late.track e.block.track ≡ true
       → adds (λ b. in_early b.sweep || in_late b.sweep) e ≡ gain_by disk pair.early pair.late e
   by-either e fits y z =
       ap (λ x. adds (λ b. x || in_late e.block.sweep) e) (passes-early e.block fits)
       ∙ (ap (λ x. adds (λ b. early_end e.block || x) e) (passes-late e.block fits) ∙ rw (y, z) refl)
 
-  by-early : (e : Entry) → FitsDisk disk e.block → same_track pair.early.track e.block.track ≡ true
+  by-early : (e : Entry) → IsBlockOn disk.map e.block → same_track pair.early.track e.block.track ≡ true
       → same_track pair.late.track e.block.track ≡ false → adds (λ b. in_early b.sweep) e ≡ gain_by disk pair.early pair.late e
   by-early e fits y z =
       ap (λ x. adds (λ b. x) e) (passes-early e.block fits)
       ∙ elim (cases_Bool (early_end e.block)) [ inl t ↦ rw (y, z, t) refl | inr n ↦ rw (y, z, n) refl ]
 
-  by-late : (e : Entry) → FitsDisk disk e.block → same_track pair.early.track e.block.track ≡ false
+  by-late : (e : Entry) → IsBlockOn disk.map e.block → same_track pair.early.track e.block.track ≡ false
       → same_track pair.late.track e.block.track ≡ true → adds (λ b. in_late b.sweep) e ≡ gain_by disk pair.early pair.late e
   by-late e fits y z = ap (λ x. adds (λ b. x) e) (passes-late e.block fits) ∙ rw (y, z) refl
 

@@ -12,16 +12,16 @@ use Rattle.fb_wanted.specs.declared.block.Block.{Block}
 use Rattle.fb_wanted.specs.declared.block.Entry.{Entry}
 use Rattle.fb_wanted.specs.States.{is_wanted, on_track, wanted_of}
 use Rattle.fb_rows.specs.declared.gap.Dwell.{Dwell}
+use Rattle.fb_model.specs.Blocks.{IsBlockOn}
 use Rattle.fb_model.specs.Plans.{catches, block_end}
 use Rattle.fb_plan.specs.declared.turning.Turning.{Turning}
 use Rattle.fb_plan.specs.Order.{catch_of, caught_among}
 use Rattle.fb_plan.specs.Turns.{passes_by, IsTurning}
-use Rattle.fb_plan.specs.Ways.{FitsDisk}
 use Rattle.fb_plan.proofs.Swept.{passes-as}
 
 -- a dwell catches a block of its track whose sweep passes by its end
 pub catches-by : (disk : Disk) (dwell : Dwell) (turning : Turning) (b : Block) (sweep : Sweep) → IsTurning disk turning
-    → turning.from ≡ dwell.begin → FitsDisk disk b → same_track dwell.track b.track ≡ true → sweep ≡ b.sweep
+    → turning.from ≡ dwell.begin → IsBlockOn disk.map b → same_track dwell.track b.track ≡ true → sweep ≡ b.sweep
     → passes_by turning dwell.end sweep ≡ catches disk dwell b
 catches-by disk dwell turning b sweep turns from fits on is =
     let all : catches disk dwell b ≡ nat_le (block_end disk.map b dwell.begin) dwell.end = rw on refl in

@@ -5,12 +5,13 @@ use Rattle.fb_service.specs.declared.disk.Disk.{Disk}
 use Rattle.fb_wanted.specs.declared.block.Entry.{Entry}
 use Rattle.fb_wanted.specs.Numbering.{blocks_of, registered}
 use Rattle.fb_wanted.proofs.Numbers.{in_either}
-use Rattle.fb_plan.specs.Ways.{FitsDisk, AreOnDisk}
+use Rattle.fb_model.specs.Blocks.{IsBlockOn}
+use Rattle.fb_plan.specs.Ways.{AreOnDisk}
 
-on-disk-more : (disk : Disk) (es : List Entry) (e : Entry) → AreOnDisk disk es → FitsDisk disk e.block → AreOnDisk disk (es ++ e ∷ [])
+on-disk-more : (disk : Disk) (es : List Entry) (e : Entry) → AreOnDisk disk es → IsBlockOn disk.map e.block → AreOnDisk disk (es ++ e ∷ [])
 on-disk-more disk es e h fits i x at = elim (in_either es e x i at) [
   | inl old ↦ h i x old.1
-  | inr new ↦ subst (λ y. FitsDisk disk y.block) (sym new.1) fits
+  | inr new ↦ subst (λ y. IsBlockOn disk.map y.block) (sym new.1) fits
 ]
 
 registered-more : (es : List Entry) (e : Entry) → e.block.task ≡ 0
@@ -21,7 +22,8 @@ registered-more (x ∷ es) e h = elim (cases_Bool (x.block.task == 0)) [
   | inr no' ↦ rw no' (registered-more es e h)
 ]
 
-pub sample-more : (disk : Disk) (es new : List Entry) (e : Entry) (i : ℕ) → new ≡ es ++ e ∷ [] → e.block.task ≡ 0 → FitsDisk disk e.block
+pub sample-more : (disk : Disk) (es new : List Entry) (e : Entry) (i : ℕ) → new ≡ es ++ e ∷ [] → e.block.task ≡ 0
+    → IsBlockOn disk.map e.block
     → (registered 0 (blocks_of es) ≡ i) × (length es ≡ i) × AreOnDisk disk es
     → (registered 0 (blocks_of new) ≡ i + 1) × (length new ≡ i + 1) × AreOnDisk disk new
 sample-more disk es new e i same task fits h =

@@ -16,9 +16,9 @@ use Rattle.fb_service.specs.declared.disk.Disk.{Disk}
 use Rattle.fb_service.specs.Passing.{begin_from}
 use Rattle.fb_wanted.specs.declared.block.Block.{Block}
 use Rattle.fb_rows.specs.declared.gap.Dwell.{Dwell}
+use Rattle.fb_model.specs.Blocks.{IsBlockOn}
 use Rattle.fb_model.specs.Plans.{block_begin, block_end}
 use Rattle.fb_plan.specs.declared.turning.Turning.{Turning}
-use Rattle.fb_plan.specs.Ways.{FitsDisk}
 use Rattle.fb_plan.specs.Turns.{begin_of, end_of, passes_by, IsInTurn, IsTurning}
 use Rattle.fb_plan.proofs.Ends.{wait-rest}
 
@@ -51,11 +51,11 @@ ends-by disk block t some =
     let first = t + wait disk.rotation begin t in
     regroup first (wait disk.rotation end (first + 1)) (wait disk.rotation end (begin + 1)) (wait-on disk.rotation end begin t some)
 
-pub begin-by-sweep : (disk : Disk) (block : Block) (t : ℕ) → FitsDisk disk block
+pub begin-by-sweep : (disk : Disk) (block : Block) (t : ℕ) → IsBlockOn disk.map block
     → block_begin disk.map block t ≡ begin_of disk.map.rotation block.sweep t
 begin-by-sweep disk block t fits = begins-by disk.map block t ∙ ap (λ s. begin_of disk.map.rotation s t) (sym fits.sweep)
 
-pub end-by-sweep : (disk : Disk) (block : Block) (t : ℕ) → FitsDisk disk block
+pub end-by-sweep : (disk : Disk) (block : Block) (t : ℕ) → IsBlockOn disk.map block
     → block_end disk.map block t ≡ end_of disk.map.rotation block.sweep t
 end-by-sweep disk block t fits = ends-by disk.map block t disk.some_rotation ∙ ap (λ s. end_of disk.map.rotation s t) (sym fits.sweep)
 
@@ -83,13 +83,13 @@ swept-in-turn disk lbn count some below =
       length = omega (arith, mod-lt (end + (disk.rotation - (begin + 1) % disk.rotation)) some);
     }
 
-pub in-turn-of : (disk : Disk) (block : Block) → IsSound disk.map → FitsDisk disk block → IsInTurn disk.map.rotation block.sweep
+pub in-turn-of : (disk : Disk) (block : Block) → IsSound disk.map → IsBlockOn disk.map block → IsInTurn disk.map.rotation block.sweep
 in-turn-of disk block sound fits =
     let below = slot-below disk.map block.lbn sound (omega (arith, fits.some, fits.on_disk)) in
     subst (IsInTurn disk.map.rotation) (sym fits.sweep) (swept-in-turn disk.map block.lbn block.count disk.some_rotation below)
 
 -- the same by a turning of the disk
-module _ (disk : Disk) (turning : Turning) (block : Block) (h : IsTurning disk turning) (fits : FitsDisk disk block) where
+module _ (disk : Disk) (turning : Turning) (block : Block) (h : IsTurning disk turning) (fits : IsBlockOn disk.map block) where
   pub turning-in : IsInTurn turning.rotation block.sweep
   turning-in = subst (λ r. IsInTurn r block.sweep) (sym h.rotation) (in-turn-of disk block h.sound fits)
 

@@ -49,7 +49,8 @@ fn arrival(disk: &Disk, gap: &Gap, way: Way) -> Ns
     }
 }
 
-/// How long the move from there to the target takes, in ns, with the settle of a write.
+/// How long the move from the early dwell's track to the target takes, in ns, with the settle of a
+/// write.
 pub fn move_on(disk: &Disk, gap: &Gap, way: Way) -> Ns
     requires gap { IsGap disk.now gap.now }
     requires track { IsTrackOf disk.now.map (early_track gap.now way) }

@@ -13,7 +13,8 @@ use fb_wanted::Wanted;
 pub trait Planner {
     /// The best plan: of greatest value, and of those the first in the order of ties.
     ///
-    /// Direct plans come before detours, then the smaller track, then the earlier leave.
+    /// Direct plans come before detours, then the lesser track, then the earlier leave. Each block lies
+    /// on the disk, and the gap ends by 9 * 10^18 ns.
     fn best(&self, disk: &Disk, wanted: &Wanted, gap: &Gap) -> Plan
         requires gap { IsGap disk.now gap.now }
         requires blocks { AreOnDisk disk.now wanted.now }

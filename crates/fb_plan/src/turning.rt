@@ -48,7 +48,7 @@ impl Turning {
         }
     }
 
-    /// When the sweep that then begins ends, in ns.
+    /// When the passage that `begin` tells of ends, in ns.
     pub fn end(&self, sweep: Sweep) -> Ns
         requires stands { Stands self.now }
         requires sweep { IsInTurn self.now.rotation sweep }

@@ -2,7 +2,8 @@
 ghost use Rattle.std.specs.Prelude.{◌≡◌, ◌<◌, ◌≤◌, ◌+◌, true, length, IfOk, IfSome};
 ghost use Rattle.fb_geometry.specs.Shape.{IsTrackOf};
 ghost use Rattle.fb_geometry.specs.Places.{places};
-ghost use Rattle.fb_plan.specs.Ways.{IsGap, FitsDisk, AreOnDisk};
+ghost use Rattle.fb_model.specs.Blocks.{IsBlockOn};
+ghost use Rattle.fb_plan.specs.Ways.{IsGap, AreOnDisk};
 
 use fb_detour::IndexedPlanner;
 use fb_geometry::{Geometry, Layout, Outline, Zone};
@@ -121,9 +122,9 @@ fn disk_of(alloc: Global, setting: &Setting) -> Result<Option<Disk>, NoMemory> {
 }
 
 // The task's next block; `None` where the wish isn't exactly one block of the disk.
-fn block_of(disk: &Disk, index: u32, wish: Wish) -> Option<Block>
-    ensures fits { IfSome result (λ block. FitsDisk disk.now block) }
-    ensures numbered { IfSome result (λ block. (block.task ≡ 0) × (block.index ≡ index)) }
+fn block_of(disk: &Disk, number: u32, wish: Wish) -> Option<Block>
+    ensures fits { IfSome result (λ block. IsBlockOn disk.now.map block) }
+    ensures numbered { IfSome result (λ block. (block.task ≡ 0) × (block.number ≡ number)) }
 {
     if wish.count == 0 {
         return None;
@@ -143,7 +144,7 @@ fn block_of(disk: &Disk, index: u32, wish: Wish) -> Option<Block>
     }
     Some(Block {
         task: 0,
-        index,
+        number,
         lbn: cut.lbn,
         count: cut.count,
         track: cut.track,

@@ -124,7 +124,7 @@ fn push_delivery(
     ensures form { OnOk result (AreNames names.now → IsField are_bytes found.now → AreOneOf back_grammar.rows (codes "got" ∷ got_fields names.now row.now found.now)) }
 {
     line.task(names, row.block.task)?;
-    line.number(row.block.index as u64)?;
+    line.number(row.block.number as u64)?;
     line.number(row.block.lbn)?;
     line.number(row.block.count as u64)?;
     line.number(row.begin)?;

@@ -3,16 +3,16 @@ use Rattle.fb_tasks.proofs.Words.{◌≡◌, ℕ, zero, suc, ◌+◌, ◌^◌, �
 use Rattle.fb_tasks.proofs.Words.{arith, subst, length-map-range_with_len, true≢false, Request, Shape, Call, IsScript, Content, Gives}
 use Rattle.fb_tasks.proofs.Words.{Block, Entry, Wanted, is_wanted, BackRow, DeliveryRow, Past, finished, registered, state, tasks, wanted}
 use Rattle.fb_tasks.proofs.Words.{view, with_choices, test_rows_found, take_call, with_delivery, task_row, task_rows, delivery_of}
-use Rattle.fb_tasks.proofs.Words.{Tells, MayTake, MaySettle, MayDeliver, IsSettled, tested_at, IsCalled, all_at, filter_to, some_same}
+use Rattle.fb_tasks.proofs.Words.{Tells, MayTake, MayChooseAndTest, MayDeliver, IsUpToDate, tested_at, IsCalled, all_at, filter_to, some_same}
 use Rattle.fb_tasks.proofs.Calls.{may-take, called-more, called-tested, called-chosen, called-delivered, called-finished}
 use Rattle.std.specs.Prelude.{slice_get}
 use Rattle.fb_tasks.specs.declared.session.Session.{Session}
 use Rattle.fb_tasked.specs.Following.{Follows}
 use Rattle.fb_tasks.specs.Telling.{IsBlockOf, entry_of}
 
-module _ {settled : Bool} {disk : Shape} {calls : List Call} {next : ℕ} {sessions : List Session} {held : List Entry} (h : Follows settled disk calls next sessions held) where
+module _ {up_to_date : Bool} {disk : Shape} {calls : List Call} {next : ℕ} {sessions : List Session} {held : List Entry} (h : Follows up_to_date disk calls next sessions held) where
   -- and after this as well
-  follows-on : (b : Bool) (past : Past) (now : List Session) (after : List Entry) (n : ℕ) → IsCalled disk calls past n → Tells disk past now after → (b ≡ true → IsSettled past) → Follows b disk calls n now after
+  follows-on : (b : Bool) (past : Past) (now : List Session) (after : List Entry) (n : ℕ) → IsCalled disk calls past n → Tells disk past now after → (b ≡ true → IsUpToDate past) → Follows b disk calls n now after
   follows-on b past now after n called tells tested = record { script = h.script; past = past; called = called; tells = tells; tested = tested }
 
   -- the next call takes effect
@@ -24,16 +24,16 @@ module _ {settled : Bool} {disk : Shape} {calls : List Call} {next : ℕ} {sessi
     follows-more now after tells = follows-on false (take_call disk h.past call) now after (next + 1)
         (called-more disk calls h.script.allowed h.script.few_calls h.past next h.called call at sessions held h.tells) tells (λ never. absurd (true≢false (sym never)))
 
-  -- all is settled
-  pub follows-may-settle : MaySettle disk h.past sessions held
-  follows-may-settle = record { tells = h.tells; few = omega (arith, h.called.few) }
+  -- all tasks were tested after the last event that could complete something
+  pub follows-may-choose : MayChooseAndTest disk h.past sessions held
+  follows-may-choose = record { tells = h.tells; few = omega (arith, h.called.few) }
 
-  pub follows-settled : (instant : ℕ) (now : List Session) (after : List Entry) → Tells disk (tested_at disk h.past instant) now after → IsSettled (tested_at disk h.past instant) → Follows true disk calls next now after
-  follows-settled instant now after tells all = follows-on true (tested_at disk h.past instant) now after next
+  pub follows-up_to_date : (instant : ℕ) (now : List Session) (after : List Entry) → Tells disk (tested_at disk h.past instant) now after → IsUpToDate (tested_at disk h.past instant) → Follows true disk calls next now after
+  follows-up_to_date instant now after tells all = follows-on true (tested_at disk h.past instant) now after next
       (called-tested disk calls (with_choices disk h.past) next (called-chosen disk calls h.past next h.called sessions held h.tells) (test_rows_found (with_choices disk h.past) instant)) tells (λ _. all)
 
   -- a block is delivered
-  pub follows-delivered : (got : DeliveryRow) (now : List Session) (after : List Entry) → Tells disk (with_delivery h.past (delivery_of h.past got)) now after → IsSettled (with_delivery h.past (delivery_of h.past got)) → (b : Bool) → Follows b disk calls next now after
+  pub follows-delivered : (got : DeliveryRow) (now : List Session) (after : List Entry) → Tells disk (with_delivery h.past (delivery_of h.past got)) now after → IsUpToDate (with_delivery h.past (delivery_of h.past got)) → (b : Bool) → Follows b disk calls next now after
   follows-delivered got now after tells all b = follows-on b (with_delivery h.past (delivery_of h.past got)) now after next
       (called-delivered disk calls h.past next got h.called) tells (λ _. all)
 
@@ -78,7 +78,7 @@ pub follows-may-deliver : {disk : Shape} {calls : List Call} {next : ℕ} {sessi
     → slice_get held place ≡ Some (record { block = got.block; state = Wanted }) → Gives got.content content_at got.block.lbn got.block.count → MayDeliver disk h.past sessions held got
 follows-may-deliver h got place content_at at gives =
     let there = wanted-at h.tells place (record { block = got.block; state = Wanted }) at refl in
-    record { tells = h.tells; settled = h.tested refl; place = there.0; wanted = there.1; content_at = content_at; content = gives }
+    record { tells = h.tells; up_to_date = h.tested refl; place = there.0; wanted = there.1; content_at = content_at; content = gives }
 
 -- each task has its row
 pub rows-there : {disk : Shape} {past : Past} {sessions : List Session} {held : List Entry} (tells : Tells disk past sessions held) → (rows : List BackRow) → rows ≡ task_rows past → length rows ≡ length sessions

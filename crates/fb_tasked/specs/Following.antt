@@ -7,12 +7,12 @@ use Rattle.fb_wanted.specs.declared.block.Entry.{Entry}
 use Rattle.fb_model.specs.History.{Past}
 use Rattle.fb_tasks.specs.declared.session.Session.{Session}
 use Rattle.fb_tasks.specs.Script.{IsCalled}
-use Rattle.fb_tasks.specs.Telling.{Tells, IsSettled}
+use Rattle.fb_tasks.specs.Telling.{Tells, IsUpToDate}
 
 -- the sessions and the wanted set tell a history in which the first calls have taken effect, and perhaps all was tested
-pub record Follows (settled : Bool) (disk : Shape) (calls : List Call) (next : ℕ) (sessions : List Session) (held : List Entry) : Type 0 where
+pub record Follows (up_to_date : Bool) (disk : Shape) (calls : List Call) (next : ℕ) (sessions : List Session) (held : List Entry) : Type 0 where
   pub script : IsScript disk 0 calls
   pub past : Past
   pub called : IsCalled disk calls past next
   pub tells : Tells disk past sessions held
-  pub tested : settled ≡ true → IsSettled past
+  pub tested : up_to_date ≡ true → IsUpToDate past

@@ -7,15 +7,15 @@ use std::test::Fail;
 #[test]
 fn an_overwritten_block_is_wanted_again(rt: HostRuntime) -> Result<(), Fail> {
     let steps = [
-        Step::Settle(0),
+        Step::Prepare(0),
         Step::Deliver(0, 0, How::Idle, 0, 200),
-        Step::Settle(250),
+        Step::Prepare(250),
         Step::Write(0, 1, 1),
         Step::Check(0, 0, State::Wanted),
-        Step::Settle(1300),
+        Step::Prepare(1300),
         Step::Deliver(0, 1, How::Idle, 1400, 1600),
         Step::Deliver(0, 0, How::Idle, 2400, 2600),
-        Step::Settle(4000),
+        Step::Prepare(4000),
     ];
     follow(
         &rt,
@@ -30,13 +30,13 @@ fn an_overwritten_block_is_wanted_again(rt: HostRuntime) -> Result<(), Fail> {
 #[test]
 fn a_sealed_block_is_not_wanted_again(rt: HostRuntime) -> Result<(), Fail> {
     let steps = [
-        Step::Settle(0),
+        Step::Prepare(0),
         Step::Deliver(0, 0, How::Idle, 0, 200),
-        Step::Settle(250),
+        Step::Prepare(250),
         Step::Write(0, 1, 1),
         Step::Check(0, 0, State::Delivered),
-        Step::Settle(1300),
-        Step::Settle(4000),
+        Step::Prepare(1300),
+        Step::Prepare(4000),
     ];
     follow(
         &rt,
@@ -51,20 +51,20 @@ fn a_sealed_block_is_not_wanted_again(rt: HostRuntime) -> Result<(), Fail> {
 #[test]
 fn an_overwritten_block_of_a_suspended_backup_waits(rt: HostRuntime) -> Result<(), Fail> {
     let steps = [
-        Step::Settle(0),
+        Step::Prepare(0),
         Step::Deliver(0, 0, How::Idle, 0, 200),
-        Step::Settle(250),
+        Step::Prepare(250),
         Step::Check(0, 0, State::Delivered),
         Step::Check(0, 1, State::Suspended),
         Step::Write(0, 1, 1),
         Step::Check(0, 0, State::Suspended),
-        Step::Settle(1300),
-        Step::Settle(2000),
+        Step::Prepare(1300),
+        Step::Prepare(2000),
         Step::Check(0, 0, State::Wanted),
         Step::Check(0, 1, State::Wanted),
         Step::Deliver(0, 0, How::Idle, 2400, 2600),
         Step::Deliver(0, 1, How::Idle, 2600, 2800),
-        Step::Settle(4000),
+        Step::Prepare(4000),
     ];
     follow(
         &rt,

@@ -7,14 +7,14 @@ use std::test::Fail;
 #[test]
 fn the_segment_of_greatest_benefit_is_cleaned_first(rt: HostRuntime) -> Result<(), Fail> {
     let steps = [
-        Step::Settle(0),
+        Step::Prepare(0),
         Step::Check(0, 0, State::Wanted),
         Step::Deliver(0, 0, How::Idle, 500, 600),
-        Step::Settle(700),
-        Step::Settle(1200),
+        Step::Prepare(700),
+        Step::Prepare(1200),
         Step::Deliver(0, 1, How::Idle, 1200, 1300),
         Step::Deliver(0, 2, How::Idle, 1400, 1500),
-        Step::Settle(3000),
+        Step::Prepare(3000),
     ];
     follow(
         &rt,
@@ -28,7 +28,7 @@ fn the_segment_of_greatest_benefit_is_cleaned_first(rt: HostRuntime) -> Result<(
 
 #[test]
 fn a_segment_without_live_blocks_is_clean_at_once(rt: HostRuntime) -> Result<(), Fail> {
-    let steps = [Step::Settle(0)];
+    let steps = [Step::Prepare(0)];
     follow(
         &rt,
         rt.alloc(),
@@ -42,14 +42,14 @@ fn a_segment_without_live_blocks_is_clean_at_once(rt: HostRuntime) -> Result<(),
 #[test]
 fn a_close_aborts_the_rest_of_the_chosen_segment(rt: HostRuntime) -> Result<(), Fail> {
     let steps = [
-        Step::Settle(0),
-        Step::Settle(150),
+        Step::Prepare(0),
+        Step::Prepare(150),
         Step::Check(0, 0, State::Wanted),
         Step::Deliver(0, 1, How::Idle, 200, 300),
-        Step::Settle(350),
+        Step::Prepare(350),
         Step::Check(0, 0, State::Aborted),
         Step::Check(0, 1, State::Delivered),
-        Step::Settle(1200),
+        Step::Prepare(1200),
     ];
     follow(
         &rt,
@@ -64,13 +64,13 @@ fn a_close_aborts_the_rest_of_the_chosen_segment(rt: HostRuntime) -> Result<(), 
 #[test]
 fn a_suspended_task_chooses_too(rt: HostRuntime) -> Result<(), Fail> {
     let steps = [
-        Step::Settle(0),
+        Step::Prepare(0),
         Step::Check(0, 0, State::Suspended),
         Step::Check(0, 1, State::Suspended),
-        Step::Settle(150),
+        Step::Prepare(150),
         Step::Deliver(0, 1, How::Idle, 200, 300),
         Step::Deliver(0, 0, How::Idle, 1200, 1300),
-        Step::Settle(2400),
+        Step::Prepare(2400),
     ];
     follow(
         &rt,
@@ -85,11 +85,11 @@ fn a_suspended_task_chooses_too(rt: HostRuntime) -> Result<(), Fail> {
 #[test]
 fn a_close_drops_a_segment_that_is_not_chosen(rt: HostRuntime) -> Result<(), Fail> {
     let steps = [
-        Step::Settle(0),
+        Step::Prepare(0),
         Step::Check(0, 0, State::Wanted),
-        Step::Settle(100),
+        Step::Prepare(100),
         Step::Check(0, 0, State::Aborted),
-        Step::Settle(1200),
+        Step::Prepare(1200),
     ];
     follow(
         &rt,

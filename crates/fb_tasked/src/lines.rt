@@ -52,7 +52,7 @@ fn line(alloc: Global, calls: &Calls, row: &BackRow) -> Result<String, AllocErro
 // The line of a delivery.
 fn got_line(alloc: Global, calls: &Calls, row: &DeliveryRow) -> Result<String, AllocError> {
     let task = name(calls, row.block.task);
-    let index = row.block.index;
+    let number = row.block.number;
     let lbn = row.block.lbn;
     let count = row.block.count;
     let begin = row.begin;
@@ -60,7 +60,7 @@ fn got_line(alloc: Global, calls: &Calls, row: &DeliveryRow) -> Result<String, A
     let how = way(row.how);
     let bad = row.bad;
     let content = sectors(alloc, &row.content)?;
-    format!(in alloc; "got {task} {index} {lbn} {count} {begin} {end} {how} {bad} {content}")
+    format!(in alloc; "got {task} {number} {lbn} {count} {begin} {end} {how} {bad} {content}")
 }
 
 // The line of how a task stands.

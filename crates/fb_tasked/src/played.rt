@@ -45,8 +45,8 @@ fn disk(alloc: Global) -> Result<SectorMap, Fail> {
 /// What happens.
 #[derive(Clone, Copy)]
 pub enum Step {
-    /// The calls up to an instant take effect, and all is settled.
-    Settle(Ns),
+    /// The calls up to an instant take effect, the tasks choose segments, and all are tested.
+    Prepare(Ns),
     /// The block of this task and number is delivered between these instants.
     Deliver(u32, u32, How, Ns, Ns),
     /// A write has passed: its first sector, how many sectors, and the number that it leaves.
@@ -85,14 +85,14 @@ struct PlayedScript {
     rows: BackRows,
     // How many calls have taken effect.
     called: usize,
-    // Whether all was settled since the last write.
-    settled: bool,
+    // Whether all tasks were tested since the last write.
+    up_to_date: bool,
 }
 
 impl PlayedScript {
     // Nothing has happened yet.
     fn new(alloc: Global, script: &[u8], latent: &[u64]) -> Result<PlayedScript, Fail>
-        ensures { IfOk result (λ played. Follows played.settled played.map played.calls.calls.items played.called played.sessions played.wanted) }
+        ensures { IfOk result (λ played. Follows played.up_to_date played.map played.calls.calls.items played.called played.sessions played.wanted) }
     {
         let map = disk(alloc)?;
         let calls = read_calls(alloc, script, &map, 0)?;
@@ -104,25 +104,25 @@ impl PlayedScript {
             wanted: Wanted::new(alloc),
             rows: BackRows::new(alloc),
             called: 0,
-            settled: false,
+            up_to_date: false,
         })
     }
 
     // What happens next.
     fn step(&mut self, rt: &impl Abort, alloc: Global, step: Step) -> Result<(), Fail>
-        requires { Follows self.old.settled self.old.map self.old.calls.calls.items self.old.called self.old.sessions self.old.wanted }
-        ensures { OnOk result (Follows self.new.settled self.new.map self.new.calls.calls.items self.new.called self.new.sessions self.new.wanted) }
+        requires { Follows self.old.up_to_date self.old.map self.old.calls.calls.items self.old.called self.old.sessions self.old.wanted }
+        ensures { OnOk result (Follows self.new.up_to_date self.new.map self.new.calls.calls.items self.new.called self.new.sessions self.new.wanted) }
     {
         match step {
-            Step::Settle(now) => Ok(self.settle(now)?),
-            Step::Deliver(task, index, how, begin, end) => {
-                let block = self.wanted_block(task, index)?;
+            Step::Prepare(now) => Ok(self.prepare(now)?),
+            Step::Deliver(task, number, how, begin, end) => {
+                let block = self.wanted_block(task, number)?;
                 Ok(self.deliver(alloc, block, how, begin, end)?)
             }
             Step::Write(first, count, writer) => Ok(self.write(first, count, writer)?),
-            Step::Check(task, index, state) => {
-                let entry = self.entry(task, index).ok_or("no block")?;
-                assert_eq!(rt; entry.state, state, "{task} {index}");
+            Step::Check(task, number, state) => {
+                let entry = self.entry(task, number).ok_or("no block")?;
+                assert_eq!(rt; entry.state, state, "{task} {number}");
                 Ok(())
             }
         }
@@ -141,37 +141,37 @@ impl PlayedScript {
         Ok(())
     }
 
-    // The calls up to an instant take effect, and all is settled.
-    fn settle(&mut self, now: Ns) -> Result<(), NoMemory>
-        requires { Follows self.old.settled self.old.map self.old.calls.calls.items self.old.called self.old.sessions self.old.wanted }
-        ensures { OnOk result (Follows self.new.settled self.new.map self.new.calls.calls.items self.new.called self.new.sessions self.new.wanted) }
+    // The calls up to an instant take effect, the tasks choose segments, and all are tested.
+    fn prepare(&mut self, now: Ns) -> Result<(), NoMemory>
+        requires { Follows self.old.up_to_date self.old.map self.old.calls.calls.items self.old.called self.old.sessions self.old.wanted }
+        ensures { OnOk result (Follows self.new.up_to_date self.new.map self.new.calls.calls.items self.new.called self.new.sessions self.new.wanted) }
     {
         self.call(now)?;
-        self.settled = true;
+        self.up_to_date = true;
         self.sessions
-            .settle(&self.map, &mut self.wanted, now, &mut self.rows)
+            .choose_and_test(&self.map, &mut self.wanted, now, &mut self.rows)
     }
 
     // The task's block of that number.
-    fn entry(&self, task: u32, index: u32) -> Option<Entry>
-        requires { Follows self.now.settled self.now.map self.now.calls.calls.items self.now.called self.now.sessions self.now.wanted }
+    fn entry(&self, task: u32, number: u32) -> Option<Entry>
+        requires { Follows self.now.up_to_date self.now.map self.now.calls.calls.items self.now.called self.now.sessions self.now.wanted }
         ensures { IfSome result (λ entry. (place : ℕ) × (slice_get self.now.wanted place ≡ Some entry)) }
     {
-        if index < self.wanted.counts(task).registered {
-            Some(self.wanted.entry(task, index))
+        if number < self.wanted.counts(task).registered {
+            Some(self.wanted.entry(task, number))
         } else {
             None
         }
     }
 
     // The task's block of that number, if it may be delivered.
-    fn wanted_block(&self, task: u32, index: u32) -> Result<Block, Fail>
-        requires { Follows self.now.settled self.now.map self.now.calls.calls.items self.now.called self.now.sessions self.now.wanted }
-        ensures { IfOk result (λ block. (self.now.settled ≡ true) × (place : ℕ) × (slice_get self.now.wanted place ≡ Some (record { block = block; state = State.Wanted }))) }
+    fn wanted_block(&self, task: u32, number: u32) -> Result<Block, Fail>
+        requires { Follows self.now.up_to_date self.now.map self.now.calls.calls.items self.now.called self.now.sessions self.now.wanted }
+        ensures { IfOk result (λ block. (self.now.up_to_date ≡ true) × (place : ℕ) × (slice_get self.now.wanted place ≡ Some (record { block = block; state = State.Wanted }))) }
     {
-        match self.entry(task, index) {
+        match self.entry(task, number) {
             Some(entry) => match entry.state {
-                State::Wanted if self.settled => Ok(entry.block),
+                State::Wanted if self.up_to_date => Ok(entry.block),
                 _ => Err(Fail::from("not wanted")),
             },
             None => Err(Fail::from("no block")),
@@ -189,7 +189,7 @@ impl PlayedScript {
     ) -> Result<(), NoMemory>
         requires follows { Follows true self.old.map self.old.calls.calls.items self.old.called self.old.sessions self.old.wanted }
         requires wanted { (place : ℕ) × (slice_get self.old.wanted place ≡ Some (record { block = block; state = State.Wanted })) }
-        ensures { OnOk result (Follows self.new.settled self.new.map self.new.calls.calls.items self.new.called self.new.sessions self.new.wanted) }
+        ensures { OnOk result (Follows self.new.up_to_date self.new.map self.new.calls.calls.items self.new.called self.new.sessions self.new.wanted) }
     {
         let content = self.store.runs(alloc, block.lbn, block.count)?;
         runs_are_fewest();
@@ -202,18 +202,18 @@ impl PlayedScript {
             content,
         };
         self.sessions
-            .delivered(&mut self.wanted, got, &mut self.rows)
+            .deliver(&mut self.wanted, got, &mut self.rows)
     }
 
     // A write passes.
     fn write(&mut self, first: u64, count: u32, writer: u64) -> Result<(), Fail>
-        requires { Follows self.old.settled self.old.map self.old.calls.calls.items self.old.called self.old.sessions self.old.wanted }
-        ensures { OnOk result (Follows self.new.settled self.new.map self.new.calls.calls.items self.new.called self.new.sessions self.new.wanted) }
+        requires { Follows self.old.up_to_date self.old.map self.old.calls.calls.items self.old.called self.old.sessions self.old.wanted }
+        ensures { OnOk result (Follows self.new.up_to_date self.new.map self.new.calls.calls.items self.new.called self.new.sessions self.new.wanted) }
     {
         if first >= 96 || count > 96 {
             return Err(Fail::from("beyond the disk"));
         }
-        self.settled = false;
+        self.up_to_date = false;
         self.store.write_range(first, count, writer)?;
         self.sessions.after_write(&mut self.wanted, first, count);
         Ok(())
@@ -221,14 +221,14 @@ impl PlayedScript {
 
     // The rows of the tasks follow, and each says whether its task is complete.
     fn end(&mut self, rt: &impl Abort, alloc: Global) -> Result<(), Fail>
-        requires { Follows self.old.settled self.old.map self.old.calls.calls.items self.old.called self.old.sessions self.old.wanted }
+        requires { Follows self.old.up_to_date self.old.map self.old.calls.calls.items self.old.called self.old.sessions self.old.wanted }
     {
         self.sessions.task_rows(&self.wanted, &mut self.rows)?;
         let mut rows = BackRows::new(alloc);
         self.sessions.task_rows(&self.wanted, &mut rows)?;
         for i in 0..rows.len() {
             let task = u32::try_from(i)?;
-            let complete = self.sessions.complete(&self.wanted, task);
+            let complete = self.sessions.is_complete(&self.wanted, task);
             if let BackRow::Task(row) = rows.get(i) {
                 assert_eq!(rt; complete, row.complete);
             }

@@ -7,10 +7,10 @@ use std::test::Fail;
 #[test]
 fn a_delivered_block_completes_its_task(rt: HostRuntime) -> Result<(), Fail> {
     let steps = [
-        Step::Settle(0),
+        Step::Prepare(0),
         Step::Deliver(0, 0, How::Idle, 500, 600),
-        Step::Settle(600),
-        Step::Settle(1300),
+        Step::Prepare(600),
+        Step::Prepare(1300),
     ];
     follow(
         &rt,
@@ -29,7 +29,7 @@ fn a_task_without_blocks_is_open(rt: HostRuntime) -> Result<(), Fail> {
         rt.alloc(),
         b"0 open a plain 1 1\n",
         &[],
-        &[Step::Settle(0)],
+        &[Step::Prepare(0)],
         "task a plain 0 0 0 0 open\n",
     )
 }
@@ -37,12 +37,12 @@ fn a_task_without_blocks_is_open(rt: HostRuntime) -> Result<(), Fail> {
 #[test]
 fn an_abort_between_decisions_waits_for_the_next(rt: HostRuntime) -> Result<(), Fail> {
     let steps = [
-        Step::Settle(0),
-        Step::Settle(600),
+        Step::Prepare(0),
+        Step::Prepare(600),
         Step::Deliver(0, 0, How::Gap, 600, 700),
         Step::Deliver(0, 1, How::Gap, 700, 800),
         Step::Deliver(0, 2, How::Gap, 1100, 1200),
-        Step::Settle(1300),
+        Step::Prepare(1300),
         Step::Check(0, 1, State::Delivered),
     ];
     follow(
@@ -58,12 +58,12 @@ fn an_abort_between_decisions_waits_for_the_next(rt: HostRuntime) -> Result<(), 
 #[test]
 fn an_aborted_block_is_not_delivered(rt: HostRuntime) -> Result<(), Fail> {
     let steps = [
-        Step::Settle(0),
+        Step::Prepare(0),
         Step::Check(0, 1, State::Wanted),
-        Step::Settle(600),
+        Step::Prepare(600),
         Step::Deliver(0, 0, How::Gap, 600, 700),
         Step::Deliver(0, 2, How::Gap, 1100, 1200),
-        Step::Settle(1300),
+        Step::Prepare(1300),
         Step::Check(0, 1, State::Aborted),
     ];
     follow(
@@ -79,12 +79,12 @@ fn an_aborted_block_is_not_delivered(rt: HostRuntime) -> Result<(), Fail> {
 #[test]
 fn a_suspended_task_stays_open(rt: HostRuntime) -> Result<(), Fail> {
     let steps = [
-        Step::Settle(0),
-        Step::Settle(600),
+        Step::Prepare(0),
+        Step::Prepare(600),
         Step::Check(0, 0, State::Suspended),
         Step::Check(0, 1, State::Suspended),
         Step::Check(0, 2, State::Suspended),
-        Step::Settle(1300),
+        Step::Prepare(1300),
     ];
     follow(
         &rt,
@@ -99,12 +99,12 @@ fn a_suspended_task_stays_open(rt: HostRuntime) -> Result<(), Fail> {
 #[test]
 fn a_closed_task_is_complete(rt: HostRuntime) -> Result<(), Fail> {
     let steps = [
-        Step::Settle(0),
-        Step::Settle(600),
+        Step::Prepare(0),
+        Step::Prepare(600),
         Step::Check(0, 0, State::Aborted),
         Step::Check(0, 1, State::Aborted),
         Step::Check(0, 2, State::Aborted),
-        Step::Settle(1300),
+        Step::Prepare(1300),
     ];
     follow(
         &rt,
@@ -119,12 +119,12 @@ fn a_closed_task_is_complete(rt: HostRuntime) -> Result<(), Fail> {
 #[test]
 fn a_resume_of_a_task_never_suspended_does_nothing(rt: HostRuntime) -> Result<(), Fail> {
     let steps = [
-        Step::Settle(0),
-        Step::Settle(600),
+        Step::Prepare(0),
+        Step::Prepare(600),
         Step::Deliver(0, 0, How::Gap, 600, 700),
         Step::Deliver(0, 1, How::Gap, 700, 800),
         Step::Deliver(0, 2, How::Gap, 1100, 1200),
-        Step::Settle(1300),
+        Step::Prepare(1300),
     ];
     follow(
         &rt,
@@ -139,10 +139,10 @@ fn a_resume_of_a_task_never_suspended_does_nothing(rt: HostRuntime) -> Result<()
 #[test]
 fn each_task_has_its_own_blocks(rt: HostRuntime) -> Result<(), Fail> {
     let steps = [
-        Step::Settle(0),
-        Step::Settle(600),
+        Step::Prepare(0),
+        Step::Prepare(600),
         Step::Deliver(1, 0, How::Gap, 900, 1000),
-        Step::Settle(1300),
+        Step::Prepare(1300),
         Step::Check(0, 0, State::Wanted),
         Step::Check(0, 1, State::Wanted),
         Step::Check(1, 0, State::Delivered),
@@ -160,16 +160,16 @@ fn each_task_has_its_own_blocks(rt: HostRuntime) -> Result<(), Fail> {
 #[test]
 fn a_task_is_complete_again_after_a_new_want(rt: HostRuntime) -> Result<(), Fail> {
     let steps = [
-        Step::Settle(0),
+        Step::Prepare(0),
         Step::Deliver(0, 0, How::Idle, 600, 700),
-        Step::Settle(700),
+        Step::Prepare(700),
         Step::Write(6, 1, 1),
-        Step::Settle(1900),
+        Step::Prepare(1900),
         Step::Check(0, 0, State::Delivered),
-        Step::Settle(2000),
+        Step::Prepare(2000),
         Step::Check(0, 1, State::Wanted),
         Step::Deliver(0, 1, How::Idle, 3000, 3100),
-        Step::Settle(4000),
+        Step::Prepare(4000),
     ];
     follow(
         &rt,
@@ -184,9 +184,9 @@ fn a_task_is_complete_again_after_a_new_want(rt: HostRuntime) -> Result<(), Fail
 #[test]
 fn a_scrub_finds_a_sector_that_cannot_be_read(rt: HostRuntime) -> Result<(), Fail> {
     let steps = [
-        Step::Settle(0),
+        Step::Prepare(0),
         Step::Deliver(0, 0, How::Idle, 400, 800),
-        Step::Settle(1200),
+        Step::Prepare(1200),
     ];
     follow(
         &rt,

@@ -8,9 +8,9 @@ use Rattle.fb_tasks.proofs.Words.{terms_of, registered, is_seal_of, Choice, Task
 use Rattle.fb_tasks.proofs.Words.{is_cleaned, delivered-silent, delivered-view, tested-view, number_same, test_rows_found, segment_rows_found}
 use Rattle.fb_tasks.proofs.Words.{seal_rows_found, complete_rows, is_newly_cleaned, findings, is_scrub, bad_sectors, Session}
 use Rattle.fb_tasks.proofs.Words.{rows_after, HasTaken, entry_of, choice_in, AreReported, MayFinish, IsBlockOf, IsAtWork, HoldsBlocks}
-use Rattle.fb_tasks.proofs.Words.{Stands, Told, HasNoChoice, Tells, IsSettled, MayDeliver, all_at, number_other, same_number, other_number}
+use Rattle.fb_tasks.proofs.Words.{Stands, Told, HasNoChoice, Tells, IsUpToDate, MayDeliver, all_at, number_other, same_number, other_number}
 use Rattle.fb_tasks.proofs.Words.{some_at, map_at, each_set, flat_none, all_range, HasBegun, Delivers, HasChosen, ends_of, IsTested}
-use Rattle.fb_tasks.proofs.{RowsOf.rows-given, RowsOf.seals_given, RowsOf.findings-mute, Tested.settled-tested, Tested.AreAllRows}
+use Rattle.fb_tasks.proofs.{RowsOf.rows-given, RowsOf.seals_given, RowsOf.findings-mute, Tested.up_to_date-tested, Tested.AreAllRows}
 use Rattle.fb_tasks.proofs.{Tested.tells-tested, Tested.still-stands, Tested.no-ends, States.flagged-stands, Deliveries.delivered-entries}
 use Rattle.fb_tasks.proofs.{Deliveries.WasWanted, Deliveries.was_wanted, Deliveries.delivered-holds, Deliveries.delivered-stands}
 use Rattle.fb_tasks.proofs.{Deliveries.at_work_now, States.seen, RowsOf.reported_rows}
@@ -50,10 +50,10 @@ module _ {disk : Shape} {past : Past} {sessions : List Session} {held : List Ent
     there = some_at sessions task (subst (λ n. task < n) (sym may.tells.as_many) less)
 
     done-other : (is_unsealed (view past task) && is_done (view past task).work) ≡ false
-    done-other = rw ((seen past task).unsealed, (seen past task).done) (sym (seals_given past 0 task) ∙ ap (list_any (is_seal_of task)) (may.settled.no_rows 0))
+    done-other = rw ((seen past task).unsealed, (seen past task).done) (sym (seals_given past 0 task) ∙ ap (list_any (is_seal_of task)) (may.up_to_date.no_rows 0))
 
     tested-other : (view past task).was_complete ≡ is_done (view past task).work
-    tested-other = rw ((seen past task).was, (seen past task).done) (may.settled.tested task)
+    tested-other = rw ((seen past task).was, (seen past task).done) (may.up_to_date.tested task)
 
     no_segments : (now : ℕ) → segment_rows_found (delivered got ∷ past) now task ≡ []
     no_segments now = reported_rows (delivered got ∷ past) now task (told-other there.0 there.1).reported
@@ -73,8 +73,8 @@ module _ {disk : Shape} {past : Past} {sessions : List Session} {held : List Ent
     pub all-given : AreAllRows (delivered got ∷ past) (rows_after past got)
     all-given task = rows-given (delivered got ∷ past) got.end (findings past got) (findings-mute past got) task (λ more. (h.unopened task more).choices)
 
-    pub settled-delivered : IsSettled (tested (rows_after past got) ∷ delivered got ∷ past)
-    settled-delivered = settled-tested (delivered got ∷ past) (rows_after past got) (λ task less. all-given task)
+    pub up_to_date-delivered : IsUpToDate (tested (rows_after past got) ∷ delivered got ∷ past)
+    up_to_date-delivered = up_to_date-tested (delivered got ∷ past) (rows_after past got) (λ task less. all-given task)
 
     other-tested : (task : ℕ) (session : Session) → (got.block.task ≡ task → ⊥) → slice_get sessions task ≡ Some session
         → (Stands (view (tested (rows_after past got) ∷ delivered got ∷ past) task) session) × (IsAtWork (view (tested (rows_after past got) ∷ delivered got ∷ past) task).work session)
@@ -117,22 +117,22 @@ module _ (v : TaskView) (got : DeliveryRow) (old mid : Session) (stands : Stands
   ]
 
 module _ {disk : Shape} {past : Past} {sessions : List Session} {held : List Entry} (got : DeliveryRow) (may : MayDeliver disk past sessions held got) where
-  pub held-now : (now : List Entry) → now ≡ after got.block.task (Deliver got.block.index) held → HoldsBlocks disk (delivered got ∷ past) now
+  pub held-now : (now : List Entry) → now ≡ after got.block.task (Deliver got.block.number) held → HoldsBlocks disk (delivered got ∷ past) now
   held-now now is = delivered-holds disk past got held now (delivered-entries past got held now may.tells.entries is) may.tells.blocks
 
-  pub wanted-entry : (e : Entry) × (i : ℕ) × (slice_get held i ≡ Some e) × (is_block got.block.task got.block.index e ≡ true) × (e.state ≡ Wanted)
+  pub wanted-entry : (e : Entry) × (i : ℕ) × (slice_get held i ≡ Some e) × (is_block got.block.task got.block.number e ≡ true) × (e.state ≡ Wanted)
   wanted-entry =
       let was = placed got may in (
         entry_of past got.block,
         was.place,
         ap (λ es. slice_get es was.place) may.tells.entries ∙ map_at (entry_of past) (registered past) was.place got.block was.registered_there,
-        ap₂ (λ a b. a && b) (number_same got.block.task got.block.task refl) (number_same got.block.index got.block.index refl),
+        ap₂ (λ a b. a && b) (number_same got.block.task got.block.task refl) (number_same got.block.number got.block.number refl),
         was.shown_wanted,
       )
 
   -- the session of the delivered block
   pub delivers : {items : List Session} {now : List Entry} {old : Session} → items ≡ sessions → old ≡ get_or items got.block.task old
-      → now ≡ after got.block.task (Deliver got.block.index) held → Delivers disk past sessions held got old now
+      → now ≡ after got.block.task (Deliver got.block.number) held → Delivers disk past sessions held got old now
   delivers {items} {now} {old} same says is =
       let there = slice_get-get_or sessions got.block.task old (within_sessions got may) in
       record { may = may; at = there ∙ ap Some (sym (rw same at says)); is = is }

@@ -42,10 +42,10 @@ promoted-tells disk past call first count sessions held is h =
     let kept : tasks (called call [] ∷ past) ≡ tasks past = ap (λ a. opened_by a (tasks past)) is in
     silent-tells disk past (called call []) sessions held (λ t. promoted-silent past call kept t first count is) kept (append-nil (registered past)) h
 
-pub asked-aborts : (disk : Shape) (past : Past) (call : Call) (first count : ℕ) (sessions touched : List Session) (held now : List Entry) → call.action ≡ Abort first count → now ≡ after call.task (AbortRange first count) held
+pub call-aborts : (disk : Shape) (past : Past) (call : Call) (first count : ℕ) (sessions touched : List Session) (held now : List Entry) → call.action ≡ Abort first count → now ≡ after call.task (AbortRange first count) held
     → ((session : Session) → slice_get sessions call.task ≡ Some session → touched ≡ set sessions call.task (record session { touched = true }))
     → MayTake disk past sessions held call → Tells disk (called call [] ∷ past) touched now
-asked-aborts disk past call first count sessions touched held now is is_after flagged may =
+call-aborts disk past call first count sessions touched held now is is_after flagged may =
     let h = may.tells in
     let asks = subst (MayAsk disk (calls_of past) call.task) is may.asks in
     let opened : call.task < length sessions = omega (arith, (open_there past call.task asks.0).0, h.as_many) in

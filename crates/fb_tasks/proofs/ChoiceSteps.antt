@@ -49,9 +49,9 @@ chosen_blocks disk task v segment = numbered task v.terms.weight (length v.block
 abbrev pub chosen_for : Shape → ℕ → TaskView → LogSegment → Choice
 chosen_for disk task v segment = record { segment = segment; blocks = chosen_blocks disk task v segment }
 
-indexed_below : (n : ℕ) (bs : List Block) → AreIndexed n bs → AllByRecursion (λ b. b.index < n + length bs) bs
+indexed_below : (n : ℕ) (bs : List Block) → AreIndexed n bs → AllByRecursion (λ b. b.number < n + length bs) bs
 indexed_below n [] h = tt
-indexed_below n (b ∷ bs) h = (omega (arith, h.0), all_weaker (λ c. c.index < n + 1 + length bs) (λ c. c.index < n + length (b ∷ bs)) (λ c less. omega (arith, less)) bs (indexed_below (n + 1) bs h.1))
+indexed_below n (b ∷ bs) h = (omega (arith, h.0), all_weaker (λ c. c.number < n + 1 + length bs) (λ c. c.number < n + length (b ∷ bs)) (λ c less. omega (arith, less)) bs (indexed_below (n + 1) bs h.1))
 
 module _ (disk : Shape) (task : ℕ) (v : TaskView) (best : LogSegment) where
   abbrev fresh : List Block
@@ -76,7 +76,7 @@ module _ (disk : Shape) (task : ℕ) (v : TaskView) (best : LogSegment) where
 
   -- the blocks before stay, and the new ones are wanted
   pub old_bare : AreIndexed 0 v.blocks → AllByRecursion (λ block. (chosen_view task (chosen_for disk task v best) v).bare block ≡ v.bare block) v.blocks
-  old_bare indexed = all_weaker (λ b. b.index < 0 + length v.blocks) (λ block. new.bare block ≡ v.bare block)
+  old_bare indexed = all_weaker (λ b. b.number < 0 + length v.blocks) (λ block. new.bare block ≡ v.bare block)
       (λ block less. rw (no_smaller (own_of task block) (length v.blocks) fresh (omega (arith, less)) added_indexed) refl) v.blocks (indexed_below 0 v.blocks indexed)
 
   pub new_bare : AllByRecursion (λ block. (chosen_view task (chosen_for disk task v best) v).bare block ≡ Wanted) (chosen_blocks disk task v best)

@@ -71,7 +71,7 @@ drop_at xs i x h = drop_more xs i x (slice_get_within xs i x h) ∙ rw (get_or_f
 pub numbered_append : (task weight n : ℕ) (cs ds : List Cut) → numbered task weight n (cs ++ ds) ≡ numbered task weight n cs ++ numbered task weight (n + length cs) ds
 numbered_append task weight n [] ds = ap (λ k. numbered task weight k ds) (let e : n ≡ n + 0 = omega arith in e)
 numbered_append task weight n (c ∷ cs) ds =
-    rw (numbered_append task weight (n + 1) cs ds) (ap (λ k. record { task = task; index = n; lbn = c.lbn; count = c.count; track = c.track; weight = weight; sweep = c.sweep } ∷ (numbered task weight (n + 1) cs ++ numbered task weight k ds)) (let e : n + 1 + length cs ≡ n + suc (length cs) = omega arith in e))
+    rw (numbered_append task weight (n + 1) cs ds) (ap (λ k. record { task = task; number = n; lbn = c.lbn; count = c.count; track = c.track; weight = weight; sweep = c.sweep } ∷ (numbered task weight (n + 1) cs ++ numbered task weight k ds)) (let e : n + 1 + length cs ≡ n + suc (length cs) = omega arith in e))
 
 new_named : (session : Session) (bs : List Block) → blocks_of (new_entries session bs) ≡ bs
 new_named session [] = refl

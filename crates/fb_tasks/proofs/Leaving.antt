@@ -117,13 +117,13 @@ chosen_own olds items n session old before now at touched stay own more idle = e
     ]
 
 -- the blocks that are registered and those that are left stay the same
-pub cut_registered : (task index : ℕ) (session : Session) (before now : List Entry) (cut : Cut) (cuts rest : List Cut) (block : Block) → cuts ≡ cut ∷ rest
-    → block ≡ record { task = task; index = index; lbn = cut.lbn; count = cut.count; track = cut.track; weight = session.weight; sweep = cut.sweep } → now ≡ before ++ record { block = block; state = wanted_unless session.suspended } ∷ []
-    → now ++ new_entries session (numbered task session.weight (index + 1) rest) ≡ before ++ new_entries session (numbered task session.weight index cuts)
-cut_registered task index session before now cut cuts rest block first same is = rw (is, first, same, append_assoc) refl
+pub cut_registered : (task number : ℕ) (session : Session) (before now : List Entry) (cut : Cut) (cuts rest : List Cut) (block : Block) → cuts ≡ cut ∷ rest
+    → block ≡ record { task = task; number = number; lbn = cut.lbn; count = cut.count; track = cut.track; weight = session.weight; sweep = cut.sweep } → now ≡ before ++ record { block = block; state = wanted_unless session.suspended } ∷ []
+    → now ++ new_entries session (numbered task session.weight (number + 1) rest) ≡ before ++ new_entries session (numbered task session.weight number cuts)
+cut_registered task number session before now cut cuts rest block first same is = rw (is, first, same, append_assoc) refl
 
-pub one_counted : (task index : ℕ) (before now : List Entry) (entry : Entry) → now ≡ before ++ entry ∷ [] → entry.block.task ≡ task → index ≡ registered task (blocks_of before) → index + 1 ≡ registered task (blocks_of now)
-one_counted task index before now entry is own next =
+pub one_counted : (task number : ℕ) (before now : List Entry) (entry : Entry) → now ≡ before ++ entry ∷ [] → entry.block.task ≡ task → number ≡ registered task (blocks_of before) → number + 1 ≡ registered task (blocks_of now)
+one_counted task number before now entry is own next =
     rw is (simp (map-append, filter-append, length-append, number_same entry.block.task task own) (omega (arith, next)))
 
 -- what a call says in two clauses, where it succeeds

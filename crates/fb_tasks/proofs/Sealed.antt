@@ -122,32 +122,32 @@ backup_over w backup complete = by w.terms.kind backup complete where
   by _ is h = absurd (grind arith)
 
 -- the task's block of a number stands among those that are registered
-pub indexed_at : (n k : ℕ) (blocks : List Block) (block : Block) → AreIndexed n blocks → slice_get blocks k ≡ Some block → block.index ≡ n + k
+pub indexed_at : (n k : ℕ) (blocks : List Block) (block : Block) → AreIndexed n blocks → slice_get blocks k ≡ Some block → block.number ≡ n + k
 indexed_at n k [] block h at = absurd (cc)
 indexed_at n zero (b ∷ bs) block h at = rw (sym (some_same b block at)) (omega (arith, h.0))
 indexed_at n (suc k) (b ∷ bs) block h at = omega (arith, indexed_at (n + 1) k bs block h.1 at)
 
 -- the entry of a task's block
-pub record HasEntry (held : List Entry) (task index : ℕ) (entry : Entry) : Type 0 where
+pub record HasEntry (held : List Entry) (task number : ℕ) (entry : Entry) : Type 0 where
   pub place : ℕ
   pub at : slice_get held place ≡ Some entry
-  pub is_block : is_block task index entry ≡ true
+  pub is_block : is_block task number entry ≡ true
   pub within : entry.block.lbn + entry.block.count ≤ 10 ^ 12
 
 module _ {disk : Shape} {past : Past} {held : List Entry} (h : HoldsBlocks disk past held) (task : ℕ) where
-  pub entry_at : (index : ℕ) (block : Block) → slice_get (view past task).blocks index ≡ Some block → HasEntry held task index (entry_in (view past task) block)
-  entry_at index block at =
-      let place = filter_from (λ (b : Block). b.task == task) (registered past) index block (rw (sym (seen past task).blocks) at) in
-      let mine = all_at (λ (b : Block). b.task ≡ task) (view past task).blocks index block (own past task) at in
-      subst (HasEntry held task index) (ap (λ t. entry_in (view past t) block) mine) (record {
+  pub entry_at : (number : ℕ) (block : Block) → slice_get (view past task).blocks number ≡ Some block → HasEntry held task number (entry_in (view past task) block)
+  entry_at number block at =
+      let place = filter_from (λ (b : Block). b.task == task) (registered past) number block (rw (sym (seen past task).blocks) at) in
+      let mine = all_at (λ (b : Block). b.task ≡ task) (view past task).blocks number block (own past task) at in
+      subst (HasEntry held task number) (ap (λ t. entry_in (view past t) block) mine) (record {
         place = place.0;
         at = rw h.entries (map_at (entry_of past) (registered past) place.0 block place.1);
-        is_block = rw (number_same block.task task mine, number_same block.index index (indexed_at 0 index (view past task).blocks block (h.placed task).indexed at ∙ (let e : 0 + index ≡ index = omega arith in e))) refl;
+        is_block = rw (number_same block.task task mine, number_same block.number number (indexed_at 0 number (view past task).blocks block (h.placed task).indexed at ∙ (let e : 0 + number ≡ number = omega arith in e))) refl;
         within = (all_at (IsBlockOf disk (length (tasks past))) (registered past) place.0 block h.on_disk place.1).within;
       })
 
-  pub block_at : (index n : ℕ) → n ≡ (counts_of task held).registered → index < n → (block : Block) × (slice_get (view past task).blocks index ≡ Some block)
-  block_at index n is less = some_at (view past task).blocks index (subst (λ k. index < k) (is ∙ ap (λ c. c.registered) (counts_same past task held h.entries)) less)
+  pub block_at : (number n : ℕ) → n ≡ (counts_of task held).registered → number < n → (block : Block) × (slice_get (view past task).blocks number ≡ Some block)
+  block_at number n is less = some_at (view past task).blocks number (subst (λ k. number < k) (is ∙ ap (λ c. c.registered) (counts_same past task held h.entries)) less)
 
   pub all_blocks : (n : ℕ) → n ≡ (counts_of task held).registered → take n (view past task).blocks ≡ (view past task).blocks
   all_blocks n is = rw (is ∙ ap (λ c. c.registered) (counts_same past task held h.entries)) (take-length (view past task).blocks)

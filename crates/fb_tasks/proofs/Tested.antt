@@ -6,7 +6,7 @@ use Rattle.fb_tasks.proofs.Words.{[], Option, length, tested, Choice, is_done, i
 use Rattle.fb_tasks.proofs.Words.{false, append-nil, bare_state, content_of, registered, IsUntouched, HasNoChoice, HoldsBlocks, get_or_past}
 use Rattle.fb_tasks.proofs.Words.{slice_get, and-false, is_backup, is_cleaned, HoldsBlock, HoldsImage, HaveChosen, all_weaker, length-set}
 use Rattle.fb_tasks.proofs.Words.{or-true, BackRow, Content, held_at, TaskView, IsSealed, IsAtWork, CleansBy, each_set, is_clean, IsTested}
-use Rattle.fb_tasks.proofs.Words.{list_any, flat_map, SealLine, AreRowsOf, choice_in, HasChosen, IsSettled, flat_none, all_range, found_for}
+use Rattle.fb_tasks.proofs.Words.{list_any, flat_map, SealLine, AreRowsOf, choice_in, HasChosen, IsUpToDate, flat_none, all_range, found_for}
 use Rattle.fb_tasks.proofs.Words.{list_any-append, test_rows_found, segment_rows_found, seal_rows_found, is_newly_cleaned, slice_get_within}
 use Rattle.fb_tasks.proofs.Words.{task_numbers, tested_view, is_unsealed, is_complete, number_same, tested-view, AreReported, is_delivered}
 use Rattle.fb_tasks.proofs.States.{seen}
@@ -75,9 +75,9 @@ unfolding view bare_state content_of is_complete
 no_others past rows task sealed now = ap₂ (λ a b. (if a then SealLine (record { task = task; instant = now; content = found_for (work (tested rows ∷ past) task) (filter (λ block. is_delivered ((work (tested rows ∷ past) task).bare block)) (work (tested rows ∷ past) task).blocks) }) ∷ [] else []) ++ (if b then CompleteLine (record { task = task; instant = now }) ∷ [] else []))
     sealed (once (is_complete past task))
 
-pub settled-tested : (past : Past) (rows : List BackRow) → ((task : ℕ) → task < length (tasks past) → AreRowsOf task (view past task) rows) → IsSettled (tested rows ∷ past)
+pub up_to_date-tested : (past : Past) (rows : List BackRow) → ((task : ℕ) → task < length (tasks past) → AreRowsOf task (view past task) rows) → IsUpToDate (tested rows ∷ past)
 unfolding test_rows_found is_complete bare_state content_of
-settled-tested past rows given = record {
+up_to_date-tested past rows given = record {
   tested = λ task. refl;
   no_rows = λ now. rw (
     flat_none (segment_rows_found (tested rows ∷ past) now) (task_numbers past)

@@ -89,7 +89,7 @@ pub use Rattle.fb_tasks.specs.Standing.{IsPlaced, IsQuiet, IsReady, IsSegmentOf,
 pub use Rattle.fb_tasks.specs.Standing.{choosable_by, ends_of, entry_by, entry_in, entry_of, kept_segment}
 pub use Rattle.fb_tasks.specs.Taken.{delivery_of, found_for, rows_after, seal_rows_found, segment_rows_found}
 unfoldable pub use Rattle.fb_tasks.specs.Taken.{test_rows_found}
-pub use Rattle.fb_tasks.specs.Telling.{Delivers, IsCall, IsSettled, MayDeliver, MaySettle, MayTake, Tells, choosable, tested_at}
+pub use Rattle.fb_tasks.specs.Telling.{Delivers, IsCall, IsUpToDate, MayDeliver, MayChooseAndTest, MayTake, Tells, choosable, tested_at}
 pub use Rattle.fb_tasks.specs.Writing.{left_by_write, left_in, state_left}
 pub use Rattle.fb_tasks.specs.declared.session.Session.{Session}
 pub use Rattle.fb_tasks.proofs.Lists.{all_any, all_append, all_at, all_filter, all_flat, all_left, all_map, all_pass, all_placed, all_range}

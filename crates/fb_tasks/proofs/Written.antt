@@ -1,4 +1,4 @@
--- A write, block by block: which blocks are wanted again, and that tasks may be asked in any order.
+-- A write, block by block: which blocks are wanted again, and that the tasks may be looked at in any order.
 use Rattle.fb_tasks.proofs.Words.{◌≡◌, ◌==◌, ◌&&◌, List, true, None, Some, subst, arith, Rewant, Block, Entry, shares, Shape, tasks, Tells}
 use Rattle.fb_tasks.proofs.Words.{ℕ, ◌+◌, ◌<◌, ◌≤◌, not, [], ◌∷◌, inl, inr, map, refl, ap, ap₂, sym, ◌∙◌, Past, view}
 use Rattle.fb_tasks.proofs.Words.{false, length, get_or, all_any, all_map, some_at, nat_cmp, Session, Request, finished, entry_of, left_in}
@@ -34,7 +34,7 @@ module _ (first count : ℕ) where
     beyond : (e : Entry) → length sessions ≤ e.block.task → left e ≡ e
     beyond e none = still e (ap (λ s. state_left first count s e) (slice_get_past sessions e.block.task none))
 
-    -- the task is asked, whose session is an open backup or another
+    -- the task is looked at, whose session is an open backup or another
     module _ {items : List Session} (task : ℕ) (session : Session) (same : items ≡ sessions) (there : task < length sessions)
         (is : session ≡ get_or items task session) where
       at : slice_get sessions task ≡ Some session
@@ -53,12 +53,12 @@ module _ (first count : ℕ) where
         | inr other ↦ rw other refl
       ]) es)
 
-    -- the tasks before this one were asked: the write leaves their blocks as they now are, and the same of all as before
-    abbrev pub AreAsked : ℕ → List Entry → List Entry → Type 0
-    AreAsked task es now = (map left now ≡ map left es) × AllByRecursion (λ e. e.block.task < task → left e ≡ e) now
+    -- the tasks before this one were looked at: the write leaves their blocks as they now are, and the same of all as before
+    abbrev pub AreRewanted : ℕ → List Entry → List Entry → Type 0
+    AreRewanted task es now = (map left now ≡ map left es) × AllByRecursion (λ e. e.block.task < task → left e ≡ e) now
 
-    pub one_asked : (task : ℕ) (es now new : List Entry) → new ≡ map (left_in task sessions first count) now → AreAsked task es now → AreAsked (task + 1) es new
-    one_asked task es now new is h = subst (AreAsked (task + 1) es) (sym is) (same now ∙ h.0, all_map _ _ now (all_weaker _ _ more now h.1)) where
+    pub one_rewanted : (task : ℕ) (es now new : List Entry) → new ≡ map (left_in task sessions first count) now → AreRewanted task es now → AreRewanted (task + 1) es new
+    one_rewanted task es now new is h = subst (AreRewanted (task + 1) es) (sym is) (same now ∙ h.0, all_map _ _ now (all_weaker _ _ more now h.1)) where
       same : (xs : List Entry) → map left (map (left_in task sessions first count) xs) ≡ map left xs
       same [] = refl
       same (x ∷ xs) = elim (cases_Bool (x.block.task == task)) [
@@ -73,16 +73,16 @@ module _ (first count : ℕ) where
         | inr other ↦ rw other (λ less. before (grind (arith, nat_tests)))
       ]
 
-    module _ {items : List Session} {touched asked : BTreeSet ℕ} (same : items ≡ sessions) (listed : AreListed items touched asked) where
-      unlisted : (e : Entry) → contains nat_cmp asked e.block.task ≡ false → left e ≡ e
+    module _ {items : List Session} {touched rewantable : BTreeSet ℕ} (same : items ≡ sessions) (listed : AreListed items touched rewantable) where
+      unlisted : (e : Entry) → contains nat_cmp rewantable e.block.task ≡ false → left e ≡ e
       unlisted e none = elim (cases_lt e.block.task (length sessions)) [
-        | inl there ↦ let found = some_at sessions e.block.task there in rw (found.1, no_backup_there (subst (λ xs. AreListed xs touched asked) same listed) e.block.task found.0 none found.1) refl
+        | inl there ↦ let found = some_at sessions e.block.task there in rw (found.1, no_backup_there (subst (λ xs. AreListed xs touched rewantable) same listed) e.block.task found.0 none found.1) refl
         | inr past ↦ beyond e past
       ]
 
       -- tasks are passed over that aren't listed, or else have no block near the range
-      pub passed : (from next task : ℕ) (es now : List Entry) → ((k : ℕ) → from ≤ k → k < next → contains nat_cmp asked k ≡ false)
-          → ((k : ℕ) → next ≤ k → k < task → SharesNone first count k now) → AreAsked from es now → AreAsked task es now
+      pub passed : (from next task : ℕ) (es now : List Entry) → ((k : ℕ) → from ≤ k → k < next → contains nat_cmp rewantable k ≡ false)
+          → ((k : ℕ) → next ≤ k → k < task → SharesNone first count k now) → AreRewanted from es now → AreRewanted task es now
       passed from next task es now unnoted far h =
           let near = all_placed (λ e. next ≤ e.block.task → e.block.task < task → left e ≡ e) now
           (λ i e at low high. still e (state_outside (slice_get sessions e.block.task) e (far e.block.task low high i e at refl))) in
@@ -91,8 +91,8 @@ module _ (first count : ℕ) where
             | inr later ↦ elim (cases_lt e.block.task next) [ inl low ↦ unlisted e (unnoted e.block.task later low) | inr high ↦ none high less ]
           ]) now near h.1 in (h.0, rest)
 
-    pub all_asked : (from : ℕ) (es now : List Entry) → length sessions ≤ from → AreAsked from es now → now ≡ map left es
-    all_asked from es now all h = map_still left now (all_weaker _ _ (λ e before. elim (cases_lt e.block.task from) [
+    pub all_rewanted : (from : ℕ) (es now : List Entry) → length sessions ≤ from → AreRewanted from es now → now ≡ map left es
+    all_rewanted from es now all h = map_still left now (all_weaker _ _ (λ e before. elim (cases_lt e.block.task from) [
       | inl less ↦ before less
       | inr more ↦ beyond e (omega (arith, more, all))
     ]) now h.1) ∙ h.0

@@ -46,7 +46,7 @@ pub record IsBlockOf (disk : Shape) (tasks : ℕ) (block : Block) : Type 0 where
 -- blocks are numbered on from n
 abbrev pub AreIndexed : ℕ → List Block → Type 0
 AreIndexed n [] = Unit {0}
-AreIndexed n (block ∷ blocks) = (block.index ≡ n) × AreIndexed (n + 1) blocks
+AreIndexed n (block ∷ blocks) = (block.number ≡ n) × AreIndexed (n + 1) blocks
 
 -- blocks ascend from a sector on, and none shares a sector with another
 abbrev pub Ascend : ℕ → List Block → Type 0

@@ -40,12 +40,12 @@ pub record MayTake (disk : Shape) (past : Past) (sessions : List Session) (entri
   pub few_calls : length (calls_of past) < 2 ^ 32 - 1
 
 -- the choices don't register more blocks than there may be
-pub record MaySettle (disk : Shape) (past : Past) (sessions : List Session) (entries : List Entry) : Type 0 where
+pub record MayChooseAndTest (disk : Shape) (past : Past) (sessions : List Session) (entries : List Entry) : Type 0 where
   pub tells : Tells disk past sessions entries
   pub few : length (registered past) + choosable disk past ≤ 16 * 10 ^ 6
 
 -- all was tested after the last event that could complete something: one more test would give no row
-pub record IsSettled (past : Past) : Type 0 where
+pub record IsUpToDate (past : Past) : Type 0 where
   pub tested : (task : ℕ) → was_complete past task ≡ is_complete past task
   pub no_rows : (now : ℕ) → test_rows_found past now ≡ []
 
@@ -56,7 +56,7 @@ tested_at disk past now = tested (test_rows_found (with_choices disk past) now) 
 -- a delivery of a wanted block, with the contents of its sectors, after a test
 pub record MayDeliver (disk : Shape) (past : Past) (sessions : List Session) (entries : List Entry) (got : DeliveryRow) : Type 0 where
   pub tells : Tells disk past sessions entries
-  pub settled : IsSettled past
+  pub up_to_date : IsUpToDate past
   pub place : ℕ
   pub wanted : slice_get (wanted past) place ≡ Some got.block
   pub content_at : ℕ → Content
@@ -66,9 +66,9 @@ pub record MayDeliver (disk : Shape) (past : Past) (sessions : List Session) (en
 pub record Delivers (disk : Shape) (past : Past) (sessions : List Session) (held : List Entry) (got : DeliveryRow) (session : Session) (now : List Entry) : Type 0 where
   pub may : MayDeliver disk past sessions held got
   pub at : slice_get sessions got.block.task ≡ Some session
-  pub is : now ≡ after got.block.task (Deliver got.block.index) held
+  pub is : now ≡ after got.block.task (Deliver got.block.number) held
 
--- a call of a task asks for an action
-pub record IsCall (asker : ℕ) (asked : Action) (call : Call) : Type 0 where
-  pub task : call.task ≡ asker
-  pub action : call.action ≡ asked
+-- the call of the task with this number that does this
+pub record IsCall (number : ℕ) (does : Action) (call : Call) : Type 0 where
+  pub task : call.task ≡ number
+  pub action : call.action ≡ does

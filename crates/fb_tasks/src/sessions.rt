@@ -4,7 +4,7 @@ ghost use Rattle.std.specs.List.{flat_map};
 ghost use Rattle.fb_geometry.specs.Shape.{Shape};
 ghost use Rattle.fb_geometry.specs.Places.{places};
 ghost use Rattle.fb_units.specs.declared.types.Request.{Request};
-ghost use Rattle.fb_calls.specs.declared.call.Call.{Call as Asked};
+ghost use Rattle.fb_calls.specs.declared.call.Call.{Call};
 ghost use Rattle.fb_calls.specs.declared.call.Action.TheVariants.{Open, Want, Suspend, Resume, Close, Segment};
 ghost use Rattle.fb_wanted.specs.declared.block.Entry.{Entry};
 ghost use Rattle.fb_wanted.specs.declared.block.Change.TheVariants.{Deliver};
@@ -19,7 +19,7 @@ ghost use Rattle.fb_tasks.specs.Taken.{segment_rows_found, test_rows_found, rows
 ghost use Rattle.fb_tasks.specs.Standing.{HaveChosen, ends_of};
 ghost use Rattle.fb_tasks.specs.Leaving.{HasGrown, HasBegun, entries_by, OnlyRegisters, MayClean, OnlyTouched};
 ghost use Rattle.fb_tasks.specs.Writing.{left_by_write, left_in};
-ghost use Rattle.fb_tasks.specs.Telling.{Tells, MayTake, MaySettle, MayDeliver, IsSettled, IsCall, tested_at};
+ghost use Rattle.fb_tasks.specs.Telling.{Tells, MayTake, MayChooseAndTest, MayDeliver, IsUpToDate, IsCall, tested_at};
 
 use crate::session::{Session, Stamp};
 use crate::touched::{forget, next_noted, next_touched, note, note_touch};
@@ -35,19 +35,19 @@ use std::marker::Model;
 
 /// The sessions in order of opening: a session's place is its task's number.
 ///
-/// Settling costs time for each task that was touched since the last settling; a delivery or a call
-/// costs time for its own task. A write costs time for each task of which a block was ever
+/// To choose and test costs time for each task that was touched since the last test; a delivery or a
+/// call costs time for its own task. A write costs time for each task of which a block was ever
 /// registered near its sectors, or for each open backup and each task touched since the last
-/// settling, whichever are fewer: for each of these, every chunk of 2,048 LBNs that the write
+/// test, whichever are fewer: for each of these, every chunk of 2,048 LBNs that the write
 /// touches is searched, and the one before them. A task is touched by a delivery, a want, an abort,
 /// a new segment and its close; one whose call ran out of memory may also cost time until it is
-/// touched and settled again. A session to which nothing happens costs nothing.
+/// touched and tested again. A session to which nothing happens costs nothing.
 #[derive(Drop)]
 pub struct Sessions {
     alloc: Global,
     sessions: Vec<Session>,
     touched: BTreeSet<u32>,
-    asked: BTreeSet<u32>,
+    rewantable: BTreeSet<u32>,
 }
 
 impl Model for Sessions {
@@ -59,7 +59,7 @@ impl Model for Sessions {
 
     ghost view = { λ s. s.sessions.items };
 
-    ghost invariant = { λ s. AreListed s.sessions.items s.touched s.asked };
+    ghost invariant = { λ s. AreListed s.sessions.items s.touched s.rewantable };
 }
 
 impl Sessions {
@@ -72,7 +72,7 @@ impl Sessions {
             alloc,
             sessions: Vec::new(alloc),
             touched: BTreeSet::new(alloc),
-            asked: BTreeSet::new(alloc),
+            rewantable: BTreeSet::new(alloc),
         }
     }
 
@@ -132,17 +132,17 @@ impl Sessions {
     /// If memory runs out, all rows and blocks that stood before are unchanged, and so is each session that
     /// was not touched; what was registered are blocks of open clean tasks.
     #[tactic(auto, using(crate::proofs::Leaving::grown_more, crate::proofs::Leaving::touched_more))]
-    pub fn settle(
+    pub fn choose_and_test(
         &mut self,
         map: &SectorMap,
         wanted: &mut Wanted,
         now: Ns,
         rows: &mut BackRows,
     ) -> Result<(), NoMemory>
-        requires { (past : Past) × MaySettle map.now past self.old wanted.old }
-        ensures tells { OnOk result ((past : Past) → MaySettle map.now past self.old wanted.old → Tells map.now (tested_at map.now past now) self.new wanted.new) }
-        ensures settled { OnOk result ((past : Past) → MaySettle map.now past self.old wanted.old → IsSettled (tested_at map.now past now)) }
-        ensures rows { OnOk result ((past : Past) → MaySettle map.now past self.old wanted.old → rows.new ≡ rows.old ++ test_rows_found (with_choices map.now past) now) }
+        requires { (past : Past) × MayChooseAndTest map.now past self.old wanted.old }
+        ensures tells { OnOk result ((past : Past) → MayChooseAndTest map.now past self.old wanted.old → Tells map.now (tested_at map.now past now) self.new wanted.new) }
+        ensures up_to_date { OnOk result ((past : Past) → MayChooseAndTest map.now past self.old wanted.old → IsUpToDate (tested_at map.now past now)) }
+        ensures rows { OnOk result ((past : Past) → MayChooseAndTest map.now past self.old wanted.old → rows.new ≡ rows.old ++ test_rows_found (with_choices map.now past) now) }
         ensures stay_sessions { OnlyTouched self.old self.new }
         ensures stay_blocks { OnlyRegisters (MayClean self.old) wanted.old wanted.new }
         ensures stay_rows { HasGrown rows.old rows.new }
@@ -155,7 +155,7 @@ impl Sessions {
     ///
     /// If memory runs out, the block is still delivered, no other block and no other task's session has
     /// changed, and at most the first of these rows were added. What its own session then holds isn't said.
-    pub fn delivered(
+    pub fn deliver(
         &mut self,
         wanted: &mut Wanted,
         got: DeliveryRow,
@@ -163,15 +163,15 @@ impl Sessions {
     ) -> Result<(), NoMemory>
         requires { (disk : Shape) × (past : Past) × MayDeliver disk past self.old wanted.old got }
         ensures tells { OnOk result ((disk : Shape) (past : Past) → MayDeliver disk past self.old wanted.old got → Tells disk (with_delivery past (delivery_of past got)) self.new wanted.new) }
-        ensures settled { OnOk result ((disk : Shape) (past : Past) → MayDeliver disk past self.old wanted.old got → IsSettled (with_delivery past (delivery_of past got))) }
+        ensures up_to_date { OnOk result ((disk : Shape) (past : Past) → MayDeliver disk past self.old wanted.old got → IsUpToDate (with_delivery past (delivery_of past got))) }
         ensures rows { OnOk result ((disk : Shape) (past : Past) → MayDeliver disk past self.old wanted.old got → rows.new ≡ rows.old ++ GotLine got ∷ rows_after past got) }
         ensures stay_sessions { (session : Session) × (self.new ≡ set self.old got.block.task session) }
-        ensures blocks { wanted.new ≡ after got.block.task (Deliver got.block.index) wanted.old }
+        ensures blocks { wanted.new ≡ after got.block.task (Deliver got.block.number) wanted.old }
         ensures err_rows { OnErr result ((disk : Shape) (past : Past) → MayDeliver disk past self.old wanted.old got → HasBegun rows.old (GotLine got ∷ rows_after past got) rows.new) }
     {
         let task = got.block.task;
-        wanted.deliver(task, got.block.index);
-        note_touch(&mut self.touched, &mut self.asked, task)?;
+        wanted.deliver(task, got.block.number);
+        note_touch(&mut self.touched, &mut self.rewantable, task)?;
         let session = &mut self.sessions[task as usize];
         session.deliver(self.alloc, wanted, got, rows)?;
         session.touched = true;
@@ -188,7 +188,7 @@ impl Sessions {
     }
 
     /// Whether the task is complete.
-    pub fn complete(&self, wanted: &Wanted, task: u32) -> bool
+    pub fn is_complete(&self, wanted: &Wanted, task: u32) -> bool
         requires opened { task < length self.now }
         requires tells { (disk : Shape) × (past : Past) × Tells disk past self.now wanted.now }
         ensures { (disk : Shape) (past : Past) → Tells disk past self.now wanted.now → result ≡ is_complete past task }
@@ -223,13 +223,13 @@ impl Sessions {
     // Opens a session.
     fn open(&mut self, kind: Kind, weight: u32, block: u32) -> Result<(), NoMemory>
         requires { length self.old < 2 ^ 32 - 1 }
-        ensures ok { OnOk result ((disk : Shape) (past : Past) (call : Asked) (held : List Entry) → call.action ≡ Open kind weight block → MayTake disk past self.old held call → Tells disk (called call [] ∷ past) self.new held) }
+        ensures ok { OnOk result ((disk : Shape) (past : Past) (call : Call) (held : List Entry) → call.action ≡ Open kind weight block → MayTake disk past self.old held call → Tells disk (called call [] ∷ past) self.new held) }
         ensures err { OnErr result (self.new ≡ self.old) }
     {
         let task = self.sessions.len() as u32;
         let session = Session::new(self.alloc, kind, weight, block);
         self.sessions.reserve(1)?;
-        note(&mut self.asked, task, session.is_open_backup())?;
+        note(&mut self.rewantable, task, session.is_open_backup())?;
         self.sessions.push(session)?;
         Ok(())
     }
@@ -245,10 +245,10 @@ impl Sessions {
         count: u64,
     ) -> Result<(), NoMemory>
         requires opened { task < length self.old }
-        requires call { (past : Past) × (call : Asked) × IsCall task (Want first count) call × MayTake map.now past self.old wanted.old call }
-        ensures ok { OnOk result ((past : Past) (call : Asked) → IsCall task (Want first count) call → MayTake map.now past self.old wanted.old call → Tells map.now (take_call map.now past call) self.new wanted.new) }
+        requires call { (past : Past) × (call : Call) × IsCall task (Want first count) call × MayTake map.now past self.old wanted.old call }
+        ensures ok { OnOk result ((past : Past) (call : Call) → IsCall task (Want first count) call → MayTake map.now past self.old wanted.old call → Tells map.now (take_call map.now past call) self.new wanted.new) }
         ensures err { OnErr result (self.new ≡ self.old) }
-        ensures blocks { (past : Past) (call : Asked) → IsCall task (Want first count) call → MayTake map.now past self.old wanted.old call → HasBegun wanted.old (entries_by map.now past call) wanted.new }
+        ensures blocks { (past : Past) (call : Call) → IsCall task (Want first count) call → MayTake map.now past self.old wanted.old call → HasBegun wanted.old (entries_by map.now past call) wanted.new }
     {
         let _sectors = map.count();
         want_range(
@@ -265,7 +265,7 @@ impl Sessions {
     #[tactic(auto, using(crate::proofs::Listed::listed_kept))]
     fn suspend(&mut self, wanted: &mut Wanted, task: u32)
         requires { task < length self.old }
-        ensures { (disk : Shape) (past : Past) (call : Asked) → IsCall task Suspend call → Tells disk past self.old wanted.old → Tells disk (called call [] ∷ past) self.new wanted.new }
+        ensures { (disk : Shape) (past : Past) (call : Call) → IsCall task Suspend call → Tells disk past self.old wanted.old → Tells disk (called call [] ∷ past) self.new wanted.new }
     {
         self.sessions[task as usize].suspended = true;
         wanted.suspend(task);
@@ -274,7 +274,7 @@ impl Sessions {
     #[tactic(auto, using(crate::proofs::Listed::listed_kept))]
     fn resume(&mut self, wanted: &mut Wanted, task: u32)
         requires { task < length self.old }
-        ensures { (disk : Shape) (past : Past) (call : Asked) → IsCall task Resume call → Tells disk past self.old wanted.old → Tells disk (called call [] ∷ past) self.new wanted.new }
+        ensures { (disk : Shape) (past : Past) (call : Call) → IsCall task Resume call → Tells disk past self.old wanted.old → Tells disk (called call [] ∷ past) self.new wanted.new }
     {
         self.sessions[task as usize].suspended = false;
         wanted.resume(task);
@@ -284,10 +284,10 @@ impl Sessions {
     #[tactic(auto, using(crate::proofs::Listed::listed_more, crate::proofs::Listed::listed_noted))]
     fn close(&mut self, map: &SectorMap, wanted: &mut Wanted, task: u32) -> Result<(), NoMemory>
         requires { task < length self.old }
-        ensures ok { OnOk result ((past : Past) (call : Asked) → IsCall task Close call → Tells map.now past self.old wanted.old → Tells map.now (called call [] ∷ past) self.new wanted.new) }
+        ensures ok { OnOk result ((past : Past) (call : Call) → IsCall task Close call → Tells map.now past self.old wanted.old → Tells map.now (called call [] ∷ past) self.new wanted.new) }
         ensures err { OnErr result ((self.new ≡ self.old) × (wanted.new ≡ wanted.old)) }
     {
-        note_touch(&mut self.touched, &mut self.asked, task)?;
+        note_touch(&mut self.touched, &mut self.rewantable, task)?;
         let closing = &mut self.sessions[task as usize];
         closing.closed = true;
         closing.touched = true;
@@ -307,11 +307,11 @@ impl Sessions {
         live: &Live,
     ) -> Result<(), NoMemory>
         requires opened { task < length self.old }
-        requires call { (disk : Shape) × (past : Past) × (call : Asked) × (held : List Entry) × IsCall task (Segment first blocks age live.now) call × MayTake disk past self.old held call × (length (places disk) ≤ 10 ^ 12) }
-        ensures ok { OnOk result ((disk : Shape) (past : Past) (call : Asked) (held : List Entry) → IsCall task (Segment first blocks age live.now) call → MayTake disk past self.old held call → Tells disk (called call [] ∷ past) self.new held) }
+        requires call { (disk : Shape) × (past : Past) × (call : Call) × (held : List Entry) × IsCall task (Segment first blocks age live.now) call × MayTake disk past self.old held call × (length (places disk) ≤ 10 ^ 12) }
+        ensures ok { OnOk result ((disk : Shape) (past : Past) (call : Call) (held : List Entry) → IsCall task (Segment first blocks age live.now) call → MayTake disk past self.old held call → Tells disk (called call [] ∷ past) self.new held) }
         ensures err { OnErr result (self.new ≡ self.old) }
     {
-        note_touch(&mut self.touched, &mut self.asked, task)?;
+        note_touch(&mut self.touched, &mut self.rewantable, task)?;
         let cleaner = &mut self.sessions[task as usize];
         cleaner.log.add(first, blocks, age, live)?;
         cleaner.touched = true;
@@ -325,7 +325,7 @@ impl Sessions {
         ensures ok { OnOk result ((session : Session) → slice_get self.old task ≡ Some session → self.new ≡ set self.old task (record session { touched = true })) }
         ensures err { OnErr result (self.new ≡ self.old) }
     {
-        note_touch(&mut self.touched, &mut self.asked, task)?;
+        note_touch(&mut self.touched, &mut self.rewantable, task)?;
         self.sessions[task as usize].touched = true;
         Ok(())
     }
@@ -348,7 +348,7 @@ impl Sessions {
     {
         let opened = self.sessions.len() as u32;
         let mut from = 0;
-        while let Some(listed) = next_noted(&self.asked, from) {
+        while let Some(listed) = next_noted(&self.rewantable, from) {
             let task = wanted.next_task_near(first, count, listed, opened);
             if task == opened {
                 return;
@@ -367,8 +367,8 @@ impl Sessions {
         now: Ns,
         rows: &mut BackRows,
     ) -> Result<(), NoMemory>
-        requires { (past : Past) × MaySettle map.now past self.old wanted.old }
-        ensures chosen { OnOk result ((past : Past) → MaySettle map.now past self.old wanted.old → HaveChosen map.now (with_choices map.now past) self.new wanted.new
+        requires { (past : Past) × MayChooseAndTest map.now past self.old wanted.old }
+        ensures chosen { OnOk result ((past : Past) → MayChooseAndTest map.now past self.old wanted.old → HaveChosen map.now (with_choices map.now past) self.new wanted.new
             × (rows.new ≡ rows.old ++ flat_map (segment_rows_found (with_choices map.now past) now) (task_numbers (with_choices map.now past)))) }
         ensures stay_sessions { OnlyTouched self.old self.new }
         ensures stay_blocks { OnlyRegisters (MayClean self.old) wanted.old wanted.new }
@@ -399,7 +399,7 @@ impl Sessions {
             session.touched = false;
             let is_open_backup = session.is_open_backup();
             forget(&mut self.touched, task, false);
-            forget(&mut self.asked, task, is_open_backup);
+            forget(&mut self.rewantable, task, is_open_backup);
             from = task + 1;
         }
         Ok(())

@@ -177,19 +177,19 @@ impl Session {
             → content ≡ found_for (view past task).work (filter (λ block. is_delivered ((view past task).bare block)) (view past task).blocks)) }
     {
         self.sealed = true;
-        for index in 0..registered {
-            self.drop_aborted(wanted, task, index)?;
+        for number in 0..registered {
+            self.drop_aborted(wanted, task, number)?;
         }
         self.image.contents(alloc)
     }
 
     // Takes an aborted block's sectors out of the image.
-    fn drop_aborted(&mut self, wanted: &Wanted, task: u32, index: u32) -> Result<(), NoMemory>
-        requires { (e : Entry) × (i : ℕ) × (slice_get wanted.now i ≡ Some e) × (is_block task index e ≡ true) × (e.block.lbn + e.block.count ≤ 10 ^ 12) }
+    fn drop_aborted(&mut self, wanted: &Wanted, task: u32, number: u32) -> Result<(), NoMemory>
+        requires { (e : Entry) × (i : ℕ) × (slice_get wanted.now i ≡ Some e) × (is_block task number e ≡ true) × (e.block.lbn + e.block.count ≤ 10 ^ 12) }
         ensures session { self.new ≡ record self.old { image = self.new.image } }
-        ensures image { OnOk result ((e : Entry) (i lbn : ℕ) → slice_get wanted.now i ≡ Some e → is_block task index e ≡ true → held_at self.new.image lbn ≡ without_aborted e lbn (held_at self.old.image lbn)) }
+        ensures image { OnOk result ((e : Entry) (i lbn : ℕ) → slice_get wanted.now i ≡ Some e → is_block task number e ≡ true → held_at self.new.image lbn ≡ without_aborted e lbn (held_at self.old.image lbn)) }
     {
-        let entry = wanted.entry(task, index);
+        let entry = wanted.entry(task, number);
         match entry.state {
             State::Aborted => self
                 .image

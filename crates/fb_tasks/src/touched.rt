@@ -1,4 +1,5 @@
-// The tasks that were touched since their last test, and those that a write asks: these and the open backups.
+// The tasks that were touched since their last test, and those that are rewantable: a write can make blocks of theirs
+// wanted again. These are the touched ones and the open backups.
 ghost use Rattle.std.specs.Prelude.{◌≡◌, ◌⊎◌, ℕ, ◌<◌, ◌≤◌, true, false, Some, slice_get, IfSome, IfNone, OnOk, OnErr};
 ghost use Rattle.std.specs.BTreeSet.{BTreeSet as Set, contains};
 ghost use Rattle.std.specs.Ordering.{nat_cmp};
@@ -36,19 +37,19 @@ pub fn forget(list: &mut BTreeSet<u32>, task: u32, stays: bool)
     }
 }
 
-/// Notes that a task was touched, and that a write asks it.
+/// Notes that a task was touched, and that it is rewantable.
 ///
 /// The only error is out of memory, after which all that was noted before is still there.
 pub fn note_touch(
     touched: &mut BTreeSet<u32>,
-    asked: &mut BTreeSet<u32>,
+    rewantable: &mut BTreeSet<u32>,
     task: u32,
 ) -> Result<(), NoMemory>
-    ensures stay { IsNoted task touched.old asked.old touched.new asked.new }
+    ensures stay { IsNoted task touched.old rewantable.old touched.new rewantable.new }
     ensures noted { OnOk result (contains nat_cmp touched.new task ≡ true) }
-    ensures asked_noted { OnOk result (contains nat_cmp asked.new task ≡ true) }
+    ensures rewantable_noted { OnOk result (contains nat_cmp rewantable.new task ≡ true) }
 {
-    note(asked, task, true)?;
+    note(rewantable, task, true)?;
     note(touched, task, true)
 }
 
@@ -56,7 +57,7 @@ pub fn note_touch(
 ///
 /// The list may also name a task that a call was about to touch when it ran out of memory.
 pub fn next_touched(listed: &BTreeSet<u32>, sessions: &[Session], from: u32) -> Option<u32>
-    requires { (asked : Set ℕ) × AreListed sessions.now listed.now asked }
+    requires { (rewantable : Set ℕ) × AreListed sessions.now listed.now rewantable }
     ensures found { IfSome result (λ task. contains nat_cmp listed.now task ≡ true) }
     ensures touched { IfSome result (λ task. (session : Session) → slice_get sessions.now task ≡ Some session → session.touched ≡ true) }
     ensures from { IfSome result (λ task. from ≤ task) }

@@ -38,11 +38,11 @@ pub fn want_range(
     let mut span = map.span(first);
     let mut lbn = first;
     let mut left = count;
-    let mut index = wanted.counts(task).registered;
+    let mut number = wanted.counts(task).registered;
     while left > 0 {
         let cut = map.next_cut(&mut span, lbn, left, session.block);
-        wanted.register(block_of(session, task, index, cut), session.suspended)?;
-        index += 1;
+        wanted.register(block_of(session, task, number, cut), session.suspended)?;
+        number += 1;
         lbn += cut.count as u64;
         left -= cut.count as u64;
     }
@@ -50,12 +50,12 @@ pub fn want_range(
 }
 
 // The task's block of that number.
-fn block_of(session: &Session, task: u32, index: u32, cut: Cut) -> Block
-    ensures { result ≡ record { task = task; index = index; lbn = cut.lbn; count = cut.count; track = cut.track; weight = session.now.weight; sweep = cut.sweep } }
+fn block_of(session: &Session, task: u32, number: u32, cut: Cut) -> Block
+    ensures { result ≡ record { task = task; number = number; lbn = cut.lbn; count = cut.count; track = cut.track; weight = session.now.weight; sweep = cut.sweep } }
 {
     Block {
         task,
-        index,
+        number,
         lbn: cut.lbn,
         count: cut.count,
         track: cut.track,

@@ -46,7 +46,7 @@ fn block(lbn: u32) -> Block
 {
     Block {
         task: 0,
-        index: 0,
+        number: 0,
         lbn: lbn as u64,
         count: 1,
         track: Track {

@@ -24,7 +24,7 @@ const SWEEP: Sweep = Sweep {
 
 const FIRST: Block = Block {
     task: 0,
-    index: 0,
+    number: 0,
     lbn: 12,
     count: 4,
     track: NEAR,
@@ -34,7 +34,7 @@ const FIRST: Block = Block {
 
 const SECOND: Block = Block {
     task: 0,
-    index: 1,
+    number: 1,
     lbn: 16,
     count: 4,
     track: NEAR,
@@ -44,7 +44,7 @@ const SECOND: Block = Block {
 
 const OTHER: Block = Block {
     task: 1,
-    index: 0,
+    number: 0,
     lbn: 48,
     count: 4,
     track: FAR,
@@ -54,7 +54,7 @@ const OTHER: Block = Block {
 
 const BEFORE: Block = Block {
     task: 0,
-    index: 2,
+    number: 2,
     lbn: 8,
     count: 4,
     track: NEAR,
@@ -65,7 +65,7 @@ const BEFORE: Block = Block {
 // A block on another track of the first cylinder.
 const BESIDE: Block = Block {
     task: 1,
-    index: 0,
+    number: 0,
     lbn: 4,
     count: 4,
     track: Track {
@@ -79,7 +79,7 @@ const BESIDE: Block = Block {
 // Another task wants the first block too.
 const AGAIN: Block = Block {
     task: 1,
-    index: 0,
+    number: 0,
     lbn: 12,
     count: 4,
     track: NEAR,
@@ -89,7 +89,7 @@ const AGAIN: Block = Block {
 
 const LAST: Block = Block {
     task: 2,
-    index: 0,
+    number: 0,
     lbn: 40,
     count: 4,
     track: Track {
@@ -103,7 +103,7 @@ const LAST: Block = Block {
 // A block that begins in the third chunk of 2,048 LBNs.
 const THIRD: Block = Block {
     task: 2,
-    index: 0,
+    number: 0,
     lbn: 5000,
     count: 8,
     track: FAR,

@@ -21,7 +21,8 @@ use Rattle.fb_top.specs.declared.outcome.Outcome.{Outcome}
 use Rattle.fb_top.specs.declared.outcome.Outcome.TheVariants as outcomes
 use Rattle.fb_top.specs.Read.{ReadsScript, Files, inputs_of}
 use Rattle.fb_top.specs.Streams.{ReadsAs}
-use Rattle.fb_top.specs.Causes.{AcceptsBefore, AcceptsDisk, AcceptsTrace, EndsAt, HasCause, IsTooLong, IsUnread, KeepsLater, StopsCalls, StopsDisk, StopsInputs, StopsPuts, StopsReading, StopsReport, StopsScript, StopsTrace, input_of, limit_of}
+use Rattle.fb_top.specs.Causes.{AcceptsBefore, AcceptsDisk, AcceptsTrace, EndsAt, HasCause, IsTooLong, IsUnread, KeepsLater, StopsCalls, StopsDisk, StopsInputs, StopsPuts, StopsReading, StopsReport, StopsScript, StopsTrace, input_of}
+use Rattle.fb_top.specs.Limits.{limit_of}
 
 -- the parameter file alone was read
 pub later_at_params : (old new : DeskView) → ChangesInput Params old new → KeepsLater Params old new

@@ -50,9 +50,9 @@ module _ (inputs : Inputs) (medium : Medium) (tasks : List BackRow) (quiet : All
       let others = delivered_rows step.deliveries in
       let whole = append_assoc (step_rows inputs.disk step) (flat_map (step_rows inputs.disk) steps) tasks in
       subst (λ (rows : List BackRow). AreGaps inputs.disk rows fore) (sym whole)
-      (subst (λ (rows : List BackRow). AreGaps inputs.disk rows fore) (sym (append_assoc (step.settled ++ first) others (back_rows steps)))
-      (subst (λ (rows : List BackRow). AreGaps inputs.disk rows fore) (sym (append_assoc step.settled first (others ++ back_rows steps)))
-      (quiet_before inputs.disk step.settled (first ++ (others ++ back_rows steps)) fore silent.settled are)))
+      (subst (λ (rows : List BackRow). AreGaps inputs.disk rows fore) (sym (append_assoc (step.test ++ first) others (back_rows steps)))
+      (subst (λ (rows : List BackRow). AreGaps inputs.disk rows fore) (sym (append_assoc step.test first (others ++ back_rows steps)))
+      (quiet_before inputs.disk step.test (first ++ (others ++ back_rows steps)) fore silent.test are)))
 
   -- one step, by what is done at it, before those that have their gaps
   one_more : (step : Step) (act : Act) (steps : List Step) → IsQuietStep (record step { act = act }) → HasPlan inputs.disk act

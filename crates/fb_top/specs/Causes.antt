@@ -1,5 +1,5 @@
 -- Why a command has its answer.
-use Rattle.std.specs.Prelude.{◌≡◌, ◌⊎◌, ℕ, ◌^◌, List, length, true, Option, Some, is_some}
+use Rattle.std.specs.Prelude.{◌≡◌, ◌⊎◌, ℕ, List, length, true, Option, Some, is_some}
 use Rattle.fb_service.specs.declared.disk.Disk.{Disk}
 use Rattle.fb_desk.specs.Calls.{Rose}
 use Rattle.fb_desk.specs.View.{DeskView}
@@ -21,20 +21,12 @@ use Rattle.fb_top.specs.declared.outcome.Outcome.{Outcome}
 use Rattle.fb_top.specs.declared.outcome.Outcome.TheVariants as outcomes
 use Rattle.fb_top.specs.Sources.{SourceTerms, InputTerms, name_of, replay_inputs, check_inputs}
 use Rattle.fb_top.specs.Read.{Files, Accepts, ReadsDisk, ReadsTrace, ReadsReport, RefusesDisk, RefusesTrace, RefusesCalls, RefusesPuts, RefusesReport}
+use Rattle.fb_top.specs.Limits.{limit_of}
 use Rattle.fb_top.specs.Streams.{IsLonger}
 use Rattle.fb_top.specs.Written.{KeepsReports}
 use Rattle.fb_top.specs.Done.{IsDone, IsCutShort}
 use Rattle.fb_top.specs.Spilled.{IsSpilled, IsSpillCut}
 use Rattle.fb_top.specs.Checked.{IsChecked, IsVerdictCut}
-
--- how many bytes an input may have
-abbrev pub limit_of : Input → ℕ
-limit_of Params = 2 ^ 20
-limit_of Trace = 2 ^ 28
-limit_of Calls = 2 ^ 26
-limit_of Puts = 2 ^ 26
-limit_of ForeReport = 2 ^ 28
-limit_of BackReport = 2 ^ 28
 
 -- a count of faults rose
 abbrev pub FaultsRose : DeskView → DeskView → Input → Type 0

@@ -1,5 +1,5 @@
 -- What the accepted inputs of an array mean.
-use Rattle.std.specs.Prelude.{◌≡◌, ℕ, ◌^◌, List, [], length, map, Bool, true, false, nat_eq, Option, Some, None, Ok, Err, if◌then◌else◌, is_some}
+use Rattle.std.specs.Prelude.{◌≡◌, ℕ, List, [], length, map, Bool, true, false, nat_eq, Option, Some, None, Ok, Err, if◌then◌else◌, is_some}
 use Rattle.fb_geometry.specs.Shape.{Shape}
 use Rattle.fb_geometry.specs.Places.{places}
 use Rattle.fb_service.specs.declared.disk.Disk.{Disk}
@@ -21,16 +21,17 @@ use Rattle.fb_top.specs.Read.{Files, ReadsDisk, inputs_of, key_of}
 use Rattle.fb_top.specs.declared.outcome.Outcome.{Outcome}
 use Rattle.fb_top.specs.declared.outcome.Outcome.TheVariants as outcomes
 use Rattle.fb_top.specs.Causes.{AcceptsDisk, EndsAt, StopsInputs, StopsReading}
+use Rattle.fb_top.specs.Limits.{limit_of}
 use Rattle.fb_top.specs.Sources.{array_inputs}
 use Rattle.fb_top.specs.Streams.{ReadsAs}
 
 -- the trace under a name is accepted for each device of this disk, with these requests, by device
 abbrev pub ReadsTraces : DeskView → List ℕ → ℕ → Disk → List Accepted → Type 0
-ReadsTraces desk name devices disk traces = ReadsAs desk name (2 ^ 28) (traces_of devices (length (places disk.map))) (Ok traces)
+ReadsTraces desk name devices disk traces = ReadsAs desk name (limit_of Trace) (traces_of devices (length (places disk.map))) (Ok traces)
 
 -- or refused for one of them, and the least that is has this fault
 abbrev pub RefusesTraces : DeskView → List ℕ → ℕ → Disk → TraceFault → Type 0
-RefusesTraces desk name devices disk fault = ReadsAs desk name (2 ^ 28) (traces_of devices (length (places disk.map))) (Err fault)
+RefusesTraces desk name devices disk fault = ReadsAs desk name (limit_of Trace) (traces_of devices (length (places disk.map))) (Err fault)
 
 -- the calls that the script of the rebuild reads as, whatever the trace; without a rebuild there are none
 abbrev pub ReadsRebuild : Option RebuildTerms → Shape → Script → Type 0

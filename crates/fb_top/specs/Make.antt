@@ -15,7 +15,8 @@ use Rattle.fb_top.specs.declared.outcome.Outcome.TheVariants as outcomes
 use Rattle.fb_top.specs.Read.{RefusesDisk}
 use Rattle.fb_top.specs.Streams.{IsLonger}
 use Rattle.fb_top.specs.Written.{HoldsWhole, KeepsReports, KeepsButBoth, CutsOff, CutsSecond, OutputFaultsRose}
-use Rattle.fb_top.specs.Causes.{AcceptsDisk, FaultsRose, limit_of}
+use Rattle.fb_top.specs.Limits.{limit_of}
+use Rattle.fb_top.specs.Causes.{AcceptsDisk, FaultsRose}
 
 abbrev pub sectors_of : Disk → ℕ
 sectors_of disk = length (places disk.map)

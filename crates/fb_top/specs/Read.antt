@@ -1,5 +1,5 @@
 -- What the accepted inputs of a replay or a check mean.
-use Rattle.std.specs.Prelude.{◌≡◌, ℕ, ◌≤◌, ◌^◌, List, [], length, Option, Some, None, Ok, Err}
+use Rattle.std.specs.Prelude.{◌≡◌, ℕ, ◌≤◌, List, [], length, Option, Some, None, Ok, Err}
 use Rattle.std.specs.List.{flat_map}
 use Rattle.fb_geometry.specs.Places.{places}
 use Rattle.fb_service.specs.declared.disk.Disk.{Disk}
@@ -17,37 +17,39 @@ use Rattle.fb_puts.specs.declared.fault.PutsFault.{PutsFault}
 use Rattle.fb_model.specs.Inputs.{Inputs}
 use Rattle.fb_model.specs.PlainReplay.{Key, fcfs, sstf, clook, sptf}
 use Rattle.fb_desk.specs.View.{DeskView}
+use Rattle.fb_desk.specs.declared.desk.Input.TheVariants as inputs
 use Rattle.fb_words.specs.declared.command.Policy.{Policy}
 use Rattle.fb_words.specs.declared.command.Policy.TheVariants.{Fcfs, Sstf, Clook, Sptf}
 use Rattle.fb_report.specs.Grammar.{Grammar, report_of, ended}
 use Rattle.fb_top.specs.declared.reading.ReplayFiles.{ReplayFiles}
+use Rattle.fb_top.specs.Limits.{limit_of, report_limit}
 use Rattle.fb_top.specs.Sources.{SourceTerms}
 use Rattle.fb_top.specs.Streams.{IsHeld, ReadsAs}
 
 -- the parameter file under a name is accepted, with this disk and these latent sectors
 abbrev pub ReadsDisk : DeskView → List ℕ → Disk → List ℕ → Type 0
-ReadsDisk desk name disk latent = ReadsAs desk name (2 ^ 20) params_of
+ReadsDisk desk name disk latent = ReadsAs desk name (limit_of inputs.Params) params_of
     (Ok (record { outline = disk.map; mechanics = disk.mechanism; sector_bytes = disk.sector_bytes; latent = latent }))
 
 -- or refused, with this fault
 abbrev pub RefusesDisk : DeskView → List ℕ → ParamsFault → Type 0
-RefusesDisk desk name fault = ReadsAs desk name (2 ^ 20) params_of (Err fault)
+RefusesDisk desk name fault = ReadsAs desk name (limit_of inputs.Params) params_of (Err fault)
 
 -- the trace under a name is accepted for a device of the disk, with these requests
 abbrev pub ReadsTrace : DeskView → List ℕ → ℕ → Disk → Accepted → Type 0
-ReadsTrace desk name device disk trace = ReadsAs desk name (2 ^ 28) (trace_of device (length (places disk.map))) (Ok trace)
+ReadsTrace desk name device disk trace = ReadsAs desk name (limit_of inputs.Trace) (trace_of device (length (places disk.map))) (Ok trace)
 
 -- or refused, with this fault
 abbrev pub RefusesTrace : DeskView → List ℕ → ℕ → Disk → TraceFault → Type 0
-RefusesTrace desk name device disk fault = ReadsAs desk name (2 ^ 28) (trace_of device (length (places disk.map))) (Err fault)
+RefusesTrace desk name device disk fault = ReadsAs desk name (limit_of inputs.Trace) (trace_of device (length (places disk.map))) (Err fault)
 
 -- the script under a name is accepted for the disk and a trace of this many requests, with these names and calls
 abbrev pub ReadsCalls : DeskView → List ℕ → Disk → ℕ → Script → Type 0
-ReadsCalls desk name disk traced script = ReadsAs desk name (2 ^ 26) (calls_of disk.map traced) (Ok script)
+ReadsCalls desk name disk traced script = ReadsAs desk name (limit_of inputs.Calls) (calls_of disk.map traced) (Ok script)
 
 -- or refused, with this fault
 abbrev pub RefusesCalls : DeskView → List ℕ → Disk → ℕ → CallsFault → Type 0
-RefusesCalls desk name disk traced fault = ReadsAs desk name (2 ^ 26) (calls_of disk.map traced) (Err fault)
+RefusesCalls desk name disk traced fault = ReadsAs desk name (limit_of inputs.Calls) (calls_of disk.map traced) (Err fault)
 
 -- the script under the name that is given; without one there are no names and no calls
 abbrev pub ReadsScript : DeskView → Option (List ℕ) → Disk → ℕ → Script → Type 0
@@ -81,11 +83,11 @@ puts_terms files = record { sectors = length (places files.disk.map); asked = as
 
 -- the puts file under a name is accepted for these files, with this reserve and these puts
 abbrev pub ReadsPuts : DeskView → List ℕ → Files → PutsRead → Type 0
-ReadsPuts desk name files puts = ReadsAs desk name (2 ^ 26) (puts_of (puts_terms files)) (Ok puts)
+ReadsPuts desk name files puts = ReadsAs desk name (limit_of inputs.Puts) (puts_of (puts_terms files)) (Ok puts)
 
 -- or refused, with this fault
 abbrev pub RefusesPuts : DeskView → List ℕ → Files → PutsFault → Type 0
-RefusesPuts desk name files fault = ReadsAs desk name (2 ^ 26) (puts_of (puts_terms files)) (Err fault)
+RefusesPuts desk name files fault = ReadsAs desk name (limit_of inputs.Puts) (puts_of (puts_terms files)) (Err fault)
 
 -- the puts under the name that is given; without a name there are none
 abbrev pub AcceptsPuts : DeskView → Option (List ℕ) → Files → Option PutsRead → Type 0
@@ -112,14 +114,11 @@ inputs_of files key until = record {
   until = until;
 }
 
--- the report under a name is accepted by its grammar, with these lines
+-- the report under a name is accepted by its grammar, with these lines, and they are all that it has
 pub record ReadsReport (desk : DeskView) (name : List ℕ) (grammar : Grammar) (lines : List (List ℕ)) : Type 0 where
-  pub bytes : List ℕ
-  pub held : IsHeld desk name bytes
-  pub within : length bytes ≤ 2 ^ 28
-  pub spells : report_of grammar bytes ≡ Ok lines
-  pub whole : flat_map ended lines ≡ bytes
+  pub reads : ReadsAs desk name report_limit (report_of grammar) (Ok lines)
+  pub whole : flat_map ended lines ≡ reads.bytes
 
 -- or refused, from this line
 abbrev pub RefusesReport : DeskView → List ℕ → Grammar → ℕ → Type 0
-RefusesReport desk name grammar line = ReadsAs desk name (2 ^ 28) (report_of grammar) (Err line)
+RefusesReport desk name grammar line = ReadsAs desk name report_limit (report_of grammar) (Err line)

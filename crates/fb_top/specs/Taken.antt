@@ -13,7 +13,7 @@ use Rattle.fb_rows.specs.declared.run.Run.{Run}
 use Rattle.fb_words.specs.Command.{ArrayTerms, CheckTerms, ReplayTerms}
 use Rattle.fb_top.specs.declared.outcome.Outcome.{Outcome}
 use Rattle.fb_top.specs.declared.outcome.Outcome.TheVariants as outcomes
-use Rattle.fb_top.specs.declared.reading.Load.{Load}
+use Rattle.fb_top.specs.declared.reading.Workload.{Workload}
 use Rattle.fb_top.specs.Devices.{AcceptsArray, Array}
 use Rattle.fb_top.specs.Read.{Accepts, AcceptsPuts, Files, inputs_of, key_of}
 use Rattle.fb_top.specs.Sources.{array_inputs, check_sources, files_alone, replay_inputs, replay_sources}
@@ -24,8 +24,8 @@ abbrev pub KeepsOutputs : DeskView → DeskView → Type 0
 KeepsOutputs old new = (output : Output) → new.outputs output ≡ old.outputs output
 
 -- what the files of a replay say, with a disk that was read before the others
-abbrev pub files_on : Disk → List ℕ → Load → Files
-files_on disk latent load = record { disk = disk; latent = latent; trace = accepted load.trace; script = accepted_calls load.calls }
+abbrev pub files_on : Disk → List ℕ → Workload → Files
+files_on disk latent workload = record { disk = disk; latent = latent; trace = accepted workload.trace; script = accepted_calls workload.calls }
 
 -- the files and the puts of a replay were accepted, and nothing else was touched
 pub record TakesReplay (terms : ReplayTerms) (files : Files) (puts : Option PutsRead) (old new : DeskView) : Type 0 where

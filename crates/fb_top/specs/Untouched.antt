@@ -1,6 +1,6 @@
 -- Laws of the runs that the top call returns: background work leaves the foreground as it is, inputs have one run, no decision looks ahead,
 -- a run's own reports are right, as are the reports that were printed, and the sections of an array are those of single replays.
-use Rattle.std.specs.Prelude.{◌≡◌, ◌⊎◌, ℕ, ◌<◌, ◌≤◌, ◌^◌, List, ◌++◌, length, slice_get, false, None, Some, IfSome}
+use Rattle.std.specs.Prelude.{◌≡◌, ◌⊎◌, ℕ, ◌<◌, ◌≤◌, List, ◌++◌, length, slice_get, false, None, Some, IfSome}
 use Rattle.fb_rows.specs.declared.run.Run.{Run}
 use Rattle.fb_model.specs.Foreground.{promoted}
 use Rattle.fb_model.specs.Known.{AgreeUpTo, SameKnown}
@@ -22,6 +22,7 @@ use Rattle.fb_top.specs.Causes.{CheckHasCause, FaultsRose}
 use Rattle.fb_top.specs.Checked.{IsVerdictOf}
 use Rattle.fb_top.specs.Complete.{TellsReport}
 use Rattle.fb_top.specs.Sources.{SourceTerms, check_sources, replay_sources}
+use Rattle.fb_top.specs.Limits.{report_limit}
 use Rattle.fb_top.specs.Read.{Files, inputs_of, key_of}
 use Rattle.fb_top.specs.Array.{AreRunsOf, device_line, section}
 use Rattle.fb_top.specs.Done.{IsDone, IsRunOf, fore_told}
@@ -95,7 +96,7 @@ pub record HoldsWritten (output : OutputView) (desk : DeskView) (name : List ℕ
   pub bytes : List ℕ
   pub written : output.written ≡ Some bytes
   pub held : desk.held name ≡ Some bytes
-  pub within : length bytes ≤ 2 ^ 28
+  pub within : length bytes ≤ report_limit
 
 -- a replay wrote its reports, without puts or with them
 abbrev pub HasReplayed : DeskView → DeskView → ReplayTerms → Run → Type 0

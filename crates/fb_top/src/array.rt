@@ -28,7 +28,7 @@ use crate::reading::no_calls;
 use crate::writing::write_lines;
 use crate::{Outcome, Runs};
 use fb_calls::Calls;
-use fb_decide::Asked;
+use fb_decide::RunInputs;
 use fb_desk::{Desk, Output};
 use fb_mirror::{Rebuilt, rebuild, runs_lie_on_the_disk};
 use fb_units::NoMemory;
@@ -95,14 +95,14 @@ fn replay_devices(alloc: Global, words: &ArrayWords, files: &ArrayFiles) -> Resu
     let no_calls = no_calls(alloc);
     let mut runs = Runs::new(alloc);
     for trace in &files.traces {
-        let asked = Asked {
+        let inputs = RunInputs {
             disk: &files.params.disk,
             latent: files.params.latent.as_slice(),
             trace,
             calls: calls_of(words, files, &no_calls, runs.len()),
             until: words.until,
         };
-        runs.push(replay_by(alloc, words.policy, asked)?)?;
+        runs.push(replay_by(alloc, words.policy, inputs)?)?;
     }
     Ok(runs)
 }

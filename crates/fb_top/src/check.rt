@@ -148,7 +148,7 @@ fn judge_with<D: Desk>(
         fore,
         back: &back,
     };
-    match judge_by(alloc, words.policy, files.asked(words.until), printed) {
+    match judge_by(alloc, words.policy, files.inputs(words.until), printed) {
         Ok(verdict) => Ok(verdict),
         Err(NoMemory) => Err(Outcome::NoMemory),
     }

@@ -49,7 +49,7 @@ pub struct ArrayFiles {
 
 // What the devices have to serve.
 #[derive(Drop)]
-struct Loads {
+struct Workloads {
     // The requests of each device, by device.
     traces: Vec<Trace>,
     // The calls of the rebuild; none where there is no rebuild.
@@ -82,11 +82,11 @@ pub fn read_array<D: Desk>(
         Err(outcome) => return Err(outcome),
     };
     params.disk.map.geometry().sound();
-    match read_loads(alloc, desk, words, &params.disk) {
-        Ok(loads) => Ok(ArrayFiles {
+    match read_workloads(alloc, desk, words, &params.disk) {
+        Ok(workloads) => Ok(ArrayFiles {
             params,
-            traces: loads.traces,
-            calls: loads.calls,
+            traces: workloads.traces,
+            calls: workloads.calls,
         }),
         Err(outcome) => Err(outcome),
     }
@@ -96,22 +96,22 @@ pub fn read_array<D: Desk>(
 // the rebuild, if there is one.
 //
 // The error is the outcome: the trace can't be read or is refused, or the script is refused.
-fn read_loads<D: Desk>(
+fn read_workloads<D: Desk>(
     alloc: Global,
     desk: &mut D,
     words: &ArrayWords,
     disk: &Disk,
-) -> Result<Loads, Outcome>
+) -> Result<Workloads, Outcome>
     requires fresh { ((D.seen desk.old).inputs Input.Trace).opened ≡ false }
     requires limits { IsWithinLimits (arrays (array_terms words.now)) }
     ensures only { ChangesInput Input.Trace (D.seen desk.old) (D.seen desk.new) }
     ensures opened { IsOpenedAs (array_terms words.now).trace (D.seen desk.old) ((D.seen desk.new).inputs Input.Trace) }
     ensures calm { IfOk result (λ _. ((D.seen desk.new).inputs Input.Trace).faults ≡ ((D.seen desk.old).inputs Input.Trace).faults) }
-    ensures traces { IfOk result (λ loads. ReadsTraces (D.seen desk.old) (array_terms words.now).trace (array_terms words.now).devices disk.now (map accepted loads.traces.items)) }
-    ensures servable { IfOk result (λ loads. AllByRecursion (λ trace. IsTraceOf (length (places disk.now.map)) trace.requests.items) loads.traces.items) }
-    ensures script { IfOk result (λ loads. ReadsRebuild (array_terms words.now).rebuild disk.now.map (accepted_calls loads.calls)) }
-    ensures fit { IfOk result (λ loads. (device : ℕ) (trace : Trace) → slice_get loads.traces.items device ≡ Some trace → is_rebuilt_from (array_terms words.now).rebuild device ≡ true → IsScript disk.now.map (length trace.requests.items) loads.calls.calls.items) }
-    ensures names { IfOk result (λ loads. length loads.calls.names ≡ length (tasks loads.calls.calls.items)) }
+    ensures traces { IfOk result (λ workloads. ReadsTraces (D.seen desk.old) (array_terms words.now).trace (array_terms words.now).devices disk.now (map accepted workloads.traces.items)) }
+    ensures servable { IfOk result (λ workloads. AllByRecursion (λ trace. IsTraceOf (length (places disk.now.map)) trace.requests.items) workloads.traces.items) }
+    ensures script { IfOk result (λ workloads. ReadsRebuild (array_terms words.now).rebuild disk.now.map (accepted_calls workloads.calls)) }
+    ensures fit { IfOk result (λ workloads. (device : ℕ) (trace : Trace) → slice_get workloads.traces.items device ≡ Some trace → is_rebuilt_from (array_terms words.now).rebuild device ≡ true → IsScript disk.now.map (length trace.requests.items) workloads.calls.calls.items) }
+    ensures names { IfOk result (λ workloads. length workloads.calls.names ≡ length (tasks workloads.calls.calls.items)) }
     ensures cause { IfErr result (λ outcome. (first : DeskView) (latent : List ℕ) → ReadsDisk first (array_terms words.now).params disk.now latent → ChangesInput Input.Params first (D.seen desk.old) → StopsArray (array_terms words.now) first (D.seen desk.new) outcome) }
 {
     let traces = match read_devices(alloc, desk, words.trace.as_str(), words.devices, disk) {
@@ -119,7 +119,7 @@ fn read_loads<D: Desk>(
         Err(outcome) => return Err(outcome),
     };
     match read_rebuild(alloc, words, disk, traces.as_slice()) {
-        Ok(calls) => Ok(Loads { traces, calls }),
+        Ok(calls) => Ok(Workloads { traces, calls }),
         Err(outcome) => Err(outcome),
     }
 }

@@ -3,7 +3,7 @@ ghost use Rattle.std.specs.Prelude.{◌≡◌, ◌≤◌, ◌*◌, ◌^◌, [], 
 ghost use Rattle.fb_calls.specs.Allowed.{tasks};
 ghost use Rattle.fb_check.specs.Printed.{reports_of};
 ghost use Rattle.fb_check.specs.Verdict.{IsVerdict};
-ghost use Rattle.fb_decide.specs.Asked.{inputs_of};
+ghost use Rattle.fb_decide.specs.RunInputs.{inputs_of};
 ghost use Rattle.fb_model.specs.Accepted.{IsAccepted};
 ghost use Rattle.fb_model.specs.FullRun.{IsFull};
 ghost use Rattle.fb_report.specs.Grammar.{back_grammar, fore_grammar};
@@ -12,7 +12,7 @@ ghost use Rattle.fb_top.specs.Done.{CanBeTold};
 ghost use Rattle.fb_top.specs.Read.{key_of};
 
 use fb_check::{Printed, Verdict, judge};
-use fb_decide::Asked;
+use fb_decide::RunInputs;
 use fb_detour::IndexedPlanner;
 use fb_engine::replay;
 use fb_fastq::{ClookMap, FcfsRing, SptfLanes, SstfMap};
@@ -23,34 +23,34 @@ use fb_words::Policy;
 use std::alloc::Global;
 
 /// The full run of accepted inputs, in a policy's order. The only error is out of memory.
-pub fn replay_by(alloc: Global, policy: Policy, asked: Asked<'_>) -> Result<Run, NoMemory>
-    requires fit { IsAccepted (inputs_of asked (key_of policy)) }
-    requires names { length asked.calls.now.names ≡ length (tasks asked.calls.now.calls.items) }
-    ensures full { IfOk result (IsFull (inputs_of asked.entry (key_of policy))) }
+pub fn replay_by(alloc: Global, policy: Policy, inputs: RunInputs<'_>) -> Result<Run, NoMemory>
+    requires fit { IsAccepted (inputs_of inputs (key_of policy)) }
+    requires names { length inputs.calls.now.names ≡ length (tasks inputs.calls.now.calls.items) }
+    ensures full { IfOk result (IsFull (inputs_of inputs.entry (key_of policy))) }
     ensures early { IfOk result (λ run. run.end ≤ 9 * 10 ^ 18) }
-    ensures told { IfOk result (CanBeTold asked.entry.calls.now.names) }
+    ensures told { IfOk result (CanBeTold inputs.entry.calls.now.names) }
 {
     match policy {
-        Policy::Fcfs => replay_in(alloc, FcfsRing::new(alloc), asked),
-        Policy::Sstf => replay_in(alloc, SstfMap::new(alloc), asked),
-        Policy::Clook => replay_in(alloc, ClookMap::new(alloc), asked),
-        Policy::Sptf => replay_in(alloc, SptfLanes::new(alloc), asked),
+        Policy::Fcfs => replay_in(alloc, FcfsRing::new(alloc), inputs),
+        Policy::Sstf => replay_in(alloc, SstfMap::new(alloc), inputs),
+        Policy::Clook => replay_in(alloc, ClookMap::new(alloc), inputs),
+        Policy::Sptf => replay_in(alloc, SptfLanes::new(alloc), inputs),
     }
 }
 
 /// The full run of accepted inputs, in the order of a queue, which must be new.
 ///
 /// The only error is out of memory.
-pub fn replay_in<Q: Queue>(alloc: Global, queue: Q, asked: Asked<'_>) -> Result<Run, NoMemory>
+pub fn replay_in<Q: Queue>(alloc: Global, queue: Q, inputs: RunInputs<'_>) -> Result<Run, NoMemory>
     requires empty { Q.pending queue ≡ [] }
     requires fresh { Q.joined queue ≡ 0 }
-    requires fit { IsAccepted (inputs_of asked Q.key) }
-    requires names { length asked.calls.now.names ≡ length (tasks asked.calls.now.calls.items) }
-    ensures full { IfOk result (IsFull (inputs_of asked.entry Q.key)) }
+    requires fit { IsAccepted (inputs_of inputs Q.key) }
+    requires names { length inputs.calls.now.names ≡ length (tasks inputs.calls.now.calls.items) }
+    ensures full { IfOk result (IsFull (inputs_of inputs.entry Q.key)) }
     ensures early { IfOk result (λ run. run.end ≤ 9 * 10 ^ 18) }
-    ensures told { IfOk result (CanBeTold asked.entry.calls.now.names) }
+    ensures told { IfOk result (CanBeTold inputs.entry.calls.now.names) }
 {
-    replay(alloc, asked, queue, &IndexedPlanner)
+    replay(alloc, inputs, queue, &IndexedPlanner)
 }
 
 /// Judges two printed reports against the full run of accepted inputs, in a policy's order.
@@ -59,20 +59,20 @@ pub fn replay_in<Q: Queue>(alloc: Global, queue: Q, asked: Asked<'_>) -> Result<
 pub fn judge_by(
     alloc: Global,
     policy: Policy,
-    asked: Asked<'_>,
+    inputs: RunInputs<'_>,
     printed: Printed<'_>,
 ) -> Result<Verdict, NoMemory>
-    requires fit { IsAccepted (inputs_of asked (key_of policy)) }
-    requires names { length asked.calls.now.names ≡ length (tasks asked.calls.now.calls.items) }
+    requires fit { IsAccepted (inputs_of inputs (key_of policy)) }
+    requires names { length inputs.calls.now.names ≡ length (tasks inputs.calls.now.calls.items) }
     requires fore { IsReport fore_grammar printed.fore.now }
     requires back { IsReport back_grammar printed.back.now }
-    ensures { IfOk result (IsVerdict (inputs_of asked.entry (key_of policy)) (reports_of asked.entry printed.entry)) }
+    ensures { IfOk result (IsVerdict (inputs_of inputs.entry (key_of policy)) (reports_of inputs.entry printed.entry)) }
 {
     let planner = &IndexedPlanner;
     match policy {
-        Policy::Fcfs => judge(alloc, asked, FcfsRing::new(alloc), planner, printed),
-        Policy::Sstf => judge(alloc, asked, SstfMap::new(alloc), planner, printed),
-        Policy::Clook => judge(alloc, asked, ClookMap::new(alloc), planner, printed),
-        Policy::Sptf => judge(alloc, asked, SptfLanes::new(alloc), planner, printed),
+        Policy::Fcfs => judge(alloc, inputs, FcfsRing::new(alloc), planner, printed),
+        Policy::Sstf => judge(alloc, inputs, SstfMap::new(alloc), planner, printed),
+        Policy::Clook => judge(alloc, inputs, ClookMap::new(alloc), planner, printed),
+        Policy::Sptf => judge(alloc, inputs, SptfLanes::new(alloc), planner, printed),
     }
 }

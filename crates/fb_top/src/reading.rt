@@ -10,13 +10,14 @@ ghost use Rattle.fb_trace.specs.Servable.{IsTraceOf};
 ghost use Rattle.fb_trace.specs.Verdict.{accepted};
 ghost use Rattle.fb_calls.specs.Allowed.{IsScript, tasks};
 ghost use Rattle.fb_script.specs.Verdict.{accepted as accepted_calls};
-ghost use Rattle.fb_decide.specs.Asked.{inputs_of as asked_inputs};
+ghost use Rattle.fb_decide.specs.RunInputs.{inputs_of as run_inputs_of};
 ghost use Rattle.fb_model.specs.Accepted.{IsAccepted};
 ghost use Rattle.fb_model.specs.PlainReplay.{Key};
 ghost use Rattle.fb_top.specs.Sources.{files_alone, sources_of};
 ghost use Rattle.fb_top.specs.Read.{Accepts, ReadsCalls, ReadsDisk, ReadsScript, ReadsTrace, files_of, inputs_of};
 ghost use Rattle.fb_top.specs.Causes.{StopsCalls, StopsDisk, StopsInputs, StopsReading, StopsReport, StopsScript, StopsTrace};
-ghost use Rattle.fb_top.specs.Causes.{input_of, limit_of};
+ghost use Rattle.fb_top.specs.Causes.{input_of};
+ghost use Rattle.fb_top.specs.Limits.{limit_of};
 ghost use Rattle.fb_top.specs.Taken.{KeepsOutputs, files_on};
 ghost use Rattle.fb_top.specs.Unnamed.{KeepsUnnamed};
 ghost use Rattle.fb_top.specs.Opened.{IsOpenedAs, OpensAsNamed};
@@ -26,7 +27,7 @@ ghost use Rattle.fb_top.specs.Calm.{AreInputsCalm};
 use crate::Outcome;
 use crate::streams::{InputError, read_whole};
 use fb_calls::{Calls, TaskNames};
-use fb_decide::Asked;
+use fb_decide::RunInputs;
 use fb_desk::{Desk, Input};
 use fb_params::{Parameters, ParamsError, read_params};
 use fb_report::Report;
@@ -62,7 +63,7 @@ pub struct ReplayFiles {
 
 // What a disk has to serve.
 #[derive(Drop)]
-struct Load {
+struct Workload {
     // The requests of one device, in order of arrival.
     trace: Trace,
     // The calls, in order of instant, and the names of their tasks.
@@ -72,11 +73,11 @@ struct Load {
 impl ReplayFiles {
     /// The inputs of a replay of these files. `until` is the instant, in ns, at most 10^15, up to which
     /// the head goes on reading background when nothing else is left to do.
-    pub fn asked(&self, until: Ns) -> Asked<'_>
-        ensures inputs { (key : Key) → asked_inputs result key ≡ inputs_of (files_of self.now) key until }
+    pub fn inputs(&self, until: Ns) -> RunInputs<'_>
+        ensures inputs { (key : Key) → run_inputs_of result key ≡ inputs_of (files_of self.now) key until }
         ensures calls { result.calls.now ≡ self.now.calls }
     {
-        Asked {
+        RunInputs {
             disk: &self.params.disk,
             latent: self.params.latent.as_slice(),
             trace: &self.trace,
@@ -112,11 +113,11 @@ pub fn read_inputs<D: Desk>(
         Err(outcome) => return Err(outcome),
     };
     params.disk.map.geometry().sound();
-    match read_load(alloc, desk, sources, &params.disk) {
-        Ok(load) => Ok(ReplayFiles {
+    match read_workload(alloc, desk, sources, &params.disk) {
+        Ok(workload) => Ok(ReplayFiles {
             params,
-            trace: load.trace,
-            calls: load.calls,
+            trace: workload.trace,
+            calls: workload.calls,
         }),
         Err(outcome) => Err(outcome),
     }
@@ -125,20 +126,20 @@ pub fn read_inputs<D: Desk>(
 // Reads what a disk that was read has to serve: the trace, and then the script, if any.
 //
 // The error is the outcome of the first file that can't be read or is refused.
-fn read_load<D: Desk>(
+fn read_workload<D: Desk>(
     alloc: Global,
     desk: &mut D,
     sources: &Sources<'_>,
     disk: &Disk,
-) -> Result<Load, Outcome>
+) -> Result<Workload, Outcome>
     requires fresh_trace { ((D.seen desk.old).inputs Input.Trace).opened ≡ false }
     requires fresh_calls { ((D.seen desk.old).inputs Input.Calls).opened ≡ false }
     ensures held { (name : List ℕ) → (D.seen desk.new).held name ≡ (D.seen desk.old).held name }
     ensures outputs { KeepsOutputs (D.seen desk.old) (D.seen desk.new) }
-    ensures accepts { IfOk result (λ load. (first : DeskView) (latent : List ℕ) → ReadsDisk first (sources_of sources.now).params disk.now latent → ChangesInput Input.Params first (D.seen desk.old) → Accepts first (sources_of sources.now) (files_on disk.now latent load)) }
-    ensures servable { IfOk result (λ load. IsTraceOf (length (places disk.now.map)) load.trace.requests.items) }
-    ensures fit { IfOk result (λ load. IsScript disk.now.map (length load.trace.requests.items) load.calls.calls.items) }
-    ensures names { IfOk result (λ load. length load.calls.names ≡ length (tasks load.calls.calls.items)) }
+    ensures accepts { IfOk result (λ workload. (first : DeskView) (latent : List ℕ) → ReadsDisk first (sources_of sources.now).params disk.now latent → ChangesInput Input.Params first (D.seen desk.old) → Accepts first (sources_of sources.now) (files_on disk.now latent workload)) }
+    ensures servable { IfOk result (λ workload. IsTraceOf (length (places disk.now.map)) workload.trace.requests.items) }
+    ensures fit { IfOk result (λ workload. IsScript disk.now.map (length workload.trace.requests.items) workload.calls.calls.items) }
+    ensures names { IfOk result (λ workload. length workload.calls.names ≡ length (tasks workload.calls.calls.items)) }
     ensures cause { IfErr result (λ outcome. (first : DeskView) (latent : List ℕ) → ReadsDisk first (sources_of sources.now).params disk.now latent → ChangesInput Input.Params first (D.seen desk.old) → StopsInputs (files_alone (sources_of sources.now)) first (D.seen desk.new) outcome) }
     ensures unnamed { (first : DeskView) → ChangesInput Input.Params first (D.seen desk.old) → KeepsUnnamed (files_alone (sources_of sources.now)) first (D.seen desk.new) }
     ensures opened { (first : DeskView) → IsUnused first → ChangesInput Input.Params first (D.seen desk.old) → IsOpenedAs (sources_of sources.now).params first ((D.seen desk.old).inputs Input.Params) → OpensAsNamed (files_alone (sources_of sources.now)) first (D.seen desk.new) }
@@ -151,7 +152,7 @@ fn read_load<D: Desk>(
     let requests = trace.requests.as_slice();
     let traced = requests.len() as u64;
     match read_script(alloc, desk, sources.calls, disk, traced) {
-        Ok(calls) => Ok(Load { trace, calls }),
+        Ok(calls) => Ok(Workload { trace, calls }),
         Err(outcome) => Err(outcome),
     }
 }

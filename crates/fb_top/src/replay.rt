@@ -70,7 +70,7 @@ fn replay_and_write<D: Desk>(
     ensures inputs { KeepsInputs (D.seen desk.old) (D.seen desk.new) }
 {
     let files = &inputs.files;
-    let run = match replay_by(alloc, words.policy, files.asked(words.until)) {
+    let run = match replay_by(alloc, words.policy, files.inputs(words.until)) {
         Ok(run) => run,
         Err(NoMemory) => return Outcome::NoMemory,
     };

@@ -1,4 +1,4 @@
--- The upper bounds of the weights of tracks, by cylinder and by band.
+-- The upper bounds on the weights of tracks, by cylinder and by band.
 use Rattle.std.proofs.Common.{◌≡◌, ℕ, ◌/◌, ◌<◌, ◌≤◌, inl, inr, List, false, length, get_or, set, refl, ap, sym, ◌∙◌, arith, subst}
 use Rattle.std.proofs.lemmas.Bool.{cases_eq}
 use Rattle.std.proofs.lemmas.Grind.{get_or-set_at}

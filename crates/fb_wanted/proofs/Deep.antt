@@ -1,4 +1,4 @@
--- The upper bounds of the depth of a sector, by band.
+-- The upper bounds on the depth of a sector, by band.
 use Rattle.std.proofs.Common.{◌≡◌, ℕ, ◌+◌, ◌/◌, ◌<◌, ◌≤◌, inl, inr, ◌==◌, List, [], ◌∷◌, ◌++◌, Some, Bool, nat_le, true, false}
 use Rattle.std.proofs.Common.{if◌then◌else◌, length, length-append, filter, slice_get, get_or, set, refl, ap, sym, ◌∙◌, arith, subst}
 use Rattle.std.specs.List.{sum_by}

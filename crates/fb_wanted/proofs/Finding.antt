@@ -13,7 +13,7 @@ use Rattle.fb_wanted.specs.Numbering.{AreInOrder, blocks_of}
 use Rattle.fb_wanted.specs.Index.{is_of_task, lbns, region_of, IsUpTo, IsInStreak, BeginsStreak, AreNoted, AreShort, IsWithin}
 use Rattle.fb_wanted.specs.Index.{changed_where, key_of, streak_cmp}
 use Rattle.fb_wanted.proofs.Standing.{among}
-use Rattle.fb_wanted.proofs.Numbers.{index_at}
+use Rattle.fb_wanted.proofs.Numbers.{number_at}
 use Rattle.fb_wanted.proofs.OfTask.{own_after, others_after}
 use Rattle.fb_wanted.proofs.Regions.{lbn_at, length-lbns, streak_of}
 use Rattle.fb_wanted.proofs.Counted.{filter-le}
@@ -24,7 +24,7 @@ up_or_not a b = elim (cases_lt a.region b.region) [
   | inl less ↦ inl (inl less)
   | inr most ↦ elim (cases_lt b.region a.region) [
     | inl more ↦ inr (λ up. elim up [ inl less ↦ omega (arith, less, more) | inr same ↦ omega (arith, same.0, more) ])
-    | inr not_more ↦ elim (cases_lt b.index a.index) [
+    | inr not_more ↦ elim (cases_lt b.number a.number) [
       | inl before ↦ inr (λ up. elim up [ inl less ↦ omega (arith, less, most) | inr same ↦ omega (arith, same.1, before) ])
       | inr there ↦ inl (inr (omega (arith, most, not_more), there))
     ]
@@ -32,34 +32,34 @@ up_or_not a b = elim (cases_lt a.region b.region) [
 ]
 
 -- a streak that comes no earlier than another one, and before the next number of its region, is that one
-pub same_streak : (a b : Streak) → IsUpTo a b → (IsUpTo (record { region = a.region; index = a.index + 1 }) b → ⊥) → b ≡ a
+pub same_streak : (a b : Streak) → IsUpTo a b → (IsUpTo (record { region = a.region; number = a.number + 1 }) b → ⊥) → b ≡ a
 same_streak a b (inl less) not_next = absurd (not_next (inl less))
-same_streak a b (inr same) not_next = elim (cases_lt a.index b.index) [
+same_streak a b (inr same) not_next = elim (cases_lt a.number b.number) [
   | inl before ↦ absurd (not_next (inr (same.0, omega (arith, before))))
   | inr there ↦
-      let index : b.index ≡ a.index = omega (arith, same.1, there) in
-      let region : b.region ≡ a.region = sym same.0 in rw (index, region) refl
+      let number : b.number ≡ a.number = omega (arith, same.1, there) in
+      let region : b.region ≡ a.region = sym same.0 in rw (number, region) refl
 ]
 
 -- a streak begins with one of the registered blocks
 pub few_streaks : (task : ℕ) (es : List Entry) (streaks : BTreeSet (ℕ × ℕ × ℕ)) (streak : Streak) → AreNoted es streaks
-    → length es ≤ 16000000 → contains streak_cmp streaks (key_of task streak) ≡ true → streak.index < 16000000
+    → length es ≤ 16000000 → contains streak_cmp streaks (key_of task streak) ≡ true → streak.number < 16000000
 few_streaks task es streaks streak noted few has =
     let begins = (noted task streak).0 has in
     omega (
       arith,
-      slice_get_within (lbns task es) streak.index begins.lbn begins.at,
+      slice_get_within (lbns task es) streak.number begins.lbn begins.at,
       length-lbns task es,
       filter-le (is_of_task task) es,
       few,
     )
 
 -- the measure of a walk over streaks
-pub comes_later : (region index : ℕ) (streak : Streak) → IsUpTo (record { region = region; index = index }) streak → streak.region < 2 ^ 64
-    → streak.index + 1 < 2 ^ 32
-    → (2 ^ 64 - streak.region) * 2 ^ 32 + (2 ^ 32 - (streak.index + 1)) < (2 ^ 64 - region) * 2 ^ 32 + (2 ^ 32 - index)
-comes_later region index streak (inl less) fits few = omega (arith, less, fits, few)
-comes_later region index streak (inr same) fits few = omega (arith, same.0, same.1, fits, few)
+pub comes_later : (region number : ℕ) (streak : Streak) → IsUpTo (record { region = region; number = number }) streak
+    → streak.region < 2 ^ 64 → streak.number + 1 < 2 ^ 32
+    → (2 ^ 64 - streak.region) * 2 ^ 32 + (2 ^ 32 - (streak.number + 1)) < (2 ^ 64 - region) * 2 ^ 32 + (2 ^ 32 - number)
+comes_later region number streak (inl less) fits few = omega (arith, less, fits, few)
+comes_later region number streak (inr same) fits few = omega (arith, same.0, same.1, fits, few)
 
 -- the streaks before this one that can reach the range are chosen
 abbrev pub AreChosen : (task first longest : ℕ) (es : List Entry) (chosen : ℕ → Bool) (from : Streak) → Type 0
@@ -77,10 +77,10 @@ shared : (task first count longest : ℕ) (es : List Entry) (chosen : ℕ → Bo
     → AreInOrder (blocks_of es) → AreShort longest es
     → AreChosen task first longest es chosen from → AreBehind task first count es from
     → (i : ℕ) (e : Entry) → slice_get es i ≡ Some e → is_of_task task e ≡ true
-    → shares first count e.block ≡ true → chosen e.block.index ≡ true
+    → shares first count e.block ≡ true → chosen e.block.number ≡ true
 shared task first count longest es chosen from in_order short done rest i e at own inside =
     let it = among (is_of_task task) es i e at own in
-    let index = index_at es task it.0 e in_order it.2 in
+    let number = number_at es task it.0 e in_order it.2 in
     let lbn = lbn_at task es it.0 e it.2 in
     let streak = streak_of (lbns task es) it.0 e.block.lbn lbn in
     let few = short i e at in
@@ -92,7 +92,7 @@ shared task first count longest es chosen from in_order short done rest i e at o
           let near : first < e.block.lbn + e.block.count = grind (arith, nat_tests) in
           let region : region_of (first - (longest - 1)) ≤ streak.0.region = omega (arith, near, few, streak.2) in
           let within = slice_get_within (lbns task es) it.0 e.block.lbn lbn in
-          ap chosen index ∙ done streak.0 it.0 streak.1 region not_up within streak.3
+          ap chosen number ∙ done streak.0 it.0 streak.1 region not_up within streak.3
     ]
 
 -- so all blocks of the task are as after the change

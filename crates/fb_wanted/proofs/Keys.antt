@@ -34,20 +34,20 @@ pub from_key : (task : ℕ) (from other : Streak) → IsUpTo from other → is_g
 from_key task from other (inl less) = grind (arith, nat_tests)
 from_key task from other (inr same) = grind (arith, nat_tests)
 
-pub up_to : (task region index : ℕ) (other : Streak) → is_gt (streak_cmp (task, region, index) (key_of task other)) ≡ false
-    → IsUpTo (record { region = region; index = index }) other
-up_to task region index other h = elim (cases_lt region other.region) [
+pub up_to : (task region number : ℕ) (other : Streak) → is_gt (streak_cmp (task, region, number) (key_of task other)) ≡ false
+    → IsUpTo (record { region = region; number = number }) other
+up_to task region number other h = elim (cases_lt region other.region) [
   | inl less ↦ inl less
   | inr most ↦ inr (grind (arith, nat_tests), grind (arith, nat_tests))
 ]
 
-pub from_up_to : (task region index : ℕ) (from : Streak) → is_gt (streak_cmp (key_of task from) (task, region, index)) ≡ false
-    → IsUpTo from (record { region = region; index = index })
-from_up_to task region index from h = elim (cases_lt from.region region) [
+pub from_up_to : (task region number : ℕ) (from : Streak) → is_gt (streak_cmp (key_of task from) (task, region, number)) ≡ false
+    → IsUpTo from (record { region = region; number = number })
+from_up_to task region number from h = elim (cases_lt from.region region) [
   | inl less ↦ inl less
   | inr most ↦ inr (grind (arith, nat_tests), grind (arith, nat_tests))
 ]
 
-pub between : (task other region index : ℕ) (from streak : Streak) → is_gt (streak_cmp (key_of task from) (other, region, index)) ≡ false
-    → is_gt (streak_cmp (other, region, index) (key_of task streak)) ≡ false → other ≡ task
-between task other region index from streak up down = grind (arith, nat_tests)
+pub between : (task other region number : ℕ) (from streak : Streak) → is_gt (streak_cmp (key_of task from) (other, region, number)) ≡ false
+    → is_gt (streak_cmp (other, region, number) (key_of task streak)) ≡ false → other ≡ task
+between task other region number from streak up down = grind (arith, nat_tests)

@@ -46,7 +46,7 @@ task-blocks task (e ∷ es) = elim (cases_Bool (e.block.task == task)) [
   | inr no' ↦ rw no' (task-blocks task es)
 ]
 
-in_order-more : (bs : List Block) (b : Block) → AreInOrder bs → b.index ≡ registered b.task bs → AreInOrder (bs ++ b ∷ [])
+in_order-more : (bs : List Block) (b : Block) → AreInOrder bs → b.number ≡ registered b.task bs → AreInOrder (bs ++ b ∷ [])
 in_order-more bs b h new task k block at =
     let split = filter-append (λ other. other.task == task) bs (b ∷ []) in
     elim (cases_Bool (b.task == task)) [
@@ -56,7 +56,7 @@ in_order-more bs b h new task k block at =
           ∙ ap (λ v. filter (λ other. other.task == task) bs ++ (if v then b ∷ [] else [])) own in
           elim (in_either (filter (λ other. other.task == task) bs) b block k (ap (λ l. slice_get l k) (sym list) ∙ at)) [
             | inl old ↦ h task k block old.1
-            | inr last ↦ ap (λ c. c.index) last.1 ∙ (new ∙ (ap (λ t. registered t bs) same ∙ sym last.0))
+            | inr last ↦ ap (λ c. c.number) last.1 ∙ (new ∙ (ap (λ t. registered t bs) same ∙ sym last.0))
           ]
       | inr other ↦
           let list : filter (λ other. other.task == task) (bs ++ b ∷ []) ≡ filter (λ other. other.task == task) bs = split
@@ -64,7 +64,7 @@ in_order-more bs b h new task k block at =
           h task k block (ap (λ l. slice_get l k) (sym list) ∙ at)
     ]
 
-pub numbered-more : (es : List Entry) (e : Entry) → AreInOrder (blocks_of es) → e.block.index ≡ registered e.block.task (blocks_of es)
+pub numbered-more : (es : List Entry) (e : Entry) → AreInOrder (blocks_of es) → e.block.number ≡ registered e.block.task (blocks_of es)
     → AreInOrder (blocks_of (es ++ e ∷ []))
 numbered-more es e h new = subst AreInOrder (sym (blocks-more es e)) (in_order-more (blocks_of es) e.block h new)
 
@@ -85,20 +85,20 @@ pub small_at : (es : List Entry) (i : ℕ) (e : Entry) → AreSmall (blocks_of e
 small_at es i e h at = h i e.block (block_there es i e at)
 
 -- the k-th block of a task has the number k
-pub index_at : (es : List Entry) (task k : ℕ) (e : Entry) → AreInOrder (blocks_of es) → slice_get (filter (is_of_task task) es) k ≡ Some e
-    → e.block.index ≡ k
-index_at es task k e h at = h task k e.block
+pub number_at : (es : List Entry) (task k : ℕ) (e : Entry) → AreInOrder (blocks_of es) → slice_get (filter (is_of_task task) es) k ≡ Some e
+    → e.block.number ≡ k
+number_at es task k e h at = h task k e.block
     (ap (λ l. slice_get l k) (task-blocks task es) ∙ block_there (filter (is_of_task task) es) k e at)
 
-pub block_is : (task index : ℕ) (e : Entry) → is_block task index e ≡ true → (is_of_task task e ≡ true) × (e.block.index ≡ index)
-block_is task index e h = (grind (arith, nat_tests), grind (arith, nat_tests))
+pub block_is : (task number : ℕ) (e : Entry) → is_block task number e ≡ true → (is_of_task task e ≡ true) × (e.block.number ≡ number)
+block_is task number e h = (grind (arith, nat_tests), grind (arith, nat_tests))
 
 -- the block with a number in its task is found at that index among the blocks of the task
-pub found : (es : List Entry) (task index i : ℕ) (e : Entry) → AreInOrder (blocks_of es) → slice_get es i ≡ Some e
-    → is_block task index e ≡ true
-    → (slice_get (indexes_of (is_of_task task) es) index ≡ Some i) × (slice_get (filter (is_of_task task) es) index ≡ Some e)
-found es task index i e h at is =
-    let own = block_is task index e is in
+pub found : (es : List Entry) (task number i : ℕ) (e : Entry) → AreInOrder (blocks_of es) → slice_get es i ≡ Some e
+    → is_block task number e ≡ true
+    → (slice_get (indexes_of (is_of_task task) es) number ≡ Some i) × (slice_get (filter (is_of_task task) es) number ≡ Some e)
+found es task number i e h at is =
+    let own = block_is task number e is in
     let it = among (is_of_task task) es i e at own.0 in
-    let same : it.0 ≡ index = sym (index_at es task it.0 e h it.2) ∙ own.1 in
+    let same : it.0 ≡ number = sym (number_at es task it.0 e h it.2) ∙ own.1 in
     (ap (slice_get (indexes_of (is_of_task task) es)) (sym same) ∙ it.1, ap (slice_get (filter (is_of_task task) es)) (sym same) ∙ it.2)

@@ -8,7 +8,7 @@ use Rattle.fb_wanted.specs.declared.block.State.{State}
 use Rattle.fb_wanted.specs.States.{after, entry_after, state_after}
 use Rattle.fb_wanted.specs.Numbering.{AreInOrder, blocks_of}
 use Rattle.fb_wanted.specs.Index.{is_of_task, change_nth}
-use Rattle.fb_wanted.proofs.Numbers.{index_at}
+use Rattle.fb_wanted.proofs.Numbers.{number_at}
 use Rattle.fb_wanted.proofs.Standing.{nth_alone, passes}
 
 pub own_after : (task : ℕ) (change : Change) (e : Entry) (s : State) → is_of_task task e ≡ true → s ≡ state_after change e.block e.state
@@ -18,13 +18,13 @@ own_after task change e s own is = rw own (ap (λ t. let x : Entry = record { bl
 pub others_after : (task : ℕ) (change : Change) (e : Entry) → is_of_task task e ≡ false → entry_after task change e ≡ e
 others_after task change e other = rw other refl
 
-not_delivered : (task index : ℕ) (e : Entry) → is_of_task task e ≡ true → (e.block.index == index) ≡ false
-    → entry_after task (Deliver index) e ≡ e
-not_delivered task index e own other = rw (own, other) refl
+not_delivered : (task number : ℕ) (e : Entry) → is_of_task task e ≡ true → (e.block.number == number) ≡ false
+    → entry_after task (Deliver number) e ≡ e
+not_delivered task number e own other = rw (own, other) refl
 
-pub delivered_alone : (task index : ℕ) (es : List Entry) → AreInOrder (blocks_of es)
-    → change_nth (is_of_task task) (entry_after task (Deliver index)) index es ≡ after task (Deliver index) es
-delivered_alone task index es h = nth_alone (is_of_task task) (entry_after task (Deliver index)) index es
-    (others_after task (Deliver index)) (λ j e at ne.
-    let is = index_at es task j e h at in
-    not_delivered task index e (passes (is_of_task task) es j e at) (grind (arith, nat_tests)))
+pub delivered_alone : (task number : ℕ) (es : List Entry) → AreInOrder (blocks_of es)
+    → change_nth (is_of_task task) (entry_after task (Deliver number)) number es ≡ after task (Deliver number) es
+delivered_alone task number es h = nth_alone (is_of_task task) (entry_after task (Deliver number)) number es
+    (others_after task (Deliver number)) (λ j e at ne.
+    let is = number_at es task j e h at in
+    not_delivered task number e (passes (is_of_task task) es j e at) (grind (arith, nat_tests)))

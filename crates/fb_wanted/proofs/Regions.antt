@@ -56,17 +56,17 @@ lbns-other task (x ∷ es) e other = elim (cases_Bool (x.block.task == task)) [
 pub streaks_stay : (xs : List ℕ) (y : ℕ) (streak : Streak) → BeginsStreak xs streak → BeginsStreak (xs ++ y ∷ []) streak
 streaks_stay xs y streak h = record {
   lbn = h.lbn;
-  at = at_left xs y h.lbn streak.index h.at;
+  at = at_left xs y h.lbn streak.number h.at;
   region = h.region;
   anew = λ i before next at. elim (in_either xs y before i at) [
     | inl old ↦ h.anew i before next old.1
-    | inr last ↦ absurd (omega (arith, last.0, next, slice_get_within xs streak.index h.lbn h.at))
+    | inr last ↦ absurd (omega (arith, last.0, next, slice_get_within xs streak.number h.lbn h.at))
   ];
 }
 
 -- the last LBN begins a streak, or it is none that is new
-pub last_begins : (xs : List ℕ) (y : ℕ) (streak : Streak) → streak.index ≡ length xs → streak.region ≡ region_of y
-    → ((i before : ℕ) → suc i ≡ streak.index → slice_get xs i ≡ Some before → region_of before ≡ streak.region → ⊥)
+pub last_begins : (xs : List ℕ) (y : ℕ) (streak : Streak) → streak.number ≡ length xs → streak.region ≡ region_of y
+    → ((i before : ℕ) → suc i ≡ streak.number → slice_get xs i ≡ Some before → region_of before ≡ streak.region → ⊥)
     → BeginsStreak (xs ++ y ∷ []) streak
 last_begins [] y streak here region anew =
     record {
@@ -87,9 +87,9 @@ last_begins (x ∷ xs) y streak here region anew = record {
 }
 
 pub streak_or_last : (xs : List ℕ) (y : ℕ) (streak : Streak) → BeginsStreak (xs ++ y ∷ []) streak
-    → BeginsStreak xs streak ⊎ ((streak.index ≡ length xs) × (streak.region ≡ region_of y)
-    × ((i before : ℕ) → suc i ≡ streak.index → slice_get xs i ≡ Some before → region_of before ≡ streak.region → ⊥))
-streak_or_last xs y streak h = elim (in_either xs y h.lbn streak.index h.at) [
+    → BeginsStreak xs streak ⊎ ((streak.number ≡ length xs) × (streak.region ≡ region_of y)
+    × ((i before : ℕ) → suc i ≡ streak.number → slice_get xs i ≡ Some before → region_of before ≡ streak.region → ⊥))
+streak_or_last xs y streak h = elim (in_either xs y h.lbn streak.number h.at) [
   | inl old ↦ inl (record {
     lbn = h.lbn;
     at = old.1;
@@ -104,7 +104,7 @@ streak_or_last xs y streak h = elim (in_either xs y h.lbn streak.index h.at) [
 pub streak_of : (xs : List ℕ) (k lbn : ℕ) → slice_get xs k ≡ Some lbn
     → (streak : Streak) × BeginsStreak xs streak × (streak.region ≡ region_of lbn) × IsInStreak xs streak k
 streak_of xs zero lbn at =
-    let streak : Streak = record { region = region_of lbn; index = 0 } in (
+    let streak : Streak = record { region = region_of lbn; number = 0 } in (
       streak,
       record { lbn = lbn; at = at; region = refl; anew = λ i before next there. absurd (omega (arith, next)) },
       refl,
@@ -133,7 +133,7 @@ streak_of xs (suc k) lbn at =
             ),
           )
       | inr other ↦
-          let streak : Streak = record { region = region_of lbn; index = suc k } in (
+          let streak : Streak = record { region = region_of lbn; number = suc k } in (
             streak,
             record {
               lbn = lbn;

@@ -41,7 +41,7 @@ deepened block depth = record {
   spare = spare_for block depth + (block.weight - spare_for block depth);
 }
 
--- an upper bound of the depth of each sector of the band, and how far below it depths are behind the block registered last
+-- an upper bound on the depth of each sector of the band, and how far below it depths are behind the block registered last
 pub record IsDeep (band : ℕ) (entries : List Entry) (depth : Depth) : Type 0 where
   pub most : (lbn : ℕ) → band_depth band lbn entries ≤ depth.most
   pub behind : (lbn : ℕ) → depth.first + depth.count ≤ lbn → band_depth band lbn entries + depth.spare ≤ depth.most

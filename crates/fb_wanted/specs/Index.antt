@@ -133,7 +133,7 @@ region_of lbn = lbn / 512
 
 -- what is noted of a streak of a task: the task, the region, and the number of the first block
 abbrev pub key_of : ℕ → Streak → ℕ × ℕ × ℕ
-key_of task streak = (task, streak.region, streak.index)
+key_of task streak = (task, streak.region, streak.number)
 
 -- streaks are ordered by task, by region, and then by number
 abbrev pub streak_cmp : ℕ × ℕ × ℕ → ℕ × ℕ × ℕ → Ordering
@@ -141,19 +141,19 @@ streak_cmp a b = ordering_then (ordering_then (nat_cmp a.0 b.0) (nat_cmp a.1 b.1
 
 -- of two streaks of a task the first one doesn't come behind the other
 abbrev pub IsUpTo : Streak → Streak → Type 0
-IsUpTo a b = (a.region < b.region) ⊎ ((a.region ≡ b.region) × (a.index ≤ b.index))
+IsUpTo a b = (a.region < b.region) ⊎ ((a.region ≡ b.region) × (a.number ≤ b.number))
 
 -- from the streak's first block up to number i, each block of these LBNs begins in the streak's region
 abbrev pub IsInStreak : List ℕ → Streak → ℕ → Type 0
-IsInStreak lbns streak i = (streak.index ≤ i)
-    × ((j lbn : ℕ) → streak.index ≤ j → j ≤ i → slice_get lbns j ≡ Some lbn → region_of lbn ≡ streak.region)
+IsInStreak lbns streak i = (streak.number ≤ i)
+    × ((j lbn : ℕ) → streak.number ≤ j → j ≤ i → slice_get lbns j ≡ Some lbn → region_of lbn ≡ streak.region)
 
 -- the streak begins with its first block: that one begins in the streak's region, and the block before it doesn't
 pub record BeginsStreak (lbns : List ℕ) (streak : Streak) : Type 0 where
   pub lbn : ℕ
-  pub at : slice_get lbns streak.index ≡ Some lbn
+  pub at : slice_get lbns streak.number ≡ Some lbn
   pub region : region_of lbn ≡ streak.region
-  pub anew : (i before : ℕ) → suc i ≡ streak.index → slice_get lbns i ≡ Some before → region_of before ≡ streak.region → ⊥
+  pub anew : (i before : ℕ) → suc i ≡ streak.number → slice_get lbns i ≡ Some before → region_of before ≡ streak.region → ⊥
 
 -- what is noted are the streaks of the tasks
 abbrev pub AreNoted : List Entry → BTreeSet (ℕ × ℕ × ℕ) → Type 0
@@ -237,7 +237,7 @@ change_first test change (suc k) (e ∷ es) =
 
 -- all registered blocks after a change of those of a task whose numbers are chosen
 abbrev pub changed_where : (ℕ → Bool) → ℕ → Change → List Entry → List Entry
-changed_where chosen task change entries = map (λ entry. if chosen entry.block.index then entry_after task change entry else entry) entries
+changed_where chosen task change entries = map (λ entry. if chosen entry.block.number then entry_after task change entry else entry) entries
 
 -- beside the chosen blocks of a task at least those of a streak are changed
 pub record HasChanged (task : ℕ) (change : Change) (streak : Streak) (entries : List Entry)

@@ -1,11 +1,11 @@
-// For each band of neighbouring cylinders, an upper bound of the weights of the blocks that share a
+// For each band of neighbouring cylinders, an upper bound on the weights of the blocks that share a
 // sector.
 ghost use Rattle.std.specs.Prelude.{◌≡◌, ℕ, ◌<◌, ◌+◌, ◌^◌, ◌==◌, length, get_or, if◌then◌else◌};
 ghost use Rattle.fb_wanted.specs.Depth.{no_depth, spare_for, deepened};
 
 use crate::Block;
 
-/// An upper bound of the weights of all registered blocks of a band that have one sector in common.
+/// An upper bound on the weights of all registered blocks of a band that have one sector in common.
 ///
 /// A block behind the one that was registered last raises the bound only by as much as its weight
 /// exceeds the spare weight. So the blocks of a task whose LBNs rise count once.
@@ -61,7 +61,7 @@ pub fn deepen(depths: &mut Vec<Depth>, band: u32, block: Block)
     };
 }
 
-/// The upper bound of a band; 0 if it has no block.
+/// The upper bound that is kept for a band; 0 if it has no block.
 pub fn most_in(depths: &[Depth], band: u32) -> u64
     ensures { result ≡ (get_or depths.now band no_depth).most }
 {

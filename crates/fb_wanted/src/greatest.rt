@@ -10,8 +10,8 @@ use fb_units::{NoMemory, Track};
 use std::alloc::Global;
 use std::marker::Model;
 
-/// For each cylinder an upper bound of the weight of its tracks, and for each band one of its
-/// cylinders.
+/// For each cylinder an upper bound on the weight of its tracks, and for each band one on the weight of
+/// all tracks on its cylinders.
 #[derive(Drop)]
 pub struct Greatest {
     cylinders: Vec<u64>,
@@ -101,8 +101,8 @@ impl Greatest {
         self.bands[band as usize] = greatest_anew(&self.cylinders, band, greatest, was, weight);
     }
 
-    /// An upper bound of the cylinders from `from` up to the end: the greatest of theirs if they
-    /// are fewer than 64, else the greatest of the bands that they touch.
+    /// An upper bound on the bounds of the cylinders from `from` up to the end: the greatest of these if
+    /// there are fewer than 64 cylinders, else the greatest of those of the bands that they touch.
     pub fn among(&self, from: u32, end: u32) -> u64
         requires some { from < end }
         ensures each { (c : ℕ) → from ≤ c → c < end → get_or self.now c 0 ≤ result }

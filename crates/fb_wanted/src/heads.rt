@@ -117,7 +117,7 @@ impl Heads {
         self.items[head as usize].withdraw(index)
     }
 
-    /// The registered blocks of a head's track; none if there is no room for it yet.
+    /// The registered blocks of a head's track; none if the track isn't in the list yet.
     pub fn at(&self, head: u32) -> Option<&OnTrack>
         ensures some { IfSome result (λ on. on.now ≡ get_or self.now head no_block_on) }
         ensures none { IfNone result (no_block_on ≡ get_or self.now head no_block_on) }

@@ -18,7 +18,7 @@ pub struct Streak {
     /// The region in which each of its blocks begins.
     pub region: u64,
     /// The number of its first block in the task.
-    pub index: u32,
+    pub number: u32,
 }
 
 /// The region of an LBN.
@@ -42,7 +42,7 @@ pub fn note_streak(
     ensures err { OnErr result (streaks.new ≡ streaks.old) }
 {
     if is_streak {
-        streaks.insert((task, streak.region, streak.index))?;
+        streaks.insert((task, streak.region, streak.number))?;
     }
     Ok(())
 }
@@ -54,7 +54,7 @@ pub fn forget_streak(streaks: &mut BTreeSet<(u32, u64, u32)>, task: u32, streak:
     ensures others { (k : ℕ × ℕ × ℕ) → contains streak_cmp streaks.old k ≡ true
         → (contains streak_cmp streaks.new k ≡ true) ⊎ (k ≡ key_of task streak) }
 {
-    streaks.remove(&(task, streak.region, streak.index));
+    streaks.remove(&(task, streak.region, streak.number));
 }
 
 /// The first streak of the task that is noted, from `from` on: by region, and then by number.
@@ -65,12 +65,12 @@ pub fn next_streak(streaks: &BTreeSet<(u32, u64, u32)>, task: u32, from: Streak)
         → contains streak_cmp streaks.now (key_of task other) ≡ true → IsUpTo streak other) }
     ensures none { IfNone result ((other : Streak) → IsUpTo from other → contains streak_cmp streaks.now (key_of task other) ≡ false) }
 {
-    match streaks.range((task, from.region, from.index)..).next() {
+    match streaks.range((task, from.region, from.number)..).next() {
         Some(key) => {
             if key.0 == task {
                 let region = key.1;
-                let index = key.2;
-                Some(Streak { region, index })
+                let number = key.2;
+                Some(Streak { region, number })
             } else {
                 None
             }

@@ -113,7 +113,7 @@ impl Tracks {
         self.cylinders[track.cylinder as usize].withdraw(track.head, index)
     }
 
-    /// The registered blocks of a track; none if there is no room for it yet.
+    /// The registered blocks of a track; none if the track isn't in the list yet.
     pub fn at(&self, track: Track) -> Option<&OnTrack>
         ensures some { IfSome result (λ on. on.now ≡ track_at self.now track) }
         ensures none { IfNone result (no_block_on ≡ track_at self.now track) }

@@ -40,9 +40,9 @@ use std::marker::Model;
 /// Costs: to register, to deliver or to look up a block, to look up the blocks of a track, the
 /// counts of a task and the bounds of a band take constant time. Besides, to register a block takes
 /// logarithmic time if it is the first of its task or the one before it in its task begins in
-/// another region of 512 LBNs, and if the block registered before it is another task's or begins in
-/// another chunk of 2,048 LBNs: a note is kept for each of these. To suspend or to resume takes
-/// constant time for each block of the task.
+/// another region of 512 LBNs; and likewise if the block registered before it is another task's or
+/// begins in another chunk of 2,048 LBNs: a note is kept for each of these. To suspend or to resume
+/// takes constant time for each block of the task.
 ///
 /// An abort takes constant time where each block of the task is delivered or aborted, and a want
 /// again where none is delivered. Else both look at the regions that the range touches and at those
@@ -211,16 +211,16 @@ impl Wanted {
     // Whether a block that is to be registered begins a streak: the first of its task does, and one
     // in another region than the block of its task before it.
     fn begins_streak(&self, block: Block) -> bool
-        requires { block.index ≡ length (filter (is_of_task block.task) self.now) }
-        ensures new { result ≡ true → (i last : ℕ) → suc i ≡ block.index → slice_get (lbns block.task self.now) i ≡ Some last
+        requires { block.number ≡ length (filter (is_of_task block.task) self.now) }
+        ensures new { result ≡ true → (i last : ℕ) → suc i ≡ block.number → slice_get (lbns block.task self.now) i ≡ Some last
             → region_of last ≡ region_of block.lbn → ⊥ }
-        ensures same { result ≡ false → (last : ℕ) × (0 < block.index)
-            × (slice_get (lbns block.task self.now) (block.index - 1) ≡ Some last) × (region_of last ≡ region_of block.lbn) }
+        ensures same { result ≡ false → (last : ℕ) × (0 < block.number)
+            × (slice_get (lbns block.task self.now) (block.number - 1) ≡ Some last) × (region_of last ≡ region_of block.lbn) }
     {
-        if block.index == 0 {
+        if block.number == 0 {
             return true;
         }
-        let before = self.entry_of(block.task, block.index - 1).block;
+        let before = self.entry_of(block.task, block.number - 1).block;
         region_of(before.lbn) != region_of(block.lbn)
     }
 
@@ -249,7 +249,7 @@ impl Wanted {
             → HasChanged task change streak es chosen self.new }
     {
         let _ = &self.entries;
-        for k in streak.index..self.registered_by(task) {
+        for k in streak.number..self.registered_by(task) {
             let block = self.entry_of(task, k).block;
             if region_of(block.lbn) != streak.region {
                 return;
@@ -272,21 +272,21 @@ impl Wanted {
         }
         let start = region_of(first.saturating_sub(self.longest.saturating_sub(1) as u64));
         let mut region = start;
-        let mut index = 0;
-        while let Some(streak) = next_streak(&self.streaks, task, Streak { region, index }) {
+        let mut number = 0;
+        while let Some(streak) = next_streak(&self.streaks, task, Streak { region, number }) {
             if is_behind(streak.region, first, count) {
                 return;
             }
             self.change_streak(task, streak, first, count, change);
             region = streak.region;
-            index = streak.index + 1;
+            number = streak.number + 1;
         }
     }
 
     // Registers a block, suspended, behind all others. Out of memory, it returns `NoMemory` and
     // nothing has changed.
     fn add(&mut self, block: Block) -> Result<(), NoMemory>
-        requires numbered { block.index ≡ registered block.task (blocks_of self.old) }
+        requires numbered { block.number ≡ registered block.task (blocks_of self.old) }
         requires room { length self.old < 16000000 }
         requires light { block.weight ≤ 1000 }
         requires short { block.count ≤ 2048 }
@@ -300,7 +300,7 @@ impl Wanted {
         let begins_streak = self.begins_streak(block);
         let streak = Streak {
             region: region_of(block.lbn),
-            index: block.index,
+            number: block.number,
         };
         let is_new = self.is_new_near(block);
         let chunk = chunk_of(block.lbn);
@@ -346,9 +346,10 @@ impl Wanted {
     }
 
     /// Registers a block, wanted or suspended, behind all others; its number is the next of its
-    /// task. Out of memory, it returns `NoMemory` and nothing has changed.
+    /// task. There are at most 16,000,000 blocks, each of at most 2,048 sectors and weight 1,000. Out
+    /// of memory, it returns `NoMemory` and nothing has changed.
     pub fn register(&mut self, block: Block, suspended: bool) -> Result<(), NoMemory>
-        requires numbered { block.index ≡ registered block.task (blocks_of self.old) }
+        requires numbered { block.number ≡ registered block.task (blocks_of self.old) }
         requires room { length self.old < 16000000 }
         requires light { block.weight ≤ 1000 }
         requires short { block.count ≤ 2048 }
@@ -375,12 +376,12 @@ impl Wanted {
     }
 
     /// Marks a wanted block as delivered, by its task and its number there.
-    pub fn deliver(&mut self, task: u32, index: u32)
-        requires { (e : Entry) × (i : ℕ) × (slice_get self.old i ≡ Some e) × (is_block task index e ≡ true) × (e.state ≡ State.Wanted) }
-        ensures { self.new ≡ after task (Change.Deliver index) self.old }
+    pub fn deliver(&mut self, task: u32, number: u32)
+        requires { (e : Entry) × (i : ℕ) × (slice_get self.old i ≡ Some e) × (is_block task number e ≡ true) × (e.state ≡ State.Wanted) }
+        ensures { self.new ≡ after task (Change.Deliver number) self.old }
     {
         let _ = &self.entries;
-        self.change_block(task, index, Change::Deliver { index });
+        self.change_block(task, number, Change::Deliver { number });
     }
 
     /// Wants the task's delivered blocks again that share a sector with the range; they become
@@ -415,20 +416,20 @@ impl Wanted {
     }
 
     /// The state of a registered block, by its task and its number there.
-    pub fn state(&self, task: u32, index: u32) -> State
-        requires { (e : Entry) × (i : ℕ) × (slice_get self.now i ≡ Some e) × (is_block task index e ≡ true) }
-        ensures { (e : Entry) (i : ℕ) → slice_get self.now i ≡ Some e → is_block task index e ≡ true → e.state ≡ result }
+    pub fn state(&self, task: u32, number: u32) -> State
+        requires { (e : Entry) × (i : ℕ) × (slice_get self.now i ≡ Some e) × (is_block task number e ≡ true) }
+        ensures { (e : Entry) (i : ℕ) → slice_get self.now i ≡ Some e → is_block task number e ≡ true → e.state ≡ result }
     {
-        self.entry(task, index).state
+        self.entry(task, number).state
     }
 
     /// A registered block with its state, by its task and its number there.
-    pub fn entry(&self, task: u32, index: u32) -> Entry
-        requires { (e : Entry) × (i : ℕ) × (slice_get self.now i ≡ Some e) × (is_block task index e ≡ true) }
-        ensures { (e : Entry) (i : ℕ) → slice_get self.now i ≡ Some e → is_block task index e ≡ true → e ≡ result }
+    pub fn entry(&self, task: u32, number: u32) -> Entry
+        requires { (e : Entry) × (i : ℕ) × (slice_get self.now i ≡ Some e) × (is_block task number e ≡ true) }
+        ensures { (e : Entry) (i : ℕ) → slice_get self.now i ≡ Some e → is_block task number e ≡ true → e ≡ result }
     {
         let _ = &self.entries;
-        self.entry_of(task, index)
+        self.entry_of(task, number)
     }
 
     /// The first task from `from` on that may have a block that shares a sector with the range; the
@@ -499,7 +500,7 @@ impl Wanted {
         self.on(track).wanted_weight()
     }
 
-    /// An upper bound of the wanted weight of each track on the cylinders from `from` up to the
+    /// An upper bound on the wanted weight of each track on the cylinders from `from` up to the
     /// end.
     ///
     /// If there are fewer than 64 cylinders, each of them is looked at, else each band that they
@@ -512,7 +513,7 @@ impl Wanted {
         self.greatest.among(from, end)
     }
 
-    /// An upper bound of the weights of all registered blocks that have one sector of the band in
+    /// An upper bound on the weights of all registered blocks that have one sector of the band in
     /// common.
     pub fn depth_in(&self, band: u32) -> u64
         ensures deep { (track : Track) (lbn : ℕ) → track.cylinder / 64 ≡ band → depth_at track lbn self.now ≤ result }

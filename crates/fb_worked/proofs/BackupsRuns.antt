@@ -42,10 +42,10 @@ sound_overwritten_backup = record {
   planned = (tt, ((lit≤ tt, lit≤ tt), (tt, tt)));
   deliveries = (taken none, (none, (taken (taken none), tt)));
   tested = (
-    record { settled = refl; followed = (refl, tt) },
+    record { test = refl; followed = (refl, tt) },
     (
-      record { settled = refl; followed = tt },
-      (record { settled = refl; followed = (refl, (refl, tt)) }, tt),
+      record { test = refl; followed = tt },
+      (record { test = refl; followed = (refl, (refl, tt)) }, tt),
     ),
   );
   counted = refl;
@@ -87,10 +87,10 @@ sound_backup_without_aborted = record {
   planned = (tt, ((lit≤ tt, lit≤ tt), (tt, tt)));
   deliveries = (taken none, (none, (none, tt)));
   tested = (
-    record { settled = refl; followed = (refl, tt) },
+    record { test = refl; followed = (refl, tt) },
     (
-      record { settled = refl; followed = tt },
-      (record { settled = refl; followed = tt }, tt),
+      record { test = refl; followed = tt },
+      (record { test = refl; followed = tt }, tt),
     ),
   );
   counted = refl;

@@ -42,10 +42,10 @@ sound_segments_by_benefit = record {
   planned = (tt, ((lit≤ tt, lit≤ tt), (tt, tt)));
   deliveries = (taken none, (none, (taken (taken none), tt)));
   tested = (
-    record { settled = refl; followed = (refl, tt) },
+    record { test = refl; followed = (refl, tt) },
     (
-      record { settled = refl; followed = tt },
-      (record { settled = refl; followed = (refl, (refl, tt)) }, tt),
+      record { test = refl; followed = tt },
+      (record { test = refl; followed = (refl, (refl, tt)) }, tt),
     ),
   );
   counted = refl;
@@ -83,7 +83,7 @@ sound_segment_without_live_blocks = record {
   planned = (tt, tt);
   deliveries = (none, tt);
   tested =
-      (record { settled = refl; followed = tt }, tt);
+      (record { test = refl; followed = tt }, tt);
   counted = refl;
 }
 
@@ -127,14 +127,14 @@ sound_segment_keeps_its_passages = record {
   planned = (tt, ((lit≤ tt, lit≤ tt), (tt, ((lit≤ tt, lit≤ tt), (tt, tt)))));
   deliveries = (taken none, (none, (none, (taken none, (none, tt)))));
   tested = (
-    record { settled = refl; followed = (refl, tt) },
+    record { test = refl; followed = (refl, tt) },
     (
-      record { settled = refl; followed = tt },
+      record { test = refl; followed = tt },
       (
-        record { settled = refl; followed = tt },
+        record { test = refl; followed = tt },
         (
-          record { settled = refl; followed = (refl, tt) },
-          (record { settled = refl; followed = tt }, tt),
+          record { test = refl; followed = (refl, tt) },
+          (record { test = refl; followed = tt }, tt),
         ),
       ),
     ),
@@ -175,8 +175,8 @@ sound_closed_with_chosen_segment = record {
   planned = (tt, (tt, tt));
   deliveries = (none, (none, tt));
   tested = (
-    record { settled = refl; followed = tt },
-    (record { settled = refl; followed = tt }, tt),
+    record { test = refl; followed = tt },
+    (record { test = refl; followed = tt }, tt),
   );
   counted = refl;
 }
@@ -216,8 +216,8 @@ sound_suspended_session_chooses = record {
   planned = (tt, (tt, tt));
   deliveries = (none, (taken none, tt));
   tested = (
-    record { settled = refl; followed = tt },
-    (record { settled = refl; followed = (refl, tt) }, tt),
+    record { test = refl; followed = tt },
+    (record { test = refl; followed = (refl, tt) }, tt),
   );
   counted = refl;
 }

@@ -88,7 +88,7 @@ quick_gap = gap (at 0 0) (at 2 0) 0 1500 false
 abbrev block_51 : Block
 block_51 = block 0 0 51 1 (at 2 0) 1
 
--- of the ways that come before the block passes, none is over a smaller track
+-- of the ways that come before the block passes, none is over a lesser track
 first_over : (cylinder head leave : ℕ) → IsPlan quick_disk quick_gap (Detour (at cylinder head) leave) → leave + pos quick_arm (at cylinder head) (at 2 0) false ≤ 300
     → IsNoLater (Detour (at 1 0) 100) (Detour (at cylinder head) leave)
 unfolding on_small_disks

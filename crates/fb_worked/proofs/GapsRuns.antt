@@ -42,10 +42,10 @@ sound_both_dwells = record {
   planned = ((lit≤ tt, lit≤ tt), ((lit≤ tt, lit≤ tt), (tt, tt)));
   deliveries = (none, (taken (taken (taken none)), (none, tt)));
   tested = (
-    record { settled = refl; followed = tt },
+    record { test = refl; followed = tt },
     (
-      record { settled = refl; followed = (refl, (refl, (refl, tt))) },
-      (record { settled = refl; followed = tt }, tt),
+      record { test = refl; followed = (refl, (refl, (refl, tt))) },
+      (record { test = refl; followed = tt }, tt),
     ),
   );
   counted = refl;
@@ -87,10 +87,10 @@ sound_detour = record {
   planned = ((lit≤ tt, lit≤ tt), (record { on_disk = record { cylinder = lit< tt; head = lit< tt }; not_source = refl; not_target = refl; after_arrival = lit≤ tt; in_time = lit≤ tt }, (tt, tt)));
   deliveries = (none, (taken none, (none, tt)));
   tested = (
-    record { settled = refl; followed = tt },
+    record { test = refl; followed = tt },
     (
-      record { settled = refl; followed = (refl, tt) },
-      (record { settled = refl; followed = tt }, tt),
+      record { test = refl; followed = (refl, tt) },
+      (record { test = refl; followed = tt }, tt),
     ),
   );
   counted = refl;
@@ -130,10 +130,10 @@ sound_no_time_to_settle = record {
   planned = ((lit≤ tt, lit≤ tt), ((lit≤ tt, lit≤ tt), (tt, tt)));
   deliveries = (none, (none, (none, tt)));
   tested = (
-    record { settled = refl; followed = tt },
+    record { test = refl; followed = tt },
     (
-      record { settled = refl; followed = tt },
-      (record { settled = refl; followed = tt }, tt),
+      record { test = refl; followed = tt },
+      (record { test = refl; followed = tt }, tt),
     ),
   );
   counted = refl;
@@ -174,8 +174,8 @@ sound_detour_on_the_way = record {
   planned = (record { on_disk = record { cylinder = lit< tt; head = lit< tt }; not_source = refl; not_target = refl; after_arrival = lit≤ tt; in_time = lit≤ tt }, (tt, tt));
   deliveries = (taken none, (none, tt));
   tested = (
-    record { settled = refl; followed = (refl, tt) },
-    (record { settled = refl; followed = tt }, tt),
+    record { test = refl; followed = (refl, tt) },
+    (record { test = refl; followed = tt }, tt),
   );
   counted = refl;
 }
@@ -215,8 +215,8 @@ sound_detour_over_nothing = record {
   planned = (record { on_disk = record { cylinder = lit< tt; head = lit< tt }; not_source = refl; not_target = refl; after_arrival = lit≤ tt; in_time = lit≤ tt }, (tt, tt));
   deliveries = (taken none, (none, tt));
   tested = (
-    record { settled = refl; followed = (refl, tt) },
-    (record { settled = refl; followed = tt }, tt),
+    record { test = refl; followed = (refl, tt) },
+    (record { test = refl; followed = tt }, tt),
   );
   counted = refl;
 }
@@ -257,10 +257,10 @@ sound_weight_decides = record {
   planned = ((lit≤ tt, lit≤ tt), ((lit≤ tt, lit≤ tt), (tt, tt)));
   deliveries = (none, (taken none, (none, tt)));
   tested = (
-    record { settled = refl; followed = tt },
+    record { test = refl; followed = tt },
     (
-      record { settled = refl; followed = (refl, tt) },
-      (record { settled = refl; followed = tt }, tt),
+      record { test = refl; followed = (refl, tt) },
+      (record { test = refl; followed = tt }, tt),
     ),
   );
   counted = refl;
@@ -301,8 +301,8 @@ sound_block_over_the_turn = record {
   planned = ((lit≤ tt, lit≤ tt), (tt, tt));
   deliveries = (taken none, (none, tt));
   tested = (
-    record { settled = refl; followed = (refl, tt) },
-    (record { settled = refl; followed = tt }, tt),
+    record { test = refl; followed = (refl, tt) },
+    (record { test = refl; followed = tt }, tt),
   );
   counted = refl;
 }

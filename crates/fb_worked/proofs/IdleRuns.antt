@@ -39,10 +39,10 @@ sound_idle_to_the_end = record {
   planned = (tt, ((lit≤ tt, lit≤ tt), (tt, tt)));
   deliveries = (taken none, (none, (none, tt)));
   tested = (
-    record { settled = refl; followed = (refl, tt) },
+    record { test = refl; followed = (refl, tt) },
     (
-      record { settled = refl; followed = tt },
-      (record { settled = refl; followed = tt }, tt),
+      record { test = refl; followed = tt },
+      (record { test = refl; followed = tt }, tt),
     ),
   );
   counted = refl;
@@ -82,10 +82,10 @@ sound_idle_too_short = record {
   planned = (tt, ((lit≤ tt, lit≤ tt), (tt, tt)));
   deliveries = (none, (none, (none, tt)));
   tested = (
-    record { settled = refl; followed = tt },
+    record { test = refl; followed = tt },
     (
-      record { settled = refl; followed = tt },
-      (record { settled = refl; followed = tt }, tt),
+      record { test = refl; followed = tt },
+      (record { test = refl; followed = tt }, tt),
     ),
   );
   counted = refl;
@@ -126,7 +126,7 @@ sound_grown_defect_cuts = record {
   planned = (tt, tt);
   deliveries = (taken (taken none), tt);
   tested =
-      (record { settled = refl; followed = (refl, (refl, tt)) }, tt);
+      (record { test = refl; followed = (refl, (refl, tt)) }, tt);
   counted = refl;
 }
 
@@ -170,10 +170,10 @@ sound_promoted_read_carries = record {
   planned = (tt, ((lit≤ tt, lit≤ tt), (tt, tt)));
   deliveries = (taken (taken none), (taken (taken none), (none, tt)));
   tested = (
-    record { settled = refl; followed = (refl, (refl, tt)) },
+    record { test = refl; followed = (refl, (refl, tt)) },
     (
-      record { settled = refl; followed = (refl, (refl, tt)) },
-      (record { settled = refl; followed = tt }, tt),
+      record { test = refl; followed = (refl, (refl, tt)) },
+      (record { test = refl; followed = tt }, tt),
     ),
   );
   counted = refl;
@@ -215,10 +215,10 @@ sound_caught_not_carried = record {
   planned = (tt, ((lit≤ tt, lit≤ tt), (tt, tt)));
   deliveries = (none, (taken none, (none, tt)));
   tested = (
-    record { settled = refl; followed = tt },
+    record { test = refl; followed = tt },
     (
-      record { settled = refl; followed = (refl, tt) },
-      (record { settled = refl; followed = tt }, tt),
+      record { test = refl; followed = (refl, tt) },
+      (record { test = refl; followed = tt }, tt),
     ),
   );
   counted = refl;

@@ -42,10 +42,10 @@ sound_run_without_third = record {
   planned = ((lit≤ tt, lit≤ tt), ((lit≤ tt, lit≤ tt), (tt, tt)));
   deliveries = (none, (taken (taken (taken none)), (none, tt)));
   tested = (
-    record { settled = refl; followed = tt },
+    record { test = refl; followed = tt },
     (
-      record { settled = refl; followed = (refl, (refl, (refl, tt))) },
-      (record { settled = refl; followed = tt }, tt),
+      record { test = refl; followed = (refl, (refl, (refl, tt))) },
+      (record { test = refl; followed = tt }, tt),
     ),
   );
   counted = refl;
@@ -90,12 +90,12 @@ sound_run_with_third = record {
   planned = ((lit≤ tt, lit≤ tt), ((lit≤ tt, lit≤ tt), ((lit≤ tt, lit≤ tt), (tt, tt))));
   deliveries = (none, (taken (taken (taken none)), (none, (none, tt))));
   tested = (
-    record { settled = refl; followed = tt },
+    record { test = refl; followed = tt },
     (
-      record { settled = refl; followed = (refl, (refl, (refl, tt))) },
+      record { test = refl; followed = (refl, (refl, (refl, tt))) },
       (
-        record { settled = refl; followed = tt },
-        (record { settled = refl; followed = tt }, tt),
+        record { test = refl; followed = tt },
+        (record { test = refl; followed = tt }, tt),
       ),
     ),
   );

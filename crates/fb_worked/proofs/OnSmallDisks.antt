@@ -37,11 +37,11 @@ act_after plan (ends now) = ending now
 
 -- the step that serves a request: the rows of its test, its plan, its deliveries
 abbrev pub serve : List BackRow → Plan → List Delivery → Decision → Step
-serve settled plan deliveries decision = record { settled = settled; act = act_after plan decision; deliveries = deliveries }
+serve test plan deliveries decision = record { test = test; act = act_after plan decision; deliveries = deliveries }
 
 -- the step that serves none
 abbrev pub rest : List BackRow → List Delivery → Decision → Step
-rest settled deliveries = serve settled (Direct 0) deliveries
+rest test deliveries = serve test (Direct 0) deliveries
 
 -- the steps at these decisions
 abbrev pub steps_at : List Decision → List (Decision → Step) → List Step

@@ -40,10 +40,10 @@ sound_abort_while_waiting = record {
   planned = ((lit≤ tt, lit≤ tt), ((lit≤ tt, lit≤ tt), (tt, tt)));
   deliveries = (none, (taken (taken none), (none, tt)));
   tested = (
-    record { settled = refl; followed = tt },
+    record { test = refl; followed = tt },
     (
-      record { settled = refl; followed = (refl, (refl, tt)) },
-      (record { settled = refl; followed = tt }, tt),
+      record { test = refl; followed = (refl, (refl, tt)) },
+      (record { test = refl; followed = tt }, tt),
     ),
   );
   counted = refl;
@@ -87,10 +87,10 @@ sound_abort_too_late = record {
   planned = ((lit≤ tt, lit≤ tt), ((lit≤ tt, lit≤ tt), (tt, tt)));
   deliveries = (none, (taken (taken (taken none)), (none, tt)));
   tested = (
-    record { settled = refl; followed = tt },
+    record { test = refl; followed = tt },
     (
-      record { settled = refl; followed = (refl, (refl, (refl, tt))) },
-      (record { settled = refl; followed = tt }, tt),
+      record { test = refl; followed = (refl, (refl, (refl, tt))) },
+      (record { test = refl; followed = tt }, tt),
     ),
   );
   counted = refl;
@@ -130,10 +130,10 @@ sound_suspended = record {
   planned = ((lit≤ tt, lit≤ tt), ((lit≤ tt, lit≤ tt), (tt, tt)));
   deliveries = (none, (none, (none, tt)));
   tested = (
-    record { settled = refl; followed = tt },
+    record { test = refl; followed = tt },
     (
-      record { settled = refl; followed = tt },
-      (record { settled = refl; followed = tt }, tt),
+      record { test = refl; followed = tt },
+      (record { test = refl; followed = tt }, tt),
     ),
   );
   counted = refl;
@@ -173,10 +173,10 @@ sound_closed = record {
   planned = ((lit≤ tt, lit≤ tt), ((lit≤ tt, lit≤ tt), (tt, tt)));
   deliveries = (none, (none, (none, tt)));
   tested = (
-    record { settled = refl; followed = tt },
+    record { test = refl; followed = tt },
     (
-      record { settled = refl; followed = tt },
-      (record { settled = refl; followed = tt }, tt),
+      record { test = refl; followed = tt },
+      (record { test = refl; followed = tt }, tt),
     ),
   );
   counted = refl;

@@ -42,12 +42,12 @@ sound_overwritten_between = record {
   planned = (tt, ((lit≤ tt, lit≤ tt), (tt, (tt, tt))));
   deliveries = (taken none, (none, (none, (taken none, tt))));
   tested = (
-    record { settled = refl; followed = (refl, tt) },
+    record { test = refl; followed = (refl, tt) },
     (
-      record { settled = refl; followed = tt },
+      record { test = refl; followed = tt },
       (
-        record { settled = refl; followed = tt },
-        (record { settled = refl; followed = (refl, tt) }, tt),
+        record { test = refl; followed = tt },
+        (record { test = refl; followed = (refl, tt) }, tt),
       ),
     ),
   );
@@ -93,12 +93,12 @@ sound_latent_until_written = record {
   planned = (tt, ((lit≤ tt, lit≤ tt), (tt, (tt, tt))));
   deliveries = (taken none, (none, (none, (taken none, tt))));
   tested = (
-    record { settled = refl; followed = (refl, tt) },
+    record { test = refl; followed = (refl, tt) },
     (
-      record { settled = refl; followed = tt },
+      record { test = refl; followed = tt },
       (
-        record { settled = refl; followed = tt },
-        (record { settled = refl; followed = (refl, tt) }, tt),
+        record { test = refl; followed = tt },
+        (record { test = refl; followed = (refl, tt) }, tt),
       ),
     ),
   );
@@ -140,8 +140,8 @@ sound_read_as_the_write_ends = record {
   planned = ((lit≤ tt, lit≤ tt), (tt, tt));
   deliveries = (none, (taken none, tt));
   tested = (
-    record { settled = refl; followed = tt },
-    (record { settled = refl; followed = (refl, tt) }, tt),
+    record { test = refl; followed = tt },
+    (record { test = refl; followed = (refl, tt) }, tt),
   );
   counted = refl;
 }
@@ -180,7 +180,7 @@ sound_scrub_finds_latent = record {
   planned = (tt, tt);
   deliveries = (taken none, tt);
   tested =
-      (record { settled = refl; followed = (refl, tt) }, tt);
+      (record { test = refl; followed = (refl, tt) }, tt);
   counted = refl;
 }
 

@@ -47,20 +47,20 @@ first_dwell until = record { track = at 0 0; begin = 0; end = until }
 
 -- the head idles there
 abbrev pub idle : ℕ → List BackRow → List Delivery → Step
-idle until settled deliveries = record { settled = settled; act = idling (first_dwell until); deliveries = deliveries }
+idle until test deliveries = record { test = test; act = idling (first_dwell until); deliveries = deliveries }
 
 -- and does nothing else
 pub data OneIdle (until : ℕ) : List Step → Type 0 where
-  one_idle : (settled : List BackRow) (deliveries : List Delivery) → OneIdle until (idle until settled deliveries ∷ [])
+  one_idle : (test : List BackRow) (deliveries : List Delivery) → OneIdle until (idle until test deliveries ∷ [])
 
 find_one : (until : ℕ) (steps : List Step) → decisions_in steps ≡ idles (first_dwell until) ∷ [] → OneIdle until steps
 find_one until [] same = absurd (not_none _ _ (sym same))
 find_one until (one ∷ []) same =
-    subst (λ step. OneIdle until (step ∷ [])) (sym (is_dwelt one (first_dwell until) (same_first _ _ _ _ same))) (one_idle one.settled one.deliveries)
+    subst (λ step. OneIdle until (step ∷ [])) (sym (is_dwelt one (first_dwell until) (same_first _ _ _ _ same))) (one_idle one.test one.deliveries)
 find_one until (one ∷ other ∷ steps) same = absurd (not_none _ _ (same_rest _ _ _ _ same))
 
 -- the dwell catches nothing
-late_alone : (settled : List BackRow) (deliveries : List Delivery) → IsSoundBy delivered_too_late.inputs (idle 599 settled deliveries ∷ []) delivered_too_late.run → ⊥
+late_alone : (test : List BackRow) (deliveries : List Delivery) → IsSoundBy delivered_too_late.inputs (idle 599 test deliveries ∷ []) delivered_too_late.run → ⊥
 unfolding on_small_disks
 late_alone [] [] s =
     let rows : ◌≡◌ {A = ℕ} 4 (suc (length s.tasks)) = ap length s.back in
@@ -70,11 +70,11 @@ late_alone [] (delivery ∷ deliveries) s =
     let few : suc (length (map (λ delivery. delivery.got) deliveries)) ≤ 0 = no_longer s.deliveries.0 in
     omega arith
 late_alone (row ∷ rows) deliveries s =
-    let no : ◌≡◌ {A = ℕ} (suc (length rows)) 0 = ap length s.tested.0.settled in
+    let no : ◌≡◌ {A = ℕ} (suc (length rows)) 0 = ap length s.tested.0.test in
     omega arith
 
 late : (steps : List Step) → OneIdle 599 steps → IsSoundBy delivered_too_late.inputs steps delivered_too_late.run → ⊥
-late steps (one_idle settled deliveries) s = late_alone settled deliveries s
+late steps (one_idle test deliveries) s = late_alone test deliveries s
 
 pub delivered_too_late_refuted : IsSound delivered_too_late.inputs delivered_too_late.run → ⊥
 unfolding on_small_disks
@@ -91,7 +91,7 @@ twice_known s =
     let one : ◌≡◌ {A = ℕ} (length s.tasks) 1 = ap length s.counted in
     omega arith
 
-twice_alone : (settled : List BackRow) (deliveries : List Delivery) → AtMost row_of_twice deliveries → IsSoundBy delivered_twice.inputs (idle 2400 settled deliveries ∷ []) delivered_twice.run → ⊥
+twice_alone : (test : List BackRow) (deliveries : List Delivery) → AtMost row_of_twice deliveries → IsSoundBy delivered_twice.inputs (idle 2400 test deliveries ∷ []) delivered_twice.run → ⊥
 unfolding on_small_disks
 twice_alone [] deliveries nothing s =
     let rows : ◌≡◌ {A = ℕ} 5 (suc (length s.tasks)) = ap length s.back in
@@ -100,12 +100,12 @@ twice_alone [] deliveries nothing s =
 twice_alone [] deliveries (just after) s =
     twice_known (subst (λ rows. IsSoundBy delivered_twice.inputs (idle 2400 [] (with_rows row_of_twice rows ∷ []) ∷ []) delivered_twice.run) s.tested.0.followed.0 s)
 twice_alone (row ∷ rows) deliveries few s =
-    let no : ◌≡◌ {A = ℕ} (suc (length rows)) 0 = ap length s.tested.0.settled in
+    let no : ◌≡◌ {A = ℕ} (suc (length rows)) 0 = ap length s.tested.0.test in
     omega arith
 
 twice : (steps : List Step) → OneIdle 2400 steps → IsSoundBy delivered_twice.inputs steps delivered_twice.run → ⊥
 unfolding on_small_disks
-twice steps (one_idle settled deliveries) s = twice_alone settled deliveries (at_most deliveries s.deliveries.0) s
+twice steps (one_idle test deliveries) s = twice_alone test deliveries (at_most deliveries s.deliveries.0) s
 
 pub delivered_twice_refuted : IsSound delivered_twice.inputs delivered_twice.run → ⊥
 unfolding on_small_disks
@@ -122,7 +122,7 @@ aborted_known s =
     let one : ◌≡◌ {A = ℕ} (length s.tasks) 1 = ap length s.counted in
     omega arith
 
-aborted_alone : (settled : List BackRow) (deliveries : List Delivery) → AtMost row_of_aborted deliveries → IsSoundBy delivered_after_abort.inputs (idle 1200 settled deliveries ∷ []) delivered_after_abort.run → ⊥
+aborted_alone : (test : List BackRow) (deliveries : List Delivery) → AtMost row_of_aborted deliveries → IsSoundBy delivered_after_abort.inputs (idle 1200 test deliveries ∷ []) delivered_after_abort.run → ⊥
 unfolding on_small_disks
 aborted_alone [] deliveries nothing s =
     let rows : ◌≡◌ {A = ℕ} 5 (suc (length s.tasks)) = ap length s.back in
@@ -131,12 +131,12 @@ aborted_alone [] deliveries nothing s =
 aborted_alone [] deliveries (just after) s =
     aborted_known (subst (λ rows. IsSoundBy delivered_after_abort.inputs (idle 1200 [] (with_rows row_of_aborted rows ∷ []) ∷ []) delivered_after_abort.run) s.tested.0.followed.0 s)
 aborted_alone (row ∷ rows) deliveries few s =
-    let no : ◌≡◌ {A = ℕ} (suc (length rows)) 0 = ap length s.tested.0.settled in
+    let no : ◌≡◌ {A = ℕ} (suc (length rows)) 0 = ap length s.tested.0.test in
     omega arith
 
 aborted : (steps : List Step) → OneIdle 1200 steps → IsSoundBy delivered_after_abort.inputs steps delivered_after_abort.run → ⊥
 unfolding on_small_disks
-aborted steps (one_idle settled deliveries) s = aborted_alone settled deliveries (at_most deliveries s.deliveries.0) s
+aborted steps (one_idle test deliveries) s = aborted_alone test deliveries (at_most deliveries s.deliveries.0) s
 
 pub delivered_after_abort_refuted : IsSound delivered_after_abort.inputs delivered_after_abort.run → ⊥
 unfolding on_small_disks
@@ -153,7 +153,7 @@ silent_known s =
     let one : ◌≡◌ {A = ℕ} (length s.tasks) 1 = ap length s.counted in
     omega arith
 
-silent_alone : (settled : List BackRow) (deliveries : List Delivery) → AtMost row_of_silent deliveries → IsSoundBy completion_left_out.inputs (idle 1200 settled deliveries ∷ []) completion_left_out.run → ⊥
+silent_alone : (test : List BackRow) (deliveries : List Delivery) → AtMost row_of_silent deliveries → IsSoundBy completion_left_out.inputs (idle 1200 test deliveries ∷ []) completion_left_out.run → ⊥
 unfolding on_small_disks
 silent_alone [] deliveries nothing s =
     let rows : ◌≡◌ {A = ℕ} 3 (suc (length s.tasks)) = ap length s.back in
@@ -162,12 +162,12 @@ silent_alone [] deliveries nothing s =
 silent_alone [] deliveries (just after) s =
     silent_known (subst (λ rows. IsSoundBy completion_left_out.inputs (idle 1200 [] (with_rows row_of_silent rows ∷ []) ∷ []) completion_left_out.run) s.tested.0.followed.0 s)
 silent_alone (row ∷ rows) deliveries few s =
-    let no : ◌≡◌ {A = ℕ} (suc (length rows)) 0 = ap length s.tested.0.settled in
+    let no : ◌≡◌ {A = ℕ} (suc (length rows)) 0 = ap length s.tested.0.test in
     omega arith
 
 silent : (steps : List Step) → OneIdle 1200 steps → IsSoundBy completion_left_out.inputs steps completion_left_out.run → ⊥
 unfolding on_small_disks
-silent steps (one_idle settled deliveries) s = silent_alone settled deliveries (at_most deliveries s.deliveries.0) s
+silent steps (one_idle test deliveries) s = silent_alone test deliveries (at_most deliveries s.deliveries.0) s
 
 pub completion_left_out_refuted : IsSound completion_left_out.inputs completion_left_out.run → ⊥
 unfolding on_small_disks
@@ -199,31 +199,31 @@ abbrev second_serves : List Decision → ℕ
 second_serves (first ∷ serves served ∷ decisions) = 1
 second_serves _ = 0
 
-stale_next : (settled : List BackRow) (act : Act) (deliveries : List Delivery) (steps : List Step)
-    → IsSoundBy contents_of_later.inputs (idle 700 [] [] ∷ record { settled = settled; act = act; deliveries = deliveries } ∷ steps) contents_of_later.run → ⊥
+stale_next : (test : List BackRow) (act : Act) (deliveries : List Delivery) (steps : List Step)
+    → IsSoundBy contents_of_later.inputs (idle 700 [] [] ∷ record { test = test; act = act; deliveries = deliveries } ∷ steps) contents_of_later.run → ⊥
 unfolding on_small_disks
 stale_next [] (serving served plan) deliveries steps s = let no : ◌≡◌ {A = ℕ} 2 0 = ap second_writer s.back in omega arith
 stale_next [] (idling dwell) deliveries steps s = let no : ◌≡◌ {A = ℕ} 0 1 = ap second_serves s.decided in omega arith
 stale_next [] (ending now) deliveries steps s = let no : ◌≡◌ {A = ℕ} 0 1 = ap second_serves s.decided in omega arith
-stale_next (row ∷ rows) act deliveries steps s = let no : ◌≡◌ {A = ℕ} (suc (length rows)) 0 = ap length s.tested.1.0.settled in omega arith
+stale_next (row ∷ rows) act deliveries steps s = let no : ◌≡◌ {A = ℕ} (suc (length rows)) 0 = ap length s.tested.1.0.test in omega arith
 
-stale_first : (settled : List BackRow) (deliveries : List Delivery) (next : Step) (steps : List Step) → AtMost row_of_stale deliveries
-    → IsSoundBy contents_of_later.inputs (idle 700 settled deliveries ∷ next ∷ steps) contents_of_later.run → ⊥
+stale_first : (test : List BackRow) (deliveries : List Delivery) (next : Step) (steps : List Step) → AtMost row_of_stale deliveries
+    → IsSoundBy contents_of_later.inputs (idle 700 test deliveries ∷ next ∷ steps) contents_of_later.run → ⊥
 unfolding on_small_disks
-stale_first [] deliveries next steps nothing s = stale_next next.settled next.act next.deliveries steps s
+stale_first [] deliveries next steps nothing s = stale_next next.test next.act next.deliveries steps s
 stale_first [] deliveries next steps (just after) s = let no : ◌≡◌ {A = ℕ} 2 1 = ap second_writer s.back in omega arith
-stale_first (row ∷ rows) deliveries next steps few s = let no : ◌≡◌ {A = ℕ} (suc (length rows)) 0 = ap length s.tested.0.settled in omega arith
+stale_first (row ∷ rows) deliveries next steps few s = let no : ◌≡◌ {A = ℕ} (suc (length rows)) 0 = ap length s.tested.0.test in omega arith
 
-stale_idle : (settled : List BackRow) (deliveries : List Delivery) (next : Step) (steps : List Step)
-    → IsSoundBy contents_of_later.inputs (idle 700 settled deliveries ∷ next ∷ steps) contents_of_later.run → ⊥
+stale_idle : (test : List BackRow) (deliveries : List Delivery) (next : Step) (steps : List Step)
+    → IsSoundBy contents_of_later.inputs (idle 700 test deliveries ∷ next ∷ steps) contents_of_later.run → ⊥
 unfolding on_small_disks
-stale_idle settled deliveries next steps s = stale_first settled deliveries next steps (at_most deliveries s.deliveries.0) s
+stale_idle test deliveries next steps s = stale_first test deliveries next steps (at_most deliveries s.deliveries.0) s
 
 stale : (steps : List Step) → IsSoundBy contents_of_later.inputs steps contents_of_later.run → ⊥
 unfolding on_small_disks
 stale [] s = let no : ◌≡◌ {A = ℕ} 0 3 = ap length s.decided in omega arith
 stale (first ∷ []) s = let no : ◌≡◌ {A = ℕ} 1 3 = ap length s.decided in omega arith
-stale (first ∷ next ∷ steps) s = stale_idle first.settled first.deliveries next steps
+stale (first ∷ next ∷ steps) s = stale_idle first.test first.deliveries next steps
     (subst (λ first. IsSoundBy contents_of_later.inputs (first ∷ next ∷ steps) contents_of_later.run) (is_dwelt first (first_dwell 700) (same_first _ _ _ _ s.decided)) s)
 
 pub contents_of_later_refuted : IsSound contents_of_later.inputs contents_of_later.run → ⊥
@@ -262,14 +262,14 @@ delivery_left_out_is_sound = record {
     back = refl;
     planned = (tt, tt);
     deliveries = (left_out none, tt);
-    tested = (record { settled = refl; followed = tt }, tt);
+    tested = (record { test = refl; followed = tt }, tt);
     counted = refl;
   };
 }
 
 -- and a full run may not
-left_alone : (settled : List BackRow) (deliveries : List Delivery) → length (map (λ delivery. delivery.got) deliveries) ≡ 1
-    → IsSoundBy delivery_left_out.inputs (idle 1200 settled deliveries ∷ []) delivery_left_out.run → ⊥
+left_alone : (test : List BackRow) (deliveries : List Delivery) → length (map (λ delivery. delivery.got) deliveries) ≡ 1
+    → IsSoundBy delivery_left_out.inputs (idle 1200 test deliveries ∷ []) delivery_left_out.run → ⊥
 unfolding on_small_disks
 left_alone [] [] some s = let no : ◌≡◌ {A = ℕ} 0 1 = some in omega arith
 left_alone [] (delivery ∷ []) some s =
@@ -278,11 +278,11 @@ left_alone [] (delivery ∷ []) some s =
     let more = length-append ((delivery.after ++ []) ++ []) s.tasks in
     omega arith
 left_alone [] (delivery ∷ other ∷ deliveries) some s = let no : ◌≡◌ {A = ℕ} (suc (suc (length (map (λ delivery. delivery.got) deliveries)))) 1 = some in omega arith
-left_alone (row ∷ rows) deliveries some s = let no : ◌≡◌ {A = ℕ} (suc (length rows)) 0 = ap length s.tested.0.settled in omega arith
+left_alone (row ∷ rows) deliveries some s = let no : ◌≡◌ {A = ℕ} (suc (length rows)) 0 = ap length s.tested.0.test in omega arith
 
 left : (steps : List Step) → OneIdle 1200 steps → IsSoundBy delivery_left_out.inputs steps delivery_left_out.run → Throughout IsAllDelivered delivery_left_out.inputs steps → ⊥
 unfolding on_small_disks
-left steps (one_idle settled deliveries) s all = left_alone settled deliveries (ap length all.0) s
+left steps (one_idle test deliveries) s all = left_alone test deliveries (ap length all.0) s
 
 pub delivery_left_out_is_not_full : IsFull delivery_left_out.inputs delivery_left_out.run → ⊥
 unfolding on_small_disks

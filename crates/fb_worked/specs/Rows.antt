@@ -55,13 +55,13 @@ row request start media finish bad content = record { request = request; start =
 abbrev pub call : ℕ → ℕ → ℕ → Action → Call
 call line instant task action = record { line = line; instant = instant; task = task; action = action }
 
--- task, index, first sector, number of sectors, track, weight, and how it passes
+-- task, number, first sector, number of sectors, track, weight, and how it passes
 abbrev pub swept_block : ℕ → ℕ → ℕ → ℕ → Track → ℕ → Sweep → Block
-swept_block task index lbn count track weight sweep = record { task = task; index = index; lbn = lbn; count = count; track = track; weight = weight; sweep = sweep }
+swept_block task number lbn count track weight sweep = record { task = task; number = number; lbn = lbn; count = count; track = track; weight = weight; sweep = sweep }
 
 -- the same where each track has twelve sectors, each of which takes 100 ns to pass
 abbrev pub block : ℕ → ℕ → ℕ → ℕ → Track → ℕ → Block
-block task index lbn count track weight = swept_block task index lbn count track weight (record { begin = lbn % 12 * 100; length = count * 100 })
+block task number lbn count track weight = swept_block task number lbn count track weight (record { begin = lbn % 12 * 100; length = count * 100 })
 
 -- begin, end, how, unreadable sectors, contents
 abbrev pub got : Block → ℕ → ℕ → How → ℕ → List ContentRun → DeliveryRow

@@ -7,18 +7,18 @@ use Rattle.fb_bgwrite.proofs.spilling.register_blocks.Goals as goal
 pub loop-left-init : goal.loop-left-init
 loop-left-init c = record { all = refl; next = sym c.requires.none; within = refl; span = c.span-span.ensures.span; few = c.requires.room }
 
-pub overflow_add-index : goal.overflow_add-index
-overflow_add-index c = omega (arith, c.loop-left.invariant.next, c.loop-left.invariant.few, registered_few c.args.number c.loop-left.pending)
+pub overflow_add-block_number : goal.overflow_add-block_number
+overflow_add-block_number c = omega (arith, c.loop-left.invariant.next, c.loop-left.invariant.few, registered_few c.args.number c.loop-left.pending)
 
 pub loop-left-preserved : goal.loop-left-preserved
 loop-left-preserved c =
     let cut = c.next_cut-cut.result in
     let before = c.loop-left.pending in
-    let entry = wanted_entry (block_of c.args.number c.loop-left.index cut) in
+    let entry = wanted_entry (block_of c.args.number c.loop-left.block_number cut) in
     let rest = cutting c.args.sectors.now 2048 (c.loop-left.lbn + cut.count) (c.loop-left.left - cut.count) in
     let is = c.in_ok-register.ensures.ok in
     record {
-      all = cut_more c.args.number c.loop-left.index before c.register.new.self cut
+      all = cut_more c.args.number c.loop-left.block_number before c.register.new.self cut
           (cutting c.args.sectors.now 2048 c.loop-left.lbn c.loop-left.left) rest c.next_cut-cut.ensures.first is
           ∙ c.loop-left.invariant.all;
       next = omega (
@@ -40,4 +40,4 @@ loop-left-preserved c =
     }
 
 pub returns : goal.returns
-returns c = none_left c.args.sectors.now c.args.number c.loop-left.index c.loop-left.lbn c.loop-left.left c.loop-left.pending (omega (arith, c.loop-left-test.false)) ∙ c.loop-left.invariant.all
+returns c = none_left c.args.sectors.now c.args.number c.loop-left.block_number c.loop-left.lbn c.loop-left.left c.loop-left.pending (omega (arith, c.loop-left-test.false)) ∙ c.loop-left.invariant.all

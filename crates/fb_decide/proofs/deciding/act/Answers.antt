@@ -9,7 +9,7 @@ use Rattle.fb_decide.proofs.deciding.act.Goals as goal
 
 pub serve_next-requires-clause-on_disk : goal.serve_next-requires-clause-on_disk
 serve_next-requires-clause-on_disk g c =
-    let disk = c.args.asked.disk.now.map in
+    let disk = c.args.inputs.disk.now.map in
     all_left (IsRequestOf disk) (g.Q.Queue.pending c.args.queue.now) (drop c.args.course.now.joined c.args.requests.now) c.requires.waiting.on_disk
 
 pub returns-then-not-is_empty-clause-acted : goal.returns-then-not-is_empty-clause-acted
@@ -22,10 +22,10 @@ returns-then-not-is_empty-clause-waiting g c = λ _.
     let requests = c.args.requests.now in
     let before = c.requires.waiting in
     let served = c.in_ok-serve_next.ensures.served in
-    let disk = c.args.asked.disk.now.map in
+    let disk = c.args.inputs.disk.now.map in
     let ps = g.Q.Queue.pending c.args.queue.now in
     let qs = drop c.args.course.now.joined requests in
-    let key = g.Q.Queue.key c.args.asked.disk.now c.args.course.now.head c.args.course.now.now in
+    let key = g.Q.Queue.key c.args.inputs.disk.now c.args.course.now.head c.args.course.now.now in
     let rest = g.Q.Queue.pending c.serve_next.new.queue in
     let later = served.2.later in
     let came = taken (λ r. r.arrival ≤ c.args.course.now.now) key ps served.0 rest before.arrived served.1 in
@@ -48,9 +48,9 @@ returns-in_ok-stay_until-in-Some-clause-acted g c =
 pub returns-in_ok-stay_until-in-None-clause-acted : goal.returns-in_ok-stay_until-in-None-clause-acted
 returns-in_ok-stay_until-in-None-clause-acted g c =
     stays_last _ (none_waits (g.Q.Queue.pending c.args.queue.now) c.if-not-is_empty.ensures)
-    (sym c.next_instant.ensures ∙ c.in-None.is) c.if-course-asked.true c.in_ok-stay_until-in-None.ensures
+    (sym c.next_instant.ensures ∙ c.in-None.is) c.if-course-inputs.true c.in_ok-stay_until-in-None.ensures
 
-pub returns-else-course-asked-clause-acted : goal.returns-else-course-asked-clause-acted
-returns-else-course-asked-clause-acted g c =
+pub returns-else-course-inputs-clause-acted : goal.returns-else-course-inputs-clause-acted
+returns-else-course-inputs-clause-acted g c =
     ends_here (none_waits (g.Q.Queue.pending c.args.queue.now) c.if-not-is_empty.ensures)
-    (sym c.next_instant.ensures ∙ c.in-None.is) (omega (arith, c.if-course-asked.false))
+    (sym c.next_instant.ensures ∙ c.in-None.is) (omega (arith, c.if-course-inputs.false))

@@ -11,12 +11,12 @@ pub returns-clause-decided : goal.returns-clause-decided
 returns-clause-decided g c = if_ok_with _ _ _ c.act.result (λ goes_on acted waits past called tells.
     let joined = c.in_ok-course-2.ensures in
     record {
-      background = c.settle.new.self;
+      background = c.prepare.new.self;
       joined = c.in_ok-course-2.field-0;
       called = c.in_ok-course.field-0;
       waiting = g.Q.Queue.pending c.join_arrived.new.queue;
       has_prepared = record {
-        settled = c.in_ok-course.ensures past called tells;
+        test = c.in_ok-course.ensures past called tells;
         same_left = joined.left;
         come = joined.come;
         arrived = joined.arrived;

@@ -1,10 +1,10 @@
 use Rattle.std.proofs.Common.{◌≡◌, ◌∙◌, ◌&&◌, ap, arith, length, refl, take}
 use Rattle.std.proofs.Math.Seq.{take-length}
 use Rattle.fb_service.specs.Extents.{all_passages_of}
+use Rattle.fb_model.specs.Blocks.{IsBlockOn}
 use Rattle.fb_model.specs.Rides.{lies_in}
 use Rattle.fb_plan.proofs.AnyOrder.{any-order, on-its-track}
 use Rattle.fb_plan.specs.Order.{in_order}
-use Rattle.fb_plan.specs.Ways.{FitsDisk}
 use Rattle.fb_decide.specs.Carried.{added, begins_in, ride_of}
 use Rattle.fb_decide.proofs.Carrying.{added_more}
 use Rattle.fb_decide.proofs.riding.add_carried.Goals as goal
@@ -29,4 +29,4 @@ returns c =
 pub add_ride-requires-clause-block : goal.add_ride-requires-clause-block
 add_ride-requires-clause-block c =
     (on-its-track c.args.extent.now.track c.args.wanted.now c.on.result c.wanted-blocks.result c.numbered_in_order.ensures c.on.ensures
-    c.wanted-blocks.ensures (FitsDisk c.args.disk.now) c.requires.registered c.loop-i.i c.get.result c.get.ensures).0
+    c.wanted-blocks.ensures (IsBlockOn c.args.disk.now.map) c.requires.registered c.loop-i.i c.get.result c.get.ensures).0

@@ -26,15 +26,15 @@ loop-offer-preserved c =
     let old = c.loop-offer.bins in
     let new = c.add_at.new.numbers in
     let k = c.bin_at-k.result in
-    let fine = c.args.fine in record {
+    let bin_length = c.args.bin_length in record {
       most = λ leave.
-          let n = bin_at passing.from fine leave + 1 in
+          let n = bin_at passing.from bin_length leave + 1 in
           most-more (added (passes_by passing leave)) offers i _ within old new k n (c.add_at.ensures n (omega arith))
           (passes_by passing leave) refl
           (λ by.
           let end = c.end-end.ensures.value in
           let le : c.end-end.result ≤ leave = grind (arith, nat_tests) in
-          omega (arith, no_earlier_bin passing.from fine c.end-end.result leave c.requires.some le, c.bin_at-k.ensures.value))
+          omega (arith, no_earlier_bin passing.from bin_length c.end-end.result leave c.requires.some le, c.bin_at-k.ensures.value))
           (c.loop-offer.invariant.most leave);
       small = λ n less.
           worth-more (λ (offer : Offer). offer.worth) offers i _ within old new k n (c.add_at.ensures n (omega (arith, less)))
@@ -54,7 +54,7 @@ returns c =
     let i = c.loop-offer.offer-index in
     let so_far = c.loop-offer.invariant in record {
       most = λ leave.
-          let k = bin_at stop.passing.from c.args.fine leave in
+          let k = bin_at stop.passing.from c.args.bin_length leave in
           let all = all-of (added (passes_by stop.passing leave)) stop.offers.now i c.loop-offer-test.false in
           omega (arith, all, so_far.most leave, c.add_up.ensures k (omega arith));
       small = λ k less.

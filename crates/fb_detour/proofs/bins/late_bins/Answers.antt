@@ -29,9 +29,9 @@ loop-offer-preserved c =
     let new = c.add_at.new.numbers in
     let k = c.too_late_for-k.result in record {
       most = λ leave after noted.
-          let n = 16383 - bin_at leaves.begin leaves.fine leave + 1 in
-          most-more (late_gain passing gap (leave + leaves.on)) offers i _ within old new k n (c.add_at.ensures n (omega arith))
-          (passes_by (turned_to passing (leave + leaves.on)) gap.deadline) refl
+          let n = 16383 - bin_at leaves.begin leaves.bin_length leave + 1 in
+          most-more (late_gain passing gap (leave + leaves.move_on)) offers i _ within old new k n (c.add_at.ensures n (omega arith))
+          (passes_by (turned_to passing (leave + leaves.move_on)) gap.deadline) refl
           (λ by. let less = c.too_late_for-k.ensures leave after noted by in omega (arith, less))
           (c.loop-offer.invariant.most leave after noted);
       small = λ n less.
@@ -53,8 +53,8 @@ returns c =
     let i = c.loop-offer.offer-index in
     let so_far = c.loop-offer.invariant in record {
       most = λ leave after noted.
-          let k = 16383 - bin_at leaves.begin leaves.fine leave in
-          let all = all-of (late_gain stop.passing c.args.search.now.gap.now (leave + leaves.on)) stop.offers.now i
+          let k = 16383 - bin_at leaves.begin leaves.bin_length leave in
+          let all = all-of (late_gain stop.passing c.args.search.now.gap.now (leave + leaves.move_on)) stop.offers.now i
           c.loop-offer-test.false in
           omega (arith, all, so_far.most leave after noted, c.add_up.ensures k (omega arith));
       small = λ k less.

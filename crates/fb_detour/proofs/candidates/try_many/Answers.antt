@@ -12,7 +12,7 @@ late_bins-late-requires c =
           c.stop_at-target.ensures.stop;
       from = c.stop_at-target.ensures.arrive;
       leaves = record {
-        some = c.fine_of-fine.ensures;
+        some = c.bin_length_on-bin_length.ensures;
         after = omega (arith, from_now search trial.way, c.requires.from, ceilings.begin);
         in_time = omega (arith, c.requires.from, ceilings.close, ceilings.some);
       };
@@ -24,6 +24,6 @@ try_binned-requires-clause-bins c =
     let search = trial.search.now in
     let is = c.requires.trial in
     let target = subst (λ xs. IsStop search.disk.now xs c.stop_at-target.result) is.sides.its.late c.stop_at-target.ensures.stop in
-    are_bins search trial.way _ c.args.stop.now c.stop_at-target.result c.requires.stop target c.fine_of-fine.ensures refl
+    are_bins search trial.way _ c.args.stop.now c.stop_at-target.result c.requires.stop target c.bin_length_on-bin_length.ensures refl
     (c.requires.from ∙ is.ceilings.begin) is.ceilings.on c.early_bins-early.ensures.small c.late_bins-late.ensures.small
     c.early_bins-early.ensures.most c.late_bins-late.ensures.most

@@ -18,7 +18,7 @@ pub returns-then-rest-enough-clause-most : goal.returns-then-rest-enough-clause-
 returns-then-rest-enough-clause-most c = λ track leave reach light is.
     let search = c.args.search.now in
     let whole = c.caught_in-whole in
-    let time = search.gap.now.deadline - c.args.reach.back in
+    let time = search.gap.now.deadline - c.args.reach.at_target in
     let limit = get_or search.late.now.limits c.loop-k.k 0 in
     let part = get_or search.late.now.parts c.loop-k.k 0 in
     elim (cases_lt (leave + move_on search.disk.now search.gap.now (Over track)) limit) [
@@ -57,7 +57,7 @@ pub returns-clause-most : goal.returns-clause-most
 returns-clause-most c = λ track leave reach light is.
     let search = c.args.search.now in
     let whole = c.caught_in-whole in
-    let time = search.gap.now.deadline - c.args.reach.back in
+    let time = search.gap.now.deadline - c.args.reach.at_target in
     let all : c.loop-k.k ≡ 32 = omega (arith, c.loop-k-test.false, c.loop-k.auto.k-end) in
     let last = ap (λ n. get_or search.late.now.limits n 0) all in
     let limit = get_or search.late.now.limits 32 0 in

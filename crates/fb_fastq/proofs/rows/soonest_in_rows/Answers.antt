@@ -1,5 +1,5 @@
-use Rattle.fb_fastq.proofs.Words.{inl, inr, refl, arith, cases_lt, Settles, seek}
-use Rattle.fb_fastq.proofs.InRows.{all_rows, settles_all, far_row}
+use Rattle.fb_fastq.proofs.Words.{inl, inr, refl, arith, cases_lt, RulesOut, seek}
+use Rattle.fb_fastq.proofs.InRows.{all_rows, rules_out_all, far_row}
 use Rattle.fb_fastq.proofs.rows.soonest_in_rows.Goals as goal
 
 pub returns-clause-pick : goal.returns-clause-pick
@@ -11,9 +11,9 @@ returns-clause-least c =
     let head = c.args.from.now.track in
     let now = c.args.from.now.instant in
     let best = c.walk.result.best in
-    all_rows (Settles disk head now best) c.args.rows.now (λ i row there. elim (cases_lt i head.cylinder) [
+    all_rows (RulesOut disk head now best) c.args.rows.now (λ i row there. elim (cases_lt i head.cylinder) [
       | inl below ↦ c.walk.ensures.least i row there below
-      | inr above ↦ settles_all disk head now best c.walk-above.result.best row.items c.walk.ensures.first (c.walk-above.ensures.least i row there above)
+      | inr above ↦ rules_out_all disk head now best c.walk-above.result.best row.items c.walk.ensures.first (c.walk-above.ensures.least i row there above)
     ])
 
 pub returns-then-is_too_far-clause-pick : goal.returns-then-is_too_far-clause-pick
@@ -28,7 +28,7 @@ returns-then-is_too_far-clause-least c =
     let now = c.args.from.now.instant in
     let best = c.walk-above.result.best in
     let far = c.is_too_far.ensures in
-    all_rows (Settles disk head now best) rows (λ i row there. elim (cases_lt i head.cylinder) [
+    all_rows (RulesOut disk head now best) rows (λ i row there. elim (cases_lt i head.cylinder) [
       | inl below ↦ far_row disk rows c.requires.rows c.requires.spots i row there head now 1 (seek disk.mechanism 1) best far.rise refl (far.short c.if-is_too_far.true) (far.far c.if-is_too_far.true) (omega (arith, below))
       | inr above ↦ c.walk-above.ensures.least i row there above
     ])

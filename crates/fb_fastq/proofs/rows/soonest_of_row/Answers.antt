@@ -1,9 +1,9 @@
 use Rattle.fb_fastq.proofs.Words.{◌≡◌, Some, slice_get, get_or, length, false, refl, sym, subst, ap, ◌∙◌, arith, inl, inr, cases_lt}
-use Rattle.fb_fastq.proofs.Words.{slice_get_read, slice_get-get_or, slice_get_within, Candidate, Place, Waiting, IsAlong, Row, Settles}
-use Rattle.fb_fastq.proofs.Words.{SettlesAll}
+use Rattle.fb_fastq.proofs.Words.{slice_get_read, slice_get-get_or, slice_get_within, Candidate, Place, Waiting, IsAlong, Row, RulesOut}
+use Rattle.fb_fastq.proofs.Words.{RulesOutAll}
 use Rattle.fb_units.specs.declared.types.Name.TheVariants.{Traced}
 use Rattle.fb_fastq.proofs.{Swept.some_injective, Sweeps.no_later_trans, InRows.all_at, InRows.held_in_row, InRows.held_on}
-use Rattle.fb_fastq.proofs.{InRows.same_row_of, InRows.settles_more, InRows.settles_own, InRows.picks_one, InRows.in_row}
+use Rattle.fb_fastq.proofs.{InRows.same_row_of, InRows.still_ruled_out, InRows.rules_out_own, InRows.picks_one, InRows.in_row}
 use Rattle.fb_fastq.proofs.rows.soonest_of_row.Goals as goal
 
 abbrev blank : Waiting
@@ -66,7 +66,7 @@ loop-index-preserved-then-pick-least_wait c =
         | inr ge ↦
             let same : k ≡ index = omega (arith, lt, ge) in
             let one : w ≡ x = some_injective w x (sym at ∙ (ap (slice_get ws) (sym same) ∙ e)) in
-            subst (Settles disk head now best) one (inl (omega (arith, longer, least)), omega (arith, longer, soon))
+            subst (RulesOut disk head now best) one (inl (omega (arith, longer, least)), omega (arith, longer, soon))
       ];
     }
 
@@ -91,11 +91,11 @@ loop-index-preserved c =
       pick = λ limit was. picks_one disk head now rows limit old new next place w (c.loop-index.invariant.pick limit was) stands refl c.wait-wait.ensures.value is.one is.first;
       before = no_later_trans new.best.wait new.best.key.1 old.best.wait old.best.key.1 c.args.pick.best.wait c.args.pick.best.key.1 is.first c.loop-index.invariant.before;
       seen = λ k x lt e. elim (cases_lt k index) [
-        | inl less ↦ settles_more disk head now new.best old.best x is.first (c.loop-index.invariant.seen k x less e)
+        | inl less ↦ still_ruled_out disk head now new.best old.best x is.first (c.loop-index.invariant.seen k x less e)
         | inr ge ↦
             let same : k ≡ index = omega (arith, lt, ge) in
             let one : w ≡ x = some_injective w x (sym at ∙ (ap (slice_get ws) (sym same) ∙ e)) in
-            subst (Settles disk head now new.best) one (settles_own disk head now new.best next w is.second refl c.wait-wait.ensures.value c.wait-wait.ensures.soon)
+            subst (RulesOut disk head now new.best) one (rules_out_own disk head now new.best next w is.second refl c.wait-wait.ensures.value c.wait-wait.ensures.soon)
       ];
     }
 
@@ -109,6 +109,6 @@ returns-clause-least c = λ row e.
     let best = c.loop-index.pick.best in
     let there = slice_get_read rows (length rows) c.args.arrival.now.cylinder c.index-rows-number.result refl (omega (arith, c.if-rows-number.false)) c.index-rows-number.is in
     let one = same_row_of rows c.args.arrival.now.cylinder c.index-rows-number.result row there e in
-    subst (λ (r : Row). SettlesAll disk head now best r.items) one
-    (subst (SettlesAll disk head now best) c.as_slice-row.ensures.value
-    (all_at (Settles disk head now best) ws (λ k w at. c.loop-index.invariant.seen k w (let within = slice_get_within ws k w at in omega (arith, within, c.loop-index-test.false)) at)))
+    subst (λ (r : Row). RulesOutAll disk head now best r.items) one
+    (subst (RulesOutAll disk head now best) c.as_slice-row.ensures.value
+    (all_at (RulesOut disk head now best) ws (λ k w at. c.loop-index.invariant.seen k w (let within = slice_get_within ws k w at in omega (arith, within, c.loop-index-test.false)) at)))

@@ -1,5 +1,5 @@
 use Rattle.fb_fastq.proofs.Words.{ap, ◌∙◌, refl, Candidate}
-use Rattle.fb_fastq.proofs.Sweeps.{beats_more, beats_lane}
+use Rattle.fb_fastq.proofs.Sweeps.{still_no_later, no_later_than_lane}
 use Rattle.fb_fastq.proofs.soonest.soonest_of_lane.Goals as goal
 
 pub returns-in-Some-clause-least : goal.returns-in-Some-clause-least
@@ -13,6 +13,6 @@ returns-in-Some-clause-least c = λ from is k s e at below.
     let whole = c.rotation-rotation.ensures.value ∙ ap (λ map. map.rotation) c.geometry.ensures in
     let along = c.requires.spots key request c.in-Some.ensures.found in
     let wait = c.wait-wait.ensures.value from request is along in
-    beats_more disk from.track from.instant waiting c.requires.spots c.sooner.result next k s c.sooner.ensures.second
-    (beats_lane disk from.track from.instant waiting c.requires.spots visit.lane is.lane c.rotation-rotation.result whole visit.angle (key, request) next
+    still_no_later disk from.track from.instant waiting c.requires.spots c.sooner.result next k s c.sooner.ensures.second
+    (no_later_than_lane disk from.track from.instant waiting c.requires.spots visit.lane is.lane c.rotation-rotation.result whole visit.angle (key, request) next
     is.angle_is c.in-Some.ensures.found c.in-Some.ensures.inside.0 c.in-Some.ensures.inside.1 c.in-Some.ensures.first refl wait k s e at below)

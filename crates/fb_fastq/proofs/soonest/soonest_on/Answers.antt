@@ -1,4 +1,4 @@
-use Rattle.fb_fastq.proofs.Words.{◌*◌, ◌^◌, ◌<◌, sym, subst, Ray, IfSome, IsVisit, IsNoFarther, IsReached, BeatsUntil, beyond}
+use Rattle.fb_fastq.proofs.Words.{◌*◌, ◌^◌, ◌<◌, sym, subst, Ray, IfSome, IsVisit, IsNoFarther, IsReached, ComesNoLaterUntil, beyond}
 use Rattle.fb_fastq.proofs.Sweeps.{no_later_trans}
 use Rattle.fb_fastq.proofs.Breaks.{if_some, goes_on, reached_later, still_outside, left_of, less_left}
 use Rattle.fb_fastq.proofs.soonest.soonest_on.Goals as goal
@@ -15,7 +15,7 @@ loop-walked-preserved c =
     let visit = c.in-Some.visit in
     let is = subst (λ full. IfSome full (IsVisit disk c.args.from)) c.in-Some.is c.loop-walked.invariant.full in
     let reached = subst (λ full. IfSome full (λ v. IsReached side start v.lane.start)) c.in-Some.is c.loop-walked.invariant.reached in
-    let seen = subst (BeatsUntil disk head now waiting old c.args.ray) c.in-Some.is c.loop-walked.invariant.seen in
+    let seen = subst (ComesNoLaterUntil disk head now waiting old c.args.ray) c.in-Some.is c.loop-walked.invariant.seen in
     let best = c.soonest_of_lane-best.result in
     let first = c.soonest_of_lane-best.ensures.first in
     let lane = c.soonest_of_lane-best.ensures.least c.args.from is in

@@ -1,4 +1,4 @@
-use Rattle.fb_plan.specs.Ways.{FitsDisk}
+use Rattle.fb_model.specs.Blocks.{IsBlockOn}
 use Rattle.fb_plan.proofs.AnyOrder.{caught-whole, on-its-track}
 use Rattle.fb_plan.proofs.catching.wanted_on.Goals as goal
 
@@ -10,7 +10,7 @@ returns c =
     let numbers = c.numbered_in_order.ensures in
     let on = on-its-track dwell.track entries c.blocks_on.result c.wanted.result numbers its c.wanted.ensures in
     record {
-      on_disk = λ disk fits i b at. (on (FitsDisk disk) fits i b at).0;
+      on_disk = λ disk fits i b at. (on (IsBlockOn disk.map) fits i b at).0;
       track = λ i b at. (on (λ b. Unit {0}) (λ i e there. tt) i b at).1;
       caught = λ disk. caught-whole disk dwell entries c.blocks_on.result c.wanted.result numbers its c.wanted.ensures;
     }

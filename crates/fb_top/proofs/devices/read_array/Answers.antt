@@ -15,24 +15,24 @@ use Rattle.fb_top.proofs.Pieces.{input_same}
 use Rattle.fb_top.proofs.Unnamed.{unnamed_at_params, unnamed_at_trace}
 use Rattle.fb_top.proofs.devices.read_array.Given as given
 use Rattle.fb_top.proofs.devices.read_array.Goals as goal
-use Rattle.fb_top.proofs.devices.read_array.Goals.{After-read_loads}
+use Rattle.fb_top.proofs.devices.read_array.Goals.{After-read_workloads}
 
 -- the parameter file was read, and then the trace
-unnamed_then : (g : given.Over) (c : After-read_loads g)
-    → KeepsUnnamed (array_inputs (array_terms c.args.words.now)) (g.D.Desk.seen c.args.desk.now) (g.D.Desk.seen c.read_loads.new.desk)
+unnamed_then : (g : given.Over) (c : After-read_workloads g)
+    → KeepsUnnamed (array_inputs (array_terms c.args.words.now)) (g.D.Desk.seen c.args.desk.now) (g.D.Desk.seen c.read_workloads.new.desk)
 unnamed_then g c =
     unnamed_at_trace (sources (array_terms c.args.words.now)) (g.D.Desk.seen c.args.desk.now) (g.D.Desk.seen c.read_disk.new.desk)
-    (g.D.Desk.seen c.read_loads.new.desk)
-    c.in-Ok.ensures.only c.read_loads.ensures.only
+    (g.D.Desk.seen c.read_workloads.new.desk)
+    c.in-Ok.ensures.only c.read_workloads.ensures.only
 
-opened_then : (g : given.Over) (c : After-read_loads g)
-    → OpensAsNamed (array_inputs (array_terms c.args.words.now)) (g.D.Desk.seen c.args.desk.now) (g.D.Desk.seen c.read_loads.new.desk)
+opened_then : (g : given.Over) (c : After-read_workloads g)
+    → OpensAsNamed (array_inputs (array_terms c.args.words.now)) (g.D.Desk.seen c.args.desk.now) (g.D.Desk.seen c.read_workloads.new.desk)
 opened_then g c =
     let old = g.D.Desk.seen c.args.desk.now in
     let mid = g.D.Desk.seen c.read_disk.new.desk in
     opened_at_trace (sources (array_terms c.args.words.now)) old c.requires.unused mid c.in-Ok.ensures.only
     (subst (λ (name : List ℕ). IsOpenedAs name old (mid.inputs Params)) c.as_str.ensures.value c.in-Ok.ensures.opened)
-    (g.D.Desk.seen c.read_loads.new.desk) c.read_loads.ensures.only c.read_loads.ensures.opened
+    (g.D.Desk.seen c.read_workloads.new.desk) c.read_workloads.ensures.only c.read_workloads.ensures.opened
 
 pub returns-in-Err-clause-cause : goal.returns-in-Err-clause-cause
 returns-in-Err-clause-cause g c =
@@ -52,47 +52,47 @@ returns-in-Err-clause-opened g c =
     opened_at_params (sources (array_terms c.args.words.now)) old c.requires.unused new c.in-Err.ensures.only
     (subst (λ (name : List ℕ). IsOpenedAs name old (new.inputs Params)) c.as_str.ensures.value c.in-Err.ensures.opened)
 
-pub returns-in-Ok-read_loads-clause-accepts : goal.returns-in-Ok-read_loads-clause-accepts
-returns-in-Ok-read_loads-clause-accepts g c =
+pub returns-in-Ok-read_workloads-clause-accepts : goal.returns-in-Ok-read_workloads-clause-accepts
+returns-in-Ok-read_workloads-clause-accepts g c =
     let old = g.D.Desk.seen c.args.desk.now in
     let terms = array_terms c.args.words.now in
     let disk = c.in-Ok.params.disk in
     record {
       disk = subst (λ (name : List ℕ). ReadsDisk old name disk c.in-Ok.params.latent.items) c.as_str.ensures.value c.in-Ok.ensures.disk;
-      traces = reads_before (c.in-Ok.ensures.only.held terms.trace) c.in-Ok-read_loads.ensures.traces;
-      script = c.in-Ok-read_loads.ensures.script;
+      traces = reads_before (c.in-Ok.ensures.only.held terms.trace) c.in-Ok-read_workloads.ensures.traces;
+      script = c.in-Ok-read_workloads.ensures.script;
     }
 
-pub returns-in-Ok-read_loads-clause-fit : goal.returns-in-Ok-read_loads-clause-fit
-returns-in-Ok-read_loads-clause-fit g c =
-    let loads = c.in-Ok-read_loads.loads in
-    each_fits (array_terms c.args.words.now) (array_of (record { params = c.in-Ok.params; traces = loads.traces; calls = loads.calls })) loads.traces.items refl
-    c.in-Ok.ensures.latent c.in-Ok-read_loads.ensures.servable c.in-Ok-read_loads.ensures.fit c.requires.limits.3
+pub returns-in-Ok-read_workloads-clause-fit : goal.returns-in-Ok-read_workloads-clause-fit
+returns-in-Ok-read_workloads-clause-fit g c =
+    let workloads = c.in-Ok-read_workloads.workloads in
+    each_fits (array_terms c.args.words.now) (array_of (record { params = c.in-Ok.params; traces = workloads.traces; calls = workloads.calls })) workloads.traces.items refl
+    c.in-Ok.ensures.latent c.in-Ok-read_workloads.ensures.servable c.in-Ok-read_workloads.ensures.fit c.requires.limits.3
 
-pub returns-in-Ok-read_loads-clause-sound : goal.returns-in-Ok-read_loads-clause-sound
-returns-in-Ok-read_loads-clause-sound g c = subst IsSound c.geometry.ensures c.sound.ensures
+pub returns-in-Ok-read_workloads-clause-sound : goal.returns-in-Ok-read_workloads-clause-sound
+returns-in-Ok-read_workloads-clause-sound g c = subst IsSound c.geometry.ensures c.sound.ensures
 
-pub returns-in-Ok-read_loads-clause-unnamed : goal.returns-in-Ok-read_loads-clause-unnamed
-returns-in-Ok-read_loads-clause-unnamed g c = unnamed_then g (goal.at.returns-in-Ok-read_loads-clause-unnamed g c).After-read_loads
+pub returns-in-Ok-read_workloads-clause-unnamed : goal.returns-in-Ok-read_workloads-clause-unnamed
+returns-in-Ok-read_workloads-clause-unnamed g c = unnamed_then g (goal.at.returns-in-Ok-read_workloads-clause-unnamed g c).After-read_workloads
 
-pub returns-in-Ok-read_loads-clause-opened : goal.returns-in-Ok-read_loads-clause-opened
-returns-in-Ok-read_loads-clause-opened g c = opened_then g (goal.at.returns-in-Ok-read_loads-clause-opened g c).After-read_loads
+pub returns-in-Ok-read_workloads-clause-opened : goal.returns-in-Ok-read_workloads-clause-opened
+returns-in-Ok-read_workloads-clause-opened g c = opened_then g (goal.at.returns-in-Ok-read_workloads-clause-opened g c).After-read_workloads
 
-pub returns-in-Ok-read_loads-clause-calm : goal.returns-in-Ok-read_loads-clause-calm
-returns-in-Ok-read_loads-clause-calm g c =
-    let new = g.D.Desk.seen c.read_loads.new.desk in
-    calm_inputs (g.D.Desk.seen c.args.desk.now) (g.D.Desk.seen c.read_disk.new.desk) new new c.in-Ok.ensures.only c.in-Ok-read_loads.ensures.only (input_same Calls new)
-    c.in-Ok.ensures.calm c.in-Ok-read_loads.ensures.calm refl
+pub returns-in-Ok-read_workloads-clause-calm : goal.returns-in-Ok-read_workloads-clause-calm
+returns-in-Ok-read_workloads-clause-calm g c =
+    let new = g.D.Desk.seen c.read_workloads.new.desk in
+    calm_inputs (g.D.Desk.seen c.args.desk.now) (g.D.Desk.seen c.read_disk.new.desk) new new c.in-Ok.ensures.only c.in-Ok-read_workloads.ensures.only (input_same Calls new)
+    c.in-Ok.ensures.calm c.in-Ok-read_workloads.ensures.calm refl
 
-pub returns-in-Err-read_loads-clause-cause : goal.returns-in-Err-read_loads-clause-cause
-returns-in-Err-read_loads-clause-cause g c =
+pub returns-in-Err-read_workloads-clause-cause : goal.returns-in-Err-read_workloads-clause-cause
+returns-in-Err-read_workloads-clause-cause g c =
     let old = g.D.Desk.seen c.args.desk.now in
     let latent = c.in-Ok.params.latent.items in
-    c.in-Err-read_loads.ensures.cause old latent
+    c.in-Err-read_workloads.ensures.cause old latent
     (subst (λ (name : List ℕ). ReadsDisk old name c.in-Ok.params.disk latent) c.as_str.ensures.value c.in-Ok.ensures.disk) c.in-Ok.ensures.only
 
-pub returns-in-Err-read_loads-clause-unnamed : goal.returns-in-Err-read_loads-clause-unnamed
-returns-in-Err-read_loads-clause-unnamed g c = unnamed_then g (goal.at.returns-in-Err-read_loads-clause-unnamed g c).After-read_loads
+pub returns-in-Err-read_workloads-clause-unnamed : goal.returns-in-Err-read_workloads-clause-unnamed
+returns-in-Err-read_workloads-clause-unnamed g c = unnamed_then g (goal.at.returns-in-Err-read_workloads-clause-unnamed g c).After-read_workloads
 
-pub returns-in-Err-read_loads-clause-opened : goal.returns-in-Err-read_loads-clause-opened
-returns-in-Err-read_loads-clause-opened g c = opened_then g (goal.at.returns-in-Err-read_loads-clause-opened g c).After-read_loads
+pub returns-in-Err-read_workloads-clause-opened : goal.returns-in-Err-read_workloads-clause-opened
+returns-in-Err-read_workloads-clause-opened g c = opened_then g (goal.at.returns-in-Err-read_workloads-clause-opened g c).After-read_workloads

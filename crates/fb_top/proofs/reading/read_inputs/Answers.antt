@@ -22,31 +22,31 @@ returns-in-Err-clause-opened g c =
     opened_at_params (sources_of c.args.sources.now) (g.D.Desk.seen c.args.desk.now) c.requires (g.D.Desk.seen c.read_disk.new.desk) c.in-Err.ensures.only
     c.in-Err.ensures.opened
 
-pub returns-in-Ok-read_load-clause-accepts : goal.returns-in-Ok-read_load-clause-accepts
-returns-in-Ok-read_load-clause-accepts g c = c.in-Ok-read_load.ensures.accepts (g.D.Desk.seen c.args.desk.now) c.in-Ok.params.latent.items c.in-Ok.ensures.disk c.in-Ok.ensures.only
+pub returns-in-Ok-read_workload-clause-accepts : goal.returns-in-Ok-read_workload-clause-accepts
+returns-in-Ok-read_workload-clause-accepts g c = c.in-Ok-read_workload.ensures.accepts (g.D.Desk.seen c.args.desk.now) c.in-Ok.params.latent.items c.in-Ok.ensures.disk c.in-Ok.ensures.only
 
-pub returns-in-Ok-read_load-clause-fit : goal.returns-in-Ok-read_load-clause-fit
-returns-in-Ok-read_load-clause-fit g c = λ key until late.
-    is_accepted (files_on c.in-Ok.params.disk c.in-Ok.params.latent.items c.in-Ok-read_load.load) key until c.in-Ok.ensures.latent
-    c.in-Ok-read_load.ensures.servable c.in-Ok-read_load.ensures.fit late
+pub returns-in-Ok-read_workload-clause-fit : goal.returns-in-Ok-read_workload-clause-fit
+returns-in-Ok-read_workload-clause-fit g c = λ key until late.
+    is_accepted (files_on c.in-Ok.params.disk c.in-Ok.params.latent.items c.in-Ok-read_workload.workload) key until c.in-Ok.ensures.latent
+    c.in-Ok-read_workload.ensures.servable c.in-Ok-read_workload.ensures.fit late
 
-pub returns-in-Ok-read_load-clause-sound : goal.returns-in-Ok-read_load-clause-sound
-returns-in-Ok-read_load-clause-sound g c = subst IsSound c.geometry.ensures c.sound.ensures
+pub returns-in-Ok-read_workload-clause-sound : goal.returns-in-Ok-read_workload-clause-sound
+returns-in-Ok-read_workload-clause-sound g c = subst IsSound c.geometry.ensures c.sound.ensures
 
-pub returns-in-Ok-read_load-clause-unnamed : goal.returns-in-Ok-read_load-clause-unnamed
-returns-in-Ok-read_load-clause-unnamed g c = c.in-Ok-read_load.ensures.unnamed (g.D.Desk.seen c.args.desk.now) c.in-Ok.ensures.only
+pub returns-in-Ok-read_workload-clause-unnamed : goal.returns-in-Ok-read_workload-clause-unnamed
+returns-in-Ok-read_workload-clause-unnamed g c = c.in-Ok-read_workload.ensures.unnamed (g.D.Desk.seen c.args.desk.now) c.in-Ok.ensures.only
 
-pub returns-in-Ok-read_load-clause-opened : goal.returns-in-Ok-read_load-clause-opened
-returns-in-Ok-read_load-clause-opened g c = c.in-Ok-read_load.ensures.opened (g.D.Desk.seen c.args.desk.now) c.requires c.in-Ok.ensures.only c.in-Ok.ensures.opened
+pub returns-in-Ok-read_workload-clause-opened : goal.returns-in-Ok-read_workload-clause-opened
+returns-in-Ok-read_workload-clause-opened g c = c.in-Ok-read_workload.ensures.opened (g.D.Desk.seen c.args.desk.now) c.requires c.in-Ok.ensures.only c.in-Ok.ensures.opened
 
-pub returns-in-Ok-read_load-clause-calm : goal.returns-in-Ok-read_load-clause-calm
-returns-in-Ok-read_load-clause-calm g c = c.in-Ok-read_load.ensures.calm (g.D.Desk.seen c.args.desk.now) c.in-Ok.ensures.only c.in-Ok.ensures.calm
+pub returns-in-Ok-read_workload-clause-calm : goal.returns-in-Ok-read_workload-clause-calm
+returns-in-Ok-read_workload-clause-calm g c = c.in-Ok-read_workload.ensures.calm (g.D.Desk.seen c.args.desk.now) c.in-Ok.ensures.only c.in-Ok.ensures.calm
 
-pub returns-in-Err-read_load-clause-cause : goal.returns-in-Err-read_load-clause-cause
-returns-in-Err-read_load-clause-cause g c = c.in-Err-read_load.ensures.cause (g.D.Desk.seen c.args.desk.now) c.in-Ok.params.latent.items c.in-Ok.ensures.disk c.in-Ok.ensures.only
+pub returns-in-Err-read_workload-clause-cause : goal.returns-in-Err-read_workload-clause-cause
+returns-in-Err-read_workload-clause-cause g c = c.in-Err-read_workload.ensures.cause (g.D.Desk.seen c.args.desk.now) c.in-Ok.params.latent.items c.in-Ok.ensures.disk c.in-Ok.ensures.only
 
-pub returns-in-Err-read_load-clause-unnamed : goal.returns-in-Err-read_load-clause-unnamed
-returns-in-Err-read_load-clause-unnamed g c = c.in-Err-read_load.ensures.unnamed (g.D.Desk.seen c.args.desk.now) c.in-Ok.ensures.only
+pub returns-in-Err-read_workload-clause-unnamed : goal.returns-in-Err-read_workload-clause-unnamed
+returns-in-Err-read_workload-clause-unnamed g c = c.in-Err-read_workload.ensures.unnamed (g.D.Desk.seen c.args.desk.now) c.in-Ok.ensures.only
 
-pub returns-in-Err-read_load-clause-opened : goal.returns-in-Err-read_load-clause-opened
-returns-in-Err-read_load-clause-opened g c = c.in-Err-read_load.ensures.opened (g.D.Desk.seen c.args.desk.now) c.requires c.in-Ok.ensures.only c.in-Ok.ensures.opened
+pub returns-in-Err-read_workload-clause-opened : goal.returns-in-Err-read_workload-clause-opened
+returns-in-Err-read_workload-clause-opened g c = c.in-Err-read_workload.ensures.opened (g.D.Desk.seen c.args.desk.now) c.requires c.in-Ok.ensures.only c.in-Ok.ensures.opened

@@ -22,12 +22,12 @@ use Rattle.fb_top.proofs.replay.replay_and_write.Goals.{In-Ok}
 full : (g : given.Over) (c : In-Ok g)
     → IsFull (inputs_of (files_of c.args.inputs.now.files) (key_of c.args.words.now.policy) c.args.words.now.until) c.in-Ok.run'
 full g c =
-    subst (λ (inputs : Inputs). IsFull inputs c.in-Ok.run') (c.asked.ensures.inputs (key_of c.args.words.now.policy)) c.in-Ok.ensures.full
+    subst (λ (inputs : Inputs). IsFull inputs c.in-Ok.run') (c.inputs.ensures.inputs (key_of c.args.words.now.policy)) c.in-Ok.ensures.full
 
 pub replay_by-requires : goal.replay_by-requires
 replay_by-requires g c = record {
-  fit = subst IsAccepted (sym (c.asked.ensures.inputs (key_of c.args.words.now.policy))) c.requires.fit;
-  names = subst (λ (calls : Calls). length calls.names ≡ length (tasks calls.calls.items)) (sym c.asked.ensures.calls) c.requires.names;
+  fit = subst IsAccepted (sym (c.inputs.ensures.inputs (key_of c.args.words.now.policy))) c.requires.fit;
+  names = subst (λ (calls : Calls). length calls.names ≡ length (tasks calls.calls.items)) (sym c.inputs.ensures.calls) c.requires.names;
 }
 
 pub returns-in-Err-clause-cause : goal.returns-in-Err-clause-cause
@@ -45,7 +45,7 @@ returns-in-Err-spill_given-clause-cause g c = λ first takes. inl (replay_ran_ou
 
 pub write_replay-requires-clause-told : goal.write_replay-requires-clause-told
 write_replay-requires-clause-told g c =
-    subst (λ (calls : Calls). CanBeTold calls.names c.in-Ok.run') c.asked.ensures.calls c.in-Ok.ensures.told
+    subst (λ (calls : Calls). CanBeTold calls.names c.in-Ok.run') c.inputs.ensures.calls c.in-Ok.ensures.told
 
 pub returns-in-Err-write_replay-clause-cause : goal.returns-in-Err-write_replay-clause-cause
 returns-in-Err-write_replay-clause-cause g c = λ first takes.

@@ -11,8 +11,8 @@ use Rattle.fb_decide.proofs.background.Background.deliver.Goals as goal
 pub runs-requires : goal.runs-requires
 runs-requires c = wanted-on_disk c.requires.wanted.0 c.requires.wanted.1 c.requires.wanted.2 c.args.catch.block c.args.self.now c.requires.wanted.3 c.requires.wanted.4
 
-pub delivered-requires : goal.delivered-requires
-delivered-requires c =
+pub deliver-requires : goal.deliver-requires
+deliver-requires c =
     let block = c.args.catch.block in
     let gives = ap sectors_of c.in_ok-content.ensures.fewest ∙ (c.runs_are_fewest.ensures (map (λ lbn. (lbn, content_in c.args.store.now lbn)) (range_with_len block.lbn block.count))).contents in (
       c.requires.wanted.0,
@@ -23,12 +23,12 @@ delivered-requires c =
     )
 
 pub returns : goal.returns
-returns c = on_ok_weaker c.delivered.result (λ all disk past place current at.
+returns c = on_ok_weaker c.deliver.result (λ all disk past place current at.
     let block = c.args.catch.block in
     let gives = ap sectors_of c.in_ok-content.ensures.fewest ∙ (c.runs_are_fewest.ensures (map (λ lbn. (lbn, content_in c.args.store.now lbn)) (range_with_len block.lbn block.count))).contents in
     let got : DeliveryRow = record { block = block; begin = c.args.catch.begin; end = c.args.catch.end; how = c.args.how; bad = c.bad.result; content = c.in_ok-content.content } in
     let may = may-deliver disk past place got c.args.self.now (content_in c.args.store.now) current at gives in
-    delivered-one disk past place got _ c.args.self.now (record { sessions = c.delivered.new.self; wanted = c.delivered.new.wanted; rows = c.delivered.new.rows })
+    delivered-one disk past place got _ c.args.self.now (record { sessions = c.deliver.new.self; wanted = c.deliver.new.wanted; rows = c.deliver.new.rows })
     (row-is c.args.store.now c.args.how block c.args.catch.begin c.args.catch.end c.bad.result c.in_ok-content.content c.in_ok-content.ensures.fewest c.bad.ensures.value)
     at (all.0 disk past may) (all.1.0 disk past may) (all.1.1 disk past may))
-    (on_ok_both _ _ c.delivered.result c.delivered.ensures.tells (on_ok_both _ _ c.delivered.result c.delivered.ensures.settled c.delivered.ensures.rows))
+    (on_ok_both _ _ c.deliver.result c.deliver.ensures.tells (on_ok_both _ _ c.deliver.result c.deliver.ensures.up_to_date c.deliver.ensures.rows))

@@ -6,7 +6,7 @@ use Rattle.fb_wanted.specs.States.{wanted_of}
 use Rattle.fb_model.specs.History.{wanted}
 use Rattle.fb_decide.specs.Carried.{carried_of}
 use Rattle.fb_decide.specs.Deliveries.{HasDelivered, AreDistinct, AreDue, row_in, held_now}
-use Rattle.fb_decide.specs.Turn.{served_in}
+use Rattle.fb_decide.specs.Start.{served_in}
 use Rattle.fb_decide.proofs.Placing.{wanted-distinct}
 use Rattle.fb_decide.proofs.Delivering.{fits-told, wanted-told}
 use Rattle.fb_decide.proofs.Extents.{laid, laid_within}
@@ -16,14 +16,14 @@ use Rattle.fb_decide.proofs.background.Background.ride.Goals as goal
 pub carried-requires-clause-extents : goal.carried-requires-clause-extents
 carried-requires-clause-extents c =
     let disk = c.args.disk.now in
-    let request = c.args.turn.request in
+    let request = c.args.start.request in
     all-extents disk c.args.extents.now
-    (laid_within c.args.extents.now request.lbn request.count _ (laid disk c.args.extents.now c.args.turn.head c.args.turn.start request.write request.lbn request.count c.requires.passages c.requires.unbroken) c.requires.turn.request.range.inside)
+    (laid_within c.args.extents.now request.lbn request.count _ (laid disk c.args.extents.now c.args.start.head c.args.start.instant request.write request.lbn request.count c.requires.passages c.requires.unbroken) c.requires.start.request.range.inside)
     c.requires.unbroken c.requires.early disk.few_blocks
 
 pub carried-requires-clause-covers : goal.carried-requires-clause-covers
 carried-requires-clause-covers c =
-    laid c.args.disk.now c.args.extents.now c.args.turn.head c.args.turn.start c.args.turn.request.write c.args.turn.request.lbn c.args.turn.request.count c.requires.passages c.requires.unbroken
+    laid c.args.disk.now c.args.extents.now c.args.start.head c.args.start.instant c.args.start.request.write c.args.start.request.lbn c.args.start.request.count c.requires.passages c.requires.unbroken
 
 pub carried-requires-clause-registered : goal.carried-requires-clause-registered
 carried-requires-clause-registered c = fits-told c.args.disk.now c.requires.current.0 c.args.self.now.sessions c.args.self.now.wanted c.requires.current.1.tells
@@ -35,20 +35,20 @@ pub deliver_all-requires : goal.deliver_all-requires
 deliver_all-requires c =
     let past = c.requires.current.0 in
     let current = c.requires.current.1 in
-    let served = served_in c.args.disk.now c.args.turn in
+    let served = served_in c.args.disk.now c.args.start in
     let rows : map (row_in c.args.store.now ByRide) c.as_slice.result.now ≡ rides (held_now c.args.store.now) served (wanted past) =
-    ap (map (row_in c.args.store.now ByRide)) (c.as_slice.ensures.value ∙ c.in_ok-catches.ensures ∙ ap (λ ps. carried_of ps c.args.turn.request (wanted_of c.args.self.now.wanted)) c.requires.passages
-    ∙ ap (carried_of served.passages c.args.turn.request) (wanted-told current.tells))
-    ∙ rows-carried c.args.store.now served (wanted past) c.if-turn.false in
-    (c.args.disk.now.map, past, current, subst (AreDue past) (sym rows) (due-carried c.args.store.now served past c.if-turn.false (wanted-distinct current.tells)))
+    ap (map (row_in c.args.store.now ByRide)) (c.as_slice.ensures.value ∙ c.in_ok-catches.ensures ∙ ap (λ ps. carried_of ps c.args.start.request (wanted_of c.args.self.now.wanted)) c.requires.passages
+    ∙ ap (carried_of served.passages c.args.start.request) (wanted-told current.tells))
+    ∙ rows-carried c.args.store.now served (wanted past) c.if-start.false in
+    (c.args.disk.now.map, past, current, subst (AreDue past) (sym rows) (due-carried c.args.store.now served past c.if-start.false (wanted-distinct current.tells)))
 
 pub returns : goal.returns
 returns c = on_ok_weaker c.deliver_all.result (λ all past current.
-    let served = served_in c.args.disk.now c.args.turn in
+    let served = served_in c.args.disk.now c.args.start in
     let rows : map (row_in c.args.store.now ByRide) c.as_slice.result.now ≡ rides (held_now c.args.store.now) served (wanted past) =
-    ap (map (row_in c.args.store.now ByRide)) (c.as_slice.ensures.value ∙ c.in_ok-catches.ensures ∙ ap (λ ps. carried_of ps c.args.turn.request (wanted_of c.args.self.now.wanted)) c.requires.passages
-    ∙ ap (carried_of served.passages c.args.turn.request) (wanted-told current.tells))
-    ∙ rows-carried c.args.store.now served (wanted past) c.if-turn.false in
+    ap (map (row_in c.args.store.now ByRide)) (c.as_slice.ensures.value ∙ c.in_ok-catches.ensures ∙ ap (λ ps. carried_of ps c.args.start.request (wanted_of c.args.self.now.wanted)) c.requires.passages
+    ∙ ap (carried_of served.passages c.args.start.request) (wanted-told current.tells))
+    ∙ rows-carried c.args.store.now served (wanted past) c.if-start.false in
     subst (λ gots. HasDelivered c.args.disk.now.map past gots c.args.self.now.rows c.deliver_all.new.self) rows
-    (all c.args.disk.now.map past current (subst (AreDue past) (sym rows) (due-carried c.args.store.now served past c.if-turn.false (wanted-distinct current.tells)))))
+    (all c.args.disk.now.map past current (subst (AreDue past) (sym rows) (due-carried c.args.store.now served past c.if-start.false (wanted-distinct current.tells)))))
     c.deliver_all.ensures

@@ -8,9 +8,9 @@ returns-clause-made g c =
     let known = known_inputs _ c.requires.accepted c.foreground_lists_ascend.ensures c.disk_is_sound.ensures.sound c.disk_is_sound.ensures.takes_time in
     record {
       known = known;
-      list_is = c.in_ok-requests.ensures ∙ ap (λ trace. foreground_list trace c.args.asked.calls.now.calls.items) c.as_slice.ensures.value;
+      list_is = c.in_ok-requests.ensures ∙ ap (λ trace. foreground_list trace c.args.inputs.calls.now.calls.items) c.as_slice.ensures.value;
       come_to = begins _ c.in_ok-course.course (g.Q.Queue.pending c.args.queue) (g.Q.Queue.joined c.args.queue) known c.in_ok-course.ensures.start c.requires.empty c.requires.fresh;
     }
 
 pub returns-clause-serves : goal.returns-clause-serves
-returns-clause-serves g c = g.met.Q.Queue.serves_any c.args.queue c.args.asked.disk.now c.requires.empty
+returns-clause-serves g c = g.met.Q.Queue.serves_any c.args.queue c.args.inputs.disk.now c.requires.empty

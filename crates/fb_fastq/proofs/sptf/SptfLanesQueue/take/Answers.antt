@@ -1,10 +1,10 @@
 use Rattle.fb_fastq.proofs.Words.{◌≡◌, List, ◌++◌, ◌<◌, ◌∙◌, ap, sym, subst, Some, None, IfSome, IsSome, refl, arith, length, MatchOption}
 use Rattle.fb_fastq.proofs.Words.{AllByRecursion, sptf, first_least, Candidate, Place, Waiting, pending_of, IsFirst, IsAlong, IsCandidate}
-use Rattle.fb_fastq.proofs.Words.{IsMore, Row, all_of_rows, at_place, IsAt, IsPick, SettlesAll, all_left, all_right}
+use Rattle.fb_fastq.proofs.Words.{IsMore, Row, all_of_rows, at_place, IsAt, IsPick, RulesOutAll, all_left, all_right}
 use Rattle.fb_fastq.proofs.Least.{all_held, waits_there, held_is_in}
 use Rattle.fb_fastq.proofs.Swept.{some_injective}
 use Rattle.fb_fastq.proofs.OneMore.{remove_more, more_left, more_right, least_more, all_less, length_more}
-use Rattle.fb_fastq.proofs.Divided.{numbered_left, beats_map, first_of_both, some_of_map, rows_taken, map_taken}
+use Rattle.fb_fastq.proofs.Divided.{numbered_left, no_later_than_map, first_of_both, some_of_map, rows_taken, map_taken}
 use Rattle.fb_fastq.proofs.sptf.SptfLanesQueue.take.Goals.{After-self, After-soonest_in_rows-pick, After-leave_if_empty}
 use Rattle.fb_fastq.proofs.sptf.SptfLanesQueue.take.Goals as goal
 
@@ -28,21 +28,21 @@ picked c =
     (subst (λ head. IsPick c.args.disk.now head from.result.instant c.as_slice.result.now c.soonest_in_map-limit.result
     c.soonest_in_rows-pick.result) from.ensures.track c.soonest_in_rows-pick.ensures.pick))
 
-settled : (c : After-soonest_in_rows-pick)
-    → SettlesAll c.args.disk.now c.args.head c.args.now c.soonest_in_rows-pick.result.best (all_of_rows c.self.inside.rows.items)
-settled c =
+ruled_out : (c : After-soonest_in_rows-pick)
+    → RulesOutAll c.args.disk.now c.args.head c.args.now c.soonest_in_rows-pick.result.best (all_of_rows c.self.inside.rows.items)
+ruled_out c =
     let from = c.departure_from-from in
     let best = c.soonest_in_rows-pick.result.best in
-    subst (λ (rows : List Row). SettlesAll c.args.disk.now c.args.head c.args.now best (all_of_rows rows)) c.as_slice.ensures.value
-    (subst (λ now. SettlesAll c.args.disk.now c.args.head now best (all_of_rows c.as_slice.result.now)) from.ensures.instant
-    (subst (λ head. SettlesAll c.args.disk.now head from.result.instant best (all_of_rows c.as_slice.result.now)) from.ensures.track
+    subst (λ (rows : List Row). RulesOutAll c.args.disk.now c.args.head c.args.now best (all_of_rows rows)) c.as_slice.ensures.value
+    (subst (λ now. RulesOutAll c.args.disk.now c.args.head now best (all_of_rows c.as_slice.result.now)) from.ensures.instant
+    (subst (λ head. RulesOutAll c.args.disk.now head from.result.instant best (all_of_rows c.as_slice.result.now)) from.ensures.track
     c.soonest_in_rows-pick.ensures.least))
 
 -- the one that is picked is no later than any
-beats_both : (c : After-soonest_in_rows-pick) (w : Waiting) → c.soonest_in_rows-pick.result.best.key ≡ w.0
+no_later_than_both : (c : After-soonest_in_rows-pick) (w : Waiting) → c.soonest_in_rows-pick.result.best.key ≡ w.0
     → c.soonest_in_rows-pick.result.best.wait ≡ sptf c.args.disk.now c.args.head c.args.now w.1
     → IsFirst (sptf c.args.disk.now c.args.head c.args.now) w (c.self.inside.waiting.entries ++ all_of_rows c.self.inside.rows.items)
-beats_both c w key wait =
+no_later_than_both c w key wait =
     let disk = c.args.disk.now in
     let map = c.self.inside.waiting in
     let rows = c.self.inside.rows.items in
@@ -50,9 +50,9 @@ beats_both c w key wait =
     let best = c.soonest_in_rows-pick.result.best in
     let apart = numbered_left map.entries (all_of_rows rows) c.self.invariant.0.index.numbered in
     first_of_both disk c.args.head c.args.now map rows best w key wait
-    (beats_map disk c.args.head c.args.now map rows limit best apart c.soonest_in_map-limit.ensures.found
+    (no_later_than_map disk c.args.head c.args.now map rows limit best apart c.soonest_in_map-limit.ensures.found
     c.soonest_in_map-limit.ensures.first (picked c).before)
-    (settled c)
+    (ruled_out c)
 
 -- it is one of the rows'
 in_rows : (c : After-soonest_in_rows-pick) (place : Place) → c.soonest_in_rows-pick.result.place ≡ Some place
@@ -76,10 +76,10 @@ of_map c is =
     let disk = c.args.disk.now in
     let map = c.self.inside.waiting in
     let rows = c.self.inside.rows.items in
-    let settles = subst (λ best. SettlesAll disk c.args.head c.args.now best (all_of_rows rows)) (in_map c is) (settled c) in
+    let rules_out = subst (λ best. RulesOutAll disk c.args.head c.args.now best (all_of_rows rows)) (in_map c is) (ruled_out c) in
     let some = subst (λ ws. 0 < length (pending_of ws)) (sym (ap (λ v. v.waiting) c.self.view_is)) c.requires.some in
     c.soonest_in_map-limit.ensures.found
-    (some_of_map disk c.args.head c.args.now map rows c.soonest_in_map-limit.result some c.soonest_in_map-limit.ensures.none settles)
+    (some_of_map disk c.args.head c.args.now map rows c.soonest_in_map-limit.result some c.soonest_in_map-limit.ensures.none rules_out)
 
 pub soonest_in_map-limit-requires-clause-spots : goal.soonest_in_map-limit-requires-clause-spots
 soonest_in_map-limit-requires-clause-spots c =
@@ -163,7 +163,7 @@ returns-in-Some-clause-least c =
     let w = at.waiting in
     let less = one_less ((goal.at.returns-in-Some-clause-least c).After-leave_if_empty) at.waiting at.there in
     let value = subst (λ o. IfSome o (λ w. c.take_from-request.result ≡ w.1)) at.there c.take_from-request.ensures.value in
-    let first = beats_both ((goal.at.returns-in-Some-clause-least c).After-soonest_in_rows-pick) w at.key at.wait in
+    let first = no_later_than_both ((goal.at.returns-in-Some-clause-least c).After-soonest_in_rows-pick) w at.key at.wait in
     subst (λ ws. first_least rank (pending_of ws) ≡ Some (c.take_from-request.result, pending_of (entries ++ all_of_rows new)))
     (ap (λ v. v.waiting) c.self.view_is)
     (subst (λ r. first_least rank (pending_of (entries ++ all_of_rows inside.rows.items))
@@ -199,7 +199,7 @@ returns-in-None-clause-least c =
     (remove_more w map.entries apart (held_is_in limit.key.0 limit.key.1 is.request map.entries is.waits)) in
     let value = some_injective is.request c.take_out.result (sym is.waits ∙ c.take_out.ensures.value) in
     let first =
-    beats_both ((goal.at.returns-in-None-clause-least c).After-soonest_in_rows-pick) w (ap (λ (b : Candidate). b.key) same)
+    no_later_than_both ((goal.at.returns-in-None-clause-least c).After-soonest_in_rows-pick) w (ap (λ (b : Candidate). b.key) same)
     (ap (λ (b : Candidate). b.wait) same ∙ is.wait) in
     subst (λ ws. first_least rank (pending_of ws) ≡ Some (c.take_out.result, pending_of (new ++ rows))) (ap (λ v. v.waiting) c.self.view_is)
     (subst (λ r. first_least rank (pending_of (map.entries ++ rows)) ≡ Some (r, pending_of (new ++ rows))) value

@@ -1,5 +1,5 @@
 use Rattle.fb_tasks.proofs.Words.{ap, refl, on_ok_weaker, on_err_weaker, blocks_by, arith}
-use Rattle.fb_tasks.proofs.{Leaving.begun_same, Changes.promoted-tells, Changes.asked-aborts, Asked.room_for_one, Asked.takes_none}
+use Rattle.fb_tasks.proofs.{Leaving.begun_same, Changes.promoted-tells, Changes.call-aborts, Asked.room_for_one, Asked.takes_none}
 use Rattle.fb_tasks.proofs.sessions.Sessions.apply.Goals as goal
 
 pub open-requires : goal.open-requires
@@ -20,7 +20,7 @@ returns-in-Want-clause-err_blocks c = on_err_weaker c.want.result (λ _ past may
 
 pub returns-in_ok-touch-in-Abort-clause-ok : goal.returns-in_ok-touch-in-Abort-clause-ok
 returns-in_ok-touch-in-Abort-clause-ok c = λ past h. takes_none c.args.map.now past c.args.call.now c.touch.new.self c.abort.new.self (ap (blocks_by c.args.map.now past c.args.call.now.task) c.in-Abort.is)
-    (asked-aborts c.args.map.now past c.args.call.now c.in-Abort.first c.in-Abort.count c.args.self.now c.touch.new.self c.args.wanted.now c.abort.new.self c.in-Abort.is c.abort.ensures.states c.in_ok-touch-in-Abort.ensures.ok h)
+    (call-aborts c.args.map.now past c.args.call.now c.in-Abort.first c.in-Abort.count c.args.self.now c.touch.new.self c.args.wanted.now c.abort.new.self c.in-Abort.is c.abort.ensures.states c.in_ok-touch-in-Abort.ensures.ok h)
 
 pub returns-in-Promote-clause-ok : goal.returns-in-Promote-clause-ok
 returns-in-Promote-clause-ok c = λ past h. takes_none c.args.map.now past c.args.call.now c.args.self.now c.args.wanted.now (ap (blocks_by c.args.map.now past c.args.call.now.task) c.in-Promote.is)

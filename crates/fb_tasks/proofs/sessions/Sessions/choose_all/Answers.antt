@@ -1,4 +1,4 @@
-use Rattle.fb_tasks.proofs.Words.{◌<◌, length, sym, subst, arith, length-set, MaySettle, OnlyTouched, MayClean}
+use Rattle.fb_tasks.proofs.Words.{◌<◌, length, sym, subst, arith, length-set, MayChooseAndTest, OnlyTouched, MayClean}
 use Rattle.fb_tasks.proofs.Leaving.{grown_not, grown_more, registers_none, touched_none, touched_set, chosen_own}
 use Rattle.fb_tasks.proofs.Listed.{listed_set, listed_there, listed_within}
 use Rattle.fb_tasks.proofs.AllChoices.{partly-start, partly-may, partly-more, partly-to, all-chosen, past_at}
@@ -9,14 +9,14 @@ loop-task-init c = record {
   kept = c.self.invariant;
   within = omega arith;
   partly = λ past h. partly-start c.args.map.now past c.self.inside.sessions.items c.args.wanted.now c.args.now c.args.rows.now
-      (subst (λ xs. MaySettle c.args.map.now past xs c.args.wanted.now) (sym c.self.view_is) h);
+      (subst (λ xs. MayChooseAndTest c.args.map.now past xs c.args.wanted.now) (sym c.self.view_is) h);
   stay = subst (OnlyTouched c.args.self.now) (sym c.self.view_is) (touched_none c.args.self.now);
   own = registers_none (MayClean c.args.self.now) c.args.wanted.now;
   grown = grown_not c.args.rows.now;
 }
 
 pub next_touched-requires : goal.next_touched-requires
-next_touched-requires c = (c.loop-task.self-inside.asked, rw c.deref.ensures.value c.loop-task.invariant.kept)
+next_touched-requires c = (c.loop-task.self-inside.rewantable, rw c.deref.ensures.value c.loop-task.invariant.kept)
 
 pub choose-requires : goal.choose-requires
 choose-requires c =

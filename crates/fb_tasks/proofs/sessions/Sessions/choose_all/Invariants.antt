@@ -1,13 +1,13 @@
-use Rattle.fb_tasks.proofs.Words.{◌≤◌, ◌-◌, length, Past, MaySettle, AreListed, HasGrown, OnlyRegisters, MayClean, OnlyTouched}
+use Rattle.fb_tasks.proofs.Words.{◌≤◌, ◌-◌, length, Past, MayChooseAndTest, AreListed, HasGrown, OnlyRegisters, MayClean, OnlyTouched}
 use Rattle.fb_tasks.proofs.AllChoices.{Partly}
 use Rattle.fb_tasks.proofs.sessions.Sessions.choose_all.Given as goal
 
 -- the first tasks have chosen
 abbrev pub invariant-loop-task : goal.invariant-loop-task
 invariant-loop-task l = record {
-  kept : AreListed l.self-inside.sessions.items l.self-inside.touched l.self-inside.asked;
+  kept : AreListed l.self-inside.sessions.items l.self-inside.touched l.self-inside.rewantable;
   within : l.from ≤ length l.self-inside.sessions.items;
-  partly : (past : Past) → MaySettle l.map past l.fn.self l.initial.wanted
+  partly : (past : Past) → MayChooseAndTest l.map past l.fn.self l.initial.wanted
       → Partly l.map past l.self-inside.sessions.items l.wanted l.now l.initial.rows l.rows l.from;
   stay : OnlyTouched l.fn.self l.self-inside.sessions.items;
   own : OnlyRegisters (MayClean l.fn.self) l.initial.wanted l.wanted;

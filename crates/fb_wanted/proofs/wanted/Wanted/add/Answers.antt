@@ -18,8 +18,8 @@ use Rattle.fb_wanted.proofs.Deep.{deep_room, deep_still, deep_pushed}
 use Rattle.fb_wanted.proofs.Nearby.{near_pushed, near_still}
 use Rattle.fb_wanted.proofs.wanted.Wanted.add.Goals as goal
 
-its_number : (block : Block) (es : List Entry) → block.index ≡ registered block.task (blocks_of es)
-    → block.index ≡ length (filter (is_of_task block.task) es)
+its_number : (block : Block) (es : List Entry) → block.number ≡ registered block.task (blocks_of es)
+    → block.number ≡ length (filter (is_of_task block.task) es)
 its_number block es free = free ∙ (ap length (task-blocks block.task es) ∙ length-map (filter (is_of_task block.task) es) (λ e. e.block))
 
 pub begins_streak-begins_streak-requires : goal.begins_streak-begins_streak-requires
@@ -55,14 +55,14 @@ invariant_of-self-in-Ok c =
           c.push-in-Ok.new.self.items c.len-index.result list index c.self.invariant.0 free room c.requires.light c.requires.short
           refl c.in-Ok.ensures.tasks c.in-Ok.ensures.tracks,
       subst (λ l. AreNoted l c.note_streak.new.streaks) (sym list)
-          (noted_more items task c.region_of.result c.args.block.index self.streaks c.note_streak.new.streaks
+          (noted_more items task c.region_of.result c.args.block.number self.streaks c.note_streak.new.streaks
           c.begins_streak-begins_streak.result c.self.invariant.1 next c.in_ok-note_streak.ensures.stay c.in_ok-note_streak.ensures.more
           entry refl (sym c.region_of.ensures)
           c.in_ok-note_streak.ensures.noted
           (λ old. let it = c.begins_streak-begins_streak.ensures.same old in (
             it.0,
             it.1,
-            ap (λ es. slice_get (lbns task es) (c.args.block.index - 1)) c.self.view_is ∙ it.2,
+            ap (λ es. slice_get (lbns task es) (c.args.block.number - 1)) c.self.view_is ∙ it.2,
             it.3
                 ∙ sym c.region_of.ensures,
           ))
@@ -115,7 +115,7 @@ invariant_of-self-in-Err c =
         };
       }),
       subst (λ es. AreNoted es c.forget_streak.new.streaks) list
-          (noted_back items c.args.block.task c.region_of.result c.args.block.index self.streaks c.note_streak.new.streaks
+          (noted_back items c.args.block.task c.region_of.result c.args.block.number self.streaks c.note_streak.new.streaks
           c.begins_streak-begins_streak.result c.self.invariant.1 next c.in_ok-note_streak.ensures.stay c.in_ok-note_streak.ensures.more
           c.forget_streak.new.streaks c.forget_streak.ensures.gone c.forget_streak.ensures.only c.forget_streak.ensures.others),
       greatest_same self.tracks c.add_to_index.new.tracks c.add_room.new.self roomy (λ t. ap (λ o. o.weight) (stay.tracks_stay t))

@@ -20,8 +20,8 @@ loop-streak-init c = record {
   ]));
 }
 
-pub overflow_add-index : goal.overflow_add-index
-overflow_add-index c = omega (
+pub overflow_add-number : goal.overflow_add-number
+overflow_add-number c = omega (
   arith,
   few_streaks c.args.task c.self-in-loop-streak.inside.entries.items c.self-in-loop-streak.inside.streaks c.in-Some.streak
       c.self-in-loop-streak.invariant.1 c.self-in-loop-streak.invariant.0.few c.in-Some.ensures.found,
@@ -31,7 +31,7 @@ pub loop-streak-smaller : goal.loop-streak-smaller
 loop-streak-smaller c =
     let few = few_streaks c.args.task c.self-in-loop-streak.inside.entries.items c.self-in-loop-streak.inside.streaks c.in-Some.streak
     c.self-in-loop-streak.invariant.1 c.self-in-loop-streak.invariant.0.few c.in-Some.ensures.found in
-    comes_later c.loop-streak.region c.loop-streak.index c.in-Some.streak c.in-Some.ensures.from (omega arith) (omega (arith, few))
+    comes_later c.loop-streak.region c.loop-streak.number c.in-Some.streak c.in-Some.ensures.from (omega arith) (omega (arith, few))
 
 -- the streaks of the blocks at the entry are noted
 noted : (c : After-next_streak) (streak : Streak) → BeginsStreak (lbns c.args.task c.args.self.now) streak
@@ -45,7 +45,7 @@ noted c streak begins =
 pub loop-streak-preserved : goal.loop-streak-preserved
 loop-streak-preserved c =
     let old = c.loop-streak.invariant in
-    let from : Streak = record { region = c.loop-streak.region; index = c.loop-streak.index } in
+    let from : Streak = record { region = c.loop-streak.region; number = c.loop-streak.number } in
     let new = c.change_streak.ensures c.args.self.now old.chosen old.changed in
     record {
       chosen = new.more;
@@ -62,12 +62,12 @@ loop-streak-preserved c =
 -- the walk is over where each streak from this one on begins behind the range
 over : (c : After-next_streak)
     → AreBehind c.args.task c.args.first c.args.count c.args.self.now
-    (record { region = c.loop-streak.region; index = c.loop-streak.index })
+    (record { region = c.loop-streak.region; number = c.loop-streak.number })
     → changed_where c.loop-streak.invariant.chosen c.args.task c.args.change c.args.self.now
     ≡ after c.args.task c.args.change c.args.self.now
 over c behind =
     let old = c.loop-streak.invariant in
-    let from : Streak = record { region = c.loop-streak.region; index = c.loop-streak.index } in
+    let from : Streak = record { region = c.loop-streak.region; number = c.loop-streak.number } in
     let before = c.saturating_sub-2.ensures ∙ ap (λ reach. c.args.first - reach) c.saturating_sub.ensures in
     let begin = c.region_of-start.ensures ∙ ap region_of before in
     finished c.args.task c.args.first c.args.count c.self.inside.longest c.args.change c.args.self.now old.chosen from c.requires.within

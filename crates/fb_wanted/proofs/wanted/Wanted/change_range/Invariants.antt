@@ -9,9 +9,9 @@ invariant-loop-streak l = record {
   chosen : ℕ → Bool;
   changed : l.self ≡ changed_where chosen l.task l.change l.initial.self;
   done : (streak : Streak) (k : ℕ) → BeginsStreak (lbns l.task l.initial.self) streak → l.start ≤ streak.region
-      → (IsUpTo (record { region = l.region; index = l.index }) streak → ⊥)
+      → (IsUpTo (record { region = l.region; number = l.number }) streak → ⊥)
       → k < length (lbns l.task l.initial.self) → IsInStreak (lbns l.task l.initial.self) streak k → chosen k ≡ true;
 }
 
 abbrev pub decreases-loop-streak : goal.decreases-loop-streak
-decreases-loop-streak l = (2 ^ 64 - l.region) * 2 ^ 32 + (2 ^ 32 - l.index)
+decreases-loop-streak l = (2 ^ 64 - l.region) * 2 ^ 32 + (2 ^ 32 - l.number)

@@ -8,6 +8,6 @@ abbrev pub invariant-loop-k : goal.invariant-loop-k
 invariant-loop-k l = record {
   changed : (es : List Entry) (chosen : ℕ → Bool) → l.initial.self ≡ changed_where chosen l.task l.change es
       → (more : ℕ → Bool) × (l.self ≡ changed_where more l.task l.change es)
-      × ((j : ℕ) → chosen j ≡ true → more j ≡ true) × ((j : ℕ) → l.fn.streak.index ≤ j → j < l.k → more j ≡ true);
+      × ((j : ℕ) → chosen j ≡ true → more j ≡ true) × ((j : ℕ) → l.fn.streak.number ≤ j → j < l.k → more j ≡ true);
   size : length (filter (is_of_task l.task) l.self) ≡ length (filter (is_of_task l.task) l.initial.self);
 }

@@ -1,8 +1,8 @@
 use Rattle.fb_tasks.proofs.Words.{on_err, length, sym, ◌∙◌, arith, ap, some_at}
 use Rattle.fb_tasks.proofs.Listed.{listed_more, listed_noted}
 use Rattle.fb_tasks.proofs.Frames.{set_same}
-use Rattle.fb_tasks.proofs.AfterDelivery.{within_sessions, delivers, wanted-entry, held-now, tells-delivered, settled-delivered}
-use Rattle.fb_tasks.proofs.sessions.Sessions.delivered.Goals as goal
+use Rattle.fb_tasks.proofs.AfterDelivery.{within_sessions, delivers, wanted-entry, held-now, tells-delivered, up_to_date-delivered}
+use Rattle.fb_tasks.proofs.sessions.Sessions.deliver.Goals as goal
 
 pub deliver-requires : goal.deliver-requires
 deliver-requires c = wanted-entry c.args.got c.requires.2
@@ -30,9 +30,9 @@ returns-clause-tells c = λ disk past may. rw c.self.view_is
     (c.in_ok-deliver.ensures.delivered disk past c.args.self.now c.args.wanted.now
     (delivers c.args.got may c.self.view_is c.index_mut-session.ensures.value c.deliver.ensures)))
 
-pub returns-clause-settled : goal.returns-clause-settled
-returns-clause-settled c = λ disk past may.
-    settled-delivered c.args.got may c.deliver.new.self (held-now c.args.got may c.deliver.new.self c.deliver.ensures)
+pub returns-clause-up_to_date : goal.returns-clause-up_to_date
+returns-clause-up_to_date c = λ disk past may.
+    up_to_date-delivered c.args.got may c.deliver.new.self (held-now c.args.got may c.deliver.new.self c.deliver.ensures)
 
 pub returns-clause-rows : goal.returns-clause-rows
 returns-clause-rows c = λ disk past may. (c.in_ok-deliver.ensures.delivered disk past c.args.self.now c.args.wanted.now
@@ -48,8 +48,8 @@ invariant_of-self c = listed_more c.self.invariant (rw c.self.view_is (within_se
 
 pub invariant_of-self-in_err-deliver : goal.invariant_of-self-in_err-deliver
 invariant_of-self-in_err-deliver c = listed_noted c.self.invariant (rw c.self.view_is (within_sessions c.args.got c.requires.2))
-    c.note_touch.ensures.stay c.in_ok-note_touch.ensures.noted c.in_ok-note_touch.ensures.asked_noted _
+    c.note_touch.ensures.stay c.in_ok-note_touch.ensures.noted c.in_ok-note_touch.ensures.rewantable_noted _
 
 pub invariant_of-self-2 : goal.invariant_of-self-2
 invariant_of-self-2 c = listed_noted c.self.invariant (rw c.self.view_is (within_sessions c.args.got c.requires.2))
-    c.note_touch.ensures.stay c.in_ok-note_touch.ensures.noted c.in_ok-note_touch.ensures.asked_noted _
+    c.note_touch.ensures.stay c.in_ok-note_touch.ensures.noted c.in_ok-note_touch.ensures.rewantable_noted _

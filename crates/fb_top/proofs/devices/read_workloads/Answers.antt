@@ -9,7 +9,7 @@ use Rattle.fb_top.specs.Devices.{ReadsTraces, StopsTraces, is_rebuilt_from}
 use Rattle.fb_top.proofs.DeviceInputs.{array_at_rebuild, array_at_trace}
 use Rattle.fb_top.proofs.Later.{reads_before}
 use Rattle.fb_top.proofs.Values.{each_counted}
-use Rattle.fb_top.proofs.devices.read_loads.Goals as goal
+use Rattle.fb_top.proofs.devices.read_workloads.Goals as goal
 
 pub returns-in-Err-clause-cause : goal.returns-in-Err-clause-cause
 returns-in-Err-clause-cause g c = λ first latent reads only.

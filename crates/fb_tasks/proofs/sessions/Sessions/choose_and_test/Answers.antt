@@ -1,7 +1,7 @@
 use Rattle.fb_tasks.proofs.Words.{◌++◌, [], ap, ◌∙◌, append_assoc, on_ok_weaker, flat_map, task_numbers, test_rows_found, segment_rows_found, ends_of}
 use Rattle.fb_tasks.proofs.Words.{with_choices}
-use Rattle.fb_tasks.proofs.{RowsOf.rows-given, RowsOf.nothing-mute, Tested.settled-tested}
-use Rattle.fb_tasks.proofs.sessions.Sessions.settle.Goals as goal
+use Rattle.fb_tasks.proofs.{RowsOf.rows-given, RowsOf.nothing-mute, Tested.up_to_date-tested}
+use Rattle.fb_tasks.proofs.sessions.Sessions.choose_and_test.Goals as goal
 
 pub test_all-requires : goal.test_all-requires
 test_all-requires c = (c.args.map.now, with_choices c.args.map.now c.requires.0, (c.in_ok-choose_all.ensures.chosen c.requires.0 c.requires.1).0)
@@ -9,10 +9,10 @@ test_all-requires c = (c.args.map.now, with_choices c.args.map.now c.requires.0,
 pub returns-clause-tells : goal.returns-clause-tells
 returns-clause-tells c = on_ok_weaker c.test_all.result (λ tested past may. (tested c.args.map.now (with_choices c.args.map.now past) (c.in_ok-choose_all.ensures.chosen past may).0).0) c.test_all.ensures.tested
 
-pub returns-clause-settled : goal.returns-clause-settled
-returns-clause-settled c = on_ok_weaker c.test_all.result (λ _ past may.
+pub returns-clause-up_to_date : goal.returns-clause-up_to_date
+returns-clause-up_to_date c = on_ok_weaker c.test_all.result (λ _ past may.
     let chosen = (c.in_ok-choose_all.ensures.chosen past may).0 in
-    settled-tested (with_choices c.args.map.now past) (test_rows_found (with_choices c.args.map.now past) c.args.now)
+    up_to_date-tested (with_choices c.args.map.now past) (test_rows_found (with_choices c.args.map.now past) c.args.now)
     (λ task less. rows-given (with_choices c.args.map.now past) c.args.now [] nothing-mute task (λ more. (chosen.blocks.unopened task more).choices))) c.test_all.ensures.tested
 
 pub returns-clause-rows : goal.returns-clause-rows

@@ -1,13 +1,13 @@
-// Whose turn it is.
+// Where a service starts.
 use fb_units::{Ns, Request, Track};
 
-/// The turn of a request: what is served, and from where and when.
+/// The start of a service: what is served, and from where and when.
 #[derive(Clone, Copy)]
-pub struct Turn {
+pub struct Start {
     /// The track on which the head is.
     pub head: Track,
     /// The instant, in ns, at which the service starts.
-    pub start: Ns,
+    pub instant: Ns,
     /// The request.
     pub request: Request,
 }

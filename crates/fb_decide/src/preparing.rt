@@ -5,7 +5,7 @@ ghost use Rattle.std.specs.List.{fold};
 ghost use Rattle.fb_model.specs.History.{Past};
 ghost use Rattle.fb_model.specs.Steps.{take_call, calls_due};
 ghost use Rattle.fb_tasks.specs.Telling.{Tells};
-ghost use Rattle.fb_decide.specs.Calls.{IsScriptOf, IsCalled, HasSettled};
+ghost use Rattle.fb_decide.specs.Calls.{IsScriptOf, IsCalled, HasChosenAndTested};
 
 use crate::background::Background;
 use fb_calls::Calls;
@@ -42,7 +42,7 @@ impl Background {
     /// Lets the calls up to now take effect and the tasks choose segments, and tests all tasks.
     ///
     /// Returns how many calls have taken effect by then. The only error is out of memory.
-    pub fn settle(
+    pub fn prepare(
         &mut self,
         disk: &Disk,
         calls: &Calls,
@@ -52,11 +52,11 @@ impl Background {
         requires script { IsScriptOf disk.now.map calls.now.calls.items }
         requires called { (past : Past) × IsCalled disk.now.map calls.now.calls.items past next × Tells disk.now.map past self.old.sessions self.old.wanted }
         ensures { IfOk result (λ later. (past : Past) → IsCalled disk.now.map calls.now.calls.items past next → Tells disk.now.map past self.old.sessions self.old.wanted
-            → HasSettled disk.now.map calls.now.calls.items past now later self.old.rows self.new) }
+            → HasChosenAndTested disk.now.map calls.now.calls.items past now later self.old.rows self.new) }
     {
         let next = self.take_calls(disk, calls, next, now)?;
         self.sessions
-            .settle(&disk.map, &mut self.wanted, now, &mut self.rows)?;
+            .choose_and_test(&disk.map, &mut self.wanted, now, &mut self.rows)?;
         Ok(next)
     }
 }

@@ -1,4 +1,4 @@
-// What a replay is asked.
+// The inputs of a replay, lent.
 use fb_calls::Calls;
 use fb_service::Disk;
 use fb_trace::Trace;
@@ -6,7 +6,7 @@ use fb_units::Ns;
 
 /// The accepted inputs of a replay.
 #[derive(Clone, Copy)]
-pub struct Asked<'a> {
+pub struct RunInputs<'a> {
     /// The disk.
     pub disk: &'a Disk,
     /// The LBNs of the sectors that can't be read until a write has passed them.

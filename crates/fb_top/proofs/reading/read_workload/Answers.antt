@@ -13,9 +13,9 @@ use Rattle.fb_top.specs.Causes.{AcceptsTrace, StopsScript}
 use Rattle.fb_top.proofs.Later.{at_trace, at_script, reads_before, script_before}
 use Rattle.fb_top.proofs.Unnamed.{unnamed_at_trace, unnamed_at_calls}
 use Rattle.fb_top.proofs.Opened.{calm_inputs, opened_at_trace, opened_at_calls}
-use Rattle.fb_top.proofs.reading.read_load.Given as given
-use Rattle.fb_top.proofs.reading.read_load.Goals as goal
-use Rattle.fb_top.proofs.reading.read_load.Goals.{After-read_script}
+use Rattle.fb_top.proofs.reading.read_workload.Given as given
+use Rattle.fb_top.proofs.reading.read_workload.Goals as goal
+use Rattle.fb_top.proofs.reading.read_workload.Goals.{After-read_script}
 
 -- the trace was read, and then the script, if there is one
 unnamed_then : (g : given.Over) (c : After-read_script g) (first : DeskView)
