@@ -1,4 +1,5 @@
 -- One more row keeps all that holds of the rows.
+use Rattle.fb_units.proofs.Lists.{none_of_any, append_at, map_at}
 use Rattle.fb_bgwrite.proofs.Words.{option_map, slice_get-map, all_get, all_push, ◌≡◌, ℕ, ◌+◌, ◌*◌, ◌^◌, ◌≤◌, List, [], ◌∷◌, ◌++◌, Bool}
 use Rattle.fb_bgwrite.proofs.Words.{true, false, not, Some, slice_get, take, drop, map, length, refl, sym, ap, ◌∙◌, subst, arith}
 use Rattle.fb_bgwrite.proofs.Words.{if◌then◌else◌, ◌==◌, ◌&&◌, filter, AllByRecursion, sum_by, nat_tests, sum_by_push, places, Disk, Block}
@@ -6,7 +7,6 @@ use Rattle.fb_bgwrite.proofs.Words.{Entry, Wanted, Delivered, Deliver, after, is
 use Rattle.fb_bgwrite.proofs.Words.{Put, Spilling, PutBlock, blocks_from, is_written, put_blocks, sectors, writes, left_over, sectors_in}
 use Rattle.fb_bgwrite.proofs.Words.{AreOnce, IsInTime, entry_of, first_blocks, ArePutsOn, IsSpilling, IsToWrite, IsUpTo, wrote_row}
 use Rattle.fb_bgwrite.proofs.Words.{HasRange}
-use Rattle.fb_puts.proofs.Lists.{all_none, at_append}
 use Rattle.fb_bgwrite.proofs.{Admitting.first_in_order, Admitting.numbered_first}
 use Rattle.fb_bgwrite.proofs.{PutBlocks.all_of_puts, PutBlocks.all_sectors, PutBlocks.blocks_split, PutBlocks.its_blocks}
 use Rattle.fb_bgwrite.proofs.{PutBlocks.puts_in_order, PutBlocks.IsOfPuts, Writing.delivered, Writing.left_less, Writing.none_once}
@@ -73,10 +73,7 @@ stay_added old row items is added =
 -- ---- a block
 
 among_all : (disk : Disk) (puts : List Put) (n i : ℕ) (put : PutBlock) → n ≤ length puts → slice_get (first_blocks disk puts n) i ≡ Some put → slice_get (put_blocks disk.map puts) i ≡ Some put
-among_all disk puts n i put le at = ap (λ bs. slice_get bs i) (blocks_split disk.map 1 n puts le) ∙ at_append (first_blocks disk puts n) (blocks_from disk.map (1 + n) (drop n puts)) i put at
-
-mapped : {X Y : Type 0} (f : X → Y) (xs : List X) (i : ℕ) (x : X) → slice_get xs i ≡ Some x → slice_get (map f xs) i ≡ Some (f x)
-mapped f xs i x at = slice_get-map f xs i ∙ ap (option_map f) at
+among_all disk puts n i put le at = ap (λ bs. slice_get bs i) (blocks_split disk.map 1 n puts le) ∙ append_at (first_blocks disk puts n) (blocks_from disk.map (1 + n) (drop n puts)) i put at
 
 itself : (n : ℕ) → (n == n) ≡ true
 itself n = grind (arith, nat_tests)
@@ -97,7 +94,7 @@ pub wanted_there : (old : Spilling) (catch : Catch) → IsSpilling old → IsToW
     → (e : Entry) × (i : ℕ) × (slice_get old.pending i ≡ Some e) × (is_block catch.block.task catch.block.number e ≡ true) × (e.state ≡ Wanted)
 wanted_there old catch is to =
     let entry = entry_of old.items to.put in
-    let at : slice_get old.pending to.index ≡ Some entry = ap (λ es. slice_get es to.index) is.registered ∙ mapped (entry_of old.items) (first_blocks old.disk.now old.puts.now old.admitted) to.index to.put to.stands in
+    let at : slice_get old.pending to.index ≡ Some entry = ap (λ es. slice_get es to.index) is.registered ∙ map_at (entry_of old.items) (first_blocks old.disk.now old.puts.now old.admitted) to.index to.put to.stands in
     let task : (to.put.block.task == catch.block.task) ≡ true = ap (λ (b : Block). to.put.block.task == b.task) to.block ∙ itself to.put.block.task in
     let number : (to.put.block.number == catch.block.number) ≡ true = ap (λ (b : Block). to.put.block.number == b.number) to.block ∙ itself to.put.block.number in
     (entry, to.index, at, both (to.put.block.task == catch.block.task) (to.put.block.number == catch.block.number) task number, ap (λ b. if b then Delivered else Wanted) to.unwritten)
@@ -130,7 +127,7 @@ block_added old catch pending items written is are to added delivers more_writte
       upto = all_push (IsUpTo n) old.items (WroteLine row) is.upto (omega (arith, upto, task));
       written = omega (arith, more_written, is.written, sum_by_push sectors_in old.items (WroteLine row));
       parts = omega (arith, more_written, is.parts, less);
-      once = once_more old.items row block refl refl old.items (all_none (writes block) old.items unwritten) is.once;
+      once = once_more old.items row block refl refl old.items (none_of_any (writes block) old.items unwritten) is.once;
       in_time = all_push (IsInTime disk puts) old.items (WroteLine row) is.in_time (record {
         put = to.put;
         among = (to.index, at_all');

@@ -15,6 +15,7 @@ pub use Rattle.std.proofs.lemmas.List.Sums.{count_by-le-length, get_or-le-sum_by
 pub use Rattle.std.proofs.lemmas.List.Sums.{sum_by_more, sum_by_push}
 pub use Rattle.std.proofs.lemmas.Option.{get_or_from_slice_get, slice_get-get_or, slice_get-map, slice_get_within}
 pub use Rattle.std.proofs.lemmas.Result.{IfOk-weaker, on_ok_weaker}
+pub use Rattle.fb_units.proofs.Lists.{all_push, all_weaker, all_from_index as all_of, any_of_none as none_any, all_append, all_left, all_right, all_get, drop_at as drop_got, take_at as one_more}
 pub use Rattle.fb_units.specs.Rising.{IsRising}
 pub use Rattle.fb_units.specs.Tracks.{same_track}
 pub use Rattle.fb_units.specs.declared.types.Sweep.{Sweep}
@@ -31,7 +32,6 @@ pub use Rattle.fb_sectormap.specs.declared.cut.Cut.{Cut}
 pub use Rattle.fb_seek.specs.Positioning.{distance_of}
 unfoldable pub use Rattle.fb_seek.specs.Positioning.{pos}
 pub use Rattle.fb_service.specs.declared.disk.Disk.{Disk}
-pub use Rattle.fb_calls.proofs.Lists.{all_push, all_weaker}
 pub use Rattle.fb_puts.specs.Asked.{request_range}
 pub use Rattle.fb_puts.specs.Ranges.{AreApart, lies_in, share}
 pub use Rattle.fb_puts.specs.Reading.{Accepted, range_of}
@@ -40,7 +40,7 @@ pub use Rattle.fb_puts.specs.Verdict.{accepted}
 pub use Rattle.fb_puts.specs.declared.puts.Put.{Put}
 pub use Rattle.fb_puts.specs.declared.puts.Puts.{Puts}
 pub use Rattle.fb_puts.specs.declared.range.SectorRange.{SectorRange}
-pub use Rattle.fb_puts.proofs.Lists.{all_of, none_any, some_one}
+pub use Rattle.fb_puts.proofs.Lists.{some_one}
 pub use Rattle.fb_puts.proofs.Sharing.{is_shares}
 pub use Rattle.fb_wanted.specs.Numbering.{blocks_of, registered}
 pub use Rattle.fb_wanted.specs.States.{after, entry_after, is_block, is_wanted, on_track, wanted_of}
@@ -66,7 +66,7 @@ pub use Rattle.fb_model.specs.Timeline.{IsPossible, Leg, arrival, can_follow, ga
 pub use Rattle.fb_model.specs.Timeline.{service_legs, stay, way}
 unfoldable pub use Rattle.fb_model.specs.Timeline.{led_to, timeline}
 pub use Rattle.fb_model.proofs.Leads.{Leads, lead_gap, lead_on, lead_stay, lead_to_target, lead_way}
-pub use Rattle.fb_model.proofs.Lists.{all_append, all_left, all_map, all_right, none_kept}
+pub use Rattle.fb_model.proofs.Lists.{all_map, none_kept}
 pub use Rattle.fb_plan.specs.Order.{catch_of, is_before, place_in}
 unfoldable pub use Rattle.fb_plan.specs.Order.{caught_of}
 pub use Rattle.fb_plan.specs.Ways.{AreOnDisk}
@@ -77,7 +77,6 @@ pub use Rattle.fb_plan.specs.Turns.{IsTurning, added, end_of, passes_by}
 pub use Rattle.fb_detour.specs.Bounds.{slots_within, stay_gain}
 pub use Rattle.fb_detour.proofs.Ceilings.{and_false, longer_stay, stay-of, weight_of_stay}
 pub use Rattle.fb_report.proofs.Lines.{AreLines, length_lines, line_first, line_last, line_row}
-pub use Rattle.fb_report.proofs.Ranges.{all_get, drop_got, one_more}
 pub use Rattle.fb_bgwrite.specs.AmendedWay.{amended, amended_legs, kept, kept_legs, planned_legs, spill_legs}
 unfoldable pub use Rattle.fb_bgwrite.specs.AmendedWay.{timeline_with}
 pub use Rattle.fb_bgwrite.specs.Blocks.{PutBlock, is_pending, is_written, put_blocks, sectors, writes}

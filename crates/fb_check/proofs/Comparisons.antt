@@ -4,7 +4,7 @@ use Rattle.std.specs.Prelude.{true, is_some, Option, Some, None, slice_get, opti
 use Rattle.std.proofs.lemmas.List.{map-append, length-map, take-append-le, take-append-drop, take_all}
 use Rattle.std.proofs.lemmas.Bool.{cases_lt}
 use Rattle.std.proofs.lemmas.Option.{slice_get-map, slice_get_within}
-use Rattle.fb_report.proofs.Ranges.{get_left, get_right, one_more}
+use Rattle.fb_units.proofs.Lists.{get_left, get_right, take_at, append_at}
 use Rattle.fb_report.specs.declared.reading.Report.{Report}
 use Rattle.fb_report.specs.Grammar.{report_fields, ended}
 use Rattle.fb_report.specs.Reading.{BeginsLikeEnd, EndsOnce}
@@ -16,9 +16,6 @@ use Rattle.fb_check.specs.Comparing.{IsReady, IsDue, NamesLine, NextIs, OneMore,
 
 -- ---- a mismatch
 
-get_in : {X : Type 0} (xs ys : List X) (i : ℕ) (x : X) → slice_get xs i ≡ Some x → slice_get (xs ++ ys) i ≡ Some x
-get_in xs ys i x e = get_left xs ys i (slice_get_within xs i x e) ∙ e
-
 take_in : {X : Type 0} (xs ys : List X) (i : ℕ) (x : X) → slice_get xs i ≡ Some x → take i (xs ++ ys) ≡ take i xs
 take_in xs ys i x e = take-append-le i xs ys (omega (arith, slice_get_within xs i x e))
 
@@ -26,7 +23,7 @@ take_in xs ys i x e = take-append-le i xs ys (omega (arith, slice_get_within xs 
 pub still_wrong : (due more : List (List ℕ)) (rules more_rules : List (ℕ → Rule)) (printed : List (List ℕ)) (mismatch : Mismatch)
     → IsMismatch due rules printed mismatch → IsMismatch (due ++ more) (rules ++ more_rules) printed mismatch
 still_wrong due more rules more_rules printed mismatch wrong =
-    let there = get_in due more wrong.index (ended wrong.due_line) wrong.is_due in
+    let there = append_at due more wrong.index (ended wrong.due_line) wrong.is_due in
     record {
       index = wrong.index;
       line = wrong.line;
@@ -42,7 +39,7 @@ still_wrong due more rules more_rules printed mismatch wrong =
       field = wrong.field;
       fields = wrong.fields;
       rule_by = wrong.rule_by;
-      is_rule = get_in rules more_rules wrong.index wrong.rule_by wrong.is_rule;
+      is_rule = append_at rules more_rules wrong.index wrong.rule_by wrong.is_rule;
       rule = wrong.rule;
     }
 
@@ -93,7 +90,7 @@ so_far_next None lines rules due rule_by before same so_far next =
       count = omega (arith, length-append lines (due ∷ []), next.0);
       ruled = omega (arith, length-append rules (rule_by ∷ []), next.0);
       first = ap (λ n. take n (map ended before.lines.now)) next.0
-          ∙ (one_more (map ended before.lines.now) before.same due (slice_get-map ended before.lines.now before.same ∙ (ap (option_map ended) is_due.is_printed ∙ ap Some (sym is_due.is_due)))
+          ∙ (take_at (map ended before.lines.now) before.same due (slice_get-map ended before.lines.now before.same ∙ (ap (option_map ended) is_due.is_printed ∙ ap Some (sym is_due.is_due)))
           ∙ ap (λ xs. xs ++ due ∷ []) so_far.first);
     }
 so_far_next (Some mismatch) lines rules due rule_by before same so_far next = (first_wrong lines rules due rule_by before.report before.lines.now before.same mismatch so_far next, next.report_is)
@@ -132,7 +129,7 @@ module _ {X : Type 0} (report : Report) (first : List ℕ) (first_rule : Rule) (
   pub one_more_row : (before after : Comparison) (rows more : List X) (i : ℕ) (row : X) (due : List ℕ) → slice_get more i ≡ Some row → due ≡ line row → HasComparedOne (rule row) due before after
       → HasCompared report first first_rule line rule printed before (rows ++ take i more) → HasCompared report first first_rule line rule printed after (rows ++ take (i + 1) more)
   one_more_row before after rows more i row due at is one h =
-      subst (HasCompared report first first_rule line rule printed after) (append_assoc rows (take i more) (row ∷ []) ∙ ap (λ xs. rows ++ xs) (sym (one_more more i row at)))
+      subst (HasCompared report first first_rule line rule printed after) (append_assoc rows (take i more) (row ∷ []) ∙ ap (λ xs. rows ++ xs) (sym (take_at more i row at)))
       (one_row before after (rows ++ take i more) row due is one h)
 
   -- more rows, where a line was wrong

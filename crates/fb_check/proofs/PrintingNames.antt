@@ -2,6 +2,7 @@
 use Rattle.std.proofs.Common.{◌≡◌, ℕ, ◌+◌, List, [], ◌∷◌, true, length, Ok, subst}
 use Rattle.std.specs.Prelude.{not, ◌&&◌}
 use Rattle.std.proofs.lemmas.Bool.{and_parts, not-false}
+use Rattle.fb_units.proofs.Lists.{same_Ok}
 use Rattle.fb_units.proofs.Judged.{both_ok, step_ok}
 use Rattle.fb_units.specs.Judging.{or_refuse}
 use Rattle.fb_units.specs.Lines.{lines_of, fields_of}
@@ -16,7 +17,7 @@ use Rattle.fb_script.specs.Sessions.{names_after}
 use Rattle.fb_script.specs.Judgement.{Progress, call_of, with_call}
 use Rattle.fb_script.specs.Line.{Entry, entry_of, has_its_fields, asked_by}
 use Rattle.fb_script.specs.Reading.{Accepted, at_start, at_end, line_read, fault_at, next_progress, lines_from}
-use Rattle.fb_script.proofs.Accepting.{passed, ok_same}
+use Rattle.fb_script.proofs.Accepting.{passed}
 use Rattle.fb_tasks.proofs.Lists.{all_append}
 use Rattle.fb_report.specs.Printed.{AreNames}
 use Rattle.fb_check.specs.Printing.{ScriptsNameTasks}
@@ -32,7 +33,7 @@ entry_named (time ∷ verb ∷ name ∷ more) entry given =
     let whole = passed BadLine (not (known && is_name name)) _ entry given in
     let instant = both_ok (or_refuse BadTime (millis_of time)) _ entry whole.1 in
     let inputs = both_ok (asked_by (verb_of verb) more) _ entry instant.2 in
-    subst (λ (read : Entry). is_name read.name ≡ true) (ok_same (record { instant = instant.0; name = name; inputs = inputs.0 }) entry inputs.2)
+    subst (λ (read : Entry). is_name read.name ≡ true) (same_Ok (record { instant = instant.0; name = name; inputs = inputs.0 }) entry inputs.2)
     (and_parts known (is_name name) (not-false (known && is_name name) whole.0)).1
 
 -- an open adds its name
@@ -43,16 +44,16 @@ named_after names name _ named all = all
 module _ (disk : Shape) where
   line_named : (number : ℕ) (so_far next : Progress) (fields : List (List ℕ)) → AreNames so_far.names → line_read disk number so_far fields ≡ Ok next → AreNames next.names
   unfolding line_read
-  line_named number so_far next [] all given = subst (λ (progress : Progress). AreNames progress.names) (ok_same so_far next given) all
+  line_named number so_far next [] all given = subst (λ (progress : Progress). AreNames progress.names) (same_Ok so_far next given) all
   line_named number so_far next (field ∷ fields) all given =
       let entry = both_ok (entry_of (field ∷ fields)) _ next given in
       let call = both_ok (call_of disk so_far number entry.0) _ next entry.2 in
-      subst (λ (progress : Progress). AreNames progress.names) (ok_same (with_call disk entry.0.name so_far call.0) next call.2)
+      subst (λ (progress : Progress). AreNames progress.names) (same_Ok (with_call disk entry.0.name so_far call.0) next call.2)
       (named_after so_far.names entry.0.name call.0.action (entry_named (field ∷ fields) entry.0 entry.1) all)
 
   lines_named : (number : ℕ) (so_far : Progress) (lines : List (List ℕ)) (script : Accepted) → AreNames so_far.names → lines_from disk number so_far lines ≡ Ok script → AreNames script.names
   unfolding lines_from
-  lines_named number so_far [] script all given = subst (λ (script : Accepted). AreNames script.names) (ok_same (at_end so_far) script given) all
+  lines_named number so_far [] script all given = subst (λ (script : Accepted). AreNames script.names) (same_Ok (at_end so_far) script given) all
   lines_named number so_far (line ∷ lines) script all given =
       let next = both_ok (next_progress disk number so_far line) _ script given in
       let step = step_ok (fault_at number) (line_read disk number so_far (fields_of line)) next.0 next.1 in

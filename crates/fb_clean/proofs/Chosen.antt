@@ -3,7 +3,7 @@ use Rattle.std.proofs.Common.{◌≡◌, ℕ, ◌+◌, ◌<◌, List, [], ◌∷
 use Rattle.std.specs.List.{best_of}
 use Rattle.std.proofs.lemmas.List.{take_all}
 use Rattle.std.proofs.lemmas.Option.{same_Some}
-use Rattle.fb_wanted.proofs.Standing.{get_some}
+use Rattle.fb_units.proofs.Lists.{element_at}
 use Rattle.fb_clean.specs.Segments.{LogSegment, is_better, first_best, waiting}
 use Rattle.fb_clean.specs.Best.{HoldsBest, beats_one, best_at, beats_best}
 
@@ -77,7 +77,7 @@ holds_still segments n best s at holds beats =
 pub some_at : (seen segments : List LogSegment) (i : ℕ) → seen ≡ segments → i < length seen → (i < length segments) × (s : LogSegment) × (slice_get segments i ≡ Some s)
 some_at seen segments i same within =
     let less : i < length segments = omega (arith, within, ap length same) in
-    let there = get_some segments i less in (less, there.0, there.1)
+    let there = element_at segments i less in (less, there.0, there.1)
 
 -- the place that holds the best of all
 pub held_within : (segments : List LogSegment) (n : ℕ) (best : Option ℕ) → n ≤ length segments → HoldsBest segments n best → IfSome best (λ b. b < length segments)

@@ -3,6 +3,7 @@ use Rattle.std.proofs.Common.{◌≡◌, List, [], ◌∷◌, ◌++◌, map, fil
 use Rattle.std.specs.List.{fold, AllByRecursion}
 use Rattle.std.proofs.lemmas.Bool.{cases_Bool}
 use Rattle.std.proofs.lemmas.Bool.Decides.{nat_tests}
+use Rattle.fb_units.proofs.Lists.{take_at}
 use Rattle.fb_wanted.specs.declared.block.Block.{Block}
 use Rattle.fb_model.specs.Blocks.{IsBlockOn}
 use Rattle.fb_model.specs.History.{same_block, Past, wanted}
@@ -33,7 +34,7 @@ use Rattle.fb_store.specs.Index.{Holding}
 use Rattle.fb_rows.specs.declared.back.DeliveryRow.{DeliveryRow}
 use Rattle.fb_rows.specs.declared.gap.How.TheVariants.{Ride as ByRide}
 use Rattle.fb_model.specs.PlainReplay.{Served}
-use Rattle.fb_decide.proofs.Placing.{rows-in_order, due-filtered, take_at}
+use Rattle.fb_decide.proofs.Placing.{rows-in_order, due-filtered}
 
 -- ---- catches that are placed one after another stand in the order of deliveries, whichever of them is placed first
 

@@ -5,6 +5,7 @@ use Rattle.std.specs.Option.{option_map}
 use Rattle.std.specs.List.{list_any, AllByRecursion, fold}
 use Rattle.std.proofs.lemmas.Bool.Decides.{nat_tests}
 use Rattle.std.proofs.lemmas.Bool.{cases_lt}
+use Rattle.fb_units.proofs.Lists.{all_filter}
 use Rattle.fb_units.specs.declared.types.Track.{Track}
 use Rattle.fb_units.specs.declared.types.Request.{Request}
 use Rattle.fb_service.specs.declared.disk.Disk.{Disk}
@@ -16,7 +17,7 @@ use Rattle.fb_model.proofs.Picks.{pick_of-first_least}
 use Rattle.fb_model.proofs.Picks.{all_without}
 use Rattle.fb_tasks.proofs.Lists.{all_weaker}
 use Rattle.std.proofs.lemmas.List.{length-append}
-use Rattle.fb_model.proofs.Lists.{by_is, after_is, all_filter, rising_filter}
+use Rattle.fb_model.proofs.Lists.{by_is, after_is, rising_filter}
 use Rattle.fb_units.specs.Rising.{IsRising}
 use Rattle.fb_calls.specs.declared.call.Call.{Call}
 use Rattle.fb_model.specs.Inputs.{Inputs, requests}

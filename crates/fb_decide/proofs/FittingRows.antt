@@ -5,11 +5,11 @@ use Rattle.std.specs.List.{AllByRecursion, flat_map, fold}
 use Rattle.std.proofs.lemmas.List.{length-append, take-append-drop}
 use Rattle.std.proofs.lemmas.List.Concat.{flat_map-append}
 use Rattle.std.proofs.lemmas.Bool.{cases_Bool}
+use Rattle.fb_units.proofs.Lists.{all_weaker, all_append, all_left}
 use Rattle.fb_geometry.specs.Shape.{Shape}
 use Rattle.fb_service.specs.declared.disk.Disk.{Disk}
 use Rattle.fb_calls.specs.declared.call.Call.{Call}
 use Rattle.fb_calls.specs.Allowed as allowed
-use Rattle.fb_calls.proofs.Lists.{all_weaker}
 use Rattle.fb_wanted.specs.declared.block.Block.{Block}
 use Rattle.fb_wanted.specs.declared.block.Entry.{Entry}
 use Rattle.fb_wanted.specs.States.{is_wanted}
@@ -27,7 +27,7 @@ use Rattle.fb_model.specs.Completion.{choices, work, is_complete, was_complete}
 use Rattle.fb_model.specs.Images.{findings, is_scrub, bad_sectors, segment_rows, seal_rows, complete_rows, is_newly_cleaned, image, packed, test_rows}
 use Rattle.fb_model.specs.Steps.{Delivery, Step, decision_in, take_call, calls_due, with_delivery, with_finish, chosen_past, past_after, opening, step_rows, task_row, task_rows}
 use Rattle.fb_model.specs.SoundRun.{AreFollowed}
-use Rattle.fb_model.proofs.Lists.{all_append, all_left, all_map}
+use Rattle.fb_model.proofs.Lists.{all_map}
 use Rattle.fb_tasks.specs.declared.session.Session.{Session}
 use Rattle.fb_tasks.specs.Telling.{Tells, IsBlockOf, calls_of}
 use Rattle.fb_tasks.proofs.RunInputs.{opened_same}

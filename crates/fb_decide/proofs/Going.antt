@@ -2,6 +2,7 @@
 use Rattle.std.proofs.Common.{◌≡◌, ℕ, List, [], ◌∷◌, ◌++◌, refl, ap, sym, subst, ◌∙◌, append_assoc, suc, ◌+◌, ◌<◌, ◌≤◌, ◌^◌, Bool, true, false, None, Some, length, map, take, drop, arith, append-nil}
 use Rattle.std.specs.List.{fold, AllByRecursion}
 use Rattle.std.proofs.lemmas.List.{map-append, length-append}
+use Rattle.fb_units.proofs.Lists.{all_weaker, all_append, all_left, all_right}
 use Rattle.fb_model.specs.PlainReplay.{Served, service, finish, last_track, plain, first_least, start_of}
 use Rattle.fb_model.specs.Inputs.{Inputs, served, requests}
 use Rattle.fb_model.specs.Content.{medium_of, Written, fore_row}
@@ -23,11 +24,10 @@ use Rattle.fb_geometry.specs.Shape.{Shape, IsTrackOf}
 use Rattle.fb_calls.specs.declared.call.Call.{Call}
 use Rattle.fb_calls.specs.Allowed.{AreAllowed}
 use Rattle.fb_store.specs.Index.{Holding, content_in}
-use Rattle.fb_calls.proofs.Lists.{all_weaker}
 use Rattle.fb_model.specs.Accepted.{IsRequestOf}
 use Rattle.fb_model.specs.History.{Past}
 use Rattle.fb_model.proofs.Instants.{IsAmong}
-use Rattle.fb_model.proofs.Lists.{all_append, all_left, all_right, all_map, is_by}
+use Rattle.fb_model.proofs.Lists.{all_map, is_by}
 use Rattle.fb_decide.specs.declared.background.Background.{Background}
 use Rattle.fb_decide.specs.Waiting.{left, IsWaiting, AreByArrival}
 use Rattle.fb_decide.specs.Deciding.{next_of, stay_of, prepared, HasServedNext, HasStayed, HasActed, serves_pick, stays_on, stays_last, ends_here, HasPrepared, HasDecided}

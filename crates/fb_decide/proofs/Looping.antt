@@ -3,6 +3,7 @@ use Rattle.std.proofs.Common.{◌≡◌, ℕ, ◌+◌, ◌≤◌, ◌^◌, List,
 use Rattle.std.specs.Prelude.{nat_le}
 use Rattle.std.specs.List.{AllByRecursion, fold}
 use Rattle.std.proofs.lemmas.Bool.{cases_Bool}
+use Rattle.fb_units.proofs.Lists.{all_append}
 use Rattle.fb_units.specs.declared.types.Request.{Request}
 use Rattle.fb_geometry.specs.Shape.{Shape}
 use Rattle.fb_calls.specs.declared.call.Action.{Action}
@@ -14,7 +15,6 @@ use Rattle.fb_model.specs.Foreground.{behind, read_of, promoted_from, promoted}
 use Rattle.fb_model.specs.Accepted.{IsAccepted, IsRequestOf}
 use Rattle.fb_model.specs.Laws.{ForegroundListsAscend}
 use Rattle.fb_model.proofs.Passages.{all_requests}
-use Rattle.fb_model.proofs.Lists.{all_append}
 use Rattle.fb_decide.specs.Waiting.{IsForegroundOf, IsWaiting}
 use Rattle.fb_decide.proofs.Replayed.{in_order}
 use Rattle.fb_rows.specs.declared.fore.ForeRow.{ForeRow}

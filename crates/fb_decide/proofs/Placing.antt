@@ -3,6 +3,7 @@ use Rattle.std.proofs.Common.{◌≡◌, ℕ, ◌+◌, ◌<◌, ◌≤◌, ◌==
 use Rattle.std.specs.List.{AllByRecursion, list_any, fold}
 use Rattle.std.proofs.lemmas.Bool.{cases_Bool}
 use Rattle.std.proofs.lemmas.Bool.Decides.{nat_tests}
+use Rattle.fb_units.proofs.Lists.{map_at, take_at}
 use Rattle.fb_geometry.specs.Shape.{Shape}
 use Rattle.fb_wanted.specs.declared.block.Block.{Block}
 use Rattle.fb_wanted.specs.declared.block.Entry.{Entry}
@@ -12,7 +13,7 @@ use Rattle.fb_model.specs.Completion.{view}
 use Rattle.fb_tasks.specs.declared.session.Session.{Session}
 use Rattle.fb_tasks.specs.Standing.{AreIndexed}
 use Rattle.fb_tasks.specs.Telling.{Tells}
-use Rattle.fb_tasks.proofs.Lists.{all_weaker, all_filter, all_map, filter_same, all_any, all_with, map_at}
+use Rattle.fb_tasks.proofs.Lists.{all_weaker, all_filter, all_map, filter_same, all_any, all_with}
 use Rattle.fb_tasks.proofs.Deliveries.{indexed_from}
 use Rattle.fb_decide.specs.Deliveries.{AreDistinct, AreDue, IsOneOf, block_in, row_in, past_with, IsCurrent, HasDelivered, held_now}
 use Rattle.fb_rows.specs.declared.gap.Dwell.{Dwell}
@@ -220,9 +221,6 @@ pub left-caught : (disk : Disk) (holding : Holding) (how : How) (dwell : Dwell) 
 left-caught disk holding how dwell past distinct = left-filtered past (catches disk dwell) (delivery_by disk holding how dwell) (λ b. refl) distinct
 
 -- ---- the catches of a dwell are delivered one after another
-
-pub take_at : {X : Type 0} (xs : List X) (i : ℕ) (x : X) → slice_get xs i ≡ Some x → take (i + 1) xs ≡ take i xs ++ x ∷ []
-take_at xs i x at = take_more xs i x (slice_get_within xs i x at) ∙ ap (λ y. take i xs ++ y ∷ []) (get_or_from_slice_get xs i x x at)
 
 -- of deliveries in their order the next one follows the first ones
 pub delivered-more : {disk : Shape} {past : Past} {rows : List BackRow} {middle after : Background} (gots : List DeliveryRow) (k : ℕ) (got : DeliveryRow) → slice_get gots k ≡ Some got

@@ -2,6 +2,7 @@
 use Rattle.std.proofs.Common.{◌≡◌, ℕ, true, false, List, [], ◌∷◌, ◌++◌, map, refl, sym, subst}
 use Rattle.std.specs.Prelude.{Bool, ◌&&◌, not, filter, if◌then◌else◌}
 use Rattle.std.specs.List.{AllByRecursion, flat_map}
+use Rattle.fb_units.proofs.Lists.{all_append}
 use Rattle.fb_service.specs.declared.disk.Disk.{Disk}
 use Rattle.fb_rows.specs.declared.fore.ForeRow.{ForeRow}
 use Rattle.fb_rows.specs.declared.back.BackRow.{BackRow}
@@ -17,7 +18,7 @@ use Rattle.fb_model.specs.Images.{bad_sectors, is_scrub, findings, is_newly_clea
 use Rattle.fb_model.specs.Steps.{Delivery, Step, decision_in, with_delivery, tested_past, chosen_past, task_row, task_rows}
 use Rattle.fb_model.specs.SoundRun.{AreFollowed, IsTested}
 use Rattle.fb_model.proofs.RowsUpTo.{delivered_rows}
-use Rattle.fb_model.proofs.Lists.{all_append, all_flat_map, all_map}
+use Rattle.fb_model.proofs.Lists.{all_flat_map, all_map}
 use Rattle.fb_tasks.proofs.Lists.{all_any}
 
 -- no gap row and no idle row

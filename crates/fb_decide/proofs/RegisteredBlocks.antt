@@ -2,6 +2,7 @@
 use Rattle.std.proofs.Common.{◌≡◌, ◌⊎◌, ℕ, zero, suc, ◌+◌, ◌<◌, ◌≤◌, ◌==◌, List, [], ◌∷◌, ◌++◌, true, false, Some, inl, inr, length, length-append, slice_get, append-nil, refl, ap, sym, ◌∙◌, arith, subst}
 use Rattle.std.specs.List.{AllByRecursion, list_any}
 use Rattle.std.proofs.lemmas.Bool.{cases_Bool, cases_lt, true≢false, and_parts}
+use Rattle.fb_units.proofs.Lists.{filter_to}
 use Rattle.fb_geometry.specs.Shape.{Shape}
 use Rattle.fb_wanted.specs.declared.block.Block.{Block}
 use Rattle.fb_wanted.specs.declared.block.Entry.{Entry}
@@ -15,7 +16,7 @@ use Rattle.fb_tasks.specs.declared.session.Session.{Session}
 use Rattle.fb_tasks.specs.Standing.{AreIndexed, IsBlockOf}
 use Rattle.fb_tasks.specs.Telling.{Tells}
 use Rattle.fb_decide.specs.Deliveries.{IsRegistered}
-use Rattle.fb_tasks.proofs.Lists.{some_same, some_at, all_at, all_weaker, all_append, all_flat, filter_to, same_number}
+use Rattle.fb_tasks.proofs.Lists.{some_same, some_at, all_at, all_weaker, all_append, all_flat, same_number}
 use Rattle.fb_tasks.proofs.Registered.{own, itself}
 
 -- an element of a list

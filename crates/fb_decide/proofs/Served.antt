@@ -1,6 +1,7 @@
 -- A request is served: its gap, when its extents begin, and what the gap and the passages deliver.
 use Rattle.std.proofs.Common.{◌≡◌, ℕ, zero, suc, ◌+◌, ◌<◌, ◌≤◌, ◌*◌, ◌^◌, List, [], ◌∷◌, ◌++◌, Bool, map, append_assoc, ap₂, sym, ◌∙◌, arith, subst}
 use Rattle.std.specs.List.{AllByRecursion, range_with_len}
+use Rattle.fb_units.proofs.Lists.{all_weaker, all_left, all_right}
 use Rattle.fb_units.specs.declared.types.Track.{Track}
 use Rattle.fb_units.specs.declared.types.Request.{Request}
 use Rattle.fb_geometry.specs.Shape.{Shape, IsTrackOf}
@@ -12,7 +13,6 @@ use Rattle.fb_service.specs.declared.passage.Extent.{Extent}
 use Rattle.fb_service.specs.Service.{passages, media_of, finish_of, passage_from}
 use Rattle.fb_service.specs.Extents.{passages_of, all_passages_of, FollowOn, IsUnbroken}
 use Rattle.fb_store.specs.Index.{Holding}
-use Rattle.fb_calls.proofs.Lists.{all_weaker}
 use Rattle.fb_wanted.specs.declared.block.Block.{Block}
 use Rattle.fb_rows.specs.declared.gap.Gap.{Gap}
 use Rattle.fb_rows.specs.declared.gap.Plan.{Plan}
@@ -25,7 +25,6 @@ use Rattle.fb_model.specs.PlainReplay.{Served, service, target}
 use Rattle.fb_model.specs.Plans.{IsBest}
 use Rattle.fb_model.specs.Rides.{gap_of, missed_in_gap, due, rides, caught_in_gap}
 use Rattle.fb_model.proofs.Passages.{from_on, passed_between}
-use Rattle.fb_model.proofs.Lists.{all_left, all_right}
 use Rattle.fb_plan.specs.Ways.{IsGap}
 use Rattle.fb_tasks.specs.Telling.{Tells}
 use Rattle.fb_decide.specs.declared.background.Background.{Background}

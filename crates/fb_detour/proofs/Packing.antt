@@ -1,10 +1,10 @@
 -- A stay catches no more than the sectors that can pass while it lasts.
+use Rattle.fb_units.proofs.Lists.{all_filter}
 use Rattle.fb_detour.proofs.Words.{List, Some, ap, arith, if◌then◌else◌, inl, inr, length, nat_le, subst, suc, sym, true, zero, ℕ, ◌&&◌}
 use Rattle.fb_detour.proofs.Words.{◌*◌, ◌+◌, ◌-◌, ◌/◌, ◌<◌, ◌∙◌, ◌≡◌, ◌≤◌, div-mul-le_self, and_parts, cases_Bool, leb-true}
 use Rattle.fb_detour.proofs.Words.{sum_by-le-sum_by, le-div, slice_get-get_or, same_track, Place, Track, places, Shape, slots_at}
 use Rattle.fb_detour.proofs.Words.{HasOwnPlaces, IsSound, IsAt, place_at, same_tracks, begin_from, Disk, depth_at, is_wanted, on_track}
 use Rattle.fb_detour.proofs.Words.{Entry, block_end, catches, AreOnDisk, IsBlockOn, early_to, slots_within, stay_gain, stay}
-use Rattle.fb_geometry.proofs.Laws.{all-filter}
 use Rattle.fb_detour.proofs.Ceilings.{if-le-n}
 use Rattle.fb_detour.proofs.Counted.{no_more}
 use Rattle.fb_detour.proofs.Offers.{all_of}
@@ -106,7 +106,7 @@ module _ (disk : Disk) (track : Track) (from upto : ℕ) where
     unfolding stay
     packing entries depth own on_disk deep =
         let its = on_track track entries in
-        let all = all-filter (λ e. (i : ℕ) → i < caught e → Passes (e.block.lbn + i)) (λ e. same_track track e.block.track) entries
+        let all = all_filter (λ e. (i : ℕ) → i < caught e → Passes (e.block.lbn + i)) (λ e. same_track track e.block.track) entries
         (all_of (λ e. (i : ℕ) → i < caught e → Passes (e.block.lbn + i)) entries (λ k e at. each_passes e (on_disk k e at))) in
         omega (
           arith,

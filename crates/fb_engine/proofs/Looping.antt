@@ -2,6 +2,7 @@
 use Rattle.std.proofs.Common.{◌≡◌, ℕ, List, [], ◌∷◌, ◌++◌, ◌≤◌, ◌<◌, ◌^◌, Bool, true, false, length, ap, sym, subst, arith}
 use Rattle.std.specs.List.{AllByRecursion}
 use Rattle.std.proofs.lemmas.List.{length-map}
+use Rattle.fb_units.proofs.Lists.{all_append}
 use Rattle.fb_units.specs.declared.types.Request.{Request}
 use Rattle.fb_calls.specs.Allowed as allowed
 use Rattle.fb_rows.specs.declared.fore.ForeRow.{ForeRow}
@@ -11,7 +12,6 @@ use Rattle.fb_model.specs.Content.{medium_of, fore_row, fore_rows}
 use Rattle.fb_model.specs.Decisions.{decisions, run_end}
 use Rattle.fb_model.specs.Steps.{Step, history, task_rows}
 use Rattle.fb_model.specs.FullRun.{IsFull}
-use Rattle.fb_model.proofs.Lists.{all_append}
 use Rattle.fb_decide.specs.declared.deciding.Course.{Course}
 use Rattle.fb_decide.specs.Making.{RowFits, HasMade, HasMadeOne, decisions_left}
 use Rattle.fb_decide.specs.FullRuns.{DecisionsMakeARun}

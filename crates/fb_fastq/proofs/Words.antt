@@ -17,10 +17,10 @@ pub use Rattle.std.proofs.lemmas.Bool.{cases_Bool, cases_lt, true≢false}
 pub use Rattle.std.proofs.lemmas.Bool.Decides.{nat_tests}
 pub use Rattle.std.proofs.lemmas.List.{length-append, length-set, map-append, map-id, nil_from_length}
 pub use Rattle.std.proofs.lemmas.Option.{none-some, slice_get-get_or, slice_get_read, slice_get_within}
+pub use Rattle.fb_units.proofs.Lists.{all_get, all_weaker, all_append, all_filter, all_left, all_right}
 pub use Rattle.fb_units.specs.declared.types.Request.{Request}
 pub use Rattle.fb_units.specs.declared.types.Track.{Track}
 pub use Rattle.fb_geometry.specs.Shape.{cylinders_of}
-pub use Rattle.fb_geometry.proofs.Grid.{all_get, all_weaker}
 pub use Rattle.fb_sectormap.specs.Lookup.{place_at, track_at}
 pub use Rattle.fb_seek.specs.Positioning.{distance_of, seek}
 unfoldable pub use Rattle.fb_seek.specs.Positioning.{pos}
@@ -30,7 +30,6 @@ unfoldable pub use Rattle.fb_service.specs.Passing.{begin_from}
 pub use Rattle.fb_service.specs.declared.approach.Departure.{Departure}
 pub use Rattle.fb_service.specs.declared.disk.Disk.{Disk}
 pub use Rattle.fb_model.specs.PlainReplay.{better, first_least, sptf}
-pub use Rattle.fb_model.proofs.Lists.{all_append, all_filter, all_left, all_right}
 pub use Rattle.fb_fastq.specs.ByCylinder.{AreOccupied, AreRows, IsArrival, IsAt, IsDivided, IsOnCylinder, IsPick, Row, RulesOut, RulesOutAll}
 pub use Rattle.fb_fastq.specs.ByCylinder.{all_of_rows, at_place}
 pub use Rattle.fb_fastq.specs.Candidates.{ComesNoLater, ComesNoLaterBetween, ComesNoLaterOn, ComesNoLaterUntil, IsBefore, IsCandidate}

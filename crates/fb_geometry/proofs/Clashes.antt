@@ -1,4 +1,5 @@
 -- Places that are given twice, the marks of places that are given once, and tracks with more of them than spares.
+use Rattle.fb_units.proofs.Lists.{none_of_any, all_filter}
 use Rattle.fb_geometry.proofs.Words.{All-from_get_or, AllByRecursion, AreInOrder, AreSorted, Bool}
 use Rattle.fb_geometry.proofs.Words.{Contains-permutation, HasZones, IsDistinct, IsDistinct-IsPermutation}
 use Rattle.fb_geometry.proofs.Words.{IsPartitionPoint, IsPartitionedBy, IsPermutation, IsPermutation-map}
@@ -11,8 +12,8 @@ use Rattle.fb_geometry.proofs.Words.{nat_lt, nat_tests, none-some, option_map, r
 use Rattle.fb_geometry.proofs.Words.{same_Some, same_mark, same_place, slice_get, slice_get-get_or, slice_get_within}
 use Rattle.fb_geometry.proofs.Words.{sorted_far, subst, suc, sum_by-IsPermutation, sym, true, true≢false}
 use Rattle.fb_geometry.proofs.Words.{with_repeated, zero, ℕ, ◌++◌, ◌+◌, ◌-◌, ◌<◌, ◌∙◌, ◌∷◌, ◌≡◌, ◌≤◌, ◌⊎◌}
-use Rattle.fb_geometry.proofs.{Grid.count_cons, Faultless.list_any-none, Faultless.all_get, Laws.same_places}
-use Rattle.fb_geometry.proofs.{Laws.all-filter, Marking.mark_of-same, Marking.same_marks, Marking.same_mark-refl}
+use Rattle.fb_geometry.proofs.{Grid.count_cons, Faultless.all_get, Laws.same_places}
+use Rattle.fb_geometry.proofs.{Marking.mark_of-same, Marking.same_marks, Marking.same_mark-refl}
 use Rattle.fb_geometry.proofs.{Marking.point-is, Marking.pairwise_at, Leasts.place_order, Leasts.Among}
 use Rattle.fb_geometry.proofs.{Leasts.among-tail, Leasts.among-left, Leasts.among-right, Leasts.among-append}
 use Rattle.fb_geometry.proofs.{Leasts.among-filter, Leasts.among-filtered, Leasts.among-mapped, Leasts.among-map}
@@ -31,7 +32,7 @@ pairwise_from R (x ∷ xs) d h = (
 pub pairwise-filter : {A : Type 0} (R : A → A → Type 0) (test : A → Bool) (xs : List A) → Pairwise R xs → Pairwise R (filter test xs)
 pairwise-filter R test [] h = tt
 pairwise-filter R test (x ∷ xs) h = elim (cases_Bool (test x)) [
-  | inl in_ ↦ rw in_ (all-filter (R x) test xs h.0, pairwise-filter R test xs h.1)
+  | inl in_ ↦ rw in_ (all_filter (R x) test xs h.0, pairwise-filter R test xs h.1)
   | inr out ↦ rw out (pairwise-filter R test xs h.1)
 ]
 
@@ -277,7 +278,7 @@ module _ (disk : Shape) (zones : HasZones disk) (xs : List Place) (marks : List 
   apart [] all none = tt
   apart (place ∷ xs) all none = elim (cases_Bool (is_among xs place)) [
     | inl again ↦ absurd (omega (arith, ap length (rw again at none)))
-    | inr once ↦ (each xs all.1 (list_any-none (same_place place) xs once), apart xs all.1 (rw once at none))
+    | inr once ↦ (each xs all.1 (none_of_any (same_place place) xs once), apart xs all.1 (rw once at none))
   ]
     where
       each : (xs : List Place) → AllByRecursion (λ place. is_outside disk place ≡ false) xs

@@ -1,4 +1,6 @@
 -- What holds of an outline without a fault.
+pub use Rattle.fb_units.proofs.Lists.{all_get}
+use Rattle.fb_units.proofs.Lists.{element_at, none_of_any}
 use Rattle.fb_geometry.proofs.Words.{AllByRecursion, AreZoneNumbers, Bool, GeometryFault, HasZones, IsCylinderOf}
 use Rattle.fb_geometry.proofs.Words.{IsFaultless, IsNonDecreasingBy, IsPartitionPoint, IsZone, IsZoneAt, IsZoneOf}
 use Rattle.fb_geometry.proofs.Words.{List, None, Option, Shape, Some, Track, Zone, [], ap, arith, cases_Bool}
@@ -10,8 +12,6 @@ use Rattle.fb_geometry.proofs.Words.{nat_le, nat_lt, nat_tests, none-some, offse
 use Rattle.fb_geometry.proofs.Words.{position, position_or_len, recursion_from_All, refl, same_Some, slice_get}
 use Rattle.fb_geometry.proofs.Words.{slice_get-get_or, slice_index_or, slots_at, spares_at, subst, suc, sym, true}
 use Rattle.fb_geometry.proofs.Words.{zero, zone_at, ℕ, ◌+◌, ◌<◌, ◌==◌, ◌^◌, ◌||◌, ◌∙◌, ◌∷◌, ◌≡◌, ◌≤◌}
-use Rattle.fb_geometry.proofs.{Grid.within}
-pub use Rattle.fb_geometry.proofs.Grid.{all_get}
 
 -- ---- chains
 
@@ -34,12 +34,8 @@ none_found test xs never = recursion_from_All (λ x. test x ≡ false) xs
     ])
 
 pub find-none : {X : Type 0} (test : X → Bool) (xs : List X) → find test xs ≡ None → AllByRecursion (λ x. test x ≡ false) xs
-find-none test xs h = none_found test xs (λ found. let one = within xs (position_or_len test xs) found in
+find-none test xs h = none_found test xs (λ found. let one = element_at xs (position_or_len test xs) found in
     none-some one.0 (sym h ∙ (find_at test xs ∙ one.1)))
-
-pub list_any-none : {X : Type 0} (test : X → Bool) (xs : List X) → list_any test xs ≡ false → AllByRecursion (λ x. test x ≡ false) xs
-list_any-none test [] h = tt
-list_any-none test (x ∷ xs) h = let parts = or_parts (test x) (list_any test xs) h in (parts.0, list_any-none test xs parts.1)
 
 pub position-none : {X : Type 0} (test : X → Bool) (xs : List X) → position test xs ≡ None → AllByRecursion (λ x. test x ≡ false) xs
 position-none test xs h = none_found test xs (λ found. none-some (position_or_len test xs)
@@ -56,18 +52,11 @@ least-none {X = X} is_before (x ∷ xs) h = absurd (lesser_some (least is_before
       | inr not_before ↦ none-some x (sym (rw not_before at h))
     ]
 
-pub filter-none : {X : Type 0} (test : X → Bool) (xs : List X) → filter test xs ≡ [] → AllByRecursion (λ x. test x ≡ false) xs
-filter-none test [] h = tt
-filter-none test (x ∷ xs) h = elim (cases_Bool (test x)) [
-  | inl hit ↦ absurd (omega (arith, ap length (rw hit at h)))
-  | inr miss ↦ (miss, filter-none test xs (rw miss at h))
-]
-
 -- ---- zones
 
 module _ (disk : Shape) (sound : HasZones disk) where
   good_zones : AllByRecursion (λ zone. is_bad_zone disk zone ≡ false) disk.zones
-  good_zones = list_any-none (is_bad_zone disk) disk.zones
+  good_zones = none_of_any (is_bad_zone disk) disk.zones
       (or_parts ((disk.rotation == 0) || nat_lt (10 ^ 9) disk.rotation || (disk.heads == 0) || nat_lt 64
       disk.heads || (length disk.zones == 0) || nat_lt 64 (length disk.zones)) (list_any (is_bad_zone disk) disk.zones) sound.in_range).1
 

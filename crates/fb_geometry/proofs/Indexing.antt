@@ -1,4 +1,5 @@
 -- The marks of an accepted outline are its index of bad slots.
+use Rattle.fb_units.proofs.Lists.{all_dropped}
 use Rattle.fb_geometry.proofs.Words.{AllByRecursion, AreInOrder, AreMarksOf, Bool, HasZones, IsAscending, IsIndexed}
 use Rattle.fb_geometry.proofs.Words.{IsZoneAt, IsZoneOf, List, Mark, Place, Shape, Some, Zone, [], among_unmarked, ap}
 use Rattle.fb_geometry.proofs.Words.{arith, by_head, cases_order, cylinder_slots, eq-eqb, false, filter, good_track}
@@ -9,7 +10,7 @@ use Rattle.fb_geometry.proofs.Words.{true, true≢false, zone_at, ℕ, ◌*◌, 
 use Rattle.fb_geometry.proofs.{Slips.all_over, Slips.not_among_later, Slips.indexes-ascend, Slips.is_marked_at}
 use Rattle.fb_geometry.proofs.{Slips.index_of, Slips.goes, Slips.rank_free, Slips.rank-below}
 use Rattle.fb_geometry.proofs.{Turns.get-cylinder_slots, Turns.length-cylinder_slots, Turns.good_cylinder-is}
-use Rattle.fb_geometry.proofs.{Faultless.slots_at-zone, Faultless.all_get, Faultless.filter-none, Laws.same_places}
+use Rattle.fb_geometry.proofs.{Faultless.slots_at-zone, Faultless.all_get, Laws.same_places}
 use Rattle.fb_geometry.proofs.{Lookups.slot_of, Lookups.good_lies, Lookups.defects_of, Lookups.good_of}
 use Rattle.fb_geometry.proofs.{Marking.marks_on-ascend, Marking.position_is, Marking.mark_of-slot_at, Marking.on_disk}
 use Rattle.fb_geometry.proofs.{Marking.among-on, Marking.same_marks, Marking.same_mark-refl, Leasts.Among}
@@ -136,7 +137,7 @@ module _ (disk : Shape) (zones : HasZones disk) (defects grown : List Mark) (are
   -- no grown defect is a defect
   good_place : (place : Place) → Among disk.grown place → is_among disk.defects place ≡ false
   good_place place one = all_get (λ place. is_among disk.defects place ≡ false) disk.grown one.0 place
-      (filter-none (is_among disk.defects) disk.grown clean) one.1
+      (all_dropped (is_among disk.defects) disk.grown clean) one.1
 
   good_mark : (mark : Mark) → Among grown mark → list_any (same_mark mark) defects ≡ false
   good_mark mark one =

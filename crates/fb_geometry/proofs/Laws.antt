@@ -1,4 +1,5 @@
 -- How many slots are good, and how many sectors a cylinder has.
+use Rattle.fb_units.proofs.Lists.{all_dropped, all_append}
 use Rattle.fb_geometry.proofs.Words.{All-append, All-filter, All-from_recursion, AllByRecursion, Bool, GrownOutside}
 use Rattle.fb_geometry.proofs.Words.{GrownTwice, IsZoneAt, Layout, List, None, PerCylinder, PerTrack, Place, Shape}
 use Rattle.fb_geometry.proofs.Words.{TooManyDefects, TooManyInCylinder, Track, Zone, [], and_parts, ap, arith}
@@ -15,7 +16,7 @@ use Rattle.fb_geometry.proofs.Words.{◌++◌, ◌+◌, ◌-◌, ◌<◌, ◌==�
 use Rattle.fb_geometry.proofs.{Grid.length-parts, Grid.add_zero, Grid.add_one, Grid.count_cons}
 use Rattle.fb_geometry.proofs.{Turns.good_cylinder-is, Turns.position_in-slot_at, Turns.length-cylinder_slots}
 use Rattle.fb_geometry.proofs.{Turns.good_track-is, Turns.slot_on, Faultless.fault_at-none, Faultless.or_else-none}
-use Rattle.fb_geometry.proofs.{Faultless.least-none, Faultless.filter-none, Faultless.spares_at-zone}
+use Rattle.fb_geometry.proofs.{Faultless.least-none, Faultless.spares_at-zone}
 use Rattle.fb_geometry.proofs.{Faultless.cylinder_spares_at-zone, Marking.length-filter-map}
 
 -- ---- counts
@@ -151,7 +152,7 @@ few_from spares count (inr few) = grind (arith, nat_tests)
 pub few_on_track : (disk : Shape) (track : Track) → spare_fault PerTrack disk ≡ None
     → length (filter (λ place. same_track track place.track) disk.defects) ≤ spares_at disk.zones track.cylinder
 few_on_track disk track h =
-    let none = filter-none (is_full_track disk) (map (λ place. place.track) disk.defects)
+    let none = all_dropped (is_full_track disk) (map (λ place. place.track) disk.defects)
     (least-none is_track_before (filter (is_full_track disk) (map (λ place. place.track) disk.defects))
     (fault_at-none TooManyDefects (least is_track_before (filter (is_full_track disk) (map (λ place. place.track) disk.defects))) h)) in
     few_from (spares_at disk.zones track.cylinder) (length (filter (λ place. same_track track place.track) disk.defects))
@@ -169,7 +170,7 @@ has_spares disk h =
     let a = or_else-none (fault_at GrownOutside (find (is_outside disk) disk.grown))
     (or_else (fault_at GrownTwice (least is_place_before clash)) (fault_at TooManyInCylinder (least nat_lt full))) h in
     let b = or_else-none (fault_at GrownTwice (least is_place_before clash)) (fault_at TooManyInCylinder (least nat_lt full)) a.1 in
-    let none = filter-none (is_full_cylinder disk) (map (λ place. place.track.cylinder) (disk.defects ++ disk.grown))
+    let none = all_dropped (is_full_cylinder disk) (map (λ place. place.track.cylinder) (disk.defects ++ disk.grown))
     (least-none nat_lt full (fault_at-none TooManyInCylinder (least nat_lt full) b.1)) in
     record {
       few = λ cylinder. few_from (cylinder_spares_at disk.zones cylinder)
@@ -249,15 +250,9 @@ some_size PerCylinder disk zone some h = grind (arith, nat_tests)
 
 -- ---- each entry is a slot of its cylinder
 
-pub all-append : {A : Type 0} (P : A → Type 0) (xs ys : List A) → AllByRecursion P xs → AllByRecursion P ys → AllByRecursion P (xs ++ ys)
-all-append P xs ys h k = recursion_from_All P (xs ++ ys) (All-append P xs ys (All-from_recursion P xs h) (All-from_recursion P ys k))
-
-pub all-filter : {A : Type 0} (P : A → Type 0) (test : A → Bool) (xs : List A) → AllByRecursion P xs → AllByRecursion P (filter test xs)
-all-filter P test xs h = recursion_from_All P (filter test xs) (All-filter test P xs (All-from_recursion P xs h))
-
 pub all-parts : {A : Type 0} (P : A → Type 0) (f : ℕ → List A) (a n : ℕ) → ((i : ℕ) → i < n → AllByRecursion P (f (a + i)))
     → AllByRecursion P (flat_map f (range_with_len a n))
 all-parts P f a zero h = tt
-all-parts P f a (suc n) h = all-append P (f a) (flat_map f (range_with_len (a + 1) n)) (subst (λ x. AllByRecursion P (f x))
+all-parts P f a (suc n) h = all_append P (f a) (flat_map f (range_with_len (a + 1) n)) (subst (λ x. AllByRecursion P (f x))
     (add_zero a) (h 0 (omega arith)))
     (all-parts P f (a + 1) n (λ i l. subst (λ x. AllByRecursion P (f x)) (add_one a i) (h (i + 1) (omega arith))))

@@ -1,4 +1,5 @@
 -- Where the sectors of a cylinder are.
+use Rattle.fb_units.proofs.Lists.{element_at, get_left, get_right, all_filter, all_map_any}
 use Rattle.fb_geometry.proofs.Words.{AllByRecursion, Bool, HoldsNone, HoldsSector, IfNone, IfSome, IsAscending}
 use Rattle.fb_geometry.proofs.Words.{IsGoodOf, IsZone, IsZoneAt, Layout, LiesOn, List, MatchOption, None, Option}
 use Rattle.fb_geometry.proofs.Words.{PerCylinder, PerTrack, Place, Shape, Some, Track, Zone, [], ap, arith, by_head}
@@ -11,7 +12,7 @@ use Rattle.fb_geometry.proofs.Words.{replaced, same_Some, same_place, slice_get,
 use Rattle.fb_geometry.proofs.Words.{spare_fault, stand_in, subst, suc, sym, take, take-append-drop}
 use Rattle.fb_geometry.proofs.Words.{take-map-range_with_len, take-take, true, true≢false, turn, zero, ℕ, ◌%◌, ◌*◌}
 use Rattle.fb_geometry.proofs.Words.{◌++◌, ◌+◌, ◌-◌, ◌/◌, ◌<◌, ◌==◌, ◌∙◌, ◌∷◌, ◌≡◌, ◌≤◌}
-use Rattle.fb_geometry.proofs.{Grid.within, Grid.get_left, Grid.get_right, Grid.get_part, Grid.get_range}
+use Rattle.fb_geometry.proofs.{Grid.get_part, Grid.get_range}
 use Rattle.fb_geometry.proofs.{Grid.zero_add, Slips.has, Slips.indexes-ascend, Slips.slipped_to, Slips.is_marked_at}
 use Rattle.fb_geometry.proofs.{Slips.length_front, Slips.goes, Slips.kth, Slips.rank_marked, Slips.rank-below}
 use Rattle.fb_geometry.proofs.{Slips.rank-step, Slips.length-kept, Slips.entry_holds, Slips.one_entry, Slips.held}
@@ -20,7 +21,7 @@ use Rattle.fb_geometry.proofs.{Turns.length-cylinder_slots, Turns.get-cylinder_s
 use Rattle.fb_geometry.proofs.{Turns.slot_at-position_in, Turns.position_below, Faultless.all_get}
 use Rattle.fb_geometry.proofs.{Faultless.slots_at-zone, Faultless.list_among-zone, Laws.HasSpares, Laws.has_spares}
 use Rattle.fb_geometry.proofs.{Laws.length-track, Laws.length-good, Laws.few_flaws, Laws.length_data_list}
-use Rattle.fb_geometry.proofs.{Laws.all-filter, Laws.kept_and_dropped, Laws.at_most_each, Laws.fewer}
+use Rattle.fb_geometry.proofs.{Laws.kept_and_dropped, Laws.at_most_each, Laws.fewer}
 use Rattle.fb_geometry.proofs.{Laws.once_on_cylinder}
 
 -- the bad slots of a cylinder by their positions, its good slots, and the grown defects by their indexes among these
@@ -38,10 +39,6 @@ get_take zero xs i h = absurd (omega arith)
 get_take (suc n) [] i h = refl
 get_take (suc n) (x ∷ xs) zero h = refl
 get_take (suc n) (x ∷ xs) (suc i) h = get_take n xs i (omega arith)
-
-all_map : {A B : Type 0} (P : B → Type 0) (f : A → B) → ((x : A) → P (f x)) → (xs : List A) → AllByRecursion P (map f xs)
-all_map P f each [] = tt
-all_map P f each (x ∷ xs) = (each x, all_map P f each xs)
 
 -- no cylinder has more slots than there are numbers
 pub few_slots : (disk : Shape) (zone : Zone) → disk.heads ≤ 64 → IsZone zone → disk.heads * zone.sectors ≤ 640000
@@ -249,7 +246,7 @@ module _ (disk : Shape) (zone : Zone) (cylinder : ℕ) (at : IsZoneAt disk cylin
         let slots = on_track head in
         let inside : i < length slots =
         omega (arith, length-track disk zone cylinder at head (spares_by PerTrack layout), length-take size slots) in
-        let one = within slots i inside in
+        let one = element_at slots i inside in
         on_good j (head * zone.sectors - rank (head * zone.sectors) defects + i) one.0
         (ap (slice_get sectors) (sym e) ∙ (entry head i h l ∙ one.1)) (track_in_good head i h inside ∙ one.1)
 
@@ -269,8 +266,8 @@ module _ (disk : Shape) (zone : Zone) (cylinder : ℕ) (at : IsZoneAt disk cylin
         let split = split_by_track j (slice_get_within sectors j place found) in
         let track : Track = record { cylinder = cylinder; head = j / size } in
         let slots = map (λ slot. record { track = track; slot = slot }) (turn zone.sectors (offset_in zone disk.heads track)) in
-        let on = all-filter (λ place. place.track ≡ track) (λ place. not (is_among disk.defects place)) slots
-        (all_map (λ place. place.track ≡ track) (λ slot. record { track = track; slot = slot }) (λ slot. refl)
+        let on = all_filter (λ place. place.track ≡ track) (λ place. not (is_among disk.defects place)) slots
+        (all_map_any (λ place. place.track ≡ track) (λ slot. record { track = track; slot = slot }) (λ slot. refl)
         (turn zone.sectors (offset_in zone disk.heads track))) in
         ap (λ track. track.head) (all_get (λ place. place.track ≡ track) (good_track disk zone track) (j % size) place on
         (sym (entry (j / size) (j % size) split.0 split.1) ∙ (ap (slice_get sectors) split.2 ∙ found)))
@@ -350,14 +347,14 @@ module _ (disk : Shape) (zone : Zone) (cylinder : ℕ) (at : IsZoneAt disk cylin
     pub place_by_cylinder : (j : ℕ) → j < length sectors → IsGoodOf disk zone cylinder j (entry_of_sector grown base j)
     place_by_cylinder j h =
         let below : j < base = omega (arith, length_by PerCylinder layout) in
-        let one = within whole j (omega (arith, base_inside)) in
+        let one = element_at whole j (omega (arith, base_inside)) in
         let here : slice_get (take base whole) j ≡ Some one.0 = get_take base whole j below ∙ one.1 in
         let bad : has grown j ≡ is_among disk.grown one.0 = is_marked_at (is_among disk.grown) whole j one.0 one.1 in
         let listed = ap (λ xs. slice_get xs j) (list_by PerCylinder layout) in
         elim (cases_Bool (has grown j)) [
           | inl among ↦
               let start = base - rank base grown + rank j grown in
-              let spare = within spares (rank j grown) (omega (arith, enough, rank_marked grown grown_ascend j base among below)) in
+              let spare = element_at spares (rank j grown) (omega (arith, enough, rank_marked grown grown_ascend j base among below)) in
               let in_clean : slice_get (filter clean whole) start ≡ Some spare.0 = ap (λ xs. slice_get xs start) clean_parts.0
               ∙ (get_right (filter clean (take base whole)) spares (rank j grown) start (omega (arith, clean_parts.1)) ∙ spare.1) in
               let in_whole = kth (is_among disk.grown) whole start (slice_get_within (filter clean whole) start spare.0 in_clean) in

@@ -1,4 +1,5 @@
 -- Marks: what binary searches find among marks in order, and the marks of places.
+use Rattle.fb_units.proofs.Lists.{all_get}
 use Rattle.fb_geometry.proofs.Words.{AllByRecursion, AreInOrder, Bool, HasZones, IsAscending, IsNonDecreasingBy}
 use Rattle.fb_geometry.proofs.Words.{IsNonDecreasingBy-drop, IsPartitionPoint, IsZoneOf, List, Mark, None, Pairwise}
 use Rattle.fb_geometry.proofs.Words.{Place, Shape, Some, Zone, [], and_parts, ap, arith, cases_Bool, cases_lt}
@@ -9,7 +10,7 @@ use Rattle.fb_geometry.proofs.Words.{offset_at, option_map, ordering_then, posit
 use Rattle.fb_geometry.proofs.Words.{same_mark, slice_get, slice_get-get_or, slice_get-map, slipped, slot_at}
 use Rattle.fb_geometry.proofs.Words.{slots_at, subst, suc, sym, take, true, zero, zone_at, ℕ, ◌%◌, ◌&&◌, ◌*◌, ◌+◌}
 use Rattle.fb_geometry.proofs.Words.{◌-◌, ◌<◌, ◌==◌, ◌||◌, ◌∙◌, ◌∷◌, ◌≡◌, ◌≤◌}
-use Rattle.fb_geometry.proofs.{Grid.all_get, Slips.rank-at, Slips.rank_marked, Slips.rank-step, Slips.rank-below}
+use Rattle.fb_geometry.proofs.{Slips.rank-at, Slips.rank_marked, Slips.rank-step, Slips.rank-below}
 use Rattle.fb_geometry.proofs.{Slips.has, Slips.rank-le_length, Slips.free_behind, Slips.next_marked}
 use Rattle.fb_geometry.proofs.{Turns.position_in-slot_at, Turns.slot_at-position_in, Faultless.slots_at-zone}
 use Rattle.fb_geometry.proofs.{Faultless.offset_at_zone, Faultless.find-none, Faultless.found_zone}

@@ -1,14 +1,15 @@
 -- An accepted outline is sound: no place is twice among its places, and no bad one is among them.
+use Rattle.fb_units.proofs.Lists.{all_weaker, all_append, all_from_index}
 use Rattle.fb_geometry.proofs.Words.{AllByRecursion, HasOwnPlaces, IsCylinderOf, IsFaultless, IsSound, LiesOn, List}
 use Rattle.fb_geometry.proofs.Words.{None, PerTrack, Place, Shape, Some, Zone, [], ap, arith, data_list, false}
 use Rattle.fb_geometry.proofs.Words.{first_apart, flat_map, is_among, none-some, places, range_with_len, refl}
 use Rattle.fb_geometry.proofs.Words.{same_Some, slice_get, subst, suc, sym, zero, zone_places, ℕ, ◌++◌, ◌+◌, ◌-◌, ◌<◌}
 use Rattle.fb_geometry.proofs.Words.{◌∙◌, ◌∷◌, ◌≡◌, ◌≢◌, ◌≤◌}
-use Rattle.fb_geometry.proofs.{Grid.all_weaker, Grid.add_zero, Grid.add_one, Faultless.all_get, Faultless.next}
+use Rattle.fb_geometry.proofs.{Grid.add_zero, Grid.add_one, Faultless.all_get, Faultless.next}
 use Rattle.fb_geometry.proofs.{Faultless.zones_from, Faultless.zone_by_bounds, Faultless.ranges_of}
 use Rattle.fb_geometry.proofs.{Faultless.some_rotation, Faultless.short_rotation, Faultless.some_heads}
 use Rattle.fb_geometry.proofs.{Faultless.few_heads, Faultless.some_zones, Faultless.few_zones}
-use Rattle.fb_geometry.proofs.{Faultless.few_cylinders, Faultless.data_of, Faultless.short_slots, Laws.all-append}
+use Rattle.fb_geometry.proofs.{Faultless.few_cylinders, Faultless.data_of, Faultless.short_slots}
 use Rattle.fb_geometry.proofs.{Laws.all-parts, Laws.length_data_list, Laws.some_size, Lookups.entry_of}
 use Rattle.fb_geometry.proofs.{Lookups.one_index_on}
 
@@ -29,7 +30,7 @@ one_index (y ∷ xs) (suc i) (suc j) x apart at again = ap suc (one_index xs i j
 distinct-append : {A : Type 0} (xs ys : List A) → Distinct xs → Distinct ys
     → AllByRecursion (λ x. AllByRecursion (λ y. x ≢ y) ys) xs → Distinct (xs ++ ys)
 distinct-append [] ys h k apart = k
-distinct-append (x ∷ xs) ys h k apart = (all-append (λ y. x ≢ y) xs ys h.0 apart.0, distinct-append xs ys h.1 k apart.1)
+distinct-append (x ∷ xs) ys h k apart = (all_append (λ y. x ≢ y) xs ys h.0 apart.0, distinct-append xs ys h.1 k apart.1)
 
 -- parts that a key tells apart
 module _ {A : Type 0} (key : A → ℕ) (f : ℕ → List A) where
@@ -49,10 +50,6 @@ module _ {A : Type 0} (key : A → ℕ) (f : ℕ → List A) where
       (λ x e. all_weaker (λ y. a < key y) (λ y. x ≢ y) (λ y less same. absurd (omega (arith, ap key same)))
       (flat_map f (range_with_len (a + 1) n)) rest) (f a) first.1)
 
-all_from_index : {A : Type 0} (P : A → Type 0) (xs : List A) → ((i : ℕ) (x : A) → slice_get xs i ≡ Some x → P x) → AllByRecursion P xs
-all_from_index P [] h = tt
-all_from_index P (x ∷ xs) h = (h 0 x refl, all_from_index P xs (λ i y at. h (suc i) y at))
-
 distinct_from : {A : Type 0} (xs : List A) → ((i j : ℕ) (x : A) → slice_get xs i ≡ Some x → slice_get xs j ≡ Some x → i ≡ j) → Distinct xs
 distinct_from [] one = tt
 distinct_from (x ∷ xs) one = (
@@ -67,7 +64,7 @@ module _ (disk : Shape) (h : IsFaultless disk) where
   all_zones : (P : Place → Type 0) (zones : List Zone) → ((i : ℕ) (zone : Zone) → slice_get zones i ≡ Some zone
       → AllByRecursion P (zone_places disk zone)) → AllByRecursion P (flat_map (zone_places disk) zones)
   all_zones P [] each = tt
-  all_zones P (zone ∷ zones) each = all-append P (zone_places disk zone) (flat_map (zone_places disk) zones) (each 0 zone refl)
+  all_zones P (zone ∷ zones) each = all_append P (zone_places disk zone) (flat_map (zone_places disk) zones) (each 0 zone refl)
       (all_zones P zones (λ i. each (suc i)))
 
   of_cylinder : (i : ℕ) (zone : Zone) (k : ℕ) → slice_get disk.zones i ≡ Some zone → k < zone.last + 1 - zone.first

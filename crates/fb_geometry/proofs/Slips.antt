@@ -1,4 +1,5 @@
 -- Ascending numbers, and what is left of a list when the elements that pass a test are dropped.
+use Rattle.fb_units.proofs.Lists.{all_weaker, all_get, element_at}
 use Rattle.fb_geometry.proofs.Words.{AllByRecursion, Bool, HoldsSector, IsAscending, List, Some, [], ap, arith}
 use Rattle.fb_geometry.proofs.Words.{cases_Bool, cases_lt, cases_order, cond, count_by-le-length, entry_of_sector}
 use Rattle.fb_geometry.proofs.Words.{eq-eqb, false, filter, get_or, get_or_from_slice_get, indexes, inl, inr, le-ltb}
@@ -6,8 +7,7 @@ use Rattle.fb_geometry.proofs.Words.{length, length-filter, length-filter_more, 
 use Rattle.fb_geometry.proofs.Words.{nat_tests, ne_eqb, none-some, not, option_map, rank, refl, same_Some, slice_get}
 use Rattle.fb_geometry.proofs.Words.{slice_get-map, slice_get_within, slipped, subst, suc, sym, take, true}
 use Rattle.fb_geometry.proofs.Words.{true≢false, zero, ℕ, ◌+◌, ◌-◌, ◌<◌, ◌==◌, ◌∙◌, ◌∷◌, ◌≡◌, ◌≤◌}
-use Rattle.fb_geometry.proofs.{Grid.count_cons, Grid.add_zero, Grid.all_weaker, Grid.all_get, Grid.zero_add}
-use Rattle.fb_geometry.proofs.{Grid.within}
+use Rattle.fb_geometry.proofs.{Grid.count_cons, Grid.add_zero, Grid.zero_add}
 
 -- ---- ascending numbers
 
@@ -325,7 +325,7 @@ module _ {A : Type 0} (test : A → Bool) (xs : List A) where
   pub length_front : (i : ℕ) → i ≤ length xs → length (filter (λ x. not (test x)) (take i xs)) + rank i numbers ≡ i
   length_front zero h = omega (arith, rank-below 0 numbers up)
   length_front (suc i) h =
-      let one = within xs i (omega arith) in
+      let one = element_at xs i (omega arith) in
       let same : get_or xs i one.0 ≡ one.0 = get_or_from_slice_get xs i one.0 one.0 one.1 in
       let next : suc i ≡ i + 1 = omega arith in
       let more = length-filter_more (λ x. not (test x)) xs i one.0 (omega arith) in
@@ -345,7 +345,7 @@ module _ {A : Type 0} (test : A → Bool) (xs : List A) where
   kth k h =
       let to = slipped_to k numbers up in
       let inside : slipped k numbers < length xs = omega (arith, to.0, rank-le_length (slipped k numbers) numbers, length-kept test 0 xs) in
-      let one = within xs (slipped k numbers) inside in (
+      let one = element_at xs (slipped k numbers) inside in (
         inside,
         ap (slice_get left) (omega (arith, to.0))
             ∙ (goes (slipped k numbers) one.0 one.1 (sym (is_marked_at (slipped k numbers) one.0 one.1) ∙ to.1) ∙ sym one.1),

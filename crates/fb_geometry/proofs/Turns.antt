@@ -1,4 +1,5 @@
 -- The slots of a cylinder in the order of their turns, as one list.
+use Rattle.fb_units.proofs.Lists.{flat_map_same}
 use Rattle.fb_geometry.proofs.Words.{Bool, List, Place, Shape, Some, Track, Zone, [], add-mod_left, ap, arith}
 use Rattle.fb_geometry.proofs.Words.{by_head, cases_lt, cylinder_slots, div-add-mod', div-mul-add, filter}
 use Rattle.fb_geometry.proofs.Words.{filter-append, flat_map, good_track, inl, inr, is_among, length}
@@ -58,10 +59,6 @@ pub filter-flat_map : {X A : Type 0} (p : A → Bool) (f : X → List A) (xs : L
     ≡ filter p (flat_map f xs)
 filter-flat_map p f [] = refl
 filter-flat_map p f (x ∷ xs) = ap (λ ys. filter p (f x) ++ ys) (filter-flat_map p f xs) ∙ sym (filter-append p (f x) (flat_map f xs))
-
-flat_map-same : {X A : Type 0} (f g : X → List A) → ((x : X) → f x ≡ g x) → (xs : List X) → flat_map f xs ≡ flat_map g xs
-flat_map-same f g same [] = refl
-flat_map-same f g same (x ∷ xs) = ap (λ ys. ys ++ flat_map f xs) (same x) ∙ ap (λ ys. g x ++ ys) (flat_map-same f g same xs)
 
 -- parts of one length, one after another
 flat-ranges : {A : Type 0} (g : ℕ → A) (n a h : ℕ) → flat_map (λ k. map g (range_with_len (k * n) n)) (range_with_len a h)
@@ -155,7 +152,7 @@ module _ (zone : Zone) (heads : ℕ) (some : 0 < zone.sectors) where
   pub good_cylinder-is : (disk : Shape) (cylinder : ℕ) → disk.heads ≡ heads → by_head disk cylinder (good_track disk zone)
       ≡ filter (λ place. not (is_among disk.defects place)) (cylinder_slots zone heads cylinder)
   good_cylinder-is disk cylinder e =
-      flat_map-same (λ head. good_track disk zone (record { cylinder = cylinder; head = head }))
+      flat_map_same (λ head. good_track disk zone (record { cylinder = cylinder; head = head }))
       (λ head. filter (λ place. not (is_among disk.defects place)) (map (slot_at zone heads cylinder)
       (range_with_len (head * zone.sectors) zone.sectors)))
       (λ head. good_track-is disk (record { cylinder = cylinder; head = head }) e) (range_with_len 0 disk.heads)

@@ -1,8 +1,8 @@
 -- How often a list of places leaves the turn of its track.
+use Rattle.fb_units.proofs.Lists.{all_filter}
 use Rattle.fb_maker.proofs.Words.{◌≡◌, ℕ, zero, suc, ◌+◌, ◌-◌, ◌*◌, ◌<◌, ◌≤◌, List, [], ◌∷◌, ◌++◌, length, take, Bool, true, false, refl}
 use Rattle.fb_maker.proofs.Words.{sym, ap, ◌∙◌, arith, append_assoc, subst, inl, inr, if◌then◌else◌, filter, AllByRecursion, flat_map}
 use Rattle.fb_maker.proofs.Words.{range_with_len, cases_Bool, cases_lt}
-use Rattle.fb_geometry.proofs.Laws.{all-filter}
 
 module _ {A : Type 0} (later : A → A → Bool) where
   -- the number of breaks in a list that follows one more element
@@ -72,7 +72,7 @@ module _ {A : Type 0} (later : A → A → Bool) where
   pub ascends_filter : (p : A → Bool) (xs : List A) → Ascends xs → Ascends (filter p xs)
   ascends_filter p [] up = tt
   ascends_filter p (x ∷ xs) up = elim (cases_Bool (p x)) [
-    | inl kept ↦ rw kept (all-filter (λ b. later x b ≡ true) p xs up.0, ascends_filter p xs up.1)
+    | inl kept ↦ rw kept (all_filter (λ b. later x b ≡ true) p xs up.0, ascends_filter p xs up.1)
     | inr dropped ↦ rw dropped (ascends_filter p xs up.1)
   ]
 

@@ -1,22 +1,17 @@
 -- Sectors of a disk whose tracks are long.
+use Rattle.fb_units.proofs.Lists.{all_weaker, all_range}
 use Rattle.fb_maker.proofs.Words.{length-most, ◌≡◌, ℕ, zero, suc, ◌+◌, ◌-◌, ◌*◌, ◌%◌, ◌<◌, ◌≤◌, List, [], ◌∷◌, length, map, take, drop}
 use Rattle.fb_maker.proofs.Words.{true, false, refl, sym, ap, ◌∙◌, arith, subst, append-nil, Some, None, inl, inr, ◌==◌, nat_le, nat_lt}
 use Rattle.fb_maker.proofs.Words.{not, slice_get, AllByRecursion, flat_map, range_with_len, list_all, mod-lt, mod-eq_of_lt, add-mod_left}
 use Rattle.fb_maker.proofs.Words.{length-append, length-take, none-some, cases_Bool, nat_tests, Place, Zone, PerTrack, Shape, slots_at}
 use Rattle.fb_maker.proofs.Words.{offset_at, offset_in, turn_position, is_among, places, turn, good_track, data_list, data_list_by}
 use Rattle.fb_maker.proofs.Words.{zone_places, first_apart, IsSound, cylinder_size_by, is_later, is_long}
-use Rattle.fb_geometry.proofs.Grid.{all_weaker}
 use Rattle.std.proofs.lemmas.List.FromFn.{length-range_with_len}
 use Rattle.fb_units.specs.declared.types.Track.{Track}
 use Rattle.fb_units.specs.Tracks.{same_track}
 use Rattle.fb_maker.proofs.{Left.left_get, Left.left_rest, Splitting.and_parts, Breaks.IsSpread, Breaks.SpreadsOn, Breaks.Ascends}
 use Rattle.fb_maker.proofs.{Breaks.ascends_filter, Breaks.ascends_take, Breaks.spreads_ascending, Breaks.spreads_all, Breaks.spread_nothing}
 use Rattle.fb_maker.proofs.{Breaks.Counts, Breaks.counts_above, Breaks.counts_both, Breaks.counts_range}
-
--- what holds of each number of a range holds of all elements of the list
-all_range : (P : ℕ → Type 0) (a n : ℕ) → ((k : ℕ) → a ≤ k → k < a + n → P k) → AllByRecursion P (range_with_len a n)
-all_range P a zero each = tt
-all_range P a (suc n) each = (each a (omega arith) (omega arith), all_range P (a + 1) n (λ k low high. each k (omega arith) (omega arith)))
 
 -- the slots of a turn come by one after another
 counts_turn : (n offset : ℕ) → offset < n → Counts (λ slot. (slot + n - offset) % n) 0 (turn n offset)

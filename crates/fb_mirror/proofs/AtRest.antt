@@ -8,12 +8,12 @@ use Rattle.std.proofs.lemmas.List.{map-append}
 use Rattle.std.proofs.lemmas.List.Elements.{filter-append}
 use Rattle.std.proofs.lemmas.List.Concat.{flat_map-append}
 use Rattle.std.proofs.lemmas.Option.{same_Some, none-some}
+use Rattle.fb_units.proofs.Lists.{all_weaker, all_append, all_left}
 use Rattle.fb_geometry.specs.Sound.{IsSound}
 use Rattle.fb_service.specs.declared.disk.Disk.{Disk}
 use Rattle.fb_store.specs.declared.content.Content.{Content}
 use Rattle.fb_store.specs.Sparse.{after_taking}
 use Rattle.fb_store.specs.Runs.{sectors_of}
-use Rattle.fb_calls.proofs.Lists.{all_weaker}
 use Rattle.fb_rows.specs.declared.fore.ForeRow.{ForeRow}
 use Rattle.fb_rows.specs.declared.run.Run.{Run}
 use Rattle.fb_model.specs.PlainReplay.{Served, finish, media}
@@ -22,7 +22,7 @@ use Rattle.fb_model.specs.Accepted.{IsAccepted}
 use Rattle.fb_model.specs.Content.{Medium, Written, content, fore_row, fore_rows, medium_of, writes_of}
 use Rattle.fb_model.specs.FullRun.{IsFull}
 use Rattle.fb_model.specs.Laws.{ForegroundListsAscend, OnePlainReplay}
-use Rattle.fb_model.proofs.Lists.{all_append, all_left, all_unmapped, after_is, by_is, is_by, same_first, same_rest}
+use Rattle.fb_model.proofs.Lists.{all_unmapped, after_is, by_is, is_by, same_first, same_rest}
 use Rattle.fb_model.proofs.Passages.{served_between}
 use Rattle.fb_mirror.specs.Replacement.{Event, decided, deliveries_in, events, given, held_after, later, writes_in}
 use Rattle.fb_mirror.specs.Survivor.{IsAtRest, events_by}

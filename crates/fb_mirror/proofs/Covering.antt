@@ -6,6 +6,7 @@ use Rattle.std.specs.Option.{unwrap_or}
 use Rattle.std.proofs.lemmas.Bool.{cases_Bool}
 use Rattle.std.proofs.lemmas.List.{length-append}
 use Rattle.std.proofs.lemmas.List.Sums.{sum_by-cons}
+use Rattle.fb_units.proofs.Lists.{all_weaker}
 use Rattle.fb_store.specs.declared.content.Content.{Content}
 use Rattle.fb_store.specs.declared.content.Content.TheVariants.{Unreadable}
 use Rattle.fb_store.specs.declared.content.ContentRun.{ContentRun}
@@ -14,7 +15,6 @@ use Rattle.fb_store.specs.Sparse.{after_taking, held_sector, held_in, EndsBy}
 use Rattle.fb_store.proofs.Originals.{inside, after}
 use Rattle.fb_store.proofs.Runs.{sectors_of-runs_of}
 use Rattle.fb_store.proofs.Taken.{taken_block, taken_past}
-use Rattle.fb_calls.proofs.Lists.{all_weaker}
 use Rattle.fb_mirror.specs.Replacement.{Event, IsWithin}
 use Rattle.fb_mirror.proofs.Taking.{over, taken_over}
 

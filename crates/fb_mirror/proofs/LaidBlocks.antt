@@ -6,6 +6,7 @@ use Rattle.std.proofs.lemmas.Bool.{cases_Bool, eqb-true}
 use Rattle.std.proofs.lemmas.Bool.Decides.{nat_tests}
 use Rattle.std.proofs.lemmas.List.{length-append}
 use Rattle.std.proofs.lemmas.List.Concat.{flat_map-append}
+use Rattle.fb_units.proofs.Lists.{all_append, all_filter}
 use Rattle.fb_units.specs.Rising.{IsRising}
 use Rattle.fb_units.specs.declared.types.Request.{Request}
 use Rattle.fb_geometry.specs.Shape.{Shape}
@@ -32,7 +33,7 @@ use Rattle.fb_model.specs.Completion.{is_closed, segment_by, segments, work}
 use Rattle.fb_model.specs.Segments.{choose_best, choose_in, choose_once, choose_up_to, is_better, is_busy, is_chosen, next_blocks, numbered, unchosen, with_choices}
 use Rattle.fb_model.specs.Steps.{Delivery, Step, decision_in, blocks_by, calls_due, past_after, chosen_past, take_call, tested_past, with_delivery, with_finish}
 use Rattle.std.proofs.Math.Seq.{drop-append_seam}
-use Rattle.fb_model.proofs.Lists.{all_append, all_best, all_filter}
+use Rattle.fb_model.proofs.Lists.{all_best}
 use Rattle.fb_model.proofs.HistoriesUpTo.{due_first}
 use Rattle.fb_mirror.proofs.CutCover.{EndsBy, cuts_end}
 

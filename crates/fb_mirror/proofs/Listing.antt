@@ -4,6 +4,7 @@ use Rattle.std.specs.List.{flat_map}
 use Rattle.std.proofs.lemmas.Grind.{flat_map-append}
 use Rattle.std.proofs.lemmas.List.{drop_more, map-append, take_more}
 use Rattle.std.proofs.lemmas.Option.{get_or_from_slice_get, slice_get_within}
+use Rattle.fb_units.proofs.Lists.{drop_at, take_at}
 use Rattle.fb_rows.specs.declared.back.BackRow.{BackRow}
 use Rattle.fb_rows.specs.declared.back.BackRow.TheVariants.{Gap, Idle, Got, Bad, Seal, Segment, Complete, Task}
 use Rattle.fb_rows.specs.declared.back.SealRow.{SealRow}
@@ -12,18 +13,12 @@ use Rattle.fb_mirror.specs.declared.changes.Change.{Change}
 use Rattle.fb_mirror.specs.Changes.{changes_in, changes_of}
 use Rattle.fb_mirror.specs.Replacement.{Event, sealed_by, sealed_in}
 
-taken_one : {X : Type 0} (xs : List X) (i : ℕ) (x : X) → slice_get xs i ≡ Some x → take (i + 1) xs ≡ take i xs ++ x ∷ []
-taken_one xs i x is = take_more xs i x (slice_get_within xs i x is) ∙ ap (λ y. take i xs ++ y ∷ []) (get_or_from_slice_get xs i x x is)
-
-dropped_one : {X : Type 0} (xs : List X) (i : ℕ) (x : X) → slice_get xs i ≡ Some x → drop i xs ≡ x ∷ drop (i + 1) xs
-dropped_one xs i x is = drop_more xs i x (slice_get_within xs i x is) ∙ ap (λ y. y ∷ drop (i + 1) xs) (get_or_from_slice_get xs i x x is)
-
 -- the changes of the rows so far, and of the next row
 pub row_added : {X : Type 0} (f : X → List Event) (rows : List X) (i : ℕ) (row : X) (old now new : List Change) → slice_get rows i ≡ Some row
     → now ≡ old ++ changes_of (flat_map f (take i rows)) → new ≡ now ++ changes_of (f row) → new ≡ old ++ changes_of (flat_map f (take (i + 1) rows))
 row_added f rows i row old now new is so_far added =
     let before = flat_map f (take i rows) in
-    let whole : flat_map f (take (i + 1) rows) ≡ before ++ f row = ap (flat_map f) (taken_one rows i row is) ∙ flat_map-append f (take i rows) (row ∷ []) ∙ ap (λ es. before ++ es) (append-nil (f row)) in
+    let whole : flat_map f (take (i + 1) rows) ≡ before ++ f row = ap (flat_map f) (take_at rows i row is) ∙ flat_map-append f (take i rows) (row ∷ []) ∙ ap (λ es. before ++ es) (append-nil (f row)) in
     added ∙ ap (λ cs. cs ++ changes_of (f row)) so_far ∙ append_assoc old (changes_of before) (changes_of (f row))
     ∙ ap (λ cs. old ++ cs) (sym (ap changes_of whole ∙ flat_map-append changes_in before (f row)))
 
@@ -31,11 +26,11 @@ pub run_added : (f : ContentRun → Change) (runs : List ContentRun) (i : ℕ) (
     → now ≡ old ++ map f (take i runs) → new ≡ now ++ f run ∷ [] → new ≡ old ++ map f (take (i + 1) runs)
 run_added f runs i run old now new is so_far added =
     added ∙ ap (λ cs. cs ++ f run ∷ []) so_far ∙ append_assoc old (map f (take i runs)) (f run ∷ [])
-    ∙ ap (λ cs. old ++ cs) (sym (ap (map f) (taken_one runs i run is) ∙ map-append f (take i runs) (run ∷ [])))
+    ∙ ap (λ cs. old ++ cs) (sym (ap (map f) (take_at runs i run is) ∙ map-append f (take i runs) (run ∷ [])))
 
 -- a seal row ends the search for one, and any other row is passed over
 pub seal_found : (rows : List BackRow) (i : ℕ) (got : BackRow) (row : SealRow) → slice_get rows i ≡ Some got → got ≡ Seal row → sealed_in (drop i rows) ≡ sealed_in rows → Some row.instant ≡ sealed_in rows
-seal_found rows i got row is seal so_far = sym (ap sealed_in (dropped_one rows i got is) ∙ ap (λ r. sealed_by r (sealed_in (drop (i + 1) rows))) seal) ∙ so_far
+seal_found rows i got row is seal so_far = sym (ap sealed_in (drop_at rows i got is) ∙ ap (λ r. sealed_by r (sealed_in (drop (i + 1) rows))) seal) ∙ so_far
 
 no_seal : (got : BackRow) (behind : Option ℕ) → ((row : SealRow) → got ≡ Seal row → ⊥) → sealed_by got behind ≡ behind
 no_seal (Gap row) behind other = refl
@@ -48,4 +43,4 @@ no_seal (Complete row) behind other = refl
 no_seal (Task row) behind other = refl
 
 pub seal_passed : (rows : List BackRow) (i : ℕ) (got : BackRow) → slice_get rows i ≡ Some got → ((row : SealRow) → got ≡ Seal row → ⊥) → sealed_in (drop i rows) ≡ sealed_in rows → sealed_in (drop (i + 1) rows) ≡ sealed_in rows
-seal_passed rows i got is other so_far = sym (ap sealed_in (dropped_one rows i got is) ∙ no_seal got (sealed_in (drop (i + 1) rows)) other) ∙ so_far
+seal_passed rows i got is other so_far = sym (ap sealed_in (drop_at rows i got is) ∙ no_seal got (sealed_in (drop (i + 1) rows)) other) ∙ so_far

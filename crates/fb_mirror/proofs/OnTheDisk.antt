@@ -2,13 +2,13 @@
 use Rattle.std.proofs.Common.{ℕ, ◌+◌, ◌≤◌, List, [], ◌∷◌, length, map, Bool, true, false, sym, subst}
 use Rattle.std.specs.Prelude.{if◌then◌else◌}
 use Rattle.std.specs.List.{AllByRecursion, flat_map}
+use Rattle.fb_units.proofs.Lists.{all_weaker, all_append}
 use Rattle.fb_units.specs.Rising.{IsRising}
 use Rattle.fb_geometry.specs.Places.{places}
 use Rattle.fb_service.specs.declared.disk.Disk.{Disk}
 use Rattle.fb_store.specs.declared.content.Content.TheVariants.{Filled}
 use Rattle.fb_store.specs.declared.content.ContentRun.{ContentRun}
 use Rattle.fb_store.proofs.Longest.{ends-runs_of-held}
-use Rattle.fb_calls.proofs.Lists.{all_weaker}
 use Rattle.fb_rows.specs.declared.back.BackRow.{BackRow}
 use Rattle.fb_rows.specs.declared.back.BackRow.TheVariants.{Gap, Idle, Got, Bad, Seal, Segment, Complete, Task}
 use Rattle.fb_rows.specs.declared.back.DeliveryRow.{DeliveryRow}
@@ -24,7 +24,6 @@ use Rattle.fb_model.specs.PlainReplay.{Served, finish}
 use Rattle.fb_model.specs.SoundRun.{IsDelivered, IsTested}
 use Rattle.fb_model.specs.Steps.{AtEach, Delivery, Step, decision_in, step_rows, past_after, chosen_past}
 use Rattle.fb_model.proofs.Due.{HasBytes, IsDueRow, due_block, due_bytes, delivery_true}
-use Rattle.fb_model.proofs.Lists.{all_append}
 use Rattle.fb_mirror.specs.Replacement.{IsWithin, deliveries_in, events, writes_in}
 use Rattle.fb_mirror.specs.Survivor.{sectors}
 use Rattle.fb_mirror.proofs.LaidBlocks.{AreLaid, LiesOn, laid_after, laid_first, laid_chosen, wanted_lies}

@@ -4,6 +4,7 @@ use Rattle.std.specs.Prelude.{filter, slice_get, nat_lt, ◌&&◌, ◌==◌, not
 use Rattle.std.specs.List.{AllByRecursion, fold, list_all, range_with_len, slice_index_or}
 use Rattle.std.proofs.lemmas.Bool.{cases_Bool, true≢false, and_parts, eqb-true}
 use Rattle.std.proofs.lemmas.Option.{same_Some}
+use Rattle.fb_units.proofs.Lists.{all_weaker, all_filter}
 use Rattle.fb_geometry.specs.Shape.{Shape}
 use Rattle.fb_geometry.specs.Places.{places}
 use Rattle.fb_sectormap.specs.declared.cut.Cut.{Cut}
@@ -13,7 +14,6 @@ use Rattle.fb_calls.specs.declared.call.Call.{Call}
 use Rattle.fb_calls.specs.declared.call.Kind.TheVariants.{Backup, Plain}
 use Rattle.fb_calls.specs.Sessions.{is_backup, is_clean}
 use Rattle.fb_calls.specs.Allowed.{Terms}
-use Rattle.fb_calls.proofs.Lists.{all_weaker}
 use Rattle.fb_wanted.specs.declared.block.Block.{Block}
 use Rattle.fb_wanted.specs.declared.block.State.{State}
 use Rattle.fb_wanted.specs.declared.block.State.TheVariants.{Wanted, Delivered}
@@ -25,7 +25,7 @@ use Rattle.fb_model.specs.History.{Event, called, chose, tested, delivered, fini
 use Rattle.fb_model.specs.Completion.{is_complete, is_complete_as, is_closed, is_over, own_of, segments, work}
 use Rattle.fb_model.specs.Segments.{choose_in, choose_up_to, numbered, with_choices}
 use Rattle.fb_model.specs.Steps.{Delivery, Step, decision_in, calls_due, past_after, chosen_past, take_call, tested_past, with_delivery, with_finish}
-use Rattle.fb_model.proofs.Lists.{all_filter, by_is}
+use Rattle.fb_model.proofs.Lists.{by_is}
 use Rattle.fb_mirror.specs.Script.{rebuild_calls}
 use Rattle.fb_mirror.proofs.CutCover.{HasSectors, cuts_some}
 

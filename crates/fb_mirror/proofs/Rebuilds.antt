@@ -6,6 +6,7 @@ use Rattle.std.specs.Option.{option_map, unwrap_or}
 use Rattle.std.proofs.lemmas.Bool.{true≢false}
 use Rattle.std.proofs.lemmas.List.Elements.{filter-append}
 use Rattle.std.proofs.lemmas.Option.{same_Some, none-some}
+use Rattle.fb_units.proofs.Lists.{all_weaker, all_range}
 use Rattle.fb_geometry.specs.Sound.{IsSound}
 use Rattle.fb_sectormap.specs.declared.cut.Cut.{Cut}
 use Rattle.fb_sectormap.specs.Cutting.{cutting}
@@ -16,7 +17,6 @@ use Rattle.fb_store.specs.Writes.{is_within}
 use Rattle.fb_store.proofs.Originals.{inside}
 use Rattle.fb_store.proofs.Runs.{sectors_of-runs_of}
 use Rattle.fb_store.proofs.Taken.{taken_block}
-use Rattle.fb_calls.proofs.Lists.{all_weaker}
 use Rattle.fb_wanted.specs.declared.block.Block.{Block}
 use Rattle.fb_rows.specs.declared.back.BackRow.{BackRow}
 use Rattle.fb_rows.specs.declared.back.BackRow.TheVariants.{Gap, Idle, Got, Bad, Seal, Segment, Complete, Task}
@@ -35,7 +35,7 @@ use Rattle.fb_model.specs.Segments.{numbered}
 use Rattle.fb_model.specs.SoundRun.{IsDelivered, IsPlanned, IsTested}
 use Rattle.fb_model.specs.Steps.{AtEach, Step, decision_in, decisions_in, step_rows, past_after, chosen_past}
 use Rattle.fb_model.proofs.Due.{HasBytes, IsDueRow, due_block, delivery_true}
-use Rattle.fb_model.proofs.Lists.{all_both, all_range, by_is, same_map_where}
+use Rattle.fb_model.proofs.Lists.{all_both, by_is, same_map_where}
 use Rattle.fb_model.proofs.HistoriesUpTo.{HasSector}
 use Rattle.fb_mirror.specs.Replacement.{Event, decided, deliveries_in, events, given, held_after, later, sealed_in, writes_in}
 use Rattle.fb_mirror.specs.Script.{rebuild_calls}

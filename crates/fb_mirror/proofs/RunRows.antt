@@ -3,8 +3,8 @@ use Rattle.std.proofs.Common.{◌≡◌, ℕ, List, [], ◌∷◌, ◌++◌, map
 use Rattle.std.specs.Prelude.{◌&&◌, filter, not, if◌then◌else◌}
 use Rattle.std.specs.List.{AllByRecursion, flat_map}
 use Rattle.std.proofs.lemmas.Bool.{and_parts}
+use Rattle.fb_units.proofs.Lists.{all_weaker, all_append, all_left, all_right, all_map_any}
 use Rattle.fb_service.specs.declared.disk.Disk.{Disk}
-use Rattle.fb_calls.proofs.Lists.{all_weaker}
 use Rattle.fb_rows.specs.declared.back.BackRow.{BackRow}
 use Rattle.fb_rows.specs.declared.back.BackRow.TheVariants.{Gap as GapLine, Idle as IdleLine, Got as GotLine, Bad as BadLine, Seal as SealLine, Segment as SegmentLine, Complete as CompleteLine, Task as TaskLine}
 use Rattle.fb_rows.specs.declared.back.DeliveryRow.{DeliveryRow}
@@ -18,7 +18,7 @@ use Rattle.fb_model.specs.Segments.{live_count}
 use Rattle.fb_model.specs.Images.{bad_sectors, complete_rows, findings, image, is_newly_cleaned, is_scrub, packed, seal_rows, segment_rows, test_rows}
 use Rattle.fb_model.specs.Steps.{AtEach, Delivery, Step, decision_in, history, opening, step_rows, past_after, chosen_past, task_row, task_rows, tested_past, with_delivery}
 use Rattle.fb_model.specs.SoundRun.{AreFollowed, IsSoundBy, IsTested}
-use Rattle.fb_model.proofs.Lists.{all_append, all_flat_map, all_left, all_right}
+use Rattle.fb_model.proofs.Lists.{all_flat_map}
 
 -- a row is a delivery with a property, or a seal whose instant a fact comes with, or another row
 abbrev pub RowFits : (DeliveryRow → Type 0) → (ℕ → Type 0) → BackRow → Type 0
@@ -45,10 +45,6 @@ row_weaker P Q C more (TaskLine row) fit = tt
 
 pub rows_weaker : (P Q : DeliveryRow → Type 0) (C : ℕ → Type 0) → ((row : DeliveryRow) → P row → Q row) → (rows : List BackRow) → RowsFit P C rows → RowsFit Q C rows
 rows_weaker P Q C more rows fit = all_weaker (RowFits P C) (RowFits Q C) (row_weaker P Q C more) rows fit
-
-all_any : {X Y : Type 0} (Q : Y → Type 0) (f : X → Y) → ((x : X) → Q (f x)) → (xs : List X) → AllByRecursion Q (map f xs)
-all_any Q f each [] = tt
-all_any Q f each (x ∷ xs) = (each x, all_any Q f each xs)
 
 -- ---- one delivery after another
 
@@ -85,7 +81,7 @@ module _ (P : DeliveryRow → Type 0) (C : ℕ → Type 0) where
   findings_fit past row = by (is_scrub (terms_of past row.block.task).kind)
     where
       by : (b : Bool) → RowsFit P C (if b then map (λ lbn. BadLine (record { task = row.block.task; lbn = lbn })) (bad_sectors row.content) else [])
-      by true = all_any (RowFits P C) (λ lbn. BadLine (record { task = row.block.task; lbn = lbn })) (λ lbn. tt) (bad_sectors row.content)
+      by true = all_map_any (RowFits P C) (λ lbn. BadLine (record { task = row.block.task; lbn = lbn })) (λ lbn. tt) (bad_sectors row.content)
       by false = tt
 
   opening_fits : (disk : Disk) (act : Act) → RowsFit P C (opening disk act)
@@ -95,7 +91,7 @@ module _ (P : DeliveryRow → Type 0) (C : ℕ → Type 0) where
 
   tasks_fit : (past : Past) → RowsFit P C (task_rows past)
   unfolding task_rows
-  tasks_fit past = all_any (RowFits P C) (task_row past) (λ task. tt) (task_numbers past)
+  tasks_fit past = all_map_any (RowFits P C) (task_row past) (λ task. tt) (task_numbers past)
 
   module _ (I : ℕ → Past → Type 0) (R : ℕ → ℕ → Type 0) (kept : IsKept P C I R) where
     seal_fits : (medium : Medium) (past : Past) (now task : ℕ) → I now past → RowsFit P C (seal_rows (image medium past task now) past now task)
@@ -110,7 +106,7 @@ module _ (P : DeliveryRow → Type 0) (C : ℕ → Type 0) where
     test_fits medium past now holds =
         all_append (RowFits P C) (flat_map (segment_rows (packed medium past) past now) (task_numbers past)) (flat_map (λ task. seal_rows (image medium past task now) past now task ++ complete_rows past now task) (task_numbers past))
         (all_flat_map (RowFits P C) (segment_rows (packed medium past) past now)
-        (λ task. all_any (RowFits P C)
+        (λ task. all_map_any (RowFits P C)
         (λ (choice : Choice). SegmentLine (record { task = task; segment = choice.segment.number; instant = now; live = live_count choice.segment; content = packed medium past choice })) (λ choice. tt)
         (filter (is_newly_cleaned (work past task)) (choices past task))) (task_numbers past))
         (all_flat_map (RowFits P C) (λ task. seal_rows (image medium past task now) past now task ++ complete_rows past now task)

@@ -7,6 +7,7 @@ use Rattle.std.proofs.lemmas.Bool.{cases_Bool}
 use Rattle.std.proofs.lemmas.Bool.Decides.{nat_tests}
 use Rattle.std.proofs.lemmas.List.Sums.{fold-append}
 use Rattle.std.proofs.lemmas.Option.{same_Some, none-some}
+use Rattle.fb_units.proofs.Lists.{all_weaker, all_append, all_left, all_right}
 use Rattle.fb_units.specs.declared.types.Track.{Track}
 use Rattle.fb_geometry.specs.Sound.{IsSound}
 use Rattle.fb_service.specs.declared.disk.Disk.{Disk}
@@ -16,7 +17,6 @@ use Rattle.fb_store.specs.Runs.{sectors_of}
 use Rattle.fb_store.specs.Writes.{is_within, unwritten}
 use Rattle.fb_store.proofs.Runs.{sectors_of-runs_of}
 use Rattle.fb_store.proofs.Taken.{taken_block}
-use Rattle.fb_calls.proofs.Lists.{all_weaker}
 use Rattle.fb_wanted.specs.declared.block.Block.{Block}
 use Rattle.fb_rows.specs.declared.fore.ForeRow.{ForeRow}
 use Rattle.fb_rows.specs.declared.back.BackRow.{BackRow}
@@ -33,7 +33,6 @@ use Rattle.fb_model.specs.Steps.{AtEach, Delivery, Step, decision_in, decisions_
 use Rattle.fb_model.specs.SoundRun.{HasPlan, IsDelivered, IsPlanned, IsTested}
 use Rattle.fb_model.specs.Laws.{ForegroundListsAscend, OnePlainReplay}
 use Rattle.fb_model.specs.FullRun.{IsFull}
-use Rattle.fb_model.proofs.Lists.{all_append, all_left, all_right}
 use Rattle.fb_model.proofs.Due.{HasBytes, IsDueRow, due_bytes, delivery_true}
 use Rattle.fb_model.proofs.Passages.{served_between}
 use Rattle.fb_model.proofs.DecisionsUpTo.{greatest_from, end_from}

@@ -4,6 +4,7 @@ use Rattle.std.specs.Prelude.{filter, ◌==◌, ◌&&◌, if◌then◌else◌}
 use Rattle.std.specs.List.{AllByRecursion, flat_map, last_or}
 use Rattle.std.proofs.lemmas.List.Elements.{filter-append}
 use Rattle.std.proofs.lemmas.List.Concat.{flat_map-append}
+use Rattle.fb_units.proofs.Lists.{all_weaker, all_append}
 use Rattle.fb_units.specs.declared.types.Request.{Request}
 use Rattle.fb_units.specs.declared.types.Track.{Track}
 use Rattle.fb_geometry.specs.Places.{places}
@@ -14,13 +15,12 @@ use Rattle.fb_service.specs.Service.{passages, finish_of, media_of}
 use Rattle.fb_store.specs.declared.content.Content.{Content}
 use Rattle.fb_store.specs.declared.content.Content.TheVariants.{Filled}
 use Rattle.fb_store.specs.Writes.{is_within, unwritten}
-use Rattle.fb_calls.proofs.Lists.{all_weaker}
 use Rattle.fb_model.specs.PlainReplay.{Key, Served, finish, first_track, last_track, media, plain_replay, service}
 use Rattle.fb_model.specs.Inputs.{Inputs, requests, served}
 use Rattle.fb_model.specs.Accepted.{IsAccepted}
 use Rattle.fb_model.specs.Content.{Medium, Written, content, content_by, number_of, writes_of}
 use Rattle.fb_model.specs.Laws.{FollowsRules, ForegroundListsAscend, OnePlainReplay}
-use Rattle.fb_model.proofs.Lists.{all_append, all_both, all_map, all_unmapped}
+use Rattle.fb_model.proofs.Lists.{all_both, all_map, all_unmapped}
 use Rattle.fb_model.proofs.Passages.{IsServiceOf, LiesOnDisk, passed_between, long_slots, requests_lie, served_between, passages_long, written_by}
 use Rattle.fb_model.proofs.ContentsUpTo.{is_of_by}
 use Rattle.fb_model.proofs.Picks.{all_picked}

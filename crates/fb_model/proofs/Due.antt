@@ -1,8 +1,8 @@
 -- What is due at a decision: each row is of a wanted block, passes whole, and has the bytes of its beginning; none stands twice.
 use Rattle.std.proofs.Common.{◌≡◌, ◌+◌, List, [], ◌∷◌, ◌++◌, refl, true, false, map, filter, Bool, cond, if◌then◌else◌, ◌-◌, not, ◌⊎◌, inl, inr}
 use Rattle.std.specs.List.{AllByRecursion, fold}
+use Rattle.fb_units.proofs.Lists.{all_weaker, all_append, all_filter}
 use Rattle.fb_store.specs.Runs.{runs_of, bad_of}
-use Rattle.fb_calls.proofs.Lists.{all_weaker}
 use Rattle.fb_wanted.specs.declared.block.Block.{Block}
 use Rattle.fb_rows.specs.declared.gap.Dwell.{Dwell}
 use Rattle.fb_rows.specs.declared.gap.How.{How}
@@ -18,7 +18,6 @@ use Rattle.fb_model.specs.History.{Past, wanted}
 use Rattle.fb_model.specs.Steps.{Step, decision_in, chosen_past}
 use Rattle.fb_model.specs.Rides.{gap_of, due, delivery, is_before, placed, in_order, caught, missed, lies_in, rides, begin_at, end_at}
 use Rattle.fb_model.specs.SoundRun.{IsSublist, none, left_out, taken, IsDelivered}
-use Rattle.fb_model.proofs.Lists.{all_append, all_filter}
 
 -- a row has the bytes of its beginning
 pub record HasBytes (contents : ContentsAt) (row : DeliveryRow) : Type 0 where

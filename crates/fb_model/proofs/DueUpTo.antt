@@ -4,12 +4,12 @@ use Rattle.std.specs.Prelude.{filter, ◌&&◌, ◌||◌, ◌==◌, not, nat_lt,
 use Rattle.std.specs.List.{AllByRecursion, fold}
 use Rattle.std.proofs.lemmas.Bool.{cases_Bool, true≢false, or_cases, and_parts, eqb-true}
 use Rattle.std.proofs.lemmas.Bool.Decides.{nat_tests}
+use Rattle.fb_units.proofs.Lists.{all_weaker, all_filter}
 use Rattle.fb_units.specs.declared.types.Track.{Track}
 use Rattle.fb_units.specs.Tracks.{same_track}
 use Rattle.fb_service.specs.declared.disk.Disk.{Disk}
 use Rattle.fb_service.specs.Passing.{begin_from}
 use Rattle.fb_store.specs.Runs.{runs_of, bad_of}
-use Rattle.fb_calls.proofs.Lists.{all_weaker}
 use Rattle.fb_wanted.specs.declared.block.Block.{Block}
 use Rattle.fb_rows.specs.declared.gap.Dwell.{Dwell}
 use Rattle.fb_rows.specs.declared.gap.How.{How}
@@ -23,7 +23,7 @@ use Rattle.fb_model.specs.Plans.{IsPlan, block_begin, block_end, catches, early_
 use Rattle.fb_model.specs.Decisions.{Decision, serves, idles, ends, instant_of, end_of, Act, serving, idling, ending, decision_of}
 use Rattle.fb_model.specs.Rides.{gap_of, due, delivery, is_before, placed, in_order, caught, missed, lies_in, begin_at, end_at}
 use Rattle.fb_model.specs.SoundRun.{HasPlan}
-use Rattle.fb_model.proofs.Lists.{all_filter, same_kept, by_is}
+use Rattle.fb_model.proofs.Lists.{same_kept, by_is}
 use Rattle.fb_model.proofs.Due.{IsCaughtIn, IsDueRow, all_placed, ride_of}
 use Rattle.fb_model.proofs.Passages.{IsServiceOf, block_passes, media_by}
 use Rattle.fb_model.proofs.DecisionsUpTo.{IsMade}

@@ -4,6 +4,7 @@ use Rattle.std.specs.Prelude.{filter}
 use Rattle.std.specs.List.{AllByRecursion, best_of, flat_map, range_with_len}
 use Rattle.std.proofs.lemmas.Bool.{cases_Bool, true≢false}
 use Rattle.std.proofs.lemmas.Bool.Decides.{nat_tests}
+use Rattle.fb_units.proofs.Lists.{all_filter, all_append}
 use Rattle.fb_units.specs.Rising.{IsRising}
 
 pub all_both : {X : Type 0} (P Q : X → Type 0) (xs : List X) → AllByRecursion P xs → AllByRecursion Q xs → AllByRecursion (λ x. P x × Q x) xs
@@ -14,18 +15,6 @@ pub all_any : {X : Type 0} (P : X → Type 0) → ((x : X) → P x) → (xs : Li
 all_any P f [] = tt
 all_any P f (x ∷ xs) = (f x, all_any P f xs)
 
-pub all_append : {X : Type 0} (P : X → Type 0) (xs ys : List X) → AllByRecursion P xs → AllByRecursion P ys → AllByRecursion P (xs ++ ys)
-all_append P [] ys a b = b
-all_append P (x ∷ xs) ys a b = (a.0, all_append P xs ys a.1 b)
-
-pub all_left : {X : Type 0} (P : X → Type 0) (xs ys : List X) → AllByRecursion P (xs ++ ys) → AllByRecursion P xs
-all_left P [] ys all = tt
-all_left P (x ∷ xs) ys all = (all.0, all_left P xs ys all.1)
-
-pub all_right : {X : Type 0} (P : X → Type 0) (xs ys : List X) → AllByRecursion P (xs ++ ys) → AllByRecursion P ys
-all_right P [] ys all = all
-all_right P (x ∷ xs) ys all = all_right P xs ys all.1
-
 pub all_map : {X Y : Type 0} (P : Y → Type 0) (f : X → Y) (xs : List X) → AllByRecursion (λ x. P (f x)) xs → AllByRecursion P (map f xs)
 all_map P f [] all = tt
 all_map P f (x ∷ xs) all = (all.0, all_map P f xs all.1)
@@ -33,13 +22,6 @@ all_map P f (x ∷ xs) all = (all.0, all_map P f xs all.1)
 pub all_unmapped : {X Y : Type 0} (P : Y → Type 0) (f : X → Y) (xs : List X) → AllByRecursion P (map f xs) → AllByRecursion (λ x. P (f x)) xs
 all_unmapped P f [] all = tt
 all_unmapped P f (x ∷ xs) all = (all.0, all_unmapped P f xs all.1)
-
-pub all_filter : {X : Type 0} (P : X → Type 0) (p : X → Bool) (xs : List X) → AllByRecursion P xs → AllByRecursion P (filter p xs)
-all_filter P p [] all = tt
-all_filter P p (x ∷ xs) all = elim (cases_Bool (p x)) [
-  | inl kept ↦ rw kept (all.0, all_filter P p xs all.1)
-  | inr dropped ↦ rw dropped (all_filter P p xs all.1)
-]
 
 pub all_flat_map : {X Y : Type 0} (P : Y → Type 0) (f : X → List Y) → ((x : X) → AllByRecursion P (f x)) → (xs : List X) → AllByRecursion P (flat_map f xs)
 all_flat_map P f each [] = tt
@@ -52,11 +34,6 @@ all_best P p x (y ∷ ys) one all = elim (cases_Bool (p y x)) [
   | inl better ↦ rw better (all_best P p y ys all.0 all.1)
   | inr worse ↦ rw worse (all_best P p x ys one all.1)
 ]
-
--- what holds of each number of a range
-pub all_range : (P : ℕ → Type 0) (a n : ℕ) → ((k : ℕ) → a ≤ k → k < a + n → P k) → AllByRecursion P (range_with_len a n)
-all_range P a zero f = tt
-all_range P a (suc n) f = (f a (omega arith) (omega arith), all_range P (a + 1) n (λ k le lt. f k (omega arith) (omega arith)))
 
 pub rising_filter : (p : ℕ → Bool) (xs : List ℕ) → IsRising xs → IsRising (filter p xs)
 rising_filter p [] rising = tt
@@ -74,10 +51,6 @@ pub same_map_where : {X Y : Type 0} (P : X → Type 0) (f g : X → Y) → ((x :
 same_map_where P f g same [] all = refl
 same_map_where P f g same (x ∷ xs) all = ap₂ (λ y ys. y ∷ ys) (same x all.0) (same_map_where P f g same xs all.1)
 
-pub same_flat_map : {X Y : Type 0} (f g : X → List Y) → ((x : X) → f x ≡ g x) → (xs : List X) → flat_map f xs ≡ flat_map g xs
-same_flat_map f g same [] = refl
-same_flat_map f g same (x ∷ xs) = ap₂ (λ ys zs. ys ++ zs) (same x) (same_flat_map f g same xs)
-
 -- functions that agree on what a test keeps
 pub same_kept : {X Y : Type 0} (test : X → Bool) (f g : X → Y) → ((x : X) → test x ≡ true → f x ≡ g x) → (xs : List X) → map f (filter test xs) ≡ map g (filter test xs)
 same_kept test f g same [] = refl
@@ -91,13 +64,6 @@ same_kept test f g same (x ∷ xs) = elim (cases_Bool (test x)) [
 pub none_kept : {X : Type 0} (p : X → Bool) (xs : List X) → AllByRecursion (λ x. p x ≡ false) xs → filter p xs ≡ []
 none_kept p [] all = refl
 none_kept p (x ∷ xs) all = rw (all.0) (none_kept p xs all.1)
-
-pub all_dropped : {X : Type 0} (p : X → Bool) (xs : List X) → filter p xs ≡ [] → AllByRecursion (λ x. p x ≡ false) xs
-all_dropped p [] none = tt
-all_dropped p (x ∷ xs) none = elim (cases_Bool (p x)) [
-  | inl kept ↦ absurd (let some : x ∷ filter p xs ≡ [] = rw kept at none in cc)
-  | inr dropped ↦ (dropped, all_dropped p xs (rw dropped at none))
-]
 
 -- a test that is kept by another one can come after it
 pub kept_twice : {X : Type 0} (p q : X → Bool) → ((x : X) → p x ≡ true → q x ≡ true) → (xs : List X) → filter p (filter q xs) ≡ filter p xs

@@ -2,12 +2,12 @@
 use Rattle.std.proofs.Common.{◌≡◌, ℕ, ◌<◌, ◌≤◌, List, [], ◌∷◌, ◌++◌, length, map, refl, ap, ap₂, sym, subst, ◌∙◌, arith, append_assoc, false}
 use Rattle.std.specs.Prelude.{filter}
 use Rattle.std.specs.List.{AllByRecursion, fold, flat_map}
+use Rattle.fb_units.proofs.Lists.{all_weaker}
 use Rattle.fb_units.specs.declared.types.Track.{Track}
 use Rattle.fb_units.specs.declared.types.Request.{Request}
 use Rattle.fb_geometry.specs.Sound.{IsSound}
 use Rattle.fb_calls.specs.declared.call.Call.{Call}
 use Rattle.fb_service.specs.declared.disk.Disk.{Disk}
-use Rattle.fb_calls.proofs.Lists.{all_weaker}
 use Rattle.fb_rows.specs.declared.gap.Dwell.{Dwell}
 use Rattle.fb_rows.specs.declared.gap.How.TheVariants.{Idle as ByIdle}
 use Rattle.fb_rows.specs.declared.back.BackRow.{BackRow}

@@ -4,6 +4,7 @@ use Rattle.std.specs.Prelude.{slice_get, ◌==◌}
 use Rattle.std.specs.List.{AllByRecursion, fold}
 use Rattle.std.proofs.lemmas.Bool.{cases_Bool}
 use Rattle.std.proofs.lemmas.Bool.Decides.{nat_tests}
+use Rattle.fb_units.proofs.Lists.{all_weaker, all_append}
 use Rattle.fb_units.specs.declared.types.Track.{Track}
 use Rattle.fb_units.specs.declared.types.Place.{Place}
 use Rattle.fb_units.specs.declared.types.Request.{Request}
@@ -23,7 +24,6 @@ use Rattle.fb_service.specs.declared.disk.Disk.{Disk}
 use Rattle.fb_service.specs.declared.passage.Passage.{Passage}
 use Rattle.fb_service.specs.Passing.{begin_from, length_of}
 use Rattle.fb_service.specs.Service.{passages, passage_from, finish_of, media_of}
-use Rattle.fb_calls.proofs.Lists.{all_weaker}
 use Rattle.fb_wanted.specs.declared.block.Block.{Block}
 use Rattle.fb_model.specs.PlainReplay.{Key, Served, service, finish, media, last_track}
 use Rattle.fb_model.specs.Foreground.{behind, read_of, promoted_from, promoted}
@@ -31,7 +31,7 @@ use Rattle.fb_model.specs.Inputs.{Inputs, requests}
 use Rattle.fb_model.specs.Accepted.{IsAccepted, IsRequestOf}
 use Rattle.fb_model.specs.Content.{Written, number_of, writes_of}
 use Rattle.fb_model.specs.Rides.{begin_at, end_at, lies_in}
-use Rattle.fb_model.proofs.Lists.{all_both, all_append, all_map}
+use Rattle.fb_model.proofs.Lists.{all_both, all_map}
 use Rattle.fb_model.proofs.Picks.{all_picked}
 use Rattle.fb_model.proofs.Replays.{AreTurns, IsTurn}
 

@@ -4,6 +4,7 @@ use Rattle.std.proofs.Common.{◌≡◌, ℕ, ◌<◌, ◌≤◌, List, [], ◌�
 use Rattle.std.specs.Prelude.{filter, ◌&&◌, not, if◌then◌else◌}
 use Rattle.std.specs.List.{AllByRecursion, flat_map}
 use Rattle.std.proofs.lemmas.Bool.{cases_Bool}
+use Rattle.fb_units.proofs.Lists.{all_append, all_dropped, flat_map_same}
 use Rattle.fb_store.specs.Runs.{runs_of}
 use Rattle.fb_wanted.specs.declared.block.Block.{Block}
 use Rattle.fb_wanted.specs.States.{is_delivered}
@@ -18,7 +19,7 @@ use Rattle.fb_model.specs.Images.{bad_sectors, is_scrub, findings, held_at_deliv
 use Rattle.fb_model.specs.Steps.{Delivery, with_delivery, task_row, task_rows}
 use Rattle.fb_model.specs.SoundRun.{AreFollowed}
 use Rattle.fb_model.specs.Known.{is_known, follows_known, only_if, known_from}
-use Rattle.fb_model.proofs.Lists.{all_any, all_append, all_map, all_flat_map, all_dropped, same_map, same_flat_map, is_by, is_after, after_is, same_first, same_rest, not_none}
+use Rattle.fb_model.proofs.Lists.{all_any, all_map, all_flat_map, same_map, is_by, is_after, after_is, same_first, same_rest, not_none}
 use Rattle.fb_model.proofs.FullRuns.{gots}
 use Rattle.fb_model.proofs.ContentsUpTo.{HoldSame, same_contents}
 use Rattle.fb_model.proofs.HistoriesUpTo.{AreFine, HasBegun}
@@ -126,10 +127,10 @@ module _ (done : ℕ) (a b : Medium) (same : HoldSame done a b) where
   same_held (finished request ∷ past) block fine = same_held past block fine.1
 
   same_packed : (past : Past) (choice : Choice) → AreFine (HasBegun done) past → packed a past choice ≡ packed b past choice
-  same_packed past choice fine = ap runs_of (same_flat_map (held_at_delivery a past) (held_at_delivery b past) (λ block. same_held past block fine) choice.blocks)
+  same_packed past choice fine = ap runs_of (flat_map_same (held_at_delivery a past) (held_at_delivery b past) (λ block. same_held past block fine) choice.blocks)
 
   same_image : (past : Past) (task now : ℕ) → now ≤ done → image a past task now ≡ image b past task now
-  same_image past task now h = ap runs_of (same_flat_map (λ (block : Block). contents_at a block.lbn block.count now) (λ (block : Block). contents_at b block.lbn block.count now)
+  same_image past task now h = ap runs_of (flat_map_same (λ (block : Block). contents_at a block.lbn block.count now) (λ (block : Block). contents_at b block.lbn block.count now)
       (λ block. same_contents done a b same block.lbn block.count now h) (filter (λ block. is_delivered ((work past task).bare block)) (blocks_of past task)))
 
   same_segments : (past : Past) (now task : ℕ) → AreFine (HasBegun done) past → segment_rows (packed a past) past now task ≡ segment_rows (packed b past) past now task
@@ -145,8 +146,8 @@ module _ (done : ℕ) (a b : Medium) (same : HoldSame done a b) where
   pub same_tests : (past : Past) (now : ℕ) → AreFine (HasBegun done) past → now ≤ done → test_rows a past now ≡ test_rows b past now
   unfolding test_rows
   same_tests past now fine h = ap₂ (λ segments others. segments ++ others)
-      (same_flat_map (segment_rows (packed a past) past now) (segment_rows (packed b past) past now) (λ task. same_segments past now task fine) (task_numbers past))
-      (same_flat_map (λ task. seal_rows (image a past task now) past now task ++ complete_rows past now task) (λ task. seal_rows (image b past task now) past now task ++ complete_rows past now task)
+      (flat_map_same (segment_rows (packed a past) past now) (segment_rows (packed b past) past now) (λ task. same_segments past now task fine) (task_numbers past))
+      (flat_map_same (λ task. seal_rows (image a past task now) past now task ++ complete_rows past now task) (λ task. seal_rows (image b past task now) past now task ++ complete_rows past now task)
       (λ task. ap (λ rows. rows ++ complete_rows past now task) (same_seals past now task h)) (task_numbers past))
 
   same_after : (past : Past) (got : DeliveryRow) → AreFine (HasBegun done) past → IsOver done got

@@ -4,6 +4,7 @@ use Rattle.std.specs.Prelude.{filter, ◌&&◌, ◌||◌, ◌==◌, not, if◌th
 use Rattle.std.specs.List.{fold, flat_map, list_any, range_with_len, best_of}
 use Rattle.std.proofs.lemmas.List.{drop-map}
 use Rattle.std.proofs.lemmas.List.Elements.{filter_agree}
+use Rattle.fb_units.proofs.Lists.{flat_map_same}
 use Rattle.fb_geometry.specs.Shape.{Shape}
 use Rattle.fb_calls.specs.declared.call.Action.{Action}
 use Rattle.fb_calls.specs.declared.call.Action.TheVariants.{Want}
@@ -33,7 +34,7 @@ use Rattle.fb_model.specs.Steps.{Delivery, Step, decision_in, blocks_by, take_ca
 use Rattle.fb_model.specs.SoundRun.{AreFollowed}
 use Rattle.fb_model.specs.FullRun.{HasBestPlan}
 use Rattle.fb_model.specs.Known.{without_line}
-use Rattle.fb_model.proofs.Lists.{same_map, same_flat_map, kept_map}
+use Rattle.fb_model.proofs.Lists.{same_map, kept_map}
 use Rattle.fb_model.proofs.FullRuns.{IsFullStep}
 
 abbrev unlined : Event → Event
@@ -273,7 +274,7 @@ findings_same past row = ap (λ (terms : Terms). if is_scrub terms.kind then map
 
 module _ (medium : Medium) where
   packed_same : (past : Past) (choice : Choice) → packed medium (unlined_past past) choice ≡ packed medium past choice
-  packed_same past choice = ap runs_of (same_flat_map (held_at_delivery medium (unlined_past past)) (held_at_delivery medium past) (same_held medium past) choice.blocks)
+  packed_same past choice = ap runs_of (flat_map_same (held_at_delivery medium (unlined_past past)) (held_at_delivery medium past) (same_held medium past) choice.blocks)
 
   segments_same : (past : Past) (now task : ℕ) → segment_rows (packed medium (unlined_past past)) (unlined_past past) now task ≡ segment_rows (packed medium past) past now task
   segments_same past now task =
@@ -297,8 +298,8 @@ module _ (medium : Medium) where
   tests_same past now =
       ap (λ numbers. flat_map (segment_rows (packed medium (unlined_past past)) (unlined_past past) now) numbers ++ flat_map (λ task. seal_rows (image medium (unlined_past past) task now) (unlined_past past) now task ++ complete_rows (unlined_past past) now task) numbers) (same_numbers past)
       ∙ ap₂ (λ rows more. rows ++ more)
-      (same_flat_map (segment_rows (packed medium (unlined_past past)) (unlined_past past) now) (segment_rows (packed medium past) past now) (segments_same past now) (task_numbers past))
-      (same_flat_map (λ task. seal_rows (image medium (unlined_past past) task now) (unlined_past past) now task ++ complete_rows (unlined_past past) now task) (λ task. seal_rows (image medium past task now) past now task ++ complete_rows past now task)
+      (flat_map_same (segment_rows (packed medium (unlined_past past)) (unlined_past past) now) (segment_rows (packed medium past) past now) (segments_same past now) (task_numbers past))
+      (flat_map_same (λ task. seal_rows (image medium (unlined_past past) task now) (unlined_past past) now task ++ complete_rows (unlined_past past) now task) (λ task. seal_rows (image medium past task now) past now task ++ complete_rows past now task)
       (λ task. ap₂ (λ rows more. rows ++ more) (seals_same past now task) (completes_same past now task)) (task_numbers past))
 
   followed_same : (past : Past) (deliveries : List Delivery) → AreFollowed medium past deliveries → AreFollowed medium (unlined_past past) deliveries

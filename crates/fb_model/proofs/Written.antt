@@ -5,6 +5,7 @@ use Rattle.std.specs.List.{AllByRecursion, last_or}
 use Rattle.std.proofs.lemmas.Bool.{cases_Bool}
 use Rattle.std.proofs.lemmas.Bool.Decides.{nat_tests}
 use Rattle.std.proofs.lemmas.List.Elements.{filter-append}
+use Rattle.fb_units.proofs.Lists.{all_weaker}
 use Rattle.fb_units.specs.declared.types.Track.{Track}
 use Rattle.fb_sectormap.specs.Lookup.{track_at}
 use Rattle.fb_seek.specs.Positioning.{pos}
@@ -14,7 +15,6 @@ use Rattle.fb_service.specs.Service.{passages, passage_from, finish_of, media_of
 use Rattle.fb_store.specs.declared.content.Content.{Content}
 use Rattle.fb_store.specs.declared.content.Content.TheVariants.{Filled}
 use Rattle.fb_store.specs.Writes.{is_within, unwritten}
-use Rattle.fb_calls.proofs.Lists.{all_weaker}
 use Rattle.fb_model.specs.Content.{Written, content, content_by}
 use Rattle.fb_model.proofs.ContentsUpTo.{is_of_by, none_by}
 use Rattle.fb_model.proofs.Passages.{passed_between, written_by}

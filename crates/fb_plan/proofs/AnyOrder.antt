@@ -4,6 +4,7 @@ use Rattle.std.proofs.Common.{filter, map, length, refl, arith, sym, ap, ◌∙�
 use Rattle.std.proofs.lemmas.Bool.{cases_Bool, and_parts, and_from, eqb-true, eq-eqb}
 use Rattle.std.proofs.lemmas.List.Elements.{filter-append}
 use Rattle.std.proofs.lemmas.List.Sums.{sum_by-cons}
+use Rattle.fb_units.proofs.Lists.{filter_to}
 use Rattle.fb_units.specs.declared.types.Track.{Track}
 use Rattle.fb_units.specs.Tracks.{same_track}
 use Rattle.fb_service.specs.declared.disk.Disk.{Disk}
@@ -17,7 +18,7 @@ use Rattle.fb_model.specs.Plans.{catches}
 use Rattle.fb_plan.specs.declared.catching.Catch.{Catch}
 use Rattle.fb_plan.specs.Order.{in_order, catch_of, caught_among, caught_of}
 use Rattle.fb_plan.proofs.Gains.{chosen-sum, in_filter}
-use Rattle.fb_plan.proofs.Offered.{entry-of, to_filter}
+use Rattle.fb_plan.proofs.Offered.{entry-of}
 use Rattle.fb_plan.proofs.Orders.{on_its_track}
 use Rattle.fb_plan.proofs.Sorted.{tied, tied-numbers, same-in-order}
 
@@ -129,7 +130,7 @@ module _ (track : Track) (es xs : List Entry) (blocks : List Block) (numbers : A
       → slice_get blocks i ≡ Some b → P b × (same_track track b.track ≡ true)
   on-its-track P each i b at =
       let itself = and_from (b.task == b.task) (b.number == b.number) (eq-eqb b.task b.task refl) (eq-eqb b.number b.number refl) in
-      let among = to_filter (numbered b.task b.number) blocks i b at itself in
+      let among = filter_to (numbered b.task b.number) blocks i b at itself in
       let here = ap (λ l. slice_get l among.0) (sym (the-one (numbered b.task b.number) b.task b.number (λ c h. h))) ∙ among.1 in
       let there = in_filter (numbered b.task b.number) (wanted_of (on_track track es)) among.0 b here in
       let e = entry-of (on_track track es) there.0 b there.1 in

@@ -5,6 +5,7 @@ use Rattle.std.specs.List.{sum_by}
 use Rattle.std.proofs.lemmas.Bool.{cases_Bool, and_parts, and_from, eqb-true, eq-eqb}
 use Rattle.std.proofs.lemmas.List.Sums.{sum_by-cons}
 use Rattle.std.proofs.lemmas.Option.{slice_get_within, slice_get-map, slice_get-get_or, get_or_from_slice_get}
+use Rattle.fb_units.proofs.Lists.{filter_to}
 use Rattle.fb_units.specs.declared.types.Sweep.{Sweep}
 use Rattle.fb_service.specs.declared.disk.Disk.{Disk}
 use Rattle.fb_wanted.specs.declared.block.Block.{Block}
@@ -62,12 +63,6 @@ length-blocks : (es : List Entry) → length (map (λ (x : Entry). x.block) es) 
 length-blocks [] = refl
 length-blocks (e ∷ es) = rw (length-blocks es) refl
 
-pub to_filter : {X : Type 0} (p : X → Bool) (xs : List X) (j : ℕ) (x : X) → slice_get xs j ≡ Some x → p x ≡ true
-    → (k : ℕ) × (slice_get (filter p xs) k ≡ Some x)
-to_filter p xs j x at pass =
-    let same = get_or_from_slice_get xs j x x at in
-    (length (filter p (take j xs)), filter_at p xs j x (slice_get_within xs j x at) (ap p same ∙ pass) ∙ ap Some same)
-
 -- a wanted block is that of an entry
 pub entry-of : (es : List Entry) (i : ℕ) (b : Block) → slice_get (wanted_of es) i ≡ Some b
     → (k : ℕ) × (e : Entry) × (slice_get es k ≡ Some e) × (e.block ≡ b) × (is_wanted e.state ≡ true)
@@ -87,7 +82,7 @@ pub wanted-at : (es : List Entry) (k : ℕ) (e : Entry) → slice_get es k ≡ S
     → (i : ℕ) × (slice_get (wanted_of es) i ≡ Some e.block)
 wanted-at es k e at on =
     let wanted = filter (λ (x : Entry). is_wanted x.state) es in
-    let j = to_filter (λ (x : Entry). is_wanted x.state) es k e at on in
+    let j = filter_to (λ (x : Entry). is_wanted x.state) es k e at on in
     (j.0, slice_get-map (λ (x : Entry). x.block) wanted j.0 ∙ ap (option_map (λ (x : Entry). x.block)) j.1)
 
 -- ---- offers

@@ -3,6 +3,7 @@ use Rattle.std.proofs.Common.{◌≡◌, inl, inr, ℕ, ◌+◌, ◌<◌, ◌≤
 use Rattle.std.proofs.Common.{Some, slice_get, get_or, length, arith, sym, ap, ◌∙◌, subst}
 use Rattle.std.proofs.lemmas.Bool.{cases_lt}
 use Rattle.std.proofs.lemmas.Option.{slice_get_within, slice_get-get_or}
+use Rattle.fb_units.proofs.Lists.{filter_to}
 use Rattle.fb_units.specs.declared.types.Track.{Track}
 use Rattle.fb_units.specs.Tracks.{same_track}
 use Rattle.fb_geometry.specs.Shape.{cylinders_of}
@@ -25,7 +26,7 @@ use Rattle.fb_plan.specs.declared.sides.Sides.{Sides}
 use Rattle.fb_plan.specs.Turns.{AreSides, IsTurning, end_of, stay_of}
 use Rattle.fb_plan.proofs.Enough.{enough}
 use Rattle.fb_plan.proofs.Gains.{some-one}
-use Rattle.fb_plan.proofs.Offered.{entry-of, offer-of, to_filter, wanted-at}
+use Rattle.fb_plan.proofs.Offered.{entry-of, offer-of, wanted-at}
 use Rattle.fb_plan.proofs.Swept.{turning-end}
 use Rattle.fb_plan.proofs.Ties.{later-leave, no_worse-self, no_worse-trans}
 
@@ -35,7 +36,7 @@ in_track : (track : Track) (es : List Entry) (i : ℕ) (b : Block) → slice_get
 in_track track es i b at on =
     let r = entry-of es i b at in
     let here = ap (λ (x : Block). same_track track x.track) r.3 ∙ on in
-    let k = to_filter (λ (x : Entry). same_track track x.block.track) es r.0 r.1 r.2 here in
+    let k = filter_to (λ (x : Entry). same_track track x.block.track) es r.0 r.1 r.2 here in
     (k.0, r.1, k.1, r.3, r.4)
 
 pub bounds : (disk : Disk) (gap : Gap) (way : Way) (u : ℕ) → IsPlan disk gap (plan_by way u)

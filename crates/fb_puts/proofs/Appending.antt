@@ -1,9 +1,10 @@
 -- One more put.
+use Rattle.fb_units.proofs.Lists.{all_left, none_of_any, all_right, append_at}
 use Rattle.fb_puts.proofs.Words.{get_right, all_push, ◌≡◌, ℕ, ◌+◌, ◌-◌, ◌<◌, List, [], ◌∷◌, ◌++◌, true}
 use Rattle.fb_puts.proofs.Words.{false, Some, slice_get, length, inl, inr, refl, sym, ap, ◌∙◌, arith, if◌then◌else◌, AllByRecursion}
 use Rattle.fb_puts.proofs.Words.{list_any, nat_cmp, BTreeMap, get, is_at, cases_Bool, nat_tests, SectorRange, share}
 use Rattle.fb_puts.proofs.Words.{AreApart, AreTaken}
-use Rattle.fb_puts.proofs.{Lists.all_left, Lists.all_none, Lists.all_right, Lists.at_append, Lists.some_one}
+use Rattle.fb_puts.proofs.{Lists.some_one}
 use Rattle.fb_puts.proofs.{Sharing.is_shares, Sharing.share_either}
 
 pub apart_push : (ranges : List SectorRange) (range : SectorRange) → AreApart ranges
@@ -78,7 +79,7 @@ module _ (ends new : BTreeMap ℕ ℕ) (ranges : List SectorRange) (range : Sect
     | inr other ↦
         let old = taken.only end first (sym (now end ∙ ap (λ b. if b then Some range.first else get nat_cmp ends end) other) ∙ has) in (
           old.0,
-          at_append ranges (range ∷ []) old.0 (let own : SectorRange =
+          append_at ranges (range ∷ []) old.0 (let own : SectorRange =
               record { first = first; count = end - first } in own) old.1,
           old.2,
         )
@@ -87,7 +88,7 @@ module _ (ends new : BTreeMap ℕ ℕ) (ranges : List SectorRange) (range : Sect
   -- the ranges with one more
   pub taken_push : AreTaken new (ranges ++ range ∷ [])
   taken_push =
-      let apart = all_none (share range) ranges off in
+      let apart = none_of_any (share range) ranges off in
       record {
         each = all_push (λ r. get nat_cmp new (r.first + r.count) ≡ Some r.first) ranges range
             (kept ranges taken.each apart taken.some) here;

@@ -1,9 +1,10 @@
 -- Ranges that share no sector, in another order.
+use Rattle.fb_units.proofs.Lists.{all_from_index}
 use Rattle.fb_puts.proofs.Words.{all_get, ◌≡◌, ℕ, ◌+◌, ◌≤◌, List, [], ◌∷◌, false, max, inl, inr, sym}
 use Rattle.fb_puts.proofs.Words.{◌∙◌, arith, IsPermutation, AllByRecursion, sum_by, cases_Bool, true≢false, sum_by-cons, all_weaker}
 use Rattle.fb_puts.proofs.Words.{SectorRange, share, AreApart}
 use Rattle.std.proofs.lemmas.List.Sorted.{sum_by-IsPermutation}
-use Rattle.fb_puts.proofs.{Lists.all_of, Sharing.as_many, Sharing.has, Sharing.has_it, Sharing.not_share, Sharing.once, Sharing.one_more}
+use Rattle.fb_puts.proofs.{Sharing.as_many, Sharing.has, Sharing.has_it, Sharing.not_share, Sharing.once, Sharing.one_more}
 use Rattle.fb_puts.proofs.{Sharing.sector}
 
 all_off : (lbn : ℕ) (ranges : List SectorRange) → sum_by (has lbn) ranges ≡ 0
@@ -17,7 +18,7 @@ all_off lbn (range ∷ ranges) none = elim (cases_Bool (share (sector lbn) range
 -- a range that has a sector with another one has the one where the later of them begins
 off_others : (range : SectorRange) (ranges : List SectorRange) → ((lbn : ℕ) → sum_by (has lbn) (range ∷ ranges) ≤ 1)
     → AllByRecursion (λ other. share range other ≡ false) ranges
-off_others range ranges few = all_of (λ other. share range other ≡ false) ranges (λ k other at. not_share range other (λ shares.
+off_others range ranges few = all_from_index (λ other. share range other ≡ false) ranges (λ k other at. not_share range other (λ shares.
     let lbn = max range.first other.first in
     let more = one_more lbn range ranges (has_it lbn range (omega arith) (omega (arith, shares.behind, shares.some))) in
     let one = few lbn in

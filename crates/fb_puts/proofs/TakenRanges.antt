@@ -1,8 +1,9 @@
 -- A range shares a sector with one of those that are kept by their ends just if the first of them to end behind its begin does.
+use Rattle.fb_units.proofs.Lists.{all_from_index, any_of_none}
 use Rattle.fb_puts.proofs.Words.{all_get, ◌≡◌, ℕ, zero, suc, ◌+◌, ◌-◌, ◌<◌, ◌≤◌, List, [], ◌∷◌, true, false, Some, slice_get}
 use Rattle.fb_puts.proofs.Words.{inl, inr, sym, ap, ◌∙◌, arith, nat_lt, list_any, nat_cmp, BTreeMap, get, ContainsKey}
 use Rattle.fb_puts.proofs.Words.{cases_lt, SectorRange, share, AreApart, AreTaken}
-use Rattle.fb_puts.proofs.{Lists.all_of, Lists.any_at, Lists.none_any, Lists.some_one, Lists.some_there}
+use Rattle.fb_puts.proofs.{Lists.any_at, Lists.some_one, Lists.some_there}
 use Rattle.fb_puts.proofs.{Sharing.is_shares, Sharing.lt-false, Sharing.lt-true, Sharing.not_share, Sharing.Shares}
 
 -- ranges of the list that share a sector are the same
@@ -30,7 +31,7 @@ module _ (ends : BTreeMap ℕ ℕ) (ranges : List SectorRange) (range : SectorRa
 
   -- none of them ends behind the begin of the range
   pub none_taken : ((other : ℕ) → ContainsKey nat_cmp ends other → other ≤ range.first) → false ≡ list_any (share range) ranges
-  none_taken before = sym (none_any (share range) ranges (all_of (λ other. share range other ≡ false) ranges (λ k other at.
+  none_taken before = sym (any_of_none (share range) ranges (all_from_index (λ other. share range other ≡ false) ranges (λ k other at.
       not_share range other (λ shares. let end = before (other.first + other.count) (has_end k other at) in
       omega (arith, end, shares.before)))))
 
@@ -46,7 +47,7 @@ module _ (ends : BTreeMap ℕ ℕ) (ranges : List SectorRange) (range : SectorRa
             ∙ sym (any_at (share range) ranges its.0 own its.1 (is_shares range own (omega (arith, its.2)) less
             some (omega (arith, its.2))))
         | inr more ↦ lt-false first (range.first + range.count) more
-            ∙ sym (none_any (share range) ranges (all_of (λ other. share range other ≡ false) ranges (λ k other at.
+            ∙ sym (any_of_none (share range) ranges (all_from_index (λ other. share range other ≡ false) ranges (λ k other at.
             not_share range other (λ shares.
             let later = least (other.first + other.count) (has_end k other at) shares.before in
             let same = one_of_apart ranges k its.0 other own taken.apart at its.1

@@ -4,13 +4,10 @@ use Rattle.std.specs.Prelude.{slice_get, nat_le, remove, if◌then◌else◌}
 use Rattle.std.proofs.lemmas.Bool.{cases_lt, cases_eq}
 use Rattle.std.proofs.lemmas.Bool.Decides.{nat_tests}
 use Rattle.std.proofs.lemmas.Option.{same_Some, slice_get_within}
+use Rattle.fb_units.proofs.Lists.{element_at as within, one_element}
 use Rattle.fb_units.specs.declared.types.Request.{Request}
-use Rattle.fb_geometry.proofs.Grid.{within}
 use Rattle.fb_model.specs.PlainReplay.{first_least, better}
 use Rattle.fb_queue.specs.Least.{IsFirstLeastAt}
-
-same_value : {X : Type 0} (o : Option X) (x y : X) → o ≡ Some x → o ≡ Some y → x ≡ y
-same_value o x y e f = same_Some x y (sym e ∙ f)
 
 -- one more request, which is not better
 pub keeps_best : (key : Request → ℕ) (rs : List Request) (i best least : ℕ) (r b : Request) → IsFirstLeastAt key rs i best → slice_get rs best ≡ Some b → least ≡ key b → slice_get rs i ≡ Some r → least ≤ key r
@@ -19,8 +16,8 @@ keeps_best key rs i best least r b h at_best e at_i le = record {
   within = omega (arith, h.within);
   least = λ k x q lt at_k at_q. elim (cases_lt k i) [
     | inl l ↦ h.least k x q l at_k at_q
-    | inr l ↦ let kx : x ≡ r = same_value (slice_get rs i) x r (ap (slice_get rs) (omega arith) ∙ at_k) at_i in
-        let kq : q ≡ b = same_value (slice_get rs best) q b at_q at_best in omega (arith, ap key kx, ap key kq)
+    | inr l ↦ let kx : x ≡ r = one_element (slice_get rs i) x r (ap (slice_get rs) (omega arith) ∙ at_k) at_i in
+        let kq : q ≡ b = one_element (slice_get rs best) q b at_q at_best in omega (arith, ap key kx, ap key kq)
   ];
   first = h.first;
 }
@@ -31,12 +28,12 @@ pub takes_best : (key : Request → ℕ) (rs : List Request) (i best least : ℕ
 takes_best key rs i best least r b h at_best e at_i lt = record {
   within = omega arith;
   least = λ k x q l at_k at_q.
-      let kq : q ≡ r = same_value (slice_get rs i) q r at_q at_i in
+      let kq : q ≡ r = one_element (slice_get rs i) q r at_q at_i in
       elim (cases_lt k i) [
         | inl m ↦ omega (arith, h.least k x b m at_k at_best, ap key kq)
-        | inr m ↦ let kx : x ≡ r = same_value (slice_get rs i) x r (ap (slice_get rs) (omega arith) ∙ at_k) at_i in omega (arith, ap key kx, ap key kq)
+        | inr m ↦ let kx : x ≡ r = one_element (slice_get rs i) x r (ap (slice_get rs) (omega arith) ∙ at_k) at_i in omega (arith, ap key kx, ap key kq)
       ];
-  first = λ k x q l at_k at_q. let kq : q ≡ r = same_value (slice_get rs i) q r at_q at_i in omega (arith, h.least k x b l at_k at_best, ap key kq);
+  first = λ k x q l at_k at_q. let kq : q ≡ r = one_element (slice_get rs i) q r at_q at_i in omega (arith, h.least k x b l at_k at_best, ap key kq);
 }
 
 front_better : (key : Request → ℕ) (r : Request) (rs : List Request) (best : Option (Request × List Request)) → ((b : Request × List Request) → best ≡ Some b → key r ≤ key b.0) → better key r rs best ≡ Some (r, rs)
@@ -86,7 +83,7 @@ first_least_at key (r ∷ rs) (suc place) q h at_q =
 pub first_is_best : (key : Request → ℕ) (rs : List Request) → IsFirstLeastAt key rs 1 0
 first_is_best key rs = record {
   within = omega arith;
-  least = λ k r q lt at_k at_q. let same : r ≡ q = same_value (slice_get rs 0) r q (ap (slice_get rs) (omega arith) ∙ at_k) at_q in omega (arith, ap key same);
+  least = λ k r q lt at_k at_q. let same : r ≡ q = one_element (slice_get rs 0) r q (ap (slice_get rs) (omega arith) ∙ at_k) at_q in omega (arith, ap key same);
   first = λ k r q lt at_k at_q. absurd (omega arith);
 }
 

@@ -1,11 +1,11 @@
 -- The end line is the only line that begins like it.
+use Rattle.fb_units.proofs.Lists.{all_push, all_weaker, all_get, get_left, get_right}
 use Rattle.fb_report.proofs.Words.{and_parts, ◌≡◌, ℕ, suc, ◌+◌, ◌≤◌, List, [], ◌∷◌, ◌++◌, ◌⊎◌, inl, inr, length, true, false, refl, sym, ap}
 use Rattle.fb_report.proofs.Words.{◌∙◌, arith, lit≤, true≢false, subst, length-append, Some, Ok, ◌==◌, ◌&&◌, codes, slice_get}
 use Rattle.fb_report.proofs.Words.{AllByRecursion, onto_first, list_any, bytes_eq, cases_Bool, Decides-eqb, slice_split-cons_yes}
 use Rattle.fb_report.proofs.Words.{slice_split-cons_no, Grammar, Form, fore_grammar, back_grammar, have_forms, is_line_of, is_word}
 use Rattle.fb_report.proofs.Words.{report_fields, may_follow, may_end, lines_behind, BeginsLikeEnd, EndsOnce, ReportsEndOnce}
-use Rattle.fb_calls.proofs.Lists.{all_push, all_weaker}
-use Rattle.fb_report.proofs.{Ranges.all_get, Ranges.get_left, Ranges.get_right, Whole.row_or_end}
+use Rattle.fb_report.proofs.{Whole.row_or_end}
 
 -- ---- forms of a line
 

@@ -1,10 +1,10 @@
 -- The lines of a report: a first one, one for each row in order, and a last one.
+use Rattle.fb_units.proofs.Lists.{get_left, get_right}
 use Rattle.fb_report.proofs.Words.{◌≡◌, ℕ, suc, ◌+◌, ◌-◌, ◌<◌, List, [], ◌∷◌, ◌++◌, length, map, refl, ap, ◌∙◌, arith}
 use Rattle.fb_report.proofs.Words.{Some, slice_get, option_map, length-map, slice_get-map, slice_get_within}
 use Rattle.fb_report.proofs.Words.{Bytes, fore_line, fore_first, fore_last, fore_lines, back_line, back_first, back_last, back_lines}
 use Rattle.std.proofs.lemmas.List.{length-append}
 use Rattle.fb_rows.specs.declared.run.Run.{Run}
-use Rattle.fb_report.proofs.Ranges.{get_left, get_right}
 
 -- these lines are a first one, a line for each row, and a last one
 pub record AreLines {X : Type 0} (first : List ℕ) (line : X → List ℕ) (rows : List X) (last : List ℕ) (lines : List (List ℕ)) : Type 0 where

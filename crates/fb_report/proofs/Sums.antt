@@ -1,4 +1,5 @@
 -- Sums over the rows of a run, so far and from there on.
+use Rattle.fb_units.proofs.Lists.{drop_at}
 use Rattle.fb_report.proofs.Words.{◌≡◌, ℕ, ◌+◌, ◌≤◌, max, List, [], ◌∷◌, ◌++◌, length, refl, sym, ap, ◌∙◌, arith, append_assoc, append-nil}
 use Rattle.fb_report.proofs.Words.{drop, Option, Some, None, slice_get, cons_option, filter_map, flat_map, fold, nat_tests, drop_all}
 use Rattle.fb_report.proofs.Words.{gap_in, delivery_in, task_in}
@@ -8,15 +9,14 @@ use Rattle.fb_rows.specs.declared.back.DeliveryRow.{DeliveryRow}
 use Rattle.fb_rows.specs.declared.back.TaskRow.{TaskRow}
 use Rattle.fb_rows.specs.declared.back.BackRow.{BackRow}
 use Rattle.fb_rows.specs.declared.back.BackRow.TheVariants.{Gap, Got, Task}
-use Rattle.fb_report.proofs.Ranges.{drop_got}
 
 module _ {X Y : Type 0} (h : X → Option Y) (xs : List X) (i : ℕ) where
   -- what is found at an element, of those from there on
   pub found_at : (x : X) (y : Y) → slice_get xs i ≡ Some x → h x ≡ Some y → filter_map h (drop i xs) ≡ y ∷ filter_map h (drop (i + 1) xs)
-  found_at x y at is = ap (filter_map h) (drop_got xs i x at) ∙ ap (λ o. cons_option o (filter_map h (drop (i + 1) xs))) is
+  found_at x y at is = ap (filter_map h) (drop_at xs i x at) ∙ ap (λ o. cons_option o (filter_map h (drop (i + 1) xs))) is
 
   pub nothing_at : (x : X) → slice_get xs i ≡ Some x → h x ≡ None → filter_map h (drop i xs) ≡ filter_map h (drop (i + 1) xs)
-  nothing_at x at is = ap (filter_map h) (drop_got xs i x at) ∙ ap (λ o. cons_option o (filter_map h (drop (i + 1) xs))) is
+  nothing_at x at is = ap (filter_map h) (drop_at xs i x at) ∙ ap (λ o. cons_option o (filter_map h (drop (i + 1) xs))) is
 
   pub none_left : length xs ≤ i → filter_map h (drop i xs) ≡ []
   none_left past = ap (filter_map h) (drop_all i xs past)

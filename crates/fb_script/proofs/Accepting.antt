@@ -1,5 +1,6 @@
 -- What is accepted obeys the rules.
 use Rattle.std.proofs.Common.{◌≡◌, ℕ, ◌+◌, ◌*◌, ◌^◌, ◌<◌, ◌≤◌, Bool, true, false, not, ◌&&◌, nat_le, nat_lt, nat_eq, List, length, max, get_or, Some, Result, Ok, position, is_some, refl, sym, ap, ◌∙◌, subst, arith}
+use Rattle.fb_units.proofs.Lists.{same_Ok}
 use Rattle.fb_units.specs.Judging.{◌>>◌, or_refuse, refuse}
 use Rattle.fb_units.proofs.Judged.{both_ok, value_ok, test_ok}
 use Rattle.std.proofs.lemmas.Bool.Decides.{nat_tests}
@@ -27,9 +28,6 @@ use Rattle.std.specs.Str.{bytes_eq}
 pub passed : {E B : Type 0} (reason : E) (test : Bool) (rest : Result B E) (b : B) → (refuse reason test >> rest) ≡ Ok b → (test ≡ false) × (rest ≡ Ok b)
 passed reason true rest b given = cc
 passed reason false rest b given = (refl, given)
-
-pub ok_same : {A E : Type 0} (a b : A) → ◌≡◌ {A = Result A E} (Ok a) (Ok b) → a ≡ b
-ok_same a b given = cc
 
 some_product : (a b : ℕ) → 0 < a → 0 < b → 0 < a * b
 some_product a b one two = let more = mul-lt-mul_of_pos_right one two in omega arith
@@ -131,7 +129,7 @@ module _ (disk : Shape) (traced : ℕ) (so_far : Progress) (knows : Knows disk t
       let free = passed TaskTaken (is_some (task_of so_far.names name)) _ task given in
       let heavy = passed WeightOutOfRange (not (nat_le 1 weight && nat_le weight 1000)) _ task free.1 in
       let large = passed BlockOutOfRange (not (nat_le 1 block && nat_le block 2048)) _ task heavy.1 in
-      let number : length so_far.names ≡ task = ok_same (length so_far.names) task large.1 in
+      let number : length so_far.names ≡ task = same_Ok (length so_far.names) task large.1 in
       record {
         may = (sym number ∙ knows.names_are, grind (arith, nat_tests), grind (arith, nat_tests), grind (arith, nat_tests), grind (arith, nat_tests));
         place = (sym number ∙ (knows.names_are ∙ sym same_length), grind (arith, nat_tests));
@@ -179,7 +177,7 @@ module _ (disk : Shape) (traced : ℕ) (so_far : Progress) (knows : Knows disk t
       let found = both_ok (or_refuse UnknownTask (task_of so_far.names name)) _ task given in
       let unclosed = passed Closed (session_of so_far.sessions found.0).closed _ task found.2 in
       let may = both_ok (allowed disk so_far (session_of so_far.sessions found.0) action) _ task unclosed.1 in
-      let same : found.0 ≡ task = ok_same found.0 task may.2 in
+      let same : found.0 ≡ task = same_Ok found.0 task may.2 in
       let facts = allowed_passed disk so_far knows.few_blocks (session_of so_far.sessions found.0) action may.0 may.1 in
       let inside = position_inside (bytes_eq name) so_far.names found.0 (value_ok UnknownTask (task_of so_far.names name) found.0 found.1) in
       subst (λ t. Admits disk so_far t action) same (record {

@@ -1,6 +1,7 @@
 -- An accepted script obeys the rules.
 use Rattle.std.proofs.Common.{◌≡◌, ℕ, ◌+◌, ◌^◌, ◌<◌, ◌≤◌, nat_lt, List, [], ◌∷◌, length, Ok, refl, sym, subst, arith}
 use Rattle.std.proofs.lemmas.Bool.Decides.{nat_tests}
+use Rattle.fb_units.proofs.Lists.{same_Ok}
 use Rattle.fb_units.proofs.Judged.{both_ok, step_ok}
 use Rattle.fb_units.specs.Lines.{lines_of, fields_of}
 use Rattle.fb_geometry.specs.Shape.{Shape}
@@ -10,7 +11,7 @@ use Rattle.fb_calls.specs.Allowed.{tasks, IsScript}
 use Rattle.fb_script.specs.Judgement.{Progress, task_for, call_of, with_call}
 use Rattle.fb_script.specs.Line.{Entry, entry_of}
 use Rattle.fb_script.specs.Reading.{Accepted, at_start, at_end, line_read, fault_at, next_progress, lines_from, calls_of}
-use Rattle.fb_script.proofs.Accepting.{IsWithinEntry, passed, ok_same, admits}
+use Rattle.fb_script.proofs.Accepting.{IsWithinEntry, passed, admits}
 use Rattle.fb_script.proofs.Following.{Knows}
 use Rattle.fb_script.proofs.Keeping.{call_kept}
 use Rattle.fb_script.proofs.Spelling.{entry_within}
@@ -25,22 +26,22 @@ module _ (disk : Shape) (traced : ℕ) where
       let task = both_ok (task_for disk so_far entry.name asked.0) _ call asked.2 in
       let made : Call = record { line = number; instant = entry.instant; task = task.0; action = asked.0 } in
       let later : so_far.instant ≤ entry.instant = grind (arith, nat_tests) in
-      subst (λ c. Knows disk traced (with_call disk entry.name so_far c)) (ok_same made call task.2)
+      subst (λ c. Knows disk traced (with_call disk entry.name so_far c)) (same_Ok made call task.2)
       (call_kept disk traced so_far knows entry.name made later within.0 (admits disk traced so_far knows asked.0 task.0 entry.name (within.1 asked.0 asked.1) task.1))
 
   line_allowed : (number : ℕ) (so_far next : Progress) (fields : List (List ℕ)) → Knows disk traced so_far → line_read disk number so_far fields ≡ Ok next → Knows disk traced next
   unfolding line_read
-  line_allowed number so_far next [] knows given = subst (Knows disk traced) (ok_same so_far next given) knows
+  line_allowed number so_far next [] knows given = subst (Knows disk traced) (same_Ok so_far next given) knows
   line_allowed number so_far next (field ∷ fields) knows given =
       let entry = both_ok (entry_of (field ∷ fields)) _ next given in
       let call = both_ok (call_of disk so_far number entry.0) _ next entry.2 in
-      subst (Knows disk traced) (ok_same (with_call disk entry.0.name so_far call.0) next call.2)
+      subst (Knows disk traced) (same_Ok (with_call disk entry.0.name so_far call.0) next call.2)
       (call_allowed number so_far entry.0 call.0 knows (entry_within (field ∷ fields) entry.0 entry.1) call.1)
 
   lines_allowed : (number : ℕ) (so_far : Progress) (lines : List (List ℕ)) (accepted : Accepted) → Knows disk traced so_far → lines_from disk number so_far lines ≡ Ok accepted
       → (last : Progress) × (at_end last ≡ accepted) × Knows disk traced last
   unfolding lines_from
-  lines_allowed number so_far [] accepted knows given = (so_far, ok_same (at_end so_far) accepted given, knows)
+  lines_allowed number so_far [] accepted knows given = (so_far, same_Ok (at_end so_far) accepted given, knows)
   lines_allowed number so_far (line ∷ lines) accepted knows given =
       let next = both_ok (next_progress disk number so_far line) _ accepted given in
       let step = step_ok (fault_at number) (line_read disk number so_far (fields_of line)) next.0 next.1 in

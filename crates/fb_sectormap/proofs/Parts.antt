@@ -5,7 +5,7 @@ use Rattle.std.specs.List.{flat_map, range_with_len}
 use Rattle.std.proofs.lemmas.List.{length-append}
 use Rattle.std.proofs.lemmas.List.Concat.{flat_map-append}
 use Rattle.std.proofs.lemmas.Bool.{cases_lt}
-use Rattle.fb_geometry.proofs.Grid.{get_left, get_right}
+use Rattle.fb_units.proofs.Lists.{get_left, get_right}
 
 -- a range is one range after another
 pub range-split : (a m n b k : ℕ) → b ≡ a + m → k ≡ m + n → range_with_len a k ≡ range_with_len a m ++ range_with_len b n

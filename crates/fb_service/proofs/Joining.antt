@@ -19,10 +19,6 @@ pub follow-append : (t u end : ℕ) (ps qs : List Passage) → FollowOn t ps u �
 follow-append t u end [] qs before after = subst (λ x. FollowOn x qs end) (sym before) after
 follow-append t u end (p ∷ ps) qs before after = (before.0, follow-append p.end u end ps qs before.1 after)
 
-pub all-more : {A : Type 0} (P : A → Type 0) (xs : List A) (x : A) → AllByRecursion P xs → P x → AllByRecursion P (xs ++ x ∷ [])
-all-more P [] x all one = (one, tt)
-all-more P (y ∷ ys) x all one = (all.0, all-more P ys x all.1 one)
-
 module _ (disk : Shape) (first other begin next end : ℕ) where
   -- passages that end later than t begin no earlier
   in-time : (i n t : ℕ) → FollowOn t (map (λ x. passage_from disk (other + x) next) (range_with_len i n)) end → t ≤ end

@@ -1,4 +1,5 @@
 -- A session is opened, a log segment is added to one, or a range is wanted for one.
+use Rattle.fb_units.proofs.Lists.{get_left}
 use Rattle.fb_tasks.proofs.Words.{◌≡◌, ℕ, suc, ◌+◌, ◌<◌, ◌≤◌, ◌==◌, not, List, [], ◌∷◌, ◌++◌, false, None, Some, length, slice_get}
 use Rattle.fb_tasks.proofs.Words.{filter, append-nil, length-append, refl, ap, sym, ◌∙◌, arith, subst, ◌-◌, ◌*◌, ◌^◌, Bool, true, Option}
 use Rattle.fb_tasks.proofs.Words.{map, set, get_or, ◌&&◌, and-false, AllByRecursion, slice_index_or, list_any, flat_map, true≢false}
@@ -19,7 +20,6 @@ use Rattle.fb_tasks.proofs.Cuts.{cuts_placed, cuts_ascend, cuts_indexed, cuts_ow
 use Rattle.fb_calls.specs.Allowed as allowed
 use Rattle.fb_clean.specs.Segments as clean
 use Rattle.fb_wanted.specs.Numbering as numbering
-use Rattle.fb_geometry.proofs.Grid.{get_left}
 
 -- what a session is when it has just been opened
 pub record IsFresh (kind : Kind) (weight block : ℕ) (session : Session) : Type 0 where

@@ -1,4 +1,5 @@
 -- Blocks of a task that are cut from a range, and those of a segment's live blocks, one after another.
+use Rattle.fb_units.proofs.Lists.{drop_at}
 use Rattle.fb_tasks.proofs.Words.{◌≡◌, ℕ, suc, ◌+◌, ◌-◌, ◌^◌, ◌<◌, ◌≤◌, List, [], ◌∷◌, ◌++◌, length, refl, ap, sym, ◌∙◌, arith, subst, Some}
 use Rattle.fb_tasks.proofs.Words.{drop, slice_get, append_assoc, length-append, AllByRecursion, flat_map, range_with_len, Shape, places}
 use Rattle.fb_tasks.proofs.Words.{Cut, IsOneTurn, cutting, numbered, AreCuts, cuts_rise, IsBlockOf, AreIndexed, Ascend, map-append}
@@ -64,9 +65,6 @@ cuts_cover disk task weight block n from end (cut ∷ cuts) h =
     let size : cut.count + (end - (from + cut.count)) ≡ end - from = omega arith in
     rw (h.0, cuts_cover disk task weight block (n + 1) (from + cut.count) end cuts h.4)
     (sym (range-append from cut.count (end - (from + cut.count))) ∙ ap (range_with_len from) size)
-
-pub drop_at : {X : Type 0} (xs : List X) (i : ℕ) (x : X) → slice_get xs i ≡ Some x → drop i xs ≡ x ∷ drop (i + 1) xs
-drop_at xs i x h = drop_more xs i x (slice_get_within xs i x h) ∙ rw (get_or_from_slice_get xs i x x h) refl
 
 pub numbered_append : (task weight n : ℕ) (cs ds : List Cut) → numbered task weight n (cs ++ ds) ≡ numbered task weight n cs ++ numbered task weight (n + length cs) ds
 numbered_append task weight n [] ds = ap (λ k. numbered task weight k ds) (let e : n ≡ n + 0 = omega arith in e)

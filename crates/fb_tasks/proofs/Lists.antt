@@ -5,18 +5,13 @@ use Rattle.std.proofs.lemmas.Bool.{cases_Bool, cases_lt}
 use Rattle.std.proofs.lemmas.Bool.Decides.{nat_tests}
 use Rattle.std.proofs.lemmas.Option.{slice_get-map}
 pub use Rattle.std.proofs.lemmas.Option.{same_Some as some_same}
-pub use Rattle.fb_geometry.proofs.Faultless.{all_get as all_at, find-none as find_none, list_any-none as none_pass}
-pub use Rattle.fb_calls.proofs.Lists.{all_weaker}
-pub use Rattle.fb_wanted.proofs.Standing.{get_some as some_at}
-pub use Rattle.fb_model.proofs.Lists.{all_any, all_range, all_append, all_left, all_right, all_map, all_filter, none_kept as filter_none}
+pub use Rattle.fb_units.proofs.Lists.{none_of_any as none_pass, all_weaker, element_at as some_at, all_range, all_append, all_left, all_right, all_filter}
+pub use Rattle.fb_geometry.proofs.Faultless.{all_get as all_at, find-none as find_none}
+pub use Rattle.fb_model.proofs.Lists.{all_any, all_map, none_kept as filter_none}
 
 pub all_with : {X : Type 0} (P Q R : X → Type 0) → ((x : X) → P x → Q x → R x) → (xs : List X) → AllByRecursion P xs → AllByRecursion Q xs → AllByRecursion R xs
 all_with P Q R f [] p q = tt
 all_with P Q R f (x ∷ xs) p q = (f x p.0 q.0, all_with P Q R f xs p.1 q.1)
-
-pub all_placed : {X : Type 0} (P : X → Type 0) (xs : List X) → ((i : ℕ) (x : X) → slice_get xs i ≡ Some x → P x) → AllByRecursion P xs
-all_placed P [] f = tt
-all_placed P (x ∷ xs) f = (f 0 x refl, all_placed P xs (λ i y at. f (suc i) y at))
 
 pub all_pass : {X : Type 0} (p : X → Bool) (xs : List X) → AllByRecursion (λ x. p x ≡ true) (filter p xs)
 all_pass p [] = tt
@@ -51,11 +46,6 @@ pub flat_same : {X Y : Type 0} (f g : X → List Y) (xs : List X) → AllByRecur
 flat_same f g [] h = refl
 flat_same f g (x ∷ xs) h = rw (h.0, flat_same f g xs h.1) refl
 
--- none of these passes, or gives anything
-pub any_none : {X : Type 0} (p : X → Bool) (xs : List X) → AllByRecursion (λ x. p x ≡ false) xs → list_any p xs ≡ false
-any_none p [] h = refl
-any_none p (x ∷ xs) h = rw h.0 (any_none p xs h.1)
-
 pub flat_none : {X Y : Type 0} (f : X → List Y) (xs : List X) → AllByRecursion (λ x. f x ≡ []) xs → flat_map f xs ≡ []
 flat_none f [] h = refl
 flat_none f (x ∷ xs) h = rw (h.0, flat_none f xs h.1) refl
@@ -73,19 +63,6 @@ filter_from p (y ∷ ys) i x h = elim (cases_Bool (p y)) [
   first : (k : ℕ) → slice_get (y ∷ filter p ys) k ≡ Some x → p y ≡ true → ((n : ℕ) → slice_get (filter p ys) n ≡ Some x → Found p ys x) → Found p (y ∷ ys) x
   first zero at pass rest = (zero, at, subst (λ z. p z ≡ true) (some_same y x at) pass)
   first (suc k) at pass rest = let r = rest k at in (suc r.0, r.1, r.2)
-
--- and one that passes stands among those that do
-pub filter_to : {X : Type 0} (p : X → Bool) (xs : List X) (i : ℕ) (x : X) → slice_get xs i ≡ Some x → p x ≡ true → (j : ℕ) × (slice_get (filter p xs) j ≡ Some x)
-filter_to p [] i x h pass = absurd (cc)
-filter_to p (y ∷ ys) zero x h pass = (zero, grind arith)
-filter_to p (y ∷ ys) (suc i) x h pass = let rest = filter_to p ys i x h pass in elim (cases_Bool (p y)) [
-  | inl in_p ↦ (suc rest.0, rw in_p rest.1)
-  | inr out_p ↦ (rest.0, rw out_p rest.1)
-]
-
--- places of elements
-pub map_at : {X Y : Type 0} (f : X → Y) (xs : List X) (i : ℕ) (x : X) → slice_get xs i ≡ Some x → slice_get (map f xs) i ≡ Some (f x)
-map_at f xs i x at = rw (slice_get-map f xs i, at) refl
 
 -- an element that is found has what all have, and passes
 pub find_all : {X : Type 0} (P : X → Type 0) (p : X → Bool) (xs : List X) (x : X) → AllByRecursion P xs → find p xs ≡ Some x → P x × (list_any p xs ≡ true)

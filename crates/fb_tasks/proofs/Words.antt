@@ -20,6 +20,7 @@ pub use Rattle.std.proofs.lemmas.List.FromFn.{length-map-range_with_len, map-ran
 pub use Rattle.std.proofs.lemmas.List.Sums.{length-filter, sum_by-append, sum_by-cons}
 pub use Rattle.std.proofs.lemmas.Option.{get_or_from_slice_get, none-some, slice_get-get_or, slice_get_past, slice_get_read, slice_get_within}
 pub use Rattle.std.proofs.lemmas.Result.{IfOk-weaker, on_err_weaker, on_ok_weaker}
+pub use Rattle.fb_units.proofs.Lists.{on_err, all_from_index as all_placed, any_of_none as any_none, filter_to, map_at}
 pub use Rattle.fb_units.specs.declared.types.Request.{Request}
 pub use Rattle.fb_geometry.specs.Places.{places}
 pub use Rattle.fb_geometry.specs.Shape.{Shape}
@@ -53,7 +54,6 @@ pub use Rattle.fb_wanted.specs.declared.block.Counts.{Counts}
 pub use Rattle.fb_wanted.specs.declared.block.Entry.{Entry}
 pub use Rattle.fb_wanted.specs.declared.block.State.{State}
 pub use Rattle.fb_wanted.specs.declared.block.State.TheVariants.{Aborted, Delivered, Suspended, Wanted}
-pub use Rattle.fb_wanted.proofs.Lists.{on_err}
 pub use Rattle.fb_rows.specs.declared.back.BackRow.{BackRow}
 pub use Rattle.fb_rows.specs.declared.back.BackRow.TheVariants.{Bad, Bad as BadLine, Complete as CompleteLine, Got as GotLine}
 pub use Rattle.fb_rows.specs.declared.back.BackRow.TheVariants.{Seal as SealLine, Segment as SegmentLine, Task as TaskLine}
@@ -92,8 +92,8 @@ unfoldable pub use Rattle.fb_tasks.specs.Taken.{test_rows_found}
 pub use Rattle.fb_tasks.specs.Telling.{Delivers, IsCall, IsUpToDate, MayDeliver, MayChooseAndTest, MayTake, Tells, choosable, tested_at}
 pub use Rattle.fb_tasks.specs.Writing.{left_by_write, left_in, state_left}
 pub use Rattle.fb_tasks.specs.declared.session.Session.{Session}
-pub use Rattle.fb_tasks.proofs.Lists.{all_any, all_append, all_at, all_filter, all_flat, all_left, all_map, all_pass, all_placed, all_range}
-pub use Rattle.fb_tasks.proofs.Lists.{all_right, all_same, all_weaker, all_with, any_none, any_same, each_all, each_push, each_set}
-pub use Rattle.fb_tasks.proofs.Lists.{filter_from, filter_none, filter_same, filter_to, find_all, find_none, flat_all, flat_none}
-pub use Rattle.fb_tasks.proofs.Lists.{flat_same, list_all_each, map_at, map_same, none_pass, number_other, one_or_other, other_number}
+pub use Rattle.fb_tasks.proofs.Lists.{all_any, all_append, all_at, all_filter, all_flat, all_left, all_map, all_pass, all_range}
+pub use Rattle.fb_tasks.proofs.Lists.{all_right, all_same, all_weaker, all_with, any_same, each_all, each_push, each_set}
+pub use Rattle.fb_tasks.proofs.Lists.{filter_from, filter_none, filter_same, find_all, find_none, flat_all, flat_none}
+pub use Rattle.fb_tasks.proofs.Lists.{flat_same, list_all_each, map_same, none_pass, number_other, one_or_other, other_number}
 pub use Rattle.fb_tasks.proofs.Lists.{same_number, some_at, some_same, step_to}

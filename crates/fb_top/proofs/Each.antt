@@ -6,16 +6,6 @@ use Rattle.std.proofs.lemmas.List.FromFn.{get_or-range_with_len, length-range_wi
 use Rattle.std.proofs.lemmas.Option.{slice_get-get_or}
 use Rattle.fb_wanted.proofs.Numbers.{in_either}
 
--- an index within a list has an element
-pub element_at : {X : Type 0} (xs : List X) (i : ℕ) → i < length xs → (x : X) × (slice_get xs i ≡ Some x)
-element_at [] i inside = absurd (omega arith)
-element_at (x ∷ xs) zero inside = (x, refl)
-element_at (x ∷ xs) (suc i) inside = element_at xs i (omega arith)
-
--- and one alone
-pub one_element : {X : Type 0} (there : Option X) (x y : X) → there ≡ Some x → there ≡ Some y → x ≡ y
-one_element there x y e f = cc
-
 -- what holds of each element, and of one more at the end
 pub each_more : {X : Type 0} (P : ℕ → X → Type 0) (xs ys : List X) (y : X) → ys ≡ xs ++ y ∷ [] → ((i : ℕ) (x : X) → slice_get xs i ≡ Some x → P i x) → P (length xs) y → (i : ℕ) (x : X) → slice_get ys i ≡ Some x → P i x
 each_more P xs ys y more each last i x at = elim (in_either xs y x i (sym (ap (λ all. slice_get all i) more) ∙ at)) [

@@ -6,6 +6,7 @@ use Rattle.std.specs.Option.{option_map}
 use Rattle.std.proofs.lemmas.Bool.{cases_Bool}
 use Rattle.std.proofs.lemmas.List.FromFn.{length-map-range_with_len}
 use Rattle.std.proofs.lemmas.Option.{slice_get-map, slice_get_within}
+use Rattle.fb_units.proofs.Lists.{one_element}
 use Rattle.fb_geometry.specs.Shape.{Shape}
 use Rattle.fb_geometry.specs.Places.{places}
 use Rattle.fb_geometry.specs.Sound.{IsSound}
@@ -23,7 +24,7 @@ use Rattle.fb_words.specs.Command.{RebuildTerms}
 use Rattle.fb_top.specs.Read.{ReadsTrace}
 use Rattle.fb_top.specs.Devices.{Array, ReadsRebuild, ReadsTraces, device_files}
 use Rattle.fb_top.proofs.Arrayed.{is_from}
-use Rattle.fb_top.proofs.Each.{counted, one_element}
+use Rattle.fb_top.proofs.Each.{counted}
 use Rattle.fb_top.proofs.Values.{each_of_all}
 
 -- the trace of a device is what is read for it alone

@@ -3,9 +3,9 @@ use Rattle.std.proofs.Common.{◌≡◌, ◌∙◌, ℕ, ◌+◌, ◌<◌, ◌�
 use Rattle.std.specs.Prelude.{slice_get}
 use Rattle.std.proofs.lemmas.List.{length-append}
 use Rattle.std.proofs.lemmas.Option.{slice_get_within}
+use Rattle.fb_units.proofs.Lists.{drop_at, get_left, get_right}
 use Rattle.fb_rows.specs.declared.run.Run.{Run}
 use Rattle.fb_report.specs.declared.bytes.Bytes.{Bytes}
-use Rattle.fb_report.proofs.Ranges.{drop_got, get_left, get_right}
 use Rattle.fb_top.specs.Array.{array_first, array_last, array_lines, section, sections}
 use Rattle.fb_top.proofs.Counted.{fore_counted}
 
@@ -16,7 +16,7 @@ module _ (size : ℕ) (bytes : Bytes) where
   -- the section of a device, and those behind it
   sections_here : (runs : List Run) (device : ℕ) (run : Run) → slice_get runs device ≡ Some run
       → sections size bytes device (drop device runs) ≡ section size bytes device run ++ sections size bytes (device + 1) (drop (device + 1) runs)
-  sections_here runs device run at = ap (sections size bytes device) (drop_got runs device run at)
+  sections_here runs device run at = ap (sections size bytes device) (drop_at runs device run at)
 
   -- the lines from one device on, and those from the next on
   pub one_counted : (runs : List Run) (device : ℕ) (run : Run) → slice_get runs device ≡ Some run

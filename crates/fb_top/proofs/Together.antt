@@ -1,6 +1,7 @@
 -- A replay has puts exactly if it has an output for what is written.
 use Rattle.std.proofs.Common.{◌≡◌, ◌∙◌, ap, ℕ, List, [], ◌∷◌, length, Bool, true, false, refl, subst, Result, Ok}
 use Rattle.std.specs.Prelude.{not}
+use Rattle.fb_units.proofs.Lists.{same_Ok}
 use Rattle.fb_units.specs.Judging.{or_refuse, refuse, refused_as}
 use Rattle.fb_units.proofs.Judged.{both_ok, step_ok, test_ok}
 use Rattle.fb_words.specs.Command.{ReplayTerms, Terms, command_of, go_together, replay_of, replays, makes, checks, arrays, terms_of, make_of, check_of, array_of, with_verb}
@@ -22,9 +23,6 @@ GoTogether (makes terms) = Unit {0}
 GoTogether (checks terms) = Unit {0}
 GoTogether (arrays terms) = Unit {0}
 
-same_ok : {A E : Type 0} (a b : A) → ◌≡◌ {A = Result A E} (Ok a) (Ok b) → a ≡ b
-same_ok a b e = cc
-
 not_not : (b : Bool) → not b ≡ false → b ≡ true
 not_not true e = refl
 not_not false e = cc
@@ -37,15 +35,15 @@ together_replay given terms e =
     let policy = both_ok (or_refuse (MissingOption 2) given.policy) _ terms trace.2 in
     let calls = both_ok (refuse CallsAndBack (not (go_together given.calls given.back))) _ terms policy.2 in
     let puts = both_ok (refuse PutsAndSpill (not (go_together given.puts given.spill))) _ terms calls.2 in
-    subst (λ t. GoTogether (replays t)) (same_ok _ terms puts.2)
+    subst (λ t. GoTogether (replays t)) (same_Ok _ terms puts.2)
     (not_not (go_together given.puts given.spill) (test_ok PutsAndSpill (not (go_together given.puts given.spill)) puts.0 puts.1))
 
 together_terms : (verb : Verb) (given : Options) (terms : Terms) → terms_of verb given ≡ Ok terms → GoTogether terms
 unfolding terms_of
-together_terms Replay given terms e = let p = both_ok (replay_of given) _ terms e in subst GoTogether (same_ok _ terms p.2) (together_replay given p.0 p.1)
-together_terms Make given terms e = let p = both_ok (make_of given) _ terms e in subst GoTogether (same_ok _ terms p.2) tt
-together_terms Check given terms e = let p = both_ok (check_of given) _ terms e in subst GoTogether (same_ok _ terms p.2) tt
-together_terms Array given terms e = let p = both_ok (array_of given) _ terms e in subst GoTogether (same_ok _ terms p.2) tt
+together_terms Replay given terms e = let p = both_ok (replay_of given) _ terms e in subst GoTogether (same_Ok _ terms p.2) (together_replay given p.0 p.1)
+together_terms Make given terms e = let p = both_ok (make_of given) _ terms e in subst GoTogether (same_Ok _ terms p.2) tt
+together_terms Check given terms e = let p = both_ok (check_of given) _ terms e in subst GoTogether (same_Ok _ terms p.2) tt
+together_terms Array given terms e = let p = both_ok (array_of given) _ terms e in subst GoTogether (same_Ok _ terms p.2) tt
 
 together_verb : (count : ℕ) (name : List ℕ) (words : List (List ℕ)) (terms : Terms) → with_verb count name words ≡ Ok terms → GoTogether terms
 unfolding with_verb

@@ -3,6 +3,7 @@ use Rattle.std.proofs.Common.{◌≡◌, ℕ, ◌+◌, List, [], ◌∷◌, leng
 use Rattle.std.specs.Prelude.{nat_le}
 use Rattle.std.specs.List.{AllByRecursion, flat_map, fold}
 use Rattle.std.proofs.lemmas.Bool.{cases_Bool}
+use Rattle.fb_units.proofs.Lists.{all_append, all_left, all_right}
 use Rattle.fb_units.specs.declared.types.Request.{Request}
 use Rattle.fb_units.specs.declared.types.Track.{Track}
 use Rattle.fb_service.specs.declared.disk.Disk.{Disk}
@@ -18,7 +19,6 @@ use Rattle.fb_model.specs.Foreground.{behind, promoted_from, read_of}
 use Rattle.fb_model.specs.FullRun.{IsFull}
 use Rattle.fb_model.specs.Inputs.{Inputs, requests}
 use Rattle.fb_model.specs.PlainReplay.{Served, finish, first_track, last_track}
-use Rattle.fb_model.proofs.Lists.{all_append, all_left, all_right}
 use Rattle.fb_decide.proofs.Chain.{Follow, decisions_follow, services}
 use Rattle.fb_puts.specs.Asked.{asked, ranges_in, request_range}
 use Rattle.fb_puts.specs.Ranges.{share}

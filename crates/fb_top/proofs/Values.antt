@@ -3,9 +3,9 @@ use Rattle.std.proofs.Common.{◌≡◌, ◌∙◌, ℕ, zero, suc, List, [], �
 use Rattle.std.specs.Prelude.{slice_get}
 use Rattle.std.specs.List.{range_with_len}
 use Rattle.std.proofs.lemmas.List.FromFn.{length-map-range_with_len}
+use Rattle.fb_units.proofs.Lists.{one_element}
 use Rattle.fb_units.specs.Judging.{◌>>=◌}
 use Rattle.fb_trace.specs.Devices.{all_of}
-use Rattle.fb_top.proofs.Each.{one_element}
 
 -- a verdict and those behind it are values
 both_values : {A E : Type 0} (first : Result A E) (rest : Result (List A) E) (values : List A) → first >>= (λ value. rest >>= (λ others. Ok (value ∷ others))) ≡ Ok values

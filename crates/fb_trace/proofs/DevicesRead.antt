@@ -6,6 +6,7 @@ use Rattle.std.specs.List.{AllByRecursion, range_with_len}
 use Rattle.std.proofs.lemmas.Bool.Decides.{nat_tests}
 use Rattle.std.proofs.lemmas.List.{length_push, length-map}
 use Rattle.std.proofs.lemmas.Option.{slice_get-map}
+use Rattle.fb_units.proofs.Lists.{same_Ok}
 use Rattle.fb_units.specs.Judging.{◌>>=◌}
 use Rattle.fb_units.specs.Lines.{fields_of, lines_of}
 use Rattle.fb_units.specs.declared.types.Request.{Request}
@@ -24,7 +25,7 @@ use Rattle.fb_trace.specs.Servable.{IsTraceOf}
 use Rattle.fb_trace.specs.Verdict.{Answers, AreTracesOf, accepted}
 use Rattle.fb_trace.proofs.ByDevice.{same_below, same_after, refused_at, each_device, all_accepted}
 use Rattle.fb_trace.proofs.Lists.{one_of_all, all_replicate, all_unmap}
-use Rattle.fb_trace.proofs.Keeping.{same_ok, asked_arrival, fit_trace}
+use Rattle.fb_trace.proofs.Keeping.{asked_arrival, fit_trace}
 
 -- nothing is passed over by a device that hasn't more requests than all have
 one_more : (all own : ℕ) → own ≤ all → all - own + 1 ≡ all + 1 - own
@@ -164,12 +165,12 @@ all_counted reader devices none =
 
 -- what is accepted of all is one for each
 values_count : {A E : Type 0} (f : ℕ → Result A E) (device n : ℕ) (values : List A) → all_of (map f (range_with_len device n)) ≡ Ok values → length values ≡ n
-values_count f device zero values e = ap length (sym (same_ok [] values e))
+values_count f device zero values e = ap length (sym (same_Ok [] values e))
 values_count f device (suc n) values e =
     let first = both_ok (f device) _ values e in
     let others = both_ok (all_of (map f (range_with_len (device + 1) n))) _ values first.2 in
     let rest = values_count f (device + 1) n others.0 others.1 in
-    ap length (sym (same_ok (first.0 ∷ others.0) values others.2)) ∙ ap suc rest
+    ap length (sym (same_Ok (first.0 ∷ others.0) values others.2)) ∙ ap suc rest
 
 -- and it is what is accepted of that one
 each_value : {A E : Type 0} (f : ℕ → Result A E) (device n : ℕ) (values : List A) (k : ℕ) (value : A) → all_of (map f (range_with_len device n)) ≡ Ok values → slice_get values k ≡ Some value
@@ -192,11 +193,11 @@ each_value f device (suc n) (v ∷ values) (suc k) value e at =
 -- what holds of whatever is accepted of one holds of each
 each_holds : {A E : Type 0} (P : A → Type 0) (f : ℕ → Result A E) → ((device : ℕ) (value : A) → f device ≡ Ok value → P value) → (device n : ℕ) (values : List A)
     → all_of (map f (range_with_len device n)) ≡ Ok values → AllByRecursion P values
-each_holds P f holds device zero values e = subst (AllByRecursion P) (same_ok [] values e) tt
+each_holds P f holds device zero values e = subst (AllByRecursion P) (same_Ok [] values e) tt
 each_holds P f holds device (suc n) values e =
     let first = both_ok (f device) _ values e in
     let others = both_ok (all_of (map f (range_with_len (device + 1) n))) _ values first.2 in
-    subst (AllByRecursion P) (same_ok (first.0 ∷ others.0) values others.2) (holds device first.0 first.1, each_holds P f holds (device + 1) n others.0 others.1)
+    subst (AllByRecursion P) (same_Ok (first.0 ∷ others.0) values others.2) (holds device first.0 first.1, each_holds P f holds (device + 1) n others.0 others.1)
 
 -- one element of the values, where it is that of an element of the traces
 value_at : (traces : List Trace) (k : ℕ) (trace : Trace) → slice_get traces k ≡ Some trace → slice_get (map accepted traces) k ≡ Some (accepted trace)

@@ -6,6 +6,7 @@ use Rattle.std.proofs.lemmas.Bool.{cases_Bool}
 use Rattle.std.proofs.lemmas.Bool.Decides.{nat_tests}
 use Rattle.std.proofs.lemmas.List.{map_push, length_push}
 use Rattle.std.proofs.lemmas.List.FromFn.{map-range_with_len_more}
+use Rattle.fb_units.proofs.Lists.{same_Ok}
 use Rattle.fb_units.specs.Judging.{or_refuse, refuse}
 use Rattle.fb_units.specs.Lines.{fields_of, lines_of}
 use Rattle.fb_units.specs.Numbers.{millis_of, number_of, flags_of}
@@ -83,9 +84,6 @@ keeps sectors so_far (Asked request) next is =
       last = subst (AllByRecursion (λ a. a ≤ request.arrival)) (sym (map_push (λ (r : Request). r.arrival) requests request)) (all_push (λ a. a ≤ request.arrival) (arrivals requests) request.arrival last (omega arith));
     }
 
-pub same_ok : {A E : Type 0} (a b : A) → ◌≡◌ {A = Result A E} (Ok a) (Ok b) → a ≡ b
-same_ok a b e = cc
-
 time_small : (time device block size flags : List ℕ) (entry : Entry) → spelled time device block size flags ≡ Ok entry → entry.arrival ≤ 10 ^ 15
 unfolding spelled
 time_small time device block size flags entry e =
@@ -94,7 +92,7 @@ time_small time device block size flags entry e =
     let first = both_ok (or_refuse (BadNumber 3) (number_of block)) _ entry of_device.2 in
     let sectors = both_ok (or_refuse (BadNumber 4) (number_of size)) _ entry first.2 in
     let marks = both_ok (or_refuse (BadNumber 5) (flags_of flags)) _ entry sectors.2 in
-    subst (λ (x : Entry). x.arrival ≤ 10 ^ 15) (same_ok _ entry marks.2) (millis_small time arrival.0 (value_ok BadTime (millis_of time) arrival.0 arrival.1))
+    subst (λ (x : Entry). x.arrival ≤ 10 ^ 15) (same_Ok _ entry marks.2) (millis_small time arrival.0 (value_ok BadTime (millis_of time) arrival.0 arrival.1))
 
 arrival_small : (fields : List (List ℕ)) (entry : Entry) → entry_of fields ≡ Ok entry → entry.arrival ≤ 10 ^ 15
 unfolding entry_of
@@ -131,7 +129,7 @@ asked_next sectors so_far entry request e later small =
     let few = both_ok (refuse TooLarge (nat_lt 2048 entry.size)) _ request some.2 in
     let inside = both_ok (refuse BeyondDisk (nat_lt sectors (entry.first + entry.size))) _ request few.2 in
     let room = both_ok (refuse TooMany (nat_lt 1000000 number)) _ request inside.2 in
-    subst (IsNext sectors so_far) (same_ok _ request room.2) (record {
+    subst (IsNext sectors so_far) (same_Ok _ request room.2) (record {
       later = later;
       servable = record {
         some = some_sector entry.size (test_ok Empty (entry.size == 0) some.0 some.1);
@@ -151,7 +149,7 @@ asked_arrival sectors number entry request e =
     let few = both_ok (refuse TooLarge (nat_lt 2048 entry.size)) _ request some.2 in
     let inside = both_ok (refuse BeyondDisk (nat_lt sectors (entry.first + entry.size))) _ request few.2 in
     let room = both_ok (refuse TooMany (nat_lt 1000000 number)) _ request inside.2 in
-    subst (λ (r : Request). r.arrival ≡ entry.arrival) (same_ok _ request room.2) refl
+    subst (λ (r : Request). r.arrival ≡ entry.arrival) (same_Ok _ request room.2) refl
 
 -- what an entry adds may come next
 device_follows : (device sectors : ℕ) (so_far : Progress) (entry : Entry) (line : Line) → of_device device sectors (length so_far.trace.requests + 1) entry ≡ Ok line
@@ -160,14 +158,14 @@ unfolding of_device
 device_follows device sectors so_far entry line e later small = elim (cases_Bool (entry.device == device)) [
   | inl own ↦
       let request = both_ok (request_of sectors (length so_far.trace.requests + 1) entry) _ line (rw own at e) in
-      subst (MayFollow sectors so_far) (same_ok _ line request.2) (asked_next sectors so_far entry request.0 request.1 later small)
-  | inr other ↦ subst (MayFollow sectors so_far) (same_ok _ line (rw other at e)) later
+      subst (MayFollow sectors so_far) (same_Ok _ line request.2) (asked_next sectors so_far entry request.0 request.1 later small)
+  | inr other ↦ subst (MayFollow sectors so_far) (same_Ok _ line (rw other at e)) later
 ]
 
 line_follows : (device sectors : ℕ) (so_far : Progress) (fields : List (List ℕ)) (entry : Option Entry) (line : Line) → entry_after so_far.instant fields ≡ Ok entry
     → added_by device sectors (length so_far.trace.requests + 1) entry ≡ Ok line → MayFollow sectors so_far line
 unfolding added_by
-line_follows device sectors so_far fields None line read e = subst (MayFollow sectors so_far) (same_ok Blank line e) tt
+line_follows device sectors so_far fields None line read e = subst (MayFollow sectors so_far) (same_Ok Blank line e) tt
 line_follows device sectors so_far fields (Some entry) line read e =
     let may = follows so_far.instant fields entry read in device_follows device sectors so_far entry line e may.0 may.1
 
@@ -178,12 +176,12 @@ kept device sectors number so_far next line e is =
     let count = length so_far.trace.requests + 1 in
     let added = both_ok (line_of device sectors so_far.instant count (fields_of line)) _ next (step_ok (fault_at number) _ next e) in
     let read = both_ok (entry_after so_far.instant (fields_of line)) (added_by device sectors count) added.0 added.1 in
-    subst (IsProgress sectors) (same_ok _ next added.2) (keeps sectors so_far added.0 (line_follows device sectors so_far (fields_of line) read.0 added.0 read.1 read.2) is)
+    subst (IsProgress sectors) (same_Ok _ next added.2) (keeps sectors so_far added.0 (line_follows device sectors so_far (fields_of line) read.0 added.0 read.1 read.2) is)
 
 fit_from : (device sectors number : ℕ) (so_far : Progress) (lines : List (List ℕ)) (trace : Accepted) → lines_from device sectors number so_far lines ≡ Ok trace
     → IsProgress sectors so_far → IsTraceOf sectors trace.requests
 unfolding lines_from
-fit_from device sectors number so_far [] trace e is = subst (λ (t : Accepted). IsTraceOf sectors t.requests) (same_ok so_far.trace trace e) is.trace
+fit_from device sectors number so_far [] trace e is = subst (λ (t : Accepted). IsTraceOf sectors t.requests) (same_Ok so_far.trace trace e) is.trace
 fit_from device sectors number so_far (line ∷ lines) trace e is =
     let next = both_ok (next_progress device sectors number so_far line) _ trace e in
     fit_from device sectors (number + 1) next.0 lines trace next.2 (kept device sectors number so_far next.0 line next.1 is)

@@ -9,10 +9,6 @@ use Rattle.fb_wanted.specs.declared.tasks.OfTask.{OfTask}
 use Rattle.fb_wanted.specs.Counting.{counts_of, no_counts}
 use Rattle.fb_wanted.specs.Index.{IsTaskChanged, pair_cmp, no_blocks, joined, counted_anew, grown_task}
 
-pub on_err : {T E P : Type 0} (r : Result T E) → P → OnErr r P
-on_err (Ok x) p = tt
-on_err (Err e) p = p
-
 -- if the index that was added last to a task is removed again, all tasks are as before
 pub taken_back : (old one two : List OfTask) (n index : ℕ)
     → IsTaskChanged old one n (joined index)

@@ -6,11 +6,11 @@ use Rattle.std.proofs.lemmas.Bool.{cases_Bool, cases_lt, true≢false}
 use Rattle.std.proofs.lemmas.Bool.Decides.{nat_tests}
 use Rattle.std.proofs.lemmas.List.{length-map}
 use Rattle.std.proofs.lemmas.Option.{slice_get-map, slice_get_within, same_Some, none-some}
+use Rattle.fb_units.proofs.Lists.{element_at}
 use Rattle.fb_wanted.specs.declared.block.Entry.{Entry}
 use Rattle.fb_wanted.specs.declared.block.State.{State}
 use Rattle.fb_wanted.specs.declared.streaks.Streak.{Streak}
 use Rattle.fb_wanted.specs.Index.{is_of_task, lbns, region_of, key_of, streak_cmp, IsInStreak, BeginsStreak, AreNoted, AreShort, with_state}
-use Rattle.fb_wanted.proofs.Standing.{get_some}
 use Rattle.fb_wanted.proofs.Numbers.{in_either}
 use Rattle.fb_wanted.proofs.Elements.{at_left, at_end}
 
@@ -115,7 +115,7 @@ streak_of xs zero lbn at =
       ),
     )
 streak_of xs (suc k) lbn at =
-    let before = get_some xs k (omega (arith, slice_get_within xs (suc k) lbn at)) in
+    let before = element_at xs k (omega (arith, slice_get_within xs (suc k) lbn at)) in
     elim (cases_Bool (region_of before.0 == region_of lbn)) [
       | inl same ↦
           let r = streak_of xs k before.0 before.1 in

@@ -4,6 +4,7 @@ use Rattle.std.proofs.Common.{length, filter, map, slice_get, get_or, refl, ap, 
 use Rattle.std.proofs.lemmas.Bool.{cases_Bool}
 use Rattle.std.proofs.lemmas.List.{length-map, map-append}
 use Rattle.std.proofs.lemmas.Option.{same_Some, none-some, slice_get_within, slice_get-get_or}
+use Rattle.fb_units.proofs.Lists.{element_at}
 use Rattle.fb_wanted.specs.declared.block.Entry.{Entry}
 use Rattle.fb_wanted.specs.declared.block.Block.{Block}
 use Rattle.fb_wanted.specs.declared.block.State.{State}
@@ -47,11 +48,6 @@ raised_at [] k j h = absurd (none-some j h)
 raised_at (p ∷ ps) zero j h = ap (λ n. Some (suc n)) (same_Some p j h)
 raised_at (p ∷ ps) (suc k) j h = raised_at ps k j h
 
-pub get_some : {X : Type 0} (xs : List X) (k : ℕ) → k < length xs → (x : X) × (slice_get xs k ≡ Some x)
-get_some [] k h = absurd (omega arith)
-get_some (x ∷ xs) zero h = (x, refl)
-get_some (x ∷ xs) (suc k) h = get_some xs k (omega arith)
-
 -- the entry at the k-th index is the k-th that passes the test
 at_step : (p : Entry → Bool) (x : Entry) (es : List Entry) (b : Bool) (k j : ℕ)
     → ((i n : ℕ) → slice_get (indexes_of p es) i ≡ Some n → slice_get (filter p es) i ≡ slice_get es n)
@@ -71,7 +67,7 @@ pub index_within : (p : Entry → Bool) (es : List Entry) (k j : ℕ) → slice_
 index_within p es k j h =
     let lt = slice_get_within (indexes_of p es) k j h in
     let inside : k < length (filter p es) = omega (arith, lt, length-indexes_of p es) in
-    let e = get_some (filter p es) k inside in
+    let e = element_at (filter p es) k inside in
     slice_get_within es j e.0 (sym (at_index p es k j h) ∙ e.1)
 
 -- a list of these indexes is as long as the list of those that pass

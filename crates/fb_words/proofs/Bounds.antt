@@ -3,6 +3,7 @@ use Rattle.std.proofs.Common.{◌≡◌, ℕ, ◌+◌, ◌≤◌, ◌^◌, List,
 use Rattle.std.specs.Prelude.{IfSome, IfOk, not, ◌||◌, ◌==◌, ◌<◌, nat_lt, unwrap_or, length}
 use Rattle.std.proofs.lemmas.Bool.{cases_Bool}
 use Rattle.std.proofs.lemmas.Bool.Decides.{nat_tests}
+use Rattle.fb_units.proofs.Lists.{same_Ok}
 use Rattle.fb_units.specs.Judging.{or_refuse, refuse, refused_as}
 use Rattle.fb_units.specs.Numbers.{millis_of, number_of}
 use Rattle.fb_units.proofs.Judged.{both_ok, value_ok, test_ok, step_ok, number_small, millis_small}
@@ -34,9 +35,6 @@ record AreSmall (instant place seed count disks : Option ℕ) : Type 0 where
 abbrev IsSmall : Options → Type 0
 IsSmall given = AreSmall given.until given.device given.number given.requests given.devices
 
-same_ok : {A E : Type 0} (a b : A) → ◌≡◌ {A = Result A E} (Ok a) (Ok b) → a ≡ b
-same_ok a b e = cc
-
 few : (n m : ℕ) → nat_lt 1000000 n ≡ false → n ≡ m → m ≤ 10 ^ 6
 few n m small same = grind (arith, nat_tests)
 
@@ -45,7 +43,7 @@ unfolding request_count_of
 requests_small value m given =
     let count = both_ok (or_refuse BadValue (number_of value)) _ m given in
     let small = both_ok (refuse BadValue (nat_lt 1000000 count.0)) _ m count.2 in
-    few count.0 m (test_ok BadValue (nat_lt 1000000 count.0) small.0 small.1) (same_ok count.0 m small.2)
+    few count.0 m (test_ok BadValue (nat_lt 1000000 count.0) small.0 small.1) (same_Ok count.0 m small.2)
 
 a_few : (n m : ℕ) → (n == 0 || nat_lt 16 n) ≡ false → n ≡ m → (0 < m) × (m ≤ 16)
 a_few n m few same = (grind (arith, nat_tests), grind (arith, nat_tests))
@@ -55,42 +53,42 @@ unfolding device_count_of
 devices_small value m given =
     let count = both_ok (or_refuse BadValue (number_of value)) _ m given in
     let small = both_ok (refuse BadValue (count.0 == 0 || nat_lt 16 count.0)) _ m count.2 in
-    a_few count.0 m (test_ok BadValue (count.0 == 0 || nat_lt 16 count.0) small.0 small.1) (same_ok count.0 m small.2)
+    a_few count.0 m (test_ok BadValue (count.0 == 0 || nat_lt 16 count.0) small.0 small.1) (same_Ok count.0 m small.2)
 
 small-with_form : (given next : Options) (option : OptionName) (value : List ℕ) → with_form given option value ≡ Ok next → IsSmall given → IsSmall next
 unfolding with_form
-small-with_form given next Params value e is = subst IsSmall (same_ok _ next e) is
-small-with_form given next Trace value e is = subst IsSmall (same_ok _ next e) is
+small-with_form given next Params value e is = subst IsSmall (same_Ok _ next e) is
+small-with_form given next Trace value e is = subst IsSmall (same_Ok _ next e) is
 small-with_form given next Policy value e is =
     let p = both_ok (or_refuse BadValue (policy_of value)) _ next e in
-    subst IsSmall (same_ok _ next p.2) is
-small-with_form given next Calls value e is = subst IsSmall (same_ok _ next e) is
-small-with_form given next Fore value e is = subst IsSmall (same_ok _ next e) is
-small-with_form given next Back value e is = subst IsSmall (same_ok _ next e) is
-small-with_form given next Puts value e is = subst IsSmall (same_ok _ next e) is
-small-with_form given next Spill value e is = subst IsSmall (same_ok _ next e) is
+    subst IsSmall (same_Ok _ next p.2) is
+small-with_form given next Calls value e is = subst IsSmall (same_Ok _ next e) is
+small-with_form given next Fore value e is = subst IsSmall (same_Ok _ next e) is
+small-with_form given next Back value e is = subst IsSmall (same_Ok _ next e) is
+small-with_form given next Puts value e is = subst IsSmall (same_Ok _ next e) is
+small-with_form given next Spill value e is = subst IsSmall (same_Ok _ next e) is
 small-with_form given next Until value e is =
     let p = both_ok (or_refuse BadValue (millis_of value)) _ next e in
-    subst IsSmall (same_ok _ next p.2) (record { until = millis_small value p.0 (value_ok BadValue (millis_of value) p.0 p.1); device = is.device; number = is.number; requests = is.requests; devices = is.devices })
+    subst IsSmall (same_Ok _ next p.2) (record { until = millis_small value p.0 (value_ok BadValue (millis_of value) p.0 p.1); device = is.device; number = is.number; requests = is.requests; devices = is.devices })
 small-with_form given next Device value e is =
     let p = both_ok (or_refuse BadValue (number_of value)) _ next e in
-    subst IsSmall (same_ok _ next p.2) (record { until = is.until; device = number_small value p.0 (value_ok BadValue (number_of value) p.0 p.1); number = is.number; requests = is.requests; devices = is.devices })
+    subst IsSmall (same_Ok _ next p.2) (record { until = is.until; device = number_small value p.0 (value_ok BadValue (number_of value) p.0 p.1); number = is.number; requests = is.requests; devices = is.devices })
 small-with_form given next Bytes value e is =
     let p = both_ok (or_refuse BadValue (bytes_of value)) _ next e in
-    subst IsSmall (same_ok _ next p.2) is
+    subst IsSmall (same_Ok _ next p.2) is
 small-with_form given next Number value e is =
     let p = both_ok (or_refuse BadValue (number_of value)) _ next e in
-    subst IsSmall (same_ok _ next p.2) (record { until = is.until; device = is.device; number = number_small value p.0 (value_ok BadValue (number_of value) p.0 p.1); requests = is.requests; devices = is.devices })
+    subst IsSmall (same_Ok _ next p.2) (record { until = is.until; device = is.device; number = number_small value p.0 (value_ok BadValue (number_of value) p.0 p.1); requests = is.requests; devices = is.devices })
 small-with_form given next Requests value e is =
     let p = both_ok (request_count_of value) _ next e in
-    subst IsSmall (same_ok _ next p.2) (record { until = is.until; device = is.device; number = is.number; requests = requests_small value p.0 p.1; devices = is.devices })
+    subst IsSmall (same_Ok _ next p.2) (record { until = is.until; device = is.device; number = is.number; requests = requests_small value p.0 p.1; devices = is.devices })
 small-with_form given next Devices value e is =
     let p = both_ok (device_count_of value) _ next e in
-    subst IsSmall (same_ok _ next p.2) (record { until = is.until; device = is.device; number = is.number; requests = is.requests; devices = devices_small value p.0 p.1 })
+    subst IsSmall (same_Ok _ next p.2) (record { until = is.until; device = is.device; number = is.number; requests = is.requests; devices = devices_small value p.0 p.1 })
 small-with_form given next Rebuild value e is =
     let p = both_ok (or_refuse BadValue (number_of value)) _ next e in
-    subst IsSmall (same_ok _ next p.2) is
-small-with_form given next Copy value e is = subst IsSmall (same_ok _ next e) is
+    subst IsSmall (same_Ok _ next p.2) is
+small-with_form given next Copy value e is = subst IsSmall (same_Ok _ next e) is
 
 small-with_value : (given next : Options) (option : OptionName) (value : List ℕ) → with_value given option value ≡ Ok next → IsSmall given → IsSmall next
 unfolding with_value
@@ -105,14 +103,14 @@ small-with_summary : (given : Options) (next : Progress) → with_summary given 
 unfolding with_summary
 small-with_summary given next e is =
     let p = both_ok (refuse OptionTwice given.summary) _ next e in
-    subst IsSmallSoFar (same_ok _ next p.2) is
+    subst IsSmallSoFar (same_Ok _ next p.2) is
 
 small-with_part : (place : ℕ) (given : Options) (option : OptionName) (value : Option (List ℕ)) (next : Progress) → with_part place given option value ≡ Ok next → IsSmall given → IsSmallSoFar next
 unfolding with_part
-small-with_part place given option None next e is = subst IsSmallSoFar (same_ok _ next e) is
+small-with_part place given option None next e is = subst IsSmallSoFar (same_Ok _ next e) is
 small-with_part place given option (Some value) next e is =
     let p = both_ok (with_value given option value) _ next e in
-    subst IsSmallSoFar (same_ok _ next p.2) (small-with_value given p.0 option value p.1 is)
+    subst IsSmallSoFar (same_Ok _ next p.2) (small-with_value given p.0 option value p.1 is)
 
 small-with_option : (verb : Verb) (place : ℕ) (given : Options) (word : Parts) (next : Progress) → with_option verb place given word ≡ Ok next → IsSmall given → IsSmallSoFar next
 unfolding with_option
@@ -133,10 +131,10 @@ unfolding with_word
 small-with_word verb place (ready given) next word e is = small-with_name verb place given word next (step_ok (fault_at place) _ next e) is
 small-with_word verb place (awaits given option at) next word e is =
     let p = both_ok (with_value given option word) _ next (step_ok (fault_at at) _ next e) in
-    subst IsSmallSoFar (same_ok _ next p.2) (small-with_value given p.0 option word p.1 is)
+    subst IsSmallSoFar (same_Ok _ next p.2) (small-with_value given p.0 option word p.1 is)
 
 small-at_end : (so_far : Progress) (given : Options) → at_end so_far ≡ Ok given → IsSmallSoFar so_far → IsSmall given
-small-at_end (ready now) given e is = subst IsSmall (same_ok now given e) is
+small-at_end (ready now) given e is = subst IsSmall (same_Ok now given e) is
 small-at_end (awaits now option place) given e is = cc
 
 small-options_from : (verb : Verb) (place : ℕ) (so_far : Progress) (words : List (List ℕ)) (given : Options) → options_from verb place so_far words ≡ Ok given → IsSmallSoFar so_far → IsSmall given
@@ -163,7 +161,7 @@ small-replay_of given terms e is =
     let policy = both_ok (or_refuse (MissingOption 2) given.policy) _ terms trace.2 in
     let calls = both_ok (refuse CallsAndBack (not (go_together given.calls given.back))) _ terms policy.2 in
     let puts = both_ok (refuse PutsAndSpill (not (go_together given.puts given.spill))) _ terms calls.2 in
-    subst (λ t. IsWithinLimits (replays t)) (same_ok _ terms puts.2) (small-default given.until (10 ^ 15) is.until, small-default given.device (10 ^ 15) is.device)
+    subst (λ t. IsWithinLimits (replays t)) (same_Ok _ terms puts.2) (small-default given.until (10 ^ 15) is.until, small-default given.device (10 ^ 15) is.device)
 
 small-make_of : (given : Options) (terms : MakeTerms) → make_of given ≡ Ok terms → IsSmall given → IsWithinLimits (makes terms)
 unfolding make_of
@@ -173,7 +171,7 @@ small-make_of given terms e is =
     let calls = both_ok (or_refuse (MissingOption 2) given.calls) _ terms trace.2 in
     let number = both_ok (or_refuse (MissingOption 3) given.number) _ terms calls.2 in
     let requests = both_ok (or_refuse (MissingOption 4) given.requests) _ terms number.2 in
-    subst (λ t. IsWithinLimits (makes t)) (same_ok _ terms requests.2) (
+    subst (λ t. IsWithinLimits (makes t)) (same_Ok _ terms requests.2) (
       small_some given.number number.0 (10 ^ 15) (value_ok (MissingOption 3) given.number number.0 number.1) is.number,
       small_some given.requests requests.0 (10 ^ 6) (value_ok (MissingOption 4) given.requests requests.0 requests.1) is.requests,
       small-default given.device (10 ^ 15) is.device,
@@ -188,7 +186,7 @@ small-check_of given terms e is =
     let calls = both_ok (or_refuse (MissingOption 3) given.calls) _ terms policy.2 in
     let fore = both_ok (or_refuse (MissingOption 4) given.fore) _ terms calls.2 in
     let back = both_ok (or_refuse (MissingOption 5) given.back) _ terms fore.2 in
-    subst (λ t. IsWithinLimits (checks t)) (same_ok _ terms back.2) (small-default given.until (10 ^ 15) is.until, small-default given.device (10 ^ 15) is.device)
+    subst (λ t. IsWithinLimits (checks t)) (same_Ok _ terms back.2) (small-default given.until (10 ^ 15) is.until, small-default given.device (10 ^ 15) is.device)
 
 -- a device that isn't beyond the devices is below them
 within : (devices : ℕ) (device : Option ℕ) (back copy : Option (List ℕ)) → rebuild_beyond devices device ≡ false
@@ -203,7 +201,7 @@ unfolding rebuild_of
 rebuild_within devices given rebuild e =
     let whole = both_ok (refuse RebuildIncomplete (rebuild_incomplete given)) _ rebuild e in
     let inside = both_ok (refuse RebuildBeyond (rebuild_beyond devices given.rebuild)) _ rebuild whole.2 in
-    subst (λ r. IfSome r (λ words. words.device < devices)) (same_ok _ rebuild inside.2)
+    subst (λ r. IfSome r (λ words. words.device < devices)) (same_Ok _ rebuild inside.2)
     (within devices given.rebuild given.back given.copy (test_ok RebuildBeyond (rebuild_beyond devices given.rebuild) inside.0 inside.1))
 
 small-array_of : (given : Options) (terms : ArrayTerms) → array_of given ≡ Ok terms → IsSmall given → IsWithinLimits (arrays terms)
@@ -215,22 +213,22 @@ small-array_of given terms e is =
     let devices = both_ok (or_refuse (MissingOption 3) given.devices) _ terms policy.2 in
     let rebuild = both_ok (rebuild_of devices.0 given) _ terms devices.2 in
     let few = subst (λ o. IfSome o (λ n. (0 < n) × (n ≤ 16))) (value_ok (MissingOption 3) given.devices devices.0 devices.1) is.devices in
-    subst (λ t. IsWithinLimits (arrays t)) (same_ok _ terms rebuild.2) (few.0, few.1, rebuild_within devices.0 given rebuild.0 rebuild.1, small-default given.until (10 ^ 15) is.until)
+    subst (λ t. IsWithinLimits (arrays t)) (same_Ok _ terms rebuild.2) (few.0, few.1, rebuild_within devices.0 given rebuild.0 rebuild.1, small-default given.until (10 ^ 15) is.until)
 
 small-terms_of : (verb : Verb) (given : Options) (terms : Terms) → terms_of verb given ≡ Ok terms → IsSmall given → IsWithinLimits terms
 unfolding terms_of
 small-terms_of Replay given terms e is =
     let p = both_ok (replay_of given) _ terms e in
-    subst IsWithinLimits (same_ok _ terms p.2) (small-replay_of given p.0 p.1 is)
+    subst IsWithinLimits (same_Ok _ terms p.2) (small-replay_of given p.0 p.1 is)
 small-terms_of Make given terms e is =
     let p = both_ok (make_of given) _ terms e in
-    subst IsWithinLimits (same_ok _ terms p.2) (small-make_of given p.0 p.1 is)
+    subst IsWithinLimits (same_Ok _ terms p.2) (small-make_of given p.0 p.1 is)
 small-terms_of Check given terms e is =
     let p = both_ok (check_of given) _ terms e in
-    subst IsWithinLimits (same_ok _ terms p.2) (small-check_of given p.0 p.1 is)
+    subst IsWithinLimits (same_Ok _ terms p.2) (small-check_of given p.0 p.1 is)
 small-terms_of Array given terms e is =
     let p = both_ok (array_of given) _ terms e in
-    subst IsWithinLimits (same_ok _ terms p.2) (small-array_of given p.0 p.1 is)
+    subst IsWithinLimits (same_Ok _ terms p.2) (small-array_of given p.0 p.1 is)
 
 nothing_small : IsSmall no_options
 nothing_small = record { until = tt; device = tt; number = tt; requests = tt; devices = tt }

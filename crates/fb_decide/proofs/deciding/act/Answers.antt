@@ -1,8 +1,7 @@
 use Rattle.std.proofs.Common.{◌≡◌, ◌≤◌, drop, length, sym, subst, ◌∙◌, arith}
 use Rattle.std.specs.List.{AllByRecursion}
-use Rattle.fb_calls.proofs.Lists.{all_weaker}
+use Rattle.fb_units.proofs.Lists.{all_weaker, all_append, all_left, all_right}
 use Rattle.fb_model.specs.Accepted.{IsRequestOf}
-use Rattle.fb_model.proofs.Lists.{all_append, all_left, all_right}
 use Rattle.fb_decide.specs.Deciding.{serves_pick, stays_on, stays_last, ends_here}
 use Rattle.fb_decide.proofs.Decided.{taken, none_waits}
 use Rattle.fb_decide.proofs.deciding.act.Goals as goal

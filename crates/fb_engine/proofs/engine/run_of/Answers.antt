@@ -1,5 +1,5 @@
 use Rattle.std.proofs.Common.{length, ◌∙◌}
-use Rattle.fb_calls.proofs.Lists.{all_weaker}
+use Rattle.fb_units.proofs.Lists.{all_weaker}
 use Rattle.fb_rows.specs.Tasks.{HasNamedTask}
 use Rattle.fb_calls.specs.Allowed.{tasks}
 use Rattle.fb_decide.specs.Making.{RowFits}

@@ -1,5 +1,6 @@
+use Rattle.fb_units.proofs.Lists.{all_get}
 use Rattle.fb_report.proofs.Words.{ap, sym, ◌∙◌, arith, Some, length, ◌+◌, ◌-◌, back_grammar, CountsSectors}
-use Rattle.fb_report.proofs.{Places.at_first, Places.at_row, Places.at_last, Ranges.all_get, Lines.line_first, Lines.line_row}
+use Rattle.fb_report.proofs.{Places.at_first, Places.at_row, Places.at_last, Lines.line_first, Lines.line_row}
 use Rattle.fb_report.proofs.{Lines.line_last, Lines.back_are}
 use Rattle.fb_report.proofs.back.back_piece.Goals as goal
 

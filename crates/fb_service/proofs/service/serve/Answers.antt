@@ -1,10 +1,10 @@
 use Rattle.std.proofs.Common.{◌+◌, ◌-◌, [], ◌++◌, refl, sym, ap, ◌∙◌, subst, arith}
 use Rattle.std.specs.List.{AllByRecursion}
+use Rattle.fb_units.proofs.Lists.{all_push}
 use Rattle.fb_geometry.specs.Shape.{IsTrackOf}
 use Rattle.fb_sectormap.specs.Lookup.{place_at}
 use Rattle.fb_service.specs.Extents.{passages_of, all_passages_of, IsUnbroken}
 use Rattle.fb_service.proofs.Serving.{served_more, first_media, all_served, finish-all, no_passages, passing-more, all_take}
-use Rattle.fb_service.proofs.Joining.{all-more}
 use Rattle.fb_service.proofs.service.serve.Goals as goal
 
 pub loop-served-init : goal.loop-served-init
@@ -80,4 +80,4 @@ returns-clause-each c =
 pub returns-clause-unbroken : goal.returns-clause-unbroken
 returns-clause-unbroken c =
     let l = c.loop-served in
-    subst (AllByRecursion (IsUnbroken c.args.disk.now.map)) (sym c.in_ok-push.ensures.ok) (all-more (IsUnbroken c.args.disk.now.map) l.extents.items l.last l.invariant.extents l.invariant.unbroken)
+    subst (AllByRecursion (IsUnbroken c.args.disk.now.map)) (sym c.in_ok-push.ensures.ok) (all_push (IsUnbroken c.args.disk.now.map) l.extents.items l.last l.invariant.extents l.invariant.unbroken)

@@ -1,6 +1,7 @@
+use Rattle.fb_units.proofs.Lists.{drop_at}
 use Rattle.fb_tasks.proofs.Words.{◌≡◌, ℕ, ◌+◌, List, length, drop, refl, ap, ◌∙◌, length-append, arith, cutting, live_of, cuts_of, Shape}
 use Rattle.fb_tasks.proofs.Words.{Entry, numbered, Session, new_entries, HasBegun, OnlyRegisters}
-use Rattle.fb_tasks.proofs.{Leaving.registers_none, Leaving.registers_more, Leaving.begun_own, Cuts.drop_at, Cuts.live-more}
+use Rattle.fb_tasks.proofs.{Leaving.registers_none, Leaving.registers_more, Leaving.begun_own, Cuts.live-more}
 use Rattle.fb_tasks.proofs.wanting.want_live.Goals as goal
 
 pub want_range-requires-clause-few : goal.want_range-requires-clause-few

@@ -1,7 +1,7 @@
 use Rattle.std.proofs.Common.{◌≡◌, ◌∙◌, ℕ, [], ◌∷◌, ap, arith, length, refl, sym, subst, true}
 use Rattle.std.proofs.lemmas.List.{length-append}
 use Rattle.std.specs.List.{AllByRecursion}
-use Rattle.fb_calls.proofs.Lists.{all_push}
+use Rattle.fb_units.proofs.Lists.{all_push}
 use Rattle.fb_calls.specs.declared.call.Calls.{Calls}
 use Rattle.fb_model.specs.Accepted.{IsAccepted}
 use Rattle.fb_model.specs.FullRun.{IsFull}

@@ -1,5 +1,5 @@
 use Rattle.std.proofs.Common.{arith}
-use Rattle.fb_report.proofs.Ranges.{all_get}
+use Rattle.fb_units.proofs.Lists.{all_get}
 use Rattle.fb_top.specs.Array.{CanTellFore}
 use Rattle.fb_top.proofs.Sections.{one_counted}
 use Rattle.fb_top.proofs.array_text.section_lines.Goals as goal

@@ -1,8 +1,8 @@
 use Rattle.std.proofs.Common.{◌≡◌, arith, subst}
 use Rattle.std.specs.Prelude.{slice_get}
+use Rattle.fb_units.proofs.Lists.{one_element}
 use Rattle.fb_rows.specs.declared.run.Run.{Run}
 use Rattle.fb_top.specs.Array.{section, sections}
-use Rattle.fb_top.proofs.Each.{one_element}
 use Rattle.fb_top.proofs.Sections.{line_here, line_later, one_counted}
 use Rattle.fb_top.proofs.array_text.section_of.Goals as goal
 

@@ -1,12 +1,13 @@
+use Rattle.fb_units.proofs.Lists.{drop_at}
 use Rattle.fb_report.proofs.Words.{arith, refl, ap, ◌+◌, map, ◌∙◌, drop_all}
-use Rattle.fb_report.proofs.{Ranges.drop_got, Sums.goes_on, Sums.ends, Sums.greater}
+use Rattle.fb_report.proofs.{Sums.goes_on, Sums.ends, Sums.greater}
 use Rattle.fb_report.proofs.summary.Served.of.Goals as goal
 
 pub loop-i-preserved : goal.loop-i-preserved
 loop-i-preserved c =
     let so_far = c.loop-i.invariant in
     let row = c.get-row.result.now in
-    let split = drop_got c.args.rows.now c.loop-i.i row c.get-row.ensures in
+    let split = drop_at c.args.rows.now c.loop-i.i row c.get-row.ensures in
     record {
       sectors = goes_on _ _ _ _ _ _ so_far.sectors row split refl;
       finish = goes_on _ _ _ _ _ _ so_far.finish row.finish (ap (map (λ row. row.finish)) split) (c.max-finish.ensures ∙ greater c.loop-i.finish row.finish);

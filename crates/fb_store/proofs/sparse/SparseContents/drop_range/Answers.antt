@@ -1,14 +1,11 @@
 use Rattle.std.proofs.Common.{ap, ◌∙◌, Result, Ok, Err, OnErr}
 use Rattle.std.specs.Ordering.{nat_cmp}
 use Rattle.std.specs.BTreeMap.{get}
+use Rattle.fb_units.proofs.Lists.{on_err}
 use Rattle.fb_store.specs.Sparse.{after_dropping}
 use Rattle.fb_store.specs.Index.{held_of, held_at}
 use Rattle.fb_store.proofs.Taken.{dropped, dropped_past}
 use Rattle.fb_store.proofs.sparse.SparseContents.drop_range.Goals as goal
-
-on_err : {T E P : Type 0} (r : Result T E) → P → OnErr r P
-on_err (Ok x) p = tt
-on_err (Err e) p = p
 
 pub returns-clause-ok : goal.returns-clause-ok
 returns-clause-ok c lbn =

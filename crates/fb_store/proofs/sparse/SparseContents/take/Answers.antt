@@ -1,13 +1,10 @@
 use Rattle.std.proofs.Common.{ap, ◌∙◌, Result, Ok, Err, OnErr}
+use Rattle.fb_units.proofs.Lists.{on_err}
 use Rattle.fb_store.specs.Sparse.{after_taking}
 use Rattle.fb_store.specs.Index.{held_at}
 use Rattle.fb_store.specs.Runs.{sectors_of}
 use Rattle.fb_store.proofs.Taken.{taken_block}
 use Rattle.fb_store.proofs.sparse.SparseContents.take.Goals as goal
-
-on_err : {T E P : Type 0} (r : Result T E) → P → OnErr r P
-on_err (Ok x) p = tt
-on_err (Err e) p = p
 
 pub returns-clause-ok : goal.returns-clause-ok
 returns-clause-ok c lbn = c.assign_runs.ensures.value lbn

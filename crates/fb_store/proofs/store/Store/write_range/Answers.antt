@@ -2,14 +2,11 @@ use Rattle.std.proofs.Common.{ap, ◌∙◌, Result, Ok, Err, OnErr}
 use Rattle.std.specs.Option.{unwrap_or}
 use Rattle.std.specs.Ordering.{nat_cmp}
 use Rattle.std.specs.BTreeMap.{get}
+use Rattle.fb_units.proofs.Lists.{on_err}
 use Rattle.fb_store.specs.Writes.{unwritten, after_write}
 use Rattle.fb_store.specs.Index.{held_of, content_in}
 use Rattle.fb_store.proofs.Originals.{content_written}
 use Rattle.fb_store.proofs.store.Store.write_range.Goals as goal
-
-on_err : {T E P : Type 0} (r : Result T E) → P → OnErr r P
-on_err (Ok x) p = tt
-on_err (Err e) p = p
 
 pub returns-clause-ok : goal.returns-clause-ok
 returns-clause-ok c lbn =

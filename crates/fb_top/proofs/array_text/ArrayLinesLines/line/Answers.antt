@@ -1,7 +1,7 @@
 use Rattle.std.proofs.Common.{◌∙◌, ap, arith, sym, Some}
 use Rattle.std.proofs.lemmas.Result.{IfOk-weaker}
+use Rattle.fb_units.proofs.Lists.{element_at}
 use Rattle.fb_top.specs.Array.{array_last}
-use Rattle.fb_top.proofs.Each.{element_at}
 use Rattle.fb_top.proofs.Sections.{first_of_array, last_of_array, line_of_array}
 use Rattle.fb_top.proofs.array_text.ArrayLinesLines.line.Goals as goal
 
