@@ -1,4 +1,5 @@
 -- Blocks that share no sector pass one slot each.
+use Rattle.fb_detour.proofs.Ranges.{same_cylinder}
 use Rattle.fb_bgwrite.proofs.Words.{map, and_parts, leb-true, ltb-true, nat_le, nat_lt, ap, if◌then◌else◌, ◌≡◌, ℕ, zero, suc, ◌+◌, ◌-◌, ◌/◌}
 use Rattle.fb_bgwrite.proofs.Words.{◌<◌, ◌≤◌, List, [], ◌∷◌, Bool, true, inl, inr, refl, arith, ◌==◌, sum_by, cases_Bool, nat_tests}
 use Rattle.fb_bgwrite.proofs.Words.{sum_by-cons, Track, same_track, slots_at, IsSound, HasOwnPlaces, pos, distance_of, Disk, Entry}
@@ -69,21 +70,7 @@ module _ (disk : Disk) (gap : Gap) (entries : List Entry) (pending : ArePending 
         enough,
       )
 
-shorter : (rotation n most : ℕ) → 0 < n → n ≤ most → rotation / most ≤ rotation / n
-shorter rotation n most some le = le-div (rotation / most) rotation n some (omega (arith, mul-le (rotation / most) n (rotation / most) most (omega arith) le, div-mul-le_self rotation most))
-
--- of more slots no fewer pass
-pub more_pass : (rotation n most time : ℕ) → n ≤ most → 0 < rotation / most → time / (rotation / n) ≤ time / (rotation / most)
-more_pass rotation zero most time le some = let none : rotation / 0 ≡ 0 = omega arith in rw none (omega arith)
-more_pass rotation (suc n) most time le some =
-    let passed = time / (rotation / suc n) in
-    le-div passed time (rotation / most) some
-    (omega (arith, mul-le passed (rotation / most) passed (rotation / suc n) (omega arith) (shorter rotation (suc n) most (omega arith) le), div-mul-le_self time (rotation / suc n)))
-
 -- ---- moves
-
-no_distance : (a b : Track) → same_track a b ≡ true → distance_of a.cylinder b.cylinder ≡ 0
-no_distance a b same = grind (arith, nat_tests)
 
 same_head : (a b : Track) → a.head ≡ b.head → distance_of a.cylinder b.cylinder ≡ 0 → same_track a b ≡ true
 same_head a b head near = let cylinder : a.cylinder ≡ b.cylinder = omega (arith, near) in grind (arith, nat_tests)
@@ -94,7 +81,7 @@ unfolding pos
 nearer_on arm a b near write rises head le = elim (cases_Bool (same_track near b)) [
   | inl here ↦ rw here (omega arith)
   | inr away ↦ elim (cases_Bool (same_track a b)) [
-    | inl there ↦ let none = no_distance a b there in let same = same_head near b head (omega (arith, none, le)) in absurd (grind arith)
+    | inl there ↦ let none = same_cylinder a b there in let same = same_head near b head (omega (arith, none, le)) in absurd (grind arith)
     | inr apart ↦
         let seeks = rises (distance_of near.cylinder b.cylinder) (distance_of a.cylinder b.cylinder) le in
         let heads : (near.head == b.head) ≡ true = grind (arith, nat_tests) in

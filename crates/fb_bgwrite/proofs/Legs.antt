@@ -1,9 +1,9 @@
 -- Where legs lead the head.
+use Rattle.fb_units.proofs.Tracks.{same_tracks}
 use Rattle.fb_bgwrite.proofs.Words.{◌≡◌, ℕ, ◌+◌, ◌≤◌, List, [], ◌∷◌, ◌++◌, Bool, true, false, Some, None, refl, sym, ap, ◌∙◌, arith, inl}
 use Rattle.fb_bgwrite.proofs.Words.{inr, AllByRecursion, cases_Bool, nat_tests, Track, same_track, IsTrackOf, pos, Disk, Gap, Plan, Direct}
 use Rattle.fb_bgwrite.proofs.Words.{Detour, IsPlan, Leg, stay, move, pass, way, arrival, gap_legs, can_follow, leaves_on, leaves_at, led_to}
 use Rattle.fb_bgwrite.proofs.Words.{Leads, lead_gap, lead_on, lead_stay, lead_to_target, lead_way, Spill, spill_legs, ready, IsSpill}
-use Rattle.fb_wanted.proofs.Kept.{same_one}
 
 -- a spill leads from the source to the target, where the head is at the deadline
 pub lead_spill : (disk : Disk) (gap : Gap) (spill : Spill) → IsSpill disk gap spill → Leads disk gap.source gap.now (spill_legs disk gap spill) gap.target gap.deadline
@@ -34,13 +34,13 @@ stay_follows disk on there now begin end can =
     let same : same_track there on ≡ true = grind (arith, nat_tests) in
     let from : begin ≡ now = grind (arith, nat_tests) in
     let upto : begin ≤ end = grind (arith, nat_tests) in
-    (same_one there on same, from, upto)
+    (same_tracks there on same, from, upto)
 
 move_follows : (disk : Disk) (on from to : Track) (write : Bool) (now begin end : ℕ) → can_follow disk on now (move from to write begin end) ≡ true → (from ≡ on) × (begin ≡ now)
 move_follows disk on from to write now begin end can =
     let same : same_track from on ≡ true = grind (arith, nat_tests) in
     let at : begin ≡ now = grind (arith, nat_tests) in
-    (same_one from on same, at)
+    (same_tracks from on same, at)
 
 pass_forward : (disk : Disk) (on : Track) (lbn now begin end : ℕ) → can_follow disk on now (pass lbn begin end) ≡ true → now ≤ end
 pass_forward disk on lbn now begin end can = grind (arith, nat_tests)

@@ -1,4 +1,6 @@
 -- The value of a spill is what its stay catches of the registered blocks.
+use Rattle.fb_units.proofs.Numbers.{if_le}
+use Rattle.fb_detour.proofs.Ceilings.{stay-all}
 use Rattle.fb_bgwrite.proofs.Words.{all_get, ◌≡◌, ℕ, ◌+◌, ◌*◌, ◌<◌, ◌≤◌, ◌⊎◌, List, [], ◌∷◌, Bool, true, false, Some, slice_get}
 use Rattle.fb_bgwrite.proofs.Words.{inl, inr, refl, ap, ◌∙◌, arith, if◌then◌else◌, filter, sum_by}
 use Rattle.fb_bgwrite.proofs.Words.{cases_Bool, nat_tests, sum_by-cons, same_track, Disk, Block, Entry, is_wanted}
@@ -60,29 +62,17 @@ sectors_caught disk dwell (e ∷ es) light = elim (cases_Bool (is_wanted e.state
       omega (arith, left, sum_by-cons (stay_gain disk dwell) e es, one, sectors_caught disk dwell es light.1)
 ]
 
-elsewhere : (disk : Disk) (dwell : Dwell) (e : Entry) → same_track dwell.track e.block.track ≡ false → stay_gain disk dwell e ≡ 0
-elsewhere disk dwell e off = rw (off, and_false (is_wanted e.state)) refl
-
--- the blocks of other tracks add nothing
-all_add : (disk : Disk) (dwell : Dwell) (es : List Entry) → sum_by (stay_gain disk dwell) es ≡ stay disk dwell es
-unfolding stay
-all_add disk dwell es = one_part (stay_gain disk dwell) (λ e. same_track dwell.track e.block.track) (λ e off. elsewhere disk dwell e off) es
-
 pub value_caught : (disk : Disk) (gap : Gap) (es : List Entry) (spill : Spill) → AreLight es → value disk gap (wanted_of es) spill ≡ sum_by (stay_gain disk (stay_of disk gap spill)) es
 unfolding value
 value_caught disk gap es spill light = sectors_caught disk (stay_of disk gap spill) es light
 
 pub value_stay : (disk : Disk) (gap : Gap) (es : List Entry) (spill : Spill) → AreLight es → value disk gap (wanted_of es) spill ≡ stay disk (stay_of disk gap spill) es
 unfolding value
-value_stay disk gap es spill light = sectors_caught disk (stay_of disk gap spill) es light ∙ all_add disk (stay_of disk gap spill) es
+value_stay disk gap es spill light = sectors_caught disk (stay_of disk gap spill) es light ∙ stay-all disk (stay_of disk gap spill) es
 
 -- the same stay up to another instant
 abbrev pub upto : Dwell → ℕ → Dwell
 upto dwell end = record { track = dwell.track; begin = dwell.begin; end = end }
-
-if_le : (a b : Bool) (n : ℕ) → (a ≡ true → b ≡ true) → (if a then n else 0) ≤ (if b then n else 0)
-if_le true b n h = rw (h refl) (omega arith)
-if_le false b n h = omega arith
 
 -- what passes by an earlier instant passes by a later one
 no_less : (disk : Disk) (dwell : Dwell) (a b : ℕ) → a ≤ b → (e : Entry) → stay_gain disk (upto dwell a) e ≤ stay_gain disk (upto dwell b) e

@@ -13,8 +13,9 @@ pub use Rattle.std.proofs.lemmas.List.{take-append-drop}
 pub use Rattle.std.proofs.lemmas.List.Folds.{list_any-append}
 pub use Rattle.std.proofs.lemmas.List.Sums.{count_by-le-length, get_or-le-sum_by, sum_by-append, sum_by-cons, sum_by-le-sum_by}
 pub use Rattle.std.proofs.lemmas.List.Sums.{sum_by_more, sum_by_push}
-pub use Rattle.std.proofs.lemmas.Option.{get_or_from_slice_get, slice_get-get_or, slice_get-map, slice_get_within}
+pub use Rattle.std.proofs.lemmas.Option.{get_or_from_slice_get, slice_get-get_or, slice_get-map, slice_get_within, same_Some as some_one}
 pub use Rattle.std.proofs.lemmas.Result.{IfOk-weaker, on_ok_weaker}
+pub use Rattle.fb_units.proofs.Numbers.{and_false}
 pub use Rattle.fb_units.proofs.Lists.{all_push, all_weaker, all_from_index as all_of, any_of_none as none_any, all_append, all_left, all_right, all_get, drop_at as drop_got, take_at as one_more}
 pub use Rattle.fb_units.specs.Rising.{IsRising}
 pub use Rattle.fb_units.specs.Tracks.{same_track}
@@ -40,7 +41,6 @@ pub use Rattle.fb_puts.specs.Verdict.{accepted}
 pub use Rattle.fb_puts.specs.declared.puts.Put.{Put}
 pub use Rattle.fb_puts.specs.declared.puts.Puts.{Puts}
 pub use Rattle.fb_puts.specs.declared.range.SectorRange.{SectorRange}
-pub use Rattle.fb_puts.proofs.Lists.{some_one}
 pub use Rattle.fb_puts.proofs.Sharing.{is_shares}
 pub use Rattle.fb_wanted.specs.Numbering.{blocks_of, registered}
 pub use Rattle.fb_wanted.specs.States.{after, entry_after, is_block, is_wanted, on_track, wanted_of}
@@ -75,7 +75,7 @@ pub use Rattle.fb_plan.proofs.Ends.{begin-from-le}
 pub use Rattle.fb_plan.specs.declared.turning.Turning.{Turning}
 pub use Rattle.fb_plan.specs.Turns.{IsTurning, added, end_of, passes_by}
 pub use Rattle.fb_detour.specs.Bounds.{slots_within, stay_gain}
-pub use Rattle.fb_detour.proofs.Ceilings.{and_false, longer_stay, stay-of, weight_of_stay}
+pub use Rattle.fb_detour.proofs.Ceilings.{longer_stay, stay-of, weight_of_stay}
 pub use Rattle.fb_report.proofs.Lines.{AreLines, length_lines, line_first, line_last, line_row}
 pub use Rattle.fb_bgwrite.specs.AmendedWay.{amended, amended_legs, kept, kept_legs, planned_legs, spill_legs}
 unfoldable pub use Rattle.fb_bgwrite.specs.AmendedWay.{timeline_with}

@@ -1,4 +1,5 @@
 -- What a stay writes is what its track offers to it.
+use Rattle.fb_plan.proofs.Both.{sum-agree}
 use Rattle.fb_bgwrite.proofs.Words.{◌≡◌, ℕ, suc, ◌+◌, ◌<◌, ◌≤◌, List, [], ◌∷◌, true, false, Some, slice_get, length, max, inl, inr, refl}
 use Rattle.fb_bgwrite.proofs.Words.{sym, ap, ◌∙◌, subst, arith, if◌then◌else◌, ◌⊎◌, sum_by, nat_le, cases_lt, nat_tests, sum_by-cons}
 use Rattle.fb_bgwrite.proofs.Words.{slice_get_within, same_track, Sweep, Track, Disk, Block, Entry, is_wanted, on_track, Offer, AreOffers}
@@ -100,12 +101,6 @@ module _ (passing : Turning) (latest : ℕ) (offers : List Offer) where
     ]
 
 -- ---- offers and blocks
-
-sum-agree : (f g : Entry → ℕ) (xs : List Entry) → ((i : ℕ) (e : Entry) → slice_get xs i ≡ Some e → f e ≡ g e)
-    → sum_by f xs ≡ sum_by g xs
-sum-agree f g [] same = refl
-sum-agree f g (x ∷ xs) same =
-    omega (arith, sum_by-cons f x xs, sum_by-cons g x xs, same 0 x refl, sum-agree f g xs (λ i e at. same (suc i) e at))
 
 -- a stay on a track from the turning's instant to the latest one, and what the blocks of this track offer
 module _ (disk : Disk) (track : Track) (latest : ℕ) (entries blocks : List Entry) (its : blocks ≡ on_track track entries)

@@ -6,6 +6,8 @@ use Rattle.std.proofs.Math.Bool.{or-true}
 use Rattle.std.proofs.lemmas.Bool.{cases_Bool, cases_lt, true≢false, and_parts, or_parts}
 use Rattle.std.proofs.lemmas.List.Elements.{filter-append}
 use Rattle.std.proofs.lemmas.List.Folds.{list_any-append}
+use Rattle.fb_tasks.proofs.ChoiceSteps.{no_backup}
+use Rattle.fb_units.proofs.Numbers.{same_number as number_same}
 use Rattle.fb_geometry.specs.Shape.{Shape}
 use Rattle.fb_geometry.specs.Places.{places}
 use Rattle.fb_sectormap.specs.declared.cut.Cut.{Cut}
@@ -26,7 +28,6 @@ use Rattle.fb_model.specs.History.{Past, LogSegment, chose, calls_of, opened_by,
 use Rattle.fb_model.specs.Completion.{view, work, segments, is_closed}
 use Rattle.fb_model.specs.Segments.{numbered, next_blocks, is_better, is_busy, unchosen, choose_best, choose_once, choose_up_to, choose_in, with_choices}
 use Rattle.fb_model.specs.Steps.{Delivery, Step, decision_in, blocks_by, take_call, calls_due, chosen_past, with_delivery, with_finish, tested_past, past_after}
-use Rattle.fb_model.proofs.Views.{number_same}
 use Rattle.fb_model.proofs.HistoriesUpTo.{due_first}
 use Rattle.fb_tasks.proofs.RunInputs.{open_there, terms_there}
 use Rattle.fb_tasks.proofs.Lists.{all_append, same_number, number_other}
@@ -75,12 +76,6 @@ plain_beyond [] zero beyond = refl
 plain_beyond [] (suc task) beyond = refl
 plain_beyond (terms ∷ tasks) zero beyond = absurd (omega arith)
 plain_beyond (terms ∷ tasks) (suc task) beyond = plain_beyond tasks task (omega arith)
-
-not_both : (kind : Kind) → is_clean kind ≡ true → is_backup kind ≡ true → ⊥
-not_both Plain cleans backup = true≢false (sym cleans)
-not_both Backup cleans backup = true≢false (sym cleans)
-not_both Scrub cleans backup = true≢false (sym cleans)
-not_both Clean cleans backup = true≢false (sym backup)
 
 -- blocks of another task
 other_same : (owner task weight n : ℕ) (cuts : List Cut) (blocks : List Block) → (owner == task) ≡ false → own task (blocks ++ numbered owner weight n cuts) ≡ own task blocks
@@ -186,7 +181,7 @@ module _ (disk : Shape) (calls : List Call) where
             | inr differ ↦ other_same task other weight n cuts (registered past) differ ∙ h.unopened other beyond
           ];
           backups = λ other backup. elim (cases_Bool (task == other)) [
-            | inl same ↦ absurd (not_both (terms_of past task).kind now.1 (ap (λ task. is_backup (terms_of past task).kind) (same_number task other same) ∙ backup))
+            | inl same ↦ absurd (no_backup (terms_of past task).kind now.1 (ap (λ task. is_backup (terms_of past task).kind) (same_number task other same) ∙ backup))
             | inr differ ↦ subst (IsOneRange (length (places disk)) (has_want (calls_of past) other)) (sym (other_same task other weight n cuts (registered past) differ)) (h.backups other backup)
           ];
           left = h.left;

@@ -5,6 +5,7 @@ use Rattle.std.specs.List.{AllByRecursion, flat_map, range_with_len}
 use Rattle.std.proofs.lemmas.Bool.Decides.{nat_tests}
 use Rattle.std.proofs.lemmas.List.{length_push, length-map, get_or_default, get_or-map}
 use Rattle.std.proofs.lemmas.Option.{same_Some}
+use Rattle.fb_units.proofs.Numbers.{less_differs, same_number as own_number, more_differs}
 use Rattle.fb_store.specs.declared.content.Content.{Content}
 use Rattle.fb_store.specs.declared.content.ContentRun.{ContentRun}
 use Rattle.fb_store.specs.Index.{held_at}
@@ -52,20 +53,11 @@ same_live : (b : Bool) (s : LogSegment) → (cond b (left_out s) s).live ≡ s.l
 same_live true s = refl
 same_live false s = refl
 
-other_number : (a b : ℕ) → b < a → (a == b) ≡ false
-other_number a b less = grind (arith, nat_tests)
-
-less_number : (a b : ℕ) → a < b → (a == b) ≡ false
-less_number a b less = grind (arith, nat_tests)
-
-own_number : (a b : ℕ) → a ≡ b → (a == b) ≡ true
-own_number a b same = grind (arith, nat_tests)
-
 without_none : (number n : ℕ) (segments : List LogSegment) → AreNumbered n segments → number < n → without number segments ≡ segments
 without_none number n [] numbered less = refl
 without_none number n (s ∷ segments) numbered less =
     let own = numbered.0 in
-    ap₂ (λ b rest. cond b (left_out s) s ∷ rest) (other_number s.number number (omega arith)) (without_none number (n + 1) segments numbered.1 (omega arith))
+    ap₂ (λ b rest. cond b (left_out s) s ∷ rest) (more_differs s.number number (omega arith)) (without_none number (n + 1) segments numbered.1 (omega arith))
 
 pub without_set : (n : ℕ) (segments : List LogSegment) (i : ℕ) (s : LogSegment) → AreNumbered n segments → slice_get segments i ≡ Some s → set segments i (left_out s) ≡ without (n + i) segments
 without_set n [] i s numbered at = absurd (grind arith)
@@ -78,7 +70,7 @@ without_set n (x ∷ segments) (suc i) s numbered at =
     let own = numbered.0 in
     let next : n + 1 + i ≡ n + suc i = omega arith in
     ap (λ rest. x ∷ rest) (without_set (n + 1) segments i s numbered.1 at ∙ ap (λ k. without k segments) next)
-    ∙ sym (ap (λ b. cond b (left_out x) x ∷ without (n + suc i) segments) (less_number x.number (n + suc i) (omega arith)))
+    ∙ sym (ap (λ b. cond b (left_out x) x ∷ without (n + suc i) segments) (less_differs x.number (n + suc i) (omega arith)))
 
 pub numbered_without : (number n : ℕ) (segments : List LogSegment) → AreNumbered n segments → AreNumbered n (without number segments)
 numbered_without number n segments numbered = numbered_map (leave_at number) (λ s. same_number (s.number == number) s) n segments numbered

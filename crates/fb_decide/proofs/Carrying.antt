@@ -3,13 +3,14 @@ use Rattle.std.proofs.Common.{◌≡◌, List, [], ◌∷◌, ◌++◌, map, fil
 use Rattle.std.specs.List.{fold, AllByRecursion}
 use Rattle.std.proofs.lemmas.Bool.{cases_Bool}
 use Rattle.std.proofs.lemmas.Bool.Decides.{nat_tests}
+use Rattle.fb_units.proofs.Tracks.{track_itself}
 use Rattle.fb_units.proofs.Lists.{take_at}
 use Rattle.fb_wanted.specs.declared.block.Block.{Block}
 use Rattle.fb_model.specs.Blocks.{IsBlockOn}
 use Rattle.fb_model.specs.History.{same_block, Past, wanted}
 use Rattle.fb_plan.specs.declared.catching.Catch.{Catch}
 use Rattle.fb_plan.specs.Order.{is_before, place_in}
-use Rattle.fb_plan.proofs.Sorted.{put_front, put_behind}
+use Rattle.fb_plan.proofs.Sorted.{put_front, put_behind, not_both}
 use Rattle.fb_decide.specs.Deliveries.{AreDistinct, AreDue, row_in, held_now}
 use Rattle.std.specs.Prelude.{slice_get, nat_le, nat_lt}
 use Rattle.std.proofs.lemmas.List.{append_assoc, map-append, drop_more, drop_all}
@@ -26,7 +27,6 @@ use Rattle.fb_wanted.specs.declared.block.Entry.{Entry}
 use Rattle.fb_wanted.specs.States.{on_track, wanted_of}
 use Rattle.fb_model.specs.Rides.{lies_in, begin_at, end_at, in_order, rides, delivery}
 use Rattle.fb_decide.specs.Carried.{added, ride_of, begins_in, begun_in, carried_of, AreLaid, AreExtents}
-use Rattle.fb_wanted.proofs.Kept.{same_itself as track_itself}
 use Rattle.fb_tasks.proofs.Lists.{filter_none, filter_same, all_any, all_at, all_weaker}
 use Rattle.fb_geometry.specs.Places.{places}
 use Rattle.fb_service.specs.declared.disk.Disk.{Disk}
@@ -40,9 +40,6 @@ use Rattle.fb_decide.proofs.Placing.{rows-in_order, due-filtered}
 
 after_all : (a b c : Catch) → is_before a b ≡ true → is_before b c ≡ true → is_before a c ≡ true
 after_all a b c h k = grind (arith, nat_tests)
-
-not_both : (a b : Catch) → is_before a b ≡ true → is_before b a ≡ false
-not_both a b h = grind (arith, nat_tests)
 
 -- of two catches of different blocks one comes before the other
 one_is_first : (a b : Catch) → same_block a.block b.block ≡ false → is_before a b ≡ false → is_before b a ≡ true

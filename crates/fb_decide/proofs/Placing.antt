@@ -3,6 +3,7 @@ use Rattle.std.proofs.Common.{◌≡◌, ℕ, ◌+◌, ◌<◌, ◌≤◌, ◌==
 use Rattle.std.specs.List.{AllByRecursion, list_any, fold}
 use Rattle.std.proofs.lemmas.Bool.{cases_Bool}
 use Rattle.std.proofs.lemmas.Bool.Decides.{nat_tests}
+use Rattle.fb_tasks.proofs.Registered.{itself}
 use Rattle.fb_units.proofs.Lists.{map_at, take_at}
 use Rattle.fb_geometry.specs.Shape.{Shape}
 use Rattle.fb_wanted.specs.declared.block.Block.{Block}
@@ -35,9 +36,6 @@ use Rattle.fb_model.specs.Rides as rides
 use Rattle.fb_decide.proofs.RegisteredBlocks.{each_in}
 
 -- ---- registered blocks are told apart by task and number
-
-pub itself : (block : Block) → same_block block block ≡ true
-itself block = grind (arith, nat_tests)
 
 pub either_way : (a b : Block) → same_block a b ≡ false → same_block b a ≡ false
 either_way a b h = grind (arith, nat_tests)

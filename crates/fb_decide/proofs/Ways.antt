@@ -1,5 +1,6 @@
 -- Sectors begin at angles of the rotation and take time to pass, and legs lead the head through the passages of a service.
 use Rattle.std.proofs.Common.{◌<◌, sym, subst, arith, ◌≡◌, ℕ, zero, suc, ◌+◌, ◌-◌, ◌≤◌, [], ◌∷◌, true, refl, ap, ◌∙◌, length}
+use Rattle.fb_units.proofs.Tracks.{track_itself}
 use Rattle.fb_units.specs.declared.types.Place.{Place}
 use Rattle.fb_geometry.specs.Shape.{Shape, slots_at}
 use Rattle.fb_geometry.specs.Sound.{IsSound, LiesOn}
@@ -15,7 +16,6 @@ use Rattle.fb_sectormap.specs.Lookup.{place_at, track_at}
 use Rattle.fb_seek.specs.Positioning.{pos}
 use Rattle.fb_service.specs.declared.disk.Disk.{Disk}
 use Rattle.fb_service.specs.Service.{passages, passage_from, media_of, finish_of}
-use Rattle.fb_wanted.proofs.Kept.{same_itself}
 use Rattle.fb_model.specs.Timeline.{stay, pass, way, passing, led_to}
 use Rattle.fb_model.proofs.Leads.{Leads, lead_on, lead_one, lead_stay, lead_way, no_way}
 use Rattle.fb_units.specs.declared.types.Request.{Request}
@@ -39,7 +39,7 @@ ends_at disk lbn t = refl
 
 passes : (track : Track) (begin angle rotation end after : ℕ) → begin % rotation ≡ angle → end ≡ after
     → (same_track track track && (begin == begin) && (begin % rotation == angle) && (end == after)) ≡ true
-passes track begin angle rotation end after at long = rw (at, long, same_itself track) (grind (arith, nat_tests))
+passes track begin angle rotation end after at long = rw (at, long, track_itself track) (grind (arith, nat_tests))
 
 lead_pass : (disk : Disk) (lbn t : ℕ) → begin_angle disk.map (place_at disk.map lbn) < disk.map.rotation
     → Leads disk (track_at disk.map lbn) (passage_from disk.map lbn t).begin (pass lbn (passage_from disk.map lbn t).begin (passage_from disk.map lbn t).end ∷ []) (track_at disk.map lbn) (passage_from disk.map lbn t).end
@@ -105,7 +105,7 @@ lead_service disk source start write lbn (suc n) some angles =
     let begin = (passage_from disk.map lbn arrived).begin in
     let end = (passage_from disk.map lbn arrived).end in
     let ps = passages disk there end write (lbn + 1) n in
-    let led = lead_first disk there begin arrived write lbn n (own_angle disk.map lbn n angles) (omega (arith, no_way disk.mechanism there there write (same_itself there)))
+    let led = lead_first disk there begin arrived write lbn n (own_angle disk.map lbn n angles) (omega (arith, no_way disk.mechanism there there write (track_itself there)))
     (lead_passages disk there end write (lbn + 1) n (later_angles disk.map lbn n angles)) in
     λ more. led more ∙ ap (λ (on : Track). led_to disk on (finish_of end ps) more) (last_is disk there lbn n ∙ ap (track_at disk.map) (let same : lbn + n ≡ lbn + suc n - 1 = omega arith in same))
 

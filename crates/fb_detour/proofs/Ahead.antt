@@ -1,4 +1,5 @@
 -- What comes no later, in the order of ties, than the earliest detour over a track.
+use Rattle.fb_units.proofs.Tracks.{same_fields}
 use Rattle.fb_detour.proofs.Words.{arith, inl, inr, refl, subst, sym, ℕ, ◌≡◌, ◌≤◌, cases_lt, Track, Plan, Detour, Direct, IsAhead}
 use Rattle.fb_detour.proofs.Words.{IsNoLater, IsTrackBefore}
 
@@ -18,9 +19,6 @@ before_rest a b c before behind = elim (cases_lt a.cylinder c.cylinder) [
   ]
 ]
 
-same_parts : (a b : Track) → a.cylinder ≡ b.cylinder → a.head ≡ b.head → a ≡ b
-same_parts a b cylinder head = rw (cylinder, head) refl
-
 -- the earliest detour over a track comes no later than one over this track or a later one
 earliest : (track other : Track) (first leave : ℕ) → first ≤ 0 → (IsTrackBefore other track → ⊥)
     → IsNoLater (Detour track first) (Detour other leave)
@@ -32,7 +30,7 @@ earliest track other first leave none behind = elim (cases_lt track.cylinder oth
       | inl less ↦ inl (inr (omega (arith, past, level), less))
       | inr over ↦ elim (cases_lt other.head track.head) [
         | inl under ↦ absurd (behind (inr (omega (arith, past, level), under)))
-        | inr even ↦ inr (same_parts track other (omega (arith, past, level)) (omega (arith, over, even)), omega (arith, none))
+        | inr even ↦ inr (same_fields track other (omega (arith, past, level)) (omega (arith, over, even)), omega (arith, none))
       ]
     ]
   ]

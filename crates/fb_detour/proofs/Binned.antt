@@ -1,9 +1,10 @@
 -- The time on a track in bins.
+use Rattle.fb_units.proofs.Numbers.{if_le}
 use Rattle.fb_detour.proofs.Words.{Bool, List, arith, get_or, if◌then◌else◌, length, nat_lt, refl, replicate, suc, take, true, zero, ℕ}
 use Rattle.fb_detour.proofs.Words.{◌*◌, ◌+◌, ◌-◌, ◌/◌, ◌<◌, ◌≡◌, ◌≤◌, div-mul-le_self, nat_tests, le-div, sum_by, Sweep, Offer, added}
 use Rattle.fb_detour.proofs.Words.{IsReady, bin_at, sum_of_first, Stop}
 use Rattle.fb_detour.proofs.Arrays.{sum-cons}
-use Rattle.fb_detour.proofs.Ceilings.{if-le, if-le-n}
+use Rattle.fb_detour.proofs.Ceilings.{if-le-n}
 use Rattle.fb_detour.proofs.Offers.{bound-more, small-sum, within-more}
 
 -- no instant lies in an earlier bin than an earlier one does
@@ -34,7 +35,7 @@ module _ (f : Offer → ℕ) (offers : List Offer) (i : ℕ) (d : Offer) (within
       → sum_by f (take (i + 1) offers) ≤ sum_of_first n new
   most-more passes is inside so_far =
       let o = get_or offers i d in
-      let gain = if-le (passes o.sweep) (nat_lt index n) o.worth (λ by. let less = inside by in grind (arith, nat_tests)) in
+      let gain = if_le (passes o.sweep) (nat_lt index n) o.worth (λ by. let less = inside by in grind (arith, nat_tests)) in
       bound-more f offers i d within (sum_of_first n old) (sum_of_first n new) so_far (omega (arith, grown, gain, is))
 
   -- nor more than all worth

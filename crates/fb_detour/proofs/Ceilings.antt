@@ -1,4 +1,5 @@
 -- No plan is worth more than its two stays.
+use Rattle.fb_units.proofs.Numbers.{and_false, if_le}
 use Rattle.fb_detour.proofs.Words.{Bool, List, [], ap, arith, false, if◌then◌else◌, inl, inr, refl, true, ℕ, ◌&&◌, ◌*◌, ◌+◌, ◌<◌, ◌||◌, ◌∙◌}
 use Rattle.fb_detour.proofs.Words.{◌∷◌, ◌≡◌, ◌≤◌, cases_Bool, nat_tests, sum_by-cons, sum_by-le-sum_by, sum_by, same_track, Disk, is_wanted}
 use Rattle.fb_detour.proofs.Words.{on_track, wanted_of, wanted_weight, Block, Entry, Dwell, Gap, Plan, block_end, catches, early_dwell}
@@ -32,15 +33,11 @@ either_adds true true b n = omega arith
 either_adds true false true n = omega arith
 either_adds true false false n = omega arith
 
-pub and_false : (b : Bool) → b && false ≡ false
-and_false true = refl
-and_false false = refl
-
-elsewhere : (disk : Disk) (dwell : Dwell) (e : Entry) → same_track dwell.track e.block.track ≡ false → stay_gain disk dwell e ≡ 0
+pub elsewhere : (disk : Disk) (dwell : Dwell) (e : Entry) → same_track dwell.track e.block.track ≡ false → stay_gain disk dwell e ≡ 0
 elsewhere disk dwell e off = rw (off, and_false (is_wanted e.state)) refl
 
 -- a stay catches blocks of its own track alone
-stay-all : (disk : Disk) (dwell : Dwell) (es : List Entry) → sum_by (stay_gain disk dwell) es ≡ stay disk dwell es
+pub stay-all : (disk : Disk) (dwell : Dwell) (es : List Entry) → sum_by (stay_gain disk dwell) es ≡ stay disk dwell es
 unfolding stay
 stay-all disk dwell es = one_part (stay_gain disk dwell) (λ e. same_track dwell.track e.block.track)
     (λ e off. elsewhere disk dwell e off) es
@@ -56,10 +53,6 @@ two_stays disk gap plan es =
     let sums = sum-of-both (stay_gain disk early) (stay_gain disk late) es in
     omega (arith, less, sums, value-gain disk gap plan es, stay-all disk early es, stay-all disk late es)
 
-pub if-le : (a b : Bool) (n : ℕ) → (a ≡ true → b ≡ true) → (if a then n else 0) ≤ (if b then n else 0)
-if-le true b n h = rw (h refl) (omega arith)
-if-le false b n h = omega arith
-
 and_both : (w a b : Bool) → (a ≡ true → b ≡ true) → w && a ≡ true → w && b ≡ true
 and_both true a b h k = h k
 and_both false a b h k = k
@@ -74,7 +67,7 @@ gain-falls : (disk : Disk) (a b : Dwell) (e : Entry) → 0 < disk.map.rotation �
     → stay_gain disk a e ≤ stay_gain disk b e
 gain-falls disk a b e some same begin end =
     let ends = end-le disk.map e.block b.begin a.begin some begin in
-    if-le _ _ _ (and_both (is_wanted e.state) _ _ (still_caught disk a b e.block same ends end))
+    if_le _ _ _ (and_both (is_wanted e.state) _ _ (still_caught disk a b e.block same ends end))
 
 -- so it catches as much
 pub longer_stay : (disk : Disk) (a b : Dwell) (es : List Entry) → 0 < disk.map.rotation → a.track ≡ b.track → b.begin ≤ a.begin

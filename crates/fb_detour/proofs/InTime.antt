@@ -6,12 +6,12 @@ use Rattle.fb_detour.proofs.Packing.{packing}
 pub some_share : (rotation slots : ℕ) → 0 < slots → slots ≤ rotation → 0 < rotation / slots
 some_share rotation slots some room = le-div 1 rotation slots some (omega (arith, room))
 
-shorter : (rotation n most : ℕ) → 0 < n → n ≤ most → rotation / most ≤ rotation / n
+pub shorter : (rotation n most : ℕ) → 0 < n → n ≤ most → rotation / most ≤ rotation / n
 shorter rotation n most some le = le-div (rotation / most) rotation n some
     (omega (arith, mul-le (rotation / most) n (rotation / most) most (omega arith) le, div-mul-le_self rotation most))
 
 -- of more slots no fewer pass
-more_pass : (rotation n most time : ℕ) → n ≤ most → 0 < rotation / most → time / (rotation / n) ≤ time / (rotation / most)
+pub more_pass : (rotation n most time : ℕ) → n ≤ most → 0 < rotation / most → time / (rotation / n) ≤ time / (rotation / most)
 more_pass rotation zero most time le some = let none : rotation / 0 ≡ 0 = omega arith in rw none (omega arith)
 more_pass rotation (suc n) most time le some =
     let passed = time / (rotation / suc n) in

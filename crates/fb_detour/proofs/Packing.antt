@@ -1,4 +1,5 @@
 -- A stay catches no more than the sectors that can pass while it lasts.
+use Rattle.fb_model.proofs.Passages.{slots_short}
 use Rattle.fb_units.proofs.Lists.{all_filter}
 use Rattle.fb_detour.proofs.Words.{List, Some, ap, arith, if◌then◌else◌, inl, inr, length, nat_le, subst, suc, sym, true, zero, ℕ, ◌&&◌}
 use Rattle.fb_detour.proofs.Words.{◌*◌, ◌+◌, ◌-◌, ◌/◌, ◌<◌, ◌∙◌, ◌≡◌, ◌≤◌, div-mul-le_self, and_parts, cases_Bool, leb-true}
@@ -8,7 +9,7 @@ use Rattle.fb_detour.proofs.Words.{Entry, block_end, catches, AreOnDisk, IsBlock
 use Rattle.fb_detour.proofs.Ceilings.{if-le-n}
 use Rattle.fb_detour.proofs.Counted.{no_more}
 use Rattle.fb_detour.proofs.Offers.{all_of}
-use Rattle.fb_detour.proofs.Spread.{same_share, slots_short}
+use Rattle.fb_detour.proofs.Spread.{same_share}
 use Rattle.fb_detour.proofs.Within.{from-le, its_track, place_of, sectors_pass}
 
 pub div-rises : (a b n : ℕ) → a ≤ b → a / n ≤ b / n

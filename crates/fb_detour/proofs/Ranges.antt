@@ -1,4 +1,5 @@
 -- Ranges of cylinders.
+use Rattle.fb_seek.proofs.Far.{seek-pos}
 use Rattle.fb_detour.proofs.Words.{Bool, arith, false, inl, inr, max, min, subst, sym, true, ℕ, ◌+◌, ◌-◌, ◌<◌, ◌==◌, ◌≡◌, ◌≤◌, cases_Bool}
 use Rattle.fb_detour.proofs.Words.{nat_tests, same_track, Track, distance_of, seek, pos, Plan, Detour, IsTrackBefore, IsNoWorseThanTrack}
 use Rattle.fb_detour.proofs.Words.{IsNoWorseThanTracks, IsNoWorseIn, distance_to, Search}
@@ -6,16 +7,8 @@ use Rattle.fb_seek.specs.Mechanics.{Mechanics}
 use Rattle.fb_seek.specs.Rising.{SeeksRise}
 use Rattle.fb_detour.proofs.Found.{through}
 
-same_cylinder : (a b : Track) → same_track a b ≡ true → distance_of a.cylinder b.cylinder ≡ 0
+pub same_cylinder : (a b : Track) → same_track a b ≡ true → distance_of a.cylinder b.cylinder ≡ 0
 same_cylinder a b h = grind (arith, nat_tests)
-
--- no move takes less time than its seek
-seek-pos : (arm : Mechanics) (a b : Track) (write : Bool) → seek arm (distance_of a.cylinder b.cylinder) ≤ pos arm a b write
-unfolding pos
-seek-pos arm a b write = elim (cases_Bool (same_track a b)) [
-  | inl same ↦ rw (same, same_cylinder a b same) (omega arith)
-  | inr other ↦ rw other (omega arith)
-]
 
 -- nor than the seek to the nearest cylinder of a range
 module _ (arm : Mechanics) (rises : SeeksRise arm) (from end : ℕ) (track : Track) (low : from ≤ track.cylinder)

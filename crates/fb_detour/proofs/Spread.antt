@@ -1,4 +1,5 @@
 -- Two slots of a track don't begin to pass within the least length of a slot.
+use Rattle.fb_model.proofs.Passages.{slots_short}
 use Rattle.fb_detour.proofs.Words.{List, Some, [], ap, arith, inl, inr, nat_le, refl, slice_get, suc, sym, ℕ, ◌%◌, ◌*◌, ◌+◌, ◌-◌, ◌/◌, ◌<◌}
 use Rattle.fb_detour.proofs.Words.{◌∙◌, ◌∷◌, ◌≡◌, ◌≤◌, ◌⊎◌, mod-lt, cases_Bool, cases_lt, cases_order, div-add-mod', le-div, least_of}
 use Rattle.fb_detour.proofs.Words.{least_unique, reaches_ahead, reaches_over, wait_least, wait, Place, Track, slot_begin, Shape, slots_at}
@@ -78,15 +79,6 @@ module _ (rotation n : ℕ) (some : 0 < n) (short : n ≤ rotation) where
   ]
 
 -- ---- places
-
--- a track has no more slots than its rotation has nanoseconds
-pub slots_short : (rotation : ℕ) (zones : List Zone) (cylinder : ℕ)
-    → ((i : ℕ) (zone : Zone) → slice_get zones i ≡ Some zone → zone.sectors ≤ rotation) → slots_at zones cylinder ≤ rotation
-slots_short rotation [] cylinder short = omega arith
-slots_short rotation (zone ∷ zones) cylinder short = elim (cases_Bool (nat_le cylinder zone.last)) [
-  | inl here ↦ rw here (short 0 zone refl)
-  | inr on ↦ rw on (slots_short rotation zones cylinder (λ i. short (suc i)))
-]
 
 waited : (disk : Shape) (place : Place) (t : ℕ)
     → begin_from disk place t - t ≡ wait disk.rotation (slot_begin disk.rotation (slots_at disk.zones place.track.cylinder) place.slot) t

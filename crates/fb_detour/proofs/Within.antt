@@ -1,4 +1,5 @@
 -- The sectors of a block pass, each for the least length of a slot, before the block has passed.
+use Rattle.fb_model.proofs.Passages.{slots_short}
 use Rattle.fb_detour.proofs.Words.{ap, arith, inl, inr, length, nat_lt, refl, subst, suc, sym, zero, ℕ, ◌%◌, ◌*◌, ◌+◌}
 use Rattle.fb_detour.proofs.Words.{◌-◌, ◌/◌, ◌<◌, ◌∙◌, ◌≡◌, ◌≤◌, add-mod_right, mod-add-mod, mod-eq_of_lt, mod-lt}
 use Rattle.fb_detour.proofs.Words.{mul-add-mod_self_right, and_parts, cases_lt, ltb-true, div-add-mod', least_of, least_unique}
@@ -10,7 +11,7 @@ use Rattle.fb_sectormap.proofs.ByCylinder.{has_place}
 use Rattle.fb_sectormap.proofs.Turns.{offset-below}
 use Rattle.fb_sectormap.specs.Cutting.{IsOneTurn, is_later}
 use Rattle.fb_service.proofs.Unbroken.{at_angle, neighbour-begins}
-use Rattle.fb_detour.proofs.Spread.{apart, slots_short}
+use Rattle.fb_detour.proofs.Spread.{apart}
 
 -- ---- where sectors are
 

@@ -11,6 +11,7 @@ pub use Rattle.std.proofs.lemmas.List.Sums.{sum_by-cons, sum_by-le-sum_by, sum_b
 pub use Rattle.std.proofs.lemmas.Nat.{div-add-mod', le-div, mul-le}
 pub use Rattle.std.proofs.lemmas.Option.{get_or_from_slice_get, slice_get-get_or, slice_get_within}
 pub use Rattle.std.specs.List.{AllByRecursion, slice_set, sum_by}
+pub use Rattle.fb_units.proofs.Tracks.{same_tracks}
 pub use Rattle.fb_units.proofs.Waits.{least_of, least_unique, reaches_ahead, reaches_over, wait_least}
 pub use Rattle.fb_units.specs.Tracks.{same_track}
 pub use Rattle.fb_units.specs.Wait.{wait}
@@ -26,7 +27,6 @@ pub use Rattle.fb_sectormap.specs.Lookup.{IsAt, neighbour, track_at}
 unfoldable pub use Rattle.fb_sectormap.specs.Lookup.{place_at}
 pub use Rattle.fb_seek.specs.Positioning.{distance_of, seek}
 unfoldable pub use Rattle.fb_seek.specs.Positioning.{pos}
-pub use Rattle.fb_geometry.proofs.Laws.{same_tracks}
 pub use Rattle.fb_service.proofs.Turning.{in-turn, later-after, over, slot-is, within-turn}
 pub use Rattle.fb_service.specs.Passing.{begin_angle, end_angle, turned}
 unfoldable pub use Rattle.fb_service.specs.Passing.{begin_from}

@@ -1,8 +1,9 @@
 -- The head's arrival at a cylinder.
+use Rattle.fb_seek.proofs.Far.{seek-pos}
 use Rattle.fb_fastq.proofs.Words.{◌≡◌, ℕ, ◌+◌, ◌-◌, ◌%◌, ◌*◌, ◌^◌, ◌<◌, ◌≤◌, sym, ap, ◌∙◌, arith, Bool, true, false, if◌then◌else◌, Request}
 use Rattle.fb_fastq.proofs.Words.{place_at, track_at, seek, pos, distance_of, Disk, Departure, begin_angle, sptf, IsAlong, turn, IsArrival}
 use Rattle.fb_fastq.proofs.Words.{IsOnCylinder, Arrival}
-use Rattle.fb_fastq.proofs.{Far.moves, Turns.ahead, Turns.round, Turns.no_sooner, OnLanes.on_cylinder, OnLanes.waits_turn}
+use Rattle.fb_fastq.proofs.{Turns.ahead, Turns.round, Turns.no_sooner, OnLanes.on_cylinder, OnLanes.waits_turn}
 
 -- a spot of a cylinder is one of a request on it
 same_cylinder : (disk : Disk) (r : Request) (spot cylinder : ℕ) → IsAlong disk r spot → IsOnCylinder cylinder spot → (track_at disk.map r.lbn).cylinder ≡ cylinder
@@ -30,7 +31,7 @@ module _ (disk : Disk) (from : Departure) (arrival : Arrival) (is : IsArrival di
       let b = begin_angle disk.map (place_at disk.map r.lbn) in
       let track = track_at disk.map r.lbn in
       let way = pos disk.mechanism from.track track r.write in
-      let arm = moves disk.mechanism from.track track r.write in
+      let arm = seek-pos disk.mechanism from.track track r.write in
       let same = ap (λ c. seek disk.mechanism (distance_of from.track.cylinder c)) (same_cylinder disk r spot arrival.cylinder along on) in
       let seeks = is.seek_is in
       let le : arrival.seek ≤ way = omega (arith, arm, same, seeks) in

@@ -1,12 +1,8 @@
 -- Requests on lanes.
+use Rattle.fb_units.proofs.Tracks.{same_fields}
 use Rattle.fb_fastq.proofs.Words.{◌≡◌, ℕ, ◌+◌, ◌-◌, ◌*◌, ◌%◌, ◌^◌, ◌<◌, ◌≤◌, refl, sym, ap, ◌∙◌, arith, Bool, true, false, if◌then◌else◌}
 use Rattle.fb_fastq.proofs.Words.{mod-lt, Track, Request, place_at, track_at, pos, Disk, begin_angle, begin_from, sptf, Lane, turn}
 use Rattle.fb_fastq.proofs.Words.{lane_start, IsLane, IsAlong}
-
-same_fields : (a b : Track) → a.cylinder ≡ b.cylinder → a.head ≡ b.head → a ≡ b
-same_fields a b c h =
-    let made : ℕ → ℕ → Track = λ x y. record { cylinder = x; head = y } in
-    ap (λ x. made x a.head) c ∙ ap (λ y. made b.cylinder y) h
 
 -- a spot in the room of a lane is one of this lane
 same_numbers : (c h d k b : ℕ) (w v : Bool) → h < 64 → k < 64 → b < 2 ^ 30

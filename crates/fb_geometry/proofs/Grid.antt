@@ -4,9 +4,6 @@ use Rattle.fb_geometry.proofs.Words.{AllByRecursion, Bool, List, Some, [], ap, a
 use Rattle.fb_geometry.proofs.Words.{flat_map, inl, inr, length, length-append, none-some, range_with_len, refl}
 use Rattle.fb_geometry.proofs.Words.{same_Some, slice_get, subst, suc, zero, ℕ, ◌*◌, ◌++◌, ◌+◌, ◌<◌, ◌∙◌, ◌∷◌, ◌≡◌}
 
-pub zero_add : (a : ℕ) → 0 + a ≡ a
-zero_add a = omega arith
-
 pub add_zero : (a : ℕ) → a + 0 ≡ a
 add_zero a = omega arith
 

@@ -1,4 +1,5 @@
 -- How many slots are good, and how many sectors a cylinder has.
+use Rattle.fb_units.proofs.Tracks.{same_tracks}
 use Rattle.fb_units.proofs.Lists.{all_dropped, all_append}
 use Rattle.fb_geometry.proofs.Words.{All-append, All-filter, All-from_recursion, AllByRecursion, Bool, GrownOutside}
 use Rattle.fb_geometry.proofs.Words.{GrownTwice, IsZoneAt, Layout, List, None, PerCylinder, PerTrack, Place, Shape}
@@ -70,13 +71,6 @@ once_in test can q a (suc n) h =
 
 same_slot : (a b : Place) → same_place a b ≡ true → (same_track a.track b.track ≡ true) × (a.slot ≡ b.slot)
 same_slot a b h = let parts = and_parts (same_track a.track b.track) (a.slot == b.slot) h in (parts.0, eqb-true a.slot b.slot parts.1)
-
--- tracks and places are the same if their numbers are
-pub same_tracks : (a b : Track) → same_track a b ≡ true → a ≡ b
-same_tracks a b h =
-    let parts = and_parts (a.cylinder == b.cylinder) (a.head == b.head) h in
-    ap (λ c. record { cylinder = c; head = a.head }) (eqb-true a.cylinder b.cylinder parts.0)
-    ∙ ap (λ k. record { cylinder = b.cylinder; head = k }) (eqb-true a.head b.head parts.1)
 
 pub same_places : (a b : Place) → same_place a b ≡ true → a ≡ b
 same_places a b h =

@@ -1,4 +1,5 @@
 -- Orders of places and tracks, and the least of a list.
+use Rattle.fb_units.proofs.Tracks.{same_tracks}
 use Rattle.fb_units.proofs.Lists.{all_get, get_left, get_right}
 use Rattle.fb_geometry.proofs.Words.{Bool, IsStrictWeakOrder, List, None, Option, Pairwise, Some, [], ap, arith}
 use Rattle.fb_geometry.proofs.Words.{cases_Bool, cases_lt, false, filter, get_or_from_slice_get, inl, inr}
@@ -6,7 +7,7 @@ use Rattle.fb_geometry.proofs.Words.{is_mark_before, is_place_before, is_track_b
 use Rattle.fb_geometry.proofs.Words.{list_any, list_any_at, map, nat_lt, nat_tests, none-some, option_map, or_cases}
 use Rattle.fb_geometry.proofs.Words.{refl, same_Some, slice_get, slice_get-map, slice_get_within, suc, sym, true}
 use Rattle.fb_geometry.proofs.Words.{true≢false, zero, ℕ, ◌++◌, ◌+◌, ◌-◌, ◌∙◌, ◌∷◌, ◌≡◌, ◌⊎◌}
-use Rattle.fb_geometry.proofs.{Laws.same_places, Laws.same_tracks}
+use Rattle.fb_geometry.proofs.{Laws.same_places}
 
 -- what a test of an order keeps
 pub record IsOrder {A : Type 0} (before : A → A → Bool) : Type 0 where

@@ -1,4 +1,5 @@
 -- Where the sectors of a cylinder are.
+use Rattle.fb_units.proofs.Numbers.{zero_add}
 use Rattle.fb_units.proofs.Lists.{element_at, get_left, get_right, all_filter, all_map_any}
 use Rattle.fb_geometry.proofs.Words.{AllByRecursion, Bool, HoldsNone, HoldsSector, IfNone, IfSome, IsAscending}
 use Rattle.fb_geometry.proofs.Words.{IsGoodOf, IsZone, IsZoneAt, Layout, LiesOn, List, MatchOption, None, Option}
@@ -13,7 +14,7 @@ use Rattle.fb_geometry.proofs.Words.{spare_fault, stand_in, subst, suc, sym, tak
 use Rattle.fb_geometry.proofs.Words.{take-map-range_with_len, take-take, true, true≢false, turn, zero, ℕ, ◌%◌, ◌*◌}
 use Rattle.fb_geometry.proofs.Words.{◌++◌, ◌+◌, ◌-◌, ◌/◌, ◌<◌, ◌==◌, ◌∙◌, ◌∷◌, ◌≡◌, ◌≤◌}
 use Rattle.fb_geometry.proofs.{Grid.get_part, Grid.get_range}
-use Rattle.fb_geometry.proofs.{Grid.zero_add, Slips.has, Slips.indexes-ascend, Slips.slipped_to, Slips.is_marked_at}
+use Rattle.fb_geometry.proofs.{Slips.has, Slips.indexes-ascend, Slips.slipped_to, Slips.is_marked_at}
 use Rattle.fb_geometry.proofs.{Slips.length_front, Slips.goes, Slips.kth, Slips.rank_marked, Slips.rank-below}
 use Rattle.fb_geometry.proofs.{Slips.rank-step, Slips.length-kept, Slips.entry_holds, Slips.one_entry, Slips.held}
 use Rattle.fb_geometry.proofs.{Turns.good_track-is, Turns.good_cylinder-is, Turns.range-append}

@@ -1,4 +1,5 @@
 -- Ascending numbers, and what is left of a list when the elements that pass a test are dropped.
+use Rattle.fb_units.proofs.Numbers.{zero_add}
 use Rattle.fb_units.proofs.Lists.{all_weaker, all_get, element_at}
 use Rattle.fb_geometry.proofs.Words.{AllByRecursion, Bool, HoldsSector, IsAscending, List, Some, [], ap, arith}
 use Rattle.fb_geometry.proofs.Words.{cases_Bool, cases_lt, cases_order, cond, count_by-le-length, entry_of_sector}
@@ -7,7 +8,7 @@ use Rattle.fb_geometry.proofs.Words.{length, length-filter, length-filter_more, 
 use Rattle.fb_geometry.proofs.Words.{nat_tests, ne_eqb, none-some, not, option_map, rank, refl, same_Some, slice_get}
 use Rattle.fb_geometry.proofs.Words.{slice_get-map, slice_get_within, slipped, subst, suc, sym, take, true}
 use Rattle.fb_geometry.proofs.Words.{true≢false, zero, ℕ, ◌+◌, ◌-◌, ◌<◌, ◌==◌, ◌∙◌, ◌∷◌, ◌≡◌, ◌≤◌}
-use Rattle.fb_geometry.proofs.{Grid.count_cons, Grid.add_zero, Grid.zero_add}
+use Rattle.fb_geometry.proofs.{Grid.count_cons, Grid.add_zero}
 
 -- ---- ascending numbers
 

@@ -1,4 +1,5 @@
 -- The slots of a cylinder in the order of their turns, as one list.
+use Rattle.fb_units.proofs.Numbers.{zero_add}
 use Rattle.fb_units.proofs.Lists.{flat_map_same}
 use Rattle.fb_geometry.proofs.Words.{Bool, List, Place, Shape, Some, Track, Zone, [], add-mod_left, ap, arith}
 use Rattle.fb_geometry.proofs.Words.{by_head, cases_lt, cylinder_slots, div-add-mod', div-mul-add, filter}
@@ -7,7 +8,7 @@ use Rattle.fb_geometry.proofs.Words.{length-map-range_with_len, map, map-append,
 use Rattle.fb_geometry.proofs.Words.{mul-add-lt, not, offset_in, option_map, position_in, range_with_len, refl}
 use Rattle.fb_geometry.proofs.Words.{slice_get, slice_get-map, slot_at, suc, sym, turn, zero, ℕ, ◌%◌, ◌*◌, ◌++◌, ◌+◌}
 use Rattle.fb_geometry.proofs.Words.{◌-◌, ◌/◌, ◌<◌, ◌∙◌, ◌∷◌, ◌≡◌, ◌≤◌}
-use Rattle.fb_geometry.proofs.{Grid.get_range, Grid.zero_add, Grid.add_zero, Grid.add_one}
+use Rattle.fb_geometry.proofs.{Grid.get_range, Grid.add_zero, Grid.add_one}
 
 -- ---- once round
 

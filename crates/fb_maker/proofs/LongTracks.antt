@@ -1,4 +1,5 @@
 -- Sectors of a disk whose tracks are long.
+use Rattle.fb_units.proofs.Numbers.{and_parts}
 use Rattle.fb_units.proofs.Lists.{all_weaker, all_range}
 use Rattle.fb_maker.proofs.Words.{length-most, ◌≡◌, ℕ, zero, suc, ◌+◌, ◌-◌, ◌*◌, ◌%◌, ◌<◌, ◌≤◌, List, [], ◌∷◌, length, map, take, drop}
 use Rattle.fb_maker.proofs.Words.{true, false, refl, sym, ap, ◌∙◌, arith, subst, append-nil, Some, None, inl, inr, ◌==◌, nat_le, nat_lt}
@@ -9,7 +10,7 @@ use Rattle.fb_maker.proofs.Words.{zone_places, first_apart, IsSound, cylinder_si
 use Rattle.std.proofs.lemmas.List.FromFn.{length-range_with_len}
 use Rattle.fb_units.specs.declared.types.Track.{Track}
 use Rattle.fb_units.specs.Tracks.{same_track}
-use Rattle.fb_maker.proofs.{Left.left_get, Left.left_rest, Splitting.and_parts, Breaks.IsSpread, Breaks.SpreadsOn, Breaks.Ascends}
+use Rattle.fb_maker.proofs.{Left.left_get, Left.left_rest, Breaks.IsSpread, Breaks.SpreadsOn, Breaks.Ascends}
 use Rattle.fb_maker.proofs.{Breaks.ascends_filter, Breaks.ascends_take, Breaks.spreads_ascending, Breaks.spreads_all, Breaks.spread_nothing}
 use Rattle.fb_maker.proofs.{Breaks.Counts, Breaks.counts_above, Breaks.counts_both, Breaks.counts_range}
 

@@ -65,12 +65,12 @@ line_four disk traced n m some inside small few =
     let are_few : nat_lt 16000000 (0 + length (cutting disk 16 0 n) + 0 + length (cutting disk 16 0 m)) ≡ false = grind (arith, nat_tests) in
     rw (want_fields (codes "want") (codes "backup") m (omega arith) (record { some = omega arith; plain = refl }) (record { some = omega arith; plain = refl }), number, is_some, is_inside, are_few) refl
 
-calls_more : (disk : Shape) (number : ℕ) (so_far next : Progress) (line : List ℕ) (lines : List (List ℕ)) → next_progress disk number so_far line ≡ Ok next
+pub calls_more : (disk : Shape) (number : ℕ) (so_far next : Progress) (line : List ℕ) (lines : List (List ℕ)) → next_progress disk number so_far line ≡ Ok next
     → lines_from disk number so_far (line ∷ lines) ≡ lines_from disk (number + 1) next lines
 unfolding lines_from
 calls_more disk number so_far next line lines e = rw e refl
 
-calls_end : (disk : Shape) (number : ℕ) (so_far : Progress) → lines_from disk number so_far [] ≡ Ok (at_end so_far)
+pub calls_end : (disk : Shape) (number : ℕ) (so_far : Progress) → lines_from disk number so_far [] ≡ Ok (at_end so_far)
 unfolding lines_from
 calls_end disk number so_far = refl
 
@@ -134,7 +134,7 @@ some_most disk = elim (cases_Bool (has_long_tracks disk.layout disk.zones)) [
   | inr short ↦ rw short (omega arith)
 ]
 
-first_data : (disk : Shape) (zone : Zone) → zone.first ≤ zone.last → length (data_list disk zone zone.first) ≤ length (zone_places disk zone)
+pub first_data : (disk : Shape) (zone : Zone) → zone.first ≤ zone.last → length (data_list disk zone zone.first) ≤ length (zone_places disk zone)
 first_data disk zone some =
     let more : zone.last + 1 - zone.first ≡ suc (zone.last - zone.first) = omega arith in
     subst (λ (n : ℕ). length (data_list disk zone zone.first) ≤ length (flat_map (data_list disk zone) (range_with_len zone.first n))) (sym more)

@@ -1,4 +1,6 @@
 -- Lines and fields that were put together, taken apart.
+use Rattle.fb_units.proofs.Numbers.{and_parts}
+use Rattle.fb_units.proofs.Splitting.{but_empty_last-cons}
 use Rattle.fb_maker.proofs.Words.{◌≡◌, ℕ, ◌-◌, ◌<◌, List, [], ◌∷◌, ◌++◌, length, get_or, Bool, true, false, refl, ap, ◌∙◌, arith, ◌==◌}
 use Rattle.fb_maker.proofs.Words.{nat_lt, ◌&&◌, map, filter, slice_split, list_all, list_all-append, nat_tests, is_blank, but_empty_last}
 use Rattle.fb_maker.proofs.Words.{lines_of, fields_of}
@@ -45,11 +47,6 @@ field_last word is =
 printed_is : (byte : ℕ) → plain byte ≡ true → printed byte ≡ true
 printed_is byte is = grind (arith, nat_tests)
 
-pub and_parts : (a b : Bool) → (a && b) ≡ true → (a ≡ true) × (b ≡ true)
-and_parts true true is = (refl, refl)
-and_parts true false is = cc
-and_parts false b is = cc
-
 pub word_printed : (word : List ℕ) → list_all plain word ≡ true → list_all printed word ≡ true
 word_printed [] is = refl
 word_printed (byte ∷ word) is = let both = and_parts (plain byte) (list_all plain word) is in rw (printed_is byte both.0, word_printed word both.1) refl
@@ -64,10 +61,6 @@ last_printed (byte ∷ bytes) is = let at = AllPass-from_list_all printed (byte 
 no_return : (line : List ℕ) → list_all printed line ≡ true → strip_carriage_return line ≡ line
 no_return line is = rw (last_printed line is) refl
 
-but_empty_more : (part : List ℕ) (parts : List (List ℕ)) → 0 < length parts → but_empty_last (part ∷ parts) ≡ part ∷ but_empty_last parts
-but_empty_more part [] some = absurd (omega arith)
-but_empty_more part (next ∷ parts) some = refl
-
 -- a line, and the lines behind its feed
 pub line_then : (line rest : List ℕ) → list_all printed line ≡ true → lines_of (line ++ 10 ∷ rest) ≡ line ∷ lines_of rest
 unfolding lines_of
@@ -75,7 +68,7 @@ line_then line rest is =
     let p = λ (byte : ℕ). byte == 10 in
     let whole = AllPass-from_list_all printed line is in
     ap (λ parts. map strip_carriage_return (but_empty_last parts)) (slice_split_at p line 10 rest (λ k d low. no_feed (get_or line k d) (whole k d low)) refl)
-    ∙ ap (map strip_carriage_return) (but_empty_more line (slice_split p rest) (omega (arith, length-slice_split p rest)))
+    ∙ ap (map strip_carriage_return) (but_empty_last-cons line (slice_split p rest) (omega (arith, length-slice_split p rest)))
     ∙ ap (λ front. front ∷ map strip_carriage_return (but_empty_last (slice_split p rest))) (no_return line is)
 
 pub no_lines : lines_of [] ≡ []

@@ -14,7 +14,7 @@ use Rattle.fb_store.specs.Runs.{runs_of, sectors_in, sectors_of, same_content, w
 use Rattle.fb_store.specs.Sparse.{after_taking, held_sector, held_in, EndsBy}
 use Rattle.fb_store.proofs.Originals.{inside, after}
 use Rattle.fb_store.proofs.Runs.{sectors_of-runs_of}
-use Rattle.fb_store.proofs.Taken.{taken_block, taken_past}
+use Rattle.fb_store.proofs.Taken.{taken_block, taken_past, held_all}
 use Rattle.fb_mirror.specs.Replacement.{Event, IsWithin}
 use Rattle.fb_mirror.proofs.Taking.{over, taken_over}
 
@@ -22,10 +22,6 @@ use Rattle.fb_mirror.proofs.Taking.{over, taken_over}
 held_same : (f g : ℕ → Option Content) (lbns : List ℕ) → ((lbn : ℕ) → f lbn ≡ g lbn) → held_in f lbns ≡ held_in g lbns
 held_same f g [] same = refl
 held_same f g (lbn ∷ lbns) same = ap₂ (λ o rest. held_sector lbn o ++ rest) (same lbn) (held_same f g lbns same)
-
-held_all : (f : ℕ → Option Content) (g : ℕ → Content) (first n : ℕ) → ((lbn : ℕ) → first ≤ lbn → lbn < first + n → f lbn ≡ Some (g lbn)) → held_in f (range_with_len first n) ≡ map (λ lbn. (lbn, g lbn)) (range_with_len first n)
-held_all f g first zero all = refl
-held_all f g first (suc n) all = ap₂ (λ o rest. held_sector first o ++ rest) (all first (omega arith) (omega arith)) (held_all f g (first + 1) n (λ lbn from to. all lbn (omega arith) (omega arith)))
 
 -- contents that were taken where nothing was held
 pub taken_runs : (contents runs : List ContentRun) (held old : ℕ → Option Content) → ((lbn : ℕ) → old lbn ≡ None) → ((lbn : ℕ) → held lbn ≡ after_taking (sectors_of contents) lbn (old lbn))

@@ -5,6 +5,7 @@ use Rattle.std.specs.List.{list_all, flat_map, range_with_len}
 use Rattle.std.proofs.lemmas.List.Folds.{list_all-append}
 use Rattle.std.proofs.lemmas.List.{length-append}
 use Rattle.std.proofs.lemmas.Bool.Decides.{nat_tests}
+use Rattle.fb_maker.proofs.ScriptRead.{calls_end, first_data, calls_more}
 use Rattle.fb_units.specs.Lines.{lines_of, fields_of}
 use Rattle.fb_units.proofs.Written.{whole_number}
 use Rattle.fb_geometry.specs.Shape.{Shape}
@@ -64,19 +65,10 @@ line_two disk traced n some inside small false are =
     let is_inside : nat_lt (length (places disk)) (0 + n) ≡ false = grind (arith, nat_tests) in
     rw (want_fields n (omega arith), number, is_some, is_inside, are) refl
 
-calls_more : (disk : Shape) (number : ℕ) (so_far next : Progress) (line : List ℕ) (lines : List (List ℕ)) → next_progress disk number so_far line ≡ Ok next
-    → lines_from disk number so_far (line ∷ lines) ≡ lines_from disk (number + 1) next lines
-unfolding lines_from
-calls_more disk number so_far next line lines e = rw e refl
-
 calls_stop : (disk : Shape) (number : ℕ) (so_far : Progress) (line : List ℕ) (lines : List (List ℕ)) (fault : CallsFault) → next_progress disk number so_far line ≡ Err fault
     → lines_from disk number so_far (line ∷ lines) ≡ Err fault
 unfolding lines_from
 calls_stop disk number so_far line lines fault e = rw e refl
-
-calls_end : (disk : Shape) (number : ℕ) (so_far : Progress) → lines_from disk number so_far [] ≡ Ok (at_end so_far)
-unfolding lines_from
-calls_end disk number so_far = refl
 
 second_printed : (n : ℕ) → n < 2 ^ 64 → list_all printed (second_line n) ≡ true
 second_printed n small = list_all-append printed (codes "0 want rebuild 0 ") (decimal n) ∙ rw (word_printed (decimal n) (decimal_word n small).plain) refl
@@ -96,12 +88,6 @@ read_as disk traced n false is =
     calls_more disk 1 (at_start traced) (after_one disk traced) first_line (second_line n ∷ []) (line_one disk traced)
     ∙ calls_more disk 2 (after_one disk traced) (after_two disk traced n) (second_line n) [] is
     ∙ calls_end disk 3 (after_two disk traced n)
-
-first_data : (disk : Shape) (zone : Zone) → zone.first ≤ zone.last → length (data_list disk zone zone.first) ≤ length (zone_places disk zone)
-first_data disk zone some =
-    let more : zone.last + 1 - zone.first ≡ suc (zone.last - zone.first) = omega arith in
-    subst (λ (n : ℕ). length (data_list disk zone zone.first) ≤ length (flat_map (data_list disk zone) (range_with_len zone.first n))) (sym more)
-    (omega (arith, length-append (data_list disk zone zone.first) (flat_map (data_list disk zone) (range_with_len (zone.first + 1) (zone.last - zone.first)))))
 
 some_in : (disk : Shape) (zones : List Zone) → 0 < length zones → ((zone : Zone) → slice_get zones 0 ≡ Some zone → 0 < length (zone_places disk zone)) → 0 < length (flat_map (zone_places disk) zones)
 some_in disk [] some held = absurd (omega arith)

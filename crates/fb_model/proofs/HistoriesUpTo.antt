@@ -4,6 +4,7 @@ use Rattle.std.specs.Prelude.{filter, drop, ◌&&◌, not, if◌then◌else◌}
 use Rattle.std.specs.List.{AllByRecursion, fold, best_of}
 use Rattle.std.proofs.lemmas.Bool.{cases_Bool}
 use Rattle.std.proofs.lemmas.List.{drop_all}
+use Rattle.fb_units.proofs.Numbers.{is_after}
 use Rattle.fb_units.proofs.Lists.{all_weaker, all_append, all_filter}
 use Rattle.fb_geometry.specs.Shape.{Shape}
 use Rattle.fb_sectormap.specs.declared.cut.Cut.{Cut}
@@ -23,7 +24,7 @@ use Rattle.fb_model.specs.Completion.{work, segments, is_closed}
 use Rattle.fb_model.specs.Segments.{numbered, is_better, is_busy, unchosen, choose_best, choose_once, choose_up_to, choose_in, with_choices}
 use Rattle.fb_model.specs.Steps.{Delivery, Step, decision_in, blocks_by, take_call, calls_left, calls_due, chosen_past, with_delivery, with_finish, tested_past, past_after}
 use Rattle.fb_model.specs.Accepted.{IsRising}
-use Rattle.fb_model.proofs.Lists.{kept_twice, by_later, is_after, after_is}
+use Rattle.fb_model.proofs.Lists.{kept_twice, by_later, after_is}
 
 -- ---- each block has a sector
 

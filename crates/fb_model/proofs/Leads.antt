@@ -3,12 +3,13 @@ use Rattle.std.proofs.Common.{◌≡◌, ℕ, ◌+◌, ◌≤◌, List, [], ◌�
 use Rattle.std.specs.Prelude.{Bool, if◌then◌else◌}
 use Rattle.std.proofs.lemmas.Bool.{cases_Bool}
 use Rattle.std.proofs.lemmas.Bool.Decides.{nat_tests}
+use Rattle.fb_units.proofs.Tracks.{same_tracks, track_itself}
 use Rattle.fb_units.specs.declared.types.Track.{Track}
 use Rattle.fb_units.specs.Tracks.{same_track}
 use Rattle.fb_seek.specs.Mechanics.{Mechanics}
 use Rattle.fb_seek.specs.Positioning.{pos}
 use Rattle.fb_service.specs.declared.disk.Disk.{Disk}
-use Rattle.fb_wanted.proofs.Kept.{same_one, same_itself, turned_other}
+use Rattle.fb_wanted.proofs.Kept.{turned_other}
 use Rattle.fb_rows.specs.declared.gap.Gap.{Gap}
 use Rattle.fb_rows.specs.declared.gap.Plan.{Plan}
 use Rattle.fb_rows.specs.declared.gap.Plan.TheVariants.{Direct, Detour}
@@ -33,7 +34,7 @@ lead_stay disk on now end h = lead_one disk on now (stay on now end) (grind (ari
 -- a move to another track
 pub lead_move : (disk : Disk) (from to : Track) (write : Bool) (now : ℕ) → same_track from to ≡ false
     → Leads disk from now (move from to write now (now + pos disk.mechanism from to write) ∷ []) to (now + pos disk.mechanism from to write)
-lead_move disk from to write now other = lead_one disk from now (move from to write now (now + pos disk.mechanism from to write)) (rw (same_itself from, other) (grind (arith, nat_tests)))
+lead_move disk from to write now other = lead_one disk from now (move from to write now (now + pos disk.mechanism from to write)) (rw (track_itself from, other) (grind (arith, nat_tests)))
 
 pub no_way : (arm : Mechanics) (a b : Track) (write : Bool) → same_track a b ≡ true → pos arm a b write ≡ 0
 unfolding pos
@@ -44,7 +45,7 @@ pub lead_way : (disk : Disk) (from to : Track) (write : Bool) (now : ℕ) → Le
 lead_way disk from to write now = elim (cases_Bool (same_track from to)) [
   | inl same ↦ λ more.
       ap (λ b. led_to disk from now ((if b then [] else move from to write now (now + pos disk.mechanism from to write) ∷ []) ++ more)) same
-      ∙ (ap (λ (on : Track). led_to disk on now more) (same_one from to same)
+      ∙ (ap (λ (on : Track). led_to disk on now more) (same_tracks from to same)
       ∙ ap (λ t. led_to disk to t more) (let here : now ≡ now + pos disk.mechanism from to write = omega (arith, no_way disk.mechanism from to write same) in here))
   | inr other ↦ λ more.
       ap (λ b. led_to disk from now ((if b then [] else move from to write now (now + pos disk.mechanism from to write) ∷ []) ++ more)) other

@@ -97,9 +97,6 @@ is_by x t by = grind (arith, nat_tests)
 pub by_is : (x t : ℕ) → x ≤ t → nat_le x t ≡ true
 by_is x t h = grind (arith, nat_tests)
 
-pub is_after : (x t : ℕ) → nat_le x t ≡ false → t < x
-is_after x t after = grind (arith, nat_tests)
-
 pub after_is : (x t : ℕ) → t < x → nat_le x t ≡ false
 after_is x t h = grind (arith, nat_tests)
 

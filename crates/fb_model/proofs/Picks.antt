@@ -4,13 +4,11 @@ use Rattle.std.specs.Prelude.{if◌then◌else◌}
 use Rattle.std.specs.List.{AllByRecursion}
 use Rattle.std.proofs.lemmas.Bool.{cases_Bool}
 use Rattle.std.proofs.lemmas.Bool.Decides.{nat_tests}
+use Rattle.fb_units.proofs.Numbers.{is_after}
 use Rattle.fb_units.specs.declared.types.Request.{Request}
 use Rattle.fb_store.proofs.Runs.{so}
 use Rattle.fb_model.specs.PlainReplay.{better, first_least, kept, pick_with, first_ready, has_arrived}
 use Rattle.fb_model.specs.Laws.{IsFirstLeast, IsPickOf, IsFirstReady, IsReadyPickOf}
-
-not_so : (a b : ℕ) → nat_le a b ≡ false → b < a
-not_so a b p = first_of (grind (arith, p), omega (arith, p))
 
 -- no key is smaller than the pick's
 all_least : (key : Request → ℕ) (least : ℕ) (pick : Request) (front back : List Request) → least ≤ key pick
@@ -39,7 +37,7 @@ pick_one key request requests best false e m = record {
   back = m.back;
   whole = ap (λ rest. request ∷ rest) m.whole;
   rest = ap (λ rest. request ∷ rest) m.rest;
-  before = (not_so (key request) (key best.0) e, m.before);
+  before = (is_after (key request) (key best.0) e, m.before);
   after = m.after;
 }
 
@@ -96,7 +94,7 @@ ready_one key now request requests best false here e m = record {
   whole = ap (λ rest. request ∷ rest) m.whole;
   rest = ap (λ rest. request ∷ rest) m.rest;
   arrived = m.arrived;
-  before = (λ arrived. not_so (key request) (key best.0) e, m.before);
+  before = (λ arrived. is_after (key request) (key best.0) e, m.before);
   after = m.after;
 }
 
@@ -129,7 +127,7 @@ ready_kept key now request requests (Some best) late m = record {
 ready_step : (key : Request → ℕ) (now : ℕ) (request : Request) (requests : List Request) (best : Option (Request × List Request)) (b : Bool) → has_arrived now request ≡ b
     → IsReadyPickOf key now requests best → IsReadyPickOf key now (request ∷ requests) (pick_with b key request requests best)
 ready_step key now request requests best true e m = ready_better key now request requests best (leb→le request.arrival now (so (nat_le request.arrival now) e)) m
-ready_step key now request requests best false e m = ready_kept key now request requests best (not_so request.arrival now e) m
+ready_step key now request requests best false e m = ready_kept key now request requests best (is_after request.arrival now e) m
 
 pub ready_pick : (key : Request → ℕ) (now : ℕ) (requests : List Request) → IsReadyPickOf key now requests (first_ready key now requests)
 ready_pick key now [] = tt

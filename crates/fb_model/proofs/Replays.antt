@@ -24,10 +24,6 @@ use Rattle.fb_model.proofs.Picks.{ready_pick, one_pick}
 
 -- ---- when the next service starts
 
-any_or : (b c : Bool) → c ≡ true → (b || c) ≡ true
-any_or true c h = refl
-any_or false c h = h
-
 pub late_or : (now arrival : ℕ) (c : Bool) → (nat_le arrival now || c) ≡ false → now < arrival
 late_or now arrival c h = elim (cases_Bool (nat_le arrival now)) [
   | inl here ↦ absurd (true≢false (sym (ap (λ b. b || c) here) ∙ h))

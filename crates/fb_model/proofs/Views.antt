@@ -7,6 +7,7 @@ use Rattle.std.proofs.lemmas.Bool.Decides.{nat_tests}
 use Rattle.std.proofs.Common.{arith}
 use Rattle.std.proofs.lemmas.List.Elements.{filter-append}
 use Rattle.std.proofs.lemmas.List.Folds.{list_any-append}
+use Rattle.fb_units.proofs.Numbers.{same_number}
 use Rattle.fb_units.specs.declared.types.Request.{Request}
 use Rattle.fb_calls.specs.declared.call.Action.TheVariants.{Open, Want, Abort, Promote, Suspend, Resume, Close, Segment}
 use Rattle.fb_calls.specs.declared.call.Call.{Call}
@@ -17,9 +18,6 @@ use Rattle.fb_rows.specs.declared.back.BackRow.{BackRow}
 use Rattle.fb_wanted.specs.declared.block.Block.{Block}
 use Rattle.fb_model.specs.History.{Past, LogSegment, called, chose, tested, delivered, finished, terms_of, tasks, same_block, bare_state, content_of}
 use Rattle.fb_model.specs.Completion.{view, own_of, is_unsealed, closed_view, aborted_view, written_view, added_view, wanted_view, chosen_view, delivered_view, tested_view, is_complete}
-
-pub number_same : (a b : ℕ) → a ≡ b → (a == b) ≡ true
-number_same a b h = grind (arith, nat_tests)
 
 none_filtered : (task : ℕ) (bs : List Block) → list_any (λ b. b.task == task) bs ≡ false → filter (λ block. block.task == task) bs ≡ []
 none_filtered task [] h = refl
@@ -37,19 +35,19 @@ module _ (past : Past) (call : Call) (kept : tasks (called call [] ∷ past) ≡
 
   pub suspended-view : call.task ≡ task → call.action ≡ Suspend → view (called call [] ∷ past) task ≡ record (view past task) { suspended = true }
   unfolding view bare_state content_of
-  suspended-view own is = rw (append-nil, list_any-append, is, number_same call.task task own, or-false) refl
+  suspended-view own is = rw (append-nil, list_any-append, is, same_number call.task task own, or-false) refl
 
   pub resumed-view : call.task ≡ task → call.action ≡ Resume → view (called call [] ∷ past) task ≡ record (view past task) { suspended = false }
   unfolding view bare_state content_of
-  resumed-view own is = rw (append-nil, list_any-append, is, number_same call.task task own, or-false) refl
+  resumed-view own is = rw (append-nil, list_any-append, is, same_number call.task task own, or-false) refl
 
   pub closed-view : call.task ≡ task → call.action ≡ Close → view (called call [] ∷ past) task ≡ closed_view (view past task)
   unfolding view bare_state content_of
-  closed-view own is = rw (append-nil, list_any-append, is, number_same call.task task own, or-false) refl
+  closed-view own is = rw (append-nil, list_any-append, is, same_number call.task task own, or-false) refl
 
   pub aborted-view : (first count : ℕ) → call.task ≡ task → call.action ≡ Abort first count → view (called call [] ∷ past) task ≡ aborted_view first count (view past task)
   unfolding view bare_state content_of
-  aborted-view first count own is = rw (append-nil, list_any-append, is, number_same call.task task own, or-false) refl
+  aborted-view first count own is = rw (append-nil, list_any-append, is, same_number call.task task own, or-false) refl
 
   pub promoted-silent : (first count : ℕ) → call.action ≡ Promote first count → view (called call [] ∷ past) task ≡ view past task
   unfolding view bare_state content_of
@@ -61,7 +59,7 @@ module _ (past : Past) (call : Call) (kept : tasks (called call [] ∷ past) ≡
   pub added-view : (first blocks age : ℕ) (live : List Bool) → call.task ≡ task → call.action ≡ Segment first blocks age live → view (called call [] ∷ past) task
       ≡ added_view (record { number = length (view past task).segments + 1; first = first; blocks = blocks; age = age; live = live }) (view past task)
   unfolding view bare_state content_of
-  added-view first blocks age live own is = rw (append-nil, list_any-append, is, number_same call.task task own, or-false) refl
+  added-view first blocks age live own is = rw (append-nil, list_any-append, is, same_number call.task task own, or-false) refl
 
 -- a task is opened
 index_other : {X : Type 0} (xs : List X) (x d : X) (i : ℕ) → (length xs == i) ≡ false → slice_index_or (xs ++ x ∷ []) i d ≡ slice_index_or xs i d
@@ -79,12 +77,12 @@ module _ (past : Past) (call : Call) (kind : Kind) (weight block : ℕ) (is : ca
 
   pub opened-view : call.task ≡ task → view (called call [] ∷ past) task ≡ record (view past task) { work = record (view past task).work { terms = terms_of (called call [] ∷ past) task } }
   unfolding view bare_state content_of
-  opened-view own = rw (is, append-nil, list_any-append, number_same call.task task own, or-false) refl
+  opened-view own = rw (is, append-nil, list_any-append, same_number call.task task own, or-false) refl
 
 -- blocks are registered
 all_filtered : (task : ℕ) (bs : List Block) → AllByRecursion (λ b. b.task ≡ task) bs → filter (λ block. block.task == task) bs ≡ bs
 all_filtered task [] h = refl
-all_filtered task (b ∷ bs) h = rw (number_same b.task task h.0, all_filtered task bs h.1) refl
+all_filtered task (b ∷ bs) h = rw (same_number b.task task h.0, all_filtered task bs h.1) refl
 
 no_own : (block : Block) (task : ℕ) (bs : List Block) → (task == block.task) ≡ false → AllByRecursion (λ b. b.task ≡ task) bs → list_any (same_block block) bs ≡ false
 no_own block task [] other h = refl
@@ -105,7 +103,7 @@ module _ (past : Past) (call : Call) (first count : ℕ) (is : call.action ≡ W
 
   pub wanted-view : call.task ≡ task → view (called call blocks ∷ past) task ≡ wanted_view task blocks (view past task)
   unfolding view bare_state content_of
-  wanted-view own = rw (is, filter-append, all_filtered task blocks (subst (λ t. AllByRecursion (λ b. b.task ≡ t) blocks) own mine), list_any-append, number_same call.task task own, or-true) refl
+  wanted-view own = rw (is, filter-append, all_filtered task blocks (subst (λ t. AllByRecursion (λ b. b.task ≡ t) blocks) own mine), list_any-append, same_number call.task task own, or-true) refl
 
 module _ (past : Past) (chooser : ℕ) (segment : LogSegment) (blocks : List Block) (mine : AllByRecursion (λ b. b.task ≡ chooser) blocks) (task : ℕ) where
   pub chosen-silent : (chooser == task) ≡ false → view (chose chooser segment blocks ∷ past) task ≡ view past task
@@ -116,7 +114,7 @@ module _ (past : Past) (chooser : ℕ) (segment : LogSegment) (blocks : List Blo
 
   pub chosen-view : chooser ≡ task → view (chose chooser segment blocks ∷ past) task ≡ chosen_view task (record { segment = segment; blocks = blocks }) (view past task)
   unfolding view bare_state content_of
-  chosen-view own = rw (filter-append, all_filtered task blocks (subst (λ t. AllByRecursion (λ b. b.task ≡ t) blocks) own mine), number_same chooser task own) refl
+  chosen-view own = rw (filter-append, all_filtered task blocks (subst (λ t. AllByRecursion (λ b. b.task ≡ t) blocks) own mine), same_number chooser task own) refl
 
 -- a block is delivered
 module _ (past : Past) (row : DeliveryRow) (task : ℕ) where
@@ -126,7 +124,7 @@ module _ (past : Past) (row : DeliveryRow) (task : ℕ) where
 
   pub delivered-view : row.block.task ≡ task → view (delivered row ∷ past) task ≡ delivered_view row (view past task)
   unfolding view bare_state content_of
-  delivered-view own = rw (number_same row.block.task task own) refl
+  delivered-view own = rw (same_number row.block.task task own) refl
 
 pub tested-view : (past : Past) (rows : List BackRow) (task : ℕ) → view (tested rows ∷ past) task ≡ tested_view task rows (view past task)
 unfolding view bare_state content_of is_complete

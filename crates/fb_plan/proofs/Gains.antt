@@ -5,6 +5,8 @@ use Rattle.std.specs.List.{sum_by}
 use Rattle.std.proofs.lemmas.Bool.{cases_Bool, true≢false}
 use Rattle.std.proofs.lemmas.Bool.Decides.{nat_tests}
 use Rattle.std.proofs.lemmas.List.Sums.{sum_by-cons}
+use Rattle.std.proofs.lemmas.Option.{same_Some}
+use Rattle.fb_units.proofs.Numbers.{and_false}
 use Rattle.fb_units.specs.declared.types.Track.{Track}
 use Rattle.fb_units.specs.Tracks.{same_track}
 use Rattle.fb_service.specs.declared.disk.Disk.{Disk}
@@ -18,13 +20,10 @@ use Rattle.fb_rows.specs.declared.gap.Dwell.{Dwell}
 use Rattle.fb_model.specs.Plans.{catches, is_caught, value, early_dwell, late_dwell}
 use Rattle.fb_plan.specs.Ways.{gain, track_of}
 
-pub some-one : {X : Type 0} (x y : X) → Some x ≡ Some y → x ≡ y
-some-one x y h = grind arith
-
 first_or : {X : Type 0} (p : X → Bool) (y : X) (ys : List X) (i : ℕ) (x : X) → p y ≡ true → slice_get (y ∷ filter p ys) i ≡ Some x
     → ((k : ℕ) → slice_get (filter p ys) k ≡ Some x → (j : ℕ) × (slice_get ys j ≡ Some x) × (p x ≡ true))
     → (j : ℕ) × (slice_get (y ∷ ys) j ≡ Some x) × (p x ≡ true)
-first_or p y ys zero x t h rest = (zero, h, ap p (sym (some-one y x h)) ∙ t)
+first_or p y ys zero x t h rest = (zero, h, ap p (sym (same_Some y x h)) ∙ t)
 first_or p y ys (suc i) x t h rest = let r = rest i h in (suc r.0, r.1, r.2)
 
 -- what passes the test stands in the list
@@ -104,10 +103,6 @@ two_parts g p q apart none (e ∷ es) = elim (cases_Bool (p e)) [
     | inr z ↦ rw (n, z) (omega (arith, sum_by-cons g e es, none e n z, two_parts g p q apart none es))
   ]
 ]
-
-and_false : (b : Bool) → b && false ≡ false
-and_false true = refl
-and_false false = refl
 
 not_caught : (disk : Disk) (gap : Gap) (plan : Plan) (b : Block) → same_track (track_of gap plan) b.track ≡ false
     → same_track gap.target b.track ≡ false → is_caught disk gap plan b ≡ false

@@ -4,7 +4,7 @@ use Rattle.std.proofs.Common.{get_or, filter, length, map, option_map, take, inl
 use Rattle.std.specs.List.{sum_by}
 use Rattle.std.proofs.lemmas.Bool.{cases_Bool, and_parts, and_from, eqb-true, eq-eqb}
 use Rattle.std.proofs.lemmas.List.Sums.{sum_by-cons}
-use Rattle.std.proofs.lemmas.Option.{slice_get_within, slice_get-map, slice_get-get_or, get_or_from_slice_get}
+use Rattle.std.proofs.lemmas.Option.{slice_get_within, slice_get-map, slice_get-get_or, get_or_from_slice_get, same_Some}
 use Rattle.fb_units.proofs.Lists.{filter_to}
 use Rattle.fb_units.specs.declared.types.Sweep.{Sweep}
 use Rattle.fb_service.specs.declared.disk.Disk.{Disk}
@@ -18,7 +18,7 @@ use Rattle.fb_wanted.proofs.Numbers.{filter_at}
 use Rattle.fb_plan.specs.declared.turning.Turning.{Turning}
 use Rattle.fb_plan.specs.Ways.{AreOnDisk}
 use Rattle.fb_plan.specs.Turns.{IsInTurn, AreInTurn, IsTurning, added}
-use Rattle.fb_plan.proofs.Gains.{adds, in_filter, of-wanted, some-one}
+use Rattle.fb_plan.proofs.Gains.{adds, in_filter, of-wanted}
 use Rattle.fb_plan.proofs.Swept.{turning-in}
 
 -- ---- how many pass a test is a sum, which shows whether one does
@@ -30,7 +30,7 @@ some-counted : {X : Type 0} (p : X → Bool) (xs : List X) (i : ℕ) (x : X) →
 some-counted p [] zero x at h = absurd (grind arith)
 some-counted p [] (suc i) x at h = absurd (grind arith)
 some-counted p (y ∷ ys) zero x at h =
-    let one : counts p y ≡ 1 = rw (ap p (some-one y x at) ∙ h) refl in
+    let one : counts p y ≡ 1 = rw (ap p (same_Some y x at) ∙ h) refl in
     omega (arith, sum_by-cons (counts p) y ys, one)
 some-counted p (y ∷ ys) (suc i) x at h = omega (arith, sum_by-cons (counts p) y ys, some-counted p ys i x at h)
 
@@ -73,7 +73,7 @@ entry-of es i b at =
     let e = get_or wanted i d in
     let here = slice_get-get_or wanted i d lt in
     let block = slice_get-map (λ (x : Entry). x.block) wanted i ∙ ap (option_map (λ (x : Entry). x.block)) here in
-    let same : e.block ≡ b = some-one e.block b (sym block ∙ at) in
+    let same : e.block ≡ b = same_Some e.block b (sym block ∙ at) in
     let r = in_filter (λ (x : Entry). is_wanted x.state) es i e here in
     (r.0, e, r.1, same, r.2)
 

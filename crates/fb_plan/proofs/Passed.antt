@@ -2,7 +2,7 @@
 use Rattle.std.proofs.Common.{◌≡◌, inl, inr, ℕ, ◌+◌, ◌<◌, ◌≤◌, List, true}
 use Rattle.std.proofs.Common.{Some, slice_get, get_or, length, arith, sym, ap, ◌∙◌, subst}
 use Rattle.std.proofs.lemmas.Bool.{cases_lt}
-use Rattle.std.proofs.lemmas.Option.{slice_get_within, slice_get-get_or}
+use Rattle.std.proofs.lemmas.Option.{slice_get_within, slice_get-get_or, same_Some}
 use Rattle.fb_units.proofs.Lists.{filter_to}
 use Rattle.fb_units.specs.declared.types.Track.{Track}
 use Rattle.fb_units.specs.Tracks.{same_track}
@@ -25,7 +25,6 @@ use Rattle.fb_plan.specs.Ways.{plan_by, early_track, arrival, move_on, AreOnDisk
 use Rattle.fb_plan.specs.declared.sides.Sides.{Sides}
 use Rattle.fb_plan.specs.Turns.{AreSides, IsTurning, end_of, stay_of}
 use Rattle.fb_plan.proofs.Enough.{enough}
-use Rattle.fb_plan.proofs.Gains.{some-one}
 use Rattle.fb_plan.proofs.Offered.{entry-of, offer-of, wanted-at}
 use Rattle.fb_plan.proofs.Swept.{turning-end}
 use Rattle.fb_plan.proofs.Ties.{later-leave, no_worse-self, no_worse-trans}
@@ -92,7 +91,7 @@ module _ (disk : Disk) (gap : Gap) (way : Way) (wanted : List Block) (turning : 
     | inl l ↦ no_worse-trans disk gap wanted new old (plan_by way (leave_at turning o)) keeps (before k o l here fits)
     | inr m ↦
         let same : k ≡ i = omega arith in
-        let one : x ≡ o = some-one x o (sym at ∙ (ap (slice_get xs) (sym same) ∙ here)) in
+        let one : x ≡ o = same_Some x o (sym at ∙ (ap (slice_get xs) (sym same) ∙ here)) in
         let leave = λ (y : Offer). leave_at turning y in
         subst (λ y. leave y + move_on disk gap way ≤ gap.deadline → IsNoWorse disk gap wanted new (plan_by way (leave y))) one this fits
   ]

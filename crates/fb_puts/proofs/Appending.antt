@@ -1,10 +1,10 @@
 -- One more put.
+use Rattle.std.proofs.lemmas.Option.{same_Some}
 use Rattle.fb_units.proofs.Lists.{all_left, none_of_any, all_right, append_at}
 use Rattle.fb_puts.proofs.Words.{get_right, all_push, ◌≡◌, ℕ, ◌+◌, ◌-◌, ◌<◌, List, [], ◌∷◌, ◌++◌, true}
 use Rattle.fb_puts.proofs.Words.{false, Some, slice_get, length, inl, inr, refl, sym, ap, ◌∙◌, arith, if◌then◌else◌, AllByRecursion}
 use Rattle.fb_puts.proofs.Words.{list_any, nat_cmp, BTreeMap, get, is_at, cases_Bool, nat_tests, SectorRange, share}
 use Rattle.fb_puts.proofs.Words.{AreApart, AreTaken}
-use Rattle.fb_puts.proofs.{Lists.some_one}
 use Rattle.fb_puts.proofs.{Sharing.is_shares, Sharing.share_either}
 
 pub apart_push : (ranges : List SectorRange) (range : SectorRange) → AreApart ranges
@@ -75,7 +75,7 @@ module _ (ends new : BTreeMap ℕ ℕ) (ranges : List SectorRange) (range : Sect
   only : (end first : ℕ) → get nat_cmp new end ≡ Some first → Holds end first
   only end first has = elim (cases_Bool (is_at (nat_cmp (range.first + range.count)) end)) [
     | inl is ↦ let at = key_is (range.first + range.count) end is in
-        its_own end first at (some_one first range.first (sym has ∙ ap (get nat_cmp new) at ∙ here))
+        its_own end first at (same_Some first range.first (sym has ∙ ap (get nat_cmp new) at ∙ here))
     | inr other ↦
         let old = taken.only end first (sym (now end ∙ ap (λ b. if b then Some range.first else get nat_cmp ends end) other) ∙ has) in (
           old.0,

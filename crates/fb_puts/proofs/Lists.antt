@@ -1,14 +1,12 @@
 -- Elements of lists, by their index.
+use Rattle.std.proofs.lemmas.Option.{same_Some}
 use Rattle.fb_puts.proofs.Words.{AllByRecursion, Bool, IsSome, List, None, Option, Some, [], ap, arith, cases_Bool, false, get_left}
 use Rattle.fb_puts.proofs.Words.{inl, inr, list_any, refl, rules, slice_get, slice_get_within, suc, sym, true, true≢false, zero, ℕ}
 use Rattle.fb_puts.proofs.Words.{◌++◌, ◌∙◌, ◌∷◌, ◌≡◌}
 
-pub some_one : {X : Type 0} (x y : X) → Some x ≡ Some y → x ≡ y
-some_one x y e = grind arith
-
 pub any_at : {X : Type 0} (p : X → Bool) (xs : List X) (k : ℕ) (x : X) → slice_get xs k ≡ Some x → p x ≡ true → list_any p xs ≡ true
 any_at p [] k x is h = absurd (grind arith)
-any_at p (y ∷ ys) zero x is h = let here : p y ≡ true = ap p (some_one y x is) ∙ h in rw here refl
+any_at p (y ∷ ys) zero x is h = let here : p y ≡ true = ap p (same_Some y x is) ∙ h in rw here refl
 any_at p (y ∷ ys) (suc k) x is h = elim (cases_Bool (p y)) [
   | inl here ↦ rw here refl
   | inr other ↦ rw other (any_at p ys k x is h)

@@ -1,24 +1,25 @@
 -- A range shares a sector with one of those that are kept by their ends just if the first of them to end behind its begin does.
+use Rattle.std.proofs.lemmas.Option.{same_Some}
 use Rattle.fb_units.proofs.Lists.{all_from_index, any_of_none}
 use Rattle.fb_puts.proofs.Words.{all_get, ◌≡◌, ℕ, zero, suc, ◌+◌, ◌-◌, ◌<◌, ◌≤◌, List, [], ◌∷◌, true, false, Some, slice_get}
 use Rattle.fb_puts.proofs.Words.{inl, inr, sym, ap, ◌∙◌, arith, nat_lt, list_any, nat_cmp, BTreeMap, get, ContainsKey}
 use Rattle.fb_puts.proofs.Words.{cases_lt, SectorRange, share, AreApart, AreTaken}
-use Rattle.fb_puts.proofs.{Lists.any_at, Lists.some_one, Lists.some_there}
+use Rattle.fb_puts.proofs.{Lists.any_at, Lists.some_there}
 use Rattle.fb_puts.proofs.{Sharing.is_shares, Sharing.lt-false, Sharing.lt-true, Sharing.not_share, Sharing.Shares}
 
 -- ranges of the list that share a sector are the same
 pub one_of_apart : (ranges : List SectorRange) (i j : ℕ) (a b : SectorRange) → AreApart ranges → slice_get ranges i ≡ Some a
     → slice_get ranges j ≡ Some b → Shares a b → a ≡ b
 one_of_apart [] i j a b apart at_i at_j shares = absurd (grind arith)
-one_of_apart (r ∷ rs) zero zero a b apart at_i at_j shares = sym (some_one r a at_i) ∙ some_one r b at_j
+one_of_apart (r ∷ rs) zero zero a b apart at_i at_j shares = sym (same_Some r a at_i) ∙ same_Some r b at_j
 one_of_apart (r ∷ rs) zero (suc j) a b apart at_i at_j shares =
     let off : share r b ≡ false = all_get (λ other. share r other ≡ false) rs j b apart.0 at_j in
-    let on : share r b ≡ true = ap (λ x. share x b) (some_one r a at_i) ∙ is_shares a b shares.before shares.behind
+    let on : share r b ≡ true = ap (λ x. share x b) (same_Some r a at_i) ∙ is_shares a b shares.before shares.behind
     shares.some shares.some_other in
     absurd (grind arith)
 one_of_apart (r ∷ rs) (suc i) zero a b apart at_i at_j shares =
     let off : share r a ≡ false = all_get (λ other. share r other ≡ false) rs i a apart.0 at_i in
-    let on : share r a ≡ true = ap (λ x. share x a) (some_one r b at_j) ∙ is_shares b a shares.behind shares.before
+    let on : share r a ≡ true = ap (λ x. share x a) (same_Some r b at_j) ∙ is_shares b a shares.behind shares.before
     shares.some_other shares.some in
     absurd (grind arith)
 one_of_apart (r ∷ rs) (suc i) (suc j) a b apart at_i at_j shares = one_of_apart rs i j a b apart.1 at_i at_j shares

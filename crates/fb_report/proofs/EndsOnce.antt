@@ -1,4 +1,5 @@
 -- The end line is the only line that begins like it.
+use Rattle.std.proofs.lemmas.Option.{same_Some}
 use Rattle.fb_units.proofs.Lists.{all_push, all_weaker, all_get, get_left, get_right}
 use Rattle.fb_report.proofs.Words.{and_parts, ◌≡◌, ℕ, suc, ◌+◌, ◌≤◌, List, [], ◌∷◌, ◌++◌, ◌⊎◌, inl, inr, length, true, false, refl, sym, ap}
 use Rattle.fb_report.proofs.Words.{◌∙◌, arith, lit≤, true≢false, subst, length-append, Some, Ok, ◌==◌, ◌&&◌, codes, slice_get}
@@ -133,9 +134,6 @@ module _ (grammar : Grammar) (by_word : EndsByWord grammar) where
     | inr end ↦ record { front = lines; last = line; is = end.whole; plain = plain; end = ender lines line end.ends }
   ]
 
-same_some : {X : Type 0} (x y : X) → Some x ≡ Some y → x ≡ y
-same_some x y h = cc
-
 ends_once : (lines : List (List ℕ)) → AreEnded lines → EndsOnce lines
 ends_once lines ended =
     let front = ended.front in
@@ -144,7 +142,7 @@ ends_once lines ended =
     record {
       some = omega arith;
       last = λ line index at found.
-          let same : last ≡ line = same_some last line (sym (ap (λ lines. slice_get lines index) ended.is ∙ get_right front (last ∷ []) 0 index (omega arith)) ∙ found) in
+          let same : last ≡ line = same_Some last line (sym (ap (λ lines. slice_get lines index) ended.is ∙ get_right front (last ∷ []) 0 index (omega arith)) ∙ found) in
           subst BeginsLikeEnd same ended.end.begins;
       others = λ line index before found.
           (all_get IsPlainLine front index line ended.plain (sym (ap (λ lines. slice_get lines index) ended.is ∙ get_left front (last ∷ []) index (omega arith)) ∙ found)).unlike;

@@ -1,4 +1,5 @@
 -- A number is tested digit by digit.
+use Rattle.fb_units.proofs.Digits.{digits_grow}
 use Rattle.fb_report.proofs.Words.{◌≡◌, ℕ, ◌+◌, ◌-◌, ◌*◌, ◌^◌, ◌<◌, ◌≤◌, List, [], ◌∷◌, Bool, true, false, refl, ap, ◌∙◌, inl, inr, length}
 use Rattle.fb_report.proofs.Words.{drop, arith, ◌&&◌, nat_lt, list_all, is_ascii_digit, cases_Bool, nat_tests, drop_all, and-false}
 use Rattle.fb_report.proofs.Words.{digits_after}
@@ -6,11 +7,6 @@ use Rattle.fb_report.proofs.Words.{digits_after}
 -- with these digits behind it the number is below 2^64
 abbrev pub stays_below : ℕ → List ℕ → Bool
 stays_below n digits = list_all is_ascii_digit digits && nat_lt (digits_after n digits) (2 ^ 64)
-
--- more digits don't make a number smaller
-digits_grow : (n : ℕ) (digits : List ℕ) → n ≤ digits_after n digits
-digits_grow n [] = omega arith
-digits_grow n (digit ∷ digits) = omega (arith, digits_grow (10 * n + (digit - 48)) digits)
 
 -- a byte that is no digit, or one with which the number passes 2^64
 pub stays_below-not : (n byte : ℕ) (bytes : List ℕ) → (is_ascii_digit byte ≡ true → 2 ^ 64 ≤ 10 * n + (byte - 48)) → stays_below n (byte ∷ bytes) ≡ false

@@ -1,4 +1,5 @@
 -- The fields of lines have their forms.
+use Rattle.fb_units.proofs.Written.{some_digits, digit, digits_end}
 use Rattle.fb_report.proofs.Words.{and_parts, ◌≡◌, ℕ, ◌+◌, ◌-◌, ◌*◌, ◌%◌, ◌<◌, ◌^◌, List, [], ◌∷◌, ◌++◌, length, drop, get_or, Bool, true}
 use Rattle.fb_report.proofs.Words.{false, refl, sym, ap, ◌∙◌, arith, subst, inl, inr, ◌==◌, nat_lt, decimal, list_all, position_or_len}
 use Rattle.fb_report.proofs.Words.{before_first, after_first, is_ascii_digit, bytes_eq, cases_Bool, nat_tests, take_at, list_all-append}
@@ -22,31 +23,20 @@ word_is word whole = record { fits = same_bytes word; whole = whole }
 
 -- ---- numbers
 
-digit : (n : ℕ) → n < 10 → is_ascii_digit (48 + n) ≡ true
-digit n h = grind (arith, nat_tests)
-
 -- digits that write n
 record Writes (n : ℕ) (digits : List ℕ) : Type 0 where
   all : list_all is_ascii_digit digits ≡ true
   value : digits_after 0 digits ≡ n
 
-value_end : (n : ℕ) (digits : List ℕ) (d : ℕ) → digits_after n (digits ++ d ∷ []) ≡ 10 * digits_after n digits + (d - 48)
-value_end n [] d = refl
-value_end n (c ∷ digits) d = value_end (10 * n + (c - 48)) digits d
-
 written : (n : ℕ) → n < 2 ^ 64 → Writes n (decimal n)
 written = decimal_by_steps Writes (λ n h. record { all = rw (digit n h) refl; value = omega arith })
     (λ n digits small h. record {
       all = list_all-append is_ascii_digit digits ((48 + n % 10) ∷ []) ∙ rw (h.all, digit (n % 10) (omega arith)) refl;
-      value = value_end 0 digits (48 + n % 10) ∙ omega (arith, h.value);
+      value = digits_end 0 digits (48 + n % 10) ∙ omega (arith, h.value);
     })
 
 above : (byte : ℕ) → is_ascii_digit byte ≡ true → plain byte ≡ true
 above byte is = grind (arith, nat_tests)
-
-some_digits : (digits : List ℕ) → 0 < length digits → list_all is_ascii_digit digits ≡ true → are_digits digits ≡ true
-some_digits [] some all = absurd (omega arith)
-some_digits (c ∷ digits) some all = all
 
 no_zero : (digits : List ℕ) → 48 < get_or digits 0 0 → has_no_leading_zero digits ≡ true
 no_zero [] above = refl

@@ -1,4 +1,5 @@
 -- Going over a list or a range part by part.
+use Rattle.fb_units.proofs.Numbers.{zero_add}
 use Rattle.fb_units.proofs.Lists.{take_at}
 use Rattle.fb_report.proofs.Words.{◌≡◌, ℕ, zero, suc, ◌+◌, ◌<◌, List, [], ◌∷◌, ◌++◌, length, refl, sym, ap, ◌∙◌, arith, append_assoc}
 use Rattle.fb_report.proofs.Words.{append-nil, drop, take, subst, get_or, Some, slice_get, drop_more, slice_get_within}
@@ -12,9 +13,6 @@ range_push a (suc n) = ap (λ xs. a ∷ xs) (range_push (a + 1) n ∙ ap (λ x. 
 next : (i : ℕ) → i + 1 ≡ suc i
 next i = omega arith
 
-from_zero : (i : ℕ) → 0 + i ≡ i
-from_zero i = omega arith
-
 joined : {X : Type 0} (f : X → List ℕ) (before part : List ℕ) (xs ys : List X) (x : X) → ys ≡ xs ++ x ∷ [] → part ≡ f x → (before ++ flat_map f xs) ++ part ≡ before ++ flat_map f ys
 joined f before part xs ys x more is =
     append_assoc before (flat_map f xs) part
@@ -23,7 +21,7 @@ joined f before part xs ys x more is =
 
 -- the part of one number more
 pub counted : (f : ℕ → List ℕ) (before part : List ℕ) (i : ℕ) → part ≡ f i → (before ++ flat_map f (range_with_len 0 i)) ++ part ≡ before ++ flat_map f (range_with_len 0 (i + 1))
-counted f before part i is = joined f before part (range_with_len 0 i) (range_with_len 0 (i + 1)) i (ap (range_with_len 0) (next i) ∙ (range_push 0 i ∙ ap (λ x. range_with_len 0 i ++ x ∷ []) (from_zero i))) is
+counted f before part i is = joined f before part (range_with_len 0 i) (range_with_len 0 (i + 1)) i (ap (range_with_len 0) (next i) ∙ (range_push 0 i ∙ ap (λ x. range_with_len 0 i ++ x ∷ []) (zero_add i))) is
 
 -- the part of one element more
 pub taken : {X : Type 0} (f : X → List ℕ) (before part : List ℕ) (xs : List X) (i : ℕ) (x : X) → slice_get xs i ≡ Some x → part ≡ f x

@@ -3,6 +3,7 @@ use Rattle.std.proofs.Common.{◌≡◌, ℕ, zero, suc, List, [], ◌∷◌, tr
 use Rattle.std.specs.Prelude.{slice_get, ◌==◌}
 use Rattle.std.specs.List.{list_any}
 use Rattle.std.proofs.lemmas.Bool.{true≢false, or_parts, and_from, eq-eqb}
+use Rattle.std.proofs.lemmas.Option.{none-some, same_Some}
 use Rattle.fb_units.specs.declared.types.Place.{Place}
 use Rattle.fb_units.specs.Tracks.{same_track}
 use Rattle.fb_geometry.specs.Shape.{same_place}
@@ -24,12 +25,6 @@ pub cut_behind_moved : CutBehindMoved
 unfolding places place_at cutting sweep_of
 cut_behind_moved = (refl, refl, refl, refl, refl)
 
-none_some : {X : Type 0} (x : X) → None ≡ Some x → ⊥
-none_some x e = cc
-
-some_same : {X : Type 0} (x y : X) → Some x ≡ Some y → x ≡ y
-some_same x y e = cc
-
 itself : (place : Place) → same_place place place ≡ true
 itself place =
     and_from (same_track place.track place.track) (place.slot == place.slot)
@@ -39,9 +34,9 @@ itself place =
 
 -- a place that equals none of a list is nowhere in it
 nowhere : (places : List Place) (place : Place) → list_any (same_place place) places ≡ false → (i : ℕ) → slice_get places i ≡ Some place → ⊥
-nowhere [] place none i at = none_some place at
+nowhere [] place none i at = none-some place at
 nowhere (other ∷ places) place none zero at =
-    true≢false (sym (itself place) ∙ (ap (same_place place) (sym (some_same other place at))
+    true≢false (sym (itself place) ∙ (ap (same_place place) (sym (same_Some other place at))
     ∙ (or_parts (same_place place other) (list_any (same_place place) places) none).0))
 nowhere (other ∷ places) place none (suc i) at =
     nowhere places place (or_parts (same_place place other) (list_any (same_place place) places) none).1 i at

@@ -3,6 +3,7 @@ use Rattle.std.proofs.Common.{◌≡◌, ℕ, zero, suc, ◌+◌, ◌-◌, ◌*�
 use Rattle.std.proofs.Common.{None}
 use Rattle.std.specs.Prelude.{slice_get}
 use Rattle.std.proofs.lemmas.List.{map-append, take_all}
+use Rattle.std.proofs.lemmas.Option.{none-some, same_Some}
 use Rattle.fb_geometry.specs.declared.zone.Zone.{Zone}
 use Rattle.fb_geometry.specs.Shape.{Shape}
 use Rattle.fb_geometry.specs.Places.{data_list_at}
@@ -12,15 +13,9 @@ use Rattle.fb_sectormap.specs.Cylinders.{IsMapped, sectors_before, start_of}
 use Rattle.fb_sectormap.proofs.Zones.{border, first_is, next_border, last_border}
 use Rattle.fb_sectormap.proofs.ByCylinder.{follow, before-in_zone, before-few, size-by_zone, upto_last, count-is}
 
-some_same : {X : Type 0} (x y : X) → Some x ≡ Some y → x ≡ y
-some_same x y e = cc
-
-none_some : {X : Type 0} (x : X) → None ≡ Some x → ⊥
-none_some x e = cc
-
 take-next : {X : Type 0} (xs : List X) (i : ℕ) (x : X) → slice_get xs i ≡ Some x → take (suc i) xs ≡ take i xs ++ x ∷ []
-take-next [] i x at = absurd (none_some x at)
-take-next (y ∷ xs) zero x at = ap (λ z. z ∷ []) (some_same y x at)
+take-next [] i x at = absurd (none-some x at)
+take-next (y ∷ xs) zero x at = ap (λ z. z ∷ []) (same_Some y x at)
 take-next (y ∷ xs) (suc i) x at = ap (λ ys. y ∷ ys) (take-next xs i x at)
 
 module _ (disk : Shape) (sound : IsSound disk) where

@@ -3,6 +3,7 @@ use Rattle.std.proofs.Common.{◌≡◌, ℕ, ◌+◌, ◌-◌, ◌%◌, ◌<◌
 use Rattle.std.specs.Prelude.{◌==◌, nat_le, nat_lt}
 use Rattle.std.proofs.lemmas.Bool.{and_from, eq-eqb, lt-ltb, cases_lt, cases_Bool}
 use Rattle.std.proofs.Math.Nat.{mod-add-mod, mod-eq_of_lt, mod-lt}
+use Rattle.fb_units.proofs.Tracks.{track_itself}
 use Rattle.fb_units.specs.declared.types.Place.{Place}
 use Rattle.fb_units.specs.declared.types.Track.{Track}
 use Rattle.fb_units.specs.Tracks.{same_track}
@@ -10,10 +11,6 @@ use Rattle.fb_geometry.specs.declared.zone.Zone.{Zone}
 use Rattle.fb_geometry.specs.Shape.{Shape, slots_at, offset_at, turn_position}
 use Rattle.fb_sectormap.specs.Lookup.{place_at, neighbour}
 use Rattle.fb_sectormap.specs.Cutting.{is_later}
-
-itself : (track : Track) → same_track track track ≡ true
-itself track = and_from (track.cylinder == track.cylinder) (track.head == track.head) (eq-eqb track.cylinder track.cylinder refl)
-    (eq-eqb track.head track.head refl)
 
 -- a track's offset is one of its slots
 pub offset-below : (zones : List Zone) (heads : ℕ) (track : Track) → 0 < slots_at zones track.cylinder
@@ -52,7 +49,7 @@ module _ (disk : Shape) (lbn : ℕ) (place : Place) (count : ℕ) (slot : place.
       ap (λ p. is_later disk p (place_at disk (lbn + i))) before ∙ ap (is_later disk (neighbour disk place (i - 1))) (next i less)
       ∙ and_from (same_track place.track place.track)
       (nat_lt (turn_position disk (neighbour disk place (i - 1))) (turn_position disk (neighbour disk place i)))
-      (itself place.track) (lt-ltb (turn_position disk (neighbour disk place (i - 1))) (turn_position disk (neighbour disk place i))
+      (track_itself place.track) (lt-ltb (turn_position disk (neighbour disk place (i - 1))) (turn_position disk (neighbour disk place i))
       (omega (arith, turn-of (i - 1) (omega arith), turn-of i less)))
 
   -- if sectors up to the stretch come by in one turn, so do they with those of the stretch

@@ -4,6 +4,7 @@ use Rattle.std.proofs.Common.{None}
 use Rattle.std.specs.Prelude.{slice_get, ◌==◌}
 use Rattle.std.specs.List.{flat_map, range_with_len}
 use Rattle.std.proofs.lemmas.Bool.{cases_Bool, cases_lt, eqb-true, le-leb, lt-leb}
+use Rattle.std.proofs.lemmas.Option.{none-some, same_Some}
 use Rattle.fb_geometry.specs.declared.layout.Layout.{Layout}
 use Rattle.fb_geometry.specs.declared.layout.Layout.TheVariants.{PerTrack, PerCylinder}
 use Rattle.fb_geometry.specs.declared.zone.Zone.{Zone}
@@ -18,12 +19,6 @@ use Rattle.fb_sectormap.proofs.Parts.{parts-split, same-parts}
 abbrev pub AreFollowing : ℕ → List Zone → Type 0
 AreFollowing begin [] = Unit {0}
 AreFollowing begin (zone ∷ zones) = (zone.first ≡ begin) × (zone.first ≤ zone.last) × AreFollowing (zone.last + 1) zones
-
-some_same : {X : Type 0} (x y : X) → Some x ≡ Some y → x ≡ y
-some_same x y e = cc
-
-none_some : {X : Type 0} (x : X) → None ≡ Some x → ⊥
-none_some x e = cc
 
 some_none : {X : Type 0} (x : X) → Some x ≡ None → ⊥
 some_none x e = cc
@@ -43,8 +38,8 @@ following index begin (zone ∷ zones) h some = elim (cases_Bool (zone.first == 
 -- no zone begins before the first
 begins_from : (begin : ℕ) (zones : List Zone) (i : ℕ) (zone : Zone) → AreFollowing begin zones → slice_get zones i ≡ Some zone
     → begin ≤ zone.first
-begins_from begin [] i zone follow at = absurd (none_some zone at)
-begins_from begin (other ∷ zones) zero zone follow at = omega (arith, follow.0, ap (λ zone. zone.first) (some_same other zone at))
+begins_from begin [] i zone follow at = absurd (none-some zone at)
+begins_from begin (other ∷ zones) zero zone follow at = omega (arith, follow.0, ap (λ zone. zone.first) (same_Some other zone at))
 begins_from begin (other ∷ zones) (suc i) zone follow at =
     omega (arith, follow.0, follow.1, begins_from (other.last + 1) zones i zone follow.2 at)
 
@@ -56,14 +51,14 @@ border begin (zone ∷ zones) (suc i) = border (zone.last + 1) zones i
 
 pub first_is : (begin : ℕ) (zones : List Zone) (i : ℕ) (zone : Zone) → AreFollowing begin zones → slice_get zones i ≡ Some zone
     → zone.first ≡ border begin zones i
-first_is begin [] i zone follow at = absurd (none_some zone at)
-first_is begin (other ∷ zones) zero zone follow at = ap (λ zone. zone.first) (sym (some_same other zone at)) ∙ follow.0
+first_is begin [] i zone follow at = absurd (none-some zone at)
+first_is begin (other ∷ zones) zero zone follow at = ap (λ zone. zone.first) (sym (same_Some other zone at)) ∙ follow.0
 first_is begin (other ∷ zones) (suc i) zone follow at = first_is (other.last + 1) zones i zone follow.2 at
 
 pub next_border : (begin : ℕ) (zones : List Zone) (i : ℕ) (zone : Zone) → slice_get zones i ≡ Some zone
     → border begin zones (suc i) ≡ zone.last + 1
-next_border begin [] i zone at = absurd (none_some zone at)
-next_border begin (other ∷ zones) zero zone at = ap (λ zone. zone.last + 1) (some_same other zone at)
+next_border begin [] i zone at = absurd (none-some zone at)
+next_border begin (other ∷ zones) zero zone at = ap (λ zone. zone.last + 1) (same_Some other zone at)
 next_border begin (other ∷ zones) (suc i) zone at = next_border (other.last + 1) zones i zone at
 
 border-from : (begin : ℕ) (zones : List Zone) (i : ℕ) → AreFollowing begin zones → begin ≤ border begin zones i
@@ -97,20 +92,20 @@ ends_after begin (zone ∷ other ∷ zones) follow some =
 
 pub upto_end : (begin : ℕ) (zones : List Zone) (i : ℕ) (zone : Zone) → AreFollowing begin zones → slice_get zones i ≡ Some zone
     → zone.last < cylinders_of zones
-upto_end begin [] i zone follow at = absurd (none_some zone at)
-upto_end begin (other ∷ []) zero zone follow at = omega (arith, ap (λ zone. zone.last) (some_same other zone at))
-upto_end begin (other ∷ []) (suc i) zone follow at = absurd (none_some zone at)
+upto_end begin [] i zone follow at = absurd (none-some zone at)
+upto_end begin (other ∷ []) zero zone follow at = omega (arith, ap (λ zone. zone.last) (same_Some other zone at))
+upto_end begin (other ∷ []) (suc i) zone follow at = absurd (none-some zone at)
 upto_end begin (other ∷ next ∷ zones) zero zone follow at =
-    omega (arith, ap (λ zone. zone.last) (some_same other zone at), ends_after (other.last + 1) (next ∷ zones) follow.2 (omega arith))
+    omega (arith, ap (λ zone. zone.last) (same_Some other zone at), ends_after (other.last + 1) (next ∷ zones) follow.2 (omega arith))
 upto_end begin (other ∷ next ∷ zones) (suc i) zone follow at = upto_end (other.last + 1) (next ∷ zones) i zone follow.2 at
 
 -- the data list of a cylinder is that of its zone
 pub list_in_zone : (disk : Shape) (begin : ℕ) (zones : List Zone) (i cylinder : ℕ) (zone : Zone) → AreFollowing begin zones
     → slice_get zones i ≡ Some zone → zone.first ≤ cylinder → cylinder ≤ zone.last
     → list_among disk zones cylinder ≡ data_list disk zone cylinder
-list_in_zone disk begin [] i cylinder zone follow at from upto = absurd (none_some zone at)
+list_in_zone disk begin [] i cylinder zone follow at from upto = absurd (none-some zone at)
 list_in_zone disk begin (other ∷ zones) zero cylinder zone follow at from upto =
-    let same = some_same other zone at in
+    let same = same_Some other zone at in
     rw (le-leb cylinder other.last (omega (arith, ap (λ zone. zone.last) same))) (ap (λ zone. data_list disk zone cylinder) same)
 list_in_zone disk begin (other ∷ zones) (suc i) cylinder zone follow at from upto =
     rw (lt-leb cylinder other.last (omega (arith, begins_from (other.last + 1) zones i zone follow.2 at)))

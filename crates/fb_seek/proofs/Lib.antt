@@ -1,3 +1,4 @@
 mod Times
 pub mod Lookup
 pub mod Rises
+pub mod Far

@@ -4,6 +4,8 @@ use Rattle.std.specs.Option.{IsSome}
 use Rattle.std.specs.List.{range_with_len, AllByRecursion}
 use Rattle.std.proofs.lemmas.Bool.{cases_lt}
 use Rattle.std.proofs.lemmas.Bool.Decides.{nat_tests}
+use Rattle.std.proofs.lemmas.Option.{same_Some}
+use Rattle.fb_units.proofs.Numbers.{less_differs, same_number as here, more_differs}
 use Rattle.fb_store.specs.declared.content.Content.{Content}
 use Rattle.fb_store.specs.declared.content.ContentRun.{ContentRun}
 use Rattle.fb_store.specs.Runs.{runs_of, sectors_of, sectors_in}
@@ -18,15 +20,6 @@ pub after_taking-append : (sectors more : List (ℕ × Content)) (lbn : ℕ) (he
 after_taking-append [] more lbn held = refl
 after_taking-append (sector ∷ sectors) more lbn held = after_taking-append sectors more lbn (cond (sector.0 == lbn) (Some sector.1) held)
 
-not_here : (first lbn : ℕ) → first < lbn → (first == lbn) ≡ false
-not_here first lbn less = grind (arith, nat_tests)
-
-not_yet : (first lbn : ℕ) → lbn < first → (first == lbn) ≡ false
-not_yet first lbn less = grind (arith, nat_tests)
-
-here : (first lbn : ℕ) → first ≡ lbn → (first == lbn) ≡ true
-here first lbn same = grind (arith, nat_tests)
-
 -- the contents of neighbouring sectors are taken
 on : (content_of : ℕ → Content) (first n lbn : ℕ) (held : Option Content) (b : Bool) → (first == lbn) ≡ b
     → after_taking (map (λ l. (l, content_of l)) (range_with_len first (suc n))) lbn held ≡ after_taking (map (λ l. (l, content_of l)) (range_with_len (first + 1) n)) lbn (cond b (Some (content_of first)) held)
@@ -34,16 +27,16 @@ on content_of first n lbn held b e = ap (λ x. after_taking (map (λ l. (l, cont
 
 taken_before : (content_of : ℕ → Content) (first n lbn : ℕ) (held : Option Content) → lbn < first → after_taking (map (λ l. (l, content_of l)) (range_with_len first n)) lbn held ≡ held
 taken_before content_of first zero lbn held less = refl
-taken_before content_of first (suc n) lbn held less = on content_of first n lbn held false (not_yet first lbn less) ∙ taken_before content_of (first + 1) n lbn held (omega arith)
+taken_before content_of first (suc n) lbn held less = on content_of first n lbn held false (more_differs first lbn less) ∙ taken_before content_of (first + 1) n lbn held (omega arith)
 
 taken_after : (content_of : ℕ → Content) (first n lbn : ℕ) (held : Option Content) → first + n ≤ lbn → after_taking (map (λ l. (l, content_of l)) (range_with_len first n)) lbn held ≡ held
 taken_after content_of first zero lbn held more = refl
-taken_after content_of first (suc n) lbn held more = on content_of first n lbn held false (not_here first lbn (omega arith)) ∙ taken_after content_of (first + 1) n lbn held (omega arith)
+taken_after content_of first (suc n) lbn held more = on content_of first n lbn held false (less_differs first lbn (omega arith)) ∙ taken_after content_of (first + 1) n lbn held (omega arith)
 
 taken_inside : (content_of : ℕ → Content) (first n lbn : ℕ) (held : Option Content) → first ≤ lbn → lbn < first + n → after_taking (map (λ l. (l, content_of l)) (range_with_len first n)) lbn held ≡ Some (content_of lbn)
 taken_inside content_of first zero lbn held from to = absurd (omega arith)
 taken_inside content_of first (suc n) lbn held from to = elim (cases_lt first lbn) [
-  | inl less ↦ on content_of first n lbn held false (not_here first lbn less) ∙ taken_inside content_of (first + 1) n lbn held (omega arith) (omega arith)
+  | inl less ↦ on content_of first n lbn held false (less_differs first lbn less) ∙ taken_inside content_of (first + 1) n lbn held (omega arith) (omega arith)
   | inr more ↦ let same : first ≡ lbn = omega arith in
       on content_of first n lbn held true (here first lbn same) ∙ (taken_before content_of (first + 1) n lbn (Some (content_of first)) (omega arith) ∙ ap (λ l. Some (content_of l)) same)
 ]
@@ -115,7 +108,7 @@ held_some content_of content first zero all = refl
 held_some content_of content first (suc n) all =
     ap₂ (λ o rest. held_sector first o ++ rest) (all first (omega arith) (omega arith)) (held_some content_of content (first + 1) n (λ lbn a b. all lbn (omega arith) (omega arith)))
 
-held_none : (content_of : ℕ → Option Content) (first n : ℕ) → ((lbn : ℕ) → first ≤ lbn → lbn < first + n → content_of lbn ≡ None) → held_in content_of (range_with_len first n) ≡ []
+pub held_none : (content_of : ℕ → Option Content) (first n : ℕ) → ((lbn : ℕ) → first ≤ lbn → lbn < first + n → content_of lbn ≡ None) → held_in content_of (range_with_len first n) ≡ []
 held_none content_of first zero all = refl
 held_none content_of first (suc n) all =
     ap₂ (λ o rest. held_sector first o ++ rest) (all first (omega arith) (omega arith)) (held_none content_of (first + 1) n (λ lbn a b. all lbn (omega arith) (omega arith)))
@@ -148,13 +141,10 @@ added_more content_of start runs more first lbn next from to so_far added =
     let whole = ap (λ n. held_in content_of (range_with_len first n)) size ∙ (held_in-split content_of first (lbn - first) (next - lbn) ∙ ap (λ l. before ++ held_in content_of (range_with_len l (next - lbn))) at) in
     added ∙ ap runs_of (ap (λ ss. ss ++ next_sectors) own ∙ (append_assoc start before next_sectors ∙ ap (λ ss. start ++ ss) (sym whole)))
 
-some_one : {X : Type 0} (x y : X) → Some x ≡ Some y → x ≡ y
-some_one x y e = grind arith
-
 -- the first i + 1 elements of a list are the first i and the one behind them
 pub take_one : (runs : List ContentRun) (i : ℕ) (run : ContentRun) → slice_get runs i ≡ Some run → take (i + 1) runs ≡ take i runs ++ run ∷ []
 take_one [] i run at = absurd (grind arith)
-take_one (first ∷ runs) zero run at = ap (λ x. x ∷ []) (some_one first run at)
+take_one (first ∷ runs) zero run at = ap (λ x. x ∷ []) (same_Some first run at)
 take_one (first ∷ runs) (suc i) run at = let more : suc i + 1 ≡ suc (i + 1) = omega arith in rw more (ap (λ rest. first ∷ rest) (take_one runs i run at))
 
 -- what holds of the first i runs and of the next one holds of the first i + 1
@@ -162,7 +152,7 @@ pub so_far_more : (P : ContentRun → Type 0) (runs : List ContentRun) (i : ℕ)
     → (j : ℕ) (r : ContentRun) → j < i + 1 → slice_get runs j ≡ Some r → P r
 so_far_more P runs i run at before here j r less there = elim (cases_lt j i) [
   | inl l ↦ before j r l there
-  | inr m ↦ let same : j ≡ i = omega arith in subst P (some_one run r (sym at ∙ (ap (slice_get runs) (sym same) ∙ there))) here
+  | inr m ↦ let same : j ≡ i = omega arith in subst P (same_Some run r (sym at ∙ (ap (slice_get runs) (sym same) ∙ there))) here
 ]
 
 -- contents that end by a sector change nothing from that sector on
@@ -195,3 +185,7 @@ held_in-ends content_of end other none nothing = elim (cases_lt end other) [
 pub contents_to : (content_of : ℕ → Option Content) (runs : List ContentRun) (end other : ℕ) → EndsBy content_of end → runs ≡ runs_of (held_in content_of (range_with_len 0 end)) → EndsBy content_of other
     → runs ≡ runs_of (held_in content_of (range_with_len 0 other))
 contents_to content_of runs end other ends e nothing = e ∙ ap runs_of (held_in-ends content_of end other ends nothing)
+
+pub held_all : (f : ℕ → Option Content) (content_at : ℕ → Content) (a n : ℕ) → ((lbn : ℕ) → a ≤ lbn → lbn < a + n → f lbn ≡ Some (content_at lbn)) → held_in f (range_with_len a n) ≡ map (λ lbn. (lbn, content_at lbn)) (range_with_len a n)
+held_all f content_at a zero same = refl
+held_all f content_at a (suc n) same = rw (same a (omega arith) (omega arith), held_all f content_at (a + 1) n (λ lbn le lt. same lbn (omega arith) (omega arith))) refl

@@ -161,7 +161,7 @@ chosen-holds disk past task best session held now opened light some short small 
       unopened = λ t more. rw (others t (number_other task t (λ e. absurd (omega arith)))) (h.unopened t more);
     }
 
-no_backup : (k : Kind) → is_clean k ≡ true → is_backup k ≡ true → ⊥
+pub no_backup : (k : Kind) → is_clean k ≡ true → is_backup k ≡ true → ⊥
 no_backup k c b = grind arith
 
 -- what the session's choice says of the history

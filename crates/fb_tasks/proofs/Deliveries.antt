@@ -1,4 +1,5 @@
 -- A block has been delivered, and its session stands as its task does.
+use Rattle.fb_store.proofs.Taken.{held_all}
 use Rattle.fb_tasks.proofs.Words.{◌≡◌, ℕ, zero, suc, ◌+◌, ◌<◌, ◌≤◌, ◌==◌, if◌then◌else◌, List, [], ◌∷◌, ◌++◌, true, false, Some, None}
 use Rattle.fb_tasks.proofs.Words.{Option, inl, inr, ◌⊎◌, map, slice_get, refl, ap, sym, ◌∙◌, arith, subst, not, append-nil}
 use Rattle.fb_tasks.proofs.Words.{AllByRecursion, list_any, flat_map, range_with_len, list_all, cases_Bool, and_parts, nat_tests, Content}
@@ -9,7 +10,7 @@ use Rattle.fb_tasks.proofs.Words.{HoldsBlock, AreIndexed, Ascend, Stands, Cleans
 use Rattle.fb_tasks.proofs.Words.{choice_in, CleansBy, some_same, all_any, all_at, all_weaker, all_with, same_number, other_number}
 use Rattle.fb_tasks.proofs.Words.{list_all_each, none_pass, all_right, all_flat, filter_from, filter_to, all_both, none-some, Shape}
 use Rattle.fb_tasks.proofs.Words.{is_backup, held_at, Session, HasTaken, is_unsealed, HoldsImage, is_clean}
-use Rattle.fb_tasks.proofs.{Frames.changed-entries, Sealed.held_same, Sealed.held_all, Sealed.within, Sealed.before_it, Sealed.behind_it}
+use Rattle.fb_tasks.proofs.{Frames.changed-entries, Sealed.held_same, Sealed.within, Sealed.before_it, Sealed.behind_it}
 use Rattle.fb_tasks.proofs.{Sealed.ascend_from}
 use Rattle.fb_clean.specs.Segments as clean
 

@@ -1,4 +1,5 @@
 -- What is held of sectors and of blocks that ascend; a backup is sealed: its image has the delivered blocks alone.
+use Rattle.fb_store.proofs.Taken.{held_none}
 use Rattle.fb_tasks.proofs.Words.{◌≡◌, ℕ, zero, suc, ◌+◌, ◌<◌, ◌≤◌, List, [], ◌∷◌, true, false, Some, Option, map, refl, arith, append-nil}
 use Rattle.fb_tasks.proofs.Words.{◌-◌, ◌==◌, ◌&&◌, ◌^◌, not, nat_lt, if◌then◌else◌, ◌++◌, Bool, None, length, filter, take, slice_get}
 use Rattle.fb_tasks.proofs.Words.{ap, ap₂, sym, ◌∙◌, subst, inl, inr, AllByRecursion, range_with_len, flat_map, list_any, list_all}
@@ -24,15 +25,6 @@ ascend_from low (b ∷ bs) h = (h.0, all_weaker (λ c. b.lbn + b.count ≤ c.lbn
 pub held_same : (f g : ℕ → Option Content) (a n : ℕ) → ((lbn : ℕ) → a ≤ lbn → lbn < a + n → f lbn ≡ g lbn) → held_in f (range_with_len a n) ≡ held_in g (range_with_len a n)
 held_same f g a zero same = refl
 held_same f g a (suc n) same = rw (same a (omega arith) (omega arith), held_same f g (a + 1) n (λ lbn le lt. same lbn (omega arith) (omega arith))) refl
-
-pub held_all : (f : ℕ → Option Content) (content_at : ℕ → Content) (a n : ℕ) → ((lbn : ℕ) → a ≤ lbn → lbn < a + n → f lbn ≡ Some (content_at lbn)) → held_in f (range_with_len a n) ≡ map (λ lbn. (lbn, content_at lbn)) (range_with_len a n)
-held_all f content_at a zero same = refl
-held_all f content_at a (suc n) same = rw (same a (omega arith) (omega arith), held_all f content_at (a + 1) n (λ lbn le lt. same lbn (omega arith) (omega arith))) refl
-
-held_none : (now : ℕ → Option Content) (a n : ℕ) → ((k : ℕ) → a ≤ k → k < a + n → now k ≡ None) → held_in now (range_with_len a n) ≡ []
-held_none now a zero none = refl
-held_none now a (suc n) none = rw (none a (omega arith) (omega arith))
-    (held_none now (a + 1) n (λ k le lt. none k (omega arith) (omega arith)))
 
 -- a sector lies in an aborted block
 abbrev pub is_hit : TaskView → ℕ → Block → Bool

@@ -20,6 +20,7 @@ pub use Rattle.std.proofs.lemmas.List.FromFn.{length-map-range_with_len, map-ran
 pub use Rattle.std.proofs.lemmas.List.Sums.{length-filter, sum_by-append, sum_by-cons}
 pub use Rattle.std.proofs.lemmas.Option.{get_or_from_slice_get, none-some, slice_get-get_or, slice_get_past, slice_get_read, slice_get_within}
 pub use Rattle.std.proofs.lemmas.Result.{IfOk-weaker, on_err_weaker, on_ok_weaker}
+pub use Rattle.fb_units.proofs.Numbers.{same_number as number_same}
 pub use Rattle.fb_units.proofs.Lists.{on_err, all_from_index as all_placed, any_of_none as any_none, filter_to, map_at}
 pub use Rattle.fb_units.specs.declared.types.Request.{Request}
 pub use Rattle.fb_geometry.specs.Places.{places}
@@ -76,7 +77,7 @@ unfoldable pub use Rattle.fb_model.specs.Steps.{task_rows}
 pub use Rattle.fb_model.proofs.Cuts.{AreCuts, cuts_are, cuts_rise}
 pub use Rattle.fb_model.proofs.Lists.{all_both}
 pub use Rattle.fb_model.proofs.Views.{aborted-view, added-view, called-silent, chosen-silent, chosen-view, closed-view, delivered-silent}
-pub use Rattle.fb_model.proofs.Views.{delivered-view, number_same, opened-silent, opened-view, promoted-silent, read-silent, resumed-view}
+pub use Rattle.fb_model.proofs.Views.{delivered-view, opened-silent, opened-view, promoted-silent, read-silent, resumed-view}
 pub use Rattle.fb_model.proofs.Views.{suspended-view, tested-view, wanted-silent, wanted-view, written-silent, written-view}
 pub use Rattle.fb_tasks.specs.Keeping.{HasTaken, IsSealed, are_over, complete_as, complete_by, cuts_of, is_none, is_worked_off}
 pub use Rattle.fb_tasks.specs.Keeping.{new_entries, without_aborted}

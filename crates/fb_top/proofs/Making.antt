@@ -6,6 +6,7 @@ use Rattle.std.proofs.lemmas.List.{length-append, length-map}
 use Rattle.std.proofs.lemmas.List.FromFn.{length-map-range_with_len}
 use Rattle.std.proofs.lemmas.Option.{slice_get-map}
 use Rattle.std.specs.Option.{option_map}
+use Rattle.fb_maker.proofs.ScriptRead.{first_data}
 use Rattle.fb_geometry.specs.Shape.{Shape}
 use Rattle.fb_geometry.specs.Places.{places, zone_places, data_list}
 use Rattle.fb_geometry.specs.Sound.{IsSound}
@@ -149,12 +150,6 @@ line_at number device sectors n i inside =
 
 pub lines_counted : (number device sectors n : ℕ) → length (made_lines number device sectors n) ≡ n
 lines_counted number device sectors n = length-map (made_requests number sectors n) (line_of device) ∙ length-map-range_with_len (request_at number sectors) 0 n
-
-first_data : (disk : Shape) (zone : Zone) → zone.first ≤ zone.last → length (data_list disk zone zone.first) ≤ length (zone_places disk zone)
-first_data disk zone some =
-    let more : zone.last + 1 - zone.first ≡ suc (zone.last - zone.first) = omega arith in
-    subst (λ (n : ℕ). length (data_list disk zone zone.first) ≤ length (flat_map (data_list disk zone) (range_with_len zone.first n))) (sym more)
-    (omega (arith, length-append (data_list disk zone zone.first) (flat_map (data_list disk zone) (range_with_len (zone.first + 1) (zone.last - zone.first)))))
 
 first_sectors : (disk : Shape) (zones : List Zone) → 0 < length zones → ((zone : Zone) → slice_get zones 0 ≡ Some zone → 0 < length (zone_places disk zone)) → 1 ≤ length (flat_map (zone_places disk) zones)
 first_sectors disk [] some held = absurd (omega arith)

@@ -6,6 +6,7 @@ use Rattle.std.proofs.lemmas.Bool.{cases_Bool}
 use Rattle.std.proofs.lemmas.Bool.Decides.{nat_tests}
 use Rattle.std.proofs.lemmas.List.{map_push, length_push}
 use Rattle.std.proofs.lemmas.List.FromFn.{map-range_with_len_more}
+use Rattle.fb_units.proofs.Numbers.{rising_push}
 use Rattle.fb_units.proofs.Lists.{same_Ok}
 use Rattle.fb_units.specs.Judging.{or_refuse, refuse}
 use Rattle.fb_units.specs.Lines.{fields_of, lines_of}
@@ -45,10 +46,6 @@ MayFollow sectors so_far (Asked request) = IsNext sectors so_far request
 record IsProgress (sectors : ℕ) (so_far : Progress) : Type 0 where
   trace : IsTraceOf sectors so_far.trace.requests
   last : AllByRecursion (λ arrival. arrival ≤ so_far.instant) (map (λ request. request.arrival) so_far.trace.requests)
-
-rising_push : (xs : List ℕ) (x : ℕ) → IsRising xs → AllByRecursion (λ y. y ≤ x) xs → IsRising (xs ++ x ∷ [])
-rising_push [] x rising all = (tt, tt)
-rising_push (y ∷ xs) x rising all = (all_push (λ later. y ≤ later) xs x rising.0 all.0, rising_push xs x rising.1 all.1)
 
 later : (a b : ℕ) (xs : List ℕ) → a ≤ b → AllByRecursion (λ x. x ≤ a) xs → AllByRecursion (λ x. x ≤ b) xs
 later a b xs h all = all_weaker (λ x. x ≤ a) (λ x. x ≤ b) (λ x le. omega arith) xs all

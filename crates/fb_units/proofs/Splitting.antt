@@ -11,7 +11,7 @@ use Rattle.std.proofs.lemmas.Bool.Decides.{nat_tests}
 use Rattle.fb_units.specs.Lines.{is_blank, but_empty_last, lines_of, fields_of}
 
 -- a first part is not left out if others follow it
-but_empty_last-cons : (part : List ℕ) (parts : List (List ℕ)) → 0 < length parts → but_empty_last (part ∷ parts) ≡ part ∷ but_empty_last parts
+pub but_empty_last-cons : (part : List ℕ) (parts : List (List ℕ)) → 0 < length parts → but_empty_last (part ∷ parts) ≡ part ∷ but_empty_last parts
 but_empty_last-cons part [] some = absurd (omega arith)
 but_empty_last-cons part (next ∷ parts) some = refl
 

@@ -8,13 +8,14 @@ use Rattle.std.proofs.lemmas.List.Folds.{list_all-append}
 use Rattle.std.proofs.lemmas.List.{take_at}
 use Rattle.std.proofs.Math.Seq.{drop-append-add}
 use Rattle.std.proofs.lemmas.Fmt.{decimal_by_steps, decimal_nonempty, length-decimal-le}
+use Rattle.fb_units.proofs.Numbers.{and_parts}
 use Rattle.fb_units.specs.Numbers.{limit, digits_after, within, number_of, are_digits, six_of, last_six, millis_of, millis_text}
 use Rattle.fb_units.proofs.Millis.{from_whole, parts_are, within_limit}
 
-digit : (n : ℕ) → n < 10 → is_ascii_digit (48 + n) ≡ true
+pub digit : (n : ℕ) → n < 10 → is_ascii_digit (48 + n) ≡ true
 digit n h = grind (arith, nat_tests)
 
-digits_end : (n : ℕ) (ds : List ℕ) (d : ℕ) → digits_after n (ds ++ d ∷ []) ≡ 10 * digits_after n ds + (d - 48)
+pub digits_end : (n : ℕ) (ds : List ℕ) (d : ℕ) → digits_after n (ds ++ d ∷ []) ≡ 10 * digits_after n ds + (d - 48)
 digits_end n [] d = refl
 digits_end n (c ∷ ds) d = digits_end (10 * n + (c - 48)) ds d
 
@@ -30,11 +31,6 @@ value_of = decimal_by_steps (λ m ds. digits_after 0 ds ≡ m) (λ m h. omega ar
 no_point : (c : ℕ) → is_ascii_digit c ≡ true → (c == 46) ≡ false
 no_point c h = grind (arith, nat_tests)
 
-and_parts : (a b : Bool) → (a && b) ≡ true → (a ≡ true) × (b ≡ true)
-and_parts true true h = (refl, refl)
-and_parts true false h = cc
-and_parts false b h = cc
-
 -- the first point of the text is right behind the digits
 point_at : (ds rest : List ℕ) → list_all is_ascii_digit ds ≡ true → position_or_len (λ c. c == 46) (ds ++ 46 ∷ rest) ≡ length ds
 point_at [] rest h = refl
@@ -49,7 +45,7 @@ before_point ds rest h = take_at ds (46 ∷ rest) _ (sym (point_at ds rest h))
 after_point : (ds rest : List ℕ) → list_all is_ascii_digit ds ≡ true → after_first (λ c. c == 46) (ds ++ 46 ∷ rest) ≡ rest
 after_point ds rest h = ap (λ n. drop (n + 1) (ds ++ 46 ∷ rest)) (point_at ds rest h) ∙ drop-append-add ds (46 ∷ rest) 1
 
-some_digits : (ds : List ℕ) → 0 < length ds → list_all is_ascii_digit ds ≡ true → are_digits ds ≡ true
+pub some_digits : (ds : List ℕ) → 0 < length ds → list_all is_ascii_digit ds ≡ true → are_digits ds ≡ true
 some_digits [] some h = absurd (omega arith)
 some_digits (c ∷ ds) some h = h
 

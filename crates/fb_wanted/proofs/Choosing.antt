@@ -114,7 +114,3 @@ one_more chosen task k change es in_order stable =
       ])
       | inr other ↦ rw other refl
     ]))
-
-pub or_true : (a b : Bool) → b ≡ true → (a || b) ≡ true
-or_true true b h = refl
-or_true false b h = h

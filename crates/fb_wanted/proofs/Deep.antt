@@ -6,6 +6,7 @@ use Rattle.std.proofs.lemmas.Bool.{cases_Bool}
 use Rattle.std.proofs.lemmas.Bool.Decides.{nat_tests}
 use Rattle.std.proofs.lemmas.List.Elements.{filter-append}
 use Rattle.std.proofs.lemmas.List.Sums.{sum_by-append}
+use Rattle.fb_units.proofs.Tracks.{same_tracks}
 use Rattle.fb_units.specs.declared.types.Track.{Track}
 use Rattle.fb_units.specs.Tracks.{same_track}
 use Rattle.fb_wanted.specs.declared.block.Entry.{Entry}
@@ -16,7 +17,6 @@ use Rattle.fb_wanted.specs.Depth.{is_in, weight_on, depth_at, band_depth, no_dep
 use Rattle.fb_wanted.specs.Index.{is_of_track, with_state}
 use Rattle.fb_wanted.proofs.Sums.{sum-with_state, sum-le}
 use Rattle.fb_wanted.proofs.Standing.{length-with_state, items-with_state}
-use Rattle.fb_wanted.proofs.Kept.{same_one}
 
 abbrev of_band : ℕ → Entry → Bool
 of_band band entry = band_of entry.block == band
@@ -41,7 +41,7 @@ module _ (p : Entry → Bool) (lbn : ℕ) where
 one_le : (t : Track) (lbn : ℕ) (e : Entry) → depth_at t lbn (e ∷ []) ≤ band_depth (t.cylinder / 64) lbn (e ∷ [])
 one_le t lbn e = elim (cases_Bool (same_track t e.block.track)) [
   | inl here ↦
-      let same = same_one t e.block.track here in
+      let same = same_tracks t e.block.track here in
       let its : band_of e.block ≡ t.cylinder / 64 = ap (λ u. u.cylinder / 64) (sym same) in
       let band : of_band (t.cylinder / 64) e ≡ true = grind (arith, nat_tests) in
       rw (here, band) (omega arith)

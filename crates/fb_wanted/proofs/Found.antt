@@ -5,6 +5,7 @@ use Rattle.std.specs.List.{sum_by}
 use Rattle.std.proofs.lemmas.List.{length-map}
 use Rattle.std.proofs.lemmas.List.Sums.{sum_by-cons}
 use Rattle.std.proofs.lemmas.Option.{same_Some, slice_get_within, slice_get-get_or, slice_get-map, get_or_from_slice_get}
+use Rattle.fb_units.proofs.Tracks.{same_tracks}
 use Rattle.fb_units.specs.declared.types.Sweep.{Sweep}
 use Rattle.fb_units.specs.declared.types.Track.{Track}
 use Rattle.fb_wanted.specs.declared.block.Block.{Block}
@@ -14,7 +15,6 @@ use Rattle.fb_wanted.specs.Numbering.{blocks_of}
 use Rattle.fb_wanted.specs.Offers.{AreOffers, AreSameBlocks, AreFound, offer_of, offered_blocks, no_block}
 use Rattle.fb_wanted.specs.States.{on_track, wanted_of}
 use Rattle.fb_wanted.specs.Index.{AreOffered}
-use Rattle.fb_wanted.proofs.Kept.{same_one}
 use Rattle.fb_wanted.proofs.Numbers.{block_there, blocks-more}
 use Rattle.fb_wanted.proofs.Elements.{at_left}
 
@@ -33,7 +33,7 @@ found_each es offers offer_indexes t h i o at =
     let own = h.all o.index its.entry its.there its.wanted in
     let same : own.0 ≡ i = same_Some own.0 i (sym own.1 ∙ its.index_is) in
     let here : slice_get (offers t) i ≡ Some (offer_of o.index its.entry.block)
-    = ap (slice_get (offers t)) (sym same) ∙ (ap (λ u. slice_get (offers u) own.0) (sym (same_one its.entry.block.track t its.on))
+    = ap (slice_get (offers t)) (sym same) ∙ (ap (λ u. slice_get (offers u) own.0) (sym (same_tracks its.entry.block.track t its.on))
     ∙ own.2) in
     (its.entry.block, block_there es o.index its.entry its.there, same_Some o (offer_of o.index its.entry.block) (sym at ∙ here))
 

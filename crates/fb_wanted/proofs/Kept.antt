@@ -3,6 +3,7 @@ use Rattle.std.proofs.Common.{◌≡◌, ℕ, ◌+◌, ◌-◌, ◌<◌, ◌≤�
 use Rattle.std.proofs.Common.{slice_get, get_or, set, refl, ap, sym, ◌∙◌, arith, subst}
 use Rattle.std.proofs.lemmas.Bool.{cases_Bool}
 use Rattle.std.proofs.lemmas.Bool.Decides.{nat_tests}
+use Rattle.fb_units.proofs.Tracks.{same_tracks}
 use Rattle.fb_units.specs.declared.types.Track.{Track}
 use Rattle.fb_units.specs.Tracks.{same_track}
 use Rattle.fb_wanted.specs.declared.block.Entry.{Entry}
@@ -20,16 +21,6 @@ use Rattle.fb_wanted.proofs.Standing.{indexes_of-more_no}
 use Rattle.fb_wanted.proofs.Numbers.{numbered-more, small-more}
 use Rattle.fb_wanted.proofs.Counted.{counts-grown, counts-grown_other, counts-with_state, counts-with_other}
 use Rattle.fb_wanted.proofs.Weights.{weight-append, weight-with_state, weight_elsewhere, weight_unwanted, weight_at}
-
-pub same_one : (a b : Track) → same_track a b ≡ true → a ≡ b
-same_one a b h =
-    let cylinders : a.cylinder ≡ b.cylinder = grind (arith, nat_tests) in
-    let heads : a.head ≡ b.head = grind (arith, nat_tests) in
-    ap (λ x. let t : Track = record { cylinder = x; head = a.head } in t) cylinders ∙ ap
-    (λ x. let t : Track = record { cylinder = b.cylinder; head = x } in t) heads
-
-pub same_itself : (a : Track) → same_track a a ≡ true
-same_itself a = grind (arith, nat_tests)
 
 pub turned_track : (a b : Track) → same_track a b ≡ true → same_track b a ≡ true
 turned_track a b h = grind (arith, nat_tests)
@@ -97,7 +88,7 @@ module _ (s : State) (n : ℕ) (e : Entry) (es : List Entry) (tracks new : List 
   weight_there : (t : Track) (w : ℕ) → same_track e.block.track t ≡ true → w ≡ wanted_weight t es
       → w - wanted_weight e.block.track (e ∷ []) + wanted_weight e.block.track (turned ∷ []) ≡ wanted_weight t (with_state s n es)
   weight_there t w here kept =
-      let same = same_one e.block.track t here in
+      let same = same_tracks e.block.track t here in
       let lost = ap (λ u. wanted_weight u (e ∷ [])) same in
       let gained = ap (λ u. wanted_weight u (turned ∷ [])) same in
       let change = weight-with_state t s n e es at in

@@ -36,7 +36,3 @@ near_pushed es items e near new chunk is_new list h stay is noted before = subst
         | inr none ↦ let b = before none in ap (contains pair_cmp new) (sym b.3) ∙ stay (near_of b.1) (h b.0 b.1 b.2)
       ]
     ])
-
--- the block of an entry
-pub block_at : (es : List Entry) (j : ℕ) (e : Entry) → slice_get es j ≡ Some e → slice_get (blocks_of es) j ≡ Some e.block
-block_at es j e at = slice_get-map (λ x. x.block) es j ∙ ap (option_map (λ x. x.block)) at

@@ -6,6 +6,7 @@ use Rattle.std.proofs.lemmas.Bool.{cases_Bool, cases_eq, cases_lt, true≢false}
 use Rattle.std.proofs.lemmas.List.{length-map, length-set, map-append}
 use Rattle.std.proofs.lemmas.List.Sums.{sum_by-cons, sum_by_push, sum_by-swap_remove}
 use Rattle.std.proofs.lemmas.Option.{same_Some, slice_get_within, get_or_from_slice_get}
+use Rattle.fb_units.proofs.Tracks.{same_tracks, track_itself}
 use Rattle.fb_units.specs.declared.types.Track.{Track}
 use Rattle.fb_units.specs.Tracks.{same_track}
 use Rattle.fb_wanted.specs.declared.block.Block.{Block}
@@ -19,7 +20,7 @@ use Rattle.fb_wanted.specs.Index.{OnTrack, indexes_of, is_of_track, no_offer, la
 use Rattle.fb_wanted.specs.Index.{with_state, AreOffered, IsItsOffer, IsChanged}
 use Rattle.fb_wanted.proofs.Counted.{filter-le}
 use Rattle.fb_wanted.proofs.Found.{block_at, block_is, blocks_still, found_each}
-use Rattle.fb_wanted.proofs.Kept.{same_one, same_itself, turned_track, turned_other, changed_here, unchanged}
+use Rattle.fb_wanted.proofs.Kept.{turned_track, turned_other, changed_here, unchanged}
 use Rattle.fb_wanted.proofs.Numbers.{in_either}
 use Rattle.fb_wanted.proofs.Elements.{at_left, at_end, set_same, set_other, removed_within, removed_other, removed_at, last_at, state_other}
 use Rattle.fb_wanted.proofs.Elements.{state_at}
@@ -161,7 +162,7 @@ module _ (es : List Entry) (offer_indexes : List ℕ) (p : ℕ) (e : Entry) (s :
     as_before t other = ap (λ o. o.offers) (unchanged tracks new track (with_offer (offer_of p e.block)) changed t other)
 
     offer_index_of : (t : Track) → same_track track t ≡ true → length (offers_at tracks t) ≡ offer_index
-    offer_index_of t here = ap (λ u. length (offers_at tracks u)) (sym (same_one track t here))
+    offer_index_of t here = ap (λ u. length (offers_at tracks u)) (sym (same_tracks track t here))
 
     room : p < length offer_indexes
     room = omega (arith, slice_get_within es p e at, h.one_each)
@@ -230,7 +231,7 @@ module _ (es : List Entry) (offer_indexes : List ℕ) (p : ℕ) (e : Entry) (s :
       all = λ q x there yes'. elim (entry_is q x there) [
         | inl here ↦
             let block = ap (λ y. y.block) here.1 in
-            let last = ap (λ l. slice_get l offer_index) (one_more track (same_itself track)) ∙ at_end (offers_at tracks track)
+            let last = ap (λ l. slice_get l offer_index) (one_more track (track_itself track)) ∙ at_end (offers_at tracks track)
             (offer_of p e.block) in (
               offer_index,
               ap (slice_get (set offer_indexes p offer_index)) here.0 ∙ set_same offer_indexes p offer_index room,
@@ -274,7 +275,7 @@ module _ (es : List Entry) (offer_indexes : List ℕ) (p : ℕ) (e : Entry) (s :
     module _ (new : List (List OnTrack)) (un : is_wanted s ≡ false) (changed : IsChanged tracks new e.block.track (without_offer i)) where
       one_less : (t : Track) → same_track own_track t ≡ true → offers_at new t ≡ taken_out i offers
       one_less t here = ap (λ o. o.offers) (changed_here tracks new own_track (without_offer i) changed t here) ∙ ap (λ u. taken_out i
-          (offers_at tracks u)) (sym (same_one own_track t here))
+          (offers_at tracks u)) (sym (same_tracks own_track t here))
 
       as_they_were : (t : Track) → same_track own_track t ≡ false → offers_at new t ≡ offers_at tracks t
       as_they_were t other = ap (λ o. o.offers) (unchanged tracks new own_track (without_offer i) changed t other)
@@ -298,7 +299,7 @@ module _ (es : List Entry) (offer_indexes : List ℕ) (p : ℕ) (e : Entry) (s :
             | inl here ↦
                 let own = by_wanted measure (is_of_track t) e (turned_track own_track t here) was in
                 let sums = ap (λ os. sum_by measure (offered_blocks es os)) (one_less t here) in
-                let before = ap (λ u. sum_by measure (offered_blocks es (offers_at tracks u))) (same_one own_track t here) in
+                let before = ap (λ u. sum_by measure (offered_blocks es (offers_at tracks u))) (same_tracks own_track t here) in
                 omega (arith, same, sums, rest_sum measure, before, h.sums t measure, change, none, own)
             | inr other ↦
                 let off = by_elsewhere measure (is_of_track t) e (turned_other own_track t other) in
@@ -323,7 +324,7 @@ module _ (es : List Entry) (offer_indexes : List ℕ) (p : ℕ) (e : Entry) (s :
       elsewhere t u j k a b its other ne same =
           let one = same_Some its.entry other.entry (sym its.there ∙ (ap (slice_get es) same ∙ other.there)) in
           let on : same_track other.entry.block.track t ≡ true = ap (λ x. same_track x.block.track t) (sym one) ∙ its.on in
-          true≢false (sym (ap (λ v. same_track v t) (sym (same_one other.entry.block.track u other.on)) ∙ on) ∙ ne)
+          true≢false (sym (ap (λ v. same_track v t) (sym (same_tracks other.entry.block.track u other.on)) ∙ on) ∙ ne)
 
       own_its : IsItsOffer es offer_indexes own_track i (offer_of p e.block)
       own_its = h.each own_track i (offer_of p e.block) own_at
@@ -343,13 +344,13 @@ module _ (es : List Entry) (offer_indexes : List ℕ) (p : ℕ) (e : Entry) (s :
                   subst (λ x. IsItsOffer (with_state s p es) (set offer_indexes moved.index i) t j x) is (record {
                     entry = moved_its.entry;
                     there = state_other s p moved.index es not_own ∙ moved_its.there;
-                    on = ap (λ u. same_track moved_its.entry.block.track u) (sym (same_one own_track t here)) ∙ moved_its.on;
+                    on = ap (λ u. same_track moved_its.entry.block.track u) (sym (same_tracks own_track t here)) ∙ moved_its.on;
                     wanted = moved_its.wanted;
                     index_is = set_same offer_indexes moved.index i moved_there ∙ ap (λ k. Some k) (sym same);
                   })
               | inr ne ↦
                   let old : slice_get (offers_at tracks t) j ≡ Some o = ap (λ u. slice_get (offers_at tracks u) j) (sym
-                  (same_one own_track t here)) ∙ (sym (removed_other offers i no_offer j ne low) ∙ at_j) in
+                  (same_tracks own_track t here)) ∙ (sym (removed_other offers i no_offer j ne low) ∙ at_j) in
                   let its = h.each t j o old in
                   other_its t j o (apart p i j index_is o.index its.index_is (λ e. ne (sym e)))
                   (apart moved.index (length offers - 1) j moved_its.index_is o.index its.index_is (λ e. absurd (omega (arith, e, low))))
@@ -371,7 +372,7 @@ module _ (es : List Entry) (offer_indexes : List ℕ) (p : ℕ) (e : Entry) (s :
           elim (cases_Bool (same_track own_track x.block.track)) [
             | inl here ↦
                 let was_at : slice_get offers k ≡ Some (offer_of q x.block) = ap (λ u. slice_get (offers_at tracks u) k)
-                (same_one own_track x.block.track here) ∙ it.2 in
+                (same_tracks own_track x.block.track here) ∙ it.2 in
                 let low = slice_get_within offers k (offer_of q x.block) was_at in
                 let not_i : k ≡ i → ⊥ = λ same. not_own (same_index q p x.block e.block (same_Some (offer_of q x.block)
                 (offer_of p e.block) (sym was_at ∙ (ap (slice_get offers) same ∙ own_at)))) in
@@ -445,7 +446,7 @@ offers-room es p e os at un h =
     let all = with_state Wanted p es in
     let more = by-with_state (λ b. 1) (is_of_track t) Wanted p e es at in
     let none = by_unwanted (λ b. 1) (is_of_track t) e un in
-    let one = by_wanted (λ b. 1) (is_of_track t) own (same_itself t) refl in
+    let one = by_wanted (λ b. 1) (is_of_track t) own (track_itself t) refl in
     let most = wanted-le (on_track t all) in
     let count = ones (wanted_of (on_track t all)) in
     let is = ones (wanted_of (on_track t es)) in

@@ -5,6 +5,7 @@ use Rattle.std.proofs.lemmas.Bool.{cases_lt}
 use Rattle.std.proofs.lemmas.Bool.Decides.{nat_tests}
 use Rattle.std.proofs.lemmas.List.{get_or_past}
 use Rattle.std.proofs.lemmas.Option.{slice_get_within}
+use Rattle.fb_units.proofs.Tracks.{track_itself}
 use Rattle.fb_units.specs.declared.types.Track.{Track}
 use Rattle.fb_wanted.specs.declared.block.Entry.{Entry}
 use Rattle.fb_wanted.specs.declared.block.Counts.{Counts}
@@ -16,7 +17,6 @@ use Rattle.fb_wanted.specs.Index.{OnTrack, indexes_of, is_of_task, is_of_track, 
 use Rattle.fb_wanted.specs.Index.{no_block_on}
 use Rattle.fb_wanted.proofs.Standing.{length-indexes_of, among}
 use Rattle.fb_wanted.proofs.Counted.{counts_at, counts-few}
-use Rattle.fb_wanted.proofs.Kept.{same_itself}
 use Rattle.fb_wanted.proofs.Weights.{weight_at, weight-le}
 
 module _ (es : List Entry) (tasks : List OfTask) (tracks : List (List OnTrack)) (h : IsKept es tasks tracks) where
@@ -88,7 +88,7 @@ module _ (es : List Entry) (tasks : List OfTask) (tracks : List (List OnTrack)) 
   pub its_track_there : (n : ℕ) (e : Entry) → slice_get es n ≡ Some e → IsThere tracks e.block.track
   its_track_there n e at =
       let t = e.block.track in
-      let it = among (is_of_track t) es n e at (same_itself t) in
+      let it = among (is_of_track t) es n e at (track_itself t) in
       let some = slice_get_within (on_track t es) it.0 e it.2 in
       let heads = get_or tracks t.cylinder [] in
       let by_head : t.head < length heads = elim (cases_lt t.head (length heads)) [

@@ -5,6 +5,7 @@ use Rattle.std.proofs.Math.Nat.{mod-add-mod, mod-lt}
 use Rattle.std.proofs.lemmas.Bool.{and_parts, and_left, or_from, false_from_ne_true, cases_Bool}
 use Rattle.std.proofs.lemmas.Bool.Decides.{nat_tests}
 use Rattle.std.proofs.lemmas.List.Sums.{sum_by-cons}
+use Rattle.fb_units.proofs.Tracks.{same_tracks}
 use Rattle.fb_units.specs.declared.types.Track.{Track}
 use Rattle.fb_units.specs.Tracks.{same_track}
 use Rattle.fb_units.specs.Wait.{wait}
@@ -39,13 +40,6 @@ begin-le disk block t u some le = next-le disk.rotation (begin_angle disk (place
 pub end-le : (disk : Shape) (block : Block) (t u : ℕ) → 0 < disk.rotation → t ≤ u → block_end disk block t ≤ block_end disk block u
 end-le disk block t u some le =
     next-le disk.rotation (end_angle disk (place_at disk (block.lbn + block.count - 1)) % disk.rotation) (block_begin disk block t + 1) (block_begin disk block u + 1) some (omega (arith, begin-le disk block t u some le))
-
-the_track : (a b : Track) → same_track a b ≡ true → a ≡ b
-the_track a b same =
-    let parts = and_parts (a.cylinder == b.cylinder) (a.head == b.head) same in
-    let cylinder : a.cylinder ≡ b.cylinder = grind (arith, nat_tests) in
-    let head : a.head ≡ b.head = grind (arith, nat_tests) in
-    ap₂ (λ cylinder head. record { cylinder = cylinder; head = head }) cylinder head
 
 -- sums over some of a list
 module _ (f : Block → ℕ) (test : Block → Bool) where
@@ -121,7 +115,7 @@ module _ (disk : Disk) (gap : Gap) where
       (false_from_ne_true (catches disk (early_dwell disk gap (Detour track leave)) block) (λ caught.
       let parts = and_parts (same_track track block.track) (nat_le (block_end disk.map block (gap.now + pos disk.mechanism gap.source track false)) leave) caught in
       let before : block_end disk.map block (gap.now + pos disk.mechanism gap.source track false) ≤ leave = grind (arith, nat_tests) in
-      let same = the_track track block.track parts.0 in
+      let same = same_tracks track block.track parts.0 in
       let in_time : leave + pos disk.mechanism track gap.target gap.write ≤ gap.deadline = plan.in_time in
       let sum : block_end disk.map block (gap.now + pos disk.mechanism gap.source track false) + pos disk.mechanism track gap.target gap.write ≤ gap.deadline = omega arith in
       let there = subst (λ at. block_end disk.map block (gap.now + pos disk.mechanism gap.source at false) + pos disk.mechanism at gap.target gap.write ≤ gap.deadline) same sum in
@@ -237,6 +231,6 @@ module _ (disk : Disk) (gap : Gap) where
       no_sooner (Detour way other) plan same =
           let caught = of_all (λ block. 0 < worth block → is_caught disk gap (Detour way other) block ≡ true) (all_caught wanted (Detour way other) (same ∙ all)) among some in
           let early = caught_early (Detour way other) block off_target caught in
-          let there = sym (the_track way block.track early.0 ∙ lies) in
+          let there = sym (same_tracks way block.track early.0 ∙ lies) in
           let passes = subst (λ at. block_end disk.map block (gap.now + pos disk.mechanism gap.source at false) ≤ other) (sym there) early.1 in
           inr (there, omega (arith, ends, passes))

@@ -1,6 +1,5 @@
 use Rattle.fb_bgwrite.proofs.Words.{◌≡◌, ◌/◌, arith, ap, sym, subst, ◌∙◌, Shape, slots_at, IsShare}
-use Rattle.fb_detour.proofs.InTime.{some_share}
-use Rattle.fb_bgwrite.proofs.Depths.{more_pass}
+use Rattle.fb_detour.proofs.InTime.{some_share, more_pass}
 use Rattle.fb_bgwrite.proofs.search.least_share.Goals as goal
 
 pub returns : goal.returns

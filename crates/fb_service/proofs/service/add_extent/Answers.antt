@@ -1,8 +1,8 @@
 use Rattle.std.proofs.Common.{◌≡◌, ◌+◌, ◌≤◌, ◌++◌, refl, ap, sym, ◌∙◌, arith, append_assoc}
 use Rattle.std.proofs.lemmas.Bool.{true≢false, eqb-true}
+use Rattle.fb_units.proofs.Tracks.{same_tracks}
 use Rattle.fb_geometry.specs.Shape.{Shape}
 use Rattle.fb_service.specs.Extents.{passages_of, all_passages_of}
-use Rattle.fb_geometry.proofs.Laws.{same_tracks}
 use Rattle.fb_service.proofs.Joining.{joined-passages, joined-unbroken}
 use Rattle.fb_service.proofs.service.add_extent.Goals as goal
 use Rattle.fb_service.proofs.service.add_extent.Goals.{then-eq, else-eq}

@@ -1,12 +1,9 @@
 use Rattle.std.proofs.Common.{◌≡◌, ◌∙◌, Bool, true, false, refl, if◌then◌else◌}
 use Rattle.std.specs.BTreeMap.{is_at}
 use Rattle.std.specs.BTreeSet.{contains}
+use Rattle.fb_wanted.proofs.Keys.{still}
 use Rattle.fb_wanted.specs.Index.{pair_cmp}
 use Rattle.fb_wanted.proofs.notes.note.Goals as goal
-
-still : (new old : Bool) → old ≡ true → (if new then true else old) ≡ true
-still true old h = refl
-still false old h = h
 
 pub returns-in_ok-insert-clause-stay : goal.returns-in_ok-insert-clause-stay
 returns-in_ok-insert-clause-stay c = λ k has. c.in_ok-insert.ensures.updates.0 k

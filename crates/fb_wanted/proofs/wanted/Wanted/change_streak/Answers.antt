@@ -2,13 +2,14 @@ use Rattle.std.proofs.Common.{◌≡◌, false, ◌∙◌, ◌||◌, ◌==◌, t
 use Rattle.std.proofs.lemmas.Bool.{cases_lt}
 use Rattle.std.proofs.lemmas.Bool.Decides.{nat_tests}
 use Rattle.std.proofs.lemmas.Option.{same_Some}
+use Rattle.fb_units.proofs.Numbers.{or_true}
 use Rattle.fb_wanted.specs.States.{entry_after, shares}
 use Rattle.fb_wanted.specs.Numbering.{AreInOrder, blocks_of}
 use Rattle.fb_wanted.specs.Index.{is_of_task, lbns, change_nth}
 use Rattle.fb_wanted.proofs.Standing.{nth_stays, passes, passing-nth}
 use Rattle.fb_wanted.proofs.OfTask.{own_after}
 use Rattle.fb_wanted.proofs.Regions.{lbn_at, length-lbns}
-use Rattle.fb_wanted.proofs.Choosing.{one_more, or_true, lbns_stay, blocks_stay}
+use Rattle.fb_wanted.proofs.Choosing.{one_more, lbns_stay, blocks_stay}
 use Rattle.fb_wanted.proofs.wanted.Wanted.change_streak.Goals.{then-shares, else-shares}
 use Rattle.fb_wanted.proofs.wanted.Wanted.change_streak.Goals as goal
 

@@ -1,8 +1,8 @@
 use Rattle.std.proofs.Common.{◌≡◌, ◌-◌, ◌<◌, ◌∙◌, Some, ap, sym, refl, subst, arith, length, slice_get}
 use Rattle.std.proofs.lemmas.Bool.Decides.{nat_tests}
 use Rattle.std.proofs.lemmas.Option.{slice_get_read}
+use Rattle.fb_wanted.proofs.Numbers.{block_there}
 use Rattle.fb_wanted.specs.Near.{chunk_of}
-use Rattle.fb_wanted.proofs.Nearby.{block_at}
 use Rattle.fb_wanted.proofs.wanted.Wanted.is_new_near.Goals as goal
 
 pub returns : goal.returns
@@ -16,4 +16,4 @@ returns c = λ old.
     let chunk : chunk_of entry.block.lbn ≡ chunk_of c.args.block.lbn = sym c.chunk_of.ensures
     ∙ (grind (arith, nat_tests) ∙ c.chunk_of-2.ensures) in
     let near = ap (λ s. (s, entry.block.task)) chunk ∙ ap (λ t. (chunk_of c.args.block.lbn, t)) c.if-last-block.false in
-    (index, entry.block, block_at c.args.self.now index entry at, near)
+    (index, entry.block, block_there c.args.self.now index entry at, near)
