@@ -1,4 +1,5 @@
 -- One more row: which blocks are pending after it, and how many sectors are left.
+use Rattle.std.proofs.lemmas.List.Folds.{or-false}
 use Rattle.fb_bgwrite.proofs.Words.{◌≢◌, ◌⊎◌, append-nil, all_weaker, none_kept, all_get, ◌≡◌, ℕ, zero, suc, ◌+◌, ◌<◌, ◌≤◌, List}
 use Rattle.fb_bgwrite.proofs.Words.{[], ◌∷◌, ◌++◌, Bool, true, false, ◌&&◌, ◌||◌, not, Some, slice_get, length, map, refl, sym, ap, ap₂}
 use Rattle.fb_bgwrite.proofs.Words.{◌∙◌, subst, arith, inl, inr, if◌then◌else◌, ◌==◌, filter, nat_le, AllByRecursion, list_any}
@@ -190,13 +191,9 @@ module _ (items : List SpillItem) (row : WroteRow) (block : Block) (put_is : row
 pub none_once : AreOnce []
 none_once i j row other at_i at_j puts lbns = absurd (grind arith)
 
-none : (a : Bool) → (a || false) ≡ a
-none true = refl
-none false = refl
-
 -- a stay writes nothing
 pub stay_writes : (items : List SpillItem) (row : SpillRow) (block : Block) → is_written (items ++ SpillLine row ∷ []) block ≡ is_written items block
-stay_writes items row block = list_any-append (writes block) items (SpillLine row ∷ []) ∙ none (is_written items block)
+stay_writes items row block = list_any-append (writes block) items (SpillLine row ∷ []) ∙ or-false (is_written items block)
 
 pub stay_registered : (items : List SpillItem) (row : SpillRow) (puts : List PutBlock) → map (entry_of (items ++ SpillLine row ∷ [])) puts ≡ map (entry_of items) puts
 stay_registered items row [] = refl

@@ -3,6 +3,7 @@ use Rattle.std.proofs.Common.{◌≡◌, ℕ, ◌+◌, ◌<◌, ◌≤◌, ◌==
 use Rattle.std.specs.List.{AllByRecursion, list_any, fold}
 use Rattle.std.proofs.lemmas.Bool.{cases_Bool}
 use Rattle.std.proofs.lemmas.Bool.Decides.{nat_tests}
+use Rattle.std.proofs.lemmas.List.Folds.{or-false}
 use Rattle.fb_tasks.proofs.Registered.{itself}
 use Rattle.fb_units.proofs.Lists.{map_at, take_at}
 use Rattle.fb_geometry.specs.Shape.{Shape}
@@ -174,11 +175,8 @@ any-placed p (x ∷ xs) row = grind (arith, any-placed p xs row)
 or_moved : (a b c : Bool) → ((a || b) || c) ≡ (b || (a || c))
 or_moved a b c = grind arith
 
-or_false : (a : Bool) → (a || false) ≡ a
-or_false a = grind arith
-
 any-fold : (p : DeliveryRow → Bool) (acc rows : List DeliveryRow) → list_any p (fold placed acc rows) ≡ (list_any p acc || list_any p rows)
-any-fold p acc [] = sym (or_false (list_any p acc))
+any-fold p acc [] = sym (or-false (list_any p acc))
 any-fold p acc (x ∷ xs) = any-fold p (placed acc x) xs ∙ (ap (λ b. b || list_any p xs) (any-placed p acc x) ∙ or_moved (p x) (list_any p acc) (list_any p xs))
 
 any_by : (f : Block → DeliveryRow) → ((b : Block) → (f b).block ≡ b) → (block : Block) (bs : List Block) → list_any (λ got. same_block got.block block) (map f bs) ≡ list_any (λ b. same_block b block) bs

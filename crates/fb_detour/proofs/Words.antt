@@ -11,8 +11,9 @@ pub use Rattle.std.proofs.lemmas.List.Sums.{sum_by-cons, sum_by-le-sum_by, sum_b
 pub use Rattle.std.proofs.lemmas.Nat.{div-add-mod', le-div, mul-le}
 pub use Rattle.std.proofs.lemmas.Option.{get_or_from_slice_get, slice_get-get_or, slice_get_within}
 pub use Rattle.std.specs.List.{AllByRecursion, slice_set, sum_by}
+pub use Rattle.fb_model.proofs.Ends.{end-le}
 pub use Rattle.fb_units.proofs.Tracks.{same_tracks}
-pub use Rattle.fb_units.proofs.Waits.{least_of, least_unique, reaches_ahead, reaches_over, wait_least}
+pub use Rattle.fb_units.proofs.Waits.{least_of, least_unique, reaches_ahead, reaches_over, wait_least, next-le, wait-rest}
 pub use Rattle.fb_units.specs.Tracks.{same_track}
 pub use Rattle.fb_units.specs.Wait.{wait}
 pub use Rattle.fb_units.specs.declared.types.Place.{Place}
@@ -43,7 +44,6 @@ pub use Rattle.fb_rows.specs.declared.gap.Plan.{Plan}
 pub use Rattle.fb_rows.specs.declared.gap.Plan.TheVariants.{Detour, Direct}
 pub use Rattle.fb_model.specs.Blocks.{IsBlockOn}
 pub use Rattle.fb_model.specs.Plans.{IsBest, IsNoLater, IsPlan, IsTrackBefore, block_end, catches, early_dwell, late_dwell, value}
-pub use Rattle.fb_plan.proofs.Ends.{end-le, next-le, wait-rest}
 pub use Rattle.fb_plan.proofs.Offered.{offers-in-turn}
 pub use Rattle.fb_plan.proofs.Passed.{AreTried, bounds, offers-more, tracks-more, way_done}
 pub use Rattle.fb_plan.specs.Turns.{added, begin_of, end_of, passes_by}

@@ -1,5 +1,5 @@
 -- Marks: what binary searches find among marks in order, and the marks of places.
-use Rattle.fb_units.proofs.Lists.{all_get}
+use Rattle.fb_units.proofs.Lists.{all_get, all_at}
 use Rattle.fb_geometry.proofs.Words.{AllByRecursion, AreInOrder, Bool, HasZones, IsAscending, IsNonDecreasingBy}
 use Rattle.fb_geometry.proofs.Words.{IsNonDecreasingBy-drop, IsPartitionPoint, IsZoneOf, List, Mark, None, Pairwise}
 use Rattle.fb_geometry.proofs.Words.{Place, Shape, Some, Zone, [], and_parts, ap, arith, cases_Bool, cases_lt}
@@ -15,9 +15,6 @@ use Rattle.fb_geometry.proofs.{Slips.has, Slips.rank-le_length, Slips.free_behin
 use Rattle.fb_geometry.proofs.{Turns.position_in-slot_at, Turns.slot_at-position_in, Faultless.slots_at-zone}
 use Rattle.fb_geometry.proofs.{Faultless.offset_at_zone, Faultless.find-none, Faultless.found_zone}
 use Rattle.fb_geometry.proofs.{Faultless.some_zone}
-
-pub all_at : {X : Type 0} (P : X → Type 0) (xs : List X) (j : ℕ) (d : X) → AllByRecursion P xs → j < length xs → P (get_or xs j d)
-all_at P xs j d all h = all_get P xs j (get_or xs j d) all (slice_get-get_or xs j d h)
 
 pub position_at : (marks : List Mark) (i : ℕ) (d : Mark) → i < length marks → get_or (positions marks) i 0 ≡ (get_or marks i d).position
 position_at marks i d h = get_or-map (λ mark. mark.position) marks i d 0 h

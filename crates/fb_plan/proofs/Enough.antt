@@ -5,6 +5,7 @@ use Rattle.std.specs.List.{sum_by, AllByRecursion}
 use Rattle.std.proofs.lemmas.Bool.{cases_lt, cases_Bool}
 use Rattle.std.proofs.lemmas.Bool.Decides.{nat_tests}
 use Rattle.std.proofs.lemmas.List.Sums.{sum_by-cons}
+use Rattle.fb_model.proofs.Ends.{end-le}
 use Rattle.fb_units.specs.declared.types.Track.{Track}
 use Rattle.fb_units.specs.Tracks.{same_track}
 use Rattle.fb_service.specs.declared.disk.Disk.{Disk}
@@ -14,7 +15,7 @@ use Rattle.fb_model.specs.Plans.{block_end, is_caught, value}
 use Rattle.fb_plan.specs.declared.way.Way.{Way}
 use Rattle.fb_plan.specs.declared.way.Way.TheVariants.{Source, Over}
 use Rattle.fb_plan.specs.Ways.{plan_by, early_track, arrival, move_on}
-use Rattle.fb_plan.proofs.Ends.{end-le, end-from-le}
+use Rattle.fb_plan.proofs.Ends.{end-from-le}
 
 -- the blocks whose passage from t on ends by u
 abbrev pub passes : Disk → Track → ℕ → ℕ → Block → Bool

@@ -4,7 +4,7 @@ use Rattle.std.proofs.Math.Nat.{mod-add-mod, mod-lt}
 use Rattle.std.proofs.lemmas.Nat.{div_below, mul-le}
 use Rattle.fb_units.specs.declared.types.Place.{Place}
 use Rattle.fb_units.specs.Wait.{wait}
-use Rattle.fb_units.proofs.Waits.{wait_least}
+use Rattle.fb_units.proofs.Waits.{wait_least, wait-rest}
 use Rattle.fb_geometry.specs.Angles.{slot_begin}
 use Rattle.fb_geometry.specs.Places.{places}
 use Rattle.fb_geometry.specs.Shape.{Shape, slots_at}
@@ -20,7 +20,6 @@ use Rattle.fb_model.specs.Blocks.{IsBlockOn}
 use Rattle.fb_model.specs.Plans.{block_begin, block_end}
 use Rattle.fb_plan.specs.declared.turning.Turning.{Turning}
 use Rattle.fb_plan.specs.Turns.{begin_of, end_of, passes_by, IsInTurn, IsTurning}
-use Rattle.fb_plan.proofs.Ends.{wait-rest}
 
 -- the platter stands at the angle after the wait for it
 turned-on : (r angle t : ℕ) → 0 < r → (t + wait r angle t) % r ≡ angle % r

@@ -1,4 +1,5 @@
 -- The fields of printed rows are those of the grammar.
+use Rattle.fb_units.proofs.Lists.{all_at}
 use Rattle.fb_report.proofs.Words.{◌≡◌, ℕ, ◌<◌, List, [], ◌∷◌, ◌++◌, length, Global, Bool, true, false, refl, sym, ap, ◌∙◌, arith, subst}
 use Rattle.fb_report.proofs.Words.{inl, inr, codes, decimal, if◌then◌else◌, Result, IfOk, IfOk-weaker, decimal_digit, is_name, ContentRun}
 use Rattle.fb_report.proofs.Words.{Bytes, shown, line_of, with_fields, kind_text, fore_first, fore_last, task_text, task_kind_text}
@@ -11,7 +12,7 @@ use Rattle.fb_calls.specs.declared.call.Kind.{Kind}
 use Rattle.fb_calls.specs.declared.call.Kind.TheVariants.{Plain, Backup, Scrub, Clean}
 use Rattle.fb_rows.specs.declared.gap.How.{How}
 use Rattle.fb_rows.specs.declared.gap.How.TheVariants.{Gap as ByGap, Idle as ByIdle, Ride as ByRide}
-use Rattle.fb_report.proofs.{Fields.in_first, Fields.in_last, PrintedForms.word_is, PrintedForms.task_is, Ranges.all_at, ShownForms.dash_is}
+use Rattle.fb_report.proofs.{Fields.in_first, Fields.in_last, PrintedForms.word_is, PrintedForms.task_is, ShownForms.dash_is}
 use Rattle.fb_report.proofs.{ShownForms.shown_is}
 
 infixr 5 ◌&◌

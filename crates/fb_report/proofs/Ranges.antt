@@ -32,9 +32,3 @@ taken f before part xs i x at is =
 -- the sum with one element more
 pub sum_more : {X : Type 0} (f : X → ℕ) (xs : List X) (i : ℕ) (x : X) → slice_get xs i ≡ Some x → sum_by f (take (i + 1) xs) ≡ sum_by f (take i xs) + f x
 sum_more f xs i x at = ap (sum_by f) (take_at xs i x at) ∙ sum_by-append f (take i xs) (x ∷ []) ∙ omega arith
-
--- what all elements keep, one keeps
-pub all_at : {X : Type 0} (P : X → Type 0) (xs : List X) (i : ℕ) (d : X) → AllByRecursion P xs → i < length xs → P (get_or xs i d)
-all_at P [] i d all within = absurd (omega arith)
-all_at P (y ∷ xs) zero d all within = all.0
-all_at P (y ∷ xs) (suc i) d all within = all_at P xs i d all.1 (omega arith)

@@ -109,3 +109,9 @@ append_at xs ys i x at = get_left xs ys i (slice_get_within xs i x at) ∙ at
 
 pub one_element : {X : Type 0} (o : Option X) (x y : X) → o ≡ Some x → o ≡ Some y → x ≡ y
 one_element o x y e f = same_Some x y (sym e ∙ f)
+
+-- what all elements keep, one keeps
+pub all_at : {X : Type 0} (P : X → Type 0) (xs : List X) (i : ℕ) (d : X) → AllByRecursion P xs → i < length xs → P (get_or xs i d)
+all_at P [] i d all within = absurd (omega arith)
+all_at P (y ∷ xs) zero d all within = all.0
+all_at P (y ∷ xs) (suc i) d all within = all_at P xs i d all.1 (omega arith)

@@ -1,5 +1,6 @@
--- A wait of less than a rotation that reaches the angle is the least.
-use Rattle.std.proofs.Common.{◌≡◌, ℕ, ◌+◌, ◌-◌, ◌*◌, ◌/◌, ◌%◌, ◌<◌, ◌≤◌, inl, inr, arith}
+-- A wait of less than a rotation that reaches the angle is the least, and none comes earlier from later on.
+use Rattle.std.proofs.Common.{◌≡◌, ℕ, ◌+◌, ◌-◌, ◌*◌, ◌/◌, ◌%◌, ◌<◌, ◌≤◌, inl, inr, arith, ap, ◌∙◌}
+use Rattle.std.proofs.Math.Nat.{mod-add-mod, mod-lt}
 use Rattle.std.proofs.lemmas.Nat.{div-add-mod', mul-le, mod-mul-add}
 use Rattle.std.proofs.lemmas.Bool.{cases_lt}
 use Rattle.fb_units.specs.Wait.{wait, IsLeastWait}
@@ -51,3 +52,18 @@ wait_least r angle now h = elim (cases_lt angle (now % r)) [
 -- two least waits for the same angle are equal
 pub least_unique : (r angle now v w : ℕ) → IsLeastWait r angle now v → IsLeastWait r angle now w → v ≡ w
 least_unique r angle now v w a b = omega (arith, a.least w b.reaches, b.least v a.reaches)
+
+-- the wait for an angle is the wait for its rest
+pub wait-rest : (r angle t : ℕ) → wait r (angle % r) t ≡ wait r angle t
+wait-rest r angle t = mod-add-mod angle r (r - t % r)
+
+-- the next time at an angle doesn't come earlier from later on
+pub next-le : (r angle t u : ℕ) → 0 < r → t ≤ u → t + wait r angle t ≤ u + wait r angle u
+next-le r angle t u some le =
+    let small = mod-lt angle some in
+    let a = wait_least r (angle % r) t small in
+    let b = wait_least r (angle % r) u small in
+    let n = u + wait r (angle % r) u in
+    let back : t + (n - t) ≡ n = omega arith in
+    let least : wait r (angle % r) t ≤ n - t = a.least (n - t) (ap (λ x. x % r) back ∙ b.reaches) in
+    omega (arith, wait-rest r angle t, wait-rest r angle u)

@@ -5,6 +5,7 @@ use Rattle.std.proofs.Math.Nat.{mod-add-mod, mod-lt}
 use Rattle.std.proofs.lemmas.Bool.{and_parts, and_left, or_from, false_from_ne_true, cases_Bool}
 use Rattle.std.proofs.lemmas.Bool.Decides.{nat_tests}
 use Rattle.std.proofs.lemmas.List.Sums.{sum_by-cons}
+use Rattle.fb_model.proofs.Ends.{end-le}
 use Rattle.fb_units.proofs.Tracks.{same_tracks}
 use Rattle.fb_units.specs.declared.types.Track.{Track}
 use Rattle.fb_units.specs.Tracks.{same_track}
@@ -21,25 +22,6 @@ use Rattle.fb_rows.specs.declared.gap.Dwell.{Dwell}
 use Rattle.fb_rows.specs.declared.gap.Plan.{Plan}
 use Rattle.fb_rows.specs.declared.gap.Plan.TheVariants.{Direct, Detour}
 use Rattle.fb_model.specs.Plans.{IsPlan, IsBest, IsNoLater, value, is_caught, catches, early_dwell, late_dwell, block_begin, block_end}
-
--- an angle doesn't come earlier from later on
-next-le : (r angle t u : ℕ) → 0 < r → t ≤ u → t + wait r angle t ≤ u + wait r angle u
-next-le r angle t u some le =
-    let small = mod-lt angle some in
-    let a = wait_least r (angle % r) t small in
-    let b = wait_least r (angle % r) u small in
-    let n = u + wait r (angle % r) u in
-    let back : t + (n - t) ≡ n = omega arith in
-    let least : wait r (angle % r) t ≤ n - t = a.least (n - t) (ap (λ x. x % r) back ∙ b.reaches) in
-    omega (arith, mod-add-mod angle r (r - t % r), mod-add-mod angle r (r - u % r))
-
-begin-le : (disk : Shape) (block : Block) (t u : ℕ) → 0 < disk.rotation → t ≤ u → block_begin disk block t ≤ block_begin disk block u
-unfolding begin_from
-begin-le disk block t u some le = next-le disk.rotation (begin_angle disk (place_at disk block.lbn)) t u some le
-
-pub end-le : (disk : Shape) (block : Block) (t u : ℕ) → 0 < disk.rotation → t ≤ u → block_end disk block t ≤ block_end disk block u
-end-le disk block t u some le =
-    next-le disk.rotation (end_angle disk (place_at disk (block.lbn + block.count - 1)) % disk.rotation) (block_begin disk block t + 1) (block_begin disk block u + 1) some (omega (arith, begin-le disk block t u some le))
 
 -- sums over some of a list
 module _ (f : Block → ℕ) (test : Block → Bool) where

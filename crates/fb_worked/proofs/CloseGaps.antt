@@ -3,6 +3,7 @@ use Rattle.std.proofs.Common.{◌≡◌, ℕ, zero, suc, List, [], ◌∷◌, Bo
 use Rattle.std.specs.List.{sum_by}
 use Rattle.std.proofs.lemmas.Bool.{cases_Bool, cases_lt, and_left, or_from}
 use Rattle.std.proofs.lemmas.Bool.Decides.{nat_tests}
+use Rattle.fb_model.proofs.Ends.{end-le}
 use Rattle.fb_seek.specs.Positioning.{pos}
 use Rattle.fb_units.specs.Tracks.{same_track}
 use Rattle.fb_wanted.specs.declared.block.Block.{Block}
@@ -13,7 +14,7 @@ use Rattle.fb_model.specs.Plans.{IsPlan, IsBest, IsNoLater, value, is_caught, bl
 use Rattle.fb_worked.specs.SmallDisk.{small_disk, quick_disk, quick_arm}
 use Rattle.fb_worked.specs.Rows.{at, gap, block}
 use Rattle.fb_worked.proofs.OnSmallDisks.{on_small_disks}
-use Rattle.fb_worked.proofs.BestPlans.{end-le, at_most_all, all_caught}
+use Rattle.fb_worked.proofs.BestPlans.{at_most_all, all_caught}
 
 -- the two blocks on the source, and the one of greater weight on the target
 abbrev weighed_gap : Gap
