@@ -29,7 +29,7 @@ use Rattle.fb_model.specs.Completion.{view, work, segments, is_closed}
 use Rattle.fb_model.specs.Segments.{numbered, next_blocks, is_better, is_busy, unchosen, choose_best, choose_once, choose_up_to, choose_in, with_choices}
 use Rattle.fb_model.specs.Steps.{Delivery, Step, decision_in, blocks_by, take_call, calls_due, chosen_past, with_delivery, with_finish, tested_past, past_after}
 use Rattle.fb_model.proofs.HistoriesUpTo.{due_first}
-use Rattle.fb_tasks.proofs.RunInputs.{open_there, terms_there}
+use Rattle.fb_tasks.proofs.Rules.{open_there, terms_there}
 use Rattle.fb_tasks.proofs.Lists.{all_append, same_number, number_other}
 use Rattle.fb_check.proofs.PrintingSectors.{HasSector, IsSome, sectors, own, some_cut, some_live, some_numbered, numbered_have, none_other, some_have, cuts_have}
 

@@ -30,7 +30,7 @@ use Rattle.fb_model.specs.SoundRun.{AreFollowed}
 use Rattle.fb_model.proofs.Lists.{all_map}
 use Rattle.fb_tasks.specs.declared.session.Session.{Session}
 use Rattle.fb_tasks.specs.Telling.{Tells, IsBlockOf, calls_of}
-use Rattle.fb_tasks.proofs.RunInputs.{opened_same}
+use Rattle.fb_tasks.proofs.Rules.{opened_same}
 use Rattle.fb_tasks.proofs.Lists.{all_any, all_filter, flat_all}
 use Rattle.fb_tasks.proofs.AllChoices.{all_range, by_all}
 use Rattle.fb_decide.proofs.Placing.{in_order-each}

@@ -13,7 +13,7 @@ use Rattle.fb_tasks.proofs.Words.{IsAtWork, IsCutFrom, Tells, MayTake, IsCall, a
 use Rattle.fb_tasks.proofs.Words.{all_append, any_none, each_push, get_or_push, length-map, map-append, slice_get-get_or, slice_get_within}
 use Rattle.fb_tasks.proofs.Words.{places, is_clean, is_backup, Content, drop-append_seam, cutting, is_within, Wanted, is_delivered}
 use Rattle.fb_tasks.proofs.Words.{take_call, blocks_by, HasBegun, is_done, new_entries, entries_by, cuts_are, filter_none}
-use Rattle.fb_tasks.proofs.Asked.{opened_same, open_there, terms_there, given_few}
+use Rattle.fb_tasks.proofs.Rules.{opened_same, open_there, terms_there, given_few}
 use Rattle.fb_tasks.proofs.{Frames.kept-entries, Frames.one-tells, States.seen}
 use Rattle.fb_tasks.proofs.Registered.{named_same, indexed_append, fresh_wanted, registered-entries}
 use Rattle.fb_tasks.proofs.Cuts.{cuts_placed, cuts_ascend, cuts_indexed, cuts_own, cuts_count}

@@ -10,8 +10,8 @@ use Rattle.fb_tasks.proofs.Words.{append-nil, closed_view, is_unsealed, closed-v
 use Rattle.fb_tasks.proofs.Words.{SuspendAll, AbortRange, calls_of, registered, LogSegment, is_cleaned, HoldsImage, true≢false, cases_Bool}
 use Rattle.fb_tasks.proofs.Words.{is_complete_as, suspended-view, promoted-silent, written-silent, get_or_from_slice_get, AllByRecursion}
 use Rattle.fb_tasks.proofs.{Frames.call-tells, Frames.silent-tells, States.show_suspended, States.show_resumed, States.never_held_back}
-use Rattle.fb_tasks.proofs.{States.show_aborted, States.states-told, States.ended-done, States.holds-fewer, Asked.open_there}
-use Rattle.fb_tasks.proofs.{Asked.terms_there}
+use Rattle.fb_tasks.proofs.{States.show_aborted, States.states-told, States.ended-done, States.holds-fewer, Rules.open_there}
+use Rattle.fb_tasks.proofs.{Rules.terms_there}
 use Rattle.fb_clean.specs.Segments as clean
 
 suspension-told : (held_back : Bool) (v : TaskView) (session : Session) → Told v session → Told (record v { suspended = held_back }) (record session { suspended = held_back })

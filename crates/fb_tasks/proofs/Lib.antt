@@ -4,7 +4,7 @@ pub mod Lists
 pub mod Frames
 pub mod States
 pub mod Changes
-pub mod Asked
+pub mod Rules
 pub mod Listed
 pub mod Additions
 pub mod Registered

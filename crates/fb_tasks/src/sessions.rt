@@ -80,7 +80,7 @@ impl Sessions {
     ///
     /// If memory runs out, all sessions and blocks are as before, except that the first blocks of a want
     /// may be registered.
-    #[tactic(auto, using(crate::proofs::Asked::session_there, crate::proofs::Leaving::begun_not))]
+    #[tactic(auto, using(crate::proofs::Rules::session_there, crate::proofs::Leaving::begun_not))]
     pub fn apply(
         &mut self,
         map: &SectorMap,

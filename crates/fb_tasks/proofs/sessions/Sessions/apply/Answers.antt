@@ -1,5 +1,5 @@
 use Rattle.fb_tasks.proofs.Words.{ap, refl, on_ok_weaker, on_err_weaker, blocks_by, arith}
-use Rattle.fb_tasks.proofs.{Leaving.begun_same, Changes.promoted-tells, Changes.call-aborts, Asked.room_for_one, Asked.takes_none}
+use Rattle.fb_tasks.proofs.{Leaving.begun_same, Changes.promoted-tells, Changes.call-aborts, Rules.room_for_one, Rules.takes_none}
 use Rattle.fb_tasks.proofs.sessions.Sessions.apply.Goals as goal
 
 pub open-requires : goal.open-requires
