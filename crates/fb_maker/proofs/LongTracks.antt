@@ -1,5 +1,5 @@
 -- Sectors of a disk whose tracks are long.
-use Rattle.fb_units.proofs.Numbers.{and_parts}
+use Rattle.std.proofs.lemmas.Bool.{and_parts}
 use Rattle.fb_units.proofs.Lists.{all_weaker, all_range}
 use Rattle.fb_maker.proofs.Words.{length-most, ◌≡◌, ℕ, zero, suc, ◌+◌, ◌-◌, ◌*◌, ◌%◌, ◌<◌, ◌≤◌, List, [], ◌∷◌, length, map, take, drop}
 use Rattle.fb_maker.proofs.Words.{true, false, refl, sym, ap, ◌∙◌, arith, subst, append-nil, Some, None, inl, inr, ◌==◌, nat_le, nat_lt}

@@ -1,5 +1,5 @@
 -- Lines and fields that were put together, taken apart.
-use Rattle.fb_units.proofs.Numbers.{and_parts}
+use Rattle.std.proofs.lemmas.Bool.{and_parts}
 use Rattle.fb_units.proofs.Splitting.{but_empty_last-cons}
 use Rattle.fb_maker.proofs.Words.{◌≡◌, ℕ, ◌-◌, ◌<◌, List, [], ◌∷◌, ◌++◌, length, get_or, Bool, true, false, refl, ap, ◌∙◌, arith, ◌==◌}
 use Rattle.fb_maker.proofs.Words.{nat_lt, ◌&&◌, map, filter, slice_split, list_all, list_all-append, nat_tests, is_blank, but_empty_last}

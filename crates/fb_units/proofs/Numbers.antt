@@ -18,18 +18,9 @@ more_differs a b less = grind (arith, nat_tests)
 pub is_after : (x t : ℕ) → nat_le x t ≡ false → t < x
 is_after x t after = grind (arith, nat_tests)
 
-pub and_parts : (a b : Bool) → (a && b) ≡ true → (a ≡ true) × (b ≡ true)
-and_parts true true h = (refl, refl)
-and_parts true false h = cc
-and_parts false b h = cc
-
 pub and_false : (b : Bool) → b && false ≡ false
 and_false true = refl
 and_false false = refl
-
-pub or_true : (b c : Bool) → c ≡ true → (b || c) ≡ true
-or_true true c h = refl
-or_true false c h = h
 
 pub if_le : (a b : Bool) (n : ℕ) → (a ≡ true → b ≡ true) → (if a then n else 0) ≤ (if b then n else 0)
 if_le true b n h = rw (h refl) (omega arith)

@@ -8,7 +8,7 @@ use Rattle.std.proofs.lemmas.List.Folds.{list_all-append}
 use Rattle.std.proofs.lemmas.List.{take_at}
 use Rattle.std.proofs.Math.Seq.{drop-append-add}
 use Rattle.std.proofs.lemmas.Fmt.{decimal_by_steps, decimal_nonempty, length-decimal-le}
-use Rattle.fb_units.proofs.Numbers.{and_parts}
+use Rattle.std.proofs.lemmas.Bool.{and_parts}
 use Rattle.fb_units.specs.Numbers.{limit, digits_after, within, number_of, are_digits, six_of, last_six, millis_of, millis_text}
 use Rattle.fb_units.proofs.Millis.{from_whole, parts_are, within_limit}
 

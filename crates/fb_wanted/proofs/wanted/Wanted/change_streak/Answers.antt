@@ -1,8 +1,7 @@
 use Rattle.std.proofs.Common.{◌≡◌, false, ◌∙◌, ◌||◌, ◌==◌, true, refl, ap, sym, inl, inr, arith, length, filter, slice_get, subst}
-use Rattle.std.proofs.lemmas.Bool.{cases_lt}
+use Rattle.std.proofs.lemmas.Bool.{cases_lt, or_right}
 use Rattle.std.proofs.lemmas.Bool.Decides.{nat_tests}
 use Rattle.std.proofs.lemmas.Option.{same_Some}
-use Rattle.fb_units.proofs.Numbers.{or_true}
 use Rattle.fb_wanted.specs.States.{entry_after, shares}
 use Rattle.fb_wanted.specs.Numbering.{AreInOrder, blocks_of}
 use Rattle.fb_wanted.specs.Index.{is_of_task, lbns, change_nth}
@@ -50,7 +49,7 @@ loop-k-preserved c =
             λ j own. rw (now.2 j own) refl,
             λ j low high. elim (cases_lt j k) [
               | inl before ↦ rw (now.3 j low before) refl
-              | inr most ↦ let here : (j == k) ≡ true = grind (arith, nat_tests, high, most) in or_true (now.0 j) (j == k) here
+              | inr most ↦ let here : (j == k) ≡ true = grind (arith, nat_tests, high, most) in or_right (now.0 j) (j == k) here
             ],
           );
       size = ap (λ l. length (filter test l)) turned ∙ (passing-nth test step (λ e. refl) k c.loop-k.self ∙ c.loop-k.invariant.size);
