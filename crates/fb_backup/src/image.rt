@@ -44,7 +44,8 @@ impl Image {
     /// The only error is out of memory; the image then holds what it held before.
     pub fn take(&mut self, block: Block, content: &Contents) -> Result<(), NoMemory>
         requires covers { (content_of : ℕ → Content) × Gives content.now content_of block.lbn block.count }
-        ensures ok { OnOk result ((content_of : ℕ → Content) (lbn : ℕ) → Gives content.now content_of block.lbn block.count → held_at self.new lbn ≡ after_take content_of block.lbn block.count lbn (held_at self.old lbn)) }
+        ensures ok { OnOk result ((content_of : ℕ → Content) (lbn : ℕ) → Gives content.now content_of block.lbn block.count
+            → held_at self.new lbn ≡ after_take content_of block.lbn block.count lbn (held_at self.old lbn)) }
         ensures err { OnErr result ((lbn : ℕ) → held_at self.new lbn ≡ held_at self.old lbn) }
     {
         self.held.take(content)
@@ -66,7 +67,8 @@ impl Image {
     /// The only error is out of memory.
     pub fn contents(&self, alloc: Global) -> Result<Contents, NoMemory>
         ensures ends { EndsBy (held_at self.now) (10 ^ 12) }
-        ensures fewest { IfOk result (λ runs. (end : ℕ) → EndsBy (held_at self.now) end → runs ≡ runs_of (held_in (held_at self.now) (range_with_len 0 end))) }
+        ensures fewest { IfOk result
+            (λ runs. (end : ℕ) → EndsBy (held_at self.now) end → runs ≡ runs_of (held_in (held_at self.now) (range_with_len 0 end))) }
     {
         self.held.contents(alloc)
     }

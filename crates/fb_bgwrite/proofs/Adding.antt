@@ -22,14 +22,16 @@ none_first : (disk : Disk) (puts : List Put) → first_blocks disk puts 0 ≡ []
 unfolding blocks_from
 none_first disk puts = refl
 
-pub new_spilling : (spilling : Spilling) → spilling.items ≡ [] → spilling.pending ≡ [] → spilling.admitted ≡ 0 → spilling.written ≡ 0 → IsSpilling spilling
+pub new_spilling : (spilling : Spilling) → spilling.items ≡ [] → spilling.pending ≡ [] → spilling.admitted ≡ 0 → spilling.written ≡ 0
+    → IsSpilling spilling
 new_spilling s items pending admitted written =
     let disk = s.disk.now in
     let puts = s.puts.now in
     record {
       first = omega (arith, admitted);
       come = subst (λ n. AllByRecursion (λ (put : Put). put.instant ≤ s.instant) (take n puts)) (sym admitted) tt;
-      registered = pending ∙ sym (ap (λ n. map (entry_of s.items) (first_blocks disk puts n)) admitted ∙ ap (map (entry_of s.items)) (none_first disk puts));
+      registered = pending
+          ∙ sym (ap (λ n. map (entry_of s.items) (first_blocks disk puts n)) admitted ∙ ap (map (entry_of s.items)) (none_first disk puts));
       upto = subst (AllByRecursion (IsUpTo s.admitted)) (sym items) tt;
       written = written ∙ sym (ap (sum_by sectors_in) items);
       parts = omega (arith, written, ap (left_over disk puts) items, ap sectors (all_left (its_blocks (put_blocks disk.map puts))));
@@ -72,8 +74,10 @@ stay_added old row items is added =
 
 -- ---- a block
 
-among_all : (disk : Disk) (puts : List Put) (n i : ℕ) (put : PutBlock) → n ≤ length puts → slice_get (first_blocks disk puts n) i ≡ Some put → slice_get (put_blocks disk.map puts) i ≡ Some put
-among_all disk puts n i put le at = ap (λ bs. slice_get bs i) (blocks_split disk.map 1 n puts le) ∙ append_at (first_blocks disk puts n) (blocks_from disk.map (1 + n) (drop n puts)) i put at
+among_all : (disk : Disk) (puts : List Put) (n i : ℕ) (put : PutBlock) → n ≤ length puts → slice_get (first_blocks disk puts n) i ≡ Some put
+    → slice_get (put_blocks disk.map puts) i ≡ Some put
+among_all disk puts n i put le at = ap (λ bs. slice_get bs i) (blocks_split disk.map 1 n puts le)
+    ∙ append_at (first_blocks disk puts n) (blocks_from disk.map (1 + n) (drop n puts)) i put at
 
 itself : (n : ℕ) → (n == n) ≡ true
 itself n = grind (arith, nat_tests)
@@ -91,16 +95,28 @@ of_all old catch is are to =
     all_get (IsOfPuts disk 1 puts) (put_blocks disk.map puts) to.index to.put (all_of_puts disk 1 puts are.on_disk) at_all'
 
 pub wanted_there : (old : Spilling) (catch : Catch) → IsSpilling old → IsToWrite old catch
-    → (e : Entry) × (i : ℕ) × (slice_get old.pending i ≡ Some e) × (is_block catch.block.task catch.block.number e ≡ true) × (e.state ≡ Wanted)
+    → (e : Entry) × (i : ℕ) × (slice_get old.pending i ≡ Some e) × (is_block catch.block.task catch.block.number e ≡ true)
+    × (e.state ≡ Wanted)
 wanted_there old catch is to =
     let entry = entry_of old.items to.put in
-    let at : slice_get old.pending to.index ≡ Some entry = ap (λ es. slice_get es to.index) is.registered ∙ map_at (entry_of old.items) (first_blocks old.disk.now old.puts.now old.admitted) to.index to.put to.stands in
-    let task : (to.put.block.task == catch.block.task) ≡ true = ap (λ (b : Block). to.put.block.task == b.task) to.block ∙ itself to.put.block.task in
-    let number : (to.put.block.number == catch.block.number) ≡ true = ap (λ (b : Block). to.put.block.number == b.number) to.block ∙ itself to.put.block.number in
-    (entry, to.index, at, both (to.put.block.task == catch.block.task) (to.put.block.number == catch.block.number) task number, ap (λ b. if b then Delivered else Wanted) to.unwritten)
+    let at : slice_get old.pending to.index ≡ Some entry = ap (λ es. slice_get es to.index) is.registered
+    ∙ map_at (entry_of old.items) (first_blocks old.disk.now old.puts.now old.admitted) to.index to.put to.stands in
+    let task : (to.put.block.task == catch.block.task) ≡ true = ap (λ (b : Block). to.put.block.task == b.task) to.block
+    ∙ itself to.put.block.task in
+    let number : (to.put.block.number == catch.block.number) ≡ true = ap (λ (b : Block). to.put.block.number == b.number) to.block
+    ∙ itself to.put.block.number in
+    (
+      entry,
+      to.index,
+      at,
+      both (to.put.block.task == catch.block.task) (to.put.block.number == catch.block.number) task number,
+      ap (λ b. if b then Delivered else Wanted) to.unwritten,
+    )
 
-pub block_added : (old : Spilling) (catch : Catch) (pending : List Entry) (items : List SpillItem) (written : ℕ) → IsSpilling old → ArePutsOn (length (places old.disk.now.map)) old.puts.now → IsToWrite old catch
-    → items ≡ old.items ++ WroteLine (wrote_row catch) ∷ [] → pending ≡ after catch.block.task (Deliver catch.block.number) old.pending → written ≡ old.written + catch.block.count
+pub block_added : (old : Spilling) (catch : Catch) (pending : List Entry) (items : List SpillItem) (written : ℕ) → IsSpilling old
+    → ArePutsOn (length (places old.disk.now.map)) old.puts.now → IsToWrite old catch
+    → items ≡ old.items ++ WroteLine (wrote_row catch) ∷ [] → pending ≡ after catch.block.task (Deliver catch.block.number) old.pending
+    → written ≡ old.written + catch.block.count
     → IsSpilling (changed old pending items written)
 block_added old catch pending items written is are to added delivers more_written =
     let disk = old.disk.now in
@@ -123,7 +139,8 @@ block_added old catch pending items written is are to added delivers more_writte
     subst (λ rows. IsSpilling (changed old pending rows written)) (sym added) (record {
       first = is.first;
       come = is.come;
-      registered = delivers ∙ ap (after block.task (Deliver block.number)) is.registered ∙ delivered old.items row block refl refl (first_blocks disk puts n) to.index to.put first_order to.stands own;
+      registered = delivers ∙ ap (after block.task (Deliver block.number)) is.registered
+          ∙ delivered old.items row block refl refl (first_blocks disk puts n) to.index to.put first_order to.stands own;
       upto = all_push (IsUpTo n) old.items (WroteLine row) is.upto (omega (arith, upto, task));
       written = omega (arith, more_written, is.written, sum_by_push sectors_in old.items (WroteLine row));
       parts = omega (arith, more_written, is.parts, less);
@@ -135,11 +152,15 @@ block_added old catch pending items written is are to added delivers more_writte
         count = count;
         after = to.after;
       });
-      ranges = all_push HasRange old.items (WroteLine row) is.ranges (omega (arith, upto, task, is.first, are.few), omega (arith, lbn, count, of_puts.is.fits.on_disk, disk.few_blocks));
+      ranges = all_push HasRange old.items (WroteLine row) is.ranges (
+        omega (arith, upto, task, is.first, are.few),
+        omega (arith, lbn, count, of_puts.is.fits.on_disk, disk.few_blocks),
+      );
     })
 
 -- what is written fits
-pub written_few : (old : Spilling) (catch : Catch) → IsSpilling old → ArePutsOn (length (places old.disk.now.map)) old.puts.now → IsToWrite old catch → old.written + catch.block.count ≤ 16 * 10 ^ 6 + 2048
+pub written_few : (old : Spilling) (catch : Catch) → IsSpilling old → ArePutsOn (length (places old.disk.now.map)) old.puts.now
+    → IsToWrite old catch → old.written + catch.block.count ≤ 16 * 10 ^ 6 + 2048
 written_few old catch is are to =
     omega (
       arith,

@@ -25,7 +25,8 @@ cut_more number block_number before now cut cuts rest split added =
         (map wanted_entry (numbered number 1 (block_number + 1) rest))
     ∙ ap (λ cs. before ++ map wanted_entry (numbered number 1 block_number cs)) (sym split)
 
-pub one_counted : (number : ℕ) (before : List Entry) (entry : Entry) → entry.block.task ≡ number → registered number (blocks_of (before ++ entry ∷ [])) ≡ registered number (blocks_of before) + 1
+pub one_counted : (number : ℕ) (before : List Entry) (entry : Entry) → entry.block.task ≡ number
+    → registered number (blocks_of (before ++ entry ∷ [])) ≡ registered number (blocks_of before) + 1
 one_counted number [] entry same =
     let own : (entry.block.task == number) ≡ true = grind (arith, nat_tests) in
     rw own (omega arith)
@@ -41,9 +42,11 @@ registered_few number (e ∷ es) = elim (cases_Bool (e.block.task == number)) [
   | inr other ↦ rw other (omega (arith, registered_few number es))
 ]
 
-pub none_left : (disk : Shape) (number block_number lbn left : ℕ) (entries : List Entry) → left ≡ 0 → entries ≡ entries ++ map wanted_entry (numbered number 1 block_number (cutting disk 2048 lbn left))
+pub none_left : (disk : Shape) (number block_number lbn left : ℕ) (entries : List Entry) → left ≡ 0
+    → entries ≡ entries ++ map wanted_entry (numbered number 1 block_number (cutting disk 2048 lbn left))
 unfolding cutting
-none_left disk number block_number lbn left entries none = sym (append-nil entries) ∙ ap (λ n. entries ++ map wanted_entry (numbered number 1 block_number (cutting disk 2048 lbn n))) (sym none)
+none_left disk number block_number lbn left entries none =
+    sym (append-nil entries) ∙ ap (λ n. entries ++ map wanted_entry (numbered number 1 block_number (cutting disk 2048 lbn n))) (sym none)
 
 -- ---- the first blocks
 
@@ -61,48 +64,60 @@ first_of_puts disk puts n are = all_of_puts disk 1 (take n puts) (lie_take (λ (
     n puts are.on_disk)
 
 -- so are the numbers of their puts
-pub numbered_first : (disk : Disk) (puts : List Put) (n : ℕ) → ArePutsOn (length (places disk.map)) puts → AllByRecursion (λ (p : PutBlock). p.block.task ≤ n) (first_blocks disk puts n)
+pub numbered_first : (disk : Disk) (puts : List Put) (n : ℕ) → ArePutsOn (length (places disk.map)) puts
+    → AllByRecursion (λ (p : PutBlock). p.block.task ≤ n) (first_blocks disk puts n)
 numbered_first disk puts n are = all_weaker (IsOfPuts disk 1 (take n puts)) (λ (p : PutBlock). p.block.task ≤ n)
     (λ p is. omega (arith, is.is.task, slice_get_within (take n puts) is.i is.own is.stands, length-take n puts))
     (first_blocks disk puts n) (first_of_puts disk puts n are)
 
-pub first_in_order : (disk : Disk) (puts : List Put) (n : ℕ) → ArePutsOn (length (places disk.map)) puts → n ≤ length puts → AreInOrder (first_blocks disk puts n)
+pub first_in_order : (disk : Disk) (puts : List Put) (n : ℕ) → ArePutsOn (length (places disk.map)) puts → n ≤ length puts
+    → AreInOrder (first_blocks disk puts n)
 first_in_order disk puts n are le = order_left (first_blocks disk puts n) (blocks_from disk.map (1 + n) (drop n puts))
     (subst AreInOrder (blocks_split disk.map 1 n puts le) (puts_in_order disk 1 puts are.on_disk are.apart))
 
-pub first_few : (disk : Disk) (puts : List Put) (n : ℕ) → ArePutsOn (length (places disk.map)) puts → length (first_blocks disk puts n) ≤ sum_by (λ (put : Put). put.count) (take n puts)
-first_few disk puts n are = few_blocks disk 1 (take n puts) (lie_take (λ (put : Put). put.first + put.count ≤ length (places disk.map)) n puts are.on_disk)
+pub first_few : (disk : Disk) (puts : List Put) (n : ℕ) → ArePutsOn (length (places disk.map)) puts
+    → length (first_blocks disk puts n) ≤ sum_by (λ (put : Put). put.count) (take n puts)
+first_few disk puts n are =
+    few_blocks disk 1 (take n puts) (lie_take (λ (put : Put). put.first + put.count ≤ length (places disk.map)) n puts are.on_disk)
 
 -- no block of the next put is registered
-pub none_yet_registered : (disk : Disk) (puts : List Put) (items : List SpillItem) (n : ℕ) → ArePutsOn (length (places disk.map)) puts → registered (n + 1) (blocks_of (map (entry_of items) (first_blocks disk puts n))) ≡ 0
+pub none_yet_registered : (disk : Disk) (puts : List Put) (items : List SpillItem) (n : ℕ) → ArePutsOn (length (places disk.map)) puts
+    → registered (n + 1) (blocks_of (map (entry_of items) (first_blocks disk puts n))) ≡ 0
 none_yet_registered disk puts items n are =
     ap (registered (n + 1)) (its_map items (first_blocks disk puts n))
     ∙ none_registered (n + 1) (its_blocks (first_blocks disk puts n)) (all_map (λ (b : Block). b.task < n + 1) (λ (p : PutBlock). p.block)
     (first_blocks disk puts n)
-    (all_weaker (λ (p : PutBlock). p.block.task ≤ n) (λ (p : PutBlock). p.block.task < n + 1) (λ p le. omega (arith, le)) (first_blocks disk puts n) (numbered_first disk puts n are)))
+    (all_weaker (λ (p : PutBlock). p.block.task ≤ n) (λ (p : PutBlock). p.block.task < n + 1) (λ p le. omega (arith, le))
+    (first_blocks disk puts n) (numbered_first disk puts n are)))
 
 -- ---- what the search needs to know
 
-fits_all : (disk : Disk) (items : List SpillItem) (puts : List Put) (blocks : List PutBlock) → AllByRecursion (IsOfPuts disk 1 puts) blocks → AreOnDisk disk (map (entry_of items) blocks)
+fits_all : (disk : Disk) (items : List SpillItem) (puts : List Put) (blocks : List PutBlock) → AllByRecursion (IsOfPuts disk 1 puts) blocks
+    → AreOnDisk disk (map (entry_of items) blocks)
 fits_all disk items puts [] all i entry at = absurd (grind arith)
 fits_all disk items puts (b ∷ bs) all zero entry at =
     subst (IsBlockOn disk.map) (ap (λ (e : Entry). e.block) (some_one (entry_of items b) entry at)) all.0.is.fits
 fits_all disk items puts (b ∷ bs) all (suc i) entry at = fits_all disk items puts bs all.1 i entry at
 
-light_all : (disk : Disk) (items : List SpillItem) (puts : List Put) (blocks : List PutBlock) → AllByRecursion (IsOfPuts disk 1 puts) blocks → AllByRecursion (λ (e : Entry). e.block.weight ≡ 1) (map (entry_of items) blocks)
+light_all : (disk : Disk) (items : List SpillItem) (puts : List Put) (blocks : List PutBlock) → AllByRecursion (IsOfPuts disk 1 puts) blocks
+    → AllByRecursion (λ (e : Entry). e.block.weight ≡ 1) (map (entry_of items) blocks)
 light_all disk items puts [] all = tt
 light_all disk items puts (b ∷ bs) all = (all.0.is.light, light_all disk items puts bs all.1)
 
-apart_behind : (items : List SpillItem) (own : PutBlock) (blocks : List PutBlock) → AllByRecursion (λ other. IsBefore own.block other.block) blocks
-    → AllByRecursion (λ other. share (block_range own.block) other ≡ false) (map (λ (e : Entry). block_range e.block) (map (entry_of items) blocks))
+apart_behind : (items : List SpillItem) (own : PutBlock) (blocks : List PutBlock)
+    → AllByRecursion (λ other. IsBefore own.block other.block) blocks
+    → AllByRecursion (λ other. share (block_range own.block) other ≡ false)
+    (map (λ (e : Entry). block_range e.block) (map (entry_of items) blocks))
 apart_behind items own [] all = tt
 apart_behind items own (b ∷ bs) all = (all.0.apart, apart_behind items own bs all.1)
 
-apart_all : (items : List SpillItem) (blocks : List PutBlock) → AreInOrder blocks → AreApart (map (λ (e : Entry). block_range e.block) (map (entry_of items) blocks))
+apart_all : (items : List SpillItem) (blocks : List PutBlock) → AreInOrder blocks
+    → AreApart (map (λ (e : Entry). block_range e.block) (map (entry_of items) blocks))
 apart_all items [] order = tt
 apart_all items (b ∷ bs) order = (apart_behind items b bs order.0, apart_all items bs order.1)
 
-pub are_pending : (spilling : Spilling) → IsSpilling spilling → ArePutsOn (length (places spilling.disk.now.map)) spilling.puts.now → ArePending spilling.disk.now spilling.pending
+pub are_pending : (spilling : Spilling) → IsSpilling spilling → ArePutsOn (length (places spilling.disk.now.map)) spilling.puts.now
+    → ArePending spilling.disk.now spilling.pending
 are_pending spilling is are =
     let disk = spilling.disk.now in
     let puts = spilling.puts.now in
@@ -123,12 +138,15 @@ by_instant : (P : ℕ → Type 0) (disk : Disk) (puts : List Put) → AllByRecur
 by_instant P disk puts each blocks number = all_weaker (IsOfPuts disk number puts) (λ (p : PutBlock). P p.instant)
     (λ p is. subst P (sym is.instant) (all_get (λ (put : Put). P put.instant) puts is.i is.own each is.stands)) blocks
 
-rising_behind : (now instant : ℕ) (puts : List Put) → now < instant → AllByRecursion (λ later. instant ≤ later) (map (λ (put : Put). put.instant) puts) → AllByRecursion (λ (put : Put). now < put.instant) puts
+rising_behind : (now instant : ℕ) (puts : List Put)
+    → now < instant → AllByRecursion (λ later. instant ≤ later) (map (λ (put : Put). put.instant) puts)
+    → AllByRecursion (λ (put : Put). now < put.instant) puts
 rising_behind now instant [] less all = tt
 rising_behind now instant (put ∷ puts) less all = (omega (arith, less, all.0), rising_behind now instant puts less all.1)
 
 -- if the next put is later, so are all others
-others_later : (now n : ℕ) (puts : List Put) → IsRising (map (λ (put : Put). put.instant) puts) → ((put : Put) → slice_get puts n ≡ Some put → now < put.instant) → AllByRecursion (λ (put : Put). now < put.instant) (drop n puts)
+others_later : (now n : ℕ) (puts : List Put) → IsRising (map (λ (put : Put). put.instant) puts)
+    → ((put : Put) → slice_get puts n ≡ Some put → now < put.instant) → AllByRecursion (λ (put : Put). now < put.instant) (drop n puts)
 others_later now zero [] rising next = tt
 others_later now zero (put ∷ puts) rising next = (next put refl, rising_behind now put.instant puts (next put refl) rising.0)
 others_later now (suc n) [] rising next = tt
@@ -151,7 +169,8 @@ wanted_pending spilling is are next =
     let n = spilling.admitted in
     let rest = lie_drop (λ (put : Put). put.first + put.count ≤ length (places disk.map)) n puts are.on_disk in
     ap wanted_of is.registered
-    ∙ pending_is spilling.items spilling.instant (put_blocks disk.map puts) (first_blocks disk puts n) (blocks_from disk.map (1 + n) (drop n puts)) (blocks_split disk.map 1 n puts is.first)
+    ∙ pending_is spilling.items spilling.instant (put_blocks disk.map puts) (first_blocks disk puts n)
+    (blocks_from disk.map (1 + n) (drop n puts)) (blocks_split disk.map 1 n puts is.first)
     (first_come spilling is are)
     (by_instant (λ n. spilling.instant < n) disk (drop n puts) (others_later spilling.instant n puts are.rising next)
     (blocks_from disk.map (1 + n) (drop n puts)) (1 + n) (all_of_puts disk (1 + n) (drop n puts) rest))
@@ -162,14 +181,19 @@ told_earlier : (n : ℕ) (block : Block) → n < block.task → (item : SpillIte
 told_earlier n block behind (SpillLine row) upto = refl
 told_earlier n block behind (WroteLine row) upto = grind (arith, nat_tests)
 
-not_yet : (n : ℕ) (items : List SpillItem) (block : Block) → n < block.task → AllByRecursion (IsUpTo n) items → is_written items block ≡ false
-not_yet n items block behind all = none_any (writes block) items (all_weaker (IsUpTo n) (λ item. writes block item ≡ false) (told_earlier n block behind) items all)
+not_yet : (n : ℕ) (items : List SpillItem) (block : Block) → n < block.task → AllByRecursion (IsUpTo n) items
+    → is_written items block ≡ false
+not_yet n items block behind all =
+    none_any (writes block) items (all_weaker (IsUpTo n) (λ item. writes block item ≡ false) (told_earlier n block behind) items all)
 
-wanted_new : (n : ℕ) (items : List SpillItem) (instant : ℕ) (blocks : List Block) → AllByRecursion (IsUpTo n) items → AllByRecursion (λ (b : Block). n < b.task) blocks
-    → map wanted_entry blocks ≡ map (entry_of items) (map (λ (b : Block). let p : PutBlock = record { instant = instant; block = b } in p) blocks)
+wanted_new : (n : ℕ) (items : List SpillItem) (instant : ℕ) (blocks : List Block) → AllByRecursion (IsUpTo n) items
+    → AllByRecursion (λ (b : Block). n < b.task) blocks
+    → map wanted_entry blocks
+    ≡ map (entry_of items) (map (λ (b : Block). let p : PutBlock = record { instant = instant; block = b } in p) blocks)
 wanted_new n items instant [] upto all = refl
 wanted_new n items instant (b ∷ bs) upto all =
-    ap₂ (λ (e : Entry) es. e ∷ es) (ap (λ w. let e : Entry = record { block = b; state = if w then Delivered else Wanted } in e) (sym (not_yet n items b all.0 upto))) (wanted_new n items instant bs upto all.1)
+    ap₂ (λ (e : Entry) es. e ∷ es) (ap (λ w. let e : Entry = record { block = b; state = if w then Delivered else Wanted } in e)
+    (sym (not_yet n items b all.0 upto))) (wanted_new n items instant bs upto all.1)
 
 own_numbered : (number n : ℕ) (cuts : List Cut) → AllByRecursion (λ (b : Block). number < b.task) (numbered (number + 1) 1 n cuts)
 own_numbered number n [] = tt
@@ -179,22 +203,35 @@ further : (n : ℕ) (item : SpillItem) → IsUpTo n item → IsUpTo (n + 1) item
 further n (SpillLine row) upto = tt
 further n (WroteLine row) upto = omega (arith, upto)
 
-pub put_admitted : (old : Spilling) (put : Put) (pending : List Entry) → IsSpilling old → ArePutsOn (length (places old.disk.now.map)) old.puts.now → slice_get old.puts.now old.admitted ≡ Some put → put.instant ≤ old.instant
+pub put_admitted : (old : Spilling) (put : Put) (pending : List Entry) → IsSpilling old
+    → ArePutsOn (length (places old.disk.now.map)) old.puts.now → slice_get old.puts.now old.admitted ≡ Some put → put.instant ≤ old.instant
     → pending ≡ old.pending ++ map wanted_entry (numbered (old.admitted + 1) 1 0 (cutting old.disk.now.map 2048 put.first put.count))
-    → IsSpilling (record { alloc = old.alloc; disk = old.disk; puts = old.puts; pending = pending; admitted = old.admitted + 1; instant = old.instant; items = old.items; written = old.written })
+    → IsSpilling (record {
+      alloc = old.alloc;
+      disk = old.disk;
+      puts = old.puts;
+      pending = pending;
+      admitted = old.admitted + 1;
+      instant = old.instant;
+      items = old.items;
+      written = old.written;
+    })
 put_admitted old put pending is are at come added =
     let disk = old.disk.now in
     let n = old.admitted in
     let cuts = cutting disk.map 2048 put.first put.count in
     let next : n + 1 ≡ suc n = omega arith in
-    let blocks : first_blocks disk old.puts.now (suc n) ≡ first_blocks disk old.puts.now n ++ puts.blocks_of disk.map (1 + n) put = blocks_more disk.map 1 n old.puts.now put at in
-    let same : puts.blocks_of disk.map (n + 1) put ≡ puts.blocks_of disk.map (1 + n) put = ap (λ m. puts.blocks_of disk.map m put) (let e : n + 1 ≡ 1 + n = omega arith in e) in
+    let blocks : first_blocks disk old.puts.now (suc n) ≡ first_blocks disk old.puts.now n ++ puts.blocks_of disk.map (1 + n) put =
+    blocks_more disk.map 1 n old.puts.now put at in
+    let same : puts.blocks_of disk.map (n + 1) put ≡ puts.blocks_of disk.map (1 + n) put =
+    ap (λ m. puts.blocks_of disk.map m put) (let e : n + 1 ≡ 1 + n = omega arith in e) in
     record {
       first = omega (arith, slice_get_within old.puts.now n put at);
       come = subst (AllByRecursion (λ (p : Put). p.instant ≤ old.instant)) (sym (one_more old.puts.now n put at))
           (all_push (λ (p : Put). p.instant ≤ old.instant) (take n old.puts.now) put is.come come);
       registered = added
-          ∙ ap₂ (λ xs ys. xs ++ ys) is.registered (wanted_new n old.items put.instant (numbered (n + 1) 1 0 cuts) is.upto (own_numbered n 0 cuts) ∙ ap (map (entry_of old.items)) same)
+          ∙ ap₂ (λ xs ys. xs ++ ys) is.registered (wanted_new n old.items put.instant (numbered (n + 1) 1 0 cuts) is.upto
+          (own_numbered n 0 cuts) ∙ ap (map (entry_of old.items)) same)
           ∙ sym (map-append (entry_of old.items) (first_blocks disk old.puts.now n) (puts.blocks_of disk.map (1 + n) put))
           ∙ ap (map (entry_of old.items)) (sym blocks ∙ ap (first_blocks disk old.puts.now) (sym next));
       upto = all_weaker (IsUpTo n) (IsUpTo (n + 1)) (further n) old.items is.upto;
@@ -205,13 +242,16 @@ put_admitted old put pending is are at come added =
       ranges = is.ranges;
     }
 
-sum_next : (n : ℕ) (puts : List Put) (put : Put) → slice_get puts n ≡ Some put → sum_by (λ (p : Put). p.count) (take n puts) + put.count ≤ sum_by (λ (p : Put). p.count) puts
+sum_next : (n : ℕ) (puts : List Put) (put : Put) → slice_get puts n ≡ Some put
+    → sum_by (λ (p : Put). p.count) (take n puts) + put.count ≤ sum_by (λ (p : Put). p.count) puts
 sum_next n [] put at = absurd (grind arith)
 sum_next zero (p ∷ ps) put at = omega (arith, sum_by-cons (λ (p : Put). p.count) p ps, ap (λ (p : Put). p.count) (some_one p put at))
-sum_next (suc n) (p ∷ ps) put at = omega (arith, sum_by-cons (λ (p : Put). p.count) p ps, sum_by-cons (λ (p : Put). p.count) p (take n ps), sum_next n ps put at)
+sum_next (suc n) (p ∷ ps) put at =
+    omega (arith, sum_by-cons (λ (p : Put). p.count) p ps, sum_by-cons (λ (p : Put). p.count) p (take n ps), sum_next n ps put at)
 
 -- the blocks of the next put have room
-pub room_for_next : (old : Spilling) (put : Put) → IsSpilling old → ArePutsOn (length (places old.disk.now.map)) old.puts.now → slice_get old.puts.now old.admitted ≡ Some put → length old.pending + put.count ≤ 16000000
+pub room_for_next : (old : Spilling) (put : Put) → IsSpilling old → ArePutsOn (length (places old.disk.now.map)) old.puts.now
+    → slice_get old.puts.now old.admitted ≡ Some put → length old.pending + put.count ≤ 16000000
 room_for_next old put is are at =
     let n = old.admitted in
     omega (
@@ -225,11 +265,14 @@ room_for_next old put is are at =
 
 -- ---- in a gap
 
-pub puts_kept : (old new : Spilling) → HasKept old new → ArePutsOn (length (places old.disk.now.map)) old.puts.now → ArePutsOn (length (places new.disk.now.map)) new.puts.now
+pub puts_kept : (old new : Spilling) → HasKept old new → ArePutsOn (length (places old.disk.now.map)) old.puts.now
+    → ArePutsOn (length (places new.disk.now.map)) new.puts.now
 puts_kept old new kept are =
-    subst (λ (d : Bor Disk). ArePutsOn (length (places d.now.map)) new.puts.now) (sym kept.disk) (subst (λ (p : Bor (List Put)). ArePutsOn (length (places old.disk.now.map)) p.now) (sym kept.puts) are)
+    subst (λ (d : Bor Disk). ArePutsOn (length (places d.now.map)) new.puts.now) (sym kept.disk)
+    (subst (λ (p : Bor (List Put)). ArePutsOn (length (places old.disk.now.map)) p.now) (sym kept.puts) are)
 
-module _ (old new : Spilling) (row : GapRow) (is : IsSpilling new) (are : ArePutsOn (length (places old.disk.now.map)) old.puts.now) (kept : HasKept old new) (items : new.items ≡ old.items) (instant : new.instant ≡ row.gap.now)
+module _ (old new : Spilling) (row : GapRow) (is : IsSpilling new) (are : ArePutsOn (length (places old.disk.now.map)) old.puts.now)
+    (kept : HasKept old new) (items : new.items ≡ old.items) (instant : new.instant ≡ row.gap.now)
     (next : (put : Put) → slice_get new.puts.now new.admitted ≡ Some put → row.gap.now < put.instant) where
   pending_then : wanted_of new.pending ≡ pending (put_blocks old.disk.now.map old.puts.now) old.items row.gap.now
   pending_then =
@@ -242,17 +285,22 @@ module _ (old new : Spilling) (row : GapRow) (is : IsSpilling new) (are : ArePut
   pub chosen_none : WritesNothing new.disk.now row.gap (wanted_of new.pending) → HasChosen old.disk.now old.puts.now row old.items new.items
   chosen_none nothing = record {
     spill = None;
-    chosen = subst (λ (d : Bor Disk). WritesNothing d.now row.gap (pending (put_blocks old.disk.now.map old.puts.now) old.items row.gap.now)) kept.disk (subst (WritesNothing new.disk.now row.gap) pending_then nothing);
+    chosen =
+        subst (λ (d : Bor Disk). WritesNothing d.now row.gap (pending (put_blocks old.disk.now.map old.puts.now) old.items row.gap.now))
+        kept.disk (subst (WritesNothing new.disk.now row.gap) pending_then nothing);
     rows = items ∙ sym (append-nil old.items);
   }
 
-  pub chosen_some : (spill : Spill) (after : List SpillItem) → IsBest new.disk.now row.gap (wanted_of new.pending) spill → after ≡ new.items ++ spill_rows new.disk.now row (wanted_of new.pending) spill
+  pub chosen_some : (spill : Spill) (after : List SpillItem) → IsBest new.disk.now row.gap (wanted_of new.pending) spill
+      → after ≡ new.items ++ spill_rows new.disk.now row (wanted_of new.pending) spill
       → HasChosen old.disk.now old.puts.now row old.items after
   chosen_some spill after best rows = record {
     spill = Some spill;
-    chosen = subst (λ (d : Bor Disk). IsBest d.now row.gap (pending (put_blocks old.disk.now.map old.puts.now) old.items row.gap.now) spill) kept.disk (subst (λ bs. IsBest new.disk.now row.gap bs spill) pending_then best);
+    chosen = subst (λ (d : Bor Disk). IsBest d.now row.gap (pending (put_blocks old.disk.now.map old.puts.now) old.items row.gap.now) spill)
+        kept.disk (subst (λ bs. IsBest new.disk.now row.gap bs spill) pending_then best);
     rows = rows
         ∙ ap (λ xs. xs ++ spill_rows new.disk.now row (wanted_of new.pending) spill) items
         ∙ ap (λ bs. old.items ++ spill_rows new.disk.now row bs spill) pending_then
-        ∙ ap (λ (d : Bor Disk). old.items ++ spill_rows d.now row (pending (put_blocks old.disk.now.map old.puts.now) old.items row.gap.now) spill) kept.disk;
+        ∙ ap (λ (d : Bor Disk). old.items
+        ++ spill_rows d.now row (pending (put_blocks old.disk.now.map old.puts.now) old.items row.gap.now) spill) kept.disk;
   }

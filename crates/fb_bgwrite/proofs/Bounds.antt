@@ -12,11 +12,14 @@ no_greater_than old new index sectors k is = elim (cases_Bool (index == k)) [
 ]
 
 -- the upper bounds alone are lowered
-pub under_lowered : (upper new_upper lower : List ℕ) (index sectors : ℕ) → IsUnder upper lower → IsLowered upper new_upper index sectors → IsUnder new_upper lower
-under_lowered upper new_upper lower index sectors under is = λ k. omega (arith, under k, no_greater_than upper new_upper index sectors (k / 32) is)
+pub under_lowered : (upper new_upper lower : List ℕ) (index sectors : ℕ) → IsUnder upper lower → IsLowered upper new_upper index sectors
+    → IsUnder new_upper lower
+under_lowered upper new_upper lower index sectors under is =
+    λ k. omega (arith, under k, no_greater_than upper new_upper index sectors (k / 32) is)
 
 -- both are lowered
-pub both_lowered : (upper new_upper lower new_lower : List ℕ) (index sectors : ℕ) → IsUnder upper lower → IsLowered upper new_upper (index / 32) sectors → IsLowered lower new_lower index sectors
+pub both_lowered : (upper new_upper lower new_lower : List ℕ) (index sectors : ℕ) → IsUnder upper lower
+    → IsLowered upper new_upper (index / 32) sectors → IsLowered lower new_lower index sectors
     → IsUnder new_upper new_lower
 both_lowered upper new_upper lower new_lower index sectors under above below = λ k. elim (cases_Bool (index == k)) [
   | inl here ↦
@@ -31,7 +34,11 @@ both_lowered upper new_upper lower new_lower index sectors under above below = �
 ]
 
 -- the lower bounds only where there was memory
-pub either_lowered : {A E : Type 0} (r : Result A E) (upper new_upper lower new_lower : List ℕ) (index sectors : ℕ) → IsUnder upper lower → IsLowered upper new_upper (index / 32) sectors
-    → OnOk r (IsLowered lower new_lower index sectors) → OnErr r ((k : ℕ) → get_or new_lower k 2049 ≡ get_or lower k 2049) → IsUnder new_upper new_lower
-either_lowered (Ok x) upper new_upper lower new_lower index sectors under above ok err = both_lowered upper new_upper lower new_lower index sectors under above ok
-either_lowered (Err x) upper new_upper lower new_lower index sectors under above ok err = λ k. omega (arith, under_lowered upper new_upper lower (index / 32) sectors under above k, err k)
+pub either_lowered : {A E : Type 0} (r : Result A E) (upper new_upper lower new_lower : List ℕ) (index sectors : ℕ) → IsUnder upper lower
+    → IsLowered upper new_upper (index / 32) sectors
+    → OnOk r (IsLowered lower new_lower index sectors) → OnErr r ((k : ℕ) → get_or new_lower k 2049 ≡ get_or lower k 2049)
+    → IsUnder new_upper new_lower
+either_lowered (Ok x) upper new_upper lower new_lower index sectors under above ok err =
+    both_lowered upper new_upper lower new_lower index sectors under above ok
+either_lowered (Err x) upper new_upper lower new_lower index sectors under above ok err =
+    λ k. omega (arith, under_lowered upper new_upper lower (index / 32) sectors under above k, err k)

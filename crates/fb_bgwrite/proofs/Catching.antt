@@ -31,14 +31,19 @@ different_place : (c : Catch) (xs : List Catch) → AllByRecursion (Differ c) xs
 different_place c [] apart h = (tt, tt)
 different_place c (x ∷ xs) apart h = elim (cases_Bool (is_before c x)) [
   | inl t ↦ subst AreDifferent (sym (put_front x c xs t)) (apart, h)
-  | inr f ↦ subst AreDifferent (sym (put_behind x c xs f)) (all_place (Differ x) c xs (differ_turned c x apart.0) h.0, different_place c xs apart.1 h.1)
+  | inr f ↦ subst AreDifferent (sym (put_behind x c xs f)) (
+    all_place (Differ x) c xs (differ_turned c x apart.0) h.0,
+    different_place c xs apart.1 h.1,
+  )
 ]
 
-more_apart : (y : Catch) (xs ys : List Catch) → AllByRecursion (Differ y) ys → AllByRecursion (λ z. AllByRecursion (Differ z) xs) ys → AllByRecursion (λ z. AllByRecursion (Differ z) (place_in xs y)) ys
+more_apart : (y : Catch) (xs ys : List Catch) → AllByRecursion (Differ y) ys → AllByRecursion (λ z. AllByRecursion (Differ z) xs) ys
+    → AllByRecursion (λ z. AllByRecursion (Differ z) (place_in xs y)) ys
 more_apart y xs [] own all = tt
 more_apart y xs (z ∷ zs) own all = (all_place (Differ z) y xs (differ_turned y z own.0) all.0, more_apart y xs zs own.1 all.1)
 
-different_placed : (xs ys : List Catch) → AreDifferent xs → AreDifferent ys → AllByRecursion (λ y. AllByRecursion (Differ y) xs) ys → AreDifferent (fold place_in xs ys)
+different_placed : (xs ys : List Catch) → AreDifferent xs → AreDifferent ys → AllByRecursion (λ y. AllByRecursion (Differ y) xs) ys
+    → AreDifferent (fold place_in xs ys)
 different_placed xs [] a b all = a
 different_placed xs (y ∷ ys) a b all = different_placed (place_in xs y) ys (different_place y xs all.0 a) b.1 (more_apart y xs ys b.0 all.1)
 
@@ -76,7 +81,9 @@ module _ (disk : Disk) (puts : List Put) (n : ℕ) (items : List SpillItem) (dwe
     ]
   ]
 
-  each_caught : (blocks : List PutBlock) → AllByRecursion IsAt blocks → AllByRecursion (λ (put : PutBlock). put.instant ≤ dwell.begin) blocks → AllByRecursion (IsCaught disk puts n items) (of_blocks blocks)
+  each_caught : (blocks : List PutBlock)
+      → AllByRecursion IsAt blocks → AllByRecursion (λ (put : PutBlock). put.instant ≤ dwell.begin) blocks
+      → AllByRecursion (IsCaught disk puts n items) (of_blocks blocks)
   unfolding IsAt
   each_caught [] at come = tt
   each_caught (put ∷ blocks) at come = elim (of_more put blocks) [
@@ -95,7 +102,8 @@ module _ (disk : Disk) (puts : List Put) (n : ℕ) (items : List SpillItem) (dwe
     )
   ]
 
-  all_behind : (own : PutBlock) (blocks : List PutBlock) → AllByRecursion (λ other. IsBefore own.block other.block) blocks → AllByRecursion (Differ (found own)) (of_blocks blocks)
+  all_behind : (own : PutBlock) (blocks : List PutBlock) → AllByRecursion (λ other. IsBefore own.block other.block) blocks
+      → AllByRecursion (Differ (found own)) (of_blocks blocks)
   all_behind own [] all = tt
   all_behind own (put ∷ blocks) all = elim (of_more put blocks) [
     | inl same ↦ subst (AllByRecursion (Differ (found own))) (sym same) (all_behind own blocks all.1)
@@ -113,12 +121,14 @@ module _ (disk : Disk) (puts : List Put) (n : ℕ) (items : List SpillItem) (dwe
     | inr more ↦ subst AreDifferent (sym more.1) (all_behind put blocks order.0, all_different blocks order.1)
   ]
 
-  pub caught_are : AllByRecursion (λ (put : PutBlock). put.instant ≤ dwell.begin) (first_blocks disk puts n) → AllByRecursion (IsCaught disk puts n items) (caught_of disk dwell (wanted_of (map (entry_of items) (first_blocks disk puts n))))
+  pub caught_are : AllByRecursion (λ (put : PutBlock). put.instant ≤ dwell.begin) (first_blocks disk puts n)
+      → AllByRecursion (IsCaught disk puts n items) (caught_of disk dwell (wanted_of (map (entry_of items) (first_blocks disk puts n))))
   unfolding caught_of IsAt
   caught_are come = all_placed (IsCaught disk puts n items) [] (of_blocks (first_blocks disk puts n)) tt
       (each_caught (first_blocks disk puts n) (all_of IsAt (first_blocks disk puts n) (λ k put at. (k, at))) come)
 
-  pub caught_differ : AreInOrder (first_blocks disk puts n) → AreDifferent (caught_of disk dwell (wanted_of (map (entry_of items) (first_blocks disk puts n))))
+  pub caught_differ : AreInOrder (first_blocks disk puts n)
+      → AreDifferent (caught_of disk dwell (wanted_of (map (entry_of items) (first_blocks disk puts n))))
   unfolding caught_of
   caught_differ order = different_placed [] (of_blocks (first_blocks disk puts n)) tt (all_different (first_blocks disk puts n) order)
       (all_of (λ y. AllByRecursion (Differ y) []) (of_blocks (first_blocks disk puts n)) (λ k y at. tt))
@@ -129,7 +139,8 @@ abbrev pub wrote_rows : List Catch → List SpillItem
 wrote_rows cs = map (λ catch. WroteLine (wrote_row catch)) cs
 
 -- the rows of the catches before one don't tell of its block
-earlier_told : (cs : List Catch) (i : ℕ) (catch : Catch) → AreDifferent cs → slice_get cs i ≡ Some catch → AllByRecursion (λ item. writes catch.block item ≡ false) (wrote_rows (take i cs))
+earlier_told : (cs : List Catch) (i : ℕ) (catch : Catch) → AreDifferent cs → slice_get cs i ≡ Some catch
+    → AllByRecursion (λ item. writes catch.block item ≡ false) (wrote_rows (take i cs))
 earlier_told [] i catch apart at = absurd (grind arith)
 earlier_told (c ∷ cs) zero catch apart at = tt
 earlier_told (c ∷ cs) (suc i) catch apart at = (all_get (Differ c) cs i catch apart.0 at, earlier_told cs i catch apart.1 at)
@@ -137,14 +148,18 @@ earlier_told (c ∷ cs) (suc i) catch apart at = (all_get (Differ c) cs i catch 
 neither : (a b : Bool) → a ≡ false → b ≡ false → (a || b) ≡ false
 neither a b off_a off_b = rw (off_a, off_b) refl
 
-not_told : (items : List SpillItem) (row : SpillRow) (cs : List Catch) (i : ℕ) (catch : Catch) → AreDifferent cs → slice_get cs i ≡ Some catch → is_written items catch.block ≡ false
+not_told : (items : List SpillItem) (row : SpillRow) (cs : List Catch) (i : ℕ) (catch : Catch) → AreDifferent cs
+    → slice_get cs i ≡ Some catch → is_written items catch.block ≡ false
     → is_written (items ++ SpillLine row ∷ wrote_rows (take i cs)) catch.block ≡ false
 not_told items row cs i catch apart at unwritten =
-    let later : list_any (writes catch.block) (SpillLine row ∷ wrote_rows (take i cs)) ≡ false = none_any (writes catch.block) (SpillLine row ∷ wrote_rows (take i cs)) (refl, earlier_told cs i catch apart at) in
-    list_any-append (writes catch.block) items (SpillLine row ∷ wrote_rows (take i cs)) ∙ neither (is_written items catch.block) (list_any (writes catch.block) (SpillLine row ∷ wrote_rows (take i cs))) unwritten later
+    let later : list_any (writes catch.block) (SpillLine row ∷ wrote_rows (take i cs)) ≡ false =
+    none_any (writes catch.block) (SpillLine row ∷ wrote_rows (take i cs)) (refl, earlier_told cs i catch apart at) in
+    list_any-append (writes catch.block) items (SpillLine row ∷ wrote_rows (take i cs))
+    ∙ neither (is_written items catch.block) (list_any (writes catch.block) (SpillLine row ∷ wrote_rows (take i cs))) unwritten later
 
 -- the next catch is of a block that is still to write
-pub to_write : (old new : Spilling) (dwell : Dwell) (row : SpillRow) (i : ℕ) (catch : Catch) → IsSpilling old → ArePutsOn (length (places old.disk.now.map)) old.puts.now → old.instant ≤ dwell.begin
+pub to_write : (old new : Spilling) (dwell : Dwell) (row : SpillRow) (i : ℕ) (catch : Catch) → IsSpilling old
+    → ArePutsOn (length (places old.disk.now.map)) old.puts.now → old.instant ≤ dwell.begin
     → HasKept old new → new.admitted ≡ old.admitted → (let cs = caught_of old.disk.now dwell (wanted_of old.pending) in
     slice_get cs i ≡ Some catch → new.items ≡ old.items ++ SpillLine row ∷ wrote_rows (take i cs) → IsToWrite new catch)
 to_write old new dwell row i catch is are begin kept admitted at items =
@@ -153,10 +168,12 @@ to_write old new dwell row i catch is are begin kept admitted at items =
     let n = old.admitted in
     let cs = caught_of disk dwell (wanted_of (map (entry_of old.items) (first_blocks disk puts n))) in
     let here : slice_get cs i ≡ Some catch = ap (λ es. slice_get (caught_of disk dwell (wanted_of es)) i) (sym is.registered) ∙ at in
-    let come = all_weaker (λ (p : PutBlock). p.instant ≤ old.instant) (λ (p : PutBlock). p.instant ≤ dwell.begin) (λ p le. omega (arith, le, begin)) (first_blocks disk puts n) (first_come old is are) in
+    let come = all_weaker (λ (p : PutBlock). p.instant ≤ old.instant) (λ (p : PutBlock). p.instant ≤ dwell.begin)
+    (λ p le. omega (arith, le, begin)) (first_blocks disk puts n) (first_come old is are) in
     let its = all_get (IsCaught disk puts n old.items) cs i catch (caught_are disk puts n old.items dwell come) here in
     let apart = caught_differ disk puts n old.items dwell (first_in_order disk puts n are is.first) in
-    let rows : new.items ≡ old.items ++ SpillLine row ∷ wrote_rows (take i cs) = items ∙ ap (λ es. old.items ++ SpillLine row ∷ wrote_rows (take i (caught_of disk dwell (wanted_of es)))) is.registered in
+    let rows : new.items ≡ old.items ++ SpillLine row ∷ wrote_rows (take i cs) = items
+    ∙ ap (λ es. old.items ++ SpillLine row ∷ wrote_rows (take i (caught_of disk dwell (wanted_of es)))) is.registered in
     let unwritten = not_told old.items row cs i catch apart here (ap (is_written old.items) its.block ∙ its.unwritten) in
     record {
       index = its.index;
@@ -165,6 +182,7 @@ to_write old new dwell row i catch is are begin kept admitted at items =
           ∙ ap (λ (p : Bor (List Put)). slice_get (first_blocks disk p.now new.admitted) its.index) kept.puts
           ∙ ap (λ m. slice_get (first_blocks disk puts m) its.index) admitted ∙ its.stands;
       block = its.block;
-      unwritten = ap (λ xs. is_written xs its.put.block) rows ∙ ap (is_written (old.items ++ SpillLine row ∷ wrote_rows (take i cs))) (sym its.block) ∙ unwritten;
+      unwritten = ap (λ xs. is_written xs its.put.block) rows
+          ∙ ap (is_written (old.items ++ SpillLine row ∷ wrote_rows (take i cs))) (sym its.block) ∙ unwritten;
       after = its.after;
     }

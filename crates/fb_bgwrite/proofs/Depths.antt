@@ -40,7 +40,8 @@ fewer lbn track (e ∷ es) = elim (cases_Bool (same_track track e.block.track)) 
   | inr off ↦ rw off (omega (arith, sum_by-cons (weight_on lbn) e es, fewer lbn track es))
 ]
 
-pub one_deep : (track : Track) (lbn : ℕ) (es : List Entry) → AreLight es → AreApart (map (λ entry. block_range entry.block) es) → depth_at track lbn es ≤ 1
+pub one_deep : (track : Track) (lbn : ℕ) (es : List Entry) → AreLight es → AreApart (map (λ entry. block_range entry.block) es)
+    → depth_at track lbn es ≤ 1
 one_deep track lbn es light apart = omega (
   arith,
   fewer lbn track es,
@@ -51,13 +52,15 @@ one_deep track lbn es light apart = omega (
 
 -- ---- bounds
 
-module _ (disk : Disk) (gap : Gap) (entries : List Entry) (pending : ArePending disk entries) (sound : IsSound disk.map) (own : HasOwnPlaces disk.map) (from end : ℕ) (moves : Moves) (least : AreLeast disk gap from end moves) (spill : Spill)
+module _ (disk : Disk) (gap : Gap) (entries : List Entry) (pending : ArePending disk entries) (sound : IsSound disk.map)
+    (own : HasOwnPlaces disk.map) (from end : ℕ) (moves : Moves) (least : AreLeast disk gap from end moves) (spill : Spill)
     (low : from ≤ spill.track.cylinder) (high : spill.track.cylinder < end) (is : IsSpill disk gap spill) where
   -- there is time for both moves
   pub there_is_time : gap.now + moves.there + moves.on ≤ gap.deadline
   there_is_time = let both = least spill.track low high in omega (arith, both.0, both.1, is.after_ready, is.in_time)
 
-  pub value_in_time : (most : ℕ) → slots_within disk.map.rotation (slots_at disk.map.zones spill.track.cylinder) (gap.deadline - (gap.now + moves.there + moves.on)) ≤ most → value disk gap (wanted_of entries) spill ≤ most
+  pub value_in_time : (most : ℕ) → slots_within disk.map.rotation (slots_at disk.map.zones spill.track.cylinder)
+      (gap.deadline - (gap.now + moves.there + moves.on)) ≤ most → value disk gap (wanted_of entries) spill ≤ most
   value_in_time most enough =
       let both = least spill.track low high in
       let begin = ready disk gap spill.track in
@@ -65,8 +68,10 @@ module _ (disk : Disk) (gap : Gap) (entries : List Entry) (pending : ArePending 
       omega (
         arith,
         value_stay disk gap entries spill pending.light,
-        packing disk spill.track begin spill.leave sound entries 1 own pending.on_disk (λ lbn. one_deep spill.track lbn entries pending.light pending.apart),
-        div-rises (spill.leave - begin) (gap.deadline - (gap.now + moves.there + moves.on)) share (omega (arith, both.0, both.1, is.after_ready, is.in_time)),
+        packing disk spill.track begin spill.leave sound entries 1 own pending.on_disk
+            (λ lbn. one_deep spill.track lbn entries pending.light pending.apart),
+        div-rises (spill.leave - begin) (gap.deadline - (gap.now + moves.there + moves.on)) share
+            (omega (arith, both.0, both.1, is.after_ready, is.in_time)),
         enough,
       )
 
@@ -76,7 +81,8 @@ same_head : (a b : Track) → a.head ≡ b.head → distance_of a.cylinder b.cyl
 same_head a b head near = let cylinder : a.cylinder ≡ b.cylinder = omega (arith, near) in grind (arith, nat_tests)
 
 -- the move from the nearest track with the target's head takes no more time
-pub nearer_on : (arm : Mechanics) (a b near : Track) (write : Bool) → SeeksRise arm → near.head ≡ b.head → distance_of near.cylinder b.cylinder ≤ distance_of a.cylinder b.cylinder → pos arm near b write ≤ pos arm a b write
+pub nearer_on : (arm : Mechanics) (a b near : Track) (write : Bool) → SeeksRise arm → near.head ≡ b.head
+    → distance_of near.cylinder b.cylinder ≤ distance_of a.cylinder b.cylinder → pos arm near b write ≤ pos arm a b write
 unfolding pos
 nearer_on arm a b near write rises head le = elim (cases_Bool (same_track near b)) [
   | inl here ↦ rw here (omega arith)
@@ -97,7 +103,8 @@ turned arm a b write =
     let far : distance_of a.cylinder b.cylinder ≡ distance_of b.cylinder a.cylinder = omega arith in
     rw (same, heads, far) refl
 
-pub nearer_there : (arm : Mechanics) (a b near : Track) (write : Bool) → SeeksRise arm → near.head ≡ b.head → distance_of b.cylinder near.cylinder ≤ distance_of b.cylinder a.cylinder → pos arm b near write ≤ pos arm b a write
+pub nearer_there : (arm : Mechanics) (a b near : Track) (write : Bool) → SeeksRise arm → near.head ≡ b.head
+    → distance_of b.cylinder near.cylinder ≤ distance_of b.cylinder a.cylinder → pos arm b near write ≤ pos arm b a write
 nearer_there arm a b near write rises head le =
     let far : distance_of near.cylinder b.cylinder ≤ distance_of a.cylinder b.cylinder = omega (arith, le) in
     omega (arith, nearer_on arm a b near write rises head far, turned arm b near write, turned arm b a write)

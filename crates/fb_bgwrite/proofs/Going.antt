@@ -19,14 +19,18 @@ pub record HasGone (disk : Disk) (blocks : List PutBlock) (all rest : List RunGa
   pub right : AllByRecursion (IsRight disk) done
   pub rows : items ≡ flat_map (rows_in disk) done
 
-pub none_gone : (disk : Disk) (blocks : List PutBlock) (all : List RunGap) (items : List SpillItem) → items ≡ [] → HasGone disk blocks all all items
-none_gone disk blocks all items none = subst (HasGone disk blocks all all) (sym none) (record { spills = []; done = []; split = λ more. refl; count = omega arith; right = tt; rows = refl })
+pub none_gone : (disk : Disk) (blocks : List PutBlock) (all : List RunGap) (items : List SpillItem) → items ≡ []
+    → HasGone disk blocks all all items
+none_gone disk blocks all items none = subst (HasGone disk blocks all all) (sym none)
+    (record { spills = []; done = []; split = λ more. refl; count = omega arith; right = tt; rows = refl })
 
-flat_push : (disk : Disk) (done : List Step) (step : Step) → flat_map (rows_in disk) (done ++ step ∷ []) ≡ flat_map (rows_in disk) done ++ rows_in disk step
+flat_push : (disk : Disk) (done : List Step) (step : Step)
+    → flat_map (rows_in disk) (done ++ step ∷ []) ≡ flat_map (rows_in disk) done ++ rows_in disk step
 flat_push disk done step = flat_map-append (rows_in disk) done (step ∷ []) ∙ ap (λ rows. flat_map (rows_in disk) done ++ rows)
     (append-nil (rows_in disk step))
 
-pub one_gone : (disk : Disk) (blocks : List PutBlock) (all rest : List RunGap) (items new : List SpillItem) (gap : RunGap) (spill : Option Spill) → IsRight disk (step_of blocks items gap spill) → new ≡ items ++ rows_in disk (step_of blocks items gap spill)
+pub one_gone : (disk : Disk) (blocks : List PutBlock) (all rest : List RunGap) (items new : List SpillItem) (gap : RunGap)
+    (spill : Option Spill) → IsRight disk (step_of blocks items gap spill) → new ≡ items ++ rows_in disk (step_of blocks items gap spill)
     → HasGone disk blocks all (gap ∷ rest) items → HasGone disk blocks all rest new
 one_gone disk blocks all rest items new gap spill right rows gone =
     let step = step_of blocks items gap spill in
@@ -44,36 +48,48 @@ one_gone disk blocks all rest items new gap spill right rows gone =
     }
 
 -- a free gap
-pub free_gone : (disk : Disk) (puts : List Put) (all here rest : List RunGap) (items new : List SpillItem) (row : GapRow) → here ≡ (let gap : RunGap = record { row = row; free = true } in gap) ∷ rest → HasChosen disk puts row items new
+pub free_gone : (disk : Disk) (puts : List Put) (all here rest : List RunGap) (items new : List SpillItem) (row : GapRow)
+    → here ≡ (let gap : RunGap = record { row = row; free = true } in gap) ∷ rest → HasChosen disk puts row items new
     → HasGone disk (put_blocks disk.map puts) all here items → HasGone disk (put_blocks disk.map puts) all rest new
 free_gone disk puts all here rest items new row split chosen gone =
     let gap : RunGap = record { row = row; free = true } in
-    one_gone disk (put_blocks disk.map puts) all rest items new gap chosen.spill chosen.chosen chosen.rows (subst (λ gs. HasGone disk (put_blocks disk.map puts) all gs items) split gone)
+    one_gone disk (put_blocks disk.map puts) all rest items new gap chosen.spill chosen.chosen chosen.rows
+    (subst (λ gs. HasGone disk (put_blocks disk.map puts) all gs items) split gone)
 
 -- none
-pub busy_gone : (disk : Disk) (blocks : List PutBlock) (all here rest : List RunGap) (items : List SpillItem) → HasNoFree here rest → HasGone disk blocks all here items → HasGone disk blocks all rest items
+pub busy_gone : (disk : Disk) (blocks : List PutBlock) (all here rest : List RunGap) (items : List SpillItem) → HasNoFree here rest
+    → HasGone disk blocks all here items → HasGone disk blocks all rest items
 busy_gone disk blocks all here rest items busy gone = elim busy [
   | inl same ↦ subst (λ gs. HasGone disk blocks all gs items) same gone
   | inr one ↦
       let gap : RunGap = record { row = one.0; free = false } in
-      one_gone disk blocks all rest items items gap None refl (sym (append-nil items)) (subst (λ gs. HasGone disk blocks all gs items) one.1 gone)
+      one_gone disk blocks all rest items items gap None refl (sym (append-nil items))
+      (subst (λ gs. HasGone disk blocks all gs items) one.1 gone)
 ]
 
 -- ---- rows
 
-pub free_from : (rows : List BackRow) (i : ℕ) (row : GapRow) → slice_get rows i ≡ Some (GapLine row) → false ≡ delivers (drop (i + 1) rows) → gaps (drop i rows) ≡ (let gap : RunGap = record { row = row; free = true } in gap) ∷ gaps (drop (i + 1) rows)
+pub free_from : (rows : List BackRow) (i : ℕ) (row : GapRow) → slice_get rows i ≡ Some (GapLine row) → false ≡ delivers (drop (i + 1) rows)
+    → gaps (drop i rows) ≡ (let gap : RunGap = record { row = row; free = true } in gap) ∷ gaps (drop (i + 1) rows)
 free_from rows i row at none =
-    ap gaps (drop_got rows i (GapLine row) at) ∙ ap (λ b. (let gap : RunGap = record { row = row; free = not b } in gap) ∷ gaps (drop (i + 1) rows)) (sym none)
+    ap gaps (drop_got rows i (GapLine row) at)
+    ∙ ap (λ b. (let gap : RunGap = record { row = row; free = not b } in gap) ∷ gaps (drop (i + 1) rows)) (sym none)
 
-pub busy_from : (rows : List BackRow) (i : ℕ) (row : GapRow) → slice_get rows i ≡ Some (GapLine row) → true ≡ delivers (drop (i + 1) rows) → HasNoFree (gaps (drop i rows)) (gaps (drop (i + 1) rows))
+pub busy_from : (rows : List BackRow) (i : ℕ) (row : GapRow) → slice_get rows i ≡ Some (GapLine row) → true ≡ delivers (drop (i + 1) rows)
+    → HasNoFree (gaps (drop i rows)) (gaps (drop (i + 1) rows))
 busy_from rows i row at some =
-    inr (row, ap gaps (drop_got rows i (GapLine row) at) ∙ ap (λ b. (let gap : RunGap = record { row = row; free = not b } in gap) ∷ gaps (drop (i + 1) rows)) (sym some))
+    inr (
+      row,
+      ap gaps (drop_got rows i (GapLine row) at)
+          ∙ ap (λ b. (let gap : RunGap = record { row = row; free = not b } in gap) ∷ gaps (drop (i + 1) rows)) (sym some),
+    )
 
 no_gap : (row : BackRow) (rest : List BackRow) → ((own : GapRow) → row ≡ GapLine own → ⊥) → gaps (row ∷ rest) ≡ gaps rest
 no_gap (GapLine own) rest other = absurd (other own refl)
 no_gap (_) rest other = refl
 
-pub other_from : (rows : List BackRow) (i : ℕ) (row : BackRow) → slice_get rows i ≡ Some row → ((own : GapRow) → row ≡ GapLine own → ⊥) → HasNoFree (gaps (drop i rows)) (gaps (drop (i + 1) rows))
+pub other_from : (rows : List BackRow) (i : ℕ) (row : BackRow) → slice_get rows i ≡ Some row → ((own : GapRow) → row ≡ GapLine own → ⊥)
+    → HasNoFree (gaps (drop i rows)) (gaps (drop (i + 1) rows))
 other_from rows i row at other = inl (ap gaps (drop_got rows i row at) ∙ no_gap row (drop (i + 1) rows) other)
 
 -- ---- row by row
@@ -86,13 +102,16 @@ pub record IsGoing (disk : Disk) (puts : List Put) (rows : List BackRow) (i : �
   pub fit : AreFit disk now.instant (gaps (drop i rows))
   pub gone : HasGone disk (put_blocks disk.map puts) (gaps rows) (gaps (drop i rows)) now.items
 
-pub going_first : (disk : Disk) (puts : List Put) (run : Run) (spilling : Spilling) → IsSound disk.map → IsPossible disk (timeline disk run.back run.fore) run.end → run.end ≤ 9 * 10 ^ 18 → AreGaps disk run.back run.fore
-    → IsSpilling spilling → spilling.disk.now ≡ disk → spilling.puts.now ≡ puts → spilling.instant ≡ 0 → spilling.items ≡ [] → IsGoing disk puts run.back 0 spilling
+pub going_first : (disk : Disk) (puts : List Put) (run : Run) (spilling : Spilling) → IsSound disk.map
+    → IsPossible disk (timeline disk run.back run.fore) run.end → run.end ≤ 9 * 10 ^ 18 → AreGaps disk run.back run.fore
+    → IsSpilling spilling → spilling.disk.now ≡ disk → spilling.puts.now ≡ puts → spilling.instant ≡ 0 → spilling.items ≡ []
+    → IsGoing disk puts run.back 0 spilling
 going_first disk puts run spilling sound possible early areGaps is same_disk same_puts start none = record {
   spilling = is;
   same_disk = same_disk;
   same_puts = same_puts;
-  fit = subst (λ n. AreFit disk n (gaps run.back)) (sym start) (all_fit disk sound first_track 0 run.end run.back run.fore (record { cylinder = disk.some_cylinders; head = disk.some_heads }) early areGaps possible);
+  fit = subst (λ n. AreFit disk n (gaps run.back)) (sym start) (all_fit disk sound first_track 0 run.end run.back run.fore
+      (record { cylinder = disk.some_cylinders; head = disk.some_heads }) early areGaps possible);
   gone = none_gone disk (put_blocks disk.map puts) (gaps run.back) spilling.items none;
 }
 
@@ -146,11 +165,13 @@ module _ {disk : Disk} {puts : List Put} {rows : List BackRow} {i : ℕ} {old : 
 
 -- ---- the end
 
-no_rows : (disk : Disk) (blocks : List PutBlock) (items : List SpillItem) (rest : List RunGap) → rest ≡ [] → steps disk blocks items rest [] ≡ []
+no_rows : (disk : Disk) (blocks : List PutBlock) (items : List SpillItem) (rest : List RunGap) → rest ≡ []
+    → steps disk blocks items rest [] ≡ []
 no_rows disk blocks items [] none = refl
 no_rows disk blocks items (gap ∷ rest) none = absurd (grind arith)
 
-pub all_gone : (disk : Disk) (puts : List Put) (run : Run) (i : ℕ) (spilling : Spilling) → IsSound disk.map → IsPossible disk (timeline disk run.back run.fore) run.end → AreGaps disk run.back run.fore
+pub all_gone : (disk : Disk) (puts : List Put) (run : Run) (i : ℕ) (spilling : Spilling) → IsSound disk.map
+    → IsPossible disk (timeline disk run.back run.fore) run.end → AreGaps disk run.back run.fore
     → length run.back ≤ i → IsGoing disk puts run.back i spilling → IsSpillRun disk run puts spilling.items
 all_gone disk puts run i spilling sound possible areGaps past going =
     let blocks = put_blocks disk.map puts in
@@ -171,7 +192,8 @@ all_gone disk puts run i spilling sound possible areGaps past going =
         each = each;
         right = right;
         rows = gone.rows ∙ ap (flat_map (rows_in disk)) (sym done);
-        possible = amended_leads disk sound first_track 0 run.end run.back run.fore gone.spills (record { cylinder = disk.some_cylinders; head = disk.some_heads }) areGaps fit possible;
+        possible = amended_leads disk sound first_track 0 run.end run.back run.fore gone.spills
+            (record { cylinder = disk.some_cylinders; head = disk.some_heads }) areGaps fit possible;
         keeps = kept_is disk sound run.back run.fore gone.spills areGaps fit;
       };
     }

@@ -21,7 +21,8 @@ pub record HasCaught (disk : Disk) (dwell : Dwell) (entries : List Entry) : Type
   pub few : entry.block.count ≤ sum_by (stay_gain disk dwell) entries
   pub worth : entry.block.weight * entry.block.count ≡ entry.block.count
 
-pub some_caught : (disk : Disk) (dwell : Dwell) (es : List Entry) → AreLight es → (sum_by (stay_gain disk dwell) es ≡ 0) ⊎ HasCaught disk dwell es
+pub some_caught : (disk : Disk) (dwell : Dwell) (es : List Entry) → AreLight es
+    → (sum_by (stay_gain disk dwell) es ≡ 0) ⊎ HasCaught disk dwell es
 some_caught disk dwell [] light = inl refl
 some_caught disk dwell (e ∷ es) light = elim (cases_Bool (passes disk dwell e)) [
   | inl caught ↦
@@ -147,7 +148,8 @@ none_less least offers blocks are none i e at wanted =
     omega (arith, one, own, are (λ sweep worth. least - worth), none)
 
 -- what was delivered needs no bound
-pub delivered_too : (bounds : List ℕ) (put number : ℕ) (es : List Entry) → AllByRecursion (IsNoShorter bounds) es → AllByRecursion (IsNoShorter bounds) (after put (Deliver number) es)
+pub delivered_too : (bounds : List ℕ) (put number : ℕ) (es : List Entry) → AllByRecursion (IsNoShorter bounds) es
+    → AllByRecursion (IsNoShorter bounds) (after put (Deliver number) es)
 delivered_too bounds put number [] all = tt
 delivered_too bounds put number (e ∷ es) all =
     (λ wanted. all.0 (still_wanted put number e wanted), delivered_too bounds put number es all.1)
@@ -158,8 +160,11 @@ still_light put number [] light = tt
 still_light put number (e ∷ es) light = (light.0, still_light put number es light.1)
 
 -- the bound of a cylinder is replaced by another that holds
-pub renewed : (old new : List ℕ) (cylinder least : ℕ) → ((c : ℕ) → ((c ≡ cylinder) × (get_or new c 2049 ≡ least)) ⊎ (get_or new c 2049 ≡ get_or old c 2049)) → (es : List Entry) → AllByRecursion (IsNoShorter old) es
-    → AllByRecursion (λ (e : Entry). is_wanted e.state ≡ true → e.block.track.cylinder ≡ cylinder → least ≤ e.block.count) es → AllByRecursion (IsNoShorter new) es
+pub renewed : (old new : List ℕ) (cylinder least : ℕ)
+    → ((c : ℕ) → ((c ≡ cylinder) × (get_or new c 2049 ≡ least)) ⊎ (get_or new c 2049 ≡ get_or old c 2049)) → (es : List Entry)
+    → AllByRecursion (IsNoShorter old) es
+    → AllByRecursion (λ (e : Entry). is_wanted e.state ≡ true → e.block.track.cylinder ≡ cylinder → least ≤ e.block.count) es
+    → AllByRecursion (IsNoShorter new) es
 renewed old new cylinder least is [] all own = tt
 renewed old new cylinder least is (e ∷ es) all own = (
   λ wanted. elim (is e.block.track.cylinder) [
@@ -172,7 +177,8 @@ renewed old new cylinder least is (e ∷ es) all own = (
 -- a block is one of its track
 stands_on : (es : List Entry) (k : ℕ) (e : Entry) → slice_get es k ≡ Some e → (i : ℕ) × (slice_get (on_track e.block.track es) i ≡ Some e)
 stands_on [] k e at = absurd (grind arith)
-stands_on (x ∷ xs) zero e at = subst (λ y. (i : ℕ) × (slice_get (on_track y.block.track (x ∷ xs)) i ≡ Some y)) (some_one x e at) (let own : same_track x.block.track x.block.track ≡ true = grind (arith, nat_tests) in (0, rw own refl))
+stands_on (x ∷ xs) zero e at = subst (λ y. (i : ℕ) × (slice_get (on_track y.block.track (x ∷ xs)) i ≡ Some y)) (some_one x e at)
+    (let own : same_track x.block.track x.block.track ≡ true = grind (arith, nat_tests) in (0, rw own refl))
 stands_on (x ∷ xs) (suc k) e at =
     let rest = stands_on xs k e at in
     elim (cases_Bool (same_track e.block.track x.block.track)) [

@@ -8,7 +8,8 @@ sum_le_on f g [] all = omega arith
 sum_le_on f g (x ∷ xs) all = omega (arith, sum_by-cons f x xs, sum_by-cons g x xs, all.0, sum_le_on f g xs all.1)
 
 -- and one adds less
-pub sum_less : {X : Type 0} (f g : X → ℕ) → ((x : X) → f x ≤ g x) → (xs : List X) (k : ℕ) (x : X) → slice_get xs k ≡ Some x → f x < g x → sum_by f xs < sum_by g xs
+pub sum_less : {X : Type 0} (f g : X → ℕ) → ((x : X) → f x ≤ g x) → (xs : List X) (k : ℕ) (x : X) → slice_get xs k ≡ Some x → f x < g x
+    → sum_by f xs < sum_by g xs
 sum_less f g le [] k x at less = absurd (grind arith)
 sum_less f g le (y ∷ ys) zero x at less =
     let here : f y < g y = subst (λ z. f z < g z) (sym (some_one y x at)) less in

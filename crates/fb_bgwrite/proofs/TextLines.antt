@@ -7,7 +7,8 @@ use Rattle.fb_units.specs.declared.types.NoMemory.{NoMemory}
 use Rattle.fb_report.specs.declared.bytes.Bytes.{Bytes}
 use Rattle.fb_bgwrite.specs.declared.items.SpillRun.{SpillRun}
 
-pub lines_are : (size : ℕ) (bytes : Bytes) (spill : SpillRun) → AreLines spill_first (item_line size bytes) spill.items (spill_last spill.written spill.left) (spill_lines size bytes spill)
+pub lines_are : (size : ℕ) (bytes : Bytes) (spill : SpillRun)
+    → AreLines spill_first (item_line size bytes) spill.items (spill_last spill.written spill.left) (spill_lines size bytes spill)
 unfolding spill_lines
 lines_are size bytes spill = record { are = refl }
 

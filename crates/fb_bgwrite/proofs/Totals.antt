@@ -32,7 +32,8 @@ counted : (p : ℕ → Bool) (x : ℕ) (xs : List ℕ) → count_by p (x ∷ xs)
 counted p x xs = sum_by-cons (λ y. ones (p y)) x xs
 
 -- how many of the sectors from one on are in the range
-in_range : (range : SectorRange) (first n : ℕ) → count_by (has range) (range_with_len first n) ≡ min (range.first + range.count) (first + n) - max range.first first
+in_range : (range : SectorRange) (first n : ℕ)
+    → count_by (has range) (range_with_len first n) ≡ min (range.first + range.count) (first + n) - max range.first first
 in_range range first zero = omega arith
 in_range range first (suc n) = elim (cases_Bool (has range first)) [
   | inl inside ↦
@@ -69,30 +70,50 @@ abbrev covered : List SectorRange → ℕ → Bool
 covered ranges lbn = list_any (λ range. has range lbn) ranges
 
 -- the sectors of a range and those of others
-both_counted : (range : SectorRange) (ranges : List SectorRange) → AllByRecursion (λ other. share range other ≡ false) ranges → (lbns : List ℕ)
+both_counted : (range : SectorRange) (ranges : List SectorRange) → AllByRecursion (λ other. share range other ≡ false) ranges
+    → (lbns : List ℕ)
     → count_by (covered (range ∷ ranges)) lbns ≡ count_by (has range) lbns + count_by (covered ranges) lbns
 both_counted range ranges apart [] = refl
 both_counted range ranges apart (lbn ∷ lbns) =
     let rest = both_counted range ranges apart lbns in
     elim (cases_Bool (has range lbn)) [
       | inl inside ↦
-          let none : covered ranges lbn ≡ false = none_any (λ other. has other lbn) ranges (all_weaker (λ other. share range other ≡ false) (λ other. has other lbn ≡ false) (λ other off. in_no_other range other lbn inside off) ranges apart) in
+          let none : covered ranges lbn ≡ false = none_any (λ other. has other lbn) ranges (all_weaker (λ other. share range other ≡ false)
+          (λ other. has other lbn ≡ false) (λ other off. in_no_other range other lbn inside off) ranges apart) in
           let all : covered (range ∷ ranges) lbn ≡ true = rw inside refl in
           let here = one_if (has range lbn) inside in
           let there = none_if (covered ranges lbn) none in
           let whole = one_if (covered (range ∷ ranges) lbn) all in
-          omega (arith, counted (covered (range ∷ ranges)) lbn lbns, counted (has range) lbn lbns, counted (covered ranges) lbn lbns, here, there, whole, rest)
+          omega (
+            arith,
+            counted (covered (range ∷ ranges)) lbn lbns,
+            counted (has range) lbn lbns,
+            counted (covered ranges) lbn lbns,
+            here,
+            there,
+            whole,
+            rest,
+          )
       | inr outside ↦
           let all : covered (range ∷ ranges) lbn ≡ covered ranges lbn = rw outside refl in
           let here = none_if (has range lbn) outside in
           let whole = ap ones all in
-          omega (arith, counted (covered (range ∷ ranges)) lbn lbns, counted (has range) lbn lbns, counted (covered ranges) lbn lbns, here, whole, rest)
+          omega (
+            arith,
+            counted (covered (range ∷ ranges)) lbn lbns,
+            counted (has range) lbn lbns,
+            counted (covered ranges) lbn lbns,
+            here,
+            whole,
+            rest,
+          )
     ]
 
 abbrev LieIn : ℕ → ℕ → List SectorRange → Type 0
 LieIn first end ranges = AllByRecursion (λ range. (first ≤ range.first) × (range.first + range.count ≤ end)) ranges
 
-all_counted : (first n : ℕ) (ranges : List SectorRange) → LieIn first (first + n) ranges → AreApart ranges → sum_by (λ (range : SectorRange). range.count) ranges ≤ count_by (covered ranges) (range_with_len first n)
+all_counted : (first n : ℕ) (ranges : List SectorRange) → LieIn first (first + n) ranges → AreApart ranges
+    → sum_by (λ (range : SectorRange). range.count) ranges ≤ count_by (covered ranges) (range_with_len first n)
 all_counted first n [] inside apart = omega arith
 all_counted first n (range ∷ ranges) inside apart =
     omega (
@@ -105,7 +126,8 @@ all_counted first n (range ∷ ranges) inside apart =
       all_counted first n ranges inside.1 apart.1,
     )
 
-pub no_more : (first n : ℕ) (ranges : List SectorRange) → LieIn first (first + n) ranges → AreApart ranges → sum_by (λ (range : SectorRange). range.count) ranges ≤ n
+pub no_more : (first n : ℕ) (ranges : List SectorRange) → LieIn first (first + n) ranges → AreApart ranges
+    → sum_by (λ (range : SectorRange). range.count) ranges ≤ n
 no_more first n ranges inside apart = omega (
   arith,
   all_counted first n ranges inside apart,
@@ -118,23 +140,36 @@ no_more first n ranges inside apart = omega (
 
 sum_ranges : (puts : List Put) → sum_by (λ (put : Put). put.count) puts ≡ sum_by (λ (range : SectorRange). range.count) (map range_of puts)
 sum_ranges [] = refl
-sum_ranges (put ∷ puts) = omega (arith, sum_by-cons (λ (p : Put). p.count) put puts, sum_by-cons (λ (r : SectorRange). r.count) (range_of put) (map range_of puts), sum_ranges puts)
+sum_ranges (put ∷ puts) = omega (
+  arith,
+  sum_by-cons (λ (p : Put). p.count) put puts,
+  sum_by-cons (λ (r : SectorRange). r.count) (range_of put) (map range_of puts),
+  sum_ranges puts,
+)
 
 lies_is : (a b : SectorRange) → lies_in a b ≡ true → (b.first ≤ a.first) × (a.first + a.count ≤ b.first + b.count)
 lies_is a b inside =
     let both = and_parts (nat_le b.first a.first) (nat_le (a.first + a.count) (b.first + b.count)) inside in
     (leb-true b.first a.first both.0, leb-true (a.first + a.count) (b.first + b.count) both.1)
 
-all_lie : (reserve : SectorRange) (puts : List Put) → AllByRecursion (IsPutOf reserve) puts → LieIn reserve.first (reserve.first + reserve.count) (map range_of puts)
+all_lie : (reserve : SectorRange) (puts : List Put) → AllByRecursion (IsPutOf reserve) puts
+    → LieIn reserve.first (reserve.first + reserve.count) (map range_of puts)
 all_lie reserve [] all = tt
 all_lie reserve (put ∷ puts) all = (lies_is (range_of put) reserve all.0.inside, all_lie reserve puts all.1)
 
 pub puts_on : (sectors : ℕ) (accepted : Accepted) → ArePuts sectors accepted → ArePutsOn sectors accepted.puts
 puts_on sectors accepted are = record {
   some = all_weaker (IsPutOf accepted.reserve) (λ (p : Put). 0 < p.count) (λ p is. is.some) accepted.puts are.each;
-  on_disk = all_weaker (IsPutOf accepted.reserve) (λ (p : Put). p.first + p.count ≤ sectors) (λ p is. let inside = lies_is (range_of p) accepted.reserve is.inside in omega (arith, inside.1, are.on_disk)) accepted.puts are.each;
+  on_disk = all_weaker (IsPutOf accepted.reserve) (λ (p : Put). p.first + p.count ≤ sectors)
+      (λ p is. let inside = lies_is (range_of p) accepted.reserve is.inside in omega (arith, inside.1, are.on_disk)) accepted.puts are.each;
   rising = are.rising;
   apart = are.apart;
   few = are.few;
-  few_sectors = omega (arith, sum_ranges accepted.puts, no_more accepted.reserve.first accepted.reserve.count (map range_of accepted.puts) (all_lie accepted.reserve accepted.puts are.each) are.apart, are.few_sectors);
+  few_sectors = omega (
+    arith,
+    sum_ranges accepted.puts,
+    no_more accepted.reserve.first accepted.reserve.count (map range_of accepted.puts)
+        (all_lie accepted.reserve accepted.puts are.each) are.apart,
+    are.few_sectors,
+  );
 }

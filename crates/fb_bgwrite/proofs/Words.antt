@@ -16,7 +16,8 @@ pub use Rattle.std.proofs.lemmas.List.Sums.{sum_by_more, sum_by_push}
 pub use Rattle.std.proofs.lemmas.Option.{get_or_from_slice_get, slice_get-get_or, slice_get-map, slice_get_within, same_Some as some_one}
 pub use Rattle.std.proofs.lemmas.Result.{IfOk-weaker, on_ok_weaker}
 pub use Rattle.fb_units.proofs.Numbers.{and_false}
-pub use Rattle.fb_units.proofs.Lists.{all_push, all_weaker, all_from_index as all_of, any_of_none as none_any, all_append, all_left, all_right, all_get, drop_at as drop_got, take_at as one_more}
+pub use Rattle.fb_units.proofs.Lists.{all_push, all_weaker, all_from_index as all_of, any_of_none as none_any, all_append, all_left}
+pub use Rattle.fb_units.proofs.Lists.{all_right, all_get, drop_at as drop_got, take_at as one_more}
 pub use Rattle.fb_units.specs.Rising.{IsRising}
 pub use Rattle.fb_units.specs.Tracks.{same_track}
 pub use Rattle.fb_units.specs.declared.types.Sweep.{Sweep}
@@ -81,7 +82,8 @@ pub use Rattle.fb_bgwrite.specs.AmendedWay.{amended, amended_legs, kept, kept_le
 unfoldable pub use Rattle.fb_bgwrite.specs.AmendedWay.{timeline_with}
 pub use Rattle.fb_bgwrite.specs.Blocks.{PutBlock, is_pending, is_written, put_blocks, sectors, writes}
 unfoldable pub use Rattle.fb_bgwrite.specs.Blocks.{blocks_from, pending}
-pub use Rattle.fb_bgwrite.specs.Choosing.{AreLeast, ArePending, AreTried, IsBestIf, IsEnough, IsFound, IsNoWorse, IsNoWorseThanTrack, IsNoWorseThanTracks}
+pub use Rattle.fb_bgwrite.specs.Choosing.{AreLeast, ArePending, AreTried, IsBestIf, IsEnough, IsFound, IsNoWorse, IsNoWorseThanTrack}
+pub use Rattle.fb_bgwrite.specs.Choosing.{IsNoWorseThanTracks}
 pub use Rattle.fb_bgwrite.specs.Choosing.{IsGap, IsKept, IsLastEnd, IsOnly, IsPart, IsSearch, IsShare, IsTried, IsValuedIf, Keeps}
 pub use Rattle.fb_bgwrite.specs.Choosing.{OneEndsAt, block_range}
 pub use Rattle.fb_bgwrite.specs.Gaps.{HasNoFree, RunGap, delivers, gaps}

@@ -12,7 +12,8 @@ use Rattle.fb_wanted.specs.declared.block.State.{State}
 use Rattle.fb_bgwrite.proofs.{PutBlocks.its_blocks, PutBlocks.AreInOrder, PutBlocks.IsBefore}
 
 -- an element of a list with one more is one of the list, or the last one
-before_or_last : {X : Type 0} (xs : List X) (x y : X) (i : ℕ) → slice_get (xs ++ x ∷ []) i ≡ Some y → (slice_get xs i ≡ Some y) ⊎ ((i ≡ length xs) × (x ≡ y))
+before_or_last : {X : Type 0} (xs : List X) (x y : X) (i : ℕ) → slice_get (xs ++ x ∷ []) i ≡ Some y
+    → (slice_get xs i ≡ Some y) ⊎ ((i ≡ length xs) × (x ≡ y))
 before_or_last [] x y zero is = inr (refl, some_one x y is)
 before_or_last [] x y (suc i) is = absurd (grind arith)
 before_or_last (z ∷ xs) x y zero is = inl is
@@ -72,14 +73,16 @@ module _ (items : List SpillItem) (row : WroteRow) (block : Block) (put_is : row
   tail p item false off = rw off refl
 
   as_before : (other : Block) → IsOther other block → is_written more other ≡ is_written items other
-  as_before other is = list_any-append (writes other) items (WroteLine row ∷ []) ∙ tail (writes other) (WroteLine row) (is_written items other) (not_told other is)
+  as_before other is = list_any-append (writes other) items (WroteLine row ∷ [])
+      ∙ tail (writes other) (WroteLine row) (is_written items other) (not_told other is)
 
   tail_on : (p : SpillItem → Bool) (item : SpillItem) (a : Bool) → p item ≡ true → (a || list_any p (item ∷ [])) ≡ true
   tail_on p item true on = refl
   tail_on p item false on = rw on refl
 
   now_written : is_written more block ≡ true
-  now_written = list_any-append (writes block) items (WroteLine row ∷ []) ∙ tail_on (writes block) (WroteLine row) (is_written items block) told
+  now_written =
+      list_any-append (writes block) items (WroteLine row ∷ []) ∙ tail_on (writes block) (WroteLine row) (is_written items block) told
 
   -- ---- registered blocks
 
@@ -88,10 +91,12 @@ module _ (items : List SpillItem) (row : WroteRow) (block : Block) (put_is : row
   neither true false state off = refl
   neither false b state off = refl
 
-  deliver_other : (put : PutBlock) → IsOther put.block block → entry_after block.task (Deliver block.number) (entry_of items put) ≡ entry_of more put
+  deliver_other : (put : PutBlock) → IsOther put.block block
+      → entry_after block.task (Deliver block.number) (entry_of items put) ≡ entry_of more put
   deliver_other put is =
       let state : State = if is_written items put.block then Delivered else Wanted in
-      let kept : (if put.block.task == block.task then (if put.block.number == block.number then Delivered else state) else state) ≡ state = neither (put.block.task == block.task) (put.block.number == block.number) state is.by_number in
+      let kept : (if put.block.task == block.task then (if put.block.number == block.number then Delivered else state) else state) ≡ state =
+      neither (put.block.task == block.task) (put.block.number == block.number) state is.by_number in
       ap (λ s. let e : Entry = record { block = put.block; state = s } in e) kept
       ∙ ap (λ b. let e : Entry = record { block = put.block; state = if b then Delivered else Wanted } in e) (sym (as_before put.block is))
 
@@ -107,20 +112,27 @@ module _ (items : List SpillItem) (row : WroteRow) (block : Block) (put_is : row
       let state : State = if is_written items put.block then Delivered else Wanted in
       let task : (put.block.task == block.task) ≡ true = ap (λ (b : Block). b.task == block.task) same ∙ itself block.task in
       let number : (put.block.number == block.number) ≡ true = ap (λ (b : Block). b.number == block.number) same ∙ itself block.number in
-      ap (λ s. let e : Entry = record { block = put.block; state = s } in e) (both (put.block.task == block.task) (put.block.number == block.number) state task number)
-      ∙ ap (λ b. let e : Entry = record { block = put.block; state = if b then Delivered else Wanted } in e) (sym (ap (is_written more) same ∙ now_written))
+      ap (λ s. let e : Entry = record { block = put.block; state = s } in e)
+      (both (put.block.task == block.task) (put.block.number == block.number) state task number)
+      ∙ ap (λ b. let e : Entry = record { block = put.block; state = if b then Delivered else Wanted } in e)
+      (sym (ap (is_written more) same ∙ now_written))
 
-  others_delivered : (puts : List PutBlock) → AllByRecursion (λ (put : PutBlock). IsOther put.block block) puts → map (entry_after block.task (Deliver block.number)) (map (entry_of items) puts) ≡ map (entry_of more) puts
+  others_delivered : (puts : List PutBlock) → AllByRecursion (λ (put : PutBlock). IsOther put.block block) puts
+      → map (entry_after block.task (Deliver block.number)) (map (entry_of items) puts) ≡ map (entry_of more) puts
   others_delivered [] all = refl
   others_delivered (put ∷ puts) all = ap₂ (λ e es. e ∷ es) (deliver_other put all.0) (others_delivered puts all.1)
 
-  all_behind : (own : PutBlock) (puts : List PutBlock) → own.block ≡ block → AllByRecursion (λ other. IsBefore own.block other.block) puts → AllByRecursion (λ (put : PutBlock). IsOther put.block block) puts
+  all_behind : (own : PutBlock) (puts : List PutBlock) → own.block ≡ block → AllByRecursion (λ other. IsBefore own.block other.block) puts
+      → AllByRecursion (λ (put : PutBlock). IsOther put.block block) puts
   all_behind own [] same all = tt
-  all_behind own (put ∷ puts) same all = (behind_other put.block block (subst (λ b. IsBefore b put.block) same all.0), all_behind own puts same all.1)
+  all_behind own (put ∷ puts) same all =
+      (behind_other put.block block (subst (λ b. IsBefore b put.block) same all.0), all_behind own puts same all.1)
 
-  is_behind : (put : PutBlock) (puts : List PutBlock) (i : ℕ) (own : PutBlock) → slice_get puts i ≡ Some own → own.block ≡ block → AllByRecursion (λ other. IsBefore put.block other.block) puts → IsOther put.block block
+  is_behind : (put : PutBlock) (puts : List PutBlock) (i : ℕ) (own : PutBlock) → slice_get puts i ≡ Some own → own.block ≡ block
+      → AllByRecursion (λ other. IsBefore put.block other.block) puts → IsOther put.block block
   is_behind put [] i own at same all = absurd (grind arith)
-  is_behind put (p ∷ puts) zero own at same all = before_other put.block block (subst (λ b. IsBefore put.block b) (ap (λ (q : PutBlock). q.block) (some_one p own at) ∙ same) all.0)
+  is_behind put (p ∷ puts) zero own at same all =
+      before_other put.block block (subst (λ b. IsBefore put.block b) (ap (λ (q : PutBlock). q.block) (some_one p own at) ∙ same) all.0)
   is_behind put (p ∷ puts) (suc i) own at same all = is_behind put puts i own at same all.1
 
   pub delivered : (puts : List PutBlock) (i : ℕ) (own : PutBlock) → AreInOrder puts → slice_get puts i ≡ Some own → own.block ≡ block
@@ -129,36 +141,51 @@ module _ (items : List SpillItem) (row : WroteRow) (block : Block) (put_is : row
   delivered (put ∷ puts) zero own order at same =
       let its : put.block ≡ block = ap (λ (q : PutBlock). q.block) (some_one put own at) ∙ same in
       ap₂ (λ e es. e ∷ es) (deliver_own put its) (others_delivered puts (all_behind put puts its order.0))
-  delivered (put ∷ puts) (suc i) own order at same = ap₂ (λ e es. e ∷ es) (deliver_other put (is_behind put puts i own at same order.0)) (delivered puts i own order.1 at same)
+  delivered (put ∷ puts) (suc i) own order at same =
+      ap₂ (λ e es. e ∷ es) (deliver_other put (is_behind put puts i own at same order.0)) (delivered puts i own order.1 at same)
 
   -- ---- sectors that are left
 
   abbrev left_in : List SpillItem → List PutBlock → ℕ
   left_in rows puts = sectors (filter (λ b. not (is_written rows b)) (its_blocks puts))
 
-  left_other : (put : PutBlock) (puts : List PutBlock) (gone : ℕ) → IsOther put.block block → left_in more puts + gone ≡ left_in items puts → left_in more (put ∷ puts) + gone ≡ left_in items (put ∷ puts)
+  left_other : (put : PutBlock) (puts : List PutBlock) (gone : ℕ) → IsOther put.block block → left_in more puts + gone ≡ left_in items puts
+      → left_in more (put ∷ puts) + gone ≡ left_in items (put ∷ puts)
   left_other put puts gone is rest = elim (cases_Bool (is_written items put.block)) [
     | inl yes' ↦
         let now : is_written more put.block ≡ true = as_before put.block is ∙ yes' in
         rw (now, yes') rest
     | inr no' ↦
         let now : is_written more put.block ≡ false = as_before put.block is ∙ no' in
-        rw (now, no') (omega (arith, sum_by-cons (λ (b : Block). b.count) put.block (filter (λ b. not (is_written more b)) (its_blocks puts)), sum_by-cons (λ (b : Block). b.count) put.block (filter (λ b. not (is_written items b)) (its_blocks puts)), rest))
+        rw (now, no') (omega (
+          arith,
+          sum_by-cons (λ (b : Block). b.count) put.block (filter (λ b. not (is_written more b)) (its_blocks puts)),
+          sum_by-cons (λ (b : Block). b.count) put.block (filter (λ b. not (is_written items b)) (its_blocks puts)),
+          rest,
+        ))
   ]
 
-  others_left : (puts : List PutBlock) → AllByRecursion (λ (put : PutBlock). IsOther put.block block) puts → left_in more puts + 0 ≡ left_in items puts
+  others_left : (puts : List PutBlock) → AllByRecursion (λ (put : PutBlock). IsOther put.block block) puts
+      → left_in more puts + 0 ≡ left_in items puts
   others_left [] all = refl
   others_left (put ∷ puts) all = left_other put puts 0 all.0 (others_left puts all.1)
 
-  pub left_less : (puts : List PutBlock) (i : ℕ) (own : PutBlock) → AreInOrder puts → slice_get puts i ≡ Some own → own.block ≡ block → is_written items block ≡ false → left_in more puts + block.count ≡ left_in items puts
+  pub left_less : (puts : List PutBlock) (i : ℕ) (own : PutBlock) → AreInOrder puts → slice_get puts i ≡ Some own → own.block ≡ block
+      → is_written items block ≡ false → left_in more puts + block.count ≡ left_in items puts
   left_less [] i own order at same unwritten = absurd (grind arith)
   left_less (put ∷ puts) zero own order at same unwritten =
       let its : put.block ≡ block = ap (λ (q : PutBlock). q.block) (some_one put own at) ∙ same in
       let rest = others_left puts (all_behind put puts its order.0) in
       let now : is_written more put.block ≡ true = ap (is_written more) its ∙ now_written in
       let before : is_written items put.block ≡ false = ap (is_written items) its ∙ unwritten in
-      rw (now, before) (omega (arith, sum_by-cons (λ (b : Block). b.count) put.block (filter (λ b. not (is_written items b)) (its_blocks puts)), rest, ap (λ (b : Block). b.count) its))
-  left_less (put ∷ puts) (suc i) own order at same unwritten = left_other put puts block.count (is_behind put puts i own at same order.0) (left_less puts i own order.1 at same unwritten)
+      rw (now, before) (omega (
+        arith,
+        sum_by-cons (λ (b : Block). b.count) put.block (filter (λ b. not (is_written items b)) (its_blocks puts)),
+        rest,
+        ap (λ (b : Block). b.count) its,
+      ))
+  left_less (put ∷ puts) (suc i) own order at same unwritten =
+      left_other put puts block.count (is_behind put puts i own at same order.0) (left_less puts i own order.1 at same unwritten)
 
   -- ---- once
 
@@ -170,7 +197,8 @@ module _ (items : List SpillItem) (row : WroteRow) (block : Block) (put_is : row
       let on : writes block (WroteLine own) ≡ true = grind (arith, nat_tests) in
       true≢false (sym on ∙ off)
 
-  pub once_more : (rows : List SpillItem) → AllByRecursion (λ item. writes block item ≡ false) rows → AreOnce rows → AreOnce (rows ++ WroteLine row ∷ [])
+  pub once_more : (rows : List SpillItem) → AllByRecursion (λ item. writes block item ≡ false) rows → AreOnce rows
+      → AreOnce (rows ++ WroteLine row ∷ [])
   once_more rows off once i j one other at_i at_j puts lbns = elim (before_or_last rows (WroteLine row) (WroteLine one) i at_i) [
     | inl one_before ↦ elim (before_or_last rows (WroteLine row) (WroteLine other) j at_j) [
       | inl other_before ↦ once i j one other one_before other_before puts lbns
@@ -192,16 +220,20 @@ pub none_once : AreOnce []
 none_once i j row other at_i at_j puts lbns = absurd (grind arith)
 
 -- a stay writes nothing
-pub stay_writes : (items : List SpillItem) (row : SpillRow) (block : Block) → is_written (items ++ SpillLine row ∷ []) block ≡ is_written items block
+pub stay_writes : (items : List SpillItem) (row : SpillRow) (block : Block)
+    → is_written (items ++ SpillLine row ∷ []) block ≡ is_written items block
 stay_writes items row block = list_any-append (writes block) items (SpillLine row ∷ []) ∙ or-false (is_written items block)
 
-pub stay_registered : (items : List SpillItem) (row : SpillRow) (puts : List PutBlock) → map (entry_of (items ++ SpillLine row ∷ [])) puts ≡ map (entry_of items) puts
+pub stay_registered : (items : List SpillItem) (row : SpillRow) (puts : List PutBlock)
+    → map (entry_of (items ++ SpillLine row ∷ [])) puts ≡ map (entry_of items) puts
 stay_registered items row [] = refl
 stay_registered items row (put ∷ puts) =
-    ap₂ (λ e es. e ∷ es) (ap (λ b. let e : Entry = record { block = put.block; state = if b then Delivered else Wanted } in e) (stay_writes items row put.block)) (stay_registered items row puts)
+    ap₂ (λ e es. e ∷ es) (ap (λ b. let e : Entry = record { block = put.block; state = if b then Delivered else Wanted } in e)
+    (stay_writes items row put.block)) (stay_registered items row puts)
 
 pub stay_left : (items : List SpillItem) (row : SpillRow) (puts : List PutBlock)
-    → sectors (filter (λ b. not (is_written (items ++ SpillLine row ∷ []) b)) (its_blocks puts)) ≡ sectors (filter (λ b. not (is_written items b)) (its_blocks puts))
+    → sectors (filter (λ b. not (is_written (items ++ SpillLine row ∷ []) b)) (its_blocks puts))
+    ≡ sectors (filter (λ b. not (is_written items b)) (its_blocks puts))
 stay_left items row [] = refl
 stay_left items row (put ∷ puts) = elim (cases_Bool (is_written items put.block)) [
   | inl yes' ↦
@@ -209,23 +241,31 @@ stay_left items row (put ∷ puts) = elim (cases_Bool (is_written items put.bloc
       rw (now, yes') (stay_left items row puts)
   | inr no' ↦
       let now : is_written (items ++ SpillLine row ∷ []) put.block ≡ false = stay_writes items row put.block ∙ no' in
-      rw (now, no') (omega (arith, sum_by-cons (λ (b : Block). b.count) put.block (filter (λ b. not (is_written (items ++ SpillLine row ∷ []) b)) (its_blocks puts)), sum_by-cons (λ (b : Block). b.count) put.block (filter (λ b. not (is_written items b)) (its_blocks puts)), stay_left items row puts))
+      rw (now, no') (omega (
+        arith,
+        sum_by-cons (λ (b : Block). b.count) put.block (filter (λ b. not (is_written (items ++ SpillLine row ∷ []) b)) (its_blocks puts)),
+        sum_by-cons (λ (b : Block). b.count) put.block (filter (λ b. not (is_written items b)) (its_blocks puts)),
+        stay_left items row puts,
+      ))
 ]
 
 -- a row of a stay is none of a block
-wrote_before : (rows : List SpillItem) (stay : SpillRow) (row : WroteRow) (i : ℕ) → slice_get (rows ++ SpillLine stay ∷ []) i ≡ Some (WroteLine row) → slice_get rows i ≡ Some (WroteLine row)
+wrote_before : (rows : List SpillItem) (stay : SpillRow) (row : WroteRow) (i : ℕ)
+    → slice_get (rows ++ SpillLine stay ∷ []) i ≡ Some (WroteLine row) → slice_get rows i ≡ Some (WroteLine row)
 wrote_before rows stay row i is = elim (before_or_last rows (SpillLine stay) (WroteLine row) i is) [
   | inl before ↦ before
   | inr last ↦ absurd (let stay_is_row = last.1 in grind arith)
 ]
 
 pub once_stay : (rows : List SpillItem) (stay : SpillRow) → AreOnce rows → AreOnce (rows ++ SpillLine stay ∷ [])
-once_stay rows stay once i j row other at_i at_j = once i j row other (wrote_before rows stay row i at_i) (wrote_before rows stay other j at_j)
+once_stay rows stay once i j row other at_i at_j =
+    once i j row other (wrote_before rows stay row i at_i) (wrote_before rows stay other j at_j)
 
 -- ---- the pending blocks are the registered ones that are wanted
 
 module _ (items : List SpillItem) (now : ℕ) where
-  come_pending : (puts : List PutBlock) → AllByRecursion (λ (put : PutBlock). put.instant ≤ now) puts → wanted_of (map (entry_of items) puts) ≡ its_blocks (filter (is_pending items now) puts)
+  come_pending : (puts : List PutBlock) → AllByRecursion (λ (put : PutBlock). put.instant ≤ now) puts
+      → wanted_of (map (entry_of items) puts) ≡ its_blocks (filter (is_pending items now) puts)
   come_pending [] come = refl
   come_pending (put ∷ puts) come =
       let in_time : nat_le put.instant now ≡ true = let le = come.0 in grind (arith, nat_tests) in
@@ -234,11 +274,13 @@ module _ (items : List SpillItem) (now : ℕ) where
         | inr no' ↦ rw (no', in_time) (ap (λ bs. put.block ∷ bs) (come_pending puts come.1))
       ]
 
-  none_pending : (puts : List PutBlock) → AllByRecursion (λ (put : PutBlock). now < put.instant) puts → filter (is_pending items now) puts ≡ []
+  none_pending : (puts : List PutBlock) → AllByRecursion (λ (put : PutBlock). now < put.instant) puts
+      → filter (is_pending items now) puts ≡ []
   none_pending puts later = none_kept (is_pending items now) puts (all_weaker (λ (put : PutBlock). now < put.instant)
       (λ put. is_pending items now put ≡ false) (λ put less. grind (arith, nat_tests)) puts later)
 
-  pub pending_is : (all first rest : List PutBlock) → all ≡ first ++ rest → AllByRecursion (λ (put : PutBlock). put.instant ≤ now) first → AllByRecursion (λ (put : PutBlock). now < put.instant) rest
+  pub pending_is : (all first rest : List PutBlock) → all ≡ first ++ rest → AllByRecursion (λ (put : PutBlock). put.instant ≤ now) first
+      → AllByRecursion (λ (put : PutBlock). now < put.instant) rest
       → wanted_of (map (entry_of items) first) ≡ pending all items now
   unfolding pending
   pending_is all first rest split come later =

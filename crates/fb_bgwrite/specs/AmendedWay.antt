@@ -26,7 +26,8 @@ unfoldable pub timeline_with : Disk → List (List Leg) → List BackRow → Lis
 timeline_with disk legs [] fore = []
 timeline_with disk legs (IdleLine dwell ∷ back) fore = stay dwell.track dwell.begin dwell.end ∷ timeline_with disk legs back fore
 timeline_with disk legs (GapLine row ∷ back) [] = first_legs legs ++ timeline_with disk (later_legs legs) back []
-timeline_with disk legs (GapLine row ∷ back) (served ∷ fore) = first_legs legs ++ service_legs disk row.gap served ++ timeline_with disk (later_legs legs) back fore
+timeline_with disk legs (GapLine row ∷ back) (served ∷ fore) =
+    first_legs legs ++ service_legs disk row.gap served ++ timeline_with disk (later_legs legs) back fore
 timeline_with disk legs (_ ∷ back) fore = timeline_with disk legs back fore
 
 -- the legs that a gap's plan gives

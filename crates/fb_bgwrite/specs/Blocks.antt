@@ -16,7 +16,8 @@ pub record PutBlock : Type 0 where
 
 -- the blocks of the put with this number: at most 2,048 sectors, each passing whole in one turn of a track
 abbrev pub blocks_of : Shape → ℕ → Put → List PutBlock
-blocks_of disk number put = map (λ block. record { instant = put.instant; block = block }) (numbered number 1 0 (cutting disk 2048 put.first put.count))
+blocks_of disk number put =
+    map (λ block. record { instant = put.instant; block = block }) (numbered number 1 0 (cutting disk 2048 put.first put.count))
 
 -- the blocks of puts, which are numbered from this number on
 unfoldable pub blocks_from : Shape → ℕ → List Put → List PutBlock

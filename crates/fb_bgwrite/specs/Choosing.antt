@@ -57,7 +57,8 @@ IsNoWorseValued a b = (b.value < a.value) ⊎ ((b.value ≡ a.value) × IsNoLate
 -- the best so far is at least as good as the spill; where there is none, the spill writes nothing
 abbrev pub IsNoWorse : Disk → Gap → List Block → Option Valued → Spill → Type 0
 IsNoWorse disk gap pending None other = value disk gap pending other ≡ 0
-IsNoWorse disk gap pending (Some best) other = (value disk gap pending other < best.value) ⊎ ((value disk gap pending other ≡ best.value) × IsNoLater best.spill other)
+IsNoWorse disk gap pending (Some best) other =
+    (value disk gap pending other < best.value) ⊎ ((value disk gap pending other ≡ best.value) × IsNoLater best.spill other)
 
 -- the second is at least as good as each spill that the first is at least as good as
 abbrev pub Keeps : Disk → Gap → List Block → Option Valued → Option Valued → Type 0
@@ -65,11 +66,13 @@ Keeps disk gap pending old new = (other : Spill) → IsNoWorse disk gap pending 
 
 -- the best so far is at least as good as each spill of the gap on the track
 abbrev pub IsNoWorseThanTrack : Disk → Gap → List Block → Option Valued → Track → Type 0
-IsNoWorseThanTrack disk gap pending best track = (leave : ℕ) → (let spill : Spill = record { track = track; leave = leave } in IsSpill disk gap spill → IsNoWorse disk gap pending best spill)
+IsNoWorseThanTrack disk gap pending best track = (leave : ℕ)
+    → (let spill : Spill = record { track = track; leave = leave } in IsSpill disk gap spill → IsNoWorse disk gap pending best spill)
 
 -- and on each track of these cylinders
 abbrev pub IsNoWorseThanTracks : Disk → Gap → List Block → Option Valued → ℕ → ℕ → Type 0
-IsNoWorseThanTracks disk gap pending best from end = (track : Track) → from ≤ track.cylinder → track.cylinder < end → IsNoWorseThanTrack disk gap pending best track
+IsNoWorseThanTracks disk gap pending best from end = (track : Track) → from ≤ track.cylinder → track.cylinder < end
+    → IsNoWorseThanTrack disk gap pending best track
 
 -- at least as good as each spill of this value at most, on a track from this cylinder on
 abbrev pub IsEnough : Option Valued → ℕ → ℕ → Type 0
@@ -78,11 +81,13 @@ IsEnough (Some best) most from = (most < best.value) ⊎ ((most ≤ best.value) 
 
 -- no spill on the track writes more sectors
 abbrev pub IsMostOn : Disk → Gap → List Block → Track → ℕ → Type 0
-IsMostOn disk gap pending track most = (leave : ℕ) → (let spill : Spill = record { track = track; leave = leave } in IsSpill disk gap spill → value disk gap pending spill ≤ most)
+IsMostOn disk gap pending track most = (leave : ℕ)
+    → (let spill : Spill = record { track = track; leave = leave } in IsSpill disk gap spill → value disk gap pending spill ≤ most)
 
 -- nor more than their bound on a track of these cylinders
 abbrev pub IsMost : Disk → Gap → List Block → Part → Type 0
-IsMost disk gap pending part = (track : Track) → part.from ≤ track.cylinder → track.cylinder < part.end → IsMostOn disk gap pending track part.most
+IsMost disk gap pending part = (track : Track) → part.from ≤ track.cylinder → track.cylinder < part.end
+    → IsMostOn disk gap pending track part.most
 
 -- on these cylinders no spill writes anything but on those of the part
 abbrev pub IsOnly : Disk → Gap → List Block → ℕ → ℕ → Part → Type 0
@@ -92,7 +97,8 @@ IsOnly disk gap pending from end part = (track : Track) → from ≤ track.cylin
 -- in any time no more slots pass on a track of these cylinders than it has of these shares, and one
 abbrev pub IsShare : Disk → ℕ → ℕ → ℕ → Type 0
 IsShare disk from end share = (0 < share)
-    × ((cylinder time : ℕ) → from ≤ cylinder → cylinder < end → slots_within disk.map.rotation (slots_at disk.map.zones cylinder) time ≤ time / share + 1)
+    × ((cylinder time : ℕ) → from ≤ cylinder → cylinder < end
+    → slots_within disk.map.rotation (slots_at disk.map.zones cylinder) time ≤ time / share + 1)
 
 -- lower bounds on the times of both moves of a spill on a track of these cylinders
 abbrev pub AreLeast : Disk → Gap → ℕ → ℕ → Moves → Type 0

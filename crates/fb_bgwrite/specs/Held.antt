@@ -1,5 +1,6 @@
 -- What the sectors of the reserve hold at a run's end.
-use Rattle.std.specs.Prelude.{◌≡◌, ℕ, ◌+◌, ◌^◌, List, [], ◌∷◌, ◌++◌, Bool, true, false, nat_lt, filter, if◌then◌else◌, Option, Some, None, slice_get}
+use Rattle.std.specs.Prelude.{◌≡◌, ℕ, ◌+◌, ◌^◌, List, [], ◌∷◌, ◌++◌, Bool, true, false, nat_lt, filter, if◌then◌else◌, Option, Some, None}
+use Rattle.std.specs.Prelude.{slice_get}
 use Rattle.std.specs.List.{AllByRecursion, flat_map}
 use Rattle.fb_store.specs.declared.content.Content.{Content}
 use Rattle.fb_store.specs.declared.content.Content.TheVariants.{Filled}
@@ -55,7 +56,8 @@ abbrev pub held_by : Option Fill → Content → Content
 held_by None before = before
 held_by (Some fill) before = Filled fill.writer
 
--- what a sector holds after all that is written, where these sectors were latent: the fill of the latest that concerns it, or what it held before any write
+-- what a sector holds after all that is written, where these sectors were latent: the fill of the latest that concerns it, or what it held
+-- before any write
 abbrev pub held : List ℕ → List Fill → ℕ → Content
 held latent fills lbn = held_by (latest (filter (λ fill. is_in fill.range lbn) fills)) (unwritten latent lbn)
 
@@ -64,9 +66,11 @@ abbrev pub is_told : ℕ → SpillItem → Bool
 is_told lbn (SpillLine row) = false
 is_told lbn (WroteLine row) = is_in (wrote_range row) lbn
 
--- at a run's end each sector of the reserve holds its put's fill where a row tells that it was written, and else what it held before any write
+-- at a run's end each sector of the reserve holds its put's fill where a row tells that it was written, and else what it held before any
+-- write
 pub record HoldsPuts (run : Run) (reserve : SectorRange) (items : List SpillItem) : Type 0 where
-  pub written : (latent : List ℕ) (lbn i : ℕ) (row : WroteRow) → is_in reserve lbn ≡ true → slice_get items i ≡ Some (WroteLine row) → is_told lbn (WroteLine row) ≡ true
+  pub written : (latent : List ℕ) (lbn i : ℕ) (row : WroteRow) → is_in reserve lbn ≡ true → slice_get items i ≡ Some (WroteLine row)
+      → is_told lbn (WroteLine row) ≡ true
       → held latent (fills run items) lbn ≡ Filled (2 ^ 32 + row.put)
   pub others : (latent : List ℕ) (lbn : ℕ) → is_in reserve lbn ≡ true → AllByRecursion (λ item. is_told lbn item ≡ false) items
       → held latent (fills run items) lbn ≡ unwritten latent lbn

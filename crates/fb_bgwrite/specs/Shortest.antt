@@ -22,7 +22,8 @@ IsNoShorter bounds entry = is_wanted entry.state ≡ true → get_or bounds entr
 
 -- the block, if it is pending and on one of these cylinders, has at least so many sectors
 abbrev pub IsAtLeast : ℕ → ℕ → ℕ → Entry → Type 0
-IsAtLeast from end least entry = is_wanted entry.state ≡ true → from ≤ entry.block.track.cylinder → entry.block.track.cylinder < end → least ≤ entry.block.count
+IsAtLeast from end least entry = is_wanted entry.state ≡ true → from ≤ entry.block.track.cylinder → entry.block.track.cylinder < end
+    → least ≤ entry.block.count
 
 -- so has each registered block
 abbrev pub AreAtLeast : ℕ → ℕ → ℕ → List Entry → Type 0

@@ -53,7 +53,8 @@ pub record IsSpilling (spilling : Spilling) : Type 0 where
   pub registered : spilling.pending ≡ map (entry_of spilling.items) (first_blocks spilling.disk.now spilling.puts.now spilling.admitted)
   pub upto : AllByRecursion (IsUpTo spilling.admitted) spilling.items
   pub written : spilling.written ≡ sum_by sectors_in spilling.items
-  pub parts : spilling.written + left_over spilling.disk.now spilling.puts.now spilling.items ≡ sectors (map (λ put. put.block) (put_blocks spilling.disk.now.map spilling.puts.now))
+  pub parts : spilling.written + left_over spilling.disk.now spilling.puts.now spilling.items
+      ≡ sectors (map (λ put. put.block) (put_blocks spilling.disk.now.map spilling.puts.now))
   pub once : AreOnce spilling.items
   pub in_time : AllByRecursion (IsInTime spilling.disk.now spilling.puts.now) spilling.items
   pub ranges : AllByRecursion HasRange spilling.items

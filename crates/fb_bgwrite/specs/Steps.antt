@@ -28,7 +28,8 @@ wrote_row catch = record { put = catch.block.task; lbn = catch.block.lbn; count 
 
 -- the rows of a spill: the stay, and the pending blocks that pass whole in it, by end
 abbrev pub spill_rows : Disk → GapRow → List Block → Spill → List SpillItem
-spill_rows disk row pending spill = SpillLine (spill_row disk row spill) ∷ map (λ catch. WroteLine (wrote_row catch)) (caught_of disk (stay_of disk row.gap spill) pending)
+spill_rows disk row pending spill =
+    SpillLine (spill_row disk row spill) ∷ map (λ catch. WroteLine (wrote_row catch)) (caught_of disk (stay_of disk row.gap spill) pending)
 
 abbrev pub rows_of : Disk → GapRow → List Block → Option Spill → List SpillItem
 rows_of disk row pending None = []

@@ -52,7 +52,8 @@ impl Model for Pending {
 /// less.
 pub fn least_on(blocks: &TrackBlocks, start: u32) -> u32
     ensures start { result ≤ start }
-    ensures each { (i : ℕ) (entry : Entry) → slice_get blocks.now i ≡ Some entry → is_wanted entry.state ≡ true → result ≤ entry.block.weight * entry.block.count }
+    ensures each { (i : ℕ) (entry : Entry) → slice_get blocks.now i ≡ Some entry → is_wanted entry.state ≡ true
+        → result ≤ entry.block.weight * entry.block.count }
 {
     let offers = blocks.offers();
     let mut least = start;

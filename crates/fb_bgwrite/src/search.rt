@@ -262,7 +262,8 @@ fn is_enough(best: Option<Valued>, most: u64, from: u32) -> bool
 // cylinders aren't looked at.
 fn unless_lighter(pending: &Pending, from: u32, end: u32, most: u64) -> u64
     requires some { from < end }
-    ensures { (result ≡ most) ⊎ ((result < most) × ((track : Track) → from ≤ track.cylinder → track.cylinder < end → wanted_weight track pending.now ≤ result)) }
+    ensures { (result ≡ most)
+        ⊎ ((result < most) × ((track : Track) → from ≤ track.cylinder → track.cylinder < end → wanted_weight track pending.now ≤ result)) }
 {
     if end - from > WIDE {
         return most;
@@ -278,7 +279,8 @@ fn most_passing(disk: &Disk, gap: &Gap, from: u32, end: u32, share: Ns) -> u64
     requires within { end ≤ disk.now.mechanism.cylinders }
     requires share { IsShare disk.now from end share }
     requires gap { IsGap disk.now gap.now }
-    ensures { (entries : List Registered) (spill : Spill) → ArePending disk.now entries → from ≤ spill.track.cylinder → spill.track.cylinder < end → IsSpill disk.now gap.entry.now spill
+    ensures { (entries : List Registered) (spill : Spill) → ArePending disk.now entries → from ≤ spill.track.cylinder
+        → spill.track.cylinder < end → IsSpill disk.now gap.entry.now spill
         → value disk.now gap.entry.now (wanted_of entries) spill ≤ result }
 {
     disk.map.geometry().sound();

@@ -76,7 +76,8 @@ fn end_low(bounds: &[u32], from: u32, end: u32, most: u32) -> u32
 // Lowers the bound with this index to the number, if it is greater. Out of memory, no bound has
 // changed.
 fn lower(bounds: &mut Vec<u32>, index: u32, sectors: u32) -> Result<(), NoMemory>
-    ensures ok { OnOk result ((k : ℕ) → get_or bounds.new.items k 2049 ≡ (if index == k then min (get_or bounds.old.items k 2049) sectors else get_or bounds.old.items k 2049)) }
+    ensures ok { OnOk result ((k : ℕ) → get_or bounds.new.items k 2049
+        ≡ (if index == k then min (get_or bounds.old.items k 2049) sectors else get_or bounds.old.items k 2049)) }
     ensures err { OnErr result ((k : ℕ) → get_or bounds.new.items k 2049 ≡ get_or bounds.old.items k 2049) }
 {
     let index = index as usize;
@@ -101,7 +102,8 @@ impl Shortest {
 
     // Lowers the bound of a cylinder to the sectors of a block. Out of memory, no bound has changed.
     pub fn lower(&mut self, cylinder: u32, sectors: u32) -> Result<(), NoMemory>
-        ensures ok { OnOk result ((c : ℕ) → get_or self.new c 2049 ≡ (if cylinder == c then min (get_or self.old c 2049) sectors else get_or self.old c 2049)) }
+        ensures ok { OnOk result ((c : ℕ)
+            → get_or self.new c 2049 ≡ (if cylinder == c then min (get_or self.old c 2049) sectors else get_or self.old c 2049)) }
         ensures err { OnErr result ((c : ℕ) → get_or self.new c 2049 ≡ get_or self.old c 2049) }
     {
         let band = cylinder / WIDTH;

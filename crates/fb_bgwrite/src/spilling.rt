@@ -106,7 +106,8 @@ impl<'a> Spilling<'a> {
     fn next_put(&self) -> Option<Put>
         ensures next { IfSome result (λ put. slice_get self.now.puts.now self.now.admitted ≡ Some put) }
         ensures come { IfSome result (λ put. put.instant ≤ self.now.instant) }
-        ensures none { IfNone result ((put : Put) → slice_get self.now.puts.now self.now.admitted ≡ Some put → self.now.instant < put.instant) }
+        ensures none { IfNone result ((put : Put) → slice_get self.now.puts.now self.now.admitted ≡ Some put
+            → self.now.instant < put.instant) }
     {
         match self.puts.get(self.admitted) {
             Some(put) => {
@@ -148,7 +149,8 @@ impl<'a> Spilling<'a> {
         ensures spilling { OnOk result (IsSpilling self.new) }
         ensures kept { OnOk result (HasKept self.old self.new) }
         ensures instant { OnOk result (self.new.instant ≡ self.old.instant) }
-        ensures items { OnOk result (self.new.items ≡ self.old.items ++ spill_rows self.old.disk.now row.now (wanted_of self.old.pending) spill) }
+        ensures items { OnOk result
+            (self.new.items ≡ self.old.items ++ spill_rows self.old.disk.now row.now (wanted_of self.old.pending) spill) }
     {
         let stay = stay_of(self.disk, &row.gap, spill);
         let found = self.pending.caught(self.alloc, self.disk, stay)?;
@@ -233,7 +235,8 @@ fn register_blocks(
     requires fits { put.first + put.count < 2 ^ 63 }
     requires room { length pending.old + put.count ≤ 16000000 }
     requires none { registered number (blocks_of pending.old) ≡ 0 }
-    ensures { OnOk result (pending.new ≡ pending.old ++ map wanted_entry (numbered number 1 0 (cutting sectors.now 2048 put.first put.count))) }
+    ensures { OnOk result
+        (pending.new ≡ pending.old ++ map wanted_entry (numbered number 1 0 (cutting sectors.now 2048 put.first put.count))) }
 {
     let mut span = sectors.span(put.first);
     let mut lbn = put.first;

@@ -60,7 +60,8 @@ pub record IsRange (disk : Shape) (first n : ℕ) : Type 0 where
 
 -- what a call may ask for after the calls before it
 abbrev pub MayAsk : Shape → List Call → ℕ → Action → Type 0
-MayAsk disk before task (Open kind weight block) = (task ≡ length (tasks before)) × (1 ≤ weight) × (weight ≤ 1000) × (1 ≤ block) × (block ≤ 2048)
+MayAsk disk before task (Open kind weight block) =
+    (task ≡ length (tasks before)) × (1 ≤ weight) × (weight ≤ 1000) × (1 ≤ block) × (block ≤ 2048)
 MayAsk disk before task (Want first count) = IsOpen before task × (is_clean (terms_of before task).kind ≡ false)
     × (is_backup (terms_of before task).kind && has_want before task ≡ false) × IsRange disk first count
 MayAsk disk before task (Abort first count) = IsOpen before task × (is_clean (terms_of before task).kind ≡ false) × IsRange disk first count
@@ -72,12 +73,14 @@ MayAsk disk before task _ = IsOpen before task
 -- each call obeys these rules after the calls before it
 abbrev pub AreAllowed : Shape → List Call → List Call → Type 0
 AreAllowed disk before [] = Unit {0}
-AreAllowed disk before (call ∷ calls) = (call.instant ≤ 10 ^ 15) × MayAsk disk before call.task call.action × AreAllowed disk (before ++ call ∷ []) calls
+AreAllowed disk before (call ∷ calls) =
+    (call.instant ≤ 10 ^ 15) × MayAsk disk before call.task call.action × AreAllowed disk (before ++ call ∷ []) calls
 
 -- into how many blocks the ranges and live blocks of the calls are cut
 abbrev pub blocks_from : Shape → List Call → List Call → ℕ
 blocks_from disk before [] = 0
-blocks_from disk before (call ∷ calls) = blocks_in disk (terms_of before call.task).block call.action + blocks_from disk (before ++ call ∷ []) calls
+blocks_from disk before (call ∷ calls) =
+    blocks_in disk (terms_of before call.task).block call.action + blocks_from disk (before ++ call ∷ []) calls
 
 -- the calls of a script for a trace of this many requests
 pub record IsScript (disk : Shape) (traced : ℕ) (calls : List Call) : Type 0 where

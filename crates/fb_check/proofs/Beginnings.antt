@@ -1,5 +1,6 @@
 -- How due lines begin and end.
-use Rattle.std.proofs.Common.{◌≡◌, ℕ, zero, suc, ◌-◌, ◌<◌, ◌%◌, ◌/◌, List, [], ◌∷◌, ◌++◌, length, take, false, refl, ap, sym, subst, ◌∙◌, arith, inl, inr, length-append}
+use Rattle.std.proofs.Common.{◌≡◌, ℕ, zero, suc, ◌-◌, ◌<◌, ◌%◌, ◌/◌, List, [], ◌∷◌, ◌++◌, length, take, false, refl, ap, sym, subst, ◌∙◌}
+use Rattle.std.proofs.Common.{arith, inl, inr, length-append}
 use Rattle.std.specs.Prelude.{◌==◌, nat_lt, decimal, codes}
 use Rattle.std.specs.List.{sum_by}
 use Rattle.std.proofs.lemmas.List.{take-append-le, take_all}
@@ -27,7 +28,8 @@ line_ended first fields = (with_fields first fields, refl)
 pub trimmed : (due line printed : List ℕ) → due ≡ ended line → take (length due - 1) due ≡ printed → due ≡ ended printed
 trimmed due line printed e t =
     let n : length due - 1 ≡ length line = omega (arith, ap length e, length-append line (10 ∷ [])) in
-    let front : printed ≡ line = sym t ∙ (ap (λ n. take n due) n ∙ (ap (take (length line)) e ∙ (take-append-le (length line) line (10 ∷ []) (omega arith) ∙ take_all (length line) line (omega arith)))) in
+    let front : printed ≡ line = sym t ∙ (ap (λ n. take n due) n ∙ (ap (take (length line)) e
+    ∙ (take-append-le (length line) line (10 ∷ []) (omega arith) ∙ take_all (length line) line (omega arith)))) in
     e ∙ ap ended (sym front)
 
 -- ---- the first byte
@@ -69,10 +71,12 @@ name_begins (Traced n) = digits_begin 63 n
 name_begins (Promoted n) = record { byte = 80; bytes = decimal n; is = refl; low = omega arith }
 
 fore_not_end_by : (text : List ℕ) (fields : List (List ℕ)) → BeginsRow text → BeginsLikeEnd (line_of text fields) → ⊥
-fore_not_end_by text fields row begins = not_end row.byte row.bytes fields (λ e. omega (arith, row.low)) (subst (λ t. BeginsLikeEnd (line_of t fields)) row.is begins)
+fore_not_end_by text fields row begins =
+    not_end row.byte row.bytes fields (λ e. omega (arith, row.low)) (subst (λ t. BeginsLikeEnd (line_of t fields)) row.is begins)
 
 pub fore_not_end : (size : ℕ) (bytes : Bytes) (row : ForeRow) → BeginsLikeEnd (fore_line size bytes row) → ⊥
-fore_not_end size bytes row = fore_not_end_by (name_text row.request.name) (row_fields row (row_bytes size bytes row)) (name_begins row.request.name)
+fore_not_end size bytes row =
+    fore_not_end_by (name_text row.request.name) (row_fields row (row_bytes size bytes row)) (name_begins row.request.name)
 
 -- the line of a background row: a word that isn't `end`, and fields
 record IsRowLine (text : List ℕ) : Type 0 where
@@ -83,23 +87,54 @@ record IsRowLine (text : List ℕ) : Type 0 where
   other : byte ≡ 101 → ⊥
 
 back_row_line : (names : List (List ℕ)) (size : ℕ) (bytes : Bytes) (row : BackRow) → IsRowLine (back_line names size bytes row)
-back_row_line names size bytes (Gap row) = record { byte = 103; bytes = codes "ap"; fields = gap_fields row; is = refl; other = λ e. omega arith }
-back_row_line names size bytes (Idle dwell) = record { byte = 105; bytes = codes "dle"; fields = track_text dwell.track ∷ decimal dwell.begin ∷ decimal dwell.end ∷ []; is = refl; other = λ e. omega arith }
-back_row_line names size bytes (Got row) = record { byte = 103; bytes = codes "ot"; fields = got_fields names row (shown bytes size row.content); is = refl; other = λ e. omega arith }
-back_row_line names size bytes (Bad row) = record { byte = 98; bytes = codes "ad"; fields = task_text names row.task ∷ decimal row.lbn ∷ []; is = refl; other = λ e. omega arith }
-back_row_line names size bytes (Seal row) = record {
-  byte = 115;
-  bytes = codes "eal";
-  fields = task_text names row.task ∷ decimal row.instant ∷ decimal (sum_by (λ run. run.count) row.content) ∷ digest_text bytes size row.content ∷ [];
+back_row_line names size bytes (Gap row) =
+    record { byte = 103; bytes = codes "ap"; fields = gap_fields row; is = refl; other = λ e. omega arith }
+back_row_line names size bytes (Idle dwell) = record {
+  byte = 105;
+  bytes = codes "dle";
+  fields = track_text dwell.track ∷ decimal dwell.begin ∷ decimal dwell.end ∷ [];
   is = refl;
   other = λ e. omega arith;
 }
-back_row_line names size bytes (Segment row) = record { byte = 115; bytes = codes "eg"; fields = segment_fields names row (digest_text bytes size row.content); is = refl; other = λ e. omega arith }
-back_row_line names size bytes (Complete row) = record { byte = 100; bytes = codes "one"; fields = task_text names row.task ∷ decimal row.instant ∷ []; is = refl; other = λ e. omega arith }
-back_row_line names size bytes (Task row) = record { byte = 116; bytes = codes "ask"; fields = task_fields names row; is = refl; other = λ e. omega arith }
+back_row_line names size bytes (Got row) = record {
+  byte = 103;
+  bytes = codes "ot";
+  fields = got_fields names row (shown bytes size row.content);
+  is = refl;
+  other = λ e. omega arith;
+}
+back_row_line names size bytes (Bad row) =
+    record { byte = 98; bytes = codes "ad"; fields = task_text names row.task ∷ decimal row.lbn ∷ []; is = refl; other = λ e. omega arith }
+back_row_line names size bytes (Seal row) = record {
+  byte = 115;
+  bytes = codes "eal";
+  fields = task_text names row.task ∷ decimal row.instant ∷ decimal (sum_by (λ run. run.count) row.content)
+      ∷ digest_text bytes size row.content ∷ [];
+  is = refl;
+  other = λ e. omega arith;
+}
+back_row_line names size bytes (Segment row) = record {
+  byte = 115;
+  bytes = codes "eg";
+  fields = segment_fields names row (digest_text bytes size row.content);
+  is = refl;
+  other = λ e. omega arith;
+}
+back_row_line names size bytes (Complete row) = record {
+  byte = 100;
+  bytes = codes "one";
+  fields = task_text names row.task ∷ decimal row.instant ∷ [];
+  is = refl;
+  other = λ e. omega arith;
+}
+back_row_line names size bytes (Task row) =
+    record { byte = 116; bytes = codes "ask"; fields = task_fields names row; is = refl; other = λ e. omega arith }
 
-pub back_ended : (names : List (List ℕ)) (size : ℕ) (bytes : Bytes) (row : BackRow) → (line : List ℕ) × (back_line names size bytes row ≡ ended line)
-back_ended names size bytes row = let line = back_row_line names size bytes row in (with_fields (line.byte ∷ line.bytes) line.fields, line.is)
+pub back_ended : (names : List (List ℕ)) (size : ℕ) (bytes : Bytes) (row : BackRow)
+    → (line : List ℕ) × (back_line names size bytes row ≡ ended line)
+back_ended names size bytes row = let line = back_row_line names size bytes row in
+    (with_fields (line.byte ∷ line.bytes) line.fields, line.is)
 
 pub back_not_end : (names : List (List ℕ)) (size : ℕ) (bytes : Bytes) (row : BackRow) → BeginsLikeEnd (back_line names size bytes row) → ⊥
-back_not_end names size bytes row begins = let line = back_row_line names size bytes row in not_end line.byte line.bytes line.fields line.other (subst BeginsLikeEnd line.is begins)
+back_not_end names size bytes row begins = let line = back_row_line names size bytes row in
+    not_end line.byte line.bytes line.fields line.other (subst BeginsLikeEnd line.is begins)

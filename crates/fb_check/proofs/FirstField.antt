@@ -13,15 +13,20 @@ abbrev pub agreeing : List (List ℕ) → List (List ℕ) → ℕ
 agreeing xs ys = prefix_len (λ p. bytes_eq p.0 p.1) (zip xs ys)
 
 differ_behind : (n : ℕ) (x y : List ℕ) (xs ys : List (List ℕ)) → x ≡ y → DifferFirstAt n xs ys → DifferFirstAt (1 + n) (x ∷ xs) (y ∷ ys)
-differ_behind n x y xs ys same h = let next : suc n ≡ 1 + n = omega arith in subst (λ m. DifferFirstAt m (x ∷ xs) (y ∷ ys)) next (record { before = let front = h.before in cc; there = h.there })
+differ_behind n x y xs ys same h = let next : suc n ≡ 1 + n = omega arith in
+    subst (λ m. DifferFirstAt m (x ∷ xs) (y ∷ ys)) next (record { before = let front = h.before in cc; there = h.there })
 
 pub differ_at : (xs ys : List (List ℕ)) → xs ≢ ys → DifferFirstAt (agreeing xs ys) xs ys
 differ_at [] [] differ = absurd (differ refl)
 differ_at [] (y ∷ ys) differ = record { before = refl; there = λ e. cc }
 differ_at (x ∷ xs) [] differ = record { before = refl; there = λ e. cc }
 differ_at (x ∷ xs) (y ∷ ys) differ = elim (cases_Bool (bytes_eq x y)) [
-  | inl same ↦ rw same (differ_behind _ x y xs ys ((bytes_eq-Decides x y).0 same) (differ_at xs ys (λ e. differ (let one = (bytes_eq-Decides x y).0 same in cc))))
-  | inr other ↦ rw other (record { before = refl; there = λ e. true≢false (sym ((bytes_eq-Decides x y).1 (let same : x ≡ y = cc e in same)) ∙ other) })
+  | inl same ↦ rw same (differ_behind _ x y xs ys ((bytes_eq-Decides x y).0 same)
+      (differ_at xs ys (λ e. differ (let one = (bytes_eq-Decides x y).0 same in cc))))
+  | inr other ↦ rw other (record {
+    before = refl;
+    there = λ e. true≢false (sym ((bytes_eq-Decides x y).1 (let same : x ≡ y = cc e in same)) ∙ other);
+  })
 ]
 
 pub few_agree : (xs ys : List (List ℕ)) → agreeing xs ys ≤ length ys
@@ -34,4 +39,5 @@ few_agree (x ∷ xs) (y ∷ ys) = elim (cases_Bool (bytes_eq x y)) [
 
 -- lines that differ have a field that does
 pub fields_differ : (due printed : List ℕ) → due ≢ printed → report_fields due ≢ report_fields printed
-fields_differ due printed differ = λ e. differ (sym (join_with_byte-slice_split 32 due) ∙ (ap (join_with_byte 32) e ∙ join_with_byte-slice_split 32 printed))
+fields_differ due printed differ =
+    λ e. differ (sym (join_with_byte-slice_split 32 due) ∙ (ap (join_with_byte 32) e ∙ join_with_byte-slice_split 32 printed))

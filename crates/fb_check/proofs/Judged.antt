@@ -1,5 +1,6 @@
 -- What was judged so far, from one decision to the next and at the end.
-use Rattle.std.proofs.Common.{◌≡◌, ℕ, suc, ◌+◌, ◌-◌, ◌<◌, List, [], ◌∷◌, ◌++◌, Bool, true, false, length, map, replicate, refl, ap, sym, subst, ◌∙◌, arith, append_assoc, length-append, Some, None}
+use Rattle.std.proofs.Common.{◌≡◌, ℕ, suc, ◌+◌, ◌-◌, ◌<◌, List, [], ◌∷◌, ◌++◌, Bool, true, false, length, map, replicate, refl, ap, sym}
+use Rattle.std.proofs.Common.{subst, ◌∙◌, arith, append_assoc, length-append, Some, None}
 use Rattle.std.specs.Prelude.{Option}
 use Rattle.std.specs.List.{AllByRecursion}
 use Rattle.std.proofs.lemmas.List.{map-append, length-map}
@@ -36,41 +37,58 @@ use Rattle.fb_check.proofs.Comparisons.{still_wrong, one_line, complete}
 
 -- ---- lines and rules of a whole report
 
-split_lines : {X Y : Type 0} (line : X → Y) (first last : Y) (rows rest : List X) → first ∷ (map line (rows ++ rest) ++ last ∷ []) ≡ (first ∷ map line rows) ++ (map line rest ++ last ∷ [])
-split_lines line first last rows rest = ap (λ lines. first ∷ lines) (ap (λ lines. lines ++ last ∷ []) (map-append line rows rest) ∙ append_assoc (map line rows) (map line rest) (last ∷ []))
+split_lines : {X Y : Type 0} (line : X → Y) (first last : Y) (rows rest : List X)
+    → first ∷ (map line (rows ++ rest) ++ last ∷ []) ≡ (first ∷ map line rows) ++ (map line rest ++ last ∷ [])
+split_lines line first last rows rest = ap (λ lines. first ∷ lines) (ap (λ lines. lines ++ last ∷ []) (map-append line rows rest)
+    ∙ append_assoc (map line rows) (map line rest) (last ∷ []))
 
-rules_behind : (rows : List ForeRow) → replicate {A = ℕ → Rule} (length rows + 1) (λ field. Foreground) ≡ map (λ (row : ForeRow) (field : ℕ). Foreground) rows ++ (λ field. Foreground) ∷ []
+rules_behind : (rows : List ForeRow) → replicate {A = ℕ → Rule} (length rows + 1) (λ field. Foreground)
+    ≡ map (λ (row : ForeRow) (field : ℕ). Foreground) rows ++ (λ field. Foreground) ∷ []
 rules_behind [] = refl
-rules_behind (row ∷ rows) = let next : length (row ∷ rows) + 1 ≡ suc (length rows + 1) = omega arith in ap (λ n. replicate {A = ℕ → Rule} n (λ field. Foreground)) next ∙ ap (λ rules. (λ field. Foreground) ∷ rules) (rules_behind rows)
+rules_behind (row ∷ rows) = let next : length (row ∷ rows) + 1 ≡ suc (length rows + 1) = omega arith in
+    ap (λ n. replicate {A = ℕ → Rule} n (λ field. Foreground)) next ∙ ap (λ rules. (λ field. Foreground) ∷ rules) (rules_behind rows)
 
-rules_are : (run : Run) → fore_rules run ≡ (λ field. Foreground) ∷ (map (λ (row : ForeRow) (field : ℕ). Foreground) run.fore ++ (λ field. Foreground) ∷ [])
-rules_are run = let next : length run.fore + 2 ≡ suc (length run.fore + 1) = omega arith in ap (λ n. replicate {A = ℕ → Rule} n (λ field. Foreground)) next ∙ ap (λ rules. (λ field. Foreground) ∷ rules) (rules_behind run.fore)
+rules_are : (run : Run)
+    → fore_rules run ≡ (λ field. Foreground) ∷ (map (λ (row : ForeRow) (field : ℕ). Foreground) run.fore ++ (λ field. Foreground) ∷ [])
+rules_are run = let next : length run.fore + 2 ≡ suc (length run.fore + 1) = omega arith in
+    ap (λ n. replicate {A = ℕ → Rule} n (λ field. Foreground)) next ∙ ap (λ rules. (λ field. Foreground) ∷ rules) (rules_behind run.fore)
 
 -- a wrong line among the first rows is one of the whole report
-fore_more : (size : ℕ) (bytes : Bytes) (run : Run) (rows rest : List ForeRow) (printed : List (List ℕ)) (mismatch : Mismatch) → rows ++ rest ≡ run.fore
-    → IsMismatch (fore_first ∷ map (fore_line size bytes) rows) ((λ field. Foreground) ∷ map (λ row field. Foreground) rows) printed mismatch → IsMismatch (fore_lines size bytes run) (fore_rules run) printed mismatch
+fore_more : (size : ℕ) (bytes : Bytes) (run : Run) (rows rest : List ForeRow) (printed : List (List ℕ)) (mismatch : Mismatch)
+    → rows ++ rest ≡ run.fore
+    → IsMismatch (fore_first ∷ map (fore_line size bytes) rows) ((λ field. Foreground)
+    ∷ map (λ row field. Foreground) rows) printed mismatch → IsMismatch (fore_lines size bytes run) (fore_rules run) printed mismatch
 unfolding fore_lines
 fore_more size bytes run rows rest printed mismatch e wrong =
     let last = fore_last (length run.fore) run.passed_over in
-    let lines = ap (λ rows. fore_first ∷ (map (fore_line size bytes) rows ++ last ∷ [])) (sym e) ∙ split_lines (fore_line size bytes) fore_first last rows rest in
-    let rules = rules_are run ∙ (ap (λ rows. (λ field. Foreground) ∷ (map (λ (row : ForeRow) (field : ℕ). Foreground) rows ++ (λ field. Foreground) ∷ [])) (sym e)
+    let lines = ap (λ rows. fore_first ∷ (map (fore_line size bytes) rows ++ last ∷ [])) (sym e)
+    ∙ split_lines (fore_line size bytes) fore_first last rows rest in
+    let rules = rules_are run
+    ∙ (ap (λ rows. (λ field. Foreground) ∷ (map (λ (row : ForeRow) (field : ℕ). Foreground) rows ++ (λ field. Foreground) ∷ [])) (sym e)
     ∙ split_lines {Y = ℕ → Rule} (λ (row : ForeRow) (field : ℕ). Foreground) (λ field. Foreground) (λ field. Foreground) rows rest) in
     subst (λ lines. IsMismatch lines (fore_rules run) printed mismatch) (sym lines)
-    (subst (λ rules. IsMismatch ((fore_first ∷ map (fore_line size bytes) rows) ++ (map (fore_line size bytes) rest ++ last ∷ [])) rules printed mismatch) (sym rules)
-    (still_wrong (fore_first ∷ map (fore_line size bytes) rows) (map (fore_line size bytes) rest ++ last ∷ []) ((λ field. Foreground) ∷ map (λ row field. Foreground) rows)
+    (subst (λ rules. IsMismatch ((fore_first ∷ map (fore_line size bytes) rows)
+    ++ (map (fore_line size bytes) rest ++ last ∷ [])) rules printed mismatch) (sym rules)
+    (still_wrong (fore_first ∷ map (fore_line size bytes) rows) (map (fore_line size bytes) rest ++ last ∷ [])
+    ((λ field. Foreground) ∷ map (λ row field. Foreground) rows)
     (map (λ row field. Foreground) rest ++ (λ field. Foreground) ∷ []) printed mismatch wrong))
 
 -- the whole report, where its last line was compared
 fore_whole : (size : ℕ) (bytes : Bytes) (run : Run) (printed : List (List ℕ)) (mismatch : Mismatch)
-    → IsMismatch ((fore_first ∷ map (fore_line size bytes) run.fore) ++ fore_last (length run.fore) run.passed_over ∷ []) (((λ field. Foreground) ∷ map (λ (row : ForeRow) field. Foreground) run.fore) ++ (λ field. Foreground) ∷ []) printed mismatch
+    → IsMismatch ((fore_first ∷ map (fore_line size bytes) run.fore) ++ fore_last (length run.fore) run.passed_over ∷ [])
+    (((λ field. Foreground) ∷ map (λ (row : ForeRow) field. Foreground) run.fore) ++ (λ field. Foreground) ∷ []) printed mismatch
     → IsMismatch (fore_lines size bytes run) (fore_rules run) printed mismatch
 unfolding fore_lines
-fore_whole size bytes run printed mismatch wrong = subst (λ rules. IsMismatch (fore_lines size bytes run) rules printed mismatch) (sym (rules_are run)) wrong
+fore_whole size bytes run printed mismatch wrong =
+    subst (λ rules. IsMismatch (fore_lines size bytes run) rules printed mismatch) (sym (rules_are run)) wrong
 
 -- what SoFar says of a wrong line
-named : (wrong : Option Mismatch) (mismatch : Mismatch) (due : List (List ℕ)) (rules : List (ℕ → Rule)) (comparison : Comparison) → comparison.wrong ≡ Some mismatch
-    → SoFar comparison.wrong due rules comparison.report comparison.lines.now comparison.same → IsMismatch due rules comparison.lines.now mismatch × (mismatch.report ≡ comparison.report)
-named wrong mismatch due rules comparison e so_far = subst (λ w. SoFar w due rules comparison.report comparison.lines.now comparison.same) e so_far
+named : (wrong : Option Mismatch) (mismatch : Mismatch) (due : List (List ℕ)) (rules : List (ℕ → Rule)) (comparison : Comparison)
+    → comparison.wrong ≡ Some mismatch
+    → SoFar comparison.wrong due rules comparison.report comparison.lines.now comparison.same
+    → IsMismatch due rules comparison.lines.now mismatch × (mismatch.report ≡ comparison.report)
+named wrong mismatch due rules comparison e so_far =
+    subst (λ w. SoFar w due rules comparison.report comparison.lines.now comparison.same) e so_far
 
 apart : (report : Report) → report ≡ Fore → report ≡ Back → ⊥
 apart report f b = back_fore (sym f ∙ b)
@@ -80,8 +98,10 @@ apart report f b = back_fore (sym f ∙ b)
 
 module _ (inputs : Inputs) (printed : Reports) where
   -- before the first decision
-  pub at_first : (list : List Request) (course : Course) (pending : List Request) (count : ℕ) (fore back : Comparison) → HasMade inputs true [] list course pending count → course.fore ≡ [] → course.background.rows ≡ []
-      → HasComparedFore inputs.disk.sector_bytes printed.bytes printed.fore fore [] → HasComparedBack printed.names inputs.disk.sector_bytes printed.bytes printed.back back [] → IsReady fore → IsReady back
+  pub at_first : (list : List Request) (course : Course) (pending : List Request) (count : ℕ) (fore back : Comparison)
+      → HasMade inputs true [] list course pending count → course.fore ≡ [] → course.background.rows ≡ []
+      → HasComparedFore inputs.disk.sector_bytes printed.bytes printed.fore fore []
+      → HasComparedBack printed.names inputs.disk.sector_bytes printed.bytes printed.back back [] → IsReady fore → IsReady back
       → HasJudged inputs printed true list course pending count fore back
   at_first list course pending count fore back made no_fore no_back fore_compared back_compared fore_ready back_ready = record {
     steps = [];
@@ -98,29 +118,40 @@ module _ (inputs : Inputs) (printed : Reports) where
   }
 
   -- where another decision follows, and where none does
-  pub going : (more was : Bool) (list : List Request) (course : Course) (pending : List Request) (count : ℕ) (fore back : Comparison) → was ≡ more → HasJudged inputs printed was list course pending count fore back → HasJudged inputs printed more list course pending count fore back
-  going more was list course pending count fore back e judged = subst (λ b. HasJudged inputs printed b list course pending count fore back) e judged
+  pub going : (more was : Bool) (list : List Request) (course : Course) (pending : List Request) (count : ℕ) (fore back : Comparison)
+      → was ≡ more → HasJudged inputs printed was list course pending count fore back
+      → HasJudged inputs printed more list course pending count fore back
+  going more was list course pending count fore back e judged =
+      subst (λ b. HasJudged inputs printed b list course pending count fore back) e judged
 
   -- a wrong foreground line
-  pub fore_wrong : DecisionsMakeARun → (more : Bool) (steps : List Step) (list : List Request) (course : Course) (pending : List Request) (count : ℕ) (rows : List ForeRow) (back : List BackRow) (fore : Comparison) (mismatch : Mismatch)
-      → HasMade inputs more steps list course pending count → AreRowsOf inputs steps rows back → HasComparedFore inputs.disk.sector_bytes printed.bytes printed.fore fore rows → fore.wrong ≡ Some mismatch
+  pub fore_wrong : DecisionsMakeARun → (more : Bool) (steps : List Step) (list : List Request) (course : Course) (pending : List Request)
+      (count : ℕ) (rows : List ForeRow) (back : List BackRow) (fore : Comparison) (mismatch : Mismatch)
+      → HasMade inputs more steps list course pending count → AreRowsOf inputs steps rows back
+      → HasComparedFore inputs.disk.sector_bytes printed.bytes printed.fore fore rows → fore.wrong ≡ Some mismatch
       → IsVerdict inputs printed (No mismatch)
   fore_wrong law more steps list course pending count rows back fore mismatch made are compared wrong =
       let due : List (List ℕ) = fore_first ∷ map (fore_line inputs.disk.sector_bytes printed.bytes) rows in
       let rules : List (ℕ → Rule) = (λ field. Foreground) ∷ map (λ row field. Foreground) rows in
       let known = named fore.wrong mismatch due rules fore wrong compared.so_far in
       let rest = law.begin inputs more steps list course pending count rows back made are in (
-        λ is_fore run plain. fore_more inputs.disk.sector_bytes printed.bytes run rows rest.0 printed.fore mismatch (rest.1 ∙ sym plain.fore) (subst (λ lines. IsMismatch due rules lines mismatch) compared.lines_are known.0),
+        λ is_fore run plain. fore_more inputs.disk.sector_bytes printed.bytes run rows rest.0 printed.fore mismatch
+            (rest.1 ∙ sym plain.fore) (subst (λ lines. IsMismatch due rules lines mismatch) compared.lines_are known.0),
         λ is_back. absurd (apart mismatch.report (known.1 ∙ compared.report_is) is_back),
       )
 
 -- where the list of requests is the same
-pub kept : (inputs : Inputs) (more : Bool) (steps : List Step) (list now_list : List Request) (course : Course) (pending : List Request) (count : ℕ) → now_list ≡ list → HasMade inputs more steps list course pending count → HasMade inputs more steps now_list course pending count
-kept inputs more steps list now_list course pending count e made = subst (λ list. HasMade inputs more steps list course pending count) (sym e) made
+pub kept : (inputs : Inputs) (more : Bool) (steps : List Step) (list now_list : List Request)
+    (course : Course) (pending : List Request) (count : ℕ) → now_list ≡ list → HasMade inputs more steps list course pending count
+    → HasMade inputs more steps now_list course pending count
+kept inputs more steps list now_list course pending count e made =
+    subst (λ list. HasMade inputs more steps list course pending count) (sym e) made
 
 -- how many decisions are left follows from those that have been made
-same_left : (inputs : Inputs) (more : Bool) (steps : List Step) (list now_list : List Request) (course now : Course) (pending now_pending : List Request) (count now_count : ℕ)
-    → HasMade inputs more steps list course pending count → HasMade inputs more steps now_list now now_pending now_count → decisions_left inputs more now now_pending ≡ decisions_left inputs more course pending
+same_left : (inputs : Inputs) (more : Bool) (steps : List Step) (list now_list : List Request) (course now : Course)
+    (pending now_pending : List Request) (count now_count : ℕ)
+    → HasMade inputs more steps list course pending count → HasMade inputs more steps now_list now now_pending now_count
+    → decisions_left inputs more now now_pending ≡ decisions_left inputs more course pending
 same_left inputs true steps list now_list course now pending now_pending count now_count made after =
     omega (
       arith,
@@ -131,43 +162,60 @@ same_left inputs true steps list now_list course now pending now_pending count n
     )
 same_left inputs false steps list now_list course now pending now_pending count now_count made after = refl
 
-module _ (inputs : Inputs) (printed : Reports) (more : Bool) (list : List Request) (before after : Course) (pending pending_after : List Request) (count count_after : ℕ) (fore back : Comparison)
-    (judged : HasJudged inputs printed true list before pending count fore back) (one : HasMadeOne inputs judged.steps more list before pending after pending_after count_after) where
+module _ (inputs : Inputs) (printed : Reports) (more : Bool) (list : List Request) (before after : Course)
+    (pending pending_after : List Request) (count count_after : ℕ) (fore back : Comparison)
+    (judged : HasJudged inputs printed true list before pending count fore back)
+    (one : HasMadeOne inputs judged.steps more list before pending after pending_after count_after) where
   pub fore_taken : (taken : List ForeRow) → taken ≡ after.fore → taken ≡ fore_row_of (medium_of inputs) (decision_in one.step)
   fore_taken taken e = e ∙ (one.fore ∙ ap (λ rows. rows ++ fore_row_of (medium_of inputs) (decision_in one.step)) judged.no_fore)
 
   pub back_taken : (taken : List BackRow) → taken ≡ after.background.rows → taken ≡ step_rows inputs.disk one.step
   back_taken taken e = e ∙ (one.back ∙ ap (λ rows. rows ++ step_rows inputs.disk one.step) judged.no_back)
 
-  pub back_named : (names : List (List ℕ)) (taken : List BackRow) → length names ≡ length (allowed.tasks inputs.calls) → taken ≡ after.background.rows → AllByRecursion (HasNamedTask names) taken
-  back_named names taken n e = all_weaker (RowFits (length (allowed.tasks inputs.calls))) (HasNamedTask names) (λ row fits. fits names n) taken
+  pub back_named : (names : List (List ℕ)) (taken : List BackRow) → length names ≡ length (allowed.tasks inputs.calls)
+      → taken ≡ after.background.rows → AllByRecursion (HasNamedTask names) taken
+  back_named names taken n e =
+      all_weaker (RowFits (length (allowed.tasks inputs.calls))) (HasNamedTask names) (λ row fits. fits names n) taken
       (subst (AllByRecursion (RowFits (length (allowed.tasks inputs.calls)))) (sym (back_taken taken e)) one.back_fits)
 
-  pub less : (was : Bool) → was ≡ true → (now_list : List Request) (now : Course) (now_pending : List Request) (now_count : ℕ) → HasMade inputs more (judged.steps ++ one.step ∷ []) now_list now now_pending now_count
+  pub less : (was : Bool) → was ≡ true → (now_list : List Request) (now : Course) (now_pending : List Request) (now_count : ℕ)
+      → HasMade inputs more (judged.steps ++ one.step ∷ []) now_list now now_pending now_count
       → decisions_left inputs more now now_pending < decisions_left inputs was before pending
   less was e now_list now now_pending now_count made =
       let fewer = one.fewer in
-      let same = same_left inputs more (judged.steps ++ one.step ∷ []) list now_list after now pending_after now_pending count_after now_count one.made made in
-      subst (λ n. n < decisions_left inputs was before pending) (sym same) (subst (λ b. decisions_left inputs more after pending_after < decisions_left inputs b before pending) (sym e) fewer)
+      let same = same_left inputs more (judged.steps ++ one.step
+      ∷ []) list now_list after now pending_after now_pending count_after now_count one.made made in
+      subst (λ n. n < decisions_left inputs was before pending) (sym same)
+      (subst (λ b. decisions_left inputs more after pending_after < decisions_left inputs b before pending) (sym e) fewer)
 
   module _ (law : DecisionsMakeARun) where
-    more_rows : AreRowsOf inputs (judged.steps ++ one.step ∷ []) (judged.fore_rows ++ fore_row_of (medium_of inputs) (decision_in one.step)) (judged.back_rows ++ step_rows inputs.disk one.step)
+    more_rows : AreRowsOf inputs (judged.steps ++ one.step ∷ []) (judged.fore_rows ++ fore_row_of (medium_of inputs) (decision_in one.step))
+        (judged.back_rows ++ step_rows inputs.disk one.step)
     more_rows = law.go_on inputs judged.steps one.step judged.fore_rows judged.back_rows judged.rows one.is_made
 
-    compared : (taken : List ForeRow) (fore_after : Comparison) → taken ≡ after.fore → HasComparedFore inputs.disk.sector_bytes printed.bytes printed.fore fore_after (judged.fore_rows ++ taken)
-        → HasComparedFore inputs.disk.sector_bytes printed.bytes printed.fore fore_after (judged.fore_rows ++ fore_row_of (medium_of inputs) (decision_in one.step))
-    compared taken fore_after e h = subst (λ rows. HasComparedFore inputs.disk.sector_bytes printed.bytes printed.fore fore_after (judged.fore_rows ++ rows)) (fore_taken taken e) h
+    compared : (taken : List ForeRow) (fore_after : Comparison) → taken ≡ after.fore
+        → HasComparedFore inputs.disk.sector_bytes printed.bytes printed.fore fore_after (judged.fore_rows ++ taken)
+        → HasComparedFore inputs.disk.sector_bytes printed.bytes printed.fore fore_after
+        (judged.fore_rows ++ fore_row_of (medium_of inputs) (decision_in one.step))
+    compared taken fore_after e h =
+        subst (λ rows. HasComparedFore inputs.disk.sector_bytes printed.bytes printed.fore fore_after (judged.fore_rows ++ rows))
+        (fore_taken taken e) h
 
     -- a wrong foreground line among the rows of one more decision
-    pub wrong_now : (taken : List ForeRow) (fore_after : Comparison) (mismatch : Mismatch) → taken ≡ after.fore → HasComparedFore inputs.disk.sector_bytes printed.bytes printed.fore fore_after (judged.fore_rows ++ taken)
+    pub wrong_now : (taken : List ForeRow) (fore_after : Comparison) (mismatch : Mismatch) → taken ≡ after.fore
+        → HasComparedFore inputs.disk.sector_bytes printed.bytes printed.fore fore_after (judged.fore_rows ++ taken)
         → fore_after.wrong ≡ Some mismatch → IsVerdict inputs printed (No mismatch)
-    wrong_now taken fore_after mismatch e h wrong = fore_wrong inputs printed law more _ list after pending_after count_after _ _ fore_after mismatch one.made more_rows (compared taken fore_after e h) wrong
+    wrong_now taken fore_after mismatch e h wrong = fore_wrong inputs printed law more _ list after pending_after count_after _ _ fore_after
+        mismatch one.made more_rows (compared taken fore_after e h) wrong
 
     -- one more decision
-    pub next : (now_list : List Request) (now : Course) (now_pending : List Request) (now_count : ℕ) → HasMade inputs more (judged.steps ++ one.step ∷ []) now_list now now_pending now_count → now.fore ≡ [] → now.background.rows ≡ []
+    pub next : (now_list : List Request) (now : Course) (now_pending : List Request) (now_count : ℕ)
+        → HasMade inputs more (judged.steps ++ one.step ∷ []) now_list now now_pending now_count → now.fore ≡ [] → now.background.rows ≡ []
         → (fore_new : List ForeRow) (back_new : List BackRow) → fore_new ≡ after.fore → back_new ≡ after.background.rows
-        → (fore_after back_after : Comparison) → HasComparedFore inputs.disk.sector_bytes printed.bytes printed.fore fore_after (judged.fore_rows ++ fore_new)
-        → HasComparedBack printed.names inputs.disk.sector_bytes printed.bytes printed.back back_after (judged.back_rows ++ back_new) → IsReady fore_after → IsReady back_after
+        → (fore_after back_after : Comparison)
+        → HasComparedFore inputs.disk.sector_bytes printed.bytes printed.fore fore_after (judged.fore_rows ++ fore_new)
+        → HasComparedBack printed.names inputs.disk.sector_bytes printed.bytes printed.back back_after (judged.back_rows ++ back_new)
+        → IsReady fore_after → IsReady back_after
         → HasJudged inputs printed more now_list now now_pending now_count fore_after back_after
     next now_list now now_pending now_count made no_fore no_back fore_new back_new f b fore_after back_after fore_h back_h fore_ready back_ready = record {
       steps = judged.steps ++ one.step ∷ [];
@@ -178,7 +226,8 @@ module _ (inputs : Inputs) (printed : Reports) (more : Bool) (list : List Reques
       back_rows = judged.back_rows ++ step_rows inputs.disk one.step;
       rows = more_rows;
       fore_compared = compared fore_new fore_after f fore_h;
-      back_compared = subst (λ rows. HasComparedBack printed.names inputs.disk.sector_bytes printed.bytes printed.back back_after (judged.back_rows ++ rows)) (back_taken back_new b) back_h;
+      back_compared = subst (λ rows. HasComparedBack printed.names inputs.disk.sector_bytes printed.bytes printed.back back_after
+          (judged.back_rows ++ rows)) (back_taken back_new b) back_h;
       fore_ready = fore_ready;
       back_ready = back_ready;
     }
@@ -189,7 +238,8 @@ pub none_by : (wrong : Option Mismatch) → ((mismatch : Mismatch) → wrong ≡
 none_by None h = refl
 none_by (Some mismatch) h = absurd (h mismatch refl)
 
-module _ (inputs : Inputs) (printed : Reports) (list : List Request) (course : Course) (pending : List Request) (count : ℕ) (fore back : Comparison) (judged : HasJudged inputs printed false list course pending count fore back) where
+module _ (inputs : Inputs) (printed : Reports) (list : List Request) (course : Course) (pending : List Request) (count : ℕ)
+    (fore back : Comparison) (judged : HasJudged inputs printed false list course pending count fore back) where
   abbrev due_fore : List (List ℕ)
   due_fore = fore_first ∷ map (fore_line inputs.disk.sector_bytes printed.bytes) judged.fore_rows
 
@@ -197,7 +247,12 @@ module _ (inputs : Inputs) (printed : Reports) (list : List Request) (course : C
   fore_kept = (λ field. Foreground) ∷ map (λ (row : ForeRow) field. Foreground) judged.fore_rows
 
   abbrev full_run : Run
-  full_run = record { fore = judged.fore_rows; back = judged.back_rows ++ task_rows (history inputs judged.steps); passed_over = inputs.passed_over; end = run_end (decisions inputs) }
+  full_run = record {
+    fore = judged.fore_rows;
+    back = judged.back_rows ++ task_rows (history inputs judged.steps);
+    passed_over = inputs.passed_over;
+    end = run_end (decisions inputs);
+  }
 
   counted : fore.wrong ≡ None → fore.same - 1 ≡ length judged.fore_rows
   counted right =
@@ -209,19 +264,29 @@ module _ (inputs : Inputs) (printed : Reports) (list : List Request) (course : C
       let so_far = subst (λ w. SoFar w due_fore fore_kept fore.report fore.lines.now fore.same) right judged.fore_compared.so_far in
       omega (arith, so_far.count)
 
-  module _ (law : DecisionsMakeARun) (right : fore.wrong ≡ None) (after : Comparison) (one : HasComparedOne (λ field. Foreground) (fore_last (fore.same - 1) inputs.passed_over) fore after) where
+  module _ (law : DecisionsMakeARun) (right : fore.wrong ≡ None) (after : Comparison)
+      (one : HasComparedOne (λ field. Foreground) (fore_last (fore.same - 1) inputs.passed_over) fore after) where
     -- the last foreground line is wrong
     pub last_wrong : (mismatch : Mismatch) → after.wrong ≡ Some mismatch → IsVerdict inputs printed (No mismatch)
     last_wrong mismatch wrong =
-        let so_far = one_line due_fore fore_kept (fore_last (fore.same - 1) inputs.passed_over) (λ field. Foreground) fore after judged.fore_compared.so_far one in
-        let known = named after.wrong mismatch (due_fore ++ fore_last (fore.same - 1) inputs.passed_over ∷ []) (fore_kept ++ (λ field. Foreground) ∷ []) after wrong so_far in
-        let there = subst (λ lines. IsMismatch (due_fore ++ fore_last (fore.same - 1) inputs.passed_over ∷ []) (fore_kept ++ (λ field. Foreground) ∷ []) lines mismatch) (one.lines ∙ judged.fore_compared.lines_are) known.0 in (
+        let so_far = one_line due_fore fore_kept (fore_last (fore.same - 1) inputs.passed_over)
+        (λ field. Foreground) fore after judged.fore_compared.so_far one in
+        let known = named after.wrong mismatch (due_fore ++ fore_last (fore.same - 1) inputs.passed_over ∷ []) (fore_kept
+        ++ (λ field. Foreground) ∷ []) after wrong so_far in
+        let there = subst (λ lines. IsMismatch (due_fore ++ fore_last (fore.same - 1) inputs.passed_over ∷ [])
+        (fore_kept ++ (λ field. Foreground) ∷ []) lines mismatch) (one.lines ∙ judged.fore_compared.lines_are) known.0 in (
           λ is_fore run plain.
-              let rows = law.end inputs judged.steps list course pending count judged.fore_rows judged.back_rows judged.made judged.rows ∙ sym plain.fore in
-              let last = ap (λ n. fore_last n inputs.passed_over) (counted right ∙ ap length rows) ∙ ap (fore_last (length run.fore)) (sym plain.passed_over) in
+              let rows = law.end inputs judged.steps list course pending count judged.fore_rows judged.back_rows judged.made judged.rows
+              ∙ sym plain.fore in
+              let last = ap (λ n. fore_last n inputs.passed_over) (counted right ∙ ap length rows)
+              ∙ ap (fore_last (length run.fore)) (sym plain.passed_over) in
               fore_whole inputs.disk.sector_bytes printed.bytes run printed.fore mismatch
-              (subst (λ last. IsMismatch ((fore_first ∷ map (fore_line inputs.disk.sector_bytes printed.bytes) run.fore) ++ last ∷ []) (((λ field. Foreground) ∷ map (λ (row : ForeRow) field. Foreground) run.fore) ++ (λ field. Foreground) ∷ []) printed.fore mismatch) last
-              (subst (λ rows. IsMismatch ((fore_first ∷ map (fore_line inputs.disk.sector_bytes printed.bytes) rows) ++ fore_last (fore.same - 1) inputs.passed_over ∷ []) (((λ field. Foreground) ∷ map (λ (row : ForeRow) field. Foreground) rows) ++ (λ field. Foreground) ∷ []) printed.fore mismatch) rows there)),
+              (subst (λ last. IsMismatch ((fore_first ∷ map (fore_line inputs.disk.sector_bytes printed.bytes) run.fore) ++ last ∷ [])
+              (((λ field. Foreground) ∷ map (λ (row : ForeRow) field. Foreground) run.fore) ++ (λ field. Foreground)
+              ∷ []) printed.fore mismatch) last
+              (subst (λ rows. IsMismatch ((fore_first ∷ map (fore_line inputs.disk.sector_bytes printed.bytes) rows)
+              ++ fore_last (fore.same - 1) inputs.passed_over ∷ []) (((λ field. Foreground)
+              ∷ map (λ (row : ForeRow) field. Foreground) rows) ++ (λ field. Foreground) ∷ []) printed.fore mismatch) rows there)),
           λ is_back. absurd (apart mismatch.report (known.1 ∙ (one.report ∙ judged.fore_compared.report_is)) is_back),
         )
 
@@ -230,11 +295,14 @@ module _ (inputs : Inputs) (printed : Reports) (list : List Request) (course : C
     unfolding fore_lines
     fore_right end_right =
         ap (λ n. due_fore ++ fore_last n inputs.passed_over ∷ []) (sym (counted right))
-        ∙ (complete due_fore fore_kept (fore_last (fore.same - 1) inputs.passed_over) (λ field. Foreground) fore after judged.fore_compared.so_far one judged.fore_ready (_, refl) end_right
+        ∙ (complete due_fore fore_kept (fore_last (fore.same - 1) inputs.passed_over)
+        (λ field. Foreground) fore after judged.fore_compared.so_far one judged.fore_ready (_, refl) end_right
         ∙ ap (map ended) judged.fore_compared.lines_are)
 
-    module _ (end_right : after.wrong ≡ None) (rows : List BackRow) (rows_are : rows ≡ task_rows (history inputs judged.steps)) (between ended_back : Comparison) (end : ℕ) (end_is : end ≡ run_end (decisions inputs))
-        (compared : HasComparedBack printed.names inputs.disk.sector_bytes printed.bytes printed.back between (judged.back_rows ++ rows)) (ready : IsReady between) (last : HasComparedOne (λ field. End) (back_last end) between ended_back) where
+    module _ (end_right : after.wrong ≡ None) (rows : List BackRow) (rows_are : rows ≡ task_rows (history inputs judged.steps))
+        (between ended_back : Comparison) (end : ℕ) (end_is : end ≡ run_end (decisions inputs))
+        (compared : HasComparedBack printed.names inputs.disk.sector_bytes printed.bytes printed.back between (judged.back_rows ++ rows))
+        (ready : IsReady between) (last : HasComparedOne (λ field. End) (back_last end) between ended_back) where
       abbrev due_back : List (List ℕ)
       due_back = back_first ∷ map (back_line printed.names inputs.disk.sector_bytes printed.bytes) (judged.back_rows ++ rows)
 
@@ -251,20 +319,29 @@ module _ (inputs : Inputs) (printed : Reports) (list : List Request) (course : C
         run = full_run;
         full = is_full;
         fore = fore_right end_right;
-        back = subst (λ tasks. back_first ∷ (map (back_line printed.names inputs.disk.sector_bytes printed.bytes) (judged.back_rows ++ tasks) ++ back_last (run_end (decisions inputs)) ∷ []) ≡ map ended printed.back) rows_are
+        back =
+            subst (λ tasks. back_first ∷ (map (back_line printed.names inputs.disk.sector_bytes printed.bytes) (judged.back_rows ++ tasks)
+            ++ back_last (run_end (decisions inputs)) ∷ []) ≡ map ended printed.back) rows_are
             (ap (λ e. due_back ++ back_last e ∷ []) (sym end_is)
             ∙ (complete due_back back_kept (back_last end) (λ field. End) between ended_back compared.so_far last ready (_, refl) back_right
             ∙ ap (map ended) compared.lines_are));
       }
 
-      back_mismatch : (mismatch : Mismatch) → ended_back.wrong ≡ Some mismatch → IsMismatch (back_lines printed.names inputs.disk.sector_bytes printed.bytes full_run) (back_rules full_run) printed.back mismatch × (mismatch.report ≡ Back)
+      back_mismatch : (mismatch : Mismatch) → ended_back.wrong ≡ Some mismatch → IsMismatch (back_lines printed.names
+          inputs.disk.sector_bytes printed.bytes full_run) (back_rules full_run) printed.back mismatch × (mismatch.report ≡ Back)
       unfolding back_lines
       back_mismatch mismatch wrong =
           let so_far = one_line due_back back_kept (back_last end) (λ field. End) between ended_back compared.so_far last in
-          let known = named ended_back.wrong mismatch (due_back ++ back_last end ∷ []) (back_kept ++ (λ field. End) ∷ []) ended_back wrong so_far in (
-            subst (λ lines. IsMismatch (back_lines printed.names inputs.disk.sector_bytes printed.bytes full_run) (back_rules full_run) lines mismatch) (last.lines ∙ compared.lines_are)
-                (subst (λ e. IsMismatch (back_first ∷ (map (back_line printed.names inputs.disk.sector_bytes printed.bytes) full_run.back ++ back_last e ∷ [])) (back_rules full_run) ended_back.lines.now mismatch) end_is
-                (subst (λ tasks. IsMismatch (back_first ∷ (map (back_line printed.names inputs.disk.sector_bytes printed.bytes) (judged.back_rows ++ tasks) ++ back_last end ∷ [])) ((λ field. Timeline) ∷ (map back_rule (judged.back_rows ++ tasks) ++ (λ field. End) ∷ [])) ended_back.lines.now mismatch) rows_are known.0)),
+          let known =
+          named ended_back.wrong mismatch (due_back ++ back_last end ∷ []) (back_kept ++ (λ field. End) ∷ []) ended_back wrong so_far in (
+            subst (λ lines. IsMismatch (back_lines printed.names inputs.disk.sector_bytes printed.bytes full_run)
+                (back_rules full_run) lines mismatch) (last.lines ∙ compared.lines_are)
+                (subst (λ e. IsMismatch (back_first ∷ (map (back_line printed.names inputs.disk.sector_bytes printed.bytes) full_run.back
+                ++ back_last e ∷ [])) (back_rules full_run) ended_back.lines.now mismatch) end_is
+                (subst (λ tasks. IsMismatch (back_first
+                ∷ (map (back_line printed.names inputs.disk.sector_bytes printed.bytes) (judged.back_rows ++ tasks) ++ back_last end ∷ []))
+                ((λ field. Timeline) ∷ (map back_rule (judged.back_rows ++ tasks) ++ (λ field. End) ∷ [])) ended_back.lines.now mismatch)
+                rows_are known.0)),
             known.1 ∙ (last.report ∙ compared.report_is),
           )
 
@@ -272,7 +349,12 @@ module _ (inputs : Inputs) (printed : Reports) (list : List Request) (course : C
       pub back_wrong : (mismatch : Mismatch) → ended_back.wrong ≡ Some mismatch → IsVerdict inputs printed (No mismatch)
       back_wrong mismatch wrong =
           let both = back_mismatch mismatch wrong in
-          (λ is_fore. absurd (apart mismatch.report is_fore both.1), λ is_back. record { run = full_run; full = is_full; fore = fore_right end_right; wrong = both.0 })
+          (
+            λ is_fore. absurd (apart mismatch.report is_fore both.1),
+            λ is_back. record { run = full_run; full = is_full; fore = fore_right end_right; wrong = both.0 },
+          )
 
-pub tasks_named : (n : ℕ) (names : List (List ℕ)) (rows tasks : List BackRow) → length names ≡ n → rows ≡ tasks → AllByRecursion (RowFits n) tasks → AllByRecursion (HasNamedTask names) rows
-tasks_named n names rows tasks few e fits = all_weaker (RowFits n) (HasNamedTask names) (λ row fits. fits names few) rows (subst (AllByRecursion (RowFits n)) (sym e) fits)
+pub tasks_named : (n : ℕ) (names : List (List ℕ)) (rows tasks : List BackRow) → length names ≡ n → rows ≡ tasks
+    → AllByRecursion (RowFits n) tasks → AllByRecursion (HasNamedTask names) rows
+tasks_named n names rows tasks few e fits =
+    all_weaker (RowFits n) (HasNamedTask names) (λ row fits. fits names few) rows (subst (AllByRecursion (RowFits n)) (sym e) fits)

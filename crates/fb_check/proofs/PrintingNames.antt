@@ -33,16 +33,19 @@ entry_named (time ∷ verb ∷ name ∷ more) entry given =
     let whole = passed BadLine (not (known && is_name name)) _ entry given in
     let instant = both_ok (or_refuse BadTime (millis_of time)) _ entry whole.1 in
     let inputs = both_ok (asked_by (verb_of verb) more) _ entry instant.2 in
-    subst (λ (read : Entry). is_name read.name ≡ true) (same_Ok (record { instant = instant.0; name = name; inputs = inputs.0 }) entry inputs.2)
+    subst (λ (read : Entry). is_name read.name ≡ true)
+    (same_Ok (record { instant = instant.0; name = name; inputs = inputs.0 }) entry inputs.2)
     (and_parts known (is_name name) (not-false (known && is_name name) whole.0)).1
 
 -- an open adds its name
-named_after : (names : List (List ℕ)) (name : List ℕ) (action : Action) → is_name name ≡ true → AreNames names → AreNames (names_after names name action)
+named_after : (names : List (List ℕ)) (name : List ℕ) (action : Action) → is_name name ≡ true → AreNames names
+    → AreNames (names_after names name action)
 named_after names name (Open kind weight block) named all = all_append (λ name. is_name name ≡ true) names (name ∷ []) all (named, tt)
 named_after names name _ named all = all
 
 module _ (disk : Shape) where
-  line_named : (number : ℕ) (so_far next : Progress) (fields : List (List ℕ)) → AreNames so_far.names → line_read disk number so_far fields ≡ Ok next → AreNames next.names
+  line_named : (number : ℕ) (so_far next : Progress) (fields : List (List ℕ)) → AreNames so_far.names
+      → line_read disk number so_far fields ≡ Ok next → AreNames next.names
   unfolding line_read
   line_named number so_far next [] all given = subst (λ (progress : Progress). AreNames progress.names) (same_Ok so_far next given) all
   line_named number so_far next (field ∷ fields) all given =
@@ -51,9 +54,11 @@ module _ (disk : Shape) where
       subst (λ (progress : Progress). AreNames progress.names) (same_Ok (with_call disk entry.0.name so_far call.0) next call.2)
       (named_after so_far.names entry.0.name call.0.action (entry_named (field ∷ fields) entry.0 entry.1) all)
 
-  lines_named : (number : ℕ) (so_far : Progress) (lines : List (List ℕ)) (script : Accepted) → AreNames so_far.names → lines_from disk number so_far lines ≡ Ok script → AreNames script.names
+  lines_named : (number : ℕ) (so_far : Progress) (lines : List (List ℕ)) (script : Accepted) → AreNames so_far.names
+      → lines_from disk number so_far lines ≡ Ok script → AreNames script.names
   unfolding lines_from
-  lines_named number so_far [] script all given = subst (λ (script : Accepted). AreNames script.names) (same_Ok (at_end so_far) script given) all
+  lines_named number so_far [] script all given =
+      subst (λ (script : Accepted). AreNames script.names) (same_Ok (at_end so_far) script given) all
   lines_named number so_far (line ∷ lines) script all given =
       let next = both_ok (next_progress disk number so_far line) _ script given in
       let step = step_ok (fault_at number) (line_read disk number so_far (fields_of line)) next.0 next.1 in

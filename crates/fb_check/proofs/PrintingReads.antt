@@ -25,16 +25,19 @@ some_pass disk source now write lbn zero some = some
 some_pass disk source now write lbn (suc n) some = omega arith
 
 module _ (medium : Medium) (disk : Disk) where
-  read_some : (head : Track) (now : ℕ) (served : Served) → served ≡ service disk head now served.request → LiesOnDisk disk.map served.request → ReadsSectors (fore_row medium served)
+  read_some : (head : Track) (now : ℕ) (served : Served) → served ≡ service disk head now served.request
+      → LiesOnDisk disk.map served.request → ReadsSectors (fore_row medium served)
   read_some head now served is lies reads =
       let passed : Passage → ℕ × Content = λ passage. (passage.lbn, content medium passage.lbn passage.begin) in
       let some : 0 < length served.passages = subst (λ (served : Served). 0 < length served.passages) (sym is)
       (some_pass disk head now served.request.write served.request.lbn served.request.count lies.some) in
       rw reads (omega (arith, some, runs_have (map passed served.passages), length-map served.passages passed))
 
-  all_read : (head : Track) (now : ℕ) (decisions : List Decision) → Follow (LiesOnDisk disk.map) disk head now decisions → AllByRecursion (λ (served : Served). ReadsSectors (fore_row medium served)) (services decisions)
+  all_read : (head : Track) (now : ℕ) (decisions : List Decision) → Follow (LiesOnDisk disk.map) disk head now decisions
+      → AllByRecursion (λ (served : Served). ReadsSectors (fore_row medium served)) (services decisions)
   all_read head now [] follow = tt
-  all_read head now (serves served ∷ later) follow = (read_some head now served follow.0 follow.1, all_read (last_track disk served) (finish served) later follow.2)
+  all_read head now (serves served ∷ later) follow =
+      (read_some head now served follow.0 follow.1, all_read (last_track disk served) (finish served) later follow.2)
   all_read head now (idles dwell ∷ later) follow = all_read head dwell.end later follow.3
   all_read head now (ends end ∷ later) follow = all_read head now later follow.1
 
@@ -43,4 +46,5 @@ unfolding fore_rows
 reads_have inputs accepted =
     let follow = decisions_follow (LiesOnDisk inputs.disk.map) inputs (requests_lie inputs accepted) in
     all_map ReadsSectors (fore_row (medium_of inputs)) (served inputs)
-    (subst (AllByRecursion (λ (served : Served). ReadsSectors (fore_row (medium_of inputs) served))) follow.1 (all_read (medium_of inputs) inputs.disk first_track 0 (decisions inputs) follow.0))
+    (subst (AllByRecursion (λ (served : Served). ReadsSectors (fore_row (medium_of inputs) served))) follow.1
+    (all_read (medium_of inputs) inputs.disk first_track 0 (decisions inputs) follow.0))

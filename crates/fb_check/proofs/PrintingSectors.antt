@@ -1,5 +1,6 @@
 -- How many sectors runs, cuts and blocks have.
-use Rattle.std.proofs.Common.{◌≡◌, ℕ, zero, suc, ◌+◌, ◌<◌, ◌≤◌, ◌==◌, List, [], ◌∷◌, true, false, inl, inr, length, length-append, filter, refl, arith}
+use Rattle.std.proofs.Common.{◌≡◌, ℕ, zero, suc, ◌+◌, ◌<◌, ◌≤◌, ◌==◌, List, [], ◌∷◌, true, false, inl, inr, length, length-append, filter}
+use Rattle.std.proofs.Common.{refl, arith}
 use Rattle.std.specs.Prelude.{Bool, ◌&&◌, not}
 use Rattle.std.specs.List.{AllByRecursion, flat_map, sum_by}
 use Rattle.std.proofs.lemmas.Bool.{cases_Bool}
@@ -29,7 +30,8 @@ one_more lbn content (run ∷ runs) =
     let count = λ (run : ContentRun). run.count in
     let before = sum_by-cons count run runs in
     elim (cases_Bool ((run.first == lbn + 1) && same_content content run.content)) [
-      | inl joins ↦ rw joins (omega (arith, before, sum_by-cons count (record { first = lbn; count = run.count + 1; content = content }) runs))
+      | inl joins ↦
+          rw joins (omega (arith, before, sum_by-cons count (record { first = lbn; count = run.count + 1; content = content }) runs))
       | inr apart ↦ rw apart (omega (arith, sum_by-cons count (record { first = lbn; count = 1; content = content }) (run ∷ runs)))
     ]
 
@@ -49,7 +51,8 @@ HasSector cut = 0 < cut.count
 abbrev cut_sectors : List Cut → ℕ
 cut_sectors cuts = sum_by (λ cut. cut.count) cuts
 
-some_with : (disk : Shape) (block lbn : ℕ) (cuts : List Cut) → AllByRecursion HasSector cuts → AllByRecursion HasSector (with_sector disk block lbn cuts)
+some_with : (disk : Shape) (block lbn : ℕ) (cuts : List Cut) → AllByRecursion HasSector cuts
+    → AllByRecursion HasSector (with_sector disk block lbn cuts)
 some_with disk block lbn [] all = (omega arith, tt)
 some_with disk block lbn (cut ∷ cuts) all = elim (cases_Bool (is_cut_before disk block (lbn + 1))) [
   | inl alone ↦ rw alone (omega arith, all)
@@ -63,7 +66,8 @@ some_cut disk block lbn (suc n) = some_with disk block lbn (cutting disk block (
 
 pub some_live : (disk : Shape) (block lbn : ℕ) (lives : List Bool) → AllByRecursion HasSector (live_cuts disk block lbn lives)
 some_live disk block lbn [] = tt
-some_live disk block lbn (true ∷ lives) = all_append HasSector (cutting disk block lbn block) (live_cuts disk block (lbn + block) lives) (some_cut disk block lbn block) (some_live disk block (lbn + block) lives)
+some_live disk block lbn (true ∷ lives) = all_append HasSector (cutting disk block lbn block) (live_cuts disk block (lbn + block) lives)
+    (some_cut disk block lbn block) (some_live disk block (lbn + block) lives)
 some_live disk block lbn (false ∷ lives) = some_live disk block (lbn + block) lives
 
 with_one : (disk : Shape) (block lbn : ℕ) (cuts : List Cut) → cut_sectors (with_sector disk block lbn cuts) ≡ cut_sectors cuts + 1
@@ -94,15 +98,22 @@ sectors blocks = sum_by (λ block. block.count) blocks
 abbrev pub own : ℕ → List Block → List Block
 own task blocks = filter (λ block. block.task == task) blocks
 
-pub some_numbered : (task weight n : ℕ) (cuts : List Cut) → AllByRecursion HasSector cuts → AllByRecursion IsSome (numbered task weight n cuts)
+pub some_numbered : (task weight n : ℕ) (cuts : List Cut) → AllByRecursion HasSector cuts
+    → AllByRecursion IsSome (numbered task weight n cuts)
 some_numbered task weight n [] all = tt
 some_numbered task weight n (cut ∷ cuts) all = (all.0, some_numbered task weight (n + 1) cuts all.1)
 
 pub numbered_have : (task weight n : ℕ) (cuts : List Cut) → sectors (numbered task weight n cuts) ≡ cut_sectors cuts
 numbered_have task weight n [] = refl
 numbered_have task weight n (cut ∷ cuts) =
-    let block : Block = record { task = task; number = n; lbn = cut.lbn; count = cut.count; track = cut.track; weight = weight; sweep = cut.sweep } in
-    omega (arith, sum_by-cons (λ (block : Block). block.count) block (numbered task weight (n + 1) cuts), sum_by-cons (λ (cut : Cut). cut.count) cut cuts, numbered_have task weight (n + 1) cuts)
+    let block : Block =
+    record { task = task; number = n; lbn = cut.lbn; count = cut.count; track = cut.track; weight = weight; sweep = cut.sweep } in
+    omega (
+      arith,
+      sum_by-cons (λ (block : Block). block.count) block (numbered task weight (n + 1) cuts),
+      sum_by-cons (λ (cut : Cut). cut.count) cut cuts,
+      numbered_have task weight (n + 1) cuts,
+    )
 
 pub none_other : (owner task weight n : ℕ) (cuts : List Cut) → (owner == task) ≡ false → own task (numbered owner weight n cuts) ≡ []
 none_other owner task weight n [] other = refl
@@ -112,11 +123,13 @@ pub some_have : (p : Block → Bool) (blocks : List Block) → sectors (filter p
 some_have p blocks = omega (arith, sum_by-filter_both p (λ block. not (p block)) (λ block. refl) (λ (block : Block). block.count) blocks)
 
 -- their contents are those of all their sectors
-pub blocks_have : (medium : Medium) (t : ℕ) (blocks : List Block) → length (flat_map (λ block. contents_at medium block.lbn block.count t) blocks) ≡ sectors blocks
+pub blocks_have : (medium : Medium) (t : ℕ) (blocks : List Block)
+    → length (flat_map (λ block. contents_at medium block.lbn block.count t) blocks) ≡ sectors blocks
 blocks_have medium t [] = refl
 blocks_have medium t (block ∷ blocks) = omega (
   arith,
-  length-append (contents_at medium block.lbn block.count t) (flat_map (λ (block : Block). contents_at medium block.lbn block.count t) blocks),
+  length-append (contents_at medium block.lbn block.count t)
+      (flat_map (λ (block : Block). contents_at medium block.lbn block.count t) blocks),
   contents_have medium block.lbn block.count t,
   blocks_have medium t blocks,
   sum_by-cons (λ (block : Block). block.count) block blocks,

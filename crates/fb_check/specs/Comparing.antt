@@ -42,7 +42,8 @@ pub record IsNotDue (due : List ℕ) (lines : List (List ℕ)) (index field : �
   pub fields : DifferFirstAt field_index (report_fields due_line) (report_fields line)
 
 -- a wrong line, as a mismatch
-pub record NamesLine (due : List ℕ) (rule_by : ℕ → Rule) (report : Report) (lines : List (List ℕ)) (index : ℕ) (mismatch : Mismatch) : Type 0 where
+pub record NamesLine (due : List ℕ) (rule_by : ℕ → Rule) (report : Report) (lines : List (List ℕ)) (index : ℕ)
+    (mismatch : Mismatch) : Type 0 where
   pub not_due : IsNotDue due lines index mismatch.field
   pub line_is : mismatch.line ≡ index + 1
   pub rule_is : mismatch.rule ≡ rule_by mismatch.field
@@ -75,13 +76,17 @@ SoFar None due rules report lines same = AreFirst due rules lines same
 SoFar (Some mismatch) due rules report lines same = IsMismatch due rules lines mismatch × (mismatch.report ≡ report)
 
 -- the first line and the lines of these rows were compared
-pub record HasCompared {X : Type 0} (report : Report) (first : List ℕ) (first_rule : Rule) (line : X → List ℕ) (rule : X → ℕ → Rule) (printed : List (List ℕ)) (comparison : Comparison) (rows : List X) : Type 0 where
+pub record HasCompared {X : Type 0} (report : Report) (first : List ℕ) (first_rule : Rule) (line : X → List ℕ) (rule : X → ℕ → Rule)
+    (printed : List (List ℕ)) (comparison : Comparison) (rows : List X) : Type 0 where
   pub report_is : comparison.report ≡ report
   pub lines_are : comparison.lines.now ≡ printed
-  pub so_far : SoFar comparison.wrong (first ∷ map line rows) ((λ field. first_rule) ∷ map rule rows) comparison.report comparison.lines.now comparison.same
+  pub so_far : SoFar comparison.wrong (first ∷ map line rows)
+      ((λ field. first_rule) ∷ map rule rows) comparison.report comparison.lines.now comparison.same
 
 abbrev pub HasComparedFore : ℕ → Bytes → List (List ℕ) → Comparison → List ForeRow → Type 0
-HasComparedFore size bytes printed comparison rows = HasCompared Fore fore_first Foreground (fore_line size bytes) (λ row field. Foreground) printed comparison rows
+HasComparedFore size bytes printed comparison rows =
+    HasCompared Fore fore_first Foreground (fore_line size bytes) (λ row field. Foreground) printed comparison rows
 
 abbrev pub HasComparedBack : List (List ℕ) → ℕ → Bytes → List (List ℕ) → Comparison → List BackRow → Type 0
-HasComparedBack names size bytes printed comparison rows = HasCompared Back back_first Timeline (back_line names size bytes) back_rule printed comparison rows
+HasComparedBack names size bytes printed comparison rows =
+    HasCompared Back back_first Timeline (back_line names size bytes) back_rule printed comparison rows

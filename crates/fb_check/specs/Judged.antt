@@ -13,7 +13,8 @@ use Rattle.fb_check.specs.Verdict.{Reports}
 use Rattle.fb_check.specs.Comparing.{IsReady, HasComparedFore, HasComparedBack}
 
 -- these steps have been made, their rows were taken out, and the lines of the rows were compared
-pub record HasJudged (inputs : Inputs) (printed : Reports) (more : Bool) (list : List Request) (course : Course) (pending : List Request) (count : ℕ) (fore back : Comparison) : Type 0 where
+pub record HasJudged (inputs : Inputs) (printed : Reports) (more : Bool) (list : List Request) (course : Course) (pending : List Request)
+    (count : ℕ) (fore back : Comparison) : Type 0 where
   pub steps : List Step
   pub made : HasMade inputs more steps list course pending count
   pub no_fore : course.fore ≡ []

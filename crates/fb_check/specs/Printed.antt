@@ -5,4 +5,5 @@ use Rattle.fb_check.specs.Verdict.{Reports}
 
 -- what is judged: the printed lines, the names that the script gives its tasks, and how bytes are shown
 abbrev pub reports_of : RunInputs → Printed → Reports
-reports_of inputs printed = record { names = inputs.calls.now.names; bytes = printed.bytes; fore = printed.fore.now; back = printed.back.now }
+reports_of inputs printed =
+    record { names = inputs.calls.now.names; bytes = printed.bytes; fore = printed.fore.now; back = printed.back.now }

@@ -86,7 +86,8 @@ pub record AreRight (inputs : Inputs) (printed : Reports) : Type 0 where
 
 -- a foreground line is the first that is wrong
 abbrev pub IsForeWrong : Inputs → Reports → Mismatch → Type 0
-IsForeWrong inputs printed mismatch = (run : Run) → HasPlainForeground inputs run → IsMismatch (fore_lines inputs.disk.sector_bytes printed.bytes run) (fore_rules run) printed.fore mismatch
+IsForeWrong inputs printed mismatch = (run : Run) → HasPlainForeground inputs run
+    → IsMismatch (fore_lines inputs.disk.sector_bytes printed.bytes run) (fore_rules run) printed.fore mismatch
 
 -- the foreground is right, and a background line is the first that is wrong
 pub record IsBackWrong (inputs : Inputs) (printed : Reports) (mismatch : Mismatch) : Type 0 where
@@ -97,7 +98,8 @@ pub record IsBackWrong (inputs : Inputs) (printed : Reports) (mismatch : Mismatc
 
 -- the mismatch is in the report that it names
 abbrev pub IsWrong : Inputs → Reports → Mismatch → Type 0
-IsWrong inputs printed mismatch = (mismatch.report ≡ Fore → IsForeWrong inputs printed mismatch) × (mismatch.report ≡ Back → IsBackWrong inputs printed mismatch)
+IsWrong inputs printed mismatch =
+    (mismatch.report ≡ Fore → IsForeWrong inputs printed mismatch) × (mismatch.report ≡ Back → IsBackWrong inputs printed mismatch)
 
 -- yes says that both reports are right, and no names what is wrong first
 abbrev pub IsVerdict : Inputs → Reports → Verdict → Type 0

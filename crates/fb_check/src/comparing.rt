@@ -58,7 +58,8 @@ impl<'a> Comparison<'a> {
     pub fn begin_back(alloc: Global, lines: &'a ReportLines<'a>) -> Result<Comparison<'a>, NoMemory>
         requires ends { EndsOnce lines.now }
         ensures ready { IfOk result IsReady }
-        ensures compared { (names : List (List ℕ)) (size : ℕ) (bytes : Bytes) → IfOk result (λ comparison. HasComparedBack names size bytes lines.now comparison []) }
+        ensures compared { (names : List (List ℕ)) (size : ℕ) (bytes : Bytes)
+            → IfOk result (λ comparison. HasComparedBack names size bytes lines.now comparison []) }
     {
         let due = back_first(alloc)?;
         let mut comparison = Comparison {
@@ -141,7 +142,9 @@ impl<'a> Comparison<'a> {
         requires whole { sector_bytes % 16 ≡ 0 }
         requires ready { IsReady self.old }
         ensures ready { OnOk result (IsReady self.new) }
-        ensures compared { OnOk result ((printed : List (List ℕ)) (fore : List ForeRow) → HasComparedFore sector_bytes bytes printed self.old fore → HasComparedFore sector_bytes bytes printed self.new (fore ++ rows.now)) }
+        ensures compared { OnOk result
+            ((printed : List (List ℕ)) (fore : List ForeRow) → HasComparedFore sector_bytes bytes printed self.old fore
+            → HasComparedFore sector_bytes bytes printed self.new (fore ++ rows.now)) }
     {
         for i in 0..rows.len() {
             if self.wrong.is_some() {
@@ -169,7 +172,9 @@ impl<'a> Comparison<'a> {
         requires named { AllByRecursion (HasNamedTask names.now) rows.now }
         requires ready { IsReady self.old }
         ensures ready { OnOk result (IsReady self.new) }
-        ensures compared { OnOk result ((printed : List (List ℕ)) (back : List BackRow) → HasComparedBack names.now sector_bytes bytes printed self.old back → HasComparedBack names.now sector_bytes bytes printed self.new (back ++ rows.now)) }
+        ensures compared { OnOk result
+            ((printed : List (List ℕ)) (back : List BackRow) → HasComparedBack names.now sector_bytes bytes printed self.old back
+            → HasComparedBack names.now sector_bytes bytes printed self.new (back ++ rows.now)) }
     {
         for i in 0..rows.len() {
             if self.wrong.is_some() {
@@ -212,7 +217,8 @@ impl<'a> Comparison<'a> {
     // Keeps the next line as the first that is wrong.
     fn keep(&mut self, field: u32, rule: Rule)
         requires few { self.old.same < 2 ^ 63 }
-        ensures { self.new ≡ record self.old { wrong = Some (record { report = self.old.report; line = self.old.same + 1; field = field; rule = rule }) } }
+        ensures { self.new
+            ≡ record self.old { wrong = Some (record { report = self.old.report; line = self.old.same + 1; field = field; rule = rule }) } }
     {
         self.wrong = Some(Mismatch {
             report: self.report,

@@ -68,7 +68,8 @@ fn judge_over<Q: Queue, P: Planner>(
     planner: &P,
     printed: Printed<'_>,
 ) -> Result<Verdict, NoMemory>
-    requires made { HasMade (inputs_of inputs Q.key) true [] decider.old.requests decider.old.course (Q.pending decider.old.queue) (Q.joined decider.old.queue) }
+    requires made { HasMade (inputs_of inputs Q.key) true [] decider.old.requests decider.old.course (Q.pending decider.old.queue)
+        (Q.joined decider.old.queue) }
     requires no_fore { decider.old.course.fore ≡ [] }
     requires no_back { decider.old.course.background.rows ≡ [] }
     requires serves { Q.serves decider.old.queue inputs.disk.now }
@@ -111,11 +112,14 @@ fn compare_rows(
     requires fore_ready { IsReady fore.old }
     requires back_ready { IsReady back.old }
     ensures fore_ready { OnOk result (IsReady fore.new) }
-    ensures fore_compared { OnOk result ((printed : List (List ℕ)) (before : List ForeRow) → HasComparedFore inputs.entry.disk.now.sector_bytes bytes printed fore.old before
+    ensures fore_compared { OnOk result ((printed : List (List ℕ)) (before : List ForeRow)
+        → HasComparedFore inputs.entry.disk.now.sector_bytes bytes printed fore.old before
         → HasComparedFore inputs.entry.disk.now.sector_bytes bytes printed fore.new (before ++ rows.now.fore)) }
     ensures back_ready { OnOk result (fore.new.wrong ≡ None → IsReady back.new) }
-    ensures back_compared { OnOk result (fore.new.wrong ≡ None → (printed : List (List ℕ)) (before : List BackRow) → HasComparedBack inputs.entry.calls.now.names inputs.entry.disk.now.sector_bytes bytes printed back.old before
-        → HasComparedBack inputs.entry.calls.now.names inputs.entry.disk.now.sector_bytes bytes printed back.new (before ++ rows.now.back)) }
+    ensures back_compared { OnOk result (fore.new.wrong ≡ None → (printed : List (List ℕ)) (before : List BackRow)
+        → HasComparedBack inputs.entry.calls.now.names inputs.entry.disk.now.sector_bytes bytes printed back.old before
+        → HasComparedBack inputs.entry.calls.now.names inputs.entry.disk.now.sector_bytes bytes printed back.new
+        (before ++ rows.now.back)) }
 {
     let sector_bytes = inputs.disk.sector_bytes;
     fore.compare_fore(alloc, &rows.fore, sector_bytes, bytes)?;
@@ -134,7 +138,8 @@ fn judge_ends<Q: Queue>(
     mut fore: Comparison<'_>,
     mut back: Comparison<'_>,
 ) -> Result<Verdict, NoMemory>
-    requires judged { HasJudged (inputs_of inputs Q.key) (reports_of inputs printed) false decider.old.requests decider.old.course (Q.pending decider.old.queue) (Q.joined decider.old.queue) fore back }
+    requires judged { HasJudged (inputs_of inputs Q.key) (reports_of inputs printed) false decider.old.requests decider.old.course
+        (Q.pending decider.old.queue) (Q.joined decider.old.queue) fore back }
     requires right { fore.wrong ≡ None }
     requires names { length inputs.calls.now.names ≡ length (tasks inputs.calls.now.calls.items) }
     requires whole { inputs.disk.now.sector_bytes % 16 ≡ 0 }

@@ -1,5 +1,6 @@
 -- The first segment with the greatest ratio of benefit to cost is the one to choose.
-use Rattle.std.proofs.Common.{◌≡◌, ◌≢◌, ℕ, zero, suc, ◌+◌, ◌-◌, ◌*◌, ◌<◌, ◌≤◌, List, [], ◌∷◌, Option, Some, None, true, false, refl, arith, ap, sym, ◌∙◌, subst, cond, length, ◌⊎◌, inl, inr}
+use Rattle.std.proofs.Common.{◌≡◌, ◌≢◌, ℕ, zero, suc, ◌+◌, ◌-◌, ◌*◌, ◌<◌, ◌≤◌, List, [], ◌∷◌, Option, Some, None, true, false, refl, arith}
+use Rattle.std.proofs.Common.{ap, sym, ◌∙◌, subst, cond, length, ◌⊎◌, inl, inr}
 use Rattle.std.proofs.lemmas.Bool.{cases_Bool}
 use Rattle.std.specs.List.{AllByRecursion, Contains, best_of}
 use Rattle.std.proofs.Math.Nat.{le_of_mul-le-mul_right, lt_of_mul-lt-mul_right, mul-lt-mul_of_pos_right, mul-le-mul_right}
@@ -61,7 +62,8 @@ less-costs a b less =
     (some_right (gain b) (cost a) some, gain-cost b (some_left (gain b) (cost a) some))
 
 less-chain : (a x b : LogSegment) → Less a x → Less x b → Less a b
-less-chain a x b p q = let costs = less-costs x b q in lt_le (gain a) (cost a) (gain x) (cost x) (gain b) (cost b) costs.0 costs.1 p (omega arith)
+less-chain a x b p q = let costs = less-costs x b q in
+    lt_le (gain a) (cost a) (gain x) (cost x) (gain b) (cost b) costs.0 costs.1 p (omega arith)
 
 better : (x a : LogSegment) → is_better x a ≡ true → Less a x
 better x a h = grind (arith, nat_tests)
@@ -91,12 +93,14 @@ won a (x ∷ xs) = elim (cases_Bool (is_better x a)) [
 ]
 
 at_most : (a b : LogSegment) → Won a b → AtMost a b
-at_most a b (inl same) = let e : gain a * cost b ≡ gain b * cost a = ap (λ s. gain a * cost s) same ∙ sym (ap (λ s. gain s * cost a) same) in omega arith
+at_most a b (inl same) =
+    let e : gain a * cost b ≡ gain b * cost a = ap (λ s. gain a * cost s) same ∙ sym (ap (λ s. gain s * cost a) same) in omega arith
 at_most a b (inr less) = omega arith
 
 at_most-chain : (x a b : LogSegment) → AtMost x a → Won a b → AtMost x b
 at_most-chain x a b p (inl same) = subst (AtMost x) (sym same) p
-at_most-chain x a b p (inr less) = let costs = less-costs a b less in le_le (gain x) (cost x) (gain a) (cost a) (gain b) (cost b) costs.0 p (omega arith)
+at_most-chain x a b p (inr less) = let costs = less-costs a b less in
+    le_le (gain x) (cost x) (gain a) (cost a) (gain b) (cost b) costs.0 p (omega arith)
 
 abbrev AreAtMost : List LogSegment → LogSegment → Type 0
 AreAtMost others b = AllByRecursion (λ other. AtMost other b) others
@@ -105,7 +109,10 @@ others_at_most : (a : LogSegment) (xs : List LogSegment) → AreAtMost xs (best 
 others_at_most a [] = tt
 others_at_most a (x ∷ xs) = elim (cases_Bool (is_better x a)) [
   | inl wins ↦ subst (AreAtMost (x ∷ xs)) (sym (best_taken a x xs wins)) (at_most x (best x xs) (won x xs), others_at_most x xs)
-  | inr loses ↦ subst (AreAtMost (x ∷ xs)) (sym (best_kept a x xs loses)) (at_most-chain x a (best a xs) (no_better x a loses) (won a xs), others_at_most a xs)
+  | inr loses ↦ subst (AreAtMost (x ∷ xs)) (sym (best_kept a x xs loses)) (
+    at_most-chain x a (best a xs) (no_better x a loses) (won a xs),
+    others_at_most a xs,
+  )
 ]
 
 -- ---- the smaller number
@@ -150,7 +157,10 @@ others_before : (a : LogSegment) (xs : List LogSegment) → Ascend a.number xs �
 others_before a [] ascend = tt
 others_before a (x ∷ xs) ascend = elim (cases_Bool (is_better x a)) [
   | inl wins ↦ subst (AreBefore (x ∷ xs)) (sym (best_taken a x xs wins)) (own_before x (best x xs) (won x xs), others_before x xs ascend.1)
-  | inr loses ↦ subst (AreBefore (x ∷ xs)) (sym (best_kept a x xs loses)) (other_before x a (best a xs) ascend.0 (no_better x a loses) (won a xs), others_before a xs (ascend-from a.number x.number xs ascend.0 ascend.1))
+  | inr loses ↦ subst (AreBefore (x ∷ xs)) (sym (best_kept a x xs loses)) (
+    other_before x a (best a xs) ascend.0 (no_better x a loses) (won a xs),
+    others_before a xs (ascend-from a.number x.number xs ascend.0 ascend.1),
+  )
 ]
 
 -- ---- the choice
@@ -158,11 +168,13 @@ others_before a (x ∷ xs) ascend = elim (cases_Bool (is_better x a)) [
 best_in : (a : LogSegment) (xs : List LogSegment) → Contains (a ∷ xs) (best a xs)
 best_in a [] = (0, omega arith, refl)
 best_in a (x ∷ xs) = elim (cases_Bool (is_better x a)) [
-  | inl wins ↦ subst (Contains (a ∷ x ∷ xs)) (sym (best_taken a x xs wins)) (Contains-append_right (a ∷ []) (x ∷ xs) (best x xs) (best_in x xs))
-  | inr loses ↦ subst (Contains (a ∷ x ∷ xs)) (sym (best_kept a x xs loses)) (elim (Contains-append_cases (a ∷ []) xs (best a xs) (best_in a xs)) [
-    | inl here ↦ Contains-append_left (a ∷ []) (x ∷ xs) (best a xs) here
-    | inr there ↦ Contains-append_right (a ∷ x ∷ []) xs (best a xs) there
-  ])
+  | inl wins ↦
+      subst (Contains (a ∷ x ∷ xs)) (sym (best_taken a x xs wins)) (Contains-append_right (a ∷ []) (x ∷ xs) (best x xs) (best_in x xs))
+  | inr loses ↦
+      subst (Contains (a ∷ x ∷ xs)) (sym (best_kept a x xs loses)) (elim (Contains-append_cases (a ∷ []) xs (best a xs) (best_in a xs)) [
+        | inl here ↦ Contains-append_left (a ∷ []) (x ∷ xs) (best a xs) here
+        | inr there ↦ Contains-append_right (a ∷ x ∷ []) xs (best a xs) there
+      ])
 ]
 
 best_is_greatest : (a : LogSegment) (xs : List LogSegment) → Ascend a.number xs → IsGreatest (a ∷ xs) (best a xs).number
@@ -186,13 +198,17 @@ first_is_greatest (s ∷ segments) ascend = best_is_greatest s segments ascend.1
 some_none : (n : ℕ) → Some n ≢ None
 some_none n e = grind arith
 
-by_left : (cleaning : Cleaning) (choice : Option ℕ) → cleaning.unfinished ≡ None → IsChoiceOf (waiting cleaning.segments) choice → IsChoice cleaning choice
+by_left : (cleaning : Cleaning) (choice : Option ℕ) → cleaning.unfinished ≡ None → IsChoiceOf (waiting cleaning.segments) choice
+    → IsChoice cleaning choice
 by_left cleaning None none is = inr is
 by_left cleaning (Some number) none is = (none, is)
 
-by_unfinished : (cleaning : Cleaning) (unfinished : Option ℕ) → cleaning.unfinished ≡ unfinished → AreNumbered 1 cleaning.segments → IsChoice cleaning (choice_while unfinished cleaning.segments)
-by_unfinished cleaning None e numbered = by_left cleaning (number_of (first_best (waiting cleaning.segments))) e (first_is_greatest (waiting cleaning.segments) (ascend-waiting 0 1 cleaning.segments (omega arith) numbered))
+by_unfinished : (cleaning : Cleaning) (unfinished : Option ℕ) → cleaning.unfinished ≡ unfinished → AreNumbered 1 cleaning.segments
+    → IsChoice cleaning (choice_while unfinished cleaning.segments)
+by_unfinished cleaning None e numbered = by_left cleaning (number_of (first_best (waiting cleaning.segments))) e
+    (first_is_greatest (waiting cleaning.segments) (ascend-waiting 0 1 cleaning.segments (omega arith) numbered))
 by_unfinished cleaning (Some n) e numbered = inl (λ none. some_none n (sym e ∙ none))
 
-pub choice_is_greatest : (cleaning : Cleaning) (choice : Option ℕ) → AreNumbered 1 cleaning.segments → choice ≡ choice_of cleaning → IsChoice cleaning choice
+pub choice_is_greatest : (cleaning : Cleaning) (choice : Option ℕ) → AreNumbered 1 cleaning.segments → choice ≡ choice_of cleaning
+    → IsChoice cleaning choice
 choice_is_greatest cleaning choice numbered e = subst (IsChoice cleaning) (sym e) (by_unfinished cleaning cleaning.unfinished refl numbered)

@@ -1,5 +1,7 @@
 -- What stays so of the segments of a session.
-use Rattle.std.proofs.Common.{◌≡◌, ◌≤◌, ℕ, ◌+◌, ◌<◌, List, [], ◌∷◌, ◌++◌, Option, Some, None, Bool, true, false, refl, arith, ap, ap₂, sym, ◌∙◌, length, map, cond, set, get_or, slice_get, zero, suc, ◌==◌, subst, ◌^◌, ◌-◌, Result, Ok, Err, OnOk, OnErr, IfOk, true≢false}
+use Rattle.std.proofs.Common.{◌≡◌, ◌≤◌, ℕ, ◌+◌, ◌<◌, List, [], ◌∷◌, ◌++◌, Option, Some, None, Bool, true, false, refl, arith, ap, ap₂, sym}
+use Rattle.std.proofs.Common.{◌∙◌, length, map, cond, set, get_or, slice_get, zero, suc, ◌==◌, subst, ◌^◌, ◌-◌, Result, Ok, Err, OnOk}
+use Rattle.std.proofs.Common.{OnErr, IfOk, true≢false}
 use Rattle.std.specs.Option.{is_some}
 use Rattle.std.specs.List.{AllByRecursion, flat_map, range_with_len}
 use Rattle.std.proofs.lemmas.Bool.Decides.{nat_tests}
@@ -15,30 +17,38 @@ use Rattle.fb_clean.specs.Segments.{LogSegment, Cleaning, left_out, without, num
 use Rattle.fb_clean.specs.Numbers.{AreNumbered, AreWithin, IsSound}
 
 -- the number of a segment says its place
-pub number_at : (n : ℕ) (segments : List LogSegment) (i : ℕ) (s : LogSegment) → AreNumbered n segments → slice_get segments i ≡ Some s → s.number ≡ n + i
+pub number_at : (n : ℕ) (segments : List LogSegment) (i : ℕ) (s : LogSegment) → AreNumbered n segments → slice_get segments i ≡ Some s
+    → s.number ≡ n + i
 number_at n [] i s numbered at = absurd (grind arith)
 number_at n (x ∷ segments) zero s numbered at = let own = ap (λ y. y.number) (same_Some x s at) in let first = numbered.0 in omega arith
 number_at n (x ∷ segments) (suc i) s numbered at = let rest = number_at (n + 1) segments i s numbered.1 at in omega arith
 
-pub numbered_map : (f : LogSegment → LogSegment) → ((s : LogSegment) → (f s).number ≡ s.number) → (n : ℕ) (segments : List LogSegment) → AreNumbered n segments → AreNumbered n (map f segments)
+pub numbered_map : (f : LogSegment → LogSegment) → ((s : LogSegment) → (f s).number ≡ s.number) → (n : ℕ) (segments : List LogSegment)
+    → AreNumbered n segments → AreNumbered n (map f segments)
 numbered_map f same n [] numbered = tt
 numbered_map f same n (s ∷ segments) numbered = (same s ∙ numbered.0, numbered_map f same (n + 1) segments numbered.1)
 
-pub within_map : (f : LogSegment → LogSegment) → ((s : LogSegment) → (f s).live ≡ s.live) → (block : ℕ) (segments : List LogSegment) → AreWithin block segments → AreWithin block (map f segments)
+pub within_map : (f : LogSegment → LogSegment) → ((s : LogSegment) → (f s).live ≡ s.live) → (block : ℕ) (segments : List LogSegment)
+    → AreWithin block segments → AreWithin block (map f segments)
 within_map f same block [] within = tt
-within_map f same block (s ∷ segments) within = (subst (AllByRecursion (λ lbn. lbn + block ≤ 10 ^ 12)) (sym (same s)) within.0, within_map f same block segments within.1)
+within_map f same block (s ∷ segments) within =
+    (subst (AllByRecursion (λ lbn. lbn + block ≤ 10 ^ 12)) (sym (same s)) within.0, within_map f same block segments within.1)
 
-pub numbered_more : (n : ℕ) (segments : List LogSegment) (s : LogSegment) → AreNumbered n segments → s.number ≡ n + length segments → AreNumbered n (segments ++ s ∷ [])
+pub numbered_more : (n : ℕ) (segments : List LogSegment) (s : LogSegment) → AreNumbered n segments → s.number ≡ n + length segments
+    → AreNumbered n (segments ++ s ∷ [])
 numbered_more n [] s numbered e = (omega arith, tt)
 numbered_more n (x ∷ segments) s numbered e = (numbered.0, numbered_more (n + 1) segments s numbered.1 (omega arith))
 
-pub within_more : (block : ℕ) (segments : List LogSegment) (s : LogSegment) → AreWithin block segments → AllByRecursion (λ lbn. lbn + block ≤ 10 ^ 12) s.live → AreWithin block (segments ++ s ∷ [])
+pub within_more : (block : ℕ) (segments : List LogSegment) (s : LogSegment) → AreWithin block segments
+    → AllByRecursion (λ lbn. lbn + block ≤ 10 ^ 12) s.live → AreWithin block (segments ++ s ∷ [])
 within_more block [] s within here = (here, tt)
 within_more block (x ∷ segments) s within here = (within.0, within_more block segments s within.1 here)
 
-pub within_at : (block : ℕ) (segments : List LogSegment) (i : ℕ) (s : LogSegment) → AreWithin block segments → slice_get segments i ≡ Some s → AllByRecursion (λ lbn. lbn + block ≤ 10 ^ 12) s.live
+pub within_at : (block : ℕ) (segments : List LogSegment) (i : ℕ) (s : LogSegment) → AreWithin block segments → slice_get segments i ≡ Some s
+    → AllByRecursion (λ lbn. lbn + block ≤ 10 ^ 12) s.live
 within_at block [] i s within at = absurd (grind arith)
-within_at block (x ∷ segments) zero s within at = subst (λ y. AllByRecursion (λ lbn. lbn + block ≤ 10 ^ 12) y.live) (same_Some x s at) within.0
+within_at block (x ∷ segments) zero s within at =
+    subst (λ y. AllByRecursion (λ lbn. lbn + block ≤ 10 ^ 12) y.live) (same_Some x s at) within.0
 within_at block (x ∷ segments) (suc i) s within at = within_at block segments i s within.1 at
 
 -- leaving one segment out
@@ -57,15 +67,18 @@ without_none : (number n : ℕ) (segments : List LogSegment) → AreNumbered n s
 without_none number n [] numbered less = refl
 without_none number n (s ∷ segments) numbered less =
     let own = numbered.0 in
-    ap₂ (λ b rest. cond b (left_out s) s ∷ rest) (more_differs s.number number (omega arith)) (without_none number (n + 1) segments numbered.1 (omega arith))
+    ap₂ (λ b rest. cond b (left_out s) s ∷ rest) (more_differs s.number number (omega arith))
+    (without_none number (n + 1) segments numbered.1 (omega arith))
 
-pub without_set : (n : ℕ) (segments : List LogSegment) (i : ℕ) (s : LogSegment) → AreNumbered n segments → slice_get segments i ≡ Some s → set segments i (left_out s) ≡ without (n + i) segments
+pub without_set : (n : ℕ) (segments : List LogSegment) (i : ℕ) (s : LogSegment) → AreNumbered n segments → slice_get segments i ≡ Some s
+    → set segments i (left_out s) ≡ without (n + i) segments
 without_set n [] i s numbered at = absurd (grind arith)
 without_set n (x ∷ segments) zero s numbered at =
     let own = numbered.0 in
     let here : n + 0 ≡ n = omega arith in
     ap (λ y. left_out y ∷ segments) (sym (same_Some x s at))
-    ∙ sym (ap₂ (λ b rest. cond b (left_out x) x ∷ rest) (own_number x.number (n + 0) (omega arith)) (without_none (n + 0) (n + 1) segments numbered.1 (omega arith)))
+    ∙ sym (ap₂ (λ b rest. cond b (left_out x) x ∷ rest) (own_number x.number (n + 0) (omega arith))
+    (without_none (n + 0) (n + 1) segments numbered.1 (omega arith)))
 without_set n (x ∷ segments) (suc i) s numbered at =
     let own = numbered.0 in
     let next : n + 1 + i ≡ n + suc i = omega arith in
@@ -79,8 +92,10 @@ pub within_without : (number block : ℕ) (segments : List LogSegment) → AreWi
 within_without number block segments within = within_map (leave_at number) (λ s. same_live (s.number == number) s) block segments within
 
 -- one more segment
-pub sound_more : (block : ℕ) (segments more : List LogSegment) (unfinished : Option ℕ) (taken more_taken : ℕ) (s : LogSegment) → IsSound block segments unfinished taken → more ≡ segments ++ s ∷ [] → more_taken ≡ taken + 1
-    → s.number ≡ length segments + 1 → AllByRecursion (λ lbn. lbn + block ≤ 10 ^ 12) s.live → length segments < 2 ^ 32 - 1 → IsSound block more unfinished more_taken
+pub sound_more : (block : ℕ) (segments more : List LogSegment) (unfinished : Option ℕ) (taken more_taken : ℕ) (s : LogSegment)
+    → IsSound block segments unfinished taken → more ≡ segments ++ s ∷ [] → more_taken ≡ taken + 1
+    → s.number ≡ length segments + 1 → AllByRecursion (λ lbn. lbn + block ≤ 10 ^ 12) s.live → length segments < 2 ^ 32 - 1
+    → IsSound block more unfinished more_taken
 sound_more block segments more unfinished taken more_taken s sound e taken_more number within room =
     let size = ap length e ∙ length_push segments s in
     let as_many = sound.as_many in
@@ -93,7 +108,8 @@ sound_more block segments more unfinished taken more_taken s sound e taken_more 
     }
 
 -- one left out
-pub sound_chosen : (block : ℕ) (segments now : List LogSegment) (unfinished : Option ℕ) (taken i : ℕ) (s : LogSegment) → IsSound block segments unfinished taken → slice_get segments i ≡ Some s → i < length segments
+pub sound_chosen : (block : ℕ) (segments now : List LogSegment) (unfinished : Option ℕ) (taken i : ℕ) (s : LogSegment)
+    → IsSound block segments unfinished taken → slice_get segments i ≡ Some s → i < length segments
     → now ≡ without (1 + i) segments → IsSound block now (Some (i + 1)) taken
 sound_chosen block segments now unfinished taken i s sound at less e =
     let size = ap length e ∙ length-map segments (leave_at (1 + i)) in
@@ -108,7 +124,8 @@ sound_chosen block segments now unfinished taken i s sound at less e =
     }
 
 -- all left out
-pub sound_left : (block : ℕ) (segments now : List LogSegment) (unfinished : Option ℕ) (taken : ℕ) → IsSound block segments unfinished taken → now ≡ map left_out segments → IsSound block now unfinished taken
+pub sound_left : (block : ℕ) (segments now : List LogSegment) (unfinished : Option ℕ) (taken : ℕ) → IsSound block segments unfinished taken
+    → now ≡ map left_out segments → IsSound block now unfinished taken
 sound_left block segments now unfinished taken sound e =
     let size = ap length e ∙ length-map segments left_out in
     let few = sound.few in
@@ -122,13 +139,18 @@ sound_left block segments now unfinished taken sound e =
     }
 
 -- one more or none
-pub sound_either : {T E : Type 0} (r : Result T E) (block : ℕ) (segments more : List LogSegment) (unfinished : Option ℕ) (taken more_taken : List (List (ℕ × Option Content))) (s : LogSegment) (held : List (ℕ × Option Content))
-    → IsSound block segments unfinished (length taken) → OnOk r ((more ≡ segments ++ s ∷ []) × (more_taken ≡ taken ++ held ∷ [])) → OnErr r ((more ≡ segments) × (more_taken ≡ taken))
-    → s.number ≡ length segments + 1 → AllByRecursion (λ lbn. lbn + block ≤ 10 ^ 12) s.live → length segments < 2 ^ 32 - 1 → IsSound block more unfinished (length more_taken)
+pub sound_either : {T E : Type 0} (r : Result T E) (block : ℕ) (segments more : List LogSegment) (unfinished : Option ℕ)
+    (taken more_taken : List (List (ℕ × Option Content))) (s : LogSegment) (held : List (ℕ × Option Content))
+    → IsSound block segments unfinished (length taken) → OnOk r ((more ≡ segments ++ s ∷ []) × (more_taken ≡ taken ++ held ∷ []))
+    → OnErr r ((more ≡ segments) × (more_taken ≡ taken))
+    → s.number ≡ length segments + 1 → AllByRecursion (λ lbn. lbn + block ≤ 10 ^ 12) s.live → length segments < 2 ^ 32 - 1
+    → IsSound block more unfinished (length more_taken)
 sound_either (Ok x) block segments more unfinished taken more_taken s held sound ok err number within room =
-    sound_more block segments more unfinished (length taken) (length more_taken) s sound ok.0 (ap length ok.1 ∙ length_push taken held) number within room
+    sound_more block segments more unfinished (length taken) (length more_taken) s sound ok.0
+    (ap length ok.1 ∙ length_push taken held) number within room
 sound_either (Err e) block segments more unfinished taken more_taken s held sound ok err number within room =
-    subst (λ n. IsSound block more unfinished n) (sym (ap length err.1)) (subst (λ xs. IsSound block xs unfinished (length taken)) (sym err.0) sound)
+    subst (λ n. IsSound block more unfinished n) (sym (ap length err.1))
+    (subst (λ xs. IsSound block xs unfinished (length taken)) (sym err.0) sound)
 
 pub get_one : (segments : List LogSegment) (i : ℕ) (s d : LogSegment) → slice_get segments i ≡ Some s → get_or segments i d ≡ s
 get_one [] i s d at = absurd (grind arith)
@@ -136,15 +158,18 @@ get_one (x ∷ segments) zero s d at = same_Some x s at
 get_one (x ∷ segments) (suc i) s d at = get_one segments i s d at
 
 -- leaving out the segment at a place
-pub left_at : (segments : List LogSegment) (i : ℕ) (s d now : LogSegment) → AreNumbered 1 segments → slice_get segments i ≡ Some s → now ≡ left_out (get_or segments i d) → set segments i now ≡ without (1 + i) segments
-left_at segments i s d now numbered at e = ap (set segments i) (e ∙ ap left_out (get_one segments i s d at)) ∙ without_set 1 segments i s numbered at
+pub left_at : (segments : List LogSegment) (i : ℕ) (s d now : LogSegment) → AreNumbered 1 segments → slice_get segments i ≡ Some s
+    → now ≡ left_out (get_or segments i d) → set segments i now ≡ without (1 + i) segments
+left_at segments i s d now numbered at e =
+    ap (set segments i) (e ∙ ap left_out (get_one segments i s d at)) ∙ without_set 1 segments i s numbered at
 
 pub none_unfinished : (o : Option ℕ) → is_some o ≡ false → o ≡ None
 none_unfinished None e = refl
 none_unfinished (Some n) e = absurd (true≢false e)
 
 -- the number of the best
-pub number_chosen : (segments : List LogSegment) (unfinished : Option ℕ) (i : ℕ) (s : LogSegment) → AreNumbered 1 segments → slice_get segments i ≡ Some s → unfinished ≡ None → slice_get segments i ≡ first_best (waiting segments)
+pub number_chosen : (segments : List LogSegment) (unfinished : Option ℕ) (i : ℕ) (s : LogSegment) → AreNumbered 1 segments
+    → slice_get segments i ≡ Some s → unfinished ≡ None → slice_get segments i ≡ first_best (waiting segments)
     → Some (i + 1) ≡ choice_while unfinished segments
 number_chosen segments unfinished i s numbered at none best =
     let number = number_at 1 segments i s numbered at in
@@ -152,7 +177,8 @@ number_chosen segments unfinished i s numbered at none best =
     ap Some same ∙ (ap number_of (sym at ∙ best) ∙ ap (λ o. choice_while o segments) (sym none))
 
 -- what is packed, by the place
-pub packed_at : (cleaning : Cleaning) (number : ℕ) (held : List (ℕ × Option Content)) (s : LogSegment) (lbns : List ℕ) → number - 1 < length cleaning.taken → number - 1 < length cleaning.segments
+pub packed_at : (cleaning : Cleaning) (number : ℕ) (held : List (ℕ × Option Content)) (s : LogSegment) (lbns : List ℕ)
+    → number - 1 < length cleaning.taken → number - 1 < length cleaning.segments
     → held ≡ get_or cleaning.taken (number - 1) held → s ≡ get_or cleaning.segments (number - 1) s → lbns ≡ s.live
     → flat_map (λ lbn. held_in (held_at held) (range_with_len lbn cleaning.block)) lbns ≡ packed_sectors cleaning number
 packed_at cleaning number held s lbns in_taken in_segments at_taken at_segments live =
@@ -160,5 +186,6 @@ packed_at cleaning number held s lbns in_taken in_segments at_taken at_segments 
     (at_taken ∙ get_or_default cleaning.taken (number - 1) held [] in_taken)
     (live ∙ (ap (λ t. t.live) at_segments ∙ sym (get_or-map (λ (t : LogSegment). t.live) cleaning.segments (number - 1) s [] in_segments)))
 
-pub runs_same : {E : Type 0} (r : Result (List ContentRun) E) (xs ys : List (ℕ × Content)) → xs ≡ ys → IfOk r (λ runs. runs ≡ runs_of xs) → IfOk r (λ runs. runs ≡ runs_of ys)
+pub runs_same : {E : Type 0} (r : Result (List ContentRun) E) (xs ys : List (ℕ × Content)) → xs ≡ ys → IfOk r (λ runs. runs ≡ runs_of xs)
+    → IfOk r (λ runs. runs ≡ runs_of ys)
 runs_same r xs ys e h = subst (λ zs. IfOk r (λ runs. runs ≡ runs_of zs)) e h

@@ -1,6 +1,7 @@
 -- The segments of a log that a session cleans, and the choice among them by benefit and cost (Rosenblum and Ousterhout,
 -- The Design and Implementation of a Log-Structured File System); ties are this project's.
-use Rattle.std.specs.Prelude.{ℕ, ◌+◌, ◌-◌, ◌*◌, List, [], ◌∷◌, ◌++◌, Option, None, Some, Bool, true, false, ◌==◌, nat_lt, length, filter, map, if◌then◌else◌}
+use Rattle.std.specs.Prelude.{ℕ, ◌+◌, ◌-◌, ◌*◌, List, [], ◌∷◌, ◌++◌, Option, None, Some, Bool, true, false, ◌==◌, nat_lt, length, filter}
+use Rattle.std.specs.Prelude.{map, if◌then◌else◌}
 use Rattle.std.specs.List.{best_of, flat_map, range_with_len, slice_index_or}
 use Rattle.fb_store.specs.declared.content.Content.{Content}
 use Rattle.fb_store.specs.Index.{held_at}
@@ -29,7 +30,13 @@ live_blocks block lbn (live ∷ lives) = (if live then lbn ∷ [] else []) ++ li
 -- with one more segment
 abbrev pub after_add : ℕ → ℕ → ℕ → List Bool → Cleaning → Cleaning
 after_add first blocks age live before = record before {
-  segments = before.segments ++ record { number = length before.segments + 1; blocks = blocks; age = age; live = live_blocks before.block first live; waits = true } ∷ [];
+  segments = before.segments ++ record {
+    number = length before.segments + 1;
+    blocks = blocks;
+    age = age;
+    live = live_blocks before.block first live;
+    waits = true;
+  } ∷ [];
   taken = before.taken ++ [] ∷ [];
 }
 
@@ -91,4 +98,5 @@ taken_for cleaning number lbn = held_at (slice_index_or cleaning.taken (number -
 
 -- the sectors of a segment's live blocks, in order, each with what was taken
 abbrev pub packed_sectors : Cleaning → ℕ → List (ℕ × Content)
-packed_sectors cleaning number = flat_map (λ lbn. held_in (taken_for cleaning number) (range_with_len lbn cleaning.block)) (live_of cleaning number)
+packed_sectors cleaning number =
+    flat_map (λ lbn. held_in (taken_for cleaning number) (range_with_len lbn cleaning.block)) (live_of cleaning number)

@@ -45,7 +45,8 @@ impl Segment {
     ) -> Result<Segment, NoMemory>
         requires few { length live.now ≤ 4096 }
         requires range { first + length live.now * block ≤ 10 ^ 12 }
-        ensures value { IfOk result (λ segment. segment ≡ record { number = number; blocks = length live.now; age = age; live = live_blocks block first live.now; waits = true }) }
+        ensures value { IfOk result (λ segment. segment
+            ≡ record { number = number; blocks = length live.now; age = age; live = live_blocks block first live.now; waits = true }) }
         ensures within { IfOk result (λ segment. AllByRecursion (λ lbn. lbn + block ≤ 10 ^ 12) segment.live) }
     {
         Ok(Segment {

@@ -1,12 +1,14 @@
 // All segments of one session.
-ghost use Rattle.std.specs.Prelude.{◌≡◌, ◌≢◌, ℕ, List, [], ◌∷◌, ◌++◌, Bool, Option, None, Some, ◌+◌, ◌-◌, ◌*◌, ◌<◌, ◌≤◌, ◌^◌, length, filter, map, IfOk, IfSome, OnOk, OnErr, slice_get};
+ghost use Rattle.std.specs.Prelude.{◌≡◌, ◌≢◌, ℕ, List, [], ◌∷◌, ◌++◌, Bool, Option, None, Some, ◌+◌, ◌-◌, ◌*◌, ◌<◌, ◌≤◌, ◌^◌, length};
+ghost use Rattle.std.specs.Prelude.{filter, map, IfOk, IfSome, OnOk, OnErr, slice_get};
 ghost use Rattle.std.specs.List.{AllByRecursion, flat_map, list_any, range_with_len};
 ghost use Rattle.fb_store.specs.declared.content.Content.{Content};
 ghost use Rattle.fb_store.specs.Index.{held_at};
 ghost use Rattle.fb_store.specs.Sparse.{Gives, after_take, held_in};
 ghost use Rattle.fb_store.specs.Runs.{runs_of};
 ghost use Rattle.fb_clean.specs.Greatest.{IsChoice};
-ghost use Rattle.fb_clean.specs.Segments.{live_blocks, left_out, after_add, choice_of, after_choice, after_drop, live_of, taken_for, packed_sectors};
+ghost use Rattle.fb_clean.specs.Segments.{live_blocks, left_out, after_add, choice_of, after_choice, after_drop, live_of, taken_for};
+ghost use Rattle.fb_clean.specs.Segments.{packed_sectors};
 
 use crate::choice::best_waiting;
 use crate::segment::Segment;
@@ -135,9 +137,13 @@ impl Segments {
     pub fn take(&mut self, block: Block, content: &Contents) -> Result<(), NoMemory>
         requires covers { (content_of : ℕ → Content) × Gives content.now content_of block.lbn block.count }
         requires chosen { self.old.unfinished ≢ None }
-        ensures same { (self.new.block ≡ self.old.block) × (self.new.segments ≡ self.old.segments) × (self.new.unfinished ≡ self.old.unfinished) }
-        ensures ok { OnOk result ((content_of : ℕ → Content) (number lbn : ℕ) → Gives content.now content_of block.lbn block.count → self.old.unfinished ≡ Some number → taken_for self.new number lbn ≡ after_take content_of block.lbn block.count lbn (taken_for self.old number lbn)) }
-        ensures others { (number lbn : ℕ) → 0 < number → self.old.unfinished ≢ Some number → taken_for self.new number lbn ≡ taken_for self.old number lbn }
+        ensures same { (self.new.block ≡ self.old.block) × (self.new.segments ≡ self.old.segments)
+            × (self.new.unfinished ≡ self.old.unfinished) }
+        ensures ok { OnOk result ((content_of : ℕ → Content) (number lbn : ℕ)
+            → Gives content.now content_of block.lbn block.count → self.old.unfinished ≡ Some number
+            → taken_for self.new number lbn ≡ after_take content_of block.lbn block.count lbn (taken_for self.old number lbn)) }
+        ensures others { (number lbn : ℕ) → 0 < number → self.old.unfinished ≢ Some number
+            → taken_for self.new number lbn ≡ taken_for self.old number lbn }
         ensures err { OnErr result ((number lbn : ℕ) → taken_for self.new number lbn ≡ taken_for self.old number lbn) }
     {
         match self.unfinished {
@@ -216,7 +222,8 @@ fn push_both(
     taken: &mut Vec<SparseContents>,
     held: SparseContents,
 ) -> Result<(), NoMemory>
-    ensures ok { OnOk result ((segments.new.items ≡ segments.old.items ++ segment ∷ []) × (taken.new.items ≡ taken.old.items ++ held ∷ [])) }
+    ensures ok { OnOk result ((segments.new.items ≡ segments.old.items ++ segment ∷ [])
+        × (taken.new.items ≡ taken.old.items ++ held ∷ [])) }
     ensures err { OnErr result ((segments.new.items ≡ segments.old.items) × (taken.new.items ≡ taken.old.items)) }
 {
     taken.push(held)?;

@@ -1,5 +1,6 @@
 -- What a read carries, gathered extent by extent, is what it carries, and is due.
-use Rattle.std.proofs.Common.{◌≡◌, List, [], ◌∷◌, ◌++◌, map, filter, Bool, true, false, ◌||◌, inl, inr, refl, sym, ap, ◌∙◌, arith, subst, ℕ, suc, ◌+◌, ◌-◌, ◌≤◌, ◌<◌, length, take, drop, get_or, ◌&&◌, Some, ◌^◌}
+use Rattle.std.proofs.Common.{◌≡◌, List, [], ◌∷◌, ◌++◌, map, filter, Bool, true, false, ◌||◌, inl, inr, refl, sym, ap, ◌∙◌, arith, subst, ℕ}
+use Rattle.std.proofs.Common.{suc, ◌+◌, ◌-◌, ◌≤◌, ◌<◌, length, take, drop, get_or, ◌&&◌, Some, ◌^◌}
 use Rattle.std.specs.List.{fold, AllByRecursion}
 use Rattle.std.proofs.lemmas.Bool.{cases_Bool}
 use Rattle.std.proofs.lemmas.Bool.Decides.{nat_tests}
@@ -51,11 +52,13 @@ front [] a b h = put_behind a b [] (not_both a b h) ∙ sym (put_front b a [] h)
 front (o ∷ os) a b h = elim (cases_Bool (is_before b o)) [
   | inl holds ↦
       let also = after_all a b o h holds in
-      ap (λ xs. place_in xs b) (put_front o a os also) ∙ put_behind a b (o ∷ os) (not_both a b h) ∙ ap (λ xs. a ∷ xs) (put_front o b os holds)
+      ap (λ xs. place_in xs b) (put_front o a os also) ∙ put_behind a b (o ∷ os) (not_both a b h)
+      ∙ ap (λ xs. a ∷ xs) (put_front o b os holds)
       ∙ sym (ap (λ xs. place_in xs a) (put_front o b os holds) ∙ put_front b a (o ∷ os) h)
   | inr fails ↦ elim (cases_Bool (is_before a o)) [
     | inl first ↦
-        ap (λ xs. place_in xs b) (put_front o a os first) ∙ put_behind a b (o ∷ os) (not_both a b h) ∙ ap (λ xs. a ∷ xs) (put_behind o b os fails)
+        ap (λ xs. place_in xs b) (put_front o a os first) ∙ put_behind a b (o ∷ os) (not_both a b h)
+        ∙ ap (λ xs. a ∷ xs) (put_behind o b os fails)
         ∙ sym (ap (λ xs. place_in xs a) (put_behind o b os fails) ∙ put_front o a (place_in os b) first)
     | inr later ↦
         ap (λ xs. place_in xs b) (put_behind o a os later) ∙ put_behind o b (place_in os a) fails ∙ ap (λ xs. o ∷ xs) (front os a b h)
@@ -74,15 +77,21 @@ abbrev pub IsApart : Catch → List Catch → Type 0
 IsApart catch others = AllByRecursion (λ other. same_block catch.block other.block ≡ false) others
 
 -- placed behind the others, it stands where it does when it is placed before them
-pub moved : (os : List Catch) (catch : Catch) (others : List Catch) → IsApart catch others → fold place_in (place_in os catch) others ≡ place_in (fold place_in os others) catch
+pub moved : (os : List Catch) (catch : Catch) (others : List Catch) → IsApart catch others
+    → fold place_in (place_in os catch) others ≡ place_in (fold place_in os others) catch
 moved os catch [] apart = refl
-moved os catch (other ∷ others) apart = ap (λ xs. fold place_in xs others) (swapped os catch other apart.0) ∙ moved (place_in os other) catch others apart.1
+moved os catch (other ∷ others) apart =
+    ap (λ xs. fold place_in xs others) (swapped os catch other apart.0) ∙ moved (place_in os other) catch others apart.1
 
-filtered_apart : (f : Block → Catch) → ((b : Block) → (f b).block ≡ b) → (p : Block → Bool) (block : Block) (blocks : List Block) → AllByRecursion (λ other. same_block block other ≡ false) blocks
+filtered_apart : (f : Block → Catch) → ((b : Block) → (f b).block ≡ b) → (p : Block → Bool) (block : Block) (blocks : List Block)
+    → AllByRecursion (λ other. same_block block other ≡ false) blocks
     → IsApart (f block) (map f (filter p blocks))
 filtered_apart f its p block [] apart = tt
 filtered_apart f its p block (other ∷ blocks) apart = elim (cases_Bool (p other)) [
-  | inl holds ↦ rw holds (subst (λ b. same_block b (f other).block ≡ false) (sym (its block)) (subst (λ b. same_block block b ≡ false) (sym (its other)) apart.0), filtered_apart f its p block blocks apart.1)
+  | inl holds ↦ rw holds (
+    subst (λ b. same_block b (f other).block ≡ false) (sym (its block)) (subst (λ b. same_block block b ≡ false) (sym (its other)) apart.0),
+    filtered_apart f its p block blocks apart.1,
+  )
   | inr fails ↦ rw fails (filtered_apart f its p block blocks apart.1)
 ]
 
@@ -91,8 +100,10 @@ fold_joined os [] ys = refl
 fold_joined os (x ∷ xs) ys = fold_joined (place_in os x) xs ys
 
 -- blocks of one kind and then those of another are the blocks of both kinds
-pub both_kinds : (f : Block → Catch) → ((b : Block) → (f b).block ≡ b) → (p q : Block → Bool) → ((b : Block) → p b ≡ true → q b ≡ false) → (blocks : List Block) → AreDistinct blocks → (os : List Catch)
-    → fold place_in (fold place_in os (map f (filter p blocks))) (map f (filter q blocks)) ≡ fold place_in os (map f (filter (λ b. p b || q b) blocks))
+pub both_kinds : (f : Block → Catch) → ((b : Block) → (f b).block ≡ b) → (p q : Block → Bool) → ((b : Block) → p b ≡ true → q b ≡ false)
+    → (blocks : List Block) → AreDistinct blocks → (os : List Catch)
+    → fold place_in (fold place_in os (map f (filter p blocks))) (map f (filter q blocks))
+    ≡ fold place_in os (map f (filter (λ b. p b || q b) blocks))
 both_kinds f its p q never [] apart os = refl
 both_kinds f its p q never (b ∷ blocks) apart os = elim (cases_Bool (p b)) [
   | inl is_p ↦ let not_q = never b is_p in rw (is_p, not_q) (both_kinds f its p q never blocks apart.1 (place_in os (f b)))
@@ -129,93 +140,116 @@ begins_among first count block = nat_le first block.lbn && nat_lt block.lbn (fir
 -- what the extents add one after another
 abbrev pub added_by_all : List Passage → List Extent → Request → List Catch → List Block → List Catch
 added_by_all passages [] request found blocks = found
-added_by_all passages (extent ∷ extents) request found blocks = added_by_all passages extents request (fold place_in found (map (ride_of passages) (begun_in extent request blocks))) blocks
+added_by_all passages (extent ∷ extents) request found blocks =
+    added_by_all passages extents request (fold place_in found (map (ride_of passages) (begun_in extent request blocks))) blocks
 
 -- extents that are laid end to end add all that begins among their sectors
-pub all_added : (passages : List Passage) (extents : List Extent) (request : Request) (first count : ℕ) → AreLaid first extents count → (blocks : List Block) → AreDistinct blocks → (found : List Catch)
-    → added_by_all passages extents request found blocks ≡ fold place_in found (map (ride_of passages) (filter (λ b. begins_among first count b && lies_in request b) blocks))
+pub all_added : (passages : List Passage) (extents : List Extent) (request : Request) (first count : ℕ) → AreLaid first extents count
+    → (blocks : List Block) → AreDistinct blocks → (found : List Catch)
+    → added_by_all passages extents request found blocks
+    ≡ fold place_in found (map (ride_of passages) (filter (λ b. begins_among first count b && lies_in request b) blocks))
 all_added passages [] request first count laid blocks apart found =
-    sym (ap (λ bs. fold place_in found (map (ride_of passages) bs)) (filter_none (λ b. begins_among first count b && lies_in request b) blocks
+    sym
+    (ap (λ bs. fold place_in found (map (ride_of passages) bs)) (filter_none (λ b. begins_among first count b && lies_in request b) blocks
     (all_any _ (λ b. let none : begins_among first count b ≡ false = grind (arith, nat_tests) in rw none refl) blocks)))
 all_added passages (extent ∷ extents) request first count laid blocks apart found =
     let rest = first + extent.count in
     let left = count - extent.count in
     let here = λ (b : Block). begins_in extent b && lies_in request b in
     let later = λ (b : Block). begins_among rest left b && lies_in request b in
-    all_added passages extents request rest left laid.2 blocks apart (fold place_in found (map (ride_of passages) (begun_in extent request blocks)))
+    all_added passages extents request rest left laid.2 blocks apart
+    (fold place_in found (map (ride_of passages) (begun_in extent request blocks)))
     ∙ both_kinds (ride_of passages) (λ b. refl) here later
     (λ b is_here. not_later extent request first rest left laid.0 refl b is_here) blocks apart found
-    ∙ ap (λ bs. fold place_in found (map (ride_of passages) bs)) (filter_same (λ b. here b || later b) (λ b. begins_among first count b && lies_in request b) blocks
+    ∙ ap (λ bs. fold place_in found (map (ride_of passages) bs))
+    (filter_same (λ b. here b || later b) (λ b. begins_among first count b && lies_in request b) blocks
     (all_any _ (λ b. either_way extent request first count laid.0 laid.1 b) blocks))
   where
-    not_later : (extent : Extent) (request : Request) (first rest left : ℕ) → extent.first ≡ first → rest ≡ first + extent.count → (b : Block) → begins_in extent b && lies_in request b ≡ true
+    not_later : (extent : Extent) (request : Request) (first rest left : ℕ) → extent.first ≡ first → rest ≡ first + extent.count
+        → (b : Block) → begins_in extent b && lies_in request b ≡ true
         → begins_among rest left b && lies_in request b ≡ false
     not_later extent request first rest left at e b h = grind (arith, nat_tests)
 
     either_way : (extent : Extent) (request : Request) (first count : ℕ) → extent.first ≡ first → extent.count ≤ count → (b : Block)
-        → (begins_in extent b && lies_in request b) || (begins_among (first + extent.count) (count - extent.count) b && lies_in request b) ≡ begins_among first count b && lies_in request b
+        → (begins_in extent b && lies_in request b) || (begins_among (first + extent.count) (count - extent.count) b && lies_in request b)
+        ≡ begins_among first count b && lies_in request b
     either_way extent request first count at few b = grind (arith, nat_tests)
 
 -- what begins in an extent lies on its track
-own_track : (disk : Shape) (extent : Extent) (request : Request) → IsUnbroken disk extent → (entries : List Entry) → AllByRecursion (λ entry. entry.block.track ≡ track_at disk entry.block.lbn) entries
+own_track : (disk : Shape) (extent : Extent) (request : Request) → IsUnbroken disk extent → (entries : List Entry)
+    → AllByRecursion (λ entry. entry.block.track ≡ track_at disk entry.block.lbn) entries
     → begun_in extent request (wanted_of (on_track extent.track entries)) ≡ begun_in extent request (wanted_of entries)
 own_track disk extent request unbroken [] all = refl
 own_track disk extent request unbroken (entry ∷ entries) all = elim (cases_Bool (same_track extent.track entry.block.track)) [
   | inl on ↦ grind (arith, own_track disk extent request unbroken entries all.1)
-  | inr off ↦ grind (arith, not_here disk extent request unbroken entry.block all.0 off, own_track disk extent request unbroken entries all.1)
+  | inr off ↦
+      grind (arith, not_here disk extent request unbroken entry.block all.0 off, own_track disk extent request unbroken entries all.1)
 ]
   where
-    not_here : (disk : Shape) (extent : Extent) (request : Request) → IsUnbroken disk extent → (block : Block) → block.track ≡ track_at disk block.lbn → same_track extent.track block.track ≡ false
+    not_here : (disk : Shape) (extent : Extent) (request : Request) → IsUnbroken disk extent → (block : Block)
+        → block.track ≡ track_at disk block.lbn → same_track extent.track block.track ≡ false
         → begins_in extent block && lies_in request block ≡ false
     not_here disk extent request unbroken block at off = elim (cases_Bool (begins_in extent block)) [
       | inl begins ↦
           let from : extent.first ≤ block.lbn = grind (arith, nat_tests) in
           let to : block.lbn < extent.first + extent.count = grind (arith, nat_tests) in
           let place : extent.first + (block.lbn - extent.first) ≡ block.lbn = omega arith in
-          let same : block.track ≡ extent.track = at ∙ ap (track_at disk) (sym place) ∙ unbroken.on_track (block.lbn - extent.first) (omega arith) in
+          let same : block.track ≡ extent.track = at ∙ ap (track_at disk) (sym place)
+          ∙ unbroken.on_track (block.lbn - extent.first) (omega arith) in
           let is_same : same_track extent.track block.track ≡ true = ap (same_track extent.track) same ∙ track_itself extent.track in
           absurd (let wrong : true ≡ false = sym is_same ∙ off in cc)
       | inr other ↦ rw other refl
     ]
 
-pub next_added : (disk : Shape) (passages : List Passage) (extents : List Extent) (i : ℕ) (d : Extent) (request : Request) (found found' : List Catch) (entries : List Entry) → i < length extents
+pub next_added : (disk : Shape) (passages : List Passage) (extents : List Extent) (i : ℕ) (d : Extent) (request : Request)
+    (found found' : List Catch) (entries : List Entry) → i < length extents
     → IsUnbroken disk (get_or extents i d) → AllByRecursion (λ entry. entry.block.track ≡ track_at disk entry.block.lbn) entries
     → fold place_in [] found'
     ≡ fold place_in [] (added passages (get_or extents i d) request found (wanted_of (on_track (get_or extents i d).track entries)))
-    → added_by_all passages (drop i extents) request (fold place_in [] found) (wanted_of entries) ≡ added_by_all passages (drop (i + 1) extents) request (fold place_in [] found') (wanted_of entries)
+    → added_by_all passages (drop i extents) request (fold place_in [] found) (wanted_of entries)
+    ≡ added_by_all passages (drop (i + 1) extents) request (fold place_in [] found') (wanted_of entries)
 next_added disk passages extents i d request found found' entries within unbroken on_tracks next =
     let own = own_track disk (get_or extents i d) request unbroken entries on_tracks in
     ap (λ es. added_by_all passages es request (fold place_in [] found) (wanted_of entries)) (drop_more extents i d within)
     ∙ ap (λ f. added_by_all passages (drop (i + 1) extents) request f (wanted_of entries))
     (ap (λ bs. fold place_in (fold place_in [] found) (map (ride_of passages) bs)) (sym own) ∙ sym (fold_joined [] found _) ∙ sym next)
 
-pub none_added : (passages : List Passage) (extents : List Extent) (n : ℕ) (request : Request) (found : List Catch) (blocks : List Block) → length extents ≤ n → added_by_all passages (drop n extents) request found blocks ≡ found
-none_added passages extents n request found blocks within = ap (λ es. added_by_all passages es request found blocks) (drop_all n extents within)
+pub none_added : (passages : List Passage) (extents : List Extent) (n : ℕ) (request : Request) (found : List Catch) (blocks : List Block)
+    → length extents ≤ n → added_by_all passages (drop n extents) request found blocks ≡ found
+none_added passages extents n request found blocks within =
+    ap (λ es. added_by_all passages es request found blocks) (drop_all n extents within)
 
-begins : (request : Request) (block : Block) → 0 < block.count → (begins_among request.lbn request.count block && lies_in request block) ≡ lies_in request block
+begins : (request : Request) (block : Block) → 0 < block.count
+    → (begins_among request.lbn request.count block && lies_in request block) ≡ lies_in request block
 begins request block some = grind (arith, nat_tests)
 
 -- extents of a whole read add what it carries
-pub carried_whole : (passages : List Passage) (extents : List Extent) (request : Request) (blocks : List Block) → AreLaid request.lbn extents request.count → AreDistinct blocks → AllByRecursion (λ block. 0 < block.count) blocks
+pub carried_whole : (passages : List Passage) (extents : List Extent) (request : Request) (blocks : List Block)
+    → AreLaid request.lbn extents request.count → AreDistinct blocks → AllByRecursion (λ block. 0 < block.count) blocks
     → added_by_all passages extents request [] blocks ≡ carried_of passages request blocks
 unfolding carried_of
 carried_whole passages extents request blocks laid apart some =
     all_added passages extents request request.lbn request.count laid blocks apart []
-    ∙ ap (λ bs. fold place_in [] (map (ride_of passages) bs)) (filter_same _ (lies_in request) blocks (all_weaker _ _ (begins request) blocks some))
+    ∙ ap (λ bs. fold place_in [] (map (ride_of passages) bs))
+    (filter_same _ (lies_in request) blocks (all_weaker _ _ (begins request) blocks some))
 
-pub each_wanted : (P : Block → Type 0) (entries : List Entry) → AllByRecursion (λ entry. P entry.block) entries → AllByRecursion P (wanted_of entries)
+pub each_wanted : (P : Block → Type 0) (entries : List Entry) → AllByRecursion (λ entry. P entry.block) entries
+    → AllByRecursion P (wanted_of entries)
 each_wanted P [] all = tt
 each_wanted P (entry ∷ entries) all = grind (arith, all.0, each_wanted P entries all.1)
 
-pub extent_at : (P : Extent → Type 0) (extents : List Extent) → AllByRecursion P extents → (i : ℕ) (d : Extent) → i < length extents → P (get_or extents i d)
+pub extent_at : (P : Extent → Type 0) (extents : List Extent) → AllByRecursion P extents → (i : ℕ) (d : Extent) → i < length extents
+    → P (get_or extents i d)
 extent_at P extents all i d within = all_at P extents i (get_or extents i d) all (slice_get-get_or extents i d within)
 
 -- ---- what a read carries is due: its blocks are wanted, and each is another than the others
 
 abbrev pub ride_row : Holding → Served → Block → DeliveryRow
-ride_row holding served block = delivery (held_now holding) ByRide block (begin_at served.passages block.lbn) (end_at served.passages (block.lbn + block.count - 1))
+ride_row holding served block =
+    delivery (held_now holding) ByRide block (begin_at served.passages block.lbn) (end_at served.passages (block.lbn + block.count - 1))
 
-rows_by : (holding : Holding) (served : Served) (bs : List Block) → map (row_in holding ByRide) (map (ride_of served.passages) bs) ≡ map (ride_row holding served) bs
+rows_by : (holding : Holding) (served : Served) (bs : List Block)
+    → map (row_in holding ByRide) (map (ride_of served.passages) bs) ≡ map (ride_row holding served) bs
 rows_by holding served [] = refl
 rows_by holding served (b ∷ bs) = ap (λ rs. ride_row holding served b ∷ rs) (rows_by holding served bs)
 
@@ -224,19 +258,28 @@ pub rows-carried : (holding : Holding) (served : Served) (blocks : List Block) �
     → map (row_in holding ByRide) (carried_of served.passages served.request blocks) ≡ rides (held_now holding) served blocks
 unfolding carried_of
 rows-carried holding served blocks reads = rw reads
-    (rows-in_order holding ByRide (map (ride_of served.passages) (filter (lies_in served.request) blocks)) ∙ ap in_order (rows_by holding served (filter (lies_in served.request) blocks)))
+    (rows-in_order holding ByRide (map (ride_of served.passages) (filter (lies_in served.request) blocks))
+    ∙ ap in_order (rows_by holding served (filter (lies_in served.request) blocks)))
 
-pub due-carried : (holding : Holding) (served : Served) (past : Past) → served.request.write ≡ false → AreDistinct (wanted past) → AreDue past (rides (held_now holding) served (wanted past))
-due-carried holding served past reads distinct = rw reads (due-filtered past (lies_in served.request) (ride_row holding served) (λ b. refl) distinct)
+pub due-carried : (holding : Holding) (served : Served) (past : Past) → served.request.write ≡ false → AreDistinct (wanted past)
+    → AreDue past (rides (held_now holding) served (wanted past))
+due-carried holding served past reads distinct =
+    rw reads (due-filtered past (lies_in served.request) (ride_row holding served) (λ b. refl) distinct)
 
-pub none-carried : (holding : Holding) (served : Served) (blocks : List Block) → served.request.write ≡ true → rides (held_now holding) served blocks ≡ []
+pub none-carried : (holding : Holding) (served : Served) (blocks : List Block) → served.request.write ≡ true
+    → rides (held_now holding) served blocks ≡ []
 none-carried holding served blocks writes = rw writes refl
 
 -- no block of a disk ends behind the last sector that a disk may have
 pub ends_within : (disk : Disk) (block : Block) → IsBlockOn disk.map block → block.lbn + block.count ≤ 10 ^ 12
 ends_within disk block fits = omega (arith, fits.on_disk, disk.few_blocks)
 
-pub all-extents : (disk : Disk) (extents : List Extent) → AllByRecursion (λ extent. extent.first + extent.count ≤ length (places disk.map)) extents → AllByRecursion (IsUnbroken disk.map) extents
+pub all-extents : (disk : Disk) (extents : List Extent)
+    → AllByRecursion (λ extent. extent.first + extent.count ≤ length (places disk.map)) extents
+    → AllByRecursion (IsUnbroken disk.map) extents
     → AllByRecursion (λ extent. extent.begin ≤ 10 ^ 19) extents → length (places disk.map) ≤ 10 ^ 12 → AreExtents disk.map extents
 all-extents disk [] within unbroken early few = tt
-all-extents disk (extent ∷ extents) within unbroken early few = (record { on_disk = within.0; within = omega (arith, within.0, few); early = early.0; unbroken = unbroken.0 }, all-extents disk extents within.1 unbroken.1 early.1 few)
+all-extents disk (extent ∷ extents) within unbroken early few = (
+  record { on_disk = within.0; within = omega (arith, within.0, few); early = early.0; unbroken = unbroken.0 },
+  all-extents disk extents within.1 unbroken.1 early.1 few,
+)

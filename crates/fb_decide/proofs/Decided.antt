@@ -1,5 +1,6 @@
 -- Who has arrived and is taken, and the next instant and decision, from what stands before them.
-use Rattle.std.proofs.Common.{◌≡◌, ℕ, zero, suc, ◌+◌, ◌<◌, ◌≤◌, max, List, [], ◌∷◌, ◌++◌, length, drop, Bool, true, false, refl, ap, sym, ◌∙◌, arith, Option, Some, None, append_assoc, inl, inr, subst, ◌⊎◌, min, map, take}
+use Rattle.std.proofs.Common.{◌≡◌, ℕ, zero, suc, ◌+◌, ◌<◌, ◌≤◌, max, List, [], ◌∷◌, ◌++◌, length, drop, Bool, true, false, refl, ap, sym}
+use Rattle.std.proofs.Common.{◌∙◌, arith, Option, Some, None, append_assoc, inl, inr, subst, ◌⊎◌, min, map, take}
 use Rattle.std.specs.Prelude.{slice_get, IfSome, nat_le, ◌==◌, filter, unwrap_or}
 use Rattle.std.specs.Option.{option_map}
 use Rattle.std.specs.List.{list_any, AllByRecursion, fold}
@@ -9,7 +10,8 @@ use Rattle.fb_units.proofs.Lists.{all_filter}
 use Rattle.fb_units.specs.declared.types.Track.{Track}
 use Rattle.fb_units.specs.declared.types.Request.{Request}
 use Rattle.fb_service.specs.declared.disk.Disk.{Disk}
-use Rattle.fb_model.specs.PlainReplay.{Key, has_arrived, better, first_least, first_ready, start_of, service, finish, last_track, plain, Served}
+use Rattle.fb_model.specs.PlainReplay.{Key, has_arrived, better, first_least, first_ready, start_of, service, finish, last_track, plain}
+use Rattle.fb_model.specs.PlainReplay.{Served}
 use Rattle.fb_model.specs.Accepted.{IsRequestOf}
 use Rattle.fb_decide.specs.Waiting.{left, IsWaiting, AreByArrival}
 use Rattle.fb_model.specs.Laws.{IsFirstLeast, IsPickOf}
@@ -24,13 +26,15 @@ use Rattle.fb_model.specs.Inputs.{Inputs, requests}
 use Rattle.fb_model.specs.Decisions.{instants_of, serves, idles, idle_until, last_decision, decisions_from}
 use Rattle.fb_model.proofs.Instants.{IsAmong, rising_all_among, was_all_among}
 use Rattle.fb_decide.specs.Deciding.{next_of}
-use Rattle.fb_decide.proofs.Instants.{LieApart, all_of_both, one_of_second, one_filtered, filtered_below, idle_none, idle_next, last_after, last_passed}
+use Rattle.fb_decide.proofs.Instants.{LieApart, all_of_both, one_of_second, one_filtered, filtered_below, idle_none, idle_next, last_after}
+use Rattle.fb_decide.proofs.Instants.{last_passed}
 use Rattle.fb_model.proofs.Replays.{start_from as start_after}
 
 -- ---- who has arrived, and who is taken
 
 -- none of them has arrived
-pub none_come : (now a : ℕ) → now < a → (rs : List Request) → AllByRecursion (λ r. a ≤ r.arrival) rs → AllByRecursion (λ r. now < r.arrival) rs
+pub none_come : (now a : ℕ) → now < a → (rs : List Request) → AllByRecursion (λ r. a ≤ r.arrival) rs
+    → AllByRecursion (λ r. now < r.arrival) rs
 none_come now a h rs all = all_weaker (λ (r : Request). a ≤ r.arrival) (λ r. now < r.arrival) (λ r le. omega (arith, h, le)) rs all
 
 none_any : (now : ℕ) (rs : List Request) → AllByRecursion (λ r. now < r.arrival) rs → list_any (has_arrived now) rs ≡ false
@@ -45,7 +49,8 @@ start_ahead now r rs order = elim (cases_lt now r.arrival) [
 ]
 
 -- a request that waits starts now
-pub start_waiting : (now : ℕ) (ps qs : List Request) → 0 < length ps → AllByRecursion (λ r. r.arrival ≤ now) ps → start_of now (ps ++ qs) ≡ now
+pub start_waiting : (now : ℕ) (ps qs : List Request) → 0 < length ps → AllByRecursion (λ r. r.arrival ≤ now) ps
+    → start_of now (ps ++ qs) ≡ now
 start_waiting now [] qs h all = absurd (omega arith)
 start_waiting now (p ∷ ps) qs h all = rw (by_is p.arrival now all.0) refl
 
@@ -56,12 +61,14 @@ none_ready key now (r ∷ rs) all = rw (after_is r.arrival now all.0, none_ready
 abbrev with_rest : List Request → Request × List Request → Request × List Request
 with_rest qs best = (best.0, best.1 ++ qs)
 
-better_rest : (key : Request → ℕ) (p : Request) (ps qs : List Request) (best : Option (Request × List Request)) → better key p (ps ++ qs) (option_map (with_rest qs) best) ≡ option_map (with_rest qs) (better key p ps best)
+better_rest : (key : Request → ℕ) (p : Request) (ps qs : List Request) (best : Option (Request × List Request))
+    → better key p (ps ++ qs) (option_map (with_rest qs) best) ≡ option_map (with_rest qs) (better key p ps best)
 better_rest key p ps qs None = refl
 better_rest key p ps qs (Some best) = grind arith
 
 -- those ahead are not looked at
-pub ready_waiting : (key : Request → ℕ) (now : ℕ) (ps qs : List Request) → AllByRecursion (λ r. r.arrival ≤ now) ps → AllByRecursion (λ r. now < r.arrival) qs
+pub ready_waiting : (key : Request → ℕ) (now : ℕ) (ps qs : List Request) → AllByRecursion (λ r. r.arrival ≤ now) ps
+    → AllByRecursion (λ r. now < r.arrival) qs
     → first_ready key now (ps ++ qs) ≡ option_map (with_rest qs) (first_least key ps)
 ready_waiting key now [] qs here ahead = none_ready key now qs ahead
 ready_waiting key now (p ∷ ps) qs here ahead =
@@ -73,38 +80,51 @@ order_dropped (suc n) [] order = order
 order_dropped (suc n) (r ∷ rs) order = order_dropped n rs order.1
 
 -- behind one that has not arrived, none has
-pub ahead_of : (now n : ℕ) (rs : List Request) → AreByArrival rs → IfSome (slice_get rs n) (λ r. now < r.arrival) → AllByRecursion (λ r. now < r.arrival) (drop n rs)
+pub ahead_of : (now n : ℕ) (rs : List Request) → AreByArrival rs → IfSome (slice_get rs n) (λ r. now < r.arrival)
+    → AllByRecursion (λ r. now < r.arrival) (drop n rs)
 ahead_of now zero [] order h = tt
 ahead_of now zero (r ∷ rs) order h = (h, none_come now r.arrival h rs order.0)
 ahead_of now (suc n) [] order h = tt
 ahead_of now (suc n) (r ∷ rs) order h = ahead_of now n rs order.1 h
 
 -- the next service and the rest
-pub plain_next : (n : ℕ) (disk : Disk) (key : Key) (head : Track) (now : ℕ) (left : List Request) (start : ℕ) (pick : Request) (rest : List Request)
+pub plain_next : (n : ℕ) (disk : Disk) (key : Key) (head : Track) (now : ℕ) (left : List Request) (start : ℕ) (pick : Request)
+    (rest : List Request)
     → start ≡ start_of now left → first_ready (key disk head start) start left ≡ Some (pick, rest)
     → plain (suc n) disk key head now left
-    ≡ service disk head start pick ∷ plain n disk key (last_track disk (service disk head start pick)) (finish (service disk head start pick)) rest
+    ≡ service disk head start pick
+    ∷ plain n disk key (last_track disk (service disk head start pick)) (finish (service disk head start pick)) rest
 unfolding plain
 plain_next n disk key head now left start pick rest e f = rw (← e) (rw f refl)
 
 not_none : (n : ℕ) → true ≡ (suc n == 0) → ⊥
 not_none n e = grind (arith, nat_tests)
 
-pub taken : (P : Request → Type 0) (key : Request → ℕ) (ps : List Request) (r : Request) (rest : List Request) → AllByRecursion P ps → first_least key ps ≡ Some (r, rest)
+pub taken : (P : Request → Type 0) (key : Request → ℕ) (ps : List Request) (r : Request) (rest : List Request) → AllByRecursion P ps
+    → first_least key ps ≡ Some (r, rest)
     → P r × (AllByRecursion P rest × (length rest + 1 ≡ length ps))
 taken P key ps r rest all e =
     let m : IsFirstLeast key ps r rest = subst (IsPickOf key ps) e (pick_of-first_least key ps) in
     let both = all_without P m.front m.back r (subst (AllByRecursion P) m.whole all) in
-    (both.0, (subst (AllByRecursion P) (sym m.rest) both.1, omega (arith, ap length m.whole, ap length m.rest, length-append m.front (r ∷ m.back), length-append m.front m.back)))
+    (
+      both.0,
+      (
+        subst (AllByRecursion P) (sym m.rest) both.1,
+        omega (arith, ap length m.whole, ap length m.rest, length-append m.front (r ∷ m.back), length-append m.front m.back),
+      ),
+    )
 
 -- what the queue takes is what the plain replay takes
-pub taken_ready : (key : Request → ℕ) (now : ℕ) (ps qs : List Request) (r : Request) (rest : List Request) → AllByRecursion (λ r. r.arrival ≤ now) ps → AllByRecursion (λ r. now < r.arrival) qs
+pub taken_ready : (key : Request → ℕ) (now : ℕ) (ps qs : List Request) (r : Request) (rest : List Request)
+    → AllByRecursion (λ r. r.arrival ≤ now) ps → AllByRecursion (λ r. now < r.arrival) qs
     → first_least key ps ≡ Some (r, rest) → first_ready key now (ps ++ qs) ≡ Some (r, rest ++ qs)
 taken_ready key now ps qs r rest here ahead e = ready_waiting key now ps qs here ahead ∙ ap (option_map (with_rest qs)) e
 
 -- requests that have arrived join those that wait
-pub join_waiting : {disk : Disk} {requests pending waiting : List Request} {now next later before after : ℕ} → IsWaiting disk requests now next before pending
-    → later ≤ length requests → after ≡ later → left requests later waiting ≡ left requests next pending → AllByRecursion (λ r. r.arrival ≤ now) waiting
+pub join_waiting : {disk : Disk} {requests pending waiting : List Request} {now next later before after : ℕ}
+    → IsWaiting disk requests now next before pending
+    → later ≤ length requests → after ≡ later → left requests later waiting ≡ left requests next pending
+    → AllByRecursion (λ r. r.arrival ≤ now) waiting
     → IsWaiting disk requests now later after waiting
 join_waiting {disk} h within counted same arrived = record {
   within = within;
@@ -120,7 +140,8 @@ none_served zero disk key head now rs e = refl
 none_served (suc n) disk key head now rs e = absurd (omega arith)
 
 -- a list of services goes on by one
-pub one_more : (done : List Served) (served : Served) (before after whole : List Served) → before ≡ served ∷ after → done ++ before ≡ whole → (done ++ served ∷ []) ++ after ≡ whole
+pub one_more : (done : List Served) (served : Served) (before after whole : List Served) → before ≡ served ∷ after → done ++ before ≡ whole
+    → (done ++ served ∷ []) ++ after ≡ whole
 one_more done served before after whole e h = append_assoc done (served ∷ []) after ∙ ap (λ xs. done ++ xs) (sym e) ∙ h
 
 pub none_waits : (ps : List Request) → true ≡ (length ps == 0) → ps ≡ []
@@ -153,8 +174,10 @@ either_is r c t e = record {
 
 pub next_is : (a : Option Request) (b : Option Call) (t : ℕ) → next_of a b ≡ Some t → IsNextOf a b t
 next_is None None t e = absurd (no_some t e)
-next_is (Some r) None t e = let same = some_one r.arrival t e in record { arrives = omega (arith, same); calls = tt; one = inl (r, refl, same) }
-next_is None (Some c) t e = let same = some_one c.instant t e in record { arrives = tt; calls = omega (arith, same); one = inr (c, refl, same) }
+next_is (Some r) None t e = let same = some_one r.arrival t e in
+    record { arrives = omega (arith, same); calls = tt; one = inl (r, refl, same) }
+next_is None (Some c) t e = let same = some_one c.instant t e in
+    record { arrives = tt; calls = omega (arith, same); one = inr (c, refl, same) }
 next_is (Some r) (Some c) t e = either_is r c t (some_one (min r.arrival c.instant) t e)
 
 -- and where there is none, nothing is to come
@@ -166,13 +189,16 @@ none_is (Some r) (Some c) e = absurd (no_some (min r.arrival c.instant) (sym e))
 
 module _ {X : Type 0} (f : X → ℕ) where
   -- of elements in order the first n have come, and the others come no earlier than the next
-  apart_at : (now t n : ℕ) (xs : List X) → IsRising (map f xs) → AllByRecursion (λ x. f x ≤ now) (take n xs) → IfSome (slice_get xs n) (λ x. t ≤ f x) → LieApart now t (map f xs)
+  apart_at : (now t n : ℕ) (xs : List X) → IsRising (map f xs) → AllByRecursion (λ x. f x ≤ now) (take n xs)
+      → IfSome (slice_get xs n) (λ x. t ≤ f x) → LieApart now t (map f xs)
   apart_at now t zero [] rising come next = tt
-  apart_at now t zero (x ∷ xs) rising come next = (inr next, all_weaker (λ y. f x ≤ y) (λ y. (y ≤ now) ⊎ (t ≤ y)) (λ y h. inr (omega (arith, h, next))) (map f xs) rising.0)
+  apart_at now t zero (x ∷ xs) rising come next =
+      (inr next, all_weaker (λ y. f x ≤ y) (λ y. (y ≤ now) ⊎ (t ≤ y)) (λ y h. inr (omega (arith, h, next))) (map f xs) rising.0)
   apart_at now t (suc n) [] rising come next = tt
   apart_at now t (suc n) (x ∷ xs) rising come next = (inl come.0, apart_at now t n xs rising.1 come.1 next)
 
-  passed_at : (now n : ℕ) (xs : List X) → AllByRecursion (λ x. f x ≤ now) (take n xs) → slice_get xs n ≡ None → AllByRecursion (λ t. t ≤ now) (map f xs)
+  passed_at : (now n : ℕ) (xs : List X) → AllByRecursion (λ x. f x ≤ now) (take n xs) → slice_get xs n ≡ None
+      → AllByRecursion (λ t. t ≤ now) (map f xs)
   passed_at now zero [] come none = tt
   passed_at now zero (x ∷ xs) come none = absurd (no_some x (sym none))
   passed_at now (suc n) [] come none = tt
@@ -191,10 +217,12 @@ none_dropped (suc n) [] none = refl
 none_dropped (suc n) (x ∷ xs) none = none_dropped n xs none
 
 -- requests behind the next one arrive no earlier
-pub later_dropped : (t n : ℕ) (list : List Request) → IsRising (map (λ r. r.arrival) list) → IfSome (slice_get list n) (λ r. t ≤ r.arrival) → AllByRecursion (λ r. t ≤ r.arrival) (drop n list)
+pub later_dropped : (t n : ℕ) (list : List Request) → IsRising (map (λ r. r.arrival) list) → IfSome (slice_get list n) (λ r. t ≤ r.arrival)
+    → AllByRecursion (λ r. t ≤ r.arrival) (drop n list)
 later_dropped t zero [] rising next = tt
 later_dropped t zero (r ∷ rs) rising next = (next, behind rs rising.0) where
-  behind : (rs : List Request) → AllByRecursion (λ later. r.arrival ≤ later) (map (λ r. r.arrival) rs) → AllByRecursion (λ r. t ≤ r.arrival) rs
+  behind : (rs : List Request) → AllByRecursion (λ later. r.arrival ≤ later) (map (λ r. r.arrival) rs)
+      → AllByRecursion (λ r. t ≤ r.arrival) rs
   behind [] all = tt
   behind (o ∷ rs) all = (omega (arith, all.0, next), behind rs all.1)
 later_dropped t (suc n) [] rising next = tt
@@ -222,16 +250,20 @@ module _ (inputs : Inputs) (now joined called : ℕ) (come : HasCome inputs now 
 
     pub to_come : now < t
     to_come = elim is_next.one [
-      | inl first ↦ (let late : now < first.0.arrival = subst (λ (o : Option Request). IfSome o (λ r. now < r.arrival)) first.1 come.no_arrival in omega (arith, late, first.2))
-      | inr second ↦ (let late : now < second.0.instant = subst (λ (o : Option Call). IfSome o (λ c. now < c.instant)) second.1 come.no_call in omega (arith, late, second.2))
+      | inl first ↦ (let late : now < first.0.arrival =
+          subst (λ (o : Option Request). IfSome o (λ r. now < r.arrival)) first.1 come.no_arrival in omega (arith, late, first.2))
+      | inr second ↦ (let late : now < second.0.instant =
+          subst (λ (o : Option Call). IfSome o (λ c. now < c.instant)) second.1 come.no_call in omega (arith, late, second.2))
     ]
 
     pub among_instants : IsAmong t (instants_of inputs)
     among_instants = elim is_next.one [
       | inl first ↦ was_all_among t (map (λ c. c.instant) inputs.calls) (map (λ r. r.arrival) (requests inputs))
-          (subst (λ u. IsAmong u (map (λ r. r.arrival) (requests inputs))) first.2 (there_at (λ r. r.arrival) joined (requests inputs) first.0 first.1))
+          (subst (λ u. IsAmong u (map (λ r. r.arrival) (requests inputs))) first.2
+          (there_at (λ r. r.arrival) joined (requests inputs) first.0 first.1))
       | inr second ↦ one_of_second t (map (λ c. c.instant) inputs.calls) (map (λ r. r.arrival) (requests inputs))
-          (subst (λ u. IsAmong u (map (λ c. c.instant) inputs.calls)) second.2 (there_at (λ c. c.instant) called inputs.calls second.0 second.1))
+          (subst (λ u. IsAmong u (map (λ c. c.instant) inputs.calls)) second.2
+          (there_at (λ c. c.instant) called inputs.calls second.0 second.1))
     ]
 
     pub apart_instants : LieApart now t (instants_of inputs)
@@ -247,7 +279,8 @@ module _ (inputs : Inputs) (now joined called : ℕ) (come : HasCome inputs now 
     passed_instants =
         let none = none_is (slice_get (requests inputs) joined) (slice_get inputs.calls called) h in
         all_of_both (λ x. x ≤ now) (map (λ c. c.instant) inputs.calls) (map (λ r. r.arrival) (requests inputs))
-        (passed_at (λ r. r.arrival) now joined (requests inputs) come.arrivals none.0) (passed_at (λ c. c.instant) now called inputs.calls come.calls none.1)
+        (passed_at (λ r. r.arrival) now joined (requests inputs) come.arrivals none.0)
+        (passed_at (λ c. c.instant) now called inputs.calls come.calls none.1)
 
     pub none_left : drop joined (requests inputs) ≡ []
     none_left = none_dropped joined (requests inputs) (none_is (slice_get (requests inputs) joined) (slice_get inputs.calls called) h).0
@@ -257,10 +290,12 @@ module _ (inputs : Inputs) (now joined called : ℕ) (come : HasCome inputs now 
 -- a request that starts now is the next decision
 pub serves_now : (disk : Disk) (instants : List ℕ) (until : ℕ) (head : Track) (now : ℕ) (request : Request) (later : List Served)
     → decisions_from disk instants until head now (service disk head now request ∷ later)
-    ≡ serves (service disk head now request) ∷ decisions_from disk instants until (last_track disk (service disk head now request)) (finish (service disk head now request)) later
+    ≡ serves (service disk head now request)
+    ∷ decisions_from disk instants until (last_track disk (service disk head now request)) (finish (service disk head now request)) later
 unfolding decisions_from
 serves_now disk instants until head now request later =
-    ap (λ dwells. dwells ++ serves (service disk head now request) ∷ decisions_from disk instants until (last_track disk (service disk head now request)) (finish (service disk head now request)) later)
+    ap (λ dwells. dwells ++ serves (service disk head now request)
+    ∷ decisions_from disk instants until (last_track disk (service disk head now request)) (finish (service disk head now request)) later)
     (idle_none head now (filter (λ instant. nat_le instant now) instants) (filtered_below now instants))
 
 -- the first of these services starts at an instant or later
@@ -271,11 +306,13 @@ StartsFrom t (served ∷ later) = t ≤ served.start
 -- the head stays until the least instant to come, if no request starts before
 pub stays_next : (disk : Disk) (instants : List ℕ) (until : ℕ) (head : Track) (now t : ℕ) (rest : List Served)
     → now < t → IsRising instants → IsAmong t instants → LieApart now t instants → StartsFrom t rest
-    → decisions_from disk instants until head now rest ≡ idles (record { track = head; begin = now; end = t }) ∷ decisions_from disk instants until head t rest
+    → decisions_from disk instants until head now rest ≡ idles (record { track = head; begin = now; end = t })
+    ∷ decisions_from disk instants until head t rest
 unfolding decisions_from
 stays_next disk instants until head now t [] less rising there apart starts =
     ap (λ dwells. dwells ++ last_decision head (fold max now instants) until ∷ []) (idle_next head now t instants less rising there apart)
-    ∙ ap (λ last. idles (record { track = head; begin = now; end = t }) ∷ (idle_until head t instants ++ last_decision head last until ∷ [])) (last_after now t instants (omega arith) there)
+    ∙ ap (λ last. idles (record { track = head; begin = now; end = t })
+    ∷ (idle_until head t instants ++ last_decision head last until ∷ [])) (last_after now t instants (omega arith) there)
 stays_next disk instants until head now t (served ∷ later) less rising there apart starts =
     let by : ℕ → Bool = λ instant. nat_le instant served.start in
     ap (λ dwells. dwells ++ serves served ∷ decisions_from disk instants until (last_track disk served) (finish served) later)
@@ -292,11 +329,14 @@ ends_now disk instants until head now passed =
     ∙ ap (λ last. last_decision head last until ∷ []) (last_passed now instants passed)
 
 -- requests that have not arrived start as if the head had stayed until then
-pub start_same : (now t : ℕ) (left : List Request) → now ≤ t → AreByArrival left → AllByRecursion (λ r. t ≤ r.arrival) left → 0 < length left → start_of now left ≡ start_of t left
+pub start_same : (now t : ℕ) (left : List Request) → now ≤ t → AreByArrival left → AllByRecursion (λ r. t ≤ r.arrival) left
+    → 0 < length left → start_of now left ≡ start_of t left
 start_same now t [] before order late some = absurd (omega arith)
-start_same now t (r ∷ rs) before order late some = start_ahead now r rs order ∙ ((let same : max r.arrival now ≡ max r.arrival t = omega (arith, late.0) in same) ∙ sym (start_ahead t r rs order))
+start_same now t (r ∷ rs) before order late some = start_ahead now r rs order
+    ∙ ((let same : max r.arrival now ≡ max r.arrival t = omega (arith, late.0) in same) ∙ sym (start_ahead t r rs order))
 
-pub plain_same : (n : ℕ) (disk : Disk) (key : Key) (head : Track) (now t : ℕ) (left : List Request) → now ≤ t → AreByArrival left → AllByRecursion (λ r. t ≤ r.arrival) left
+pub plain_same : (n : ℕ) (disk : Disk) (key : Key) (head : Track) (now t : ℕ) (left : List Request) → now ≤ t → AreByArrival left
+    → AllByRecursion (λ r. t ≤ r.arrival) left
     → plain n disk key head now left ≡ plain n disk key head t left
 unfolding plain
 plain_same zero disk key head now t left before order late = refl
@@ -314,7 +354,9 @@ starts_on : (n : ℕ) (disk : Disk) (key : Key) (head : Track) (t start : ℕ) �
 starts_on n disk key head t start late None = tt
 starts_on n disk key head t start late (Some pick) = late
 
-pub starts_from : (n : ℕ) (disk : Disk) (key : Key) (head : Track) (t : ℕ) (left : List Request) → StartsFrom t (plain n disk key head t left)
+pub starts_from : (n : ℕ) (disk : Disk) (key : Key) (head : Track) (t : ℕ) (left : List Request)
+    → StartsFrom t (plain n disk key head t left)
 unfolding plain
 starts_from zero disk key head t left = tt
-starts_from (suc n) disk key head t left = starts_on n disk key head t (start_of t left) (start_after t left) (first_ready (key disk head (start_of t left)) (start_of t left) left)
+starts_from (suc n) disk key head t left = starts_on n disk key head t (start_of t left) (start_after t left)
+    (first_ready (key disk head (start_of t left)) (start_of t left) left)

@@ -1,5 +1,6 @@
 -- What deliveries make of a history, and deliveries after deliveries.
-use Rattle.std.proofs.Common.{◌≡◌, ℕ, zero, suc, ◌+◌, ◌^◌, ◌≤◌, ◌&&◌, ◌||◌, not, if◌then◌else◌, List, [], ◌∷◌, ◌++◌, Bool, true, false, Some, length, filter, map, take, slice_get, append-nil, append_assoc, refl, ap, ap₂, sym, ◌∙◌, subst, arith}
+use Rattle.std.proofs.Common.{◌≡◌, ℕ, zero, suc, ◌+◌, ◌^◌, ◌≤◌, ◌&&◌, ◌||◌, not, if◌then◌else◌, List, [], ◌∷◌, ◌++◌, Bool, true, false}
+use Rattle.std.proofs.Common.{Some, length, filter, map, take, slice_get, append-nil, append_assoc, refl, ap, ap₂, sym, ◌∙◌, subst, arith}
 use Rattle.std.specs.Prelude.{Result, Ok, Err, IfOk}
 use Rattle.std.specs.List.{AllByRecursion, list_any, range_with_len}
 use Rattle.std.proofs.lemmas.List.Concat.{flat_map-append}
@@ -32,7 +33,8 @@ use Rattle.fb_tasks.specs.Telling.{Tells, MayDeliver, IsUpToDate, IsBlockOf, ent
 use Rattle.fb_tasks.proofs.Lists.{all_append, all_at, all_map, all_weaker, filter_from}
 use Rattle.fb_tasks.proofs.States.{shown}
 use Rattle.fb_decide.specs.declared.background.Background.{Background}
-use Rattle.fb_decide.specs.Deliveries.{IsCurrent, HasDelivered, IsRegistered, AreDistinct, AreDue, IsOneOf, block_in, followed, past_with, rows_of, held_now}
+use Rattle.fb_decide.specs.Deliveries.{IsCurrent, HasDelivered, IsRegistered, AreDistinct, AreDue, IsOneOf, block_in, followed, past_with}
+use Rattle.fb_decide.specs.Deliveries.{rows_of, held_now}
 
 -- the wanted set gives the blocks that are wanted
 wanted_by : (past : Past) (bs : List Block) → wanted_of (map (entry_of past) bs) ≡ filter (λ b. is_wanted (state past b)) bs
@@ -40,12 +42,14 @@ unfolding view
 wanted_by past [] = refl
 wanted_by past (b ∷ bs) = grind (arith, wanted_by past bs)
 
-pub wanted-told : {disk : Shape} {past : Past} {sessions : List Session} {held : List Entry} → Tells disk past sessions held → wanted_of held ≡ wanted past
+pub wanted-told : {disk : Shape} {past : Past} {sessions : List Session} {held : List Entry} → Tells disk past sessions held
+    → wanted_of held ≡ wanted past
 unfolding wanted
 wanted-told {past} tells = ap wanted_of tells.entries ∙ wanted_by past (registered past)
 
 -- each of them lies on the disk
-pub fits-told : (disk : Disk) (past : Past) (sessions : List Session) (held : List Entry) → Tells disk.map past sessions held → AreOnDisk disk held
+pub fits-told : (disk : Disk) (past : Past) (sessions : List Session) (held : List Entry) → Tells disk.map past sessions held
+    → AreOnDisk disk held
 fits-told disk past sessions held tells = λ i entry at. all_at (λ (e : Entry). IsBlockOn disk.map e.block) held i entry
     (subst (AllByRecursion (λ (e : Entry). IsBlockOn disk.map e.block)) (sym tells.entries)
     (all_map (λ (e : Entry). IsBlockOn disk.map e.block) (entry_of past) (registered past)
@@ -53,16 +57,19 @@ fits-told disk past sessions held tells = λ i entry at. all_at (λ (e : Entry).
 
 pub wanted-registered : (past : Past) (place : ℕ) (block : Block) → slice_get (wanted past) place ≡ Some block → IsRegistered past block
 unfolding wanted
-wanted-registered past place block at = let found = filter_from (λ b. is_wanted (state past b)) (registered past) place block at in (found.0, found.1)
+wanted-registered past place block at = let found = filter_from (λ b. is_wanted (state past b)) (registered past) place block at in
+    (found.0, found.1)
 
 -- the block is none of the delivered ones
 abbrev pub none_of : List DeliveryRow → Block → Bool
 none_of gots block = not (list_any (λ got. same_block got.block block) gots)
 
-still_wanted : (it held_back : Bool) (bare : State) → is_wanted (shown (if it then Delivered else bare) held_back) ≡ (not it && is_wanted (shown bare held_back))
+still_wanted : (it held_back : Bool) (bare : State)
+    → is_wanted (shown (if it then Delivered else bare) held_back) ≡ (not it && is_wanted (shown bare held_back))
 still_wanted it held_back bare = grind arith
 
-wanted_then : (past : Past) (got : DeliveryRow) (block : Block) → is_wanted (state (with_delivery past (delivery_of past got)) block) ≡ (not (same_block got.block block) && is_wanted (state past block))
+wanted_then : (past : Past) (got : DeliveryRow) (block : Block) → is_wanted (state (with_delivery past (delivery_of past got)) block)
+    ≡ (not (same_block got.block block) && is_wanted (state past block))
 unfolding bare_state
 wanted_then past got block = still_wanted (same_block got.block block) (is_suspended past block.task) (bare_state past block)
 
@@ -74,11 +81,13 @@ same_registered : (past : Past) (delivery : Delivery) → registered (with_deliv
 same_registered past delivery = refl
 
 -- the wanted blocks but for the delivered one
-pub wanted-after : (past : Past) (got : DeliveryRow) → wanted (with_delivery past (delivery_of past got)) ≡ filter (λ block. not (same_block got.block block)) (wanted past)
+pub wanted-after : (past : Past) (got : DeliveryRow)
+    → wanted (with_delivery past (delivery_of past got)) ≡ filter (λ block. not (same_block got.block block)) (wanted past)
 unfolding wanted
 wanted-after past got =
     ap (filter (λ b. is_wanted (state (with_delivery past (delivery_of past got)) b))) (same_registered past (delivery_of past got))
-    ∙ filter_again (λ b. is_wanted (state past b)) (λ b. not (same_block got.block b)) (λ b. is_wanted (state (with_delivery past (delivery_of past got)) b)) (wanted_then past got) (registered past)
+    ∙ filter_again (λ b. is_wanted (state past b)) (λ b. not (same_block got.block b))
+    (λ b. is_wanted (state (with_delivery past (delivery_of past got)) b)) (wanted_then past got) (registered past)
 
 none_more : (a b : Bool) → not (a || b) ≡ (not b && not a)
 none_more a b = grind arith
@@ -93,34 +102,41 @@ wanted-with past [] = all_left (wanted past)
 wanted-with past (got ∷ gots) =
     wanted-with (with_delivery past (delivery_of past got)) gots
     ∙ (ap (filter (none_of gots)) (wanted-after past got)
-    ∙ sym (filter_again (λ b. not (same_block got.block b)) (none_of gots) (none_of (got ∷ gots)) (λ b. none_more (same_block got.block b) (list_any (λ g. same_block g.block b) gots)) (wanted past)))
+    ∙ sym (filter_again (λ b. not (same_block got.block b)) (none_of gots) (none_of (got ∷ gots))
+    (λ b. none_more (same_block got.block b) (list_any (λ g. same_block g.block b) gots)) (wanted past)))
 
 pub registered-with : (past : Past) (gots : List DeliveryRow) → registered (past_with past gots) ≡ registered past
 registered-with past [] = refl
-registered-with past (got ∷ gots) = registered-with (with_delivery past (delivery_of past got)) gots ∙ same_registered past (delivery_of past got)
+registered-with past (got ∷ gots) =
+    registered-with (with_delivery past (delivery_of past got)) gots ∙ same_registered past (delivery_of past got)
 
 -- deliveries one after another
 pub past_with-append : (past : Past) (xs ys : List DeliveryRow) → past_with past (xs ++ ys) ≡ past_with (past_with past xs) ys
 past_with-append past [] ys = refl
 past_with-append past (x ∷ xs) ys = past_with-append (with_delivery past (delivery_of past x)) xs ys
 
-pub followed-append : (past : Past) (xs ys : List DeliveryRow) → followed past (xs ++ ys) ≡ followed past xs ++ followed (past_with past xs) ys
+pub followed-append : (past : Past) (xs ys : List DeliveryRow)
+    → followed past (xs ++ ys) ≡ followed past xs ++ followed (past_with past xs) ys
 followed-append past [] ys = refl
 followed-append past (x ∷ xs) ys = ap (λ ds. delivery_of past x ∷ ds) (followed-append (with_delivery past (delivery_of past x)) xs ys)
 
 abbrev lines_of : Delivery → List BackRow
 lines_of delivery = GotLine delivery.got ∷ delivery.after
 
-pub rows-append : (past : Past) (xs ys : List DeliveryRow) → rows_of (followed past (xs ++ ys)) ≡ rows_of (followed past xs) ++ rows_of (followed (past_with past xs) ys)
-rows-append past xs ys = ap rows_of (followed-append past xs ys) ∙ flat_map-append lines_of (followed past xs) (followed (past_with past xs) ys)
+pub rows-append : (past : Past) (xs ys : List DeliveryRow)
+    → rows_of (followed past (xs ++ ys)) ≡ rows_of (followed past xs) ++ rows_of (followed (past_with past xs) ys)
+rows-append past xs ys =
+    ap rows_of (followed-append past xs ys) ∙ flat_map-append lines_of (followed past xs) (followed (past_with past xs) ys)
 
 -- a wanted block may be delivered, with what its sectors hold
-pub wanted-on_disk : (disk : Shape) (past : Past) (place : ℕ) (block : Block) (background : Background) → IsCurrent disk past background → slice_get (wanted past) place ≡ Some block → block.lbn + block.count ≤ 10 ^ 12
+pub wanted-on_disk : (disk : Shape) (past : Past) (place : ℕ) (block : Block) (background : Background) → IsCurrent disk past background
+    → slice_get (wanted past) place ≡ Some block → block.lbn + block.count ≤ 10 ^ 12
 wanted-on_disk disk past place block background current at =
     let found = wanted-registered past place block at in
     (all_at (IsBlockOf disk (length (tasks past))) (registered past) found.0 block current.tells.on_disk found.1).within
 
-pub may-deliver : (disk : Shape) (past : Past) (place : ℕ) (got : DeliveryRow) (background : Background) (content_at : ℕ → Content) → IsCurrent disk past background → slice_get (wanted past) place ≡ Some got.block
+pub may-deliver : (disk : Shape) (past : Past) (place : ℕ) (got : DeliveryRow) (background : Background) (content_at : ℕ → Content)
+    → IsCurrent disk past background → slice_get (wanted past) place ≡ Some got.block
     → Gives got.content content_at got.block.lbn got.block.count → MayDeliver disk past background.sessions background.wanted got
 may-deliver disk past place got background content_at current at gives = record {
   tells = current.tells;
@@ -132,19 +148,23 @@ may-deliver disk past place got background content_at current at gives = record 
 }
 
 -- and is delivered then
-pub delivered-one : (disk : Shape) (past : Past) (place : ℕ) (got row : DeliveryRow) (before after : Background) → got ≡ row → slice_get (wanted past) place ≡ Some got.block
-    → Tells disk (with_delivery past (delivery_of past got)) after.sessions after.wanted → IsUpToDate (with_delivery past (delivery_of past got)) → after.rows ≡ before.rows ++ GotLine got ∷ rows_after past got
+pub delivered-one : (disk : Shape) (past : Past) (place : ℕ) (got row : DeliveryRow) (before after : Background) → got ≡ row
+    → slice_get (wanted past) place ≡ Some got.block
+    → Tells disk (with_delivery past (delivery_of past got)) after.sessions after.wanted
+    → IsUpToDate (with_delivery past (delivery_of past got)) → after.rows ≡ before.rows ++ GotLine got ∷ rows_after past got
     → HasDelivered disk past (row ∷ []) before.rows after
-delivered-one disk past place got row before after is at tells up_to_date rows = subst (λ r. HasDelivered disk past (r ∷ []) before.rows after) is (record {
-  current = record { tells = tells; up_to_date = up_to_date };
-  rows_after = rows ∙ ap (λ rs. before.rows ++ rs) (sym (append-nil (GotLine got ∷ rows_after past got)));
-  registered = (wanted-registered past place got.block at, tt);
-})
+delivered-one disk past place got row before after is at tells up_to_date rows =
+    subst (λ r. HasDelivered disk past (r ∷ []) before.rows after) is (record {
+      current = record { tells = tells; up_to_date = up_to_date };
+      rows_after = rows ∙ ap (λ rs. before.rows ++ rs) (sym (append-nil (GotLine got ∷ rows_after past got)));
+      registered = (wanted-registered past place got.block at, tt);
+    })
 
 abbrev made : How → Block → ℕ → ℕ → ℕ → List ContentRun → DeliveryRow
 made how block begin end bad content = record { block = block; begin = begin; end = end; how = how; bad = bad; content = content }
 
-pub row-is : (holding : Holding) (how : How) (block : Block) (begin end bad : ℕ) (content : List ContentRun) → content ≡ runs_of (map (λ lbn. (lbn, content_in holding lbn)) (range_with_len block.lbn block.count)) → bad ≡ bad_of content
+pub row-is : (holding : Holding) (how : How) (block : Block) (begin end bad : ℕ) (content : List ContentRun)
+    → content ≡ runs_of (map (λ lbn. (lbn, content_in holding lbn)) (range_with_len block.lbn block.count)) → bad ≡ bad_of content
     → made how block begin end bad content ≡ delivery (held_now holding) how block begin end
 row-is holding how block begin end bad content is counted =
     ap₂ (made how block begin end) (counted ∙ ap bad_of is) is
@@ -154,30 +174,36 @@ if_ok_with P Q R (Ok x) f p q = f x p q
 if_ok_with P Q R (Err e) f p q = tt
 
 -- nothing was delivered
-pub delivered-none : {disk : Shape} {past : Past} {background : Background} → IsCurrent disk past background → HasDelivered disk past [] background.rows background
+pub delivered-none : {disk : Shape} {past : Past} {background : Background} → IsCurrent disk past background
+    → HasDelivered disk past [] background.rows background
 delivered-none {background} current = record { current = current; rows_after = sym (append-nil background.rows); registered = tt }
 
 -- first some deliveries, and then others
 pub delivered-join : {disk : Shape} {past : Past} {xs ys : List DeliveryRow} {rows : List BackRow} {middle after : Background}
-    → HasDelivered disk past xs rows middle → HasDelivered disk (past_with past xs) ys middle.rows after → HasDelivered disk past (xs ++ ys) rows after
+    → HasDelivered disk past xs rows middle → HasDelivered disk (past_with past xs) ys middle.rows after
+    → HasDelivered disk past (xs ++ ys) rows after
 delivered-join {disk} {past} {xs} {ys} {rows} {middle} {after} first next = record {
   current = subst (λ p. IsCurrent disk p after) (sym (past_with-append past xs ys)) next.current;
   rows_after = next.rows_after ∙ (ap (λ rs. rs ++ rows_of (followed (past_with past xs) ys)) first.rows_after
       ∙ (append_assoc rows (rows_of (followed past xs)) (rows_of (followed (past_with past xs) ys))
       ∙ ap (λ rs. rows ++ rs) (sym (rows-append past xs ys))));
   registered = all_append (λ got. IsRegistered past got.block) xs ys first.registered
-      (all_weaker (λ got. IsRegistered (past_with past xs) got.block) (λ got. IsRegistered past got.block) (λ got h. (h.0, ap (λ bs. slice_get bs h.0) (sym (registered-with past xs)) ∙ h.1)) ys next.registered);
+      (all_weaker (λ got. IsRegistered (past_with past xs) got.block) (λ got. IsRegistered past got.block)
+      (λ got h. (h.0, ap (λ bs. slice_get bs h.0) (sym (registered-with past xs)) ∙ h.1)) ys next.registered);
 }
 
-not_yet : (gots : List DeliveryRow) (k : ℕ) (got : DeliveryRow) → AreDistinct (map block_in gots) → slice_get gots k ≡ Some got → list_any (λ g. same_block g.block got.block) (take k gots) ≡ false
+not_yet : (gots : List DeliveryRow) (k : ℕ) (got : DeliveryRow) → AreDistinct (map block_in gots) → slice_get gots k ≡ Some got
+    → list_any (λ g. same_block g.block got.block) (take k gots) ≡ false
 not_yet [] k got distinct at = absurd (grind arith)
 not_yet (g ∷ gots) zero got distinct at = refl
 not_yet (g ∷ gots) (suc k) got distinct at =
-    let other : same_block g.block got.block ≡ false = all_at (λ b. same_block g.block b ≡ false) (map block_in gots) k got.block distinct.0 (map_at block_in gots k got at) in
+    let other : same_block g.block got.block ≡ false =
+    all_at (λ b. same_block g.block b ≡ false) (map block_in gots) k got.block distinct.0 (map_at block_in gots k got at) in
     rw other (not_yet gots k got distinct.1 at)
 
 -- the next of them is still wanted
-pub next-wanted : (past : Past) (gots : List DeliveryRow) (k : ℕ) (got : DeliveryRow) → AreDue past gots → slice_get gots k ≡ Some got → IsOneOf (wanted (past_with past (take k gots))) got.block
+pub next-wanted : (past : Past) (gots : List DeliveryRow) (k : ℕ) (got : DeliveryRow) → AreDue past gots → slice_get gots k ≡ Some got
+    → IsOneOf (wanted (past_with past (take k gots))) got.block
 next-wanted past gots k got due at =
     let found = all_at (λ g. IsOneOf (wanted past) g.block) gots k got due.each at in
     let still = filter_to (none_of (take k gots)) (wanted past) found.0 got.block found.1 (ap not (not_yet gots k got due.distinct at)) in

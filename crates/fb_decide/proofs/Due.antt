@@ -25,7 +25,8 @@ pub due_same : (medium : Medium) (holding : Holding) (act : Act) (to : ℕ) (blo
     → due medium.disk (held_now holding) act blocks ≡ due medium.disk (contents_at medium) act blocks
 due_same medium holding act to blocks made is over some mirrors =
     let agree = mirrored medium holding (instant_of (decision_of act)) to mirrors in
-    same_due medium.disk (held_now holding) (contents_at medium) (instant_of (decision_of act)) to agree act blocks made is (omega arith) over some
+    same_due medium.disk (held_now holding) (contents_at medium) (instant_of (decision_of act)) to agree act blocks made is
+    (omega arith) over some
 
 -- and each lies within the decision
 pub due_found : (disk : Disk) (holding : Holding) (act : Act) (to : ℕ) (blocks : List Block)

@@ -22,10 +22,13 @@ use Rattle.fb_model.specs.Content.{Medium, medium_of, contents_at}
 use Rattle.fb_model.specs.Plans.{catches, early_dwell, late_dwell}
 use Rattle.fb_model.specs.Rides.{delivery, caught, rides, missed, lies_in, gap_of, due}
 use Rattle.fb_model.specs.Decisions.{Decision, serves, idles, ends, instant_of, Act, serving, idling, ending}
-use Rattle.fb_model.specs.History.{Event, delivered, tested, Past, tasks, task_numbers, terms_of, registered, registered_by, wanted, state, is_open_backup}
+use Rattle.fb_model.specs.History.{Event, delivered, tested, Past, tasks, task_numbers, terms_of, registered, registered_by, wanted, state}
+use Rattle.fb_model.specs.History.{is_open_backup}
 use Rattle.fb_model.specs.Completion.{choices, work, is_complete, was_complete}
-use Rattle.fb_model.specs.Images.{findings, is_scrub, bad_sectors, segment_rows, seal_rows, complete_rows, is_newly_cleaned, image, packed, test_rows}
-use Rattle.fb_model.specs.Steps.{Delivery, Step, decision_in, take_call, calls_due, with_delivery, with_finish, chosen_past, past_after, opening, step_rows, task_row, task_rows}
+use Rattle.fb_model.specs.Images.{findings, is_scrub, bad_sectors, segment_rows, seal_rows, complete_rows, is_newly_cleaned, image, packed}
+use Rattle.fb_model.specs.Images.{test_rows}
+use Rattle.fb_model.specs.Steps.{Delivery, Step, decision_in, take_call, calls_due, with_delivery, with_finish, chosen_past, past_after}
+use Rattle.fb_model.specs.Steps.{opening, step_rows, task_row, task_rows}
 use Rattle.fb_model.specs.SoundRun.{AreFollowed}
 use Rattle.fb_model.proofs.Lists.{all_map}
 use Rattle.fb_tasks.specs.declared.session.Session.{Session}
@@ -52,7 +55,8 @@ pub record PastFits (n : ℕ) (past : Past) : Type 0 where
 module _ (n : ℕ) where
   fits_before : (past : Past) (event : Event) → PastFits n (event ∷ past) → PastFits n past
   fits_before past event fits = record {
-    blocks = all_left (BlockFits n) (registered past) (registered_by event) (subst (AllByRecursion (BlockFits n)) (registered_after past event) fits.blocks);
+    blocks = all_left (BlockFits n) (registered past) (registered_by event) (subst (AllByRecursion (BlockFits n))
+        (registered_after past event) fits.blocks);
     few = (let few = fits.few in omega (arith, few, tasks_more past event));
   }
 
@@ -62,7 +66,8 @@ module _ (n : ℕ) where
 
   fits_deliveries : (past : Past) (deliveries : List Delivery) → PastFits n (fold with_delivery past deliveries) → PastFits n past
   fits_deliveries past [] fits = fits
-  fits_deliveries past (delivery ∷ deliveries) fits = fits_before past _ (fits_before (delivered delivery.got ∷ past) _ (fits_deliveries (with_delivery past delivery) deliveries fits))
+  fits_deliveries past (delivery ∷ deliveries) fits =
+      fits_before past _ (fits_before (delivered delivery.got ∷ past) _ (fits_deliveries (with_delivery past delivery) deliveries fits))
 
   fits_finish : (past : Past) (decision : Decision) → PastFits n (with_finish past decision) → PastFits n past
   fits_finish past (serves served) fits = fits_before past _ fits
@@ -74,16 +79,20 @@ module _ (n : ℕ) where
   fits_chosen inputs past decision fits =
       let called = fold (take_call inputs.disk.map) past (calls_due inputs.calls past (instant_of decision)) in
       fits_calls inputs.disk past (calls_due inputs.calls past (instant_of decision))
-      (by_all (λ p. PastFits n p → PastFits n called) inputs.disk.map (λ p task segment blocks h now. h (fits_before p _ now)) called (λ h. h) fits)
+      (by_all (λ p. PastFits n p → PastFits n called) inputs.disk.map (λ p task segment blocks h now. h (fits_before p _ now)) called
+      (λ h. h) fits)
 
-  fits_tested : (inputs : Inputs) (past : Past) (step : Step) → PastFits n (past_after inputs past step) → PastFits n (tested step.test ∷ chosen_past inputs past (decision_in step))
+  fits_tested : (inputs : Inputs) (past : Past) (step : Step) → PastFits n (past_after inputs past step)
+      → PastFits n (tested step.test ∷ chosen_past inputs past (decision_in step))
   unfolding past_after
-  fits_tested inputs past step fits = fits_deliveries (tested step.test ∷ chosen_past inputs past (decision_in step)) step.deliveries (fits_finish _ (decision_in step) fits)
+  fits_tested inputs past step fits = fits_deliveries (tested step.test
+      ∷ chosen_past inputs past (decision_in step)) step.deliveries (fits_finish _ (decision_in step) fits)
 
   -- ---- the rows of tests
 
   in_range : (past : Past) → PastFits n past → AllByRecursion (λ task. task < n) (task_numbers past)
-  in_range past fits = all_range (λ task. task < n) 0 (length (tasks past)) (λ k from below. let few = fits.few in omega (arith, below, few))
+  in_range past fits =
+      all_range (λ task. task < n) 0 (length (tasks past)) (λ k from below. let few = fits.few in omega (arith, below, few))
 
   one_fits : (b : Bool) (row : BackRow) → RowFits n row → AllByRecursion (RowFits n) (if b then row ∷ [] else [])
   one_fits true row fits = (fits, tt)
@@ -102,12 +111,17 @@ module _ (n : ℕ) where
 
     tests_fit : AllByRecursion (RowFits n) (test_rows medium past now)
     unfolding test_rows
-    tests_fit = all_append (RowFits n) (flat_map (segment_rows (packed medium past) past now) (task_numbers past)) (flat_map (λ task. seal_rows (image medium past task now) past now task ++ complete_rows past now task) (task_numbers past))
+    tests_fit = all_append (RowFits n) (flat_map (segment_rows (packed medium past) past now) (task_numbers past))
+        (flat_map (λ task. seal_rows (image medium past task now) past now task ++ complete_rows past now task) (task_numbers past))
         (flat_all (RowFits n) (segment_rows (packed medium past) past now) (task_numbers past)
-        (all_weaker (λ task. task < n) (λ task. AllByRecursion (RowFits n) (segment_rows (packed medium past) past now task)) segments_fit (task_numbers past) (in_range past fits)))
-        (flat_all (RowFits n) (λ task. seal_rows (image medium past task now) past now task ++ complete_rows past now task) (task_numbers past)
-        (all_weaker (λ task. task < n) (λ task. AllByRecursion (RowFits n) (seal_rows (image medium past task now) past now task ++ complete_rows past now task))
-        (λ task below. all_append (RowFits n) (seal_rows (image medium past task now) past now task) (complete_rows past now task) (seals_fit task below) (completes_fit task below)) (task_numbers past) (in_range past fits)))
+        (all_weaker (λ task. task < n) (λ task. AllByRecursion (RowFits n) (segment_rows (packed medium past) past now task)) segments_fit
+        (task_numbers past) (in_range past fits)))
+        (flat_all (RowFits n) (λ task. seal_rows (image medium past task now) past now task ++ complete_rows past now task)
+        (task_numbers past)
+        (all_weaker (λ task. task < n)
+        (λ task. AllByRecursion (RowFits n) (seal_rows (image medium past task now) past now task ++ complete_rows past now task))
+        (λ task below. all_append (RowFits n) (seal_rows (image medium past task now) past now task) (complete_rows past now task)
+        (seals_fit task below) (completes_fit task below)) (task_numbers past) (in_range past fits)))
 
   -- ---- deliveries and what follows them
 
@@ -115,21 +129,25 @@ module _ (n : ℕ) where
   abbrev pub GotFits : DeliveryRow → Type 0
   GotFits got = got.block.task < n
 
-  caught_fits : (medium : Medium) (how : How) (dwell : _) (blocks : List Block) → AllByRecursion (BlockFits n) blocks → AllByRecursion GotFits (caught medium.disk (contents_at medium) how dwell blocks)
+  caught_fits : (medium : Medium) (how : How) (dwell : _) (blocks : List Block) → AllByRecursion (BlockFits n) blocks
+      → AllByRecursion GotFits (caught medium.disk (contents_at medium) how dwell blocks)
   caught_fits medium how dwell blocks all = in_order-each GotFits _ (all_map GotFits _ (filter (catches medium.disk dwell) blocks)
       (all_filter (BlockFits n) (catches medium.disk dwell) blocks all))
 
-  rides_fit : (medium : Medium) (served : Served) (blocks : List Block) → AllByRecursion (BlockFits n) blocks → AllByRecursion GotFits (rides (contents_at medium) served blocks)
+  rides_fit : (medium : Medium) (served : Served) (blocks : List Block) → AllByRecursion (BlockFits n) blocks
+      → AllByRecursion GotFits (rides (contents_at medium) served blocks)
   rides_fit medium served blocks all = elim (cases_Bool served.request.write) [
     | inl writes ↦ rw writes tt
     | inr reads ↦ rw reads (in_order-each GotFits _ (all_map GotFits _ (filter (lies_in served.request) blocks)
         (all_filter (BlockFits n) (lies_in served.request) blocks all)))
   ]
 
-  missed_fit : (disk : Disk) (dwell : _) (blocks : List Block) → AllByRecursion (BlockFits n) blocks → AllByRecursion (BlockFits n) (missed disk dwell blocks)
+  missed_fit : (disk : Disk) (dwell : _) (blocks : List Block) → AllByRecursion (BlockFits n) blocks
+      → AllByRecursion (BlockFits n) (missed disk dwell blocks)
   missed_fit disk dwell blocks all = all_filter (BlockFits n) (λ block. not (catches disk dwell block)) blocks all
 
-  due_fits : (medium : Medium) (act : Act) (blocks : List Block) → AllByRecursion (BlockFits n) blocks → AllByRecursion GotFits (due medium.disk (contents_at medium) act blocks)
+  due_fits : (medium : Medium) (act : Act) (blocks : List Block) → AllByRecursion (BlockFits n) blocks
+      → AllByRecursion GotFits (due medium.disk (contents_at medium) act blocks)
   unfolding due
   due_fits medium (serving served plan) blocks all =
       let early = early_dwell medium.disk (gap_of medium.disk served) plan in
@@ -137,18 +155,21 @@ module _ (n : ℕ) where
       let left = missed medium.disk early blocks in
       let left_fit = missed_fit medium.disk early blocks all in
       all_append GotFits _ (rides (contents_at medium) served (missed medium.disk late left))
-      (all_append GotFits (caught medium.disk (contents_at medium) _ early blocks) (caught medium.disk (contents_at medium) _ late left) (caught_fits medium _ early blocks all) (caught_fits medium _ late left left_fit))
+      (all_append GotFits (caught medium.disk (contents_at medium) _ early blocks) (caught medium.disk (contents_at medium) _ late left)
+      (caught_fits medium _ early blocks all) (caught_fits medium _ late left left_fit))
       (rides_fit medium served (missed medium.disk late left) (missed_fit medium.disk late left left_fit))
   due_fits medium (idling dwell) blocks all = caught_fits medium _ dwell blocks all
   due_fits medium (ending now) blocks all = tt
 
   findings_fit : (past : Past) (got : DeliveryRow) → GotFits got → AllByRecursion (RowFits n) (findings past got)
   findings_fit past got fits = elim (cases_Bool (is_scrub (terms_of past got.block.task).kind)) [
-    | inl scrubs ↦ rw scrubs (all_map (RowFits n) _ (bad_sectors got.content) (all_any _ (λ lbn names e. omega (arith, e, fits)) (bad_sectors got.content)))
+    | inl scrubs ↦ rw scrubs (all_map (RowFits n) _ (bad_sectors got.content)
+        (all_any _ (λ lbn names e. omega (arith, e, fits)) (bad_sectors got.content)))
     | inr other ↦ rw other tt
   ]
 
-  followed_fit : (medium : Medium) (past : Past) (deliveries : List Delivery) → PastFits n past → AllByRecursion GotFits (map (λ delivery. delivery.got) deliveries) → AreFollowed medium past deliveries
+  followed_fit : (medium : Medium) (past : Past) (deliveries : List Delivery) → PastFits n past
+      → AllByRecursion GotFits (map (λ delivery. delivery.got) deliveries) → AreFollowed medium past deliveries
       → AllByRecursion (RowFits n) (flat_map (λ (delivery : Delivery). GotLine delivery.got ∷ delivery.after) deliveries)
   followed_fit medium past [] fits gots follows = tt
   followed_fit medium past (delivery ∷ deliveries) fits gots follows =
@@ -156,9 +177,11 @@ module _ (n : ℕ) where
       let now : PastFits n (delivered delivery.got ∷ past) = record { blocks = fits.blocks; few = fits.few } in (
         (λ names e. omega (arith, e, got)),
         all_append (RowFits n) delivery.after (flat_map (λ (delivery : Delivery). GotLine delivery.got ∷ delivery.after) deliveries)
-            (subst (AllByRecursion (RowFits n)) (sym follows.0) (all_append (RowFits n) (findings past delivery.got) (test_rows medium (delivered delivery.got ∷ past) delivery.got.end)
+            (subst (AllByRecursion (RowFits n)) (sym follows.0)
+            (all_append (RowFits n) (findings past delivery.got) (test_rows medium (delivered delivery.got ∷ past) delivery.got.end)
             (findings_fit past delivery.got got) (tests_fit medium (delivered delivery.got ∷ past) delivery.got.end now)))
-            (followed_fit medium (with_delivery past delivery) deliveries (record { blocks = fits.blocks; few = fits.few }) gots.1 follows.1),
+            (followed_fit medium (with_delivery past delivery) deliveries
+            (record { blocks = fits.blocks; few = fits.few }) gots.1 follows.1),
       )
 
   -- ---- the rows of steps
@@ -172,26 +195,32 @@ module _ (n : ℕ) where
   unfolding wanted
   wanted_fit past fits = all_filter (BlockFits n) (λ block. is_wanted (state past block)) (registered past) fits.blocks
 
-  pub step_fits : (inputs : Inputs) (past : Past) (step : Step) → IsMade inputs past step → PastFits n (past_after inputs past step) → AllByRecursion (RowFits n) (step_rows inputs.disk step)
+  pub step_fits : (inputs : Inputs) (past : Past) (step : Step) → IsMade inputs past step → PastFits n (past_after inputs past step)
+      → AllByRecursion (RowFits n) (step_rows inputs.disk step)
   step_fits inputs past step made fits =
       let medium = medium_of inputs in
       let tests = fits_tested inputs past step fits in
       let test = fits_before (chosen_past inputs past (decision_in step)) (tested step.test) tests in
-      all_append (RowFits n) (step.test ++ opening inputs.disk step.act) (flat_map (λ (delivery : Delivery). GotLine delivery.got ∷ delivery.after) step.deliveries)
+      all_append (RowFits n) (step.test ++ opening inputs.disk step.act)
+      (flat_map (λ (delivery : Delivery). GotLine delivery.got ∷ delivery.after) step.deliveries)
       (all_append (RowFits n) step.test (opening inputs.disk step.act)
-      (subst (AllByRecursion (RowFits n)) (sym made.tested.test) (tests_fit medium (chosen_past inputs past (decision_in step)) (instant_of (decision_in step)) test)) (opening_fits inputs.disk step.act))
+      (subst (AllByRecursion (RowFits n)) (sym made.tested.test) (tests_fit medium (chosen_past inputs past (decision_in step))
+      (instant_of (decision_in step)) test)) (opening_fits inputs.disk step.act))
       (followed_fit medium (tested step.test ∷ chosen_past inputs past (decision_in step)) step.deliveries tests
-      (subst (AllByRecursion GotFits) (sym made.all) (due_fits medium step.act (wanted (chosen_past inputs past (decision_in step))) (wanted_fit (chosen_past inputs past (decision_in step)) test))) made.tested.followed)
+      (subst (AllByRecursion GotFits) (sym made.all) (due_fits medium step.act (wanted (chosen_past inputs past (decision_in step)))
+      (wanted_fit (chosen_past inputs past (decision_in step)) test))) made.tested.followed)
 
   pub tasks_fit : (past : Past) → PastFits n past → AllByRecursion (RowFits n) (task_rows past)
   unfolding task_rows
   tasks_fit past fits = all_map (RowFits n) (task_row past) (task_numbers past)
-      (all_weaker (λ task. task < n) (λ task. RowFits n (task_row past task)) (λ task below names e. omega (arith, e, below)) (task_numbers past) (in_range past fits))
+      (all_weaker (λ task. task < n) (λ task. RowFits n (task_row past task)) (λ task below names e. omega (arith, e, below))
+      (task_numbers past) (in_range past fits))
 
 -- ---- of a history that is told
 
 -- its tasks are the script's
-few_tasks : (calls : List Call) (past : Past) (next : ℕ) → calls_of past ≡ take next calls → length (tasks past) ≤ length (allowed.tasks calls)
+few_tasks : (calls : List Call) (past : Past) (next : ℕ) → calls_of past ≡ take next calls
+    → length (tasks past) ≤ length (allowed.tasks calls)
 few_tasks calls past next taken = omega (
   arith,
   ap length (sym (opened_same past) ∙ ap allowed.tasks taken),
@@ -200,10 +229,12 @@ few_tasks calls past next taken = omega (
   ap (λ calls. length (allowed.tasks calls)) (take-append-drop next calls),
 )
 
-pub fits-told : (disk : Shape) (calls : List Call) (past : Past) (next : ℕ) (sessions : List Session) (held : List Entry) → Tells disk past sessions held → calls_of past ≡ take next calls → PastFits (length (allowed.tasks calls)) past
+pub fits-told : (disk : Shape) (calls : List Call) (past : Past) (next : ℕ) (sessions : List Session) (held : List Entry)
+    → Tells disk past sessions held → calls_of past ≡ take next calls → PastFits (length (allowed.tasks calls)) past
 fits-told disk calls past next sessions held tells taken =
     let few = few_tasks calls past next taken in
     record {
-      blocks = all_weaker (IsBlockOf disk (length (tasks past))) (BlockFits (length (allowed.tasks calls))) (λ block h. let task = h.task in omega (arith, task, few)) (registered past) tells.on_disk;
+      blocks = all_weaker (IsBlockOf disk (length (tasks past))) (BlockFits (length (allowed.tasks calls)))
+          (λ block h. let task = h.task in omega (arith, task, few)) (registered past) tells.on_disk;
       few = few;
     }

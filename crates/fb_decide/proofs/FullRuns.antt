@@ -45,22 +45,30 @@ step_timeline disk step back fore quiet =
     ∙ quiet_before disk step.test (opening disk step.act ++ (delivered_rows step.deliveries ++ back)) fore quiet.test
 
 -- a gap by one of its plans, and the service behind it
-lead_serve : (disk : Disk) (medium : Medium) (head : Track) (now : ℕ) (request : Request) (plan : Plan) → IsSound disk.map → LiesOnDisk disk.map request
+lead_serve : (disk : Disk) (medium : Medium) (head : Track) (now : ℕ) (request : Request) (plan : Plan) → IsSound disk.map
+    → LiesOnDisk disk.map request
     → (let served = service disk head now request in IsPlan disk (gap_of disk served) plan
-    → Leads disk head now (gap_legs disk (gap_of disk served) plan ++ service_legs disk (gap_of disk served) (fore_row medium served)) (last_track disk served) (finish served))
+    → Leads disk head now (gap_legs disk (gap_of disk served) plan ++ service_legs disk (gap_of disk served) (fore_row medium served))
+    (last_track disk served) (finish served))
 lead_serve disk medium head now request plan sound lies is_plan =
     let served = service disk head now request in
-    lead_on disk head (target disk served) (last_track disk served) now (media served) (finish served) (gap_legs disk (gap_of disk served) plan) (service_legs disk (gap_of disk served) (fore_row medium served))
-    (lead_gap disk (gap_of disk served) plan is_plan) (lead_service disk head now request.write request.lbn request.count lies.some (have_angles disk.map sound request lies))
+    lead_on disk head (target disk served) (last_track disk served) now (media served) (finish served)
+    (gap_legs disk (gap_of disk served) plan) (service_legs disk (gap_of disk served) (fore_row medium served))
+    (lead_gap disk (gap_of disk served) plan is_plan)
+    (lead_service disk head now request.write request.lbn request.count lies.some (have_angles disk.map sound request lies))
 
-lead_served : (disk : Disk) (medium : Medium) (head : Track) (now : ℕ) (served : Served) (plan : Plan) → IsSound disk.map → served ≡ service disk head now served.request → LiesOnDisk disk.map served.request
+lead_served : (disk : Disk) (medium : Medium) (head : Track) (now : ℕ) (served : Served) (plan : Plan) → IsSound disk.map
+    → served ≡ service disk head now served.request → LiesOnDisk disk.map served.request
     → IsPlan disk (gap_of disk served) plan
-    → Leads disk head now (gap_legs disk (gap_of disk served) plan ++ service_legs disk (gap_of disk served) (fore_row medium served)) (last_track disk served) (finish served)
+    → Leads disk head now (gap_legs disk (gap_of disk served) plan ++ service_legs disk (gap_of disk served) (fore_row medium served))
+    (last_track disk served) (finish served)
 lead_served disk medium head now served plan sound same lies is_plan =
-    subst (λ (s : Served). Leads disk head now (gap_legs disk (gap_of disk s) plan ++ service_legs disk (gap_of disk s) (fore_row medium s)) (last_track disk s) (finish s)) (sym same)
+    subst (λ (s : Served). Leads disk head now (gap_legs disk (gap_of disk s) plan ++ service_legs disk (gap_of disk s) (fore_row medium s))
+    (last_track disk s) (finish s)) (sym same)
     (lead_serve disk medium head now served.request plan sound lies (subst (λ (s : Served). IsPlan disk (gap_of disk s) plan) same is_plan))
 
-module _ (inputs : Inputs) (medium : Medium) (tasks : List BackRow) (quiet : AllByRecursion IsQuiet tasks) (sound : IsSound inputs.disk.map) where
+module _ (inputs : Inputs) (medium : Medium) (tasks : List BackRow) (quiet : AllByRecursion IsQuiet tasks)
+    (sound : IsSound inputs.disk.map) where
   abbrev back_rows : List Step → List BackRow
   back_rows steps = flat_map (step_rows inputs.disk) steps ++ tasks
 
@@ -136,7 +144,8 @@ possible inputs steps past sound accepted decided planned tested =
 -- ---- the rows of decisions, and that a run whose decisions have all been made is full
 
 one_more : {X Y : Type 0} (f : X → List Y) (xs : List X) (x : X) (ys : List Y) → ys ≡ flat_map f xs → ys ++ f x ≡ flat_map f (xs ++ x ∷ [])
-one_more f xs x ys before = ap (λ rows. rows ++ f x) before ∙ (ap (λ rows. flat_map f xs ++ rows) (sym (append-nil (f x))) ∙ sym (flat_map-append f xs (x ∷ [])))
+one_more f xs x ys before =
+    ap (λ rows. rows ++ f x) before ∙ (ap (λ rows. flat_map f xs ++ rows) (sym (append-nil (f x))) ∙ sym (flat_map-append f xs (x ∷ [])))
 
 pub rows_go_on : RowsGoOn
 rows_go_on inputs steps step fore back rows made = record {
@@ -149,7 +158,8 @@ rows_go_on inputs steps step fore back rows made = record {
 -- ---- the foreground rows
 
 -- the rows of decisions are those of their services
-served_rows : (medium : Medium) (decisions : List Decision) → flat_map (fore_row_of medium) decisions ≡ map (fore_row medium) (services decisions)
+served_rows : (medium : Medium) (decisions : List Decision)
+    → flat_map (fore_row_of medium) decisions ≡ map (fore_row medium) (services decisions)
 served_rows medium [] = refl
 served_rows medium (serves served ∷ later) = ap (λ rows. fore_row medium served ∷ rows) (served_rows medium later)
 served_rows medium (idles dwell ∷ later) = served_rows medium later
@@ -158,7 +168,8 @@ served_rows medium (ends now ∷ later) = served_rows medium later
 -- those of a run's decisions are the plain replay's
 rows_of_all : (inputs : Inputs) → flat_map (fore_row_of (medium_of inputs)) (decisions inputs) ≡ fore_rows inputs
 unfolding fore_rows
-rows_of_all inputs = served_rows (medium_of inputs) (decisions inputs) ∙ ap (map (fore_row (medium_of inputs))) (decisions_follow (λ r. Unit {0}) inputs (all_any (λ r. Unit {0}) (λ r. tt) (requests inputs))).1
+rows_of_all inputs = served_rows (medium_of inputs) (decisions inputs) ∙ ap (map (fore_row (medium_of inputs)))
+    (decisions_follow (λ r. Unit {0}) inputs (all_any (λ r. Unit {0}) (λ r. tt) (requests inputs))).1
 
 pub fore_rows_end : ForeRowsEnd
 fore_rows_end inputs steps list course pending count fore back made rows =
@@ -178,7 +189,8 @@ fore_rows_begin inputs false steps list course pending count fore back made rows
 -- ---- a run that has ended
 
 -- what holds at each step gives what follows from it
-each_then : (P Q : Past → Step → Type 0) → ((past : Past) (step : Step) → P past step → Q past step) → (inputs : Inputs) (past : Past) (steps : List Step) → AtEach P inputs past steps → AtEach Q inputs past steps
+each_then : (P Q : Past → Step → Type 0) → ((past : Past) (step : Step) → P past step → Q past step)
+    → (inputs : Inputs) (past : Past) (steps : List Step) → AtEach P inputs past steps → AtEach Q inputs past steps
 each_then P Q f inputs past [] each = tt
 each_then P Q f inputs past (step ∷ steps) each = (f past step each.0, each_then P Q f inputs (past_after inputs past step) steps each.1)
 
@@ -204,7 +216,8 @@ rows_are_full inputs steps list course pending count fore back made rows =
         fore = fore_is;
         passed_over = refl;
         possible = subst (λ rows. IsPossible inputs.disk (timeline inputs.disk rows fore) (run_end (decisions inputs))) (sym back_is)
-            (subst (λ rows. IsPossible inputs.disk (timeline inputs.disk (flat_map (step_rows inputs.disk) steps ++ tasks) rows) (run_end (decisions inputs))) (sym fore_is)
+            (subst (λ rows. IsPossible inputs.disk (timeline inputs.disk (flat_map (step_rows inputs.disk) steps ++ tasks) rows)
+            (run_end (decisions inputs))) (sym fore_is)
             (possible inputs steps (history inputs steps) made.known.sound made.known.accepted decided planned tested));
         end = refl;
         decided = decided;
@@ -212,7 +225,8 @@ rows_are_full inputs steps list course pending count fore back made rows =
         back = back_is;
         planned = planned;
         deliveries = throughout inputs steps rows.each IsDelivered
-            (λ past step made. subst (IsSublist (map (λ delivery. delivery.got) step.deliveries)) made.all (all_of_itself (map (λ delivery. delivery.got) step.deliveries)));
+            (λ past step made. subst (IsSublist (map (λ delivery. delivery.got) step.deliveries)) made.all
+            (all_of_itself (map (λ delivery. delivery.got) step.deliveries)));
         tested = tested;
         counted = refl;
       };

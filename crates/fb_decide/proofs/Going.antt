@@ -1,19 +1,22 @@
 -- A run goes on by one decision.
-use Rattle.std.proofs.Common.{◌≡◌, ℕ, List, [], ◌∷◌, ◌++◌, refl, ap, sym, subst, ◌∙◌, append_assoc, suc, ◌+◌, ◌<◌, ◌≤◌, ◌^◌, Bool, true, false, None, Some, length, map, take, drop, arith, append-nil}
+use Rattle.std.proofs.Common.{◌≡◌, ℕ, List, [], ◌∷◌, ◌++◌, refl, ap, sym, subst, ◌∙◌, append_assoc, suc, ◌+◌, ◌<◌, ◌≤◌, ◌^◌, Bool, true}
+use Rattle.std.proofs.Common.{false, None, Some, length, map, take, drop, arith, append-nil}
 use Rattle.std.specs.List.{fold, AllByRecursion}
 use Rattle.std.proofs.lemmas.List.{map-append, length-append}
 use Rattle.fb_units.proofs.Lists.{all_weaker, all_append, all_left, all_right}
 use Rattle.fb_model.specs.PlainReplay.{Served, service, finish, last_track, plain, first_least, start_of}
 use Rattle.fb_model.specs.Inputs.{Inputs, served, requests}
 use Rattle.fb_model.specs.Content.{medium_of, Written, fore_row}
-use Rattle.fb_model.specs.Decisions.{Decision, end_of, run_end, serves, idles, ends, instants_of, decisions_from, decisions, last_decision, Act, idling, ending}
+use Rattle.fb_model.specs.Decisions.{Decision, end_of, run_end, serves, idles, ends, instants_of, decisions_from, decisions, last_decision}
+use Rattle.fb_model.specs.Decisions.{Act, idling, ending}
 use Rattle.fb_model.specs.Steps.{Step, decision_in, decisions_in, past_after, history, take_call, calls_left, calls_due}
 use Rattle.fb_model.proofs.Steps.{history-append}
 use Rattle.fb_tasks.specs.Telling.{Tells, calls_of}
 use Rattle.fb_decide.specs.declared.deciding.Course.{Course}
 use Rattle.fb_decide.specs.Calls.{IsCalled, tested_by}
 use Rattle.fb_decide.specs.Standing.{IsTrue, Mirrors}
-use Rattle.fb_decide.specs.Making.{Replayed, HasRun, all_writes, fore_row_of, GoesOn, HasEnded, HasComeTo, AreKnown, decisions_by, decisions_left, rest_by, rest_of}
+use Rattle.fb_decide.specs.Making.{Replayed, HasRun, all_writes, fore_row_of, GoesOn, HasEnded, HasComeTo, AreKnown, decisions_by}
+use Rattle.fb_decide.specs.Making.{decisions_left, rest_by, rest_of}
 use Rattle.fb_rows.specs.declared.back.DeliveryRow.{DeliveryRow}
 use Rattle.fb_decide.proofs.Truth.{step_by}
 use Rattle.fb_decide.proofs.Stepping.{HasStepped, StepsBy, served_act, serves_step, stays_step, ends_step}
@@ -30,8 +33,11 @@ use Rattle.fb_model.proofs.Instants.{IsAmong}
 use Rattle.fb_model.proofs.Lists.{all_map, is_by}
 use Rattle.fb_decide.specs.declared.background.Background.{Background}
 use Rattle.fb_decide.specs.Waiting.{left, IsWaiting, AreByArrival}
-use Rattle.fb_decide.specs.Deciding.{next_of, stay_of, prepared, HasServedNext, HasStayed, HasActed, serves_pick, stays_on, stays_last, ends_here, HasPrepared, HasDecided}
-use Rattle.fb_decide.proofs.Decided.{none_served, taken, taken_ready, start_waiting, ahead_of, plain_next, order_dropped, serves_now, stays_next, ends_now, plain_same, starts_from, StartsFrom, HasCome, to_come, among_instants, apart_instants, left_later, passed_instants, none_left, rising_instants}
+use Rattle.fb_decide.specs.Deciding.{next_of, stay_of, prepared, HasServedNext, HasStayed, HasActed, serves_pick, stays_on, stays_last}
+use Rattle.fb_decide.specs.Deciding.{ends_here, HasPrepared, HasDecided}
+use Rattle.fb_decide.proofs.Decided.{none_served, taken, taken_ready, start_waiting, ahead_of, plain_next, order_dropped, serves_now}
+use Rattle.fb_decide.proofs.Decided.{stays_next, ends_now, plain_same, starts_from, StartsFrom, HasCome, to_come, among_instants}
+use Rattle.fb_decide.proofs.Decided.{apart_instants, left_later, passed_instants, none_left, rising_instants}
 use Rattle.fb_decide.proofs.Replayed.{row_made, replayed_more}
 use Rattle.fb_decide.proofs.Instants.{all_of_both, at_among}
 use Rattle.fb_decide.proofs.Mirroring.{held_until, mirrors_run, all_late, served_late}
@@ -59,7 +65,8 @@ module _ (inputs : Inputs) (rest later : List Served) (before : Course) (steps :
   pub called_more : IsCalled inputs.disk.map inputs.calls (history inputs (steps ++ step ∷ [])) after.called
   called_more = subst (λ past. IsCalled inputs.disk.map inputs.calls past after.called) (sym same_history) this.called
 
-  abbrev pub run_more : (done : List Served) → Replayed inputs.latent (served inputs) later after.now after.store done → HasRun inputs later after (steps ++ step ∷ [])
+  abbrev pub run_more : (done : List Served) → Replayed inputs.latent (served inputs) later after.now after.store done
+      → HasRun inputs later after (steps ++ step ∷ [])
   run_more done replayed = record {
     done = done;
     replayed = replayed;
@@ -74,7 +81,8 @@ calls_after : (disk : Shape) (past : Past) (calls : List Call) → calls_of (fol
 calls_after disk past [] = sym (append-nil (calls_of past))
 calls_after disk past (call ∷ calls) = calls_after disk (take_call disk past call) calls ∙ append_assoc (calls_of past) (call ∷ []) calls
 
-calls_tested : (disk : Shape) (calls : List Call) (past : Past) (now : ℕ) → calls_of (tested_by disk calls past now) ≡ calls_of past ++ calls_due calls past now
+calls_tested : (disk : Shape) (calls : List Call) (past : Past) (now : ℕ)
+    → calls_of (tested_by disk calls past now) ≡ calls_of past ++ calls_due calls past now
 calls_tested disk calls past now =
     let called = fold (take_call disk) past (calls_due calls past now) in
     by_all (λ p. calls_of p ≡ calls_of called) disk (λ p task segment blocks e. e) called refl
@@ -92,22 +100,27 @@ early_calls disk before (call ∷ calls) allowed = (allowed.0, early_calls disk 
 early_instant : (inputs : Inputs) (t : ℕ) → AreKnown inputs → IsAmong t (instants_of inputs) → t ≤ 10 ^ 15
 early_instant inputs t known there = at_among (λ x. x ≤ 10 ^ 15) t (instants_of inputs)
     (all_of_both (λ x. x ≤ 10 ^ 15) (map (λ c. c.instant) inputs.calls) (map (λ r. r.arrival) (requests inputs))
-    (all_map (λ x. x ≤ 10 ^ 15) (λ (r : Request). r.arrival) (requests inputs) (all_weaker (IsRequestOf inputs.disk.map) (λ (r : Request). r.arrival ≤ 10 ^ 15) (λ r h. h.arrival) (requests inputs) known.list.on_disk))
+    (all_map (λ x. x ≤ 10 ^ 15) (λ (r : Request). r.arrival) (requests inputs) (all_weaker (IsRequestOf inputs.disk.map)
+    (λ (r : Request). r.arrival ≤ 10 ^ 15) (λ r h. h.arrival) (requests inputs) known.list.on_disk))
     (all_map (λ x. x ≤ 10 ^ 15) (λ (c : Call). c.instant) inputs.calls (early_calls inputs.disk.map [] inputs.calls known.accepted.calls)))
     there
 
 -- ---- a stay changes nothing of the foreground
 
-stays_replayed : (latent : List ℕ) (whole done rest : List Served) (now : ℕ) (holding : Holding) (later : List Served) (now' : ℕ) (holding' : Holding)
-    → Replayed latent whole rest now holding done → rest ≡ later → now ≤ now' → holding' ≡ holding → Replayed latent whole later now' holding' done
+stays_replayed : (latent : List ℕ) (whole done rest : List Served) (now : ℕ) (holding : Holding) (later : List Served) (now' : ℕ)
+    (holding' : Holding)
+    → Replayed latent whole rest now holding done → rest ≡ later → now ≤ now' → holding' ≡ holding
+    → Replayed latent whole later now' holding' done
 stays_replayed latent whole done rest now holding later now' holding' so_far same from held = record {
   all = ap (λ services. done ++ services) (sym same) ∙ so_far.all;
-  ended = all_weaker (λ (w : Written). w.passage.end ≤ now) (λ w. w.passage.end ≤ now') (λ w h. omega (arith, h, from)) (all_writes done) so_far.ended;
+  ended = all_weaker (λ (w : Written). w.passage.end ≤ now) (λ w. w.passage.end ≤ now') (λ w h. omega (arith, h, from))
+      (all_writes done) so_far.ended;
   holds = λ lbn. ap (λ h. content_in h lbn) held ∙ so_far.holds lbn;
 }
 
 -- a decision leads on
-pub record LeadsOn (inputs : Inputs) (before : Course) (pending : List Request) (steps : List Step) (more : Bool) (after : Course) (pending_after : List Request) (count_after : ℕ) : Type 0 where
+pub record LeadsOn (inputs : Inputs) (before : Course) (pending : List Request) (steps : List Step) (more : Bool) (after : Course)
+    (pending_after : List Request) (count_after : ℕ) : Type 0 where
   pub step : Step
   pub stepped : HasStepped inputs (history inputs steps) before step after
   pub fore : after.fore ≡ before.fore ++ fore_row_of (medium_of inputs) (decision_in step)
@@ -116,9 +129,11 @@ pub record LeadsOn (inputs : Inputs) (before : Course) (pending : List Request) 
 
 -- ---- from one decision to the next
 
-module _ (inputs : Inputs) (known : AreKnown inputs) (before : Course) (pending : List Request) (count : ℕ) (steps : List Step) (so_far : GoesOn inputs before pending count steps)
+module _ (inputs : Inputs) (known : AreKnown inputs) (before : Course) (pending : List Request) (count : ℕ) (steps : List Step)
+    (so_far : GoesOn inputs before pending count steps)
     (background : Background) (joined called : ℕ) (waiting : List Request)
-    (ready : HasPrepared inputs.disk (requests inputs) inputs.calls (history inputs steps) before pending background joined called waiting) where
+    (ready : HasPrepared inputs.disk (requests inputs) inputs.calls
+    (history inputs steps) before pending background joined called waiting) where
   abbrev step_of : Act → List DeliveryRow → Step
   step_of act gots = step_by inputs.disk.map inputs.calls (history inputs steps) act gots
 
@@ -138,7 +153,8 @@ module _ (inputs : Inputs) (known : AreKnown inputs) (before : Course) (pending 
   abbrev run : HasRun inputs rest before steps
   run = record {
     done = so_far.run.done;
-    replayed = subst (λ rest. Replayed inputs.latent (served inputs) rest before.now before.store so_far.run.done) (sym same_rest) so_far.run.replayed;
+    replayed = subst (λ rest. Replayed inputs.latent (served inputs) rest before.now before.store so_far.run.done)
+        (sym same_rest) so_far.run.replayed;
     tells = so_far.run.tells;
     finds = so_far.run.finds;
     ends_at = so_far.run.ends_at;
@@ -159,37 +175,53 @@ module _ (inputs : Inputs) (known : AreKnown inputs) (before : Course) (pending 
   calls_taken : AllByRecursion (λ c. c.instant ≤ before.now) (take called inputs.calls)
   calls_taken =
       let past = history inputs steps in
-      subst (AllByRecursion (λ c. c.instant ≤ before.now)) (sym (calls_tested inputs.disk.map inputs.calls past before.now) ∙ ready.test.called.taken)
+      subst (AllByRecursion (λ c. c.instant ≤ before.now))
+      (sym (calls_tested inputs.disk.map inputs.calls past before.now) ∙ ready.test.called.taken)
       (all_append (λ c. c.instant ≤ before.now) (calls_of past) (calls_due inputs.calls past before.now)
       (subst (AllByRecursion (λ c. c.instant ≤ before.now)) (sym so_far.called.taken) so_far.calls_taken)
       (all_come before.now (calls_left inputs.calls past)))
 
   come : HasCome inputs before.now joined called
-  come = record { rising = known.rising; instants = known.accepted.instants; arrivals = ready.come; calls = calls_taken; no_arrival = ready.ahead; no_call = ready.test.ahead }
+  come = record {
+    rising = known.rising;
+    instants = known.accepted.instants;
+    arrivals = ready.come;
+    calls = calls_taken;
+    no_arrival = ready.ahead;
+    no_call = ready.test.ahead;
+  }
 
   -- a request is served
-  module _ (request : Request) (others : List Request) (after : Course) (count_after : ℕ) (pick : first_least (inputs.key inputs.disk before.head before.now) waiting ≡ Some (request, others))
-      (now_served : HasServedNext inputs.disk request (prepared before background joined called) after) (waits : IsWaiting inputs.disk (requests inputs) after.now after.joined count_after others) where
+  module _ (request : Request) (others : List Request) (after : Course) (count_after : ℕ)
+      (pick : first_least (inputs.key inputs.disk before.head before.now) waiting ≡ Some (request, others))
+      (now_served : HasServedNext inputs.disk request (prepared before background joined called) after)
+      (waits : IsWaiting inputs.disk (requests inputs) after.now after.joined count_after others) where
     abbrev this : Served
     this = service inputs.disk before.head before.now request
 
     abbrev later : List Served
     later = rest_of inputs after others
 
-    among : IsRequestOf inputs.disk.map request × (AllByRecursion (IsRequestOf inputs.disk.map) others × (length others + 1 ≡ length waiting))
-    among = taken (IsRequestOf inputs.disk.map) (inputs.key inputs.disk before.head before.now) waiting request others (all_left (IsRequestOf inputs.disk.map) waiting ahead on_disk) pick
+    among : IsRequestOf inputs.disk.map request
+        × (AllByRecursion (IsRequestOf inputs.disk.map) others × (length others + 1 ≡ length waiting))
+    among = taken (IsRequestOf inputs.disk.map) (inputs.key inputs.disk before.head before.now) waiting request others
+        (all_left (IsRequestOf inputs.disk.map) waiting ahead on_disk) pick
 
     others_on_disk : AllByRecursion (IsRequestOf inputs.disk.map) (others ++ ahead)
-    others_on_disk = all_append (IsRequestOf inputs.disk.map) others ahead among.1.0 (all_right (IsRequestOf inputs.disk.map) waiting ahead on_disk)
+    others_on_disk =
+        all_append (IsRequestOf inputs.disk.map) others ahead among.1.0 (all_right (IsRequestOf inputs.disk.map) waiting ahead on_disk)
 
     size : length left_over ≡ suc (length (others ++ ahead))
     size = omega (arith, length-append waiting ahead, length-append others ahead, among.1.1)
 
-    first_served : rest ≡ this ∷ plain (length (others ++ ahead)) inputs.disk inputs.key (last_track inputs.disk this) (finish this) (others ++ ahead)
+    first_served : rest ≡ this
+        ∷ plain (length (others ++ ahead)) inputs.disk inputs.key (last_track inputs.disk this) (finish this) (others ++ ahead)
     first_served =
-        let start : before.now ≡ start_of before.now left_over = sym (start_waiting before.now waiting ahead (omega (arith, among.1.1)) ready.arrived) in
+        let start : before.now ≡ start_of before.now left_over =
+        sym (start_waiting before.now waiting ahead (omega (arith, among.1.1)) ready.arrived) in
         ap (λ n. plain n inputs.disk inputs.key before.head before.now left_over) size
-        ∙ plain_next (length (others ++ ahead)) inputs.disk inputs.key before.head before.now left_over before.now request (others ++ ahead) start
+        ∙ plain_next (length (others ++ ahead)) inputs.disk inputs.key before.head before.now left_over before.now request
+        (others ++ ahead) start
         (taken_ready (inputs.key inputs.disk before.head before.now) before.now waiting ahead request others ready.arrived not_come pick)
 
     next : rest ≡ this ∷ later
@@ -198,30 +230,37 @@ module _ (inputs : Inputs) (known : AreKnown inputs) (before : Course) (pending 
     mirrors : Mirrors (medium_of inputs) before.store before.now (held_until this)
     mirrors = mirrors_run inputs run.done rest before.now (held_until this) before.store run.replayed
         (subst (λ services. AllByRecursion (λ (w : Written). held_until this < w.passage.end) (all_writes services)) (sym first_served)
-        (served_late (length (others ++ ahead)) inputs.disk known.takes_time inputs.key before.head before.now request (last_track inputs.disk this) (others ++ ahead) among.0 others_on_disk))
+        (served_late (length (others ++ ahead)) inputs.disk known.takes_time inputs.key before.head before.now request
+        (last_track inputs.disk this) (others ++ ahead) among.0 others_on_disk))
 
     abbrev act : Act
-    act = served_act inputs (history inputs steps) before background joined called ready.test run.tells run.finds request among.0 after now_served mirrors
+    act = served_act inputs (history inputs steps) before background joined called ready.test run.tells run.finds request among.0 after
+        now_served mirrors
 
     made : StepsBy inputs (history inputs steps) before act after
-    made = serves_step inputs (history inputs steps) before background joined called ready.test run.tells run.finds request among.0 after now_served mirrors
+    made = serves_step inputs (history inputs steps) before background joined called ready.test run.tells run.finds request among.0 after
+        now_served mirrors
 
     abbrev step : Step
     step = step_of act made.gots
 
     row_is : now_served.row ≡ fore_row (medium_of inputs) this
     unfolding medium_of
-    row_is = row_made inputs.disk inputs.latent (served inputs) run.done rest later before.head before.now after.now request before.store run.replayed next
+    row_is = row_made inputs.disk inputs.latent
+        (served inputs) run.done rest later before.head before.now after.now request before.store run.replayed next
         (let h = now_served.later in omega (arith, h)) now_served.finished now_served.row now_served.is_row now_served.each
-        (all_weaker _ _ (λ (w : Written) h. omega (arith, h)) _ (all_late (length (left (requests inputs) after.joined others)) inputs.disk known.takes_time inputs.key after.head after.now (left (requests inputs) after.joined others) waits.on_disk))
+        (all_weaker _ _ (λ (w : Written) h. omega (arith, h)) _ (all_late (length (left (requests inputs) after.joined others)) inputs.disk
+        known.takes_time inputs.key after.head after.now (left (requests inputs) after.joined others) waits.on_disk))
 
     replayed : Replayed inputs.latent (served inputs) later after.now after.store (run.done ++ this ∷ [])
-    replayed = replayed_more inputs.disk inputs.latent (served inputs) run.done rest later before.head before.now after.now request before.store run.replayed next
+    replayed = replayed_more inputs.disk inputs.latent
+        (served inputs) run.done rest later before.head before.now after.now request before.store run.replayed next
         (let h = now_served.later in omega (arith, h)) now_served.finished after.store now_served.leaves
 
     next_decided : decisions_by inputs before rest ≡ serves this ∷ decisions_by inputs after later
     next_decided = rw (now_served.same_joined, now_served.stands, now_served.finished)
-        (ap (decisions_by inputs before) first_served ∙ serves_now inputs.disk (instants_of inputs) inputs.until before.head before.now request _)
+        (ap (decisions_by inputs before) first_served
+        ∙ serves_now inputs.disk (instants_of inputs) inputs.until before.head before.now request _)
 
     longer : length (run.done ++ this ∷ []) ≡ length run.done + 1
     longer = length-append run.done (this ∷ [])
@@ -232,16 +271,26 @@ module _ (inputs : Inputs) (known : AreKnown inputs) (before : Course) (pending 
         let soon = now_served.soon in
         record {
           run = run_more inputs rest later before steps run step after made.stepped (run.done ++ this ∷ []) replayed;
-          decided = one_decided steps step (decisions_by inputs before rest) (decisions_by inputs after later) (decisions inputs) decided next_decided;
+          decided = one_decided steps step (decisions_by inputs before rest) (decisions_by inputs after later)
+              (decisions inputs) decided next_decided;
           called = called_more inputs rest later before steps run step after made.stepped;
           arrivals = subst (λ n. AllByRecursion (λ r. r.arrival ≤ after.now) (take n (requests inputs))) (sym now_served.same_joined)
-              (all_weaker (λ (r : Request). r.arrival ≤ before.now) (λ r. r.arrival ≤ after.now) (λ r h. omega (arith, h, late)) (take joined (requests inputs)) ready.come);
+              (all_weaker (λ (r : Request). r.arrival ≤ before.now) (λ r. r.arrival ≤ after.now) (λ r h. omega (arith, h, late))
+              (take joined (requests inputs)) ready.come);
           calls_taken = subst (λ n. AllByRecursion (λ c. c.instant ≤ after.now) (take n inputs.calls)) (sym now_served.same_called)
-              (all_weaker (λ (c : Call). c.instant ≤ before.now) (λ c. c.instant ≤ after.now) (λ c h. omega (arith, h, late)) (take called inputs.calls) calls_taken);
+              (all_weaker (λ (c : Call). c.instant ≤ before.now) (λ c. c.instant ≤ after.now) (λ c h. omega (arith, h, late))
+              (take called inputs.calls) calls_taken);
           waits = waits;
           stands = now_served.on_disk;
           soon = omega (arith, soon, so_far.soon, longer);
-          counted = omega (arith, ap (λ n. length (others ++ drop n (requests inputs))) now_served.same_joined, longer, size, ap length ready.same_left, so_far.counted);
+          counted = omega (
+            arith,
+            ap (λ n. length (others ++ drop n (requests inputs))) now_served.same_joined,
+            longer,
+            size,
+            ap length ready.same_left,
+            so_far.counted,
+          );
         }
 
     leads_serving : LeadsOn inputs before pending steps true after others count_after
@@ -254,15 +303,20 @@ module _ (inputs : Inputs) (known : AreKnown inputs) (before : Course) (pending 
     }
 
   -- the head stays, and nothing that is left to be written ends by then
-  module _ (instant : ℕ) (upto : before.now ≤ instant) (after : Course) (stayed : HasStayed inputs.disk instant (prepared before background joined called) after)
+  module _ (instant : ℕ) (upto : before.now ≤ instant) (after : Course)
+      (stayed : HasStayed inputs.disk instant (prepared before background joined called) after)
       (late : AllByRecursion (λ (w : Written). instant < w.passage.end) (all_writes rest)) where
     stays : StepsBy inputs (history inputs steps) before (idling (stay_of before instant)) after
-    stays = stays_step inputs (history inputs steps) before background joined called ready.test run.tells run.finds instant upto after stayed
+    stays =
+        stays_step inputs (history inputs steps) before background joined called ready.test run.tells run.finds instant upto after stayed
         (mirrors_run inputs run.done rest before.now instant before.store run.replayed late)
 
-  leads_by : (instant : ℕ) (after : Course) (count_after : ℕ) (more : Bool) → HasStayed inputs.disk instant (prepared before background joined called) after
-      → (made : StepsBy inputs (history inputs steps) before (idling (stay_of before instant)) after) → HasComeTo inputs more after waiting count_after (steps ++ step_of (idling (stay_of before instant)) made.gots ∷ [])
-      → decisions_left inputs more after waiting < length (decisions_by inputs before rest) → LeadsOn inputs before pending steps more after waiting count_after
+  leads_by : (instant : ℕ) (after : Course) (count_after : ℕ) (more : Bool)
+      → HasStayed inputs.disk instant (prepared before background joined called) after
+      → (made : StepsBy inputs (history inputs steps) before (idling (stay_of before instant)) after)
+      → HasComeTo inputs more after waiting count_after (steps ++ step_of (idling (stay_of before instant)) made.gots ∷ [])
+      → decisions_left inputs more after waiting < length (decisions_by inputs before rest)
+      → LeadsOn inputs before pending steps more after waiting count_after
   leads_by instant after count_after more stayed made come_to fewer = record {
     step = step_of (idling (stay_of before instant)) made.gots;
     stepped = made.stepped;
@@ -272,8 +326,10 @@ module _ (inputs : Inputs) (known : AreKnown inputs) (before : Course) (pending 
   }
 
   -- until the next instant
-  module _ (instant : ℕ) (after : Course) (count_after : ℕ) (empty : waiting ≡ []) (next : next_of (slice_get (requests inputs) joined) (slice_get inputs.calls called) ≡ Some instant)
-      (stayed : HasStayed inputs.disk instant (prepared before background joined called) after) (waits : IsWaiting inputs.disk (requests inputs) after.now after.joined count_after waiting) where
+  module _ (instant : ℕ) (after : Course) (count_after : ℕ) (empty : waiting ≡ [])
+      (next : next_of (slice_get (requests inputs) joined) (slice_get inputs.calls called) ≡ Some instant)
+      (stayed : HasStayed inputs.disk instant (prepared before background joined called) after)
+      (waits : IsWaiting inputs.disk (requests inputs) after.now after.joined count_after waiting) where
     less : before.now < instant
     less = to_come inputs before.now joined called come instant next
 
@@ -281,13 +337,15 @@ module _ (inputs : Inputs) (known : AreKnown inputs) (before : Course) (pending 
     order_left = subst (λ ws. AreByArrival (ws ++ ahead)) (sym empty) (order_dropped joined (requests inputs) known.list.order)
 
     late_left : AllByRecursion (λ r. instant ≤ r.arrival) left_over
-    late_left = subst (λ ws. AllByRecursion (λ r. instant ≤ r.arrival) (ws ++ ahead)) (sym empty) (left_later inputs before.now joined called come instant next)
+    late_left = subst (λ ws. AllByRecursion (λ r. instant ≤ r.arrival) (ws ++ ahead)) (sym empty)
+        (left_later inputs before.now joined called come instant next)
 
     abbrev rest_then : List Served
     rest_then = plain (length left_over) inputs.disk inputs.key before.head instant left_over
 
     same_then : rest ≡ rest_then
-    same_then = plain_same (length left_over) inputs.disk inputs.key before.head before.now instant left_over (omega (arith, less)) order_left late_left
+    same_then = plain_same (length left_over) inputs.disk inputs.key before.head before.now instant left_over
+        (omega (arith, less)) order_left late_left
 
     same_after : rest_then ≡ rest_of inputs after waiting
     same_after = rw (stayed.same_joined, stayed.same_head, stayed.until) refl
@@ -304,30 +362,44 @@ module _ (inputs : Inputs) (known : AreKnown inputs) (before : Course) (pending 
 
     next_stay : decisions_by inputs before rest ≡ idles (stay_of before instant) ∷ decisions_by inputs after (rest_of inputs after waiting)
     next_stay = rw (stayed.same_joined, stayed.same_head, stayed.until)
-        (stays_next inputs.disk (instants_of inputs) inputs.until before.head before.now instant rest less (rising_instants inputs before.now joined called come)
-        (among_instants inputs before.now joined called come instant next) (apart_instants inputs before.now joined called come instant next)
+        (stays_next inputs.disk (instants_of inputs) inputs.until before.head before.now instant rest less
+        (rising_instants inputs before.now joined called come)
+        (among_instants inputs before.now joined called come instant next)
+        (apart_instants inputs before.now joined called come instant next)
         (subst (StartsFrom instant) (sym same_then) (starts_from (length left_over) inputs.disk inputs.key before.head instant left_over))
-        ∙ ap (λ services. idles (stay_of before instant) ∷ decisions_from inputs.disk (instants_of inputs) inputs.until before.head instant services) same_then)
+        ∙ ap (λ services. idles (stay_of before instant)
+        ∷ decisions_from inputs.disk (instants_of inputs) inputs.until before.head instant services) same_then)
 
     replayed_stay : Replayed inputs.latent (served inputs) (rest_of inputs after waiting) after.now after.store run.done
-    replayed_stay = stays_replayed inputs.latent (served inputs) run.done rest before.now before.store (rest_of inputs after waiting) after.now after.store
+    replayed_stay = stays_replayed inputs.latent (served inputs) run.done rest before.now before.store
+        (rest_of inputs after waiting) after.now after.store
         run.replayed (same_then ∙ same_after) (let until = stayed.until in omega (arith, until, less)) stayed.same_store
 
     goes_on_staying : GoesOn inputs after waiting count_after (steps ++ step_stay ∷ [])
     goes_on_staying =
         let until = stayed.until in
         record {
-          run = run_more inputs rest (rest_of inputs after waiting) before steps run step_stay after stays_now.stepped run.done replayed_stay;
-          decided = one_decided steps step_stay (decisions_by inputs before rest) (decisions_by inputs after (rest_of inputs after waiting)) (decisions inputs) decided next_stay;
+          run =
+              run_more inputs rest (rest_of inputs after waiting) before steps run step_stay after stays_now.stepped run.done replayed_stay;
+          decided = one_decided steps step_stay (decisions_by inputs before rest) (decisions_by inputs after (rest_of inputs after waiting))
+              (decisions inputs) decided next_stay;
           called = called_more inputs rest (rest_of inputs after waiting) before steps run step_stay after stays_now.stepped;
           arrivals = subst (λ n. AllByRecursion (λ r. r.arrival ≤ after.now) (take n (requests inputs))) (sym stayed.same_joined)
-              (all_weaker (λ (r : Request). r.arrival ≤ before.now) (λ r. r.arrival ≤ after.now) (λ r h. omega (arith, h, less, until)) (take joined (requests inputs)) ready.come);
+              (all_weaker (λ (r : Request). r.arrival ≤ before.now) (λ r. r.arrival ≤ after.now) (λ r h. omega (arith, h, less, until))
+              (take joined (requests inputs)) ready.come);
           calls_taken = subst (λ n. AllByRecursion (λ c. c.instant ≤ after.now) (take n inputs.calls)) (sym stayed.same_called)
-              (all_weaker (λ (c : Call). c.instant ≤ before.now) (λ c. c.instant ≤ after.now) (λ c h. omega (arith, h, less, until)) (take called inputs.calls) calls_taken);
+              (all_weaker (λ (c : Call). c.instant ≤ before.now) (λ c. c.instant ≤ after.now) (λ c h. omega (arith, h, less, until))
+              (take called inputs.calls) calls_taken);
           waits = waits;
           stands = subst (IsTrackOf inputs.disk.map) (sym stayed.same_head) so_far.stands;
-          soon = omega (arith, until, early_instant inputs instant known (among_instants inputs before.now joined called come instant next));
-          counted = omega (arith, ap (λ n. length (waiting ++ drop n (requests inputs))) stayed.same_joined, ap length ready.same_left, so_far.counted);
+          soon =
+              omega (arith, until, early_instant inputs instant known (among_instants inputs before.now joined called come instant next));
+          counted = omega (
+            arith,
+            ap (λ n. length (waiting ++ drop n (requests inputs))) stayed.same_joined,
+            ap length ready.same_left,
+            so_far.counted,
+          );
         }
 
     leads_staying : LeadsOn inputs before pending steps true after waiting count_after
@@ -341,7 +413,8 @@ module _ (inputs : Inputs) (known : AreKnown inputs) (before : Course) (pending 
 
     last_is : decisions_by inputs before rest ≡ last_decision before.head before.now inputs.until ∷ []
     last_is = ap (decisions_by inputs before) no_rest
-        ∙ ends_now inputs.disk (instants_of inputs) inputs.until before.head before.now (passed_instants inputs before.now joined called come next)
+        ∙ ends_now inputs.disk (instants_of inputs) inputs.until before.head before.now
+        (passed_instants inputs before.now joined called come next)
 
     none_late : (end : ℕ) → AllByRecursion (λ (w : Written). end < w.passage.end) (all_writes rest)
     none_late end = subst (λ services. AllByRecursion (λ (w : Written). end < w.passage.end) (all_writes services)) (sym no_rest) tt
@@ -349,7 +422,8 @@ module _ (inputs : Inputs) (known : AreKnown inputs) (before : Course) (pending 
     few_served : length (served inputs) ≤ 10 ^ 6
     few_served = omega (arith, ap length run.replayed.all, length-append run.done rest, ap length no_rest, so_far.counted, known.list.few)
 
-    module _ (later : before.now < inputs.until) (after : Course) (stayed : HasStayed inputs.disk inputs.until (prepared before background joined called) after) where
+    module _ (later : before.now < inputs.until) (after : Course)
+        (stayed : HasStayed inputs.disk inputs.until (prepared before background joined called) after) where
       stays_last_time : StepsBy inputs (history inputs steps) before (idling (stay_of before inputs.until)) after
       stays_last_time = stays inputs.until (omega (arith, later)) after stayed (none_late inputs.until)
 
@@ -362,8 +436,10 @@ module _ (inputs : Inputs) (known : AreKnown inputs) (before : Course) (pending 
           let idle : nat_lt before.now inputs.until ≡ true = grind (arith, nat_tests) in
           record {
             run = run_more inputs rest [] before steps run step_last after stays_last_time.stepped run.done
-                (stays_replayed inputs.latent (served inputs) run.done rest before.now before.store [] after.now after.store run.replayed no_rest (omega (arith, until, later)) stayed.same_store);
-            decided = sym (append-nil (decisions_in (steps ++ step_last ∷ []))) ∙ one_decided steps step_last (decisions_by inputs before rest) [] (decisions inputs) decided
+                (stays_replayed inputs.latent (served inputs) run.done rest before.now before.store [] after.now after.store run.replayed
+                no_rest (omega (arith, until, later)) stayed.same_store);
+            decided = sym (append-nil (decisions_in (steps ++ step_last ∷ [])))
+                ∙ one_decided steps step_last (decisions_by inputs before rest) [] (decisions inputs) decided
                 (last_is ∙ ap (λ b. (if b then idles (stay_of before inputs.until) else ends before.now) ∷ []) idle);
             calls_made = (called_more inputs rest [] before steps run step_last after stays_last_time.stepped).taken;
             few = few_served;
@@ -371,7 +447,8 @@ module _ (inputs : Inputs) (known : AreKnown inputs) (before : Course) (pending 
           }
 
       leads_last : (count_after : ℕ) → LeadsOn inputs before pending steps false after waiting count_after
-      leads_last count_after = leads_by inputs.until after count_after false stayed stays_last_time ends_staying (omega (arith, ap length last_is))
+      leads_last count_after =
+          leads_by inputs.until after count_after false stayed stays_last_time ends_staying (omega (arith, ap length last_is))
 
     module _ (over : inputs.until ≤ before.now) where
       ends_now_by : StepsBy inputs (history inputs steps) before (ending before.now) (prepared before background joined called)
@@ -387,14 +464,17 @@ module _ (inputs : Inputs) (known : AreKnown inputs) (before : Course) (pending 
           record {
             run = run_more inputs rest [] before steps run step_end (prepared before background joined called) ends_now_by.stepped run.done
                 (subst (λ services. Replayed inputs.latent (served inputs) services before.now before.store run.done) no_rest run.replayed);
-            decided = sym (append-nil (decisions_in (steps ++ step_end ∷ []))) ∙ one_decided steps step_end (decisions_by inputs before rest) [] (decisions inputs) decided
+            decided = sym (append-nil (decisions_in (steps ++ step_end ∷ [])))
+                ∙ one_decided steps step_end (decisions_by inputs before rest) [] (decisions inputs) decided
                 (last_is ∙ ap (λ b. (if b then idles (stay_of before inputs.until) else ends before.now) ∷ []) ends_now);
-            calls_made = (called_more inputs rest [] before steps run step_end (prepared before background joined called) ends_now_by.stepped).taken;
+            calls_made =
+                (called_more inputs rest [] before steps run step_end (prepared before background joined called) ends_now_by.stepped).taken;
             few = few_served;
             early = omega (arith, so_far.soon, so_far.counted, known.list.few);
           }
 
-      leads_to_end : (count_after : ℕ) → LeadsOn inputs before pending steps false (prepared before background joined called) waiting count_after
+      leads_to_end : (count_after : ℕ)
+          → LeadsOn inputs before pending steps false (prepared before background joined called) waiting count_after
       leads_to_end count_after = record {
         step = step_end;
         stepped = ends_now_by.stepped;
@@ -405,16 +485,25 @@ module _ (inputs : Inputs) (known : AreKnown inputs) (before : Course) (pending 
 
   -- whatever is done
   by_action : (goes_on : Bool) (pending_after : List Request) (after : Course) (count_after : ℕ)
-      → HasActed inputs.disk inputs.key inputs.until (next_of (slice_get (requests inputs) joined) (slice_get inputs.calls called)) waiting (prepared before background joined called) goes_on pending_after after
-      → (goes_on ≡ true → IsWaiting inputs.disk (requests inputs) after.now after.joined count_after pending_after) → LeadsOn inputs before pending steps goes_on after pending_after count_after
-  by_action goes_on pending_after after count_after (serves_pick request others course pick now_served) waits = leads_serving request others course count_after pick now_served (waits refl)
-  by_action goes_on pending_after after count_after (stays_on instant course empty next stayed) waits = leads_staying instant course count_after empty next stayed (waits refl)
-  by_action goes_on pending_after after count_after (stays_last course empty next later stayed) waits = leads_last empty next later course stayed count_after
+      → HasActed inputs.disk inputs.key inputs.until (next_of (slice_get (requests inputs) joined) (slice_get inputs.calls called)) waiting
+      (prepared before background joined called) goes_on pending_after after
+      → (goes_on ≡ true → IsWaiting inputs.disk (requests inputs) after.now after.joined count_after pending_after)
+      → LeadsOn inputs before pending steps goes_on after pending_after count_after
+  by_action goes_on pending_after after count_after (serves_pick request others course pick now_served) waits =
+      leads_serving request others course count_after pick now_served (waits refl)
+  by_action goes_on pending_after after count_after (stays_on instant course empty next stayed) waits =
+      leads_staying instant course count_after empty next stayed (waits refl)
+  by_action goes_on pending_after after count_after (stays_last course empty next later stayed) waits =
+      leads_last empty next later course stayed count_after
   by_action goes_on pending_after after count_after (ends_here empty next over) waits = leads_to_end empty next over count_after
 
 -- one decision leads on from where the run had come to
-pub decided_more : (inputs : Inputs) (before : Course) (pending : List Request) (count : ℕ) (steps : List Step) (goes_on : Bool) (after : Course) (pending_after : List Request) (count_after : ℕ) → AreKnown inputs
-    → GoesOn inputs before pending count steps → HasDecided inputs.disk (requests inputs) inputs.calls inputs.key inputs.until (history inputs steps) before pending goes_on after pending_after
-    → (goes_on ≡ true → IsWaiting inputs.disk (requests inputs) after.now after.joined count_after pending_after) → LeadsOn inputs before pending steps goes_on after pending_after count_after
+pub decided_more : (inputs : Inputs) (before : Course) (pending : List Request) (count : ℕ) (steps : List Step) (goes_on : Bool)
+    (after : Course) (pending_after : List Request) (count_after : ℕ) → AreKnown inputs
+    → GoesOn inputs before pending count steps → HasDecided inputs.disk (requests inputs) inputs.calls inputs.key inputs.until
+    (history inputs steps) before pending goes_on after pending_after
+    → (goes_on ≡ true → IsWaiting inputs.disk (requests inputs) after.now after.joined count_after pending_after)
+    → LeadsOn inputs before pending steps goes_on after pending_after count_after
 decided_more inputs before pending count steps goes_on after pending_after count_after known so_far decided waits =
-    by_action inputs known before pending count steps so_far decided.background decided.joined decided.called decided.waiting decided.has_prepared goes_on pending_after after count_after decided.acted waits
+    by_action inputs known before pending count steps so_far decided.background decided.joined decided.called decided.waiting
+    decided.has_prepared goes_on pending_after after count_after decided.acted waits

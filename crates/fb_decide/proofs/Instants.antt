@@ -73,9 +73,13 @@ idle_next head now t (x ∷ xs) less rising there apart = elim apart.0 [
   | inl before ↦
       let skips : nat_lt now x ≡ false = grind (arith, nat_tests) in
       let skips_too : nat_lt t x ≡ false = grind (arith, nat_tests) in
-      rw (skips, skips_too) (idle_next head now t xs less rising.1 (elim there [ inl here ↦ absurd (omega (arith, here, before, less)) | inr rest ↦ rest ]) apart.1)
+      rw (skips, skips_too) (idle_next head now t xs less rising.1
+      (elim there [ inl here ↦ absurd (omega (arith, here, before, less)) | inr rest ↦ rest ]) apart.1)
   | inr after ↦
-      let least : x ≤ t = elim there [ inl here ↦ (let same : x ≤ t = omega (arith, here) in same) | inr rest ↦ at_among (λ y. x ≤ y) t xs rising.0 rest ] in
+      let least : x ≤ t = elim there [
+        | inl here ↦ (let same : x ≤ t = omega (arith, here) in same)
+        | inr rest ↦ at_among (λ y. x ≤ y) t xs rising.0 rest
+      ] in
       let same : x ≡ t = omega (arith, least, after) in
       let begins : nat_lt now x ≡ true = grind (arith, nat_tests) in
       let ends : nat_lt t x ≡ false = grind (arith, nat_tests) in

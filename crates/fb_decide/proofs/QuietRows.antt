@@ -6,7 +6,8 @@ use Rattle.fb_units.proofs.Lists.{all_append}
 use Rattle.fb_service.specs.declared.disk.Disk.{Disk}
 use Rattle.fb_rows.specs.declared.fore.ForeRow.{ForeRow}
 use Rattle.fb_rows.specs.declared.back.BackRow.{BackRow}
-use Rattle.fb_rows.specs.declared.back.BackRow.TheVariants.{Gap as GapLine, Idle as IdleLine, Bad as BadLine, Seal as SealLine, Complete as CompleteLine}
+use Rattle.fb_rows.specs.declared.back.BackRow.TheVariants.{Gap as GapLine, Idle as IdleLine, Bad as BadLine, Seal as SealLine}
+use Rattle.fb_rows.specs.declared.back.BackRow.TheVariants.{Complete as CompleteLine}
 use Rattle.fb_rows.specs.declared.back.DeliveryRow.{DeliveryRow}
 use Rattle.fb_model.specs.Inputs.{Inputs}
 use Rattle.fb_model.specs.Content.{Medium}
@@ -14,7 +15,8 @@ use Rattle.fb_model.specs.Timeline.{timeline}
 use Rattle.fb_model.specs.Decisions.{instant_of}
 use Rattle.fb_model.specs.History.{Past, delivered, task_numbers, terms_of, is_open_backup}
 use Rattle.fb_model.specs.Completion.{choices, work, is_complete, was_complete}
-use Rattle.fb_model.specs.Images.{bad_sectors, is_scrub, findings, is_newly_cleaned, image, packed, segment_rows, seal_rows, complete_rows, test_rows}
+use Rattle.fb_model.specs.Images.{bad_sectors, is_scrub, findings, is_newly_cleaned, image, packed, segment_rows, seal_rows, complete_rows}
+use Rattle.fb_model.specs.Images.{test_rows}
 use Rattle.fb_model.specs.Steps.{Delivery, Step, decision_in, with_delivery, tested_past, chosen_past, task_row, task_rows}
 use Rattle.fb_model.specs.SoundRun.{AreFollowed, IsTested}
 use Rattle.fb_model.proofs.RowsUpTo.{delivered_rows}
@@ -28,7 +30,8 @@ IsQuiet (IdleLine dwell) = ⊥
 IsQuiet _ = Unit {0}
 
 -- they leave the timeline as it is
-pub quiet_before : (disk : Disk) (rows back : List BackRow) (fore : List ForeRow) → AllByRecursion IsQuiet rows → timeline disk (rows ++ back) fore ≡ timeline disk back fore
+pub quiet_before : (disk : Disk) (rows back : List BackRow) (fore : List ForeRow) → AllByRecursion IsQuiet rows
+    → timeline disk (rows ++ back) fore ≡ timeline disk back fore
 unfolding timeline
 quiet_before disk [] back fore all = refl
 quiet_before disk (GapLine row ∷ rows) back fore all = absurd all.0
@@ -51,14 +54,20 @@ one_quiet false row quiet = tt
 pub test_quiet : (medium : Medium) (past : Past) (now : ℕ) → AllByRecursion IsQuiet (test_rows medium past now)
 unfolding test_rows
 test_quiet medium past now =
-    all_append IsQuiet (flat_map (segment_rows (packed medium past) past now) (task_numbers past)) (flat_map (λ task. seal_rows (image medium past task now) past now task ++ complete_rows past now task) (task_numbers past))
-    (all_flat_map IsQuiet (segment_rows (packed medium past) past now) (λ task. all_map IsQuiet _ (filter (is_newly_cleaned (work past task)) (choices past task)) (all_any _ (λ choice. tt) _)) (task_numbers past))
+    all_append IsQuiet (flat_map (segment_rows (packed medium past) past now) (task_numbers past))
+    (flat_map (λ task. seal_rows (image medium past task now) past now task ++ complete_rows past now task) (task_numbers past))
+    (all_flat_map IsQuiet (segment_rows (packed medium past) past now)
+    (λ task. all_map IsQuiet _ (filter (is_newly_cleaned (work past task)) (choices past task)) (all_any _ (λ choice. tt) _))
+    (task_numbers past))
     (all_flat_map IsQuiet (λ task. seal_rows (image medium past task now) past now task ++ complete_rows past now task) (λ task.
     all_append IsQuiet (seal_rows (image medium past task now) past now task) (complete_rows past now task)
-    (one_quiet (is_open_backup past task && is_complete past task) (SealLine (record { task = task; instant = now; content = image medium past task now })) tt)
-    (one_quiet (is_complete past task && not (was_complete past task)) (CompleteLine (record { task = task; instant = now })) tt)) (task_numbers past))
+    (one_quiet (is_open_backup past task && is_complete past task)
+    (SealLine (record { task = task; instant = now; content = image medium past task now })) tt)
+    (one_quiet (is_complete past task && not (was_complete past task)) (CompleteLine (record { task = task; instant = now })) tt))
+    (task_numbers past))
 
-found_quiet : (b : Bool) (task : ℕ) (lbns : List ℕ) → AllByRecursion IsQuiet (if b then map (λ lbn. BadLine (record { task = task; lbn = lbn })) lbns else [])
+found_quiet : (b : Bool) (task : ℕ) (lbns : List ℕ)
+    → AllByRecursion IsQuiet (if b then map (λ lbn. BadLine (record { task = task; lbn = lbn })) lbns else [])
 found_quiet true task lbns = all_map IsQuiet _ lbns (all_any _ (λ lbn. tt) lbns)
 found_quiet false task lbns = tt
 
@@ -75,18 +84,21 @@ pub record IsQuietStep (step : Step) : Type 0 where
   pub test : AllByRecursion IsQuiet step.test
   pub delivered : AllByRecursion IsQuiet (delivered_rows step.deliveries)
 
-followed_quiet : (medium : Medium) (past : Past) (deliveries : List Delivery) → AreFollowed medium past deliveries → AllByRecursion IsQuiet (delivered_rows deliveries)
+followed_quiet : (medium : Medium) (past : Past) (deliveries : List Delivery) → AreFollowed medium past deliveries
+    → AllByRecursion IsQuiet (delivered_rows deliveries)
 followed_quiet medium past [] followed = tt
 followed_quiet medium past (delivery ∷ deliveries) followed = (
   tt,
   all_append IsQuiet delivery.after (delivered_rows deliveries)
-      (subst (AllByRecursion IsQuiet) (sym followed.0) (all_append IsQuiet (findings past delivery.got) (test_rows medium (delivered delivery.got ∷ past) delivery.got.end)
+      (subst (AllByRecursion IsQuiet) (sym followed.0)
+      (all_append IsQuiet (findings past delivery.got) (test_rows medium (delivered delivery.got ∷ past) delivery.got.end)
       (findings_quiet past delivery.got) (test_quiet medium (delivered delivery.got ∷ past) delivery.got.end)))
       (followed_quiet medium (with_delivery past delivery) deliveries followed.1),
 )
 
 pub quiet_step : (inputs : Inputs) (medium : Medium) (past : Past) (step : Step) → IsTested inputs medium past step → IsQuietStep step
 quiet_step inputs medium past step tested = record {
-  test = subst (AllByRecursion IsQuiet) (sym tested.test) (test_quiet medium (chosen_past inputs past (decision_in step)) (instant_of (decision_in step)));
+  test = subst (AllByRecursion IsQuiet) (sym tested.test) (test_quiet medium (chosen_past inputs past (decision_in step))
+      (instant_of (decision_in step)));
   delivered = followed_quiet medium (tested_past inputs past step) step.deliveries tested.followed;
 }

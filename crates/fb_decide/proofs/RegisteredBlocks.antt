@@ -1,5 +1,6 @@
 -- Where registered blocks stand, and that two of the same number are one.
-use Rattle.std.proofs.Common.{◌≡◌, ◌⊎◌, ℕ, zero, suc, ◌+◌, ◌<◌, ◌≤◌, ◌==◌, List, [], ◌∷◌, ◌++◌, true, false, Some, inl, inr, length, length-append, slice_get, append-nil, refl, ap, sym, ◌∙◌, arith, subst}
+use Rattle.std.proofs.Common.{◌≡◌, ◌⊎◌, ℕ, zero, suc, ◌+◌, ◌<◌, ◌≤◌, ◌==◌, List, [], ◌∷◌, ◌++◌, true, false, Some, inl, inr, length}
+use Rattle.std.proofs.Common.{length-append, slice_get, append-nil, refl, ap, sym, ◌∙◌, arith, subst}
 use Rattle.std.specs.List.{AllByRecursion, list_any}
 use Rattle.std.proofs.lemmas.Bool.{cases_Bool, cases_lt, true≢false, and_parts}
 use Rattle.fb_units.proofs.Numbers.{same_number as number_same}
@@ -10,7 +11,8 @@ use Rattle.fb_wanted.specs.declared.block.Entry.{Entry}
 use Rattle.fb_calls.specs.Sessions.{is_clean}
 use Rattle.fb_calls.specs.declared.call.Action.{Action}
 use Rattle.fb_calls.specs.declared.call.Action.TheVariants.{Open}
-use Rattle.fb_model.specs.History.{Event, called, chose, tested, delivered, finished, Past, tasks, opened_by, registered, registered_by, blocks_of, same_block}
+use Rattle.fb_model.specs.History.{Event, called, chose, tested, delivered, finished, Past, tasks, opened_by, registered, registered_by}
+use Rattle.fb_model.specs.History.{blocks_of, same_block}
 use Rattle.fb_model.specs.Completion.{Choice, choices, view}
 use Rattle.fb_tasks.specs.declared.session.Session.{Session}
 use Rattle.fb_tasks.specs.Standing.{AreIndexed, IsBlockOf}
@@ -50,7 +52,8 @@ all_in P xs x all there = all_at P xs there.0 x all there.1
 -- a block among others is the same as one of them
 pub in_any : (blocks : List Block) (i : ℕ) (block : Block) → slice_get blocks i ≡ Some block → list_any (same_block block) blocks ≡ true
 in_any [] i block h = absurd (grind arith)
-in_any (b ∷ blocks) zero block h = subst (λ b. list_any (same_block block) (b ∷ blocks) ≡ true) (sym (some_same b block h)) (rw (itself block) refl)
+in_any (b ∷ blocks) zero block h =
+    subst (λ b. list_any (same_block block) (b ∷ blocks) ≡ true) (sym (some_same b block h)) (rw (itself block) refl)
 in_any (b ∷ blocks) (suc i) block h = grind (arith, in_any blocks i block h)
 
 -- what an event registers stands behind what was registered before
@@ -63,9 +66,11 @@ registered_after past (finished request) = sym (append-nil (registered past))
 
 -- what was registered before stays so, and there is nothing else but what the event registers
 pub still_there : (past : Past) (event : Event) (block : Block) → IsRegistered past block → IsRegistered (event ∷ past) block
-still_there past event block there = subst (λ bs. IsIn bs block) (sym (registered_after past event)) (in_left (registered past) (registered_by event) there.0 block there.1)
+still_there past event block there =
+    subst (λ bs. IsIn bs block) (sym (registered_after past event)) (in_left (registered past) (registered_by event) there.0 block there.1)
 
-pub there_before : (past : Past) (event : Event) (block : Block) → list_any (same_block block) (registered_by event) ≡ false → IsRegistered (event ∷ past) block → IsRegistered past block
+pub there_before : (past : Past) (event : Event) (block : Block) → list_any (same_block block) (registered_by event) ≡ false
+    → IsRegistered (event ∷ past) block → IsRegistered past block
 there_before past event block none there =
     let known = subst (λ bs. IsIn bs block) (registered_after past event) there in
     elim (in_either (registered past) (registered_by event) known.0 block known.1) [
@@ -77,9 +82,11 @@ there_before past event block none there =
 abbrev AreThere : Past → Choice → Type 0
 AreThere past choice = AllByRecursion (IsRegistered past) choice.blocks
 
-still_chosen : (past : Past) (event : Event) (task : ℕ) → AllByRecursion (AreThere past) (choices past task) → AllByRecursion (AreThere (event ∷ past)) (choices past task)
+still_chosen : (past : Past) (event : Event) (task : ℕ) → AllByRecursion (AreThere past) (choices past task)
+    → AllByRecursion (AreThere (event ∷ past)) (choices past task)
 still_chosen past event task before = all_weaker (AreThere past) (AreThere (event ∷ past))
-    (λ choice all. all_weaker (IsRegistered past) (IsRegistered (event ∷ past)) (still_there past event) choice.blocks all) (choices past task) before
+    (λ choice all. all_weaker (IsRegistered past) (IsRegistered (event ∷ past)) (still_there past event) choice.blocks all)
+    (choices past task) before
 
 pub chosen_there : (past : Past) (task : ℕ) → AllByRecursion (AreThere past) (choices past task)
 chosen_there [] task = tt
@@ -87,7 +94,10 @@ chosen_there (chose chooser segment blocks ∷ past) task =
     let new = chose chooser segment blocks ∷ past in
     let before = still_chosen past (chose chooser segment blocks) task (chosen_there past task) in
     elim (cases_Bool (chooser == task)) [
-      | inl mine ↦ rw mine (all_append (AreThere new) (choices past task) _ before (all_weaker (IsIn blocks) (IsIn (registered past ++ blocks)) (in_right (registered past) blocks) blocks (each_in blocks), tt))
+      | inl mine ↦ rw mine (all_append (AreThere new) (choices past task) _ before (
+        all_weaker (IsIn blocks) (IsIn (registered past ++ blocks)) (in_right (registered past) blocks) blocks (each_in blocks),
+        tt,
+      ))
       | inr other ↦ rw other before
     ]
 chosen_there (called call blocks ∷ past) task = still_chosen past (called call blocks) task (chosen_there past task)
@@ -95,7 +105,8 @@ chosen_there (_ ∷ past) task = chosen_there past task
 
 -- and its task's own
 abbrev pub AreOwn : Past → Type 0
-AreOwn past = (task : ℕ) → AllByRecursion (λ (choice : Choice). AllByRecursion (λ block. block.task ≡ task) choice.blocks) (choices past task)
+AreOwn past = (task : ℕ)
+    → AllByRecursion (λ (choice : Choice). AllByRecursion (λ block. block.task ≡ task) choice.blocks) (choices past task)
 
 pub own-told : (disk : Shape) (past : Past) (sessions : List Session) (held : List Entry) → Tells disk past sessions held → AreOwn past
 unfolding view
@@ -104,20 +115,24 @@ own-told disk past sessions held tells task = elim (cases_lt task (length (tasks
       let found = some_at sessions task (let as_many = tells.as_many in omega (arith, as_many, opened)) in
       let told = tells.each task found.0 found.1 in
       elim (cases_Bool (is_clean found.0.kind)) [
-        | inl cleans ↦ all_flat (λ (block : Block). block.task ≡ task) (λ (choice : Choice). choice.blocks) (choices past task) (subst (AllByRecursion (λ (block : Block). block.task ≡ task)) (told.stands.log cleans).blocks (own past task))
+        | inl cleans ↦ all_flat (λ (block : Block). block.task ≡ task) (λ (choice : Choice). choice.blocks) (choices past task)
+            (subst (AllByRecursion (λ (block : Block). block.task ≡ task)) (told.stands.log cleans).blocks (own past task))
         | inr other ↦ none_chosen (told.stands.unchosen other)
       ]
   | inr unopened ↦ none_chosen (tells.unopened task unopened).choices
 ] where
-  none_chosen : choices past task ≡ [] → AllByRecursion (λ (choice : Choice). AllByRecursion (λ block. block.task ≡ task) choice.blocks) (choices past task)
+  none_chosen : choices past task ≡ []
+      → AllByRecursion (λ (choice : Choice). AllByRecursion (λ block. block.task ≡ task) choice.blocks) (choices past task)
   none_chosen none = subst (AllByRecursion _) (sym none) tt
 
 -- registered blocks belong to tasks that are open
 abbrev pub AreOpened : Past → Type 0
 AreOpened past = AllByRecursion (λ block. block.task < length (tasks past)) (registered past)
 
-pub opened-told : (disk : Shape) (past : Past) (sessions : List Session) (held : List Entry) → Tells disk past sessions held → AreOpened past
-opened-told disk past sessions held tells = all_weaker (IsBlockOf disk (length (tasks past))) (λ block. block.task < length (tasks past)) (λ block h. h.task) (registered past) tells.on_disk
+pub opened-told : (disk : Shape) (past : Past) (sessions : List Session) (held : List Entry) → Tells disk past sessions held
+    → AreOpened past
+opened-told disk past sessions held tells = all_weaker (IsBlockOf disk (length (tasks past))) (λ block. block.task < length (tasks past))
+    (λ block h. h.task) (registered past) tells.on_disk
 
 -- and there is one of each number
 abbrev pub AreDistinct : Past → Type 0
@@ -127,7 +142,8 @@ AreDistinct past = (a b : Block) → IsRegistered past a → IsRegistered past b
 pub tasks_more : (past : Past) (event : Event) → length (tasks past) ≤ length (tasks (event ∷ past))
 tasks_more past (called call blocks) = by_action call.action where
   by_action : (action : Action) → length (tasks past) ≤ length (opened_by action (tasks past))
-  by_action (Open kind weight block) = omega (arith, length-append (tasks past) (record { kind = kind; weight = weight; block = block } ∷ []))
+  by_action (Open kind weight block) =
+      omega (arith, length-append (tasks past) (record { kind = kind; weight = weight; block = block } ∷ []))
   by_action _ = omega arith
 tasks_more past (_) = omega arith
 
@@ -135,11 +151,13 @@ pub registered-kept : (past : Past) (event : Event) → registered_by event ≡ 
 registered-kept past event none = registered_after past event ∙ (ap (λ bs. registered past ++ bs) none ∙ append-nil (registered past))
 
 pub opened-kept : (past : Past) (event : Event) → registered_by event ≡ [] → AreOpened past → AreOpened (event ∷ past)
-opened-kept past event none h = subst (AllByRecursion (λ (block : Block). block.task < length (tasks (event ∷ past)))) (sym (registered-kept past event none))
+opened-kept past event none h =
+    subst (AllByRecursion (λ (block : Block). block.task < length (tasks (event ∷ past)))) (sym (registered-kept past event none))
     (all_weaker (λ (block : Block). block.task < length (tasks past)) (λ (block : Block). block.task < length (tasks (event ∷ past)))
     (λ block less. let more = tasks_more past event in omega (arith, less, more)) (registered past) h)
 
-number_at : (n : ℕ) (blocks : List Block) (i : ℕ) (block : Block) → AreIndexed n blocks → slice_get blocks i ≡ Some block → block.number ≡ n + i
+number_at : (n : ℕ) (blocks : List Block) (i : ℕ) (block : Block) → AreIndexed n blocks → slice_get blocks i ≡ Some block
+    → block.number ≡ n + i
 number_at n [] i block indexed at = absurd (grind arith)
 number_at n (b ∷ blocks) zero block indexed at = subst (λ b. b.number ≡ n + 0) (some_same b block at) (omega (arith, indexed.0))
 number_at n (b ∷ blocks) (suc i) block indexed at = let rest = number_at (n + 1) blocks i block indexed.1 at in omega (arith, rest)
@@ -156,7 +174,8 @@ distinct past indexed a b there_a there_b same =
     let place : first.0 ≡ second.0 = omega (arith, number, first_number, second_number) in
     some_same a b (sym first.1 ∙ (ap (slice_get (blocks_of past b.task)) place ∙ second.1))
 
-pub distinct-told : (disk : Shape) (past : Past) (sessions : List Session) (held : List Entry) → Tells disk past sessions held → AreDistinct past
+pub distinct-told : (disk : Shape) (past : Past) (sessions : List Session) (held : List Entry) → Tells disk past sessions held
+    → AreDistinct past
 unfolding view
 distinct-told disk past sessions held tells = distinct past (λ task. (tells.placed task).indexed)
 

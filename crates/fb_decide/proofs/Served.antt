@@ -1,5 +1,6 @@
 -- A request is served: its gap, when its extents begin, and what the gap and the passages deliver.
-use Rattle.std.proofs.Common.{◌≡◌, ℕ, zero, suc, ◌+◌, ◌<◌, ◌≤◌, ◌*◌, ◌^◌, List, [], ◌∷◌, ◌++◌, Bool, map, append_assoc, ap₂, sym, ◌∙◌, arith, subst}
+use Rattle.std.proofs.Common.{◌≡◌, ℕ, zero, suc, ◌+◌, ◌<◌, ◌≤◌, ◌*◌, ◌^◌, List, [], ◌∷◌, ◌++◌, Bool, map, append_assoc, ap₂, sym, ◌∙◌}
+use Rattle.std.proofs.Common.{arith, subst}
 use Rattle.std.specs.List.{AllByRecursion, range_with_len}
 use Rattle.fb_units.proofs.Lists.{all_weaker, all_left, all_right}
 use Rattle.fb_units.specs.declared.types.Track.{Track}
@@ -35,47 +36,58 @@ abbrev pub gap_from : Track → ℕ → Bool → Track → ℕ → Gap
 gap_from head start write target deadline = record { source = head; target = target; now = start; deadline = deadline; write = write }
 
 -- the gap of a request is the one of its service
-pub gap-is : (disk : Disk) (head : Track) (start : ℕ) (request : Request) (to : Track) (deadline : ℕ) → to ≡ track_at disk.map request.lbn → deadline ≡ media_of (passages disk head start request.write request.lbn request.count)
+pub gap-is : (disk : Disk) (head : Track) (start : ℕ) (request : Request) (to : Track) (deadline : ℕ) → to ≡ track_at disk.map request.lbn
+    → deadline ≡ media_of (passages disk head start request.write request.lbn request.count)
     → gap_from head start request.write to deadline ≡ gap_of disk (service disk head start request)
 gap-is disk head start request to deadline same ends = ap₂ (gap_from head start request.write) same ends
 
 -- the first passage begins when the head has come to its track
-in_time : (disk : Disk) (head : Track) (start : ℕ) (write : Bool) (lbn n : ℕ) → 0 < n → start + pos disk.mechanism head (track_at disk.map lbn) write ≤ media_of (passages disk head start write lbn n)
+in_time : (disk : Disk) (head : Track) (start : ℕ) (write : Bool) (lbn n : ℕ) → 0 < n
+    → start + pos disk.mechanism head (track_at disk.map lbn) write ≤ media_of (passages disk head start write lbn n)
 unfolding passages
 in_time disk head start write lbn zero some = absurd (omega arith)
 in_time disk head start write lbn (suc n) some = from_on disk lbn (start + pos disk.mechanism head (track_at disk.map lbn) write)
 
 -- and it is one that the planner can plan for
-pub is-gap : (disk : Disk) (head : Track) (start : ℕ) (request : Request) (to : Track) (deadline : ℕ) → IsTrackOf disk.map head → IsTrackOf disk.map to → 0 < request.count
-    → to ≡ track_at disk.map request.lbn → deadline ≡ media_of (passages disk head start request.write request.lbn request.count) → deadline ≤ 9 * 10 ^ 18
+pub is-gap : (disk : Disk) (head : Track) (start : ℕ) (request : Request) (to : Track) (deadline : ℕ) → IsTrackOf disk.map head
+    → IsTrackOf disk.map to → 0 < request.count
+    → to ≡ track_at disk.map request.lbn → deadline ≡ media_of (passages disk head start request.write request.lbn request.count)
+    → deadline ≤ 9 * 10 ^ 18
     → IsGap disk (gap_from head start request.write to deadline)
-is-gap disk head start request to deadline source on_disk some same ends soon = subst (IsGap disk) (sym (ap₂ (gap_from head start request.write) same ends)) (record {
-  source = source;
-  target = subst (IsTrackOf disk.map) same on_disk;
-  in_time = in_time disk head start request.write request.lbn request.count some;
-  early_enough = subst (λ d. d ≤ 9 * 10 ^ 18) ends soon;
-})
+is-gap disk head start request to deadline source on_disk some same ends soon =
+    subst (IsGap disk) (sym (ap₂ (gap_from head start request.write) same ends)) (record {
+      source = source;
+      target = subst (IsTrackOf disk.map) same on_disk;
+      in_time = in_time disk head start request.write request.lbn request.count some;
+      early_enough = subst (λ d. d ≤ 9 * 10 ^ 18) ends soon;
+    })
 
 -- an extent begins with its first passage
-first_begins : (f : ℕ → Passage) (n from to most : ℕ) → 0 < n → FollowOn from (map f (range_with_len 0 n)) to → AllByRecursion (λ (p : Passage). p.begin ≤ most) (map f (range_with_len 0 n)) → from ≤ most
+first_begins : (f : ℕ → Passage) (n from to most : ℕ) → 0 < n → FollowOn from (map f (range_with_len 0 n)) to
+    → AllByRecursion (λ (p : Passage). p.begin ≤ most) (map f (range_with_len 0 n)) → from ≤ most
 first_begins f zero from to most some follow all = absurd (omega arith)
 first_begins f (suc n) from to most some follow all = omega (arith, follow.0, all.0)
 
-extents_begin : (disk : Shape) (extents : List Extent) (most : ℕ) → AllByRecursion (IsUnbroken disk) extents → AllByRecursion (λ (p : Passage). p.begin ≤ most) (all_passages_of disk extents)
+extents_begin : (disk : Shape) (extents : List Extent) (most : ℕ) → AllByRecursion (IsUnbroken disk) extents
+    → AllByRecursion (λ (p : Passage). p.begin ≤ most) (all_passages_of disk extents)
     → AllByRecursion (λ (e : Extent). e.begin ≤ most) extents
 extents_begin disk [] most unbroken all = tt
 extents_begin disk (e ∷ es) most unbroken all = (
-  first_begins (λ i. passage_from disk (e.first + i) e.begin) e.count e.begin e.end most unbroken.0.some unbroken.0.without_wait (all_left (λ (p : Passage). p.begin ≤ most) (passages_of disk e) (all_passages_of disk es) all),
+  first_begins (λ i. passage_from disk (e.first + i) e.begin) e.count e.begin e.end most unbroken.0.some unbroken.0.without_wait
+      (all_left (λ (p : Passage). p.begin ≤ most) (passages_of disk e) (all_passages_of disk es) all),
   extents_begin disk es most unbroken.1 (all_right (λ (p : Passage). p.begin ≤ most) (passages_of disk e) (all_passages_of disk es) all),
 )
 
 -- no extent begins later than the service ends
-pub extents-begin : (disk : Disk) (head : Track) (start : ℕ) (write : Bool) (lbn n : ℕ) (extents : List Extent) (end most : ℕ) → AllByRecursion (IsUnbroken disk.map) extents
-    → all_passages_of disk.map extents ≡ passages disk head start write lbn n → end ≡ finish_of start (passages disk head start write lbn n) → end ≤ most
+pub extents-begin : (disk : Disk) (head : Track) (start : ℕ) (write : Bool) (lbn n : ℕ) (extents : List Extent) (end most : ℕ)
+    → AllByRecursion (IsUnbroken disk.map) extents
+    → all_passages_of disk.map extents ≡ passages disk head start write lbn n → end ≡ finish_of start (passages disk head start write lbn n)
+    → end ≤ most
     → AllByRecursion (λ (e : Extent). e.begin ≤ most) extents
 extents-begin disk head start write lbn n extents end most unbroken same ends soon = extents_begin disk.map extents most unbroken
     (subst (AllByRecursion (λ (p : Passage). p.begin ≤ most)) (sym same)
-    (all_weaker _ (λ (p : Passage). p.begin ≤ most) (λ (p : Passage) h. omega (arith, h.1, h.2, ends, soon)) (passages disk head start write lbn n) (passed_between disk head start write lbn n).1))
+    (all_weaker _ (λ (p : Passage). p.begin ≤ most) (λ (p : Passage) h. omega (arith, h.1, h.2, ends, soon))
+    (passages disk head start write lbn n) (passed_between disk head start write lbn n).1))
 
 -- the gap's deliveries, then those of the ride
 module _ (disk : Disk) (holding : Holding) (served : Served) (plan : Plan) (past : Past) where
@@ -88,14 +100,18 @@ module _ (disk : Disk) (holding : Holding) (served : Served) (plan : Plan) (past
   abbrev opening : Gap → BackRow
   opening gap = GapLine (record { name = served.request.name; gap = gap; plan = plan })
 
-  all-delivered : (rows : List BackRow) (middle after : Background) → HasDelivered disk.map past (in_gap (gap_of disk served)) rows middle → wanted (past_with past (in_gap (gap_of disk served))) ≡ left (gap_of disk served)
-      → ((later : Past) → IsCurrent disk.map later middle → HasDelivered disk.map later (rides (held_now holding) served (wanted later)) middle.rows after)
+  all-delivered : (rows : List BackRow) (middle after : Background) → HasDelivered disk.map past (in_gap (gap_of disk served)) rows middle
+      → wanted (past_with past (in_gap (gap_of disk served))) ≡ left (gap_of disk served)
+      → ((later : Past) → IsCurrent disk.map later middle
+      → HasDelivered disk.map later (rides (held_now holding) served (wanted later)) middle.rows after)
       → HasDelivered disk.map past (due disk (held_now holding) (serving served plan) (wanted past)) rows after
   unfolding due
   all-delivered rows middle after first are_left next =
-      delivered-join first (subst (λ bs. HasDelivered disk.map (past_with past (in_gap (gap_of disk served))) (rides (held_now holding) served bs) middle.rows after) are_left (next (past_with past (in_gap (gap_of disk served))) first.current))
+      delivered-join first (subst (λ bs. HasDelivered disk.map (past_with past (in_gap (gap_of disk served)))
+      (rides (held_now holding) served bs) middle.rows after) are_left (next (past_with past (in_gap (gap_of disk served))) first.current))
 
-  pub has-passed : (gap : Gap) (rows : List BackRow) (middle after : Background) → gap ≡ gap_of disk served → IsBest disk gap (wanted past) plan
+  pub has-passed : (gap : Gap) (rows : List BackRow) (middle after : Background) → gap ≡ gap_of disk served
+      → IsBest disk gap (wanted past) plan
       → HasDelivered disk.map past (in_gap gap) (rows ++ opening gap ∷ []) middle → wanted (past_with past (in_gap gap)) ≡ left gap
       → ((later : Past) → IsCurrent disk.map later middle
       → HasDelivered disk.map later (rides (held_now holding) served (wanted later)) middle.rows after)

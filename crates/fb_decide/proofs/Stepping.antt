@@ -1,5 +1,6 @@
 -- What one decision adds to a run.
-use Rattle.std.proofs.Common.{◌≡◌, ℕ, ◌<◌, ◌≤◌, List, [], ◌∷◌, ◌++◌, length, map, refl, ap, sym, subst, ◌∙◌, arith, append_assoc, append-nil}
+use Rattle.std.proofs.Common.{◌≡◌, ℕ, ◌<◌, ◌≤◌, List, [], ◌∷◌, ◌++◌, length, map, refl, ap, sym, subst, ◌∙◌, arith, append_assoc}
+use Rattle.std.proofs.Common.{append-nil}
 use Rattle.std.specs.List.{AllByRecursion}
 use Rattle.fb_units.proofs.Lists.{all_weaker}
 use Rattle.fb_units.specs.declared.types.Request.{Request}
@@ -65,13 +66,16 @@ unfolding wanted
 wanted_all P past all = all_filter P (λ block. is_wanted (state past block)) (registered past) all
 
 -- the rows of a step behind those before it
-rows_join : (before test opens delivered : List BackRow) (rows middle : List BackRow) → middle ≡ before ++ test → rows ≡ (middle ++ opens) ++ delivered → rows ≡ before ++ ((test ++ opens) ++ delivered)
+rows_join : (before test opens delivered : List BackRow) (rows middle : List BackRow) → middle ≡ before ++ test
+    → rows ≡ (middle ++ opens) ++ delivered → rows ≡ before ++ ((test ++ opens) ++ delivered)
 rows_join before test opens delivered rows middle e f =
-    f ∙ ap (λ m. (m ++ opens) ++ delivered) e ∙ ap (λ m. m ++ delivered) (append_assoc before test opens) ∙ append_assoc before (test ++ opens) delivered
+    f ∙ ap (λ m. (m ++ opens) ++ delivered) e ∙ ap (λ m. m ++ delivered) (append_assoc before test opens)
+    ∙ append_assoc before (test ++ opens) delivered
 
 -- ---- one decision
 
-module _ (inputs : Inputs) (past : Past) (before : Course) (background : Background) (called : ℕ) (act : Act) (gots : List DeliveryRow) (after : Course) where
+module _ (inputs : Inputs) (past : Past) (before : Course) (background : Background) (called : ℕ) (act : Act) (gots : List DeliveryRow)
+    (after : Course) where
   abbrev decision : Decision
   decision = decision_of act
 
@@ -95,27 +99,32 @@ module _ (inputs : Inputs) (past : Past) (before : Course) (background : Backgro
     pub same_called : after.called ≡ called
     pub ends_at : end_of decision ≡ after.now
 
-  module _ (end : ℕ) (h : HasDone end) (tells : Tells inputs.disk.map past before.background.sessions before.background.wanted) (finds : IsTrue (medium_of inputs) before.store past)
+  module _ (end : ℕ) (h : HasDone end) (tells : Tells inputs.disk.map past before.background.sessions before.background.wanted)
+      (finds : IsTrue (medium_of inputs) before.store past)
       (test : HasChosenAndTested inputs.disk.map inputs.calls past (instant_of decision) called before.background.rows background) where
     same_wanted : wanted then ≡ wanted (chosen_past inputs past decision)
     unfolding chosen_past
-    same_wanted = wanted_tested (chosen_by inputs.disk.map inputs.calls past (instant_of decision)) (test_rows_by inputs.disk.map inputs.calls past (instant_of decision))
+    same_wanted = wanted_tested (chosen_by inputs.disk.map inputs.calls past (instant_of decision))
+        (test_rows_by inputs.disk.map inputs.calls past (instant_of decision))
 
     truths : IsTested inputs (medium_of inputs) past step × IsTrue (medium_of inputs) before.store (past_with then gots)
-    truths = decision_true inputs (medium_of inputs) before.store past act end gots finds h.mirrors h.order tells test.current.tells h.found h.there
+    truths = decision_true inputs (medium_of inputs) before.store past act end gots finds h.mirrors h.order tells test.current.tells h.found
+        h.there
 
     after_is : past_after inputs past step ≡ with_finish (past_with then gots) decision
     unfolding chosen_past past_after
     after_is = refl
 
     finished_called : (d : Decision) → IsCalled inputs.disk.map inputs.calls (with_finish (past_with then gots) d) called
-    finished_called (serves served) = called-finished inputs.disk.map inputs.calls (past_with then gots) called (called_delivered inputs.disk.map inputs.calls then called gots test.called) served.request
+    finished_called (serves served) = called-finished inputs.disk.map inputs.calls (past_with
+        then gots) called (called_delivered inputs.disk.map inputs.calls then called gots test.called) served.request
     finished_called (idles dwell) = called_delivered inputs.disk.map inputs.calls then called gots test.called
     finished_called (ends now) = called_delivered inputs.disk.map inputs.calls then called gots test.called
 
     pub stepped : HasStepped inputs past before step after
     stepped = record {
-      rows_after = rows_join before.background.rows (test_rows_by inputs.disk.map inputs.calls past (instant_of decision)) (opening inputs.disk act) (rows_of (followed then gots))
+      rows_after = rows_join before.background.rows (test_rows_by inputs.disk.map inputs.calls past (instant_of decision))
+          (opening inputs.disk act) (rows_of (followed then gots))
           after.background.rows background.rows test.rows_after h.rows_behind;
       tells = subst (λ p. Tells inputs.disk.map p after.background.sessions after.background.wanted) (sym after_is) h.tells_after;
       is_made = record {
@@ -125,7 +134,8 @@ module _ (inputs : Inputs) (past : Past) (before : Course) (background : Backgro
         tested = truths.0;
       };
       finds = after_true inputs (medium_of inputs) before.store after.store past act gots h.leaves truths.1;
-      called = subst (λ p. IsCalled inputs.disk.map inputs.calls p after.called) (sym after_is) (subst (IsCalled inputs.disk.map inputs.calls (with_finish (past_with then gots) decision)) (sym h.same_called) (finished_called decision));
+      called = subst (λ p. IsCalled inputs.disk.map inputs.calls p after.called) (sym after_is) (subst (IsCalled inputs.disk.map
+          inputs.calls (with_finish (past_with then gots) decision)) (sym h.same_called) (finished_called decision));
       ends_at = h.ends_at;
     }
 
@@ -133,7 +143,8 @@ module _ (inputs : Inputs) (past : Past) (before : Course) (background : Backgro
 
 module _ (inputs : Inputs) (past : Past) (before : Course) (background : Background) (joined called : ℕ)
     (test : HasChosenAndTested inputs.disk.map inputs.calls past before.now called before.background.rows background)
-    (tells : Tells inputs.disk.map past before.background.sessions before.background.wanted) (finds : IsTrue (medium_of inputs) before.store past) where
+    (tells : Tells inputs.disk.map past before.background.sessions before.background.wanted)
+    (finds : IsTrue (medium_of inputs) before.store past) where
   -- by its deliveries and what they leave
   abbrev stepped_by : (act : Act) → instant_of (decision_of act) ≡ before.now → (gots : List DeliveryRow) (after : Course) (end : ℕ)
       → HasDone inputs past before background called act gots after end → StepsBy inputs past before act after
@@ -151,10 +162,12 @@ module _ (inputs : Inputs) (past : Past) (before : Course) (background : Backgro
 
   all_some : AllByRecursion (λ (block : Block). 0 < block.count) (wanted tested_now)
   all_some = wanted_all (λ (block : Block). 0 < block.count) tested_now
-      (all_weaker (IsBlockOf inputs.disk.map (length (tasks tested_now))) (λ (block : Block). 0 < block.count) (λ block h. h.some) (registered tested_now) test.current.tells.on_disk)
+      (all_weaker (IsBlockOf inputs.disk.map (length (tasks tested_now))) (λ (block : Block). 0 < block.count) (λ block h. h.some)
+      (registered tested_now) test.current.tells.on_disk)
 
   -- a request is served
-  module _ (request : Request) (inside : IsRequestOf inputs.disk.map request) (after : Course) (now_served : HasServedNext inputs.disk request ready after)
+  module _ (request : Request) (inside : IsRequestOf inputs.disk.map request) (after : Course)
+      (now_served : HasServedNext inputs.disk request ready after)
       (mirrors : Mirrors (medium_of inputs) before.store before.now (held_until (service inputs.disk before.head before.now request))) where
     abbrev served : Served
     served = service inputs.disk before.head before.now request
@@ -177,11 +190,14 @@ module _ (inputs : Inputs) (past : Past) (before : Course) (background : Backgro
     serves_step = stepped_by served_act refl served_gots after (held_until served) (record {
       order = (held_between inputs.disk before.head before.now request inside.range.some).0;
       mirrors = mirrors;
-      found = due_found inputs.disk before.store served_act (held_until served) (wanted tested_now) refl has_served.best.is_plan over all_some;
+      found =
+          due_found inputs.disk before.store served_act (held_until served) (wanted tested_now) refl has_served.best.is_plan over all_some;
       there = has_served.registered;
       best = has_served.best;
-      all = due_same (medium_of inputs) before.store served_act (held_until served) (wanted tested_now) refl has_served.best.is_plan over all_some mirrors;
-      rows_behind = has_served.rows_after ∙ sym (append_assoc background.rows (opening inputs.disk served_act) (rows_of (followed tested_now served_gots)));
+      all = due_same (medium_of inputs) before.store served_act (held_until served)
+          (wanted tested_now) refl has_served.best.is_plan over all_some mirrors;
+      rows_behind = has_served.rows_after
+          ∙ sym (append_assoc background.rows (opening inputs.disk served_act) (rows_of (followed tested_now served_gots)));
       tells_after = has_served.tells;
       leaves = now_served.leaves;
       same_called = now_served.same_called;
@@ -191,7 +207,8 @@ module _ (inputs : Inputs) (past : Past) (before : Course) (background : Backgro
   -- the head stays
   module _ (instant : ℕ) (later : before.now ≤ instant) (after : Course) (stayed : HasStayed inputs.disk instant ready after)
       (mirrors : Mirrors (medium_of inputs) before.store before.now instant) where
-    has_delivered : HasDelivered inputs.disk.map tested_now (caught inputs.disk (held_now before.store) ByIdle (stay_of ready instant) (wanted tested_now)) (background.rows ++ opening inputs.disk (idling (stay_of ready instant))) after.background
+    has_delivered : HasDelivered inputs.disk.map tested_now (caught inputs.disk (held_now before.store) ByIdle (stay_of ready instant)
+        (wanted tested_now)) (background.rows ++ opening inputs.disk (idling (stay_of ready instant))) after.background
     has_delivered = stayed.delivered tested_now test.current
 
     abbrev stayed_gots : List DeliveryRow
@@ -205,7 +222,8 @@ module _ (inputs : Inputs) (past : Past) (before : Course) (background : Backgro
       found = due_found inputs.disk before.store (idling (stay_of ready instant)) instant (wanted tested_now) tt tt (omega arith) all_some;
       there = has_delivered.registered;
       best = tt;
-      all = due_same (medium_of inputs) before.store (idling (stay_of ready instant)) instant (wanted tested_now) tt tt (omega arith) all_some mirrors;
+      all = due_same (medium_of inputs) before.store (idling (stay_of ready instant)) instant (wanted tested_now) tt tt
+          (omega arith) all_some mirrors;
       rows_behind = has_delivered.rows_after;
       tells_after = has_delivered.current.tells;
       leaves = stayed.same_store;

@@ -47,4 +47,5 @@ AreExtents disk extents = AllByRecursion (IsExtentOf disk) extents
 -- extents laid end to end from a sector on, with this many sectors in all
 abbrev pub AreLaid : ℕ → List Extent → ℕ → Type 0
 AreLaid first [] count = count ≡ 0
-AreLaid first (extent ∷ extents) count = (extent.first ≡ first) × (extent.count ≤ count) × AreLaid (first + extent.count) extents (count - extent.count)
+AreLaid first (extent ∷ extents) count =
+    (extent.first ≡ first) × (extent.count ≤ count) × AreLaid (first + extent.count) extents (count - extent.count)

@@ -1,5 +1,6 @@
 -- What stands between two decisions, and what a decision makes of it.
-use Rattle.std.specs.Prelude.{◌≡◌, ◌≤◌, ◌<◌, ◌+◌, ◌-◌, ◌*◌, ◌^◌, ℕ, List, [], ◌∷◌, ◌++◌, Bool, true, false, Option, None, Some, min, length, take, IfSome, slice_get}
+use Rattle.std.specs.Prelude.{◌≡◌, ◌≤◌, ◌<◌, ◌+◌, ◌-◌, ◌*◌, ◌^◌, ℕ, List, [], ◌∷◌, ◌++◌, Bool, true, false, Option, None, Some, min, length}
+use Rattle.std.specs.Prelude.{take, IfSome, slice_get}
 use Rattle.std.specs.List.{AllByRecursion}
 use Rattle.fb_units.specs.declared.types.Request.{Request}
 use Rattle.fb_geometry.specs.Shape.{Shape, IsTrackOf}
@@ -56,7 +57,8 @@ pub record HasServedNext (disk : Disk) (request : Request) (before after : Cours
   pub stands : after.head ≡ last_track disk (service disk before.head before.now request)
   pub finished : after.now ≡ finish (service disk before.head before.now request)
   pub on_disk : IsTrackOf disk.map after.head
-  pub each : AllByRecursion (λ passage. passage.begin < passage.end) (passages disk before.head before.now request.write request.lbn request.count)
+  pub each : AllByRecursion (λ passage. passage.begin < passage.end)
+      (passages disk before.head before.now request.write request.lbn request.count)
   pub later : before.now < after.now
   pub soon : after.now ≤ before.now + 2048 * (4 * 10 ^ 9)
   pub served : (past : Past) → IsCurrent disk.map past before.background
@@ -71,7 +73,8 @@ stay_of course instant = record { track = course.head; begin = course.now; end =
 -- the head stayed until an instant
 pub record HasStayed (disk : Disk) (instant : ℕ) (before after : Course) : Type 0 where
   pub delivered : (past : Past) → IsCurrent disk.map past before.background
-      → HasDelivered disk.map past (caught disk (held_now before.store) ByIdle (stay_of before instant) (wanted past)) (before.background.rows ++ IdleLine (stay_of before instant) ∷ []) after.background
+      → HasDelivered disk.map past (caught disk (held_now before.store) ByIdle (stay_of before instant) (wanted past))
+      (before.background.rows ++ IdleLine (stay_of before instant) ∷ []) after.background
   pub until : after.now ≡ instant
   pub same_store : after.store ≡ before.store
   pub same_fore : after.fore ≡ before.fore
@@ -81,7 +84,8 @@ pub record HasStayed (disk : Disk) (instant : ℕ) (before after : Course) : Typ
 
 -- what a decision does: the pick of the waiting requests is served, or the head stays until the next instant or the end;
 -- another decision follows each but the last
-pub data HasActed (disk : Disk) (key : Key) (until : ℕ) (next : Option ℕ) (waiting : List Request) (before : Course) : Bool → List Request → Course → Type 0 where
+pub data HasActed (disk : Disk) (key : Key) (until : ℕ) (next : Option ℕ) (waiting : List Request) (before : Course) : Bool → List Request
+    → Course → Type 0 where
   serves_pick : (request : Request) (others : List Request) (after : Course)
       → first_least (key disk before.head before.now) waiting ≡ Some (request, others) → HasServedNext disk request before after
       → HasActed disk key until next waiting before true others after
@@ -98,7 +102,8 @@ prepared course background joined called = record course { background = backgrou
 
 -- what must stand before a decision: requests and calls that a replay can have, of which those that wait have arrived, and a head that
 -- is on a track of the disk, so early that one more service ends at an instant
-pub record IsReady (disk : Disk) (requests : List Request) (calls : List Call) (course : Course) (count : ℕ) (pending : List Request) : Type 0 where
+pub record IsReady (disk : Disk) (requests : List Request) (calls : List Call) (course : Course) (count : ℕ)
+    (pending : List Request) : Type 0 where
   pub list : IsForegroundOf disk requests
   pub script : IsScriptOf disk.map calls
   pub waiting : IsWaiting disk requests course.now course.joined count pending
@@ -123,4 +128,5 @@ pub record HasDecided (disk : Disk) (requests : List Request) (calls : List Call
   pub called : ℕ
   pub waiting : List Request
   pub has_prepared : HasPrepared disk requests calls past before pending background joined called waiting
-  pub acted : HasActed disk key until (next_of (slice_get requests joined) (slice_get calls called)) waiting (prepared before background joined called) goes_on pending_after after
+  pub acted : HasActed disk key until (next_of (slice_get requests joined) (slice_get calls called)) waiting
+      (prepared before background joined called) goes_on pending_after after

@@ -77,16 +77,20 @@ pub record HasDelivered (disk : Shape) (past : Past) (gots : List DeliveryRow) (
   pub registered : AllByRecursion (λ got. IsRegistered past got.block) gots
 
 -- the best plan for a request's gap was followed, and what is due in the gap and along with a read was delivered
-pub record HasPassed (disk : Disk) (holding : Holding) (past : Past) (served : Served) (rows : List BackRow) (after : Background) : Type 0 where
+pub record HasPassed (disk : Disk) (holding : Holding) (past : Past) (served : Served) (rows : List BackRow)
+    (after : Background) : Type 0 where
   pub plan : Plan
   pub best : IsBest disk (gap_of disk served) (wanted past) plan
   pub delivered : HasDelivered disk.map past (due disk (held_now holding) (serving served plan) (wanted past))
       (rows ++ GapLine (record { name = served.request.name; gap = gap_of disk served; plan = plan }) ∷ []) after
 
 -- a request was served by the best plan for its gap, and the background rows were added
-pub record HasServed (disk : Disk) (holding : Holding) (past : Past) (served : Served) (rows : List BackRow) (after : Background) : Type 0 where
+pub record HasServed (disk : Disk) (holding : Holding) (past : Past) (served : Served) (rows : List BackRow)
+    (after : Background) : Type 0 where
   pub plan : Plan
   pub best : IsBest disk (gap_of disk served) (wanted past) plan
-  pub tells : Tells disk.map (finished served.request ∷ past_with past (due disk (held_now holding) (serving served plan) (wanted past))) after.sessions after.wanted
-  pub rows_after : after.rows ≡ rows ++ GapLine (record { name = served.request.name; gap = gap_of disk served; plan = plan }) ∷ rows_of (followed past (due disk (held_now holding) (serving served plan) (wanted past)))
+  pub tells : Tells disk.map (finished served.request ∷ past_with past (due disk (held_now holding) (serving served plan) (wanted past)))
+      after.sessions after.wanted
+  pub rows_after : after.rows ≡ rows ++ GapLine (record { name = served.request.name; gap = gap_of disk served; plan = plan })
+      ∷ rows_of (followed past (due disk (held_now holding) (serving served plan) (wanted past)))
   pub registered : AllByRecursion (λ got. IsRegistered past got.block) (due disk (held_now holding) (serving served plan) (wanted past))

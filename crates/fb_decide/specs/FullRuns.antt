@@ -20,24 +20,34 @@ pub record AreRowsOf (inputs : Inputs) (steps : List Step) (fore : List ForeRow)
 
 -- one more step adds its rows
 abbrev pub RowsGoOn : Type 0
-RowsGoOn = (inputs : Inputs) (steps : List Step) (step : Step) (fore : List ForeRow) (back : List BackRow) → AreRowsOf inputs steps fore back → IsMade inputs (history inputs steps) step
+RowsGoOn = (inputs : Inputs) (steps : List Step) (step : Step) (fore : List ForeRow) (back : List BackRow)
+    → AreRowsOf inputs steps fore back → IsMade inputs (history inputs steps) step
     → AreRowsOf inputs (steps ++ step ∷ []) (fore ++ fore_row_of (medium_of inputs) (decision_in step)) (back ++ step_rows inputs.disk step)
 
 -- the foreground rows of the decisions so far are the first of the plain replay's
 abbrev pub ForeRowsBegin : Type 0
-ForeRowsBegin = (inputs : Inputs) (more : Bool) (steps : List Step) (list : List Request) (course : Course) (pending : List Request) (count : ℕ) (fore : List ForeRow) (back : List BackRow)
-    → HasMade inputs more steps list course pending count → AreRowsOf inputs steps fore back → (rest : List ForeRow) × (fore ++ rest ≡ fore_rows inputs)
+ForeRowsBegin = (inputs : Inputs) (more : Bool) (steps : List Step) (list : List Request) (course : Course) (pending : List Request)
+    (count : ℕ) (fore : List ForeRow) (back : List BackRow)
+    → HasMade inputs more steps list course pending count → AreRowsOf inputs steps fore back
+    → (rest : List ForeRow) × (fore ++ rest ≡ fore_rows inputs)
 
 -- where no decision is left, the foreground rows are all of the plain replay's
 abbrev pub ForeRowsEnd : Type 0
-ForeRowsEnd = (inputs : Inputs) (steps : List Step) (list : List Request) (course : Course) (pending : List Request) (count : ℕ) (fore : List ForeRow) (back : List BackRow)
+ForeRowsEnd = (inputs : Inputs) (steps : List Step) (list : List Request) (course : Course) (pending : List Request) (count : ℕ)
+    (fore : List ForeRow) (back : List BackRow)
     → HasMade inputs false steps list course pending count → AreRowsOf inputs steps fore back → fore ≡ fore_rows inputs
 
 -- and with the rows of the tasks they are a full run
 abbrev pub RowsAreFull : Type 0
-RowsAreFull = (inputs : Inputs) (steps : List Step) (list : List Request) (course : Course) (pending : List Request) (count : ℕ) (fore : List ForeRow) (back : List BackRow)
+RowsAreFull = (inputs : Inputs) (steps : List Step) (list : List Request) (course : Course) (pending : List Request) (count : ℕ)
+    (fore : List ForeRow) (back : List BackRow)
     → HasMade inputs false steps list course pending count → AreRowsOf inputs steps fore back
-    → IsFull inputs (record { fore = fore; back = back ++ task_rows (history inputs steps); passed_over = inputs.passed_over; end = run_end (decisions inputs) })
+    → IsFull inputs (record {
+      fore = fore;
+      back = back ++ task_rows (history inputs steps);
+      passed_over = inputs.passed_over;
+      end = run_end (decisions inputs);
+    })
 
 -- whoever adds the rows of one decision after another has a full run in the end
 pub record DecisionsMakeARun : Type 0 where

@@ -1,5 +1,6 @@
 -- How far a replay has come between two decisions, and what a decision adds.
-use Rattle.std.specs.Prelude.{◌≡◌, ◌≤◌, ◌<◌, ◌+◌, ◌*◌, ◌^◌, ℕ, List, [], ◌∷◌, ◌++◌, Bool, true, false, None, ◌==◌, filter, length, map, take}
+use Rattle.std.specs.Prelude.{◌≡◌, ◌≤◌, ◌<◌, ◌+◌, ◌*◌, ◌^◌, ℕ, List, [], ◌∷◌, ◌++◌, Bool, true, false, None, ◌==◌, filter, length, map}
+use Rattle.std.specs.Prelude.{take}
 use Rattle.std.specs.List.{AllByRecursion, flat_map, last_or}
 use Rattle.fb_units.specs.declared.types.Request.{Request}
 use Rattle.fb_units.specs.Rising.{IsRising}
@@ -57,7 +58,8 @@ abbrev pub held_after : List ℕ → List Served → ℕ → Content
 held_after latent done lbn = content_by (last_or None (filter (λ write. write.passage.lbn == lbn) (all_writes done))) (unwritten latent lbn)
 
 -- these services are done and those are left; what the first ones wrote is on the disk
-pub record Replayed (latent : List ℕ) (whole : List Served) (rest : List Served) (now : ℕ) (holding : Holding) (done : List Served) : Type 0 where
+pub record Replayed (latent : List ℕ) (whole : List Served) (rest : List Served) (now : ℕ) (holding : Holding)
+    (done : List Served) : Type 0 where
   pub all : done ++ rest ≡ whole
   pub ended : AllByRecursion (λ (write : Written). write.passage.end ≤ now) (all_writes done)
   pub holds : (lbn : ℕ) → content_in holding lbn ≡ held_after latent done lbn
@@ -126,7 +128,8 @@ pub record AreKnown (inputs : Inputs) : Type 0 where
   pub takes_time : PassagesTakeTime inputs.disk.map
 
 -- these steps have been made, and perhaps more follow
-pub record HasMade (inputs : Inputs) (more : Bool) (steps : List Step) (list : List Request) (course : Course) (pending : List Request) (count : ℕ) : Type 0 where
+pub record HasMade (inputs : Inputs) (more : Bool) (steps : List Step) (list : List Request) (course : Course) (pending : List Request)
+    (count : ℕ) : Type 0 where
   pub known : AreKnown inputs
   pub list_is : list ≡ requests inputs
   pub come_to : HasComeTo inputs more course pending count steps
@@ -137,7 +140,8 @@ decisions_left inputs true course pending = length (decisions_by inputs course (
 decisions_left inputs false course pending = 0
 
 -- one more decision: its rows stand behind those before it
-pub record HasMadeOne (inputs : Inputs) (steps : List Step) (more : Bool) (list : List Request) (before : Course) (pending : List Request) (after : Course) (pending_after : List Request) (count_after : ℕ) : Type 0 where
+pub record HasMadeOne (inputs : Inputs) (steps : List Step) (more : Bool) (list : List Request) (before : Course) (pending : List Request)
+    (after : Course) (pending_after : List Request) (count_after : ℕ) : Type 0 where
   pub step : Step
   pub is_made : IsMade inputs (history inputs steps) step
   pub fore : after.fore ≡ before.fore ++ fore_row_of (medium_of inputs) (decision_in step)

@@ -36,8 +36,10 @@ impl Background {
         how: How,
         catch: Catch,
     ) -> Result<(), NoMemory>
-        requires wanted { (disk : Shape) × (past : Past) × (place : ℕ) × IsCurrent disk past self.old × (slice_get (wanted past) place ≡ Some catch.block) }
-        ensures { OnOk result ((disk : Shape) (past : Past) (place : ℕ) → IsCurrent disk past self.old → slice_get (wanted past) place ≡ Some catch.block
+        requires wanted { (disk : Shape) × (past : Past) × (place : ℕ) × IsCurrent disk past self.old
+            × (slice_get (wanted past) place ≡ Some catch.block) }
+        ensures { OnOk result ((disk : Shape) (past : Past) (place : ℕ) → IsCurrent disk past self.old
+            → slice_get (wanted past) place ≡ Some catch.block
             → HasDelivered disk past (delivery (held_now store.now) how catch.block catch.begin catch.end ∷ []) self.old.rows self.new) }
     {
         runs_are_fewest();
@@ -65,7 +67,8 @@ impl Background {
         catches: &[Catch],
     ) -> Result<(), NoMemory>
         requires { (disk : Shape) × (past : Past) × IsCurrent disk past self.old × AreDue past (map (row_in store.now how) catches.now) }
-        ensures { OnOk result ((disk : Shape) (past : Past) → IsCurrent disk past self.old → AreDue past (map (row_in store.now how) catches.now)
+        ensures { OnOk result ((disk : Shape) (past : Past) → IsCurrent disk past self.old
+            → AreDue past (map (row_in store.now how) catches.now)
             → HasDelivered disk past (map (row_in store.now how) catches.now) self.old.rows self.new) }
     {
         for catch in catches {
@@ -90,7 +93,8 @@ impl Background {
         ensures delivered { OnOk result ((past : Past) → IsCurrent disk.now.map past self.old
             → HasDelivered disk.now.map past (caught disk.now (held_now store.now) how dwell (wanted past)) self.old.rows self.new) }
         ensures left { OnOk result ((past : Past) → IsCurrent disk.now.map past self.old
-            → wanted (past_with past (caught disk.now (held_now store.now) how dwell (wanted past))) ≡ missed disk.now dwell (wanted past)) }
+            → wanted (past_with past (caught disk.now (held_now store.now) how dwell (wanted past)))
+            ≡ missed disk.now dwell (wanted past)) }
     {
         let catches = caught(alloc, disk, &self.wanted, dwell)?;
         self.deliver_all(alloc, store, how, catches.as_slice())
@@ -109,7 +113,8 @@ impl Background {
         requires current { (past : Past) × IsCurrent disk.now.map past self.old }
         requires early { dwell.begin ≤ 9 * 10 ^ 18 }
         ensures { OnOk result ((past : Past) → IsCurrent disk.now.map past self.old
-            → HasDelivered disk.now.map past (caught disk.now (held_now store.now) How.Idle dwell (wanted past)) (self.old.rows ++ BackRow.Idle dwell ∷ []) self.new) }
+            → HasDelivered disk.now.map past (caught disk.now (held_now store.now) How.Idle dwell (wanted past))
+            (self.old.rows ++ BackRow.Idle dwell ∷ []) self.new) }
     {
         self.rows.push(BackRow::Idle(dwell))?;
         self.stay(alloc, disk, store, How::Idle, dwell)

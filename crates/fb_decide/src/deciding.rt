@@ -1,5 +1,6 @@
 // A replay, one decision after another.
-ghost use Rattle.std.specs.Prelude.{◌≡◌, ℕ, ◌-◌, ◌*◌, ◌<◌, ◌≤◌, ◌^◌, ◌++◌, List, [], Bool, true, false, length, Some, IfOk, OnOk, slice_get};
+ghost use Rattle.std.specs.Prelude.{◌≡◌, ℕ, ◌-◌, ◌*◌, ◌<◌, ◌≤◌, ◌^◌, ◌++◌, List, [], Bool, true, false, length, Some, IfOk, OnOk};
+ghost use Rattle.std.specs.Prelude.{slice_get};
 ghost use Rattle.std.specs.List.{AllByRecursion};
 ghost use Rattle.fb_geometry.specs.Shape.{IsTrackOf};
 ghost use Rattle.fb_calls.specs.Allowed.{tasks};
@@ -80,7 +81,8 @@ impl<'a, Q: Queue> Decider<'a, Q> {
         requires empty { Q.pending queue ≡ [] }
         requires fresh { Q.joined queue ≡ 0 }
         requires accepted { IsAccepted (inputs_of inputs Q.key) }
-        ensures made { IfOk result (λ decider. HasMade (inputs_of inputs.entry Q.key) true [] decider.requests decider.course (Q.pending decider.queue) (Q.joined decider.queue)) }
+        ensures made { IfOk result (λ decider. HasMade (inputs_of inputs.entry Q.key) true [] decider.requests decider.course
+            (Q.pending decider.queue) (Q.joined decider.queue)) }
         ensures no_fore { IfOk result (λ decider. decider.course.fore ≡ []) }
         ensures no_back { IfOk result (λ decider. decider.course.background.rows ≡ []) }
         ensures serves { IfOk result (λ decider. Q.serves decider.queue inputs.entry.disk.now) }
@@ -107,10 +109,13 @@ impl<'a, Q: Queue> Decider<'a, Q> {
         inputs: RunInputs<'_>,
         planner: &P,
     ) -> Result<bool, NoMemory>
-        requires made { (steps : List Step) × HasMade (inputs_of inputs Q.key) true steps self.old.requests self.old.course (Q.pending self.old.queue) (Q.joined self.old.queue) }
+        requires made { (steps : List Step) × HasMade (inputs_of inputs Q.key) true steps self.old.requests self.old.course
+            (Q.pending self.old.queue) (Q.joined self.old.queue) }
         requires serves { Q.serves self.old.queue inputs.disk.now }
-        ensures decided { IfOk result (λ goes_on. (steps : List Step) → HasMade (inputs_of inputs.entry Q.key) true steps self.old.requests self.old.course (Q.pending self.old.queue) (Q.joined self.old.queue)
-            → HasMadeOne (inputs_of inputs.entry Q.key) steps goes_on self.old.requests self.old.course (Q.pending self.old.queue) self.new.course (Q.pending self.new.queue) (Q.joined self.new.queue)) }
+        ensures decided { IfOk result (λ goes_on. (steps : List Step) → HasMade
+            (inputs_of inputs.entry Q.key) true steps self.old.requests self.old.course (Q.pending self.old.queue) (Q.joined self.old.queue)
+            → HasMadeOne (inputs_of inputs.entry Q.key) steps goes_on self.old.requests self.old.course
+            (Q.pending self.old.queue) self.new.course (Q.pending self.new.queue) (Q.joined self.new.queue)) }
         ensures requests { OnOk result (self.new.requests ≡ self.old.requests) }
         ensures serves { OnOk result (Q.serves self.new.queue inputs.entry.disk.now) }
     {
@@ -128,13 +133,17 @@ impl<'a, Q: Queue> Decider<'a, Q> {
     ///
     /// It is called once, when no decision follows. The only error is out of memory.
     pub fn add_task_rows(&mut self) -> Result<(), NoMemory>
-        requires { (inputs : Inputs) × (steps : List Step) × HasMade inputs false steps self.old.requests self.old.course (Q.pending self.old.queue) (Q.joined self.old.queue) }
-        ensures rows { OnOk result ((inputs : Inputs) (steps : List Step) → HasMade inputs false steps self.old.requests self.old.course (Q.pending self.old.queue) (Q.joined self.old.queue)
+        requires { (inputs : Inputs) × (steps : List Step)
+            × HasMade inputs false steps self.old.requests self.old.course (Q.pending self.old.queue) (Q.joined self.old.queue) }
+        ensures rows { OnOk result ((inputs : Inputs) (steps : List Step)
+            → HasMade inputs false steps self.old.requests self.old.course (Q.pending self.old.queue) (Q.joined self.old.queue)
             → self.new.course.background.rows ≡ self.old.course.background.rows ++ task_rows (history inputs steps)) }
-        ensures fits { (inputs : Inputs) (steps : List Step) → HasMade inputs false steps self.old.requests self.old.course (Q.pending self.old.queue) (Q.joined self.old.queue)
+        ensures fits { (inputs : Inputs) (steps : List Step)
+            → HasMade inputs false steps self.old.requests self.old.course (Q.pending self.old.queue) (Q.joined self.old.queue)
             → AllByRecursion (RowFits (length (tasks inputs.calls))) (task_rows (history inputs steps)) }
         ensures fore { OnOk result (self.new.course.fore ≡ self.old.course.fore) }
-        ensures made { (inputs : Inputs) (steps : List Step) → HasMade inputs false steps self.old.requests self.old.course (Q.pending self.old.queue) (Q.joined self.old.queue)
+        ensures made { (inputs : Inputs) (steps : List Step)
+            → HasMade inputs false steps self.old.requests self.old.course (Q.pending self.old.queue) (Q.joined self.old.queue)
             → HasMade inputs false steps self.new.requests self.new.course (Q.pending self.new.queue) (Q.joined self.new.queue) }
     {
         self.course.background.sessions.task_rows(
@@ -146,8 +155,12 @@ impl<'a, Q: Queue> Decider<'a, Q> {
     /// The instant, in ns, at which the next decision is made, or at which the replay has ended.
     pub fn instant(&self) -> Ns
         ensures now { result ≡ self.now.course.now }
-        ensures end { (inputs : Inputs) (steps : List Step) → HasMade inputs false steps self.now.requests self.now.course (Q.pending self.now.queue) (Q.joined self.now.queue) → result ≡ run_end (decisions inputs) }
-        ensures early { (inputs : Inputs) (steps : List Step) → HasMade inputs false steps self.now.requests self.now.course (Q.pending self.now.queue) (Q.joined self.now.queue) → result ≤ 9 * 10 ^ 18 }
+        ensures end { (inputs : Inputs) (steps : List Step)
+            → HasMade inputs false steps self.now.requests self.now.course (Q.pending self.now.queue) (Q.joined self.now.queue)
+            → result ≡ run_end (decisions inputs) }
+        ensures early { (inputs : Inputs) (steps : List Step)
+            → HasMade inputs false steps self.now.requests self.now.course (Q.pending self.now.queue) (Q.joined self.now.queue)
+            → result ≤ 9 * 10 ^ 18 }
     {
         self.course.now
     }
@@ -159,7 +172,8 @@ impl<'a, Q: Queue> Decider<'a, Q> {
         ensures no_fore { self.new.course.fore ≡ [] }
         ensures no_back { self.new.course.background.rows ≡ [] }
         ensures queue { self.new.queue ≡ self.old.queue }
-        ensures made { (inputs : Inputs) (more : Bool) (steps : List Step) → HasMade inputs more steps self.old.requests self.old.course (Q.pending self.old.queue) (Q.joined self.old.queue)
+        ensures made { (inputs : Inputs) (more : Bool) (steps : List Step)
+            → HasMade inputs more steps self.old.requests self.old.course (Q.pending self.old.queue) (Q.joined self.old.queue)
             → HasMade inputs more steps self.new.requests self.new.course (Q.pending self.new.queue) (Q.joined self.new.queue) }
     {
         Rows {
@@ -203,13 +217,18 @@ fn advance<Q: Queue, P: Planner>(
     queue: &mut Q,
     course: &mut Course,
 ) -> Result<bool, NoMemory>
-    requires ready { IsReady inputs.disk.now requests.now inputs.calls.now.calls.items course.old (Q.joined queue.old) (Q.pending queue.old) }
+    requires ready { IsReady inputs.disk.now requests.now inputs.calls.now.calls.items course.old (Q.joined queue.old)
+        (Q.pending queue.old) }
     requires serves { Q.serves queue.old inputs.disk.now }
-    requires called { (past : Past) × IsCalled inputs.disk.now.map inputs.calls.now.calls.items past course.old.called × Tells inputs.disk.now.map past course.old.background.sessions course.old.background.wanted }
-    ensures decided { IfOk result (λ goes_on. (past : Past) → IsCalled inputs.entry.disk.now.map inputs.entry.calls.now.calls.items past course.old.called
+    requires called { (past : Past) × IsCalled inputs.disk.now.map inputs.calls.now.calls.items past course.old.called
+        × Tells inputs.disk.now.map past course.old.background.sessions course.old.background.wanted }
+    ensures decided { IfOk result
+        (λ goes_on. (past : Past) → IsCalled inputs.entry.disk.now.map inputs.entry.calls.now.calls.items past course.old.called
         → Tells inputs.entry.disk.now.map past course.old.background.sessions course.old.background.wanted
-        → HasDecided inputs.entry.disk.now requests.now inputs.entry.calls.now.calls.items Q.key inputs.entry.until past course.old (Q.pending queue.old) goes_on course.new (Q.pending queue.new)) }
-    ensures waiting { IfOk result (λ goes_on. goes_on ≡ true → IsWaiting inputs.entry.disk.now requests.now course.new.now course.new.joined (Q.joined queue.new) (Q.pending queue.new)) }
+        → HasDecided inputs.entry.disk.now requests.now inputs.entry.calls.now.calls.items Q.key inputs.entry.until past course.old
+        (Q.pending queue.old) goes_on course.new (Q.pending queue.new)) }
+    ensures waiting { IfOk result (λ goes_on. goes_on ≡ true
+        → IsWaiting inputs.entry.disk.now requests.now course.new.now course.new.joined (Q.joined queue.new) (Q.pending queue.new)) }
     ensures serves { OnOk result (Q.serves queue.new inputs.entry.disk.now) }
 {
     let now = course.now;
@@ -235,9 +254,11 @@ fn act<Q: Queue, P: Planner>(
     requires head { IsTrackOf inputs.disk.now.map course.old.head }
     requires now { course.old.now ≤ 9 * 10 ^ 18 - 10 ^ 15 }
     requires current { (past : Past) × IsCurrent inputs.disk.now.map past course.old.background }
-    ensures acted { IfOk result (λ goes_on. HasActed inputs.entry.disk.now Q.key inputs.entry.until (next_of (slice_get requests.now course.old.joined) (slice_get inputs.entry.calls.now.calls.items course.old.called))
+    ensures acted { IfOk result (λ goes_on. HasActed inputs.entry.disk.now Q.key inputs.entry.until
+        (next_of (slice_get requests.now course.old.joined) (slice_get inputs.entry.calls.now.calls.items course.old.called))
         (Q.pending queue.old) course.old goes_on (Q.pending queue.new) course.new) }
-    ensures waiting { IfOk result (λ goes_on. goes_on ≡ true → IsWaiting inputs.entry.disk.now requests.now course.new.now course.new.joined (Q.joined queue.new) (Q.pending queue.new)) }
+    ensures waiting { IfOk result (λ goes_on. goes_on ≡ true
+        → IsWaiting inputs.entry.disk.now requests.now course.new.now course.new.joined (Q.joined queue.new) (Q.pending queue.new)) }
     ensures serves { OnOk result (Q.serves queue.new inputs.entry.disk.now) }
 {
     if !queue.is_empty() {
@@ -284,7 +305,8 @@ fn serve_next<Q: Queue, P: Planner>(
     requires head { IsTrackOf disk.now.map course.old.head }
     requires now { course.old.now ≤ 9 * 10 ^ 18 - 10 ^ 15 }
     requires current { (past : Past) × IsCurrent disk.now.map past course.old.background }
-    ensures served { OnOk result ((request : Request) × (first_least (Q.key disk.now course.old.head course.old.now) (Q.pending queue.old) ≡ Some (request, Q.pending queue.new))
+    ensures served { OnOk result ((request : Request)
+        × (first_least (Q.key disk.now course.old.head course.old.now) (Q.pending queue.old) ≡ Some (request, Q.pending queue.new))
         × HasServedNext disk.now request course.old course.new) }
     ensures counted { OnOk result (Q.joined queue.new ≡ Q.joined queue.old) }
     ensures serves { OnOk result (Q.serves queue.new disk.now) }

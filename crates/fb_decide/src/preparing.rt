@@ -22,11 +22,16 @@ impl Background {
         now: Ns,
     ) -> Result<usize, NoMemory>
         requires script { IsScriptOf disk.now.map calls.now.calls.items }
-        requires called { (past : Past) × IsCalled disk.now.map calls.now.calls.items past next × Tells disk.now.map past self.old.sessions self.old.wanted }
-        ensures tells { IfOk result (λ later. (past : Past) → IsCalled disk.now.map calls.now.calls.items past next → Tells disk.now.map past self.old.sessions self.old.wanted
-            → Tells disk.now.map (fold (take_call disk.now.map) past (calls_due calls.now.calls.items past now)) self.new.sessions self.new.wanted) }
-        ensures called { IfOk result (λ later. (past : Past) → IsCalled disk.now.map calls.now.calls.items past next → Tells disk.now.map past self.old.sessions self.old.wanted
-            → IsCalled disk.now.map calls.now.calls.items (fold (take_call disk.now.map) past (calls_due calls.now.calls.items past now)) later) }
+        requires called { (past : Past) × IsCalled disk.now.map calls.now.calls.items past next
+            × Tells disk.now.map past self.old.sessions self.old.wanted }
+        ensures tells { IfOk result (λ later. (past : Past) → IsCalled disk.now.map calls.now.calls.items past next
+            → Tells disk.now.map past self.old.sessions self.old.wanted
+            → Tells disk.now.map (fold (take_call disk.now.map) past (calls_due calls.now.calls.items past now)) self.new.sessions
+            self.new.wanted) }
+        ensures called { IfOk result (λ later. (past : Past) → IsCalled disk.now.map calls.now.calls.items past next
+            → Tells disk.now.map past self.old.sessions self.old.wanted
+            → IsCalled disk.now.map calls.now.calls.items
+            (fold (take_call disk.now.map) past (calls_due calls.now.calls.items past now)) later) }
         ensures ahead { IfOk result (λ later. IfSome (slice_get calls.now.calls.items later) (λ call. now < call.instant)) }
         ensures rows { IfOk result (λ later. self.new.rows ≡ self.old.rows) }
     {
@@ -50,8 +55,10 @@ impl Background {
         now: Ns,
     ) -> Result<usize, NoMemory>
         requires script { IsScriptOf disk.now.map calls.now.calls.items }
-        requires called { (past : Past) × IsCalled disk.now.map calls.now.calls.items past next × Tells disk.now.map past self.old.sessions self.old.wanted }
-        ensures { IfOk result (λ later. (past : Past) → IsCalled disk.now.map calls.now.calls.items past next → Tells disk.now.map past self.old.sessions self.old.wanted
+        requires called { (past : Past) × IsCalled disk.now.map calls.now.calls.items past next
+            × Tells disk.now.map past self.old.sessions self.old.wanted }
+        ensures { IfOk result (λ later. (past : Past) → IsCalled disk.now.map calls.now.calls.items past next
+            → Tells disk.now.map past self.old.sessions self.old.wanted
             → HasChosenAndTested disk.now.map calls.now.calls.items past now later self.old.rows self.new) }
     {
         let next = self.take_calls(disk, calls, next, now)?;

@@ -149,9 +149,11 @@ impl Background {
         requires gap { IsGap disk.now row.gap }
         requires plan { IsPlan disk.now row.gap row.plan }
         ensures delivered { OnOk result ((past : Past) → IsCurrent disk.now.map past self.old
-            → HasDelivered disk.now.map past (caught_in_gap disk.now (held_now store.now) row.gap row.plan (wanted past)) (self.old.rows ++ BackRow.Gap row ∷ []) self.new) }
+            → HasDelivered disk.now.map past (caught_in_gap disk.now (held_now store.now) row.gap row.plan (wanted past))
+            (self.old.rows ++ BackRow.Gap row ∷ []) self.new) }
         ensures left { OnOk result ((past : Past) → IsCurrent disk.now.map past self.old
-            → wanted (past_with past (caught_in_gap disk.now (held_now store.now) row.gap row.plan (wanted past))) ≡ missed_in_gap disk.now row.gap row.plan (wanted past)) }
+            → wanted (past_with past (caught_in_gap disk.now (held_now store.now) row.gap row.plan (wanted past)))
+            ≡ missed_in_gap disk.now row.gap row.plan (wanted past)) }
     {
         self.rows.push(BackRow::Gap(row))?;
         let pair = dwells(disk, row.plan, &row.gap);
@@ -162,7 +164,8 @@ impl Background {
     // A request has finished: blocks that a write has overwritten may be wanted again.
     fn finish(&mut self, request: Request)
         requires { (disk : Shape) × (past : Past) × Tells disk past self.old.sessions self.old.wanted }
-        ensures tells { (disk : Shape) (past : Past) → Tells disk past self.old.sessions self.old.wanted → Tells disk (finished request ∷ past) self.new.sessions self.new.wanted }
+        ensures tells { (disk : Shape) (past : Past) → Tells disk past self.old.sessions self.old.wanted
+            → Tells disk (finished request ∷ past) self.new.sessions self.new.wanted }
         ensures rows { self.new.rows ≡ self.old.rows }
     {
         reads_change_nothing();

@@ -1,5 +1,6 @@
 -- Entries that are held under names, and readings of them.
-use Rattle.std.proofs.Common.{◌≡◌, ◌≢◌, ℕ, ◌+◌, ◌<◌, ◌≤◌, List, [], ◌∷◌, ◌++◌, length, get_or, take, drop, refl, sym, ap, ◌∙◌, inl, inr, subst, arith, length-append, Option, Some, None}
+use Rattle.std.proofs.Common.{◌≡◌, ◌≢◌, ℕ, ◌+◌, ◌<◌, ◌≤◌, List, [], ◌∷◌, ◌++◌, length, get_or, take, drop, refl, sym, ap, ◌∙◌, inl, inr}
+use Rattle.std.proofs.Common.{subst, arith, length-append, Option, Some, None}
 use Rattle.std.specs.Prelude.{if◌then◌else◌, option_and_then, IfSome, true, false, zero, suc}
 use Rattle.std.specs.Option.{option_map}
 use Rattle.std.specs.Str.{bytes_eq}
@@ -20,11 +21,14 @@ held_under-push entries e name =
     ∙ elim (cases_Bool (bytes_eq e.name name)) [ inl same ↦ rw same refl | inr other ↦ rw other refl ]
 
 -- the bytes of the last entry are held under its name
-pub held_under-here : (entries : List NamedBytes) (name bytes : List ℕ) → held_under (entries ++ record { name = name; bytes = bytes } ∷ []) name ≡ Some bytes
-held_under-here entries name bytes = held_under-push entries (record { name = name; bytes = bytes }) name ∙ rw ((bytes_eq-Decides name name).1 refl) refl
+pub held_under-here : (entries : List NamedBytes) (name bytes : List ℕ)
+    → held_under (entries ++ record { name = name; bytes = bytes } ∷ []) name ≡ Some bytes
+held_under-here entries name bytes =
+    held_under-push entries (record { name = name; bytes = bytes }) name ∙ rw ((bytes_eq-Decides name name).1 refl) refl
 
 -- under any other name the same is held as before
-pub held_under-elsewhere : (entries : List NamedBytes) (name bytes other : List ℕ) → other ≢ name → held_under (entries ++ record { name = name; bytes = bytes } ∷ []) other ≡ held_under entries other
+pub held_under-elsewhere : (entries : List NamedBytes) (name bytes other : List ℕ) → other ≢ name
+    → held_under (entries ++ record { name = name; bytes = bytes } ∷ []) other ≡ held_under entries other
 held_under-elsewhere entries name bytes other ne =
     held_under-push entries (record { name = name; bytes = bytes }) other
     ∙ elim (cases_Bool (bytes_eq name other)) [
@@ -36,21 +40,29 @@ held_under-elsewhere entries name bytes other ne =
 pub held_under-more : (entries : List NamedBytes) (name : List ℕ) (i : ℕ) (e : NamedBytes) → i < length entries → e ≡ get_or entries i e
     → held_under (take (i + 1) entries) name ≡ (if bytes_eq e.name name then Some e.bytes else held_under (take i entries) name)
 held_under-more entries name i e within is =
-    ap (λ es. held_under es name) (take_more entries i e within ∙ ap (λ x. take i entries ++ x ∷ []) (sym is)) ∙ held_under-push (take i entries) e name
+    ap (λ es. held_under es name) (take_more entries i e within ∙ ap (λ x. take i entries ++ x ∷ []) (sym is))
+    ∙ held_under-push (take i entries) e name
 
 -- the bytes at an index are those of the entry there
-pub bytes_at-read : (entries : List NamedBytes) (place : ℕ) (e : NamedBytes) → place < length entries → e ≡ get_or entries place e → bytes_at entries place ≡ Some e.bytes
-bytes_at-read entries place e within is = ap (option_map (λ entry. entry.bytes)) (slice_get_read entries (length entries) place e refl within is)
+pub bytes_at-read : (entries : List NamedBytes) (place : ℕ) (e : NamedBytes) → place < length entries → e ≡ get_or entries place e
+    → bytes_at entries place ≡ Some e.bytes
+bytes_at-read entries place e within is =
+    ap (option_map (λ entry. entry.bytes)) (slice_get_read entries (length entries) place e refl within is)
 
 -- if this entry has the name, it is the last one with that name so far
-pub last_here : (entries : List NamedBytes) (name : List ℕ) (place : ℕ) (e : NamedBytes) → place < length entries → e ≡ get_or entries place e → bytes_eq e.name name ≡ true
+pub last_here : (entries : List NamedBytes) (name : List ℕ) (place : ℕ) (e : NamedBytes) → place < length entries
+    → e ≡ get_or entries place e → bytes_eq e.name name ≡ true
     → bytes_at entries place ≡ held_under (take (place + 1) entries) name
-last_here entries name place e within is same = bytes_at-read entries place e within is ∙ sym (held_under-more entries name place e within is ∙ rw same refl)
+last_here entries name place e within is same =
+    bytes_at-read entries place e within is ∙ sym (held_under-more entries name place e within is ∙ rw same refl)
 
 -- if this entry has another name, the last one with the name is among those before it
-pub last_before : (entries : List NamedBytes) (name : List ℕ) (place : ℕ) (e : NamedBytes) (found : Option ℕ) → place < length entries → e ≡ get_or entries place e → bytes_eq e.name name ≡ false
-    → option_and_then (bytes_at entries) found ≡ held_under (take place entries) name → option_and_then (bytes_at entries) found ≡ held_under (take (place + 1) entries) name
-last_before entries name place e found within is other so_far = so_far ∙ sym (held_under-more entries name place e within is ∙ rw other refl)
+pub last_before : (entries : List NamedBytes) (name : List ℕ) (place : ℕ) (e : NamedBytes) (found : Option ℕ) → place < length entries
+    → e ≡ get_or entries place e → bytes_eq e.name name ≡ false
+    → option_and_then (bytes_at entries) found ≡ held_under (take place entries) name
+    → option_and_then (bytes_at entries) found ≡ held_under (take (place + 1) entries) name
+last_before entries name place e found within is other so_far =
+    so_far ∙ sym (held_under-more entries name place e within is ∙ rw other refl)
 
 -- at first no byte of an entry is read, which is no more than it has
 IfSome-zero : (bytes : Option (List ℕ)) → IfSome bytes (λ b. 0 ≤ length b)
@@ -62,20 +74,26 @@ pub IsWithin-start : (entries : List NamedBytes) (place : ℕ) → place < lengt
 IsWithin-start entries place within = (within, IfSome-zero (bytes_at entries place))
 
 -- one more entry doesn't change the bytes at an earlier index
-bytes_at-push : (entries : List NamedBytes) (e : NamedBytes) (place : ℕ) → place < length entries → bytes_at (entries ++ e ∷ []) place ≡ bytes_at entries place
+bytes_at-push : (entries : List NamedBytes) (e : NamedBytes) (place : ℕ) → place < length entries
+    → bytes_at (entries ++ e ∷ []) place ≡ bytes_at entries place
 bytes_at-push [] e place within = absurd (omega arith)
 bytes_at-push (x ∷ entries) e zero within = refl
 bytes_at-push (x ∷ entries) e (suc place) within = bytes_at-push entries e place (omega arith)
 
 -- one more entry doesn't change what a reading has left
-pub left_of-push : (entries : List NamedBytes) (e : NamedBytes) (reading : Reading) → IsWithin entries reading → left_of (entries ++ e ∷ []) reading ≡ left_of entries reading
+pub left_of-push : (entries : List NamedBytes) (e : NamedBytes) (reading : Reading) → IsWithin entries reading
+    → left_of (entries ++ e ∷ []) reading ≡ left_of entries reading
 left_of-push entries e Unopened within = refl
 left_of-push entries e Empty within = refl
 left_of-push entries e (At place done) within = ap (option_map (drop done)) (bytes_at-push entries e place within.0)
 
 -- a reading within the entries is so too after one more entry
-pub IsWithin-push : (entries : List NamedBytes) (e : NamedBytes) (reading : Reading) → IsWithin entries reading → IsWithin (entries ++ e ∷ []) reading
+pub IsWithin-push : (entries : List NamedBytes) (e : NamedBytes) (reading : Reading) → IsWithin entries reading
+    → IsWithin (entries ++ e ∷ []) reading
 IsWithin-push entries e Unopened within = tt
 IsWithin-push entries e Empty within = tt
 IsWithin-push entries e (At place done) within =
-    (omega (arith, length-append entries (e ∷ []), within.0), subst (λ bytes. IfSome bytes (λ b. done ≤ length b)) (sym (bytes_at-push entries e place within.0)) within.1)
+    (
+      omega (arith, length-append entries (e ∷ []), within.0),
+      subst (λ bytes. IfSome bytes (λ b. done ≤ length b)) (sym (bytes_at-push entries e place within.0)) within.1,
+    )

@@ -31,7 +31,12 @@ memory_input desk which = record { opened = is_some (desk.left which); left = de
 
 -- an output shows its name and its bytes
 abbrev pub memory_output : MemoryState → Output → OutputView
-memory_output desk which = record { begun = desk.begun which; name = Some (desk.begun_as which); written = Some (desk.written which); faults = desk.write_faults which }
+memory_output desk which = record {
+  begun = desk.begun which;
+  name = Some (desk.begun_as which);
+  written = Some (desk.written which);
+  faults = desk.write_faults which;
+}
 
 -- a desk in memory tells everything
 abbrev pub view_of : MemoryState → DeskView

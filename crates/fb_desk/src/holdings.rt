@@ -1,5 +1,6 @@
 // Bytes held under names, and inputs that are read from them.
-ghost use Rattle.std.specs.Prelude.{◌≡◌, ◌≢◌, ℕ, List, [], length, take, drop, min, ◌<◌, is_some, slice_get, option_and_then, Some, None, IfSome, IfOk, OnOk, OnErr};
+ghost use Rattle.std.specs.Prelude.{◌≡◌, ◌≢◌, ℕ, List, [], length, take, drop, min, ◌<◌, is_some, slice_get, option_and_then, Some, None};
+ghost use Rattle.std.specs.Prelude.{IfSome, IfOk, OnOk, OnErr};
 ghost use Rattle.std.specs.Option.{option_map};
 ghost use Rattle.fb_desk.specs.Holdings.{NamedBytes, held_under, bytes_at, left_of, left_in, IsWithin};
 ghost use Rattle.fb_desk.specs.declared.desk.Input.{Input};

@@ -19,7 +19,8 @@ use Rattle.fb_engine.specs.Gone.{HasGone}
 
 -- at first
 pub at_first : {inputs : Inputs} {list : List Request} {course : Course} {pending : List Request} {count : ℕ}
-    → HasMade inputs true [] list course pending count → course.fore ≡ [] → course.background.rows ≡ [] → HasGone inputs true list course pending count
+    → HasMade inputs true [] list course pending count → course.fore ≡ [] → course.background.rows ≡ []
+    → HasGone inputs true list course pending count
 at_first {inputs} made no_fore no_back = record {
   steps = [];
   made = made;
@@ -28,31 +29,42 @@ at_first {inputs} made no_fore no_back = record {
 }
 
 -- where another decision follows, and where none does
-pub gone_on : {inputs : Inputs} {more goes_on : Bool} {list : List Request} {course : Course} {pending : List Request} {count : ℕ} → more ≡ goes_on → HasGone inputs more list course pending count → HasGone inputs goes_on list course pending count
+pub gone_on : {inputs : Inputs} {more goes_on : Bool} {list : List Request} {course : Course} {pending : List Request} {count : ℕ}
+    → more ≡ goes_on → HasGone inputs more list course pending count → HasGone inputs goes_on list course pending count
 gone_on {inputs} {more} {goes_on} {list} {course} {pending} {count} e gone = subst (λ b. HasGone inputs b list course pending count) e gone
 
 -- after one more decision
-pub one_on : {inputs : Inputs} {more : Bool} {list now_list : List Request} {before after : Course} {pending pending_after : List Request} {count count_after : ℕ}
-    → DecisionsMakeARun → (gone : HasGone inputs true list before pending count) → now_list ≡ list → HasMadeOne inputs gone.steps more list before pending after pending_after count_after
+pub one_on : {inputs : Inputs} {more : Bool} {list now_list : List Request} {before after : Course} {pending pending_after : List Request}
+    {count count_after : ℕ}
+    → DecisionsMakeARun → (gone : HasGone inputs true list before pending count) → now_list ≡ list
+    → HasMadeOne inputs gone.steps more list before pending after pending_after count_after
     → HasGone inputs more now_list after pending_after count_after
-one_on {inputs} {more} {list} {now_list} {before} {after} {pending} {pending_after} {count} {count_after} law gone same one = subst (λ list. HasGone inputs more list after pending_after count_after) (sym same) (record {
-  steps = gone.steps ++ one.step ∷ [];
-  made = one.made;
-  rows = rw (one.fore, one.back) (law.go_on inputs gone.steps one.step before.fore before.background.rows gone.rows one.is_made);
-  fit = rw one.back (all_append (RowFits (length (allowed.tasks inputs.calls))) before.background.rows _ gone.fit one.back_fits);
-})
+one_on {inputs} {more} {list} {now_list} {before} {after} {pending} {pending_after} {count} {count_after} law gone same one =
+    subst (λ list. HasGone inputs more list after pending_after count_after) (sym same) (record {
+      steps = gone.steps ++ one.step ∷ [];
+      made = one.made;
+      rows = rw (one.fore, one.back) (law.go_on inputs gone.steps one.step before.fore before.background.rows gone.rows one.is_made);
+      fit = rw one.back (all_append (RowFits (length (allowed.tasks inputs.calls))) before.background.rows _ gone.fit one.back_fits);
+    })
 
 -- and fewer are left
-pub less_by : {inputs : Inputs} {steps : List Step} {more was : Bool} {list : List Request} {before after : Course} {pending pending_after : List Request} {count_after : ℕ}
-    → was ≡ true → HasMadeOne inputs steps more list before pending after pending_after count_after → decisions_left inputs more after pending_after < decisions_left inputs was before pending
-less_by {inputs} {steps} {more} {was} {list} {before} {after} {pending} {pending_after} e one = subst (λ b. decisions_left inputs more after pending_after < decisions_left inputs b before pending) (sym e) one.fewer
+pub less_by : {inputs : Inputs} {steps : List Step} {more was : Bool} {list : List Request} {before after : Course}
+    {pending pending_after : List Request} {count_after : ℕ}
+    → was ≡ true → HasMadeOne inputs steps more list before pending after pending_after count_after
+    → decisions_left inputs more after pending_after < decisions_left inputs was before pending
+less_by {inputs} {steps} {more} {was} {list} {before} {after} {pending} {pending_after} e one =
+    subst (λ b. decisions_left inputs more after pending_after < decisions_left inputs b before pending) (sym e) one.fewer
 
 -- ---- where no decision follows
 
-module _ {inputs : Inputs} {list : List Request} {course : Course} {pending : List Request} {count : ℕ} (gone : HasGone inputs false list course pending count) where
-  pub is_full : (fore : List ForeRow) (back : List BackRow) → fore ≡ course.fore → back ≡ course.background.rows ++ task_rows (history inputs gone.steps)
-      → (end : ℕ) → DecisionsMakeARun → end ≡ run_end (decisions inputs) → IsFull inputs (record { fore = fore; back = back; passed_over = inputs.passed_over; end = end })
-  is_full fore back same rows end law ends = rw (same, rows, ends) (law.full inputs gone.steps list course pending count course.fore course.background.rows gone.made gone.rows)
+module _ {inputs : Inputs} {list : List Request} {course : Course} {pending : List Request} {count : ℕ}
+    (gone : HasGone inputs false list course pending count) where
+  pub is_full : (fore : List ForeRow) (back : List BackRow) → fore ≡ course.fore
+      → back ≡ course.background.rows ++ task_rows (history inputs gone.steps)
+      → (end : ℕ) → DecisionsMakeARun → end ≡ run_end (decisions inputs)
+      → IsFull inputs (record { fore = fore; back = back; passed_over = inputs.passed_over; end = end })
+  is_full fore back same rows end law ends =
+      rw (same, rows, ends) (law.full inputs gone.steps list course pending count course.fore course.background.rows gone.made gone.rows)
 
   pub is_few : (fore : List ForeRow) → fore ≡ course.fore → DecisionsMakeARun → length fore ≤ 10 ^ 6
   unfolding fore_rows
@@ -65,5 +77,7 @@ module _ {inputs : Inputs} {list : List Request} {course : Course} {pending : Li
   )
 
   pub rows_fit : (back : List BackRow) → back ≡ course.background.rows ++ task_rows (history inputs gone.steps)
-      → AllByRecursion (RowFits (length (allowed.tasks inputs.calls))) (task_rows (history inputs gone.steps)) → AllByRecursion (RowFits (length (allowed.tasks inputs.calls))) back
-  rows_fit back rows fits = rw rows (all_append (RowFits (length (allowed.tasks inputs.calls))) course.background.rows (task_rows (history inputs gone.steps)) gone.fit fits)
+      → AllByRecursion (RowFits (length (allowed.tasks inputs.calls))) (task_rows (history inputs gone.steps))
+      → AllByRecursion (RowFits (length (allowed.tasks inputs.calls))) back
+  rows_fit back rows fits = rw rows (all_append (RowFits (length (allowed.tasks inputs.calls))) course.background.rows
+      (task_rows (history inputs gone.steps)) gone.fit fits)

@@ -31,7 +31,8 @@ pub fn replay<Q: Queue, P: Planner>(
     ensures full { IfOk result (λ run. IsFull (inputs_of inputs.entry Q.key) run) }
     ensures few { IfOk result (λ run. length run.fore ≤ 10 ^ 6) }
     ensures early { IfOk result (λ run. run.end ≤ 9 * 10 ^ 18) }
-    ensures named { IfOk result (λ run. (names : List (List ℕ)) → length names ≡ length (tasks inputs.entry.calls.now.calls.items) → AllByRecursion (HasNamedTask names) run.back) }
+    ensures named { IfOk result (λ run. (names : List (List ℕ)) → length names ≡ length (tasks inputs.entry.calls.now.calls.items)
+        → AllByRecursion (HasNamedTask names) run.back) }
 {
     let mut decider = Decider::new(alloc, inputs, queue)?;
     run_of(alloc, inputs, planner, &mut decider)
@@ -44,7 +45,8 @@ fn run_of<Q: Queue, P: Planner>(
     planner: &P,
     decider: &mut Decider<'_, Q>,
 ) -> Result<Run, NoMemory>
-    requires gone { HasGone (inputs_of inputs Q.key) true decider.old.requests decider.old.course (Q.pending decider.old.queue) (Q.joined decider.old.queue) }
+    requires gone { HasGone (inputs_of inputs Q.key) true decider.old.requests decider.old.course (Q.pending decider.old.queue)
+        (Q.joined decider.old.queue) }
     requires serves { Q.serves decider.old.queue inputs.disk.now }
     ensures { IfOk result (IsWhole (inputs_of inputs.entry Q.key)) }
 {
@@ -68,9 +70,11 @@ fn decide_all<Q: Queue, P: Planner>(
     planner: &P,
     decider: &mut Decider<'_, Q>,
 ) -> Result<(), NoMemory>
-    requires gone { HasGone (inputs_of inputs Q.key) true decider.old.requests decider.old.course (Q.pending decider.old.queue) (Q.joined decider.old.queue) }
+    requires gone { HasGone (inputs_of inputs Q.key) true decider.old.requests decider.old.course (Q.pending decider.old.queue)
+        (Q.joined decider.old.queue) }
     requires serves { Q.serves decider.old.queue inputs.disk.now }
-    ensures gone { OnOk result (HasGone (inputs_of inputs.entry Q.key) false decider.new.requests decider.new.course (Q.pending decider.new.queue) (Q.joined decider.new.queue)) }
+    ensures gone { OnOk result (HasGone (inputs_of inputs.entry Q.key) false decider.new.requests decider.new.course
+        (Q.pending decider.new.queue) (Q.joined decider.new.queue)) }
 {
     decisions_make_a_run();
     let mut goes_on = true;

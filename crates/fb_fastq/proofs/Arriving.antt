@@ -6,7 +6,8 @@ use Rattle.fb_fastq.proofs.Words.{IsOnCylinder, Arrival}
 use Rattle.fb_fastq.proofs.{Turns.ahead, Turns.round, Turns.no_sooner, OnLanes.on_cylinder, OnLanes.waits_turn}
 
 -- a spot of a cylinder is one of a request on it
-same_cylinder : (disk : Disk) (r : Request) (spot cylinder : ℕ) → IsAlong disk r spot → IsOnCylinder cylinder spot → (track_at disk.map r.lbn).cylinder ≡ cylinder
+same_cylinder : (disk : Disk) (r : Request) (spot cylinder : ℕ) → IsAlong disk r spot → IsOnCylinder cylinder spot
+    → (track_at disk.map r.lbn).cylinder ≡ cylinder
 same_cylinder disk r spot cylinder along on =
     let there = on_cylinder disk r spot along in
     let a = there.0 in let b = there.1 in let x = on.0 in let y = on.1 in omega (arith, a, b, x, y)
@@ -16,7 +17,8 @@ along_lane : (c h b : ℕ) (w : Bool) → b < 2 ^ 30 → (c * 2 ^ 37 + h * 2 ^ 3
 along_lane c h b true short = omega (arith, short)
 along_lane c h b false short = omega (arith, short)
 
-module _ (disk : Disk) (from : Departure) (arrival : Arrival) (is : IsArrival disk from arrival) (r : Request) (spot : ℕ) (along : IsAlong disk r spot) (on : IsOnCylinder arrival.cylinder spot) where
+module _ (disk : Disk) (from : Departure) (arrival : Arrival) (is : IsArrival disk from arrival) (r : Request) (spot : ℕ)
+    (along : IsAlong disk r spot) (on : IsOnCylinder arrival.cylinder spot) where
   begins : spot % 2 ^ 30 ≡ begin_angle disk.map (place_at disk.map r.lbn)
   begins =
       let track = track_at disk.map r.lbn in
@@ -25,7 +27,8 @@ module _ (disk : Disk) (from : Departure) (arrival : Arrival) (is : IsArrival di
       ap (λ s. s % 2 ^ 30) along.value ∙ along_lane track.cylinder track.head b r.write short
 
   -- a head switch and a settle bring no first sector sooner
-  turns : arrival.seek + turn disk.map.rotation arrival.angle (begin_angle disk.map (place_at disk.map r.lbn)) ≤ sptf disk from.track from.instant r
+  turns : arrival.seek + turn disk.map.rotation arrival.angle (begin_angle disk.map (place_at disk.map r.lbn))
+      ≤ sptf disk from.track from.instant r
   turns =
       let rotation = disk.map.rotation in
       let b = begin_angle disk.map (place_at disk.map r.lbn) in
@@ -48,7 +51,8 @@ module _ (disk : Disk) (from : Departure) (arrival : Arrival) (is : IsArrival di
       let turned = ahead b arrival.angle disk.map.rotation on_b along.within in
       let most = turns in omega (arith, begin, turned, most)
 
-  pub least_round : spot % 2 ^ 30 < arrival.angle → arrival.seek + (arrival.rotation - arrival.angle + spot % 2 ^ 30) ≤ sptf disk from.track from.instant r
+  pub least_round : spot % 2 ^ 30 < arrival.angle
+      → arrival.seek + (arrival.rotation - arrival.angle + spot % 2 ^ 30) ≤ sptf disk from.track from.instant r
   least_round lt =
       let b = begin_angle disk.map (place_at disk.map r.lbn) in
       let begin = begins in
@@ -59,13 +63,15 @@ module _ (disk : Disk) (from : Departure) (arrival : Arrival) (is : IsArrival di
       let whole = is.rotation_is in omega (arith, begin, turned, most, inside, whole)
 
   -- it is the platter's turn to the spot, in one sum
-  pub value_ahead : arrival.angle ≤ spot % 2 ^ 30 → arrival.seek + (spot % 2 ^ 30 - arrival.angle) ≡ arrival.seek + turn disk.map.rotation arrival.angle (spot % 2 ^ 30)
+  pub value_ahead : arrival.angle ≤ spot % 2 ^ 30
+      → arrival.seek + (spot % 2 ^ 30 - arrival.angle) ≡ arrival.seek + turn disk.map.rotation arrival.angle (spot % 2 ^ 30)
   value_ahead le =
       let begin = begins in
       let inside = along.within in
       ap (λ x. arrival.seek + x) (sym (ahead (spot % 2 ^ 30) arrival.angle disk.map.rotation le (omega (arith, begin, inside))))
 
-  pub value_round : spot % 2 ^ 30 < arrival.angle → arrival.seek + (arrival.rotation - arrival.angle + spot % 2 ^ 30) ≡ arrival.seek + turn disk.map.rotation arrival.angle (spot % 2 ^ 30)
+  pub value_round : spot % 2 ^ 30 < arrival.angle → arrival.seek + (arrival.rotation - arrival.angle + spot % 2 ^ 30)
+      ≡ arrival.seek + turn disk.map.rotation arrival.angle (spot % 2 ^ 30)
   value_round lt =
       let inside = is.turned in
       let whole = is.rotation_is in

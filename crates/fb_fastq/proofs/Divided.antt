@@ -13,7 +13,8 @@ numbered_left (x ∷ xs) ys h = (all_left (λ y. number_of y ≢ number_of x) xs
 
 module _ (disk : Disk) (head : Track) (now : ℕ) (map : BTreeMap (ℕ × ℕ) Request) (rows : List Row) where
   -- what is no later than the first of the map is no later than any of it
-  pub no_later_than_map : (limit best : Candidate) → AreNumbered map.entries → (0 < length map.entries → IsCandidate disk head now map limit)
+  pub no_later_than_map : (limit best : Candidate) → AreNumbered map.entries
+      → (0 < length map.entries → IsCandidate disk head now map limit)
       → (0 < length map.entries → IsFirstHeld (sptf disk head now) map limit.key) → IsBefore best limit
       → AllByRecursion (λ w. ComesNoLater disk head now best w.0 w.1) map.entries
   no_later_than_map limit best apart found first before = elim (cases_lt 0 (length map.entries)) [
@@ -24,7 +25,8 @@ module _ (disk : Disk) (head : Track) (now : ℕ) (map : BTreeMap (ℕ × ℕ) R
         (λ w own. no_later_trans best.wait best.key.1 limit.wait limit.key.1 (rank w.1) w.0.1 before
         (subst (λ n. IsNoLater n limit.key.1 (rank w.1) w.0.1) (sym is.wait) own)) map.entries
         (first_listed rank limit.key is.request map apart is.waits (first some))
-    | inr none ↦ subst (AllByRecursion (λ w. ComesNoLater disk head now best w.0 w.1)) (sym (nil_from_length map.entries (omega (arith, none)))) tt
+    | inr none ↦
+        subst (AllByRecursion (λ w. ComesNoLater disk head now best w.0 w.1)) (sym (nil_from_length map.entries (omega (arith, none)))) tt
   ]
 
   -- what is no later than all of both is the first
@@ -37,7 +39,8 @@ module _ (disk : Disk) (head : Track) (now : ℕ) (map : BTreeMap (ℕ × ℕ) R
       (λ x own. subst (λ n. IsNoLater n w.0.1 (rank x.1) x.0.1) wait (subst (λ (q : ℕ × ℕ). IsNoLater best.wait q.1 (rank x.1) x.0.1) key
       own)) (map.entries ++ all_of_rows rows)
       (all_append (λ x. ComesNoLater disk head now best x.0 x.1) map.entries (all_of_rows rows) over
-      (all_weaker (RulesOut disk head now best) (λ x. ComesNoLater disk head now best x.0 x.1) (λ x own. own.0) (all_of_rows rows) rules_out))
+      (all_weaker (RulesOut disk head now best) (λ x. ComesNoLater disk head now best x.0 x.1) (λ x own. own.0)
+      (all_of_rows rows) rules_out))
 
   -- where one that never passes is no later than the requests of the rows, there are none
   pub none_left_in : (best : Candidate) → best.wait ≡ 2 ^ 64 - 1 → RulesOutAll disk head now best (all_of_rows rows)

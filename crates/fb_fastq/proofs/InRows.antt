@@ -12,19 +12,22 @@ all_at P [] h = tt
 all_at P (w ∷ ws) h = (h 0 w refl, all_at P ws (λ k x e. h (suc k) x e))
 
 -- what is so of all rows is so of each
-pub row_of_all : (P : Waiting → Type 0) (rows : List Row) (i : ℕ) (row : Row) → AllByRecursion P (all_of_rows rows) → slice_get rows i ≡ Some row → AllByRecursion P row.items
+pub row_of_all : (P : Waiting → Type 0) (rows : List Row) (i : ℕ) (row : Row) → AllByRecursion P (all_of_rows rows)
+    → slice_get rows i ≡ Some row → AllByRecursion P row.items
 row_of_all P [] i row h e = absurd (none-some row e)
 row_of_all P (x ∷ rows) zero row h e = subst (λ (r : Row). AllByRecursion P r.items) (some_injective x row e)
     (all_left P x.items (all_of_rows rows) h)
 row_of_all P (x ∷ rows) (suc i) row h e = row_of_all P rows i row (all_right P x.items (all_of_rows rows) h) e
 
 -- and the other way round
-pub all_rows : (P : Waiting → Type 0) (rows : List Row) → ((i : ℕ) (row : Row) → slice_get rows i ≡ Some row → AllByRecursion P row.items) → AllByRecursion P (all_of_rows rows)
+pub all_rows : (P : Waiting → Type 0) (rows : List Row) → ((i : ℕ) (row : Row) → slice_get rows i ≡ Some row → AllByRecursion P row.items)
+    → AllByRecursion P (all_of_rows rows)
 all_rows P [] h = tt
 all_rows P (x ∷ rows) h = all_append P x.items (all_of_rows rows) (h 0 x refl) (all_rows P rows (λ i row e. h (suc i) row e))
 
 -- each row has requests of its own cylinder alone
-pub row_on : (cylinder : ℕ) (rows : List Row) (i : ℕ) (row : Row) → AreRows cylinder rows → slice_get rows i ≡ Some row → AllByRecursion (λ w. IsOnCylinder (cylinder + i) w.0.0) row.items
+pub row_on : (cylinder : ℕ) (rows : List Row) (i : ℕ) (row : Row) → AreRows cylinder rows → slice_get rows i ≡ Some row
+    → AllByRecursion (λ w. IsOnCylinder (cylinder + i) w.0.0) row.items
 row_on cylinder [] i row h e = absurd (none-some row e)
 row_on cylinder (x ∷ rows) zero row h e =
     let own : cylinder ≡ cylinder + 0 = omega arith in
@@ -47,14 +50,16 @@ module _ (disk : Disk) (head : Track) (now : ℕ) where
   rules_out_all a b (w ∷ ws) before h = (still_ruled_out a b w before h.0, rules_out_all a b ws before h.1)
 
   -- a candidate that is no later than the one of a request rules the request out
-  pub rules_out_own : (a next : Candidate) (w : Waiting) → IsBefore a next → next.key ≡ w.0 → next.wait ≡ sptf disk head now w.1 → next.wait ≤ 4 * 10 ^ 9 → RulesOut disk head now a w
+  pub rules_out_own : (a next : Candidate) (w : Waiting) → IsBefore a next → next.key ≡ w.0 → next.wait ≡ sptf disk head now w.1
+      → next.wait ≤ 4 * 10 ^ 9 → RulesOut disk head now a w
   rules_out_own a next w before key wait soon =
       still_ruled_out a next w before
       (inr (wait, let number = ap (λ (q : ℕ × ℕ). q.1) key in omega (arith, number)), soon)
 
   module _ (rows : List Row) where
     -- the one of two that is picked
-    pub picks_one : (limit : Candidate) (pick new : Pick) (next : Candidate) (place : Place) (w : Waiting) → IsPick disk head now rows limit pick
+    pub picks_one : (limit : Candidate) (pick new : Pick) (next : Candidate) (place : Place) (w : Waiting)
+        → IsPick disk head now rows limit pick
         → at_place rows place ≡ Some w → next.key ≡ w.0 → next.wait ≡ sptf disk head now w.1
         → (new ≡ pick) ⊎ ((new.best ≡ next) × (new.place ≡ Some place)) → IsBefore new.best pick.best → IsPick disk head now rows limit new
     picks_one limit pick new next place w is there key wait (inl same) before = subst (IsPick disk head now rows limit) (sym same) is
@@ -69,15 +74,18 @@ module _ (disk : Disk) (head : Track) (now : ℕ) where
     }
 
     -- where a place is in a row
-    pub in_row : (place : Place) (row : Row) (w : Waiting) → slice_get rows place.row ≡ Some row → slice_get row.items place.index ≡ Some w → at_place rows place ≡ Some w
+    pub in_row : (place : Place) (row : Row) (w : Waiting) → slice_get rows place.row ≡ Some row → slice_get row.items place.index ≡ Some w
+        → at_place rows place ≡ Some w
     in_row place row w there at = rw there at
 
 -- what is so of all is so of one of a row
-pub held_in_row : (P : Waiting → Type 0) (rows : List Row) (i : ℕ) (row : Row) (ws : List Waiting) (k : ℕ) (w : Waiting) → AllByRecursion P (all_of_rows rows) → slice_get rows i ≡ Some row → ws ≡ row.items → slice_get ws k ≡ Some w → P w
+pub held_in_row : (P : Waiting → Type 0) (rows : List Row) (i : ℕ) (row : Row) (ws : List Waiting) (k : ℕ) (w : Waiting)
+    → AllByRecursion P (all_of_rows rows) → slice_get rows i ≡ Some row → ws ≡ row.items → slice_get ws k ≡ Some w → P w
 held_in_row P rows i row ws k w h there is at = all_get P ws k w (subst (AllByRecursion P) (sym is) (row_of_all P rows i row h there)) at
 
 -- its spot is one of the row's cylinder
-pub held_on : (rows : List Row) (i : ℕ) (row : Row) (ws : List Waiting) (k : ℕ) (w : Waiting) → AreRows 0 rows → slice_get rows i ≡ Some row → ws ≡ row.items → slice_get ws k ≡ Some w → IsOnCylinder i w.0.0
+pub held_on : (rows : List Row) (i : ℕ) (row : Row) (ws : List Waiting) (k : ℕ) (w : Waiting) → AreRows 0 rows → slice_get rows i ≡ Some row
+    → ws ≡ row.items → slice_get ws k ≡ Some w → IsOnCylinder i w.0.0
 held_on rows i row ws k w h there is at =
     let own : 0 + i ≡ i = omega arith in
     subst (λ n. IsOnCylinder n w.0.0) own
@@ -87,9 +95,11 @@ held_on rows i row ws k w h there is at =
 pub same_row_of : (rows : List Row) (i : ℕ) (a b : Row) → slice_get rows i ≡ Some a → slice_get rows i ≡ Some b → a ≡ b
 same_row_of rows i a b e f = some_injective a b (sym e ∙ f)
 
-module _ (disk : Disk) (rows : List Row) (own : AreRows 0 rows) (spots : AllByRecursion (λ w. IsAlong disk w.1 w.0.0) (all_of_rows rows)) (i : ℕ) (row : Row) (there : slice_get rows i ≡ Some row) where
+module _ (disk : Disk) (rows : List Row) (own : AreRows 0 rows) (spots : AllByRecursion (λ w. IsAlong disk w.1 w.0.0) (all_of_rows rows))
+    (i : ℕ) (row : Row) (there : slice_get rows i ≡ Some row) where
   -- a request of a row is one of its cylinder
-  on_row : (k : ℕ) (w : Waiting) → slice_get row.items k ≡ Some w → ((track_at disk.map w.1.lbn).cylinder ≡ i) × (i < cylinders_of disk.map.zones)
+  on_row : (k : ℕ) (w : Waiting) → slice_get row.items k ≡ Some w
+      → ((track_at disk.map w.1.lbn).cylinder ≡ i) × (i < cylinders_of disk.map.zones)
   on_row k w at =
       let along = held_in_row (λ x. IsAlong disk x.1 x.0.0) rows i row row.items k w spots there refl at in
       let on = held_on rows i row row.items k w own there refl at in
@@ -102,16 +112,19 @@ module _ (disk : Disk) (rows : List Row) (own : AreRows 0 rows) (spots : AllByRe
   none_beyond P beyond = all_at P row.items (λ k w at. let on = (on_row k w at).1 in absurd (omega (arith, on, beyond)))
 
   -- where the arm alone takes longer than the best
-  pub far_row : (head : Track) (now distance time : ℕ) (best : Candidate) → SeeksRise disk.mechanism → time ≡ seek disk.mechanism distance → time ≤ 10 ^ 9 → best.wait < time
+  pub far_row : (head : Track) (now distance time : ℕ) (best : Candidate) → SeeksRise disk.mechanism → time ≡ seek disk.mechanism distance
+      → time ≤ 10 ^ 9 → best.wait < time
       → distance ≤ distance_of head.cylinder i → RulesOutAll disk head now best row.items
   far_row head now distance time best rise is short longer far = all_at (RulesOut disk head now best) row.items (λ k w at.
       let on = (on_row k w at).0 in
-      let farther : distance ≤ distance_of head.cylinder (track_at disk.map w.1.lbn).cylinder = subst (λ c. distance ≤ distance_of head.cylinder c) (sym on) far in
+      let farther : distance ≤ distance_of head.cylinder (track_at disk.map w.1.lbn).cylinder =
+      subst (λ c. distance ≤ distance_of head.cylinder c) (sym on) far in
       let more = rise distance (distance_of head.cylinder (track_at disk.map w.1.lbn).cylinder) farther in
       let waits = waits_for_arm disk head now w.1 in
       (inl (omega (arith, is, longer, more, waits)), omega (arith, longer, short)))
 
 -- where there are none
-pub none_ruled_out : (disk : Disk) (head : Track) (now : ℕ) (candidate : Candidate) (ws : List Waiting) → length ws ≡ 0 → RulesOutAll disk head now candidate ws
+pub none_ruled_out : (disk : Disk) (head : Track) (now : ℕ) (candidate : Candidate) (ws : List Waiting) → length ws ≡ 0
+    → RulesOutAll disk head now candidate ws
 none_ruled_out disk head now candidate [] none = tt
 none_ruled_out disk head now candidate (w ∷ ws) none = absurd (omega (arith, none))

@@ -10,36 +10,48 @@ use Rattle.fb_fastq.proofs.{Swept.some_injective, Swept.IsIn, Swept.all_of, Keys
 use Rattle.fb_fastq.proofs.{Joins.all_in_order, Joins.joins_last, Joins.join_before_last, Least.without, Least.without_joined}
 use Rattle.fb_fastq.proofs.{Least.without_other, Least.in_order_rising, Least.least_rising, Least.in_in_order, Least.at_key, InRows.row_on}
 
-pub all_put : (P : Waiting → Type 0) (w : Waiting) (before behind : List Waiting) → P w → AllByRecursion P (before ++ behind) → AllByRecursion P (before ++ w ∷ behind)
+pub all_put : (P : Waiting → Type 0) (w : Waiting) (before behind : List Waiting) → P w → AllByRecursion P (before ++ behind)
+    → AllByRecursion P (before ++ w ∷ behind)
 all_put P w [] behind p h = (p, h)
 all_put P w (x ∷ before) behind p h = (h.0, all_put P w before behind p h.1)
 
-pub all_drawn : (P : Waiting → Type 0) (w : Waiting) (before behind : List Waiting) → AllByRecursion P (before ++ w ∷ behind) → P w × AllByRecursion P (before ++ behind)
+pub all_drawn : (P : Waiting → Type 0) (w : Waiting) (before behind : List Waiting) → AllByRecursion P (before ++ w ∷ behind)
+    → P w × AllByRecursion P (before ++ behind)
 all_drawn P w [] behind h = h
 all_drawn P w (x ∷ before) behind h = let rest = all_drawn P w before behind h.1 in (rest.0, (h.0, rest.1))
 
-in_order_put : (w : Waiting) (before behind : List Waiting) → AllByRecursion (λ x. number_of x < number_of w) (before ++ behind) → in_order (before ++ w ∷ behind) ≡ in_order (before ++ behind) ++ w ∷ []
+in_order_put : (w : Waiting) (before behind : List Waiting) → AllByRecursion (λ x. number_of x < number_of w) (before ++ behind)
+    → in_order (before ++ w ∷ behind) ≡ in_order (before ++ behind) ++ w ∷ []
 in_order_put w [] behind h = joins_last w (in_order behind) (all_in_order (λ x. number_of x < number_of w) behind h)
-in_order_put w (x ∷ before) behind h = ap (join_in x) (in_order_put w before behind h.1) ∙ join_before_last x w (in_order (before ++ behind)) h.0
+in_order_put w (x ∷ before) behind h =
+    ap (join_in x) (in_order_put w before behind h.1) ∙ join_before_last x w (in_order (before ++ behind)) h.0
 
-in_order_drawn : (w : Waiting) (before behind : List Waiting) → AreNumbered (before ++ w ∷ behind) → in_order (before ++ behind) ≡ without (number_of w) (in_order (before ++ w ∷ behind))
+in_order_drawn : (w : Waiting) (before behind : List Waiting) → AreNumbered (before ++ w ∷ behind)
+    → in_order (before ++ behind) ≡ without (number_of w) (in_order (before ++ w ∷ behind))
 in_order_drawn w [] behind h = sym (without_joined w (in_order behind) (all_in_order (λ y. number_of y ≢ number_of w) behind h.0))
 in_order_drawn w (x ∷ before) behind h =
     let other = (all_drawn (λ y. number_of y ≢ number_of x) w before behind h.0).0 in
-    ap (join_in x) (in_order_drawn w before behind h.1) ∙ sym (without_other (number_of w) x (in_order (before ++ w ∷ behind)) (λ s. other (sym s)) (in_order_rising (before ++ w ∷ behind) h.1))
+    ap (join_in x) (in_order_drawn w before behind h.1) ∙ sym (without_other (number_of w) x (in_order (before ++ w ∷ behind))
+    (λ s. other (sym s)) (in_order_rising (before ++ w ∷ behind) h.1))
 
-numbered_put : (w : Waiting) (before behind : List Waiting) → AllByRecursion (λ x. number_of x < number_of w) (before ++ behind) → AreNumbered (before ++ behind) → AreNumbered (before ++ w ∷ behind)
+numbered_put : (w : Waiting) (before behind : List Waiting) → AllByRecursion (λ x. number_of x < number_of w) (before ++ behind)
+    → AreNumbered (before ++ behind) → AreNumbered (before ++ w ∷ behind)
 numbered_put w [] behind h apart = (
   all_weaker (λ x. number_of x < number_of w) (λ x. number_of x ≢ number_of w)
       (λ x under e. omega (arith, under, e)) behind h,
   apart,
 )
 numbered_put w (x ∷ before) behind h apart =
-    (all_put (λ y. number_of y ≢ number_of x) w before behind (λ e. let under : number_of x < number_of w = h.0 in omega (arith, under, e)) apart.0, numbered_put w before behind h.1 apart.1)
+    (
+      all_put (λ y. number_of y ≢ number_of x) w before behind
+          (λ e. let under : number_of x < number_of w = h.0 in omega (arith, under, e)) apart.0,
+      numbered_put w before behind h.1 apart.1,
+    )
 
 numbered_drawn : (w : Waiting) (before behind : List Waiting) → AreNumbered (before ++ w ∷ behind) → AreNumbered (before ++ behind)
 numbered_drawn w [] behind h = h.1
-numbered_drawn w (x ∷ before) behind h = ((all_drawn (λ y. number_of y ≢ number_of x) w before behind h.0).1, numbered_drawn w before behind h.1)
+numbered_drawn w (x ∷ before) behind h =
+    ((all_drawn (λ y. number_of y ≢ number_of x) w before behind h.0).1, numbered_drawn w before behind h.1)
 
 in_middle : (w : Waiting) (before behind : List Waiting) → IsIn w (before ++ w ∷ behind)
 in_middle w [] behind = inl refl
@@ -64,7 +76,8 @@ module _ (w : Waiting) (less more : List Waiting) (is : IsMore w less more) wher
     given = all_more (λ x. number_of x < number_of w + 1) (omega arith)
         (all_weaker (λ x. number_of x < number_of w) (λ x. number_of x < number_of w + 1) (λ x under. omega (arith, under)) less h.given);
     numbered = subst AreNumbered (sym is.more_is)
-        (numbered_put w is.before is.behind (subst (AllByRecursion (λ x. number_of x < number_of w)) is.less_is h.given) (subst AreNumbered is.less_is h.numbered));
+        (numbered_put w is.before is.behind (subst (AllByRecursion (λ x. number_of x < number_of w)) is.less_is h.given)
+        (subst AreNumbered is.less_is h.numbered));
   }
 
   pub index_less : (joined : ℕ) → IsIndex more joined → IsIndex less joined
@@ -74,7 +87,8 @@ module _ (w : Waiting) (less more : List Waiting) (is : IsMore w less more) wher
   }
 
   -- the first of least rank is what the plain replay takes
-  pub least_more : (rank : Request → ℕ) → AreNumbered more → IsFirst rank w more → first_least rank (pending_of more) ≡ Some (w.1, pending_of less)
+  pub least_more : (rank : Request → ℕ) → AreNumbered more → IsFirst rank w more
+      → first_least rank (pending_of more) ≡ Some (w.1, pending_of less)
   least_more rank apart first =
       let own = subst AreNumbered is.more_is apart in
       let ws = is.before ++ w ∷ is.behind in
@@ -102,14 +116,21 @@ module _ (w : Waiting) (less more : List Waiting) (is : IsMore w less more) wher
   }
 
 -- a request joins a map
-pub insert_more : (l n : ℕ) (r : Request) (ws : List Waiting) → AllByRecursion (λ w. number_of w < n) ws → IsMore ((l, n), r) ws (insert_entry order ws (l, n) r)
+pub insert_more : (l n : ℕ) (r : Request) (ws : List Waiting) → AllByRecursion (λ w. number_of w < n) ws
+    → IsMore ((l, n), r) ws (insert_entry order ws (l, n) r)
 insert_more l n r [] h = record { before = []; behind = []; less_is = refl; more_is = refl }
 insert_more l n r (w ∷ ws) h = at (insert_more l n r ws h.1) (order (l, n) w.0) refl
   where
-    at : IsMore ((l, n), r) ws (insert_entry order ws (l, n) r) → (o : Ordering) → order (l, n) w.0 ≡ o → IsMore ((l, n), r) (w ∷ ws) (match_ordering o (((l, n), r) ∷ w ∷ ws) ((w.0, r) ∷ ws) (w ∷ insert_entry order ws (l, n) r))
+    at : IsMore ((l, n), r) ws (insert_entry order ws (l, n) r) → (o : Ordering) → order (l, n) w.0 ≡ o
+        → IsMore ((l, n), r) (w ∷ ws) (match_ordering o (((l, n), r) ∷ w ∷ ws) ((w.0, r) ∷ ws) (w ∷ insert_entry order ws (l, n) r))
     at rest Less e = record { before = []; behind = w ∷ ws; less_is = refl; more_is = refl }
     at rest Equal e = let same : n ≡ w.0.1 = same_number l n w.0.0 w.0.1 e in let under : w.0.1 < n = h.0 in absurd (omega arith)
-    at rest Greater e = record { before = w ∷ rest.before; behind = rest.behind; less_is = ap (λ xs. w ∷ xs) rest.less_is; more_is = ap (λ xs. w ∷ xs) rest.more_is }
+    at rest Greater e = record {
+      before = w ∷ rest.before;
+      behind = rest.behind;
+      less_is = ap (λ xs. w ∷ xs) rest.less_is;
+      more_is = ap (λ xs. w ∷ xs) rest.more_is;
+    }
 
 -- and is taken out of it
 pub remove_more : (w : Waiting) (ws : List Waiting) → AreNumbered ws → IsIn w ws → IsMore w (remove_entry (is_at (order w.0)) ws) ws
@@ -120,7 +141,12 @@ remove_more w (x ∷ ws) h (inr e) =
     let other : number_of w ≢ number_of x = all_of (λ y. number_of y ≢ number_of x) w ws h.0 e in
     let t = same_key w.0.0 w.0.1 x.0.0 x.0.1 other in
     let rest = remove_more w ws h.1 e in
-    rw t (record { before = x ∷ rest.before; behind = rest.behind; less_is = ap (λ xs. x ∷ xs) rest.less_is; more_is = ap (λ xs. x ∷ xs) rest.more_is })
+    rw t (record {
+      before = x ∷ rest.before;
+      behind = rest.behind;
+      less_is = ap (λ xs. x ∷ xs) rest.less_is;
+      more_is = ap (λ xs. x ∷ xs) rest.more_is;
+    })
 
 pub taken_more : (ws : List Waiting) (key : ℕ × ℕ) → AreNumbered ws → IsSome (lookup (is_at (order key)) ws)
     → (r : Request) × IsMore (key, r) (remove_entry (is_at (order key)) ws) ws
@@ -144,27 +170,33 @@ pub row_there : (rows : List Row) (i : ℕ) (row : Row) → i < length rows → 
 row_there rows i row within is = slice_get_read rows (length rows) i row refl within is
 
 -- one row in the place of another
-pub set_same : (rows : List Row) (i : ℕ) (row new : Row) → slice_get rows i ≡ Some row → new.items ≡ row.items → all_of_rows (set rows i new) ≡ all_of_rows rows
+pub set_same : (rows : List Row) (i : ℕ) (row new : Row) → slice_get rows i ≡ Some row → new.items ≡ row.items
+    → all_of_rows (set rows i new) ≡ all_of_rows rows
 set_same [] i row new there is = refl
 set_same (x ∷ rows) zero row new there is = ap (λ ws. ws ++ all_of_rows rows)
     (is ∙ ap (λ (r : Row). r.items) (sym (some_injective x row there)))
 set_same (x ∷ rows) (suc i) row new there is = ap (λ ws. x.items ++ ws) (set_same rows i row new there is)
 
-pub set_more : (w : Waiting) (rows : List Row) (i : ℕ) (row new : Row) → slice_get rows i ≡ Some row → IsMore w row.items new.items → IsMore w (all_of_rows rows) (all_of_rows (set rows i new))
+pub set_more : (w : Waiting) (rows : List Row) (i : ℕ) (row new : Row) → slice_get rows i ≡ Some row → IsMore w row.items new.items
+    → IsMore w (all_of_rows rows) (all_of_rows (set rows i new))
 set_more w [] i row new there is = absurd (none-some row there)
 set_more w (x ∷ rows) zero row new there is =
     let same = some_injective x row there in
     more_right w x.items new.items (subst (λ (r : Row). IsMore w r.items new.items) (sym same) is) (all_of_rows rows)
-set_more w (x ∷ rows) (suc i) row new there is = more_left w (all_of_rows rows) (all_of_rows (set rows i new)) (set_more w rows i row new there is) x.items
+set_more w (x ∷ rows) (suc i) row new there is =
+    more_left w (all_of_rows rows) (all_of_rows (set rows i new)) (set_more w rows i row new there is) x.items
 
-pub set_less : (w : Waiting) (rows : List Row) (i : ℕ) (row new : Row) → slice_get rows i ≡ Some row → IsMore w new.items row.items → IsMore w (all_of_rows (set rows i new)) (all_of_rows rows)
+pub set_less : (w : Waiting) (rows : List Row) (i : ℕ) (row new : Row) → slice_get rows i ≡ Some row → IsMore w new.items row.items
+    → IsMore w (all_of_rows (set rows i new)) (all_of_rows rows)
 set_less w [] i row new there is = absurd (none-some row there)
 set_less w (x ∷ rows) zero row new there is =
     let same = some_injective x row there in
     more_right w new.items x.items (subst (λ (r : Row). IsMore w new.items r.items) (sym same) is) (all_of_rows rows)
-set_less w (x ∷ rows) (suc i) row new there is = more_left w (all_of_rows (set rows i new)) (all_of_rows rows) (set_less w rows i row new there is) x.items
+set_less w (x ∷ rows) (suc i) row new there is =
+    more_left w (all_of_rows (set rows i new)) (all_of_rows rows) (set_less w rows i row new there is) x.items
 
-pub set_rows : (cylinder : ℕ) (rows : List Row) (i : ℕ) (new : Row) → AreRows cylinder rows → AllByRecursion (λ w. IsOnCylinder (cylinder + i) w.0.0) new.items → AreRows cylinder (set rows i new)
+pub set_rows : (cylinder : ℕ) (rows : List Row) (i : ℕ) (new : Row) → AreRows cylinder rows
+    → AllByRecursion (λ w. IsOnCylinder (cylinder + i) w.0.0) new.items → AreRows cylinder (set rows i new)
 set_rows cylinder [] i new h on = tt
 set_rows cylinder (x ∷ rows) zero new h on =
     let own : cylinder + 0 ≡ cylinder = omega arith in
@@ -182,7 +214,8 @@ length_more w less more is =
 pub place_within : (rows : List Row) (place : Place) → IsSome (at_place rows place) → place.row < length rows
 place_within rows place has = go (slice_get rows place.row) refl has
   where
-    go : (o : Option Row) → slice_get rows place.row ≡ o → IsSome (option_and_then (λ (r : Row). slice_get r.items place.index) o) → place.row < length rows
+    go : (o : Option Row) → slice_get rows place.row ≡ o → IsSome (option_and_then (λ (r : Row). slice_get r.items place.index) o)
+        → place.row < length rows
     go None e h = absurd (true≢false (sym h))
     go (Some row) e h = slice_get_within rows place.row row e
 
@@ -216,12 +249,15 @@ pub less_rows : (rows : List Row) (i : ℕ) (row new : Row) → slice_get rows i
 less_rows rows i row new there w less h = set_rows 0 rows i new h (all_less w new.items row.items less (λ x. IsOnCylinder (0 + i) x.0.0)
     (row_on 0 rows i row h there))
 
-pub more_rows : (w : Waiting) (rows : List Row) (i : ℕ) (row new : Row) → slice_get rows i ≡ Some row → IsMore w row.items new.items → IsOnCylinder i w.0.0 → AreRows 0 rows → AreRows 0 (set rows i new)
+pub more_rows : (w : Waiting) (rows : List Row) (i : ℕ) (row new : Row) → slice_get rows i ≡ Some row → IsMore w row.items new.items
+    → IsOnCylinder i w.0.0 → AreRows 0 rows → AreRows 0 (set rows i new)
 more_rows w rows i row new there is on h =
     let own : i ≡ 0 + i = omega arith in
-    set_rows 0 rows i new h (all_more w row.items new.items is (λ x. IsOnCylinder (0 + i) x.0.0) (subst (λ n. IsOnCylinder n w.0.0) own on) (row_on 0 rows i row h there))
+    set_rows 0 rows i new h (all_more w row.items new.items is (λ x. IsOnCylinder (0 + i) x.0.0) (subst (λ n. IsOnCylinder n w.0.0) own on)
+    (row_on 0 rows i row h there))
 
-pub same_rows : (rows : List Row) (i : ℕ) (row new : Row) → slice_get rows i ≡ Some row → new.items ≡ row.items → AreRows 0 rows → AreRows 0 (set rows i new)
+pub same_rows : (rows : List Row) (i : ℕ) (row new : Row) → slice_get rows i ≡ Some row → new.items ≡ row.items → AreRows 0 rows
+    → AreRows 0 (set rows i new)
 same_rows rows i row new there is h =
     set_rows 0 rows i new h (subst (AllByRecursion (λ (w : Waiting). IsOnCylinder (0 + i) w.0.0)) (sym is) (row_on 0 rows i row h there))
 
@@ -235,7 +271,8 @@ pub no_more : (rows : List Row) (new : Row) → new.items ≡ [] → all_of_rows
 no_more [] new none = ap (λ ws. ws ++ []) none
 no_more (x ∷ rows) new none = ap (λ ws. x.items ++ ws) (no_more rows new none)
 
-pub no_more_rows : (cylinder : ℕ) (rows : List Row) (new : Row) → new.items ≡ [] → AreRows cylinder rows → AreRows cylinder (rows ++ new ∷ [])
+pub no_more_rows : (cylinder : ℕ) (rows : List Row) (new : Row) → new.items ≡ [] → AreRows cylinder rows
+    → AreRows cylinder (rows ++ new ∷ [])
 no_more_rows cylinder [] new none h = (subst (AllByRecursion (λ (w : Waiting). IsOnCylinder cylinder w.0.0)) (sym none) tt, tt)
 no_more_rows cylinder (x ∷ rows) new none h = (h.0, no_more_rows (cylinder + 1) rows new none h.1)
 
@@ -256,26 +293,30 @@ none_there : (row new : Row) → row ≡ new → new.items ≡ [] → 0 < length
 none_there row new same none some =
     let left : length row.items ≡ 0 = ap (λ (r : Row). length r.items) same ∙ ap length none in omega (arith, some, left)
 
-end_get : (rows : List Row) (k : ℕ) (new row : Row) → slice_get (rows ++ new ∷ []) k ≡ Some row → (row ≡ new) ⊎ (slice_get rows k ≡ Some row)
+end_get : (rows : List Row) (k : ℕ) (new row : Row) → slice_get (rows ++ new ∷ []) k ≡ Some row
+    → (row ≡ new) ⊎ (slice_get rows k ≡ Some row)
 end_get [] zero new row e = inl (sym (some_injective new row e))
 end_get [] (suc k) new row e = absurd (none-some row e)
 end_get (x ∷ rows) zero new row e = inr e
 end_get (x ∷ rows) (suc k) new row e = end_get rows k new row e
 
 -- the rows that have requests
-pub occupied_set : (occupied : BTreeSet ℕ) (rows : List Row) (i : ℕ) (new : Row) → (0 < length new.items → contains nat_cmp occupied i ≡ true) → AreOccupied occupied rows → AreOccupied occupied (set rows i new)
+pub occupied_set : (occupied : BTreeSet ℕ) (rows : List Row) (i : ℕ) (new : Row)
+    → (0 < length new.items → contains nat_cmp occupied i ≡ true) → AreOccupied occupied rows → AreOccupied occupied (set rows i new)
 occupied_set occupied rows i new own are = λ k row there some. elim (set_get rows i k new row there) [
   | inl one ↦ subst (λ n. contains nat_cmp occupied n ≡ true) (sym one.0) (own (subst (λ (r : Row). 0 < length r.items) one.1 some))
   | inr other ↦ are k row other.1 some
 ]
 
-pub occupied_end : (occupied : BTreeSet ℕ) (rows : List Row) (new : Row) → new.items ≡ [] → AreOccupied occupied rows → AreOccupied occupied (rows ++ new ∷ [])
+pub occupied_end : (occupied : BTreeSet ℕ) (rows : List Row) (new : Row) → new.items ≡ [] → AreOccupied occupied rows
+    → AreOccupied occupied (rows ++ new ∷ [])
 occupied_end occupied rows new none are = λ k row there some. elim (end_get rows k new row there) [
   | inl one ↦ absurd (none_there row new one none some)
   | inr other ↦ are k row other some
 ]
 
-pub occupied_less : (occupied less : BTreeSet ℕ) (rows : List Row) (i : ℕ) (new : Row) → new.items ≡ [] → ((k : ℕ) → is_at (nat_cmp i) k ≡ false → contains nat_cmp less k ≡ contains nat_cmp occupied k)
+pub occupied_less : (occupied less : BTreeSet ℕ) (rows : List Row) (i : ℕ) (new : Row) → new.items ≡ []
+    → ((k : ℕ) → is_at (nat_cmp i) k ≡ false → contains nat_cmp less k ≡ contains nat_cmp occupied k)
     → AreOccupied occupied rows → AreOccupied less (set rows i new)
 occupied_less occupied less rows i new none kept are = λ k row there some. elim (set_get rows i k new row there) [
   | inl one ↦ absurd (none_there row new one.1 none some)

@@ -4,7 +4,8 @@ use Rattle.fb_fastq.proofs.Words.{list_any, IsStrictlySortedBy, nat_cmp, is_at, 
 use Rattle.fb_fastq.proofs.Words.{Departure, Disk, seek, distance_of, Candidate, Pick, IsBefore, Row, AreOccupied, IsPick, IsArrival}
 use Rattle.fb_fastq.proofs.Words.{IsAlong, AreRows, all_of_rows, AllByRecursion, RulesOutAll, ◌||◌, subst, map-id, SeeksRise, Arrival}
 use Rattle.fb_fastq.proofs.Words.{Side, Above, Below, IsOn, IsNoFarther, AreThose, cylinders_of, RulesOut}
-use Rattle.fb_fastq.proofs.{Keys.number_follows, Sweeps.no_later_trans, InRows.rules_out_all, InRows.none_ruled_out, InRows.far_row, InRows.none_beyond, Swept.IsIn}
+use Rattle.fb_fastq.proofs.{Keys.number_follows, Sweeps.no_later_trans, InRows.rules_out_all, InRows.none_ruled_out, InRows.far_row}
+use Rattle.fb_fastq.proofs.{InRows.none_beyond, Swept.IsIn}
 use Rattle.fb_fastq.proofs.{Swept.rises_sorted, Swept.IsNext, Swept.IsSwept, Swept.swept_begins, Swept.swept_on, Swept.swept_stops}
 use Rattle.fb_fastq.proofs.Swept.{swept_ends, Takes, next_out, next_nearest}
 
@@ -86,7 +87,8 @@ module _ {disk : Disk} {from : Departure} {rows : List Row} {old pick : Pick} {s
       picks = λ limit own. picks limit (walk.picks limit own);
       before = no_later_trans new.best.wait new.best.key.1 pick.best.wait pick.best.key.1 old.best.wait old.best.key.1 before walk.before;
       swept = swept_on (λ i. i) walk.swept x rest next
-          (λ i ruled_out row there. rules_out_all disk from.track from.instant new.best pick.best row.items before (ruled_out row there)) least;
+          (λ i ruled_out row there. rules_out_all disk from.track from.instant new.best pick.best row.items before (ruled_out row there))
+          least;
     }
 
     -- where the arm alone takes longer to a cylinder, and no others are nearer

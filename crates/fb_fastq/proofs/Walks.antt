@@ -2,9 +2,11 @@
 use Rattle.fb_fastq.proofs.Words.{◌≡◌, ℕ, ◌+◌, ◌<◌, ◌≤◌, ◌^◌, List, [], ◌∷◌, map, refl, sym, subst, arith, inl, inr}
 use Rattle.fb_fastq.proofs.Words.{◌⊎◌, Some, lookup, Less, BTreeMap, is_at, keys, IsStrictlySortedBy, Request, Track, Disk, Departure}
 use Rattle.fb_fastq.proofs.Words.{Visit, IsVisit, sptf, distance_of, track_at, Candidate, order, Waiting, Holds, AllHeld, IsAlong}
-use Rattle.fb_fastq.proofs.Words.{IsCandidate, IsBefore, ComesNoLater, ComesNoLaterOn, ComesNoLaterUntil, Ray, Side, Above, Below, IsOn, IsNoFarther, IsReached}
+use Rattle.fb_fastq.proofs.Words.{IsCandidate, IsBefore, ComesNoLater, ComesNoLaterOn, ComesNoLaterUntil, Ray, Side, Above, Below, IsOn}
+use Rattle.fb_fastq.proofs.Words.{IsNoFarther, IsReached}
 use Rattle.fb_fastq.proofs.Words.{IsNearer, AreThose, ◌*◌, length}
-use Rattle.fb_fastq.proofs.{Keys.here_equal, Keys.follows, Keys.not_at, Least.held_is_in, Sweeps.no_later_trans, Sweeps.is_one, Sweeps.farther, Swept.IsIn}
+use Rattle.fb_fastq.proofs.{Keys.here_equal, Keys.follows, Keys.not_at, Least.held_is_in, Sweeps.no_later_trans, Sweeps.is_one}
+use Rattle.fb_fastq.proofs.{Sweeps.farther, Swept.IsIn}
 use Rattle.fb_fastq.proofs.{Swept.all_of, Swept.all_unmapped, Swept.rises_sorted, Swept.IsNext, Swept.IsSwept, Swept.swept_begins}
 use Rattle.fb_fastq.proofs.{Swept.swept_on, Swept.swept_stops, Swept.Takes, Swept.next_out, Swept.next_nearest, Visiting.is_there}
 
@@ -17,10 +19,12 @@ abbrev pub away : Disk → Departure → Request → ℕ
 away disk from r = distance_of from.track.cylinder (track_at disk.map r.lbn).cylinder
 
 -- the map holds what its entries say
-pub held_value : (x : Waiting) (ws : List Waiting) → IsStrictlySortedBy order (map (λ w. w.0) ws) → IsIn x ws → lookup (is_at (order x.0)) ws ≡ Some x.1
+pub held_value : (x : Waiting) (ws : List Waiting) → IsStrictlySortedBy order (map (λ w. w.0) ws) → IsIn x ws
+    → lookup (is_at (order x.0)) ws ≡ Some x.1
 unfolding IsStrictlySortedBy
 held_value x [] sorted e = elim e [ ]
-held_value x (y ∷ ws) sorted (inl e) = subst (λ z. lookup (is_at (order x.0)) (z ∷ ws) ≡ Some x.1) e (let t = here_equal x.0.0 x.0.1 in rw t refl)
+held_value x (y ∷ ws) sorted (inl e) =
+    subst (λ z. lookup (is_at (order x.0)) (z ∷ ws) ≡ Some x.1) e (let t = here_equal x.0.0 x.0.1 in rw t refl)
 held_value x (y ∷ ws) sorted (inr e) =
     let less = all_of (λ w. order y.0 w.0 ≡ Less) x ws (all_unmapped (λ k. order y.0 k ≡ Less) (λ w. w.0) ws sorted.0) e in
     let t = not_at y.0.0 y.0.1 x.0.0 x.0.1 less in

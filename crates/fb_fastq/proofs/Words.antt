@@ -30,7 +30,8 @@ unfoldable pub use Rattle.fb_service.specs.Passing.{begin_from}
 pub use Rattle.fb_service.specs.declared.approach.Departure.{Departure}
 pub use Rattle.fb_service.specs.declared.disk.Disk.{Disk}
 pub use Rattle.fb_model.specs.PlainReplay.{better, first_least, sptf}
-pub use Rattle.fb_fastq.specs.ByCylinder.{AreOccupied, AreRows, IsArrival, IsAt, IsDivided, IsOnCylinder, IsPick, Row, RulesOut, RulesOutAll}
+pub use Rattle.fb_fastq.specs.ByCylinder.{AreOccupied, AreRows, IsArrival, IsAt, IsDivided, IsOnCylinder, IsPick, Row, RulesOut}
+pub use Rattle.fb_fastq.specs.ByCylinder.{RulesOutAll}
 pub use Rattle.fb_fastq.specs.ByCylinder.{all_of_rows, at_place}
 pub use Rattle.fb_fastq.specs.Candidates.{ComesNoLater, ComesNoLaterBetween, ComesNoLaterOn, ComesNoLaterUntil, IsBefore, IsCandidate}
 pub use Rattle.fb_fastq.specs.Joining.{AllHeld, AreNumbered, Holds, IsFirst, IsFirstHeld, IsIndex, IsNoLater, Waiting, Waits, in_order}

@@ -1,5 +1,6 @@
 -- Requests that wait in a row for each cylinder.
-use Rattle.std.specs.Prelude.{◌≡◌, ℕ, ◌+◌, ◌*◌, ◌<◌, ◌≤◌, ◌^◌, List, [], ◌∷◌, ◌++◌, ◌%◌, true, Option, Some, flat_map, length, slice_get, option_and_then, Vec, MatchOption}
+use Rattle.std.specs.Prelude.{◌≡◌, ℕ, ◌+◌, ◌*◌, ◌<◌, ◌≤◌, ◌^◌, List, [], ◌∷◌, ◌++◌, ◌%◌, true, Option, Some, flat_map, length, slice_get}
+use Rattle.std.specs.Prelude.{option_and_then, Vec, MatchOption}
 use Rattle.std.specs.List.{AllByRecursion}
 use Rattle.std.specs.Ordering.{nat_cmp}
 use Rattle.std.specs.BTreeSet.{BTreeSet, contains}

@@ -27,7 +27,8 @@ ComesNoLater disk head now candidate key request = IsNoLater candidate.wait cand
 
 -- it comes no later than any that waits at these spots
 abbrev pub ComesNoLaterBetween : Disk → Track → ℕ → BTreeMap (ℕ × ℕ) Request → Candidate → ℕ → ℕ → Type 0
-ComesNoLaterBetween disk head now waiting candidate start end = AllHeld (λ key request. start ≤ key.0 → key.0 < end → ComesNoLater disk head now candidate key request) waiting
+ComesNoLaterBetween disk head now waiting candidate start end =
+    AllHeld (λ key request. start ≤ key.0 → key.0 < end → ComesNoLater disk head now candidate key request) waiting
 
 -- it comes no later than any that waits on a ray
 abbrev pub ComesNoLaterOn : Disk → Track → ℕ → BTreeMap (ℕ × ℕ) Request → Candidate → Ray → Type 0

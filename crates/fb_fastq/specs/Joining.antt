@@ -63,7 +63,8 @@ IsFirst rank w ws = AllByRecursion (λ x. IsNoLater (rank w.1) (number_of w) (ra
 
 -- the same of the request under a key among all that wait
 abbrev pub IsFirstHeld : (Request → ℕ) → BTreeMap (ℕ × ℕ) Request → ℕ × ℕ → Type 0
-IsFirstHeld rank waiting key = (request : Request) → Holds waiting key request → AllHeld (λ other_key other. IsNoLater (rank request) key.1 (rank other) other_key.1) waiting
+IsFirstHeld rank waiting key = (request : Request) → Holds waiting key request
+    → AllHeld (λ other_key other. IsNoLater (rank request) key.1 (rank other) other_key.1) waiting
 
 -- what a queue keeps: the requests that wait, and how many joined
 pub record Index : Type 0 where

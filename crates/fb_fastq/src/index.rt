@@ -148,7 +148,8 @@ pub fn add(
 pub fn take_out(waiting: &mut BTreeMap<(u64, u64), Request>, key: (u64, u64)) -> Request
     requires has { Waits waiting.old key }
     ensures value { Holds waiting.old key result }
-    ensures least { (joined : ℕ) (rank : Request → ℕ) → IsIndex waiting.old.entries joined → IsFirstHeld rank waiting.old key → first_least rank (pending_of waiting.old.entries) ≡ Some (result, pending_of waiting.new.entries) }
+    ensures least { (joined : ℕ) (rank : Request → ℕ) → IsIndex waiting.old.entries joined → IsFirstHeld rank waiting.old key
+        → first_least rank (pending_of waiting.old.entries) ≡ Some (result, pending_of waiting.new.entries) }
     ensures index { (joined : ℕ) → IsIndex waiting.old.entries joined → IsIndex waiting.new.entries joined }
     ensures entries { waiting.new.entries ≡ remove_entry (is_at (order key)) waiting.old.entries }
 {

@@ -14,7 +14,8 @@ ghost use Rattle.fb_fastq.specs.Lanes.{IsAlong};
 ghost use Rattle.fb_fastq.specs.Sides.{IsOn, AreThose};
 ghost use Rattle.fb_fastq.specs.Candidates.{IsBefore};
 ghost use Rattle.fb_fastq.specs.More.{IsMore};
-ghost use Rattle.fb_fastq.specs.ByCylinder.{Row, all_of_rows, at_place, IsOnCylinder, AreRows, AreOccupied, IsArrival, IsPick, RulesOutAll, Numbers};
+ghost use Rattle.fb_fastq.specs.ByCylinder.{Row, all_of_rows, at_place, IsOnCylinder, AreRows, AreOccupied, IsArrival, IsPick, RulesOutAll};
+ghost use Rattle.fb_fastq.specs.ByCylinder.{Numbers};
 
 use crate::arrival::{Arrival, arrival_at};
 use crate::side::Side;
@@ -72,7 +73,8 @@ fn soonest_of_row(
     ensures pick { (limit : Candidate) → IsPick disk.now from.now.track from.now.instant rows.now limit pick
         → IsPick disk.now from.now.track from.now.instant rows.now limit result }
     ensures first { IsBefore result.best pick.best }
-    ensures least { (row : Row) → slice_get rows.now arrival.now.cylinder ≡ Some row → RulesOutAll disk.now from.now.track from.now.instant result.best row.items }
+    ensures least { (row : Row) → slice_get rows.now arrival.now.cylinder ≡ Some row
+        → RulesOutAll disk.now from.now.track from.now.instant result.best row.items }
 {
     let number = arrival.cylinder as usize;
     if rows.len() <= number {
@@ -261,7 +263,8 @@ fn add_to(
     ensures more { OnOk result (IsMore waiting (all_of_rows rows.old.items) (all_of_rows rows.new.items)) }
     ensures err { OnErr result (all_of_rows rows.new.items ≡ all_of_rows rows.old.items) }
     ensures rows { AreRows 0 rows.old.items → AreRows 0 rows.new.items }
-    ensures occupied { (occupied : Numbers) → contains nat_cmp occupied number ≡ true → AreOccupied occupied rows.old.items → AreOccupied occupied rows.new.items }
+    ensures occupied { (occupied : Numbers) → contains nat_cmp occupied number ≡ true → AreOccupied occupied rows.old.items
+        → AreOccupied occupied rows.new.items }
 {
     rows[number as usize].push(waiting)?;
     Ok(())

@@ -62,7 +62,8 @@ fn sooner(a: Candidate, b: Candidate) -> Candidate
 // Whether the seek to a lane's cylinder alone takes longer than this wait, in ns.
 fn is_too_far(disk: &Disk, from: Departure, visit: &Visit, wait: Ns) -> bool
     requires visit { IsVisit disk.now from visit.now }
-    ensures { result ≡ true → (now : ℕ) (r : Request) → distance_of from.track.cylinder visit.now.lane.track.cylinder ≤ distance_of from.track.cylinder (track_at disk.now.map r.lbn).cylinder → wait < sptf disk.now from.track now r }
+    ensures { result ≡ true → (now : ℕ) (r : Request) → distance_of from.track.cylinder visit.now.lane.track.cylinder
+        ≤ distance_of from.track.cylinder (track_at disk.now.map r.lbn).cylinder → wait < sptf disk.now from.track now r }
 {
     disk.mechanism.seeks_rise();
     wait < visit.seek
@@ -79,9 +80,11 @@ fn soonest_of_lane(
     requires lane { IsLane visit.now.lane }
     requires way { visit.now.way ≤ 2 * 10 ^ 9 }
     requires angle { visit.now.angle < disk.now.map.rotation }
-    ensures found { (from : Departure) → IsVisit disk.now from visit.now → IsCandidate disk.now from.track from.instant waiting.now best → IsCandidate disk.now from.track from.instant waiting.now result }
+    ensures found { (from : Departure) → IsVisit disk.now from visit.now → IsCandidate disk.now from.track from.instant waiting.now best
+        → IsCandidate disk.now from.track from.instant waiting.now result }
     ensures first { IsBefore result best }
-    ensures least { (from : Departure) → IsVisit disk.now from visit.now → ComesNoLaterBetween disk.now from.track from.instant waiting.now result visit.now.lane.start (visit.now.lane.start + 2 ^ 30) }
+    ensures least { (from : Departure) → IsVisit disk.now from visit.now
+        → ComesNoLaterBetween disk.now from.track from.instant waiting.now result visit.now.lane.start (visit.now.lane.start + 2 ^ 30) }
 {
     let rotation = disk.map.geometry().rotation();
     match next_round(waiting, visit.lane.start, rotation, visit.angle) {

@@ -108,7 +108,8 @@ judged disk (Ok geometry) e f h = (h.0, fault_of_spares disk e f ∙ h.1)
 judged disk (Err (Fault fault)) e f h = fault_of_spares disk e f ∙ h
 judged disk (Err NoMemory) e f h = tt
 
-pub refused : (disk : Shape) (error : ReadError GeometryFault) → zone_fault disk ≡ None → Answers (defect_fault disk) error → Judges disk (Err error)
+pub refused : (disk : Shape) (error : ReadError GeometryFault) → zone_fault disk ≡ None → Answers (defect_fault disk) error
+    → Judges disk (Err error)
 refused disk (Fault fault) e h = fault_of_defects disk fault e h
 refused disk NoMemory e h = tt
 

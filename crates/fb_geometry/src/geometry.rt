@@ -354,7 +354,8 @@ impl Geometry {
 
     // The defects of a cylinder, by their positions.
     pub(crate) fn defects_on(&self, cylinder: u32) -> &[Mark]
-        ensures marks { (zone : Zone) → IsZoneAt self.now cylinder zone → positions result.now ≡ indexes (is_among self.now.defects) 0 (cylinder_slots zone self.now.heads cylinder) }
+        ensures marks { (zone : Zone) → IsZoneAt self.now cylinder zone
+            → positions result.now ≡ indexes (is_among self.now.defects) 0 (cylinder_slots zone self.now.heads cylinder) }
         ensures ascending { IsAscending (positions result.now) }
     {
         self.defect_marks.on(cylinder)
@@ -362,7 +363,8 @@ impl Geometry {
 
     // The grown defects of a cylinder, by their indexes among its good slots.
     pub(crate) fn grown_on(&self, cylinder: u32) -> &[Mark]
-        ensures marks { (zone : Zone) → IsZoneAt self.now cylinder zone → positions result.now ≡ indexes (is_among self.now.grown) 0 (by_head self.now cylinder (good_track self.now zone)) }
+        ensures marks { (zone : Zone) → IsZoneAt self.now cylinder zone
+            → positions result.now ≡ indexes (is_among self.now.grown) 0 (by_head self.now cylinder (good_track self.now zone)) }
         ensures ascending { IsAscending (positions result.now) }
     {
         self.grown_marks.on(cylinder)

@@ -1,8 +1,10 @@
 // The outline of a disk as it is given, and what may be wrong with it.
-ghost use Rattle.std.specs.Prelude.{◌≡◌, ◌<◌, ◌≤◌, ◌^◌, [], ◌++◌, length, map, find, position, slice_get, Some, None, false, IfOk, IfErr, All};
+ghost use Rattle.std.specs.Prelude.{◌≡◌, ◌<◌, ◌≤◌, ◌^◌, [], ◌++◌, length, map, find, position, slice_get, Some, None, false, IfOk, IfErr};
+ghost use Rattle.std.specs.Prelude.{All};
 ghost use Rattle.std.specs.List.{list_any};
 ghost use Rattle.fb_geometry.specs.Shape.{Shape, cylinders_of, slots_at};
-ghost use Rattle.fb_geometry.specs.Faults.{is_out_of_range, is_bad_zone, has_no_data, first_apart, is_too_skewed, is_outside, is_place_before, is_track_before, repeated, is_full_track, is_full_cylinder};
+ghost use Rattle.fb_geometry.specs.Faults.{is_out_of_range, is_bad_zone, has_no_data, first_apart, is_too_skewed, is_outside};
+ghost use Rattle.fb_geometry.specs.Faults.{is_place_before, is_track_before, repeated, is_full_track, is_full_cylinder};
 ghost use Rattle.fb_geometry.specs.Turns.{IsZoneOf, AreZoneNumbers, zone_at};
 ghost use Rattle.fb_geometry.specs.Slips.{Pairwise};
 ghost use Rattle.fb_geometry.specs.Marks.{mark_of, AreMarksOf, AreSorted};
@@ -47,7 +49,8 @@ impl Model for Outline {
 
     ghost Value = { Shape };
 
-    ghost view = { λ o. record { layout = o.layout; rotation = o.rotation; heads = o.heads; zones = o.zones.items; defects = o.defects.items; grown = o.grown.items } };
+    ghost view = { λ o. record { layout = o.layout; rotation = o.rotation; heads = o.heads; zones = o.zones.items;
+        defects = o.defects.items; grown = o.grown.items } };
 }
 
 impl Outline {

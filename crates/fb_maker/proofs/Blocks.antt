@@ -26,14 +26,18 @@ module _ (disk : Shape) where
     | inr on ↦ rw on (omega arith)
   ]
 
-  no_more : (lbn : ℕ) (cuts : List Cut) → 0 < length cuts → is_cut_before disk 16 (lbn + 1) ≡ false → length (with_sector disk 16 lbn cuts) ≤ length cuts
+  no_more : (lbn : ℕ) (cuts : List Cut) → 0 < length cuts → is_cut_before disk 16 (lbn + 1) ≡ false
+      → length (with_sector disk 16 lbn cuts) ≤ length cuts
   no_more lbn [] some on = absurd (omega arith)
   no_more lbn (cut ∷ cuts) some on = rw on (omega arith)
 
-  goes_on : (lbn : ℕ) (a b : Place) → place_at disk lbn ≡ a → place_at disk (lbn + 1) ≡ b → ((lbn + 1) % 16 == 0) ≡ false → is_later disk a b ≡ true → is_cut_before disk 16 (lbn + 1) ≡ false
+  goes_on : (lbn : ℕ) (a b : Place) → place_at disk lbn ≡ a → place_at disk (lbn + 1) ≡ b → ((lbn + 1) % 16 == 0) ≡ false
+      → is_later disk a b ≡ true → is_cut_before disk 16 (lbn + 1) ≡ false
   goes_on lbn a b at next no_multiple later =
       let same : lbn + 1 - 1 ≡ lbn = omega arith in
-      let held : is_later disk (place_at disk (lbn + 1 - 1)) (place_at disk (lbn + 1)) ≡ true = ap (λ n. is_later disk (place_at disk n) (place_at disk (lbn + 1))) same ∙ ap (λ p. is_later disk p (place_at disk (lbn + 1))) at ∙ ap (is_later disk a) next ∙ later in
+      let held : is_later disk (place_at disk (lbn + 1 - 1)) (place_at disk (lbn + 1)) ≡ true =
+      ap (λ n. is_later disk (place_at disk n) (place_at disk (lbn + 1))) same ∙ ap (λ p. is_later disk p (place_at disk (lbn + 1))) at
+      ∙ ap (is_later disk a) next ∙ later in
       rw (no_multiple, held) refl
 
   -- a block begins at each multiple of sixteen, and at each break
@@ -55,19 +59,22 @@ module _ (disk : Shape) where
         | inr no_multiple ↦
             let part : ((lbn + 1) % 16 ≡ 0 → ⊥) = λ e. absurd (grind (arith, nat_tests)) in
             elim (cases_Bool (is_later disk a b)) [
-              | inl later ↦ rw later (let same = no_more lbn cuts some (goes_on lbn a b (at_front lbn a (b ∷ xs) left) (at_front (lbn + 1) b xs rest) no_multiple later) in omega arith)
+              | inl later ↦ rw later (let same = no_more lbn cuts some (goes_on lbn a b (at_front lbn a (b ∷ xs) left)
+                  (at_front (lbn + 1) b xs rest) no_multiple later) in omega arith)
               | inr breaks ↦ rw breaks (omega arith)
             ]
       ]
 
-  few_of : (n : ℕ) (all : List Place) → places disk ≡ all → IsSpread (is_later disk) all → n ≤ length all → 16 * length (cutting disk 16 0 n) ≤ 2 * n + 30
+  few_of : (n : ℕ) (all : List Place) → places disk ≡ all → IsSpread (is_later disk) all → n ≤ length all
+      → 16 * length (cutting disk 16 0 n) ≤ 2 * n + 30
   unfolding cutting
   few_of zero all is spread within = omega arith
   few_of (suc k) [] is spread within = absurd (omega arith)
   few_of (suc k) (a ∷ xs) is spread within = let most = counted k 0 a xs is (omega arith) in let few = spread a (suc k) in omega arith
 
   -- with at least sixteen sectors a track, n sectors are cut into at most (2 n + 30) / 16 blocks
-  pub few_blocks : (n : ℕ) → IsSpread (is_later disk) (places disk) → n ≤ length (places disk) → 16 * length (cutting disk 16 0 n) ≤ 2 * n + 30
+  pub few_blocks : (n : ℕ) → IsSpread (is_later disk) (places disk) → n ≤ length (places disk)
+      → 16 * length (cutting disk 16 0 n) ≤ 2 * n + 30
   few_blocks n spread within = few_of n (places disk) refl spread within
 
   add_one : (lbn : ℕ) (cuts : List Cut) → length (with_sector disk 16 lbn cuts) ≤ 1 + length cuts

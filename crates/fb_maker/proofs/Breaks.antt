@@ -33,7 +33,8 @@ module _ {A : Type 0} (later : A → A → Bool) where
   none_within a (b ∷ xs) rest zero chain within = refl
   none_within a (b ∷ xs) rest (suc n) chain within = rw chain.0 (let none = none_within b xs rest n chain.1 (omega arith) in omega arith)
 
-  few_behind : (a : A) (xs rest : List A) (n : ℕ) → Chain a xs → IsSpread rest → 16 * breaks_from a (take n (xs ++ rest)) ≤ n - length xs + 15
+  few_behind : (a : A) (xs rest : List A) (n : ℕ) → Chain a xs → IsSpread rest
+      → 16 * breaks_from a (take n (xs ++ rest)) ≤ n - length xs + 15
   few_behind a [] rest n chain spread = let h = spread a n in omega arith
   few_behind a (b ∷ xs) rest zero chain spread = omega arith
   few_behind a (b ∷ xs) rest (suc n) chain spread = rw chain.0 (let h = few_behind b xs rest n chain.1 spread in omega arith)
@@ -109,5 +110,6 @@ module _ (key : ℕ → ℕ) where
   counts_range base a zero at = tt
   counts_range base a (suc n) at = (
     let e : a + 0 ≡ a = omega arith in ap key (sym e) ∙ at 0 (omega arith) ∙ omega arith,
-    counts_range (base + 1) (a + 1) n (λ i low. let e : a + 1 + i ≡ a + (i + 1) = omega arith in ap key e ∙ at (i + 1) (omega arith) ∙ omega arith),
+    counts_range (base + 1) (a + 1) n
+        (λ i low. let e : a + 1 + i ≡ a + (i + 1) = omega arith in ap key e ∙ at (i + 1) (omega arith) ∙ omega arith),
   )

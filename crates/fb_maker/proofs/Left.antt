@@ -7,7 +7,8 @@ module _ {A : Type 0} (all : List A) (i : ℕ) (a : A) (rest : List A) (left : d
   left_inside = omega (arith, length-drop i all, ap length left)
 
   pub left_first : (d : A) → get_or all i d ≡ a
-  left_first d = let same : i ≡ i + 0 = omega arith in ap (λ n. get_or all n d) same ∙ sym (get_or-drop i all 0 d) ∙ ap (λ l. get_or l 0 d) left
+  left_first d = let same : i ≡ i + 0 = omega arith in
+      ap (λ n. get_or all n d) same ∙ sym (get_or-drop i all 0 d) ∙ ap (λ l. get_or l 0 d) left
 
   pub left_get : slice_get all i ≡ Some a
   left_get = slice_get-get_or all i a left_inside ∙ ap Some (left_first a)

@@ -15,13 +15,21 @@ pub decimal_word : (n : ℕ) → n < 2 ^ 64 → IsWord (decimal n)
 decimal_word n small = record { some = decimal_nonempty n small; plain = plain_decimal n small }
 
 plain_six : (n : ℕ) → list_all plain (46 ∷ last_six n) ≡ true
-plain_six n = rw (plain_digit (n / 100000 % 10), plain_digit (n / 10000 % 10), plain_digit (n / 1000 % 10), plain_digit (n / 100 % 10), plain_digit (n / 10 % 10), plain_digit (n / 1 % 10)) refl
+plain_six n = rw (
+  plain_digit (n / 100000 % 10),
+  plain_digit (n / 10000 % 10),
+  plain_digit (n / 1000 % 10),
+  plain_digit (n / 100 % 10),
+  plain_digit (n / 10 % 10),
+  plain_digit (n / 1 % 10),
+) refl
 
 pub millis_word : (ns : ℕ) → ns < 2 ^ 64 → IsWord (millis_text ns)
 unfolding millis_text
 millis_word ns small = record {
   some = omega (arith, length-append (decimal (ns / 1000000)) (46 ∷ last_six ns));
-  plain = list_all-append plain (decimal (ns / 1000000)) (46 ∷ last_six ns) ∙ rw (plain_decimal (ns / 1000000) (omega arith), plain_six ns) refl;
+  plain = list_all-append plain (decimal (ns / 1000000)) (46 ∷ last_six ns)
+      ∙ rw (plain_decimal (ns / 1000000) (omega arith), plain_six ns) refl;
 }
 
 pub flags_word : (write : Bool) → IsWord (flags_text write)

@@ -8,7 +8,8 @@ use Rattle.fb_maker.proofs.Words.{cylinders_of, data_list, list_among, places, f
 pub begins_at_first : (zones : List Zone) (zone : Zone) → first_apart 0 0 zones ≡ None → slice_get zones 0 ≡ Some zone → zone.first ≡ 0
 begins_at_first [] zone contiguous is = cc
 begins_at_first (first ∷ zones) zone contiguous is = elim (cases_Bool (first.first == 0)) [
-  | inl begins ↦ let same : first ≡ zone = get_or_from_slice_get (first ∷ zones) 0 zone zone is in ap (λ (z : Zone). z.first) (sym same) ∙ grind (arith, nat_tests)
+  | inl begins ↦ let same : first ≡ zone = get_or_from_slice_get (first ∷ zones) 0 zone zone is in
+      ap (λ (z : Zone). z.first) (sym same) ∙ grind (arith, nat_tests)
   | inr apart ↦ absurd (none-some 0 (sym contiguous ∙ rw apart refl))
 ]
 
@@ -21,8 +22,10 @@ some_cylinders (zone ∷ []) some = omega arith
 some_cylinders (zone ∷ next ∷ zones) some = some_cylinders (next ∷ zones) (omega arith)
 
 -- the sectors of the first zone are as many on each of its cylinders as on the first
-pub first_zone_is : (disk : Shape) (zones : List Zone) (zone : Zone) (n : ℕ) → slice_get zones 0 ≡ Some zone → zone.first ≤ zone.last → n ≡ length (list_among disk zones zone.first)
-    → ((k : ℕ) → zone.first ≤ k → k ≤ zone.last → length (data_list disk zone k) ≡ length (data_list disk zone zone.first)) → (zone.last + 1 - zone.first) * n ≡ first_zone disk zones
+pub first_zone_is : (disk : Shape) (zones : List Zone) (zone : Zone) (n : ℕ) → slice_get zones 0 ≡ Some zone → zone.first ≤ zone.last
+    → n ≡ length (list_among disk zones zone.first)
+    → ((k : ℕ) → zone.first ≤ k → k ≤ zone.last → length (data_list disk zone k) ≡ length (data_list disk zone zone.first))
+    → (zone.last + 1 - zone.first) * n ≡ first_zone disk zones
 first_zone_is disk [] zone n is some count same = cc
 first_zone_is disk (first ∷ zones) zone n is some count same =
     let here : first ≡ zone = get_or_from_slice_get (first ∷ zones) 0 zone zone is in
@@ -37,8 +40,10 @@ four_lines : (a b c d : List ℕ) → ((a ++ b) ++ c) ++ d ≡ flat_map (λ line
 four_lines a b c d = simp (append_assoc, append-nil)
 
 -- the text of four lines, one behind the other
-pub is_script : (disk : Shape) (none one two three four : List ℕ) (scrubbed saved : ℕ) → none ≡ [] → one ≡ none ++ codes "0.000000 open scrub scrub 1 16\n"
-    → two ≡ one ++ (codes "0.000000 want scrub 0 " ++ decimal scrubbed ++ 10 ∷ []) → three ≡ two ++ codes "0.000000 open backup backup 2 16\n"
+pub is_script : (disk : Shape) (none one two three four : List ℕ) (scrubbed saved : ℕ) → none ≡ []
+    → one ≡ none ++ codes "0.000000 open scrub scrub 1 16\n"
+    → two ≡ one ++ (codes "0.000000 want scrub 0 " ++ decimal scrubbed ++ 10 ∷ [])
+    → three ≡ two ++ codes "0.000000 open backup backup 2 16\n"
     → four ≡ three ++ (codes "0.000000 want backup 0 " ++ decimal saved ++ 10 ∷ [])
     → scrubbed ≡ min (length (places disk)) (most disk) → saved ≡ min (first_zone disk disk.zones) (most disk) → four ≡ script_text disk
 unfolding script_lines

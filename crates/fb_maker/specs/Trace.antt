@@ -37,7 +37,8 @@ flags_text false = codes "1"
 
 -- the line of a request: arrival, device, first sector, size and flags
 unfoldable pub line_of : ℕ → Request → List ℕ
-line_of device request = fields_line (millis_text request.arrival) (decimal device ∷ decimal request.lbn ∷ decimal request.count ∷ flags_text request.write ∷ [])
+line_of device request =
+    fields_line (millis_text request.arrival) (decimal device ∷ decimal request.lbn ∷ decimal request.count ∷ flags_text request.write ∷ [])
 
 -- the lines of a trace of n requests, all of one device
 abbrev pub made_lines : ℕ → ℕ → ℕ → ℕ → List (List ℕ)

@@ -79,7 +79,8 @@ impl Maker {
 /// A generated trace can be read: a trace of n lines is accepted for its device, as its n requests.
 pub fn made_traces_are_read()
     ensures { (number device sectors n : ℕ) → device ≤ 10 ^ 15 → 1 ≤ sectors → sectors ≤ 10 ^ 12 → n ≤ 10 ^ 6
-        → trace_of device sectors (made_trace number device sectors n) ≡ Ok (record { requests = made_requests number sectors n; passed_over = 0 }) }
+        → trace_of device sectors (made_trace number device sectors n)
+        ≡ Ok (record { requests = made_requests number sectors n; passed_over = 0 }) }
 {}
 
 // The request that follows `behind` others, made from the next four words.
@@ -88,7 +89,8 @@ fn draw(words: &mut SplitMix64, sectors: u64, behind: u64, before: Ns) -> Reques
     requires few { sectors ≤ 10 ^ 12 }
     requires early { before ≤ 12000000 * behind }
     requires room { behind ≤ 10 ^ 6 }
-    ensures request { (number : ℕ) → words.old ≡ generator_after number (4 * behind) → before ≡ arrival_before number behind → result ≡ request_at number sectors behind }
+    ensures request { (number : ℕ) → words.old ≡ generator_after number (4 * behind) → before ≡ arrival_before number behind
+        → result ≡ request_at number sectors behind }
     ensures words { (number : ℕ) → words.old ≡ generator_after number (4 * behind) → words.new ≡ generator_after number (4 * (behind + 1)) }
     ensures early { result.arrival ≤ 12000000 * (behind + 1) }
 {

@@ -38,7 +38,8 @@ pub fn made_calls(alloc: Global, map: &SectorMap) -> Result<Vec<u8>, NoMemory>
 
 /// A generated script can be read: it is accepted for its disk, with any trace, as its four calls.
 pub fn made_scripts_are_read(map: &SectorMap)
-    ensures { (traced : ℕ) → calls_of map.now traced (script_text map.now) ≡ Ok (record { names = codes "scrub" ∷ codes "backup" ∷ []; calls = script_calls map.now }) }
+    ensures { (traced : ℕ) → calls_of map.now traced (script_text map.now)
+        ≡ Ok (record { names = codes "scrub" ∷ codes "backup" ∷ []; calls = script_calls map.now }) }
 {
     map.geometry().sound();
     let _sectors = map.count();

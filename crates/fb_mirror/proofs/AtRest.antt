@@ -1,5 +1,6 @@
 -- While no write is under way, a sector that an event concerned holds in the replacement what it holds on the survivor.
-use Rattle.std.proofs.Common.{◌≡◌, ◌⊎◌, ℕ, ◌<◌, ◌≤◌, List, [], ◌∷◌, ◌++◌, map, Option, Some, None, Bool, true, false, refl, ap, ap₂, sym, subst, ◌∙◌, arith, inl, inr, append-nil, nat_le}
+use Rattle.std.proofs.Common.{◌≡◌, ◌⊎◌, ℕ, ◌<◌, ◌≤◌, List, [], ◌∷◌, ◌++◌, map, Option, Some, None, Bool, true, false, refl, ap, ap₂, sym}
+use Rattle.std.proofs.Common.{subst, ◌∙◌, arith, inl, inr, append-nil, nat_le}
 use Rattle.std.specs.Prelude.{filter, if◌then◌else◌}
 use Rattle.std.specs.List.{AllByRecursion, flat_map}
 use Rattle.std.specs.Option.{option_map}
@@ -44,11 +45,16 @@ record IsCut (disk : Disk) (t : ℕ) (replay : List Served) : Type 0 where
   pub unfinished : AllByRecursion (λ (s : Served). t < finish s) rest
   pub to_come : AllByRecursion (λ (w : Written). t < w.passage.end) (all_writes rest)
 
-finishes_from : (disk : Disk) (now : ℕ) (replay : List Served) → AreServed disk now replay → AllByRecursion (λ (s : Served). now ≤ finish s) replay
+finishes_from : (disk : Disk) (now : ℕ) (replay : List Served) → AreServed disk now replay
+    → AllByRecursion (λ (s : Served). now ≤ finish s) replay
 finishes_from disk now [] are = tt
 finishes_from disk now (served ∷ replay) are =
     let order = (served_between disk served are.1).0 in
-    (omega (arith, are.0, order), all_weaker (λ (s : Served). finish served ≤ finish s) (λ (s : Served). now ≤ finish s) (λ s h. omega (arith, h, are.0, order)) replay (finishes_from disk (finish served) replay are.3))
+    (
+      omega (arith, are.0, order),
+      all_weaker (λ (s : Served). finish served ≤ finish s) (λ (s : Served). now ≤ finish s) (λ s h. omega (arith, h, are.0, order)) replay
+          (finishes_from disk (finish served) replay are.3),
+    )
 
 -- an unfinished service that rests has written nothing
 rests_free : (t : ℕ) (served : Served) → Rests t served → t < finish served → t ≤ free_until served
@@ -61,7 +67,8 @@ rests_free t served rests under = by served.request.write refl
     ]
     by false is = omega arith
 
-cut_at : (disk : Disk) → IsSound disk.map → (t now : ℕ) (replay : List Served) → AreServed disk now replay → AllByRecursion (Rests t) replay → IsCut disk t replay
+cut_at : (disk : Disk) → IsSound disk.map → (t now : ℕ) (replay : List Served) → AreServed disk now replay → AllByRecursion (Rests t) replay
+    → IsCut disk t replay
 cut_at disk sound t now [] are rests = record { past = []; rest = []; is = refl; finished = tt; passed = tt; unfinished = tt; to_come = tt }
 cut_at disk sound t now (one ∷ replay) are rests = elim (cases_lt t (finish one)) [
   | inl under ↦
@@ -72,10 +79,15 @@ cut_at disk sound t now (one ∷ replay) are rests = elim (cases_lt t (finish on
         is = refl;
         finished = tt;
         passed = tt;
-        unfinished = (under, all_weaker (λ (s : Served). finish one ≤ finish s) (λ (s : Served). t < finish s) (λ s h. omega (arith, h, under)) replay (finishes_from disk (finish one) replay are.3));
+        unfinished = (
+          under,
+          all_weaker (λ (s : Served). finish one ≤ finish s) (λ (s : Served). t < finish s) (λ s h. omega (arith, h, under)) replay
+              (finishes_from disk (finish one) replay are.3),
+        );
         to_come = all_append (λ (w : Written). t < w.passage.end) (writes_of one) (all_writes replay)
             (all_weaker _ _ (λ (w : Written) h. omega (arith, h, free)) (writes_of one) (late disk sound one are.1 are.2))
-            (all_weaker _ _ (λ (w : Written) h. omega (arith, h, under)) (all_writes replay) (all_late disk sound (finish one) replay are.3));
+            (all_weaker _ _ (λ (w : Written) h. omega (arith, h, under)) (all_writes replay)
+            (all_late disk sound (finish one) replay are.3));
       }
   | inr over ↦
       let cut = cut_at disk sound t (finish one) replay are.3 rests.1 in
@@ -97,7 +109,8 @@ record IsPartOf (before after past rest : List Served) : Type 0 where
   pub past_is : past ≡ before ++ between
   pub after_is : after ≡ between ++ rest
 
-part_of : (t : ℕ) (before after past rest : List Served) → before ++ after ≡ past ++ rest → AllByRecursion (λ (s : Served). finish s ≤ t) before → AllByRecursion (λ (s : Served). t < finish s) rest
+part_of : (t : ℕ) (before after past rest : List Served) → before ++ after ≡ past ++ rest
+    → AllByRecursion (λ (s : Served). finish s ≤ t) before → AllByRecursion (λ (s : Served). t < finish s) rest
     → IsPartOf before after past rest
 part_of t [] after past rest is finished unfinished = record { between = past; past_is = refl; after_is = is }
 part_of t (one ∷ before) after [] [] is finished unfinished = cc
@@ -112,9 +125,11 @@ part_of t (one ∷ before) after (other ∷ past) rest is finished unfinished =
       after_is = more.after_is;
     }
 
-found_past : (disk : Disk) (t : ℕ) (latent : List ℕ) (replay : List Served) (lbn : ℕ) (last : ℕ × Content) (cut : IsCut disk t replay) → last.0 ≤ t → IsFoundAfter latent replay lbn last → IsFoundAfter latent cut.past lbn last
+found_past : (disk : Disk) (t : ℕ) (latent : List ℕ) (replay : List Served) (lbn : ℕ) (last : ℕ × Content) (cut : IsCut disk t replay)
+    → last.0 ≤ t → IsFoundAfter latent replay lbn last → IsFoundAfter latent cut.past lbn last
 found_past disk t latent replay lbn last cut by found =
-    let part = part_of t found.before found.after cut.past cut.rest (sym found.is ∙ cut.is) (all_weaker _ _ (λ (s : Served) h. omega (arith, h, by)) found.before found.finished) cut.unfinished in
+    let part = part_of t found.before found.after cut.past cut.rest (sym found.is
+    ∙ cut.is) (all_weaker _ _ (λ (s : Served) h. omega (arith, h, by)) found.before found.finished) cut.unfinished in
     record {
       before = found.before;
       after = part.between;
@@ -122,7 +137,8 @@ found_past disk t latent replay lbn last cut by found =
       finished = found.finished;
       holds = found.holds;
       to_come = all_left (λ (w : Written). last.0 < w.passage.end) (all_writes part.between) (all_writes cut.rest)
-          (subst (AllByRecursion (λ (w : Written). last.0 < w.passage.end)) (ap all_writes part.after_is ∙ flat_map-append writes_of part.between cut.rest) found.to_come);
+          (subst (AllByRecursion (λ (w : Written). last.0 < w.passage.end))
+          (ap all_writes part.after_is ∙ flat_map-append writes_of part.between cut.rest) found.to_come);
     }
 
 -- ---- the events that have taken effect by then
@@ -139,17 +155,20 @@ given_at lbn event last is = by (after_taking (sectors_of event.contents) lbn No
 
 kept_found : (disk : Disk) (t : ℕ) (latent : List ℕ) (replay : List Served) (lbn : ℕ) (cut : IsCut disk t replay) (events : List Event)
     → AllByRecursion (λ event. (last : ℕ × Content) → given lbn event ≡ Some last → IsFoundAfter latent replay lbn last) events
-    → AllByRecursion (λ event. (last : ℕ × Content) → given lbn event ≡ Some last → IsFoundAfter latent cut.past lbn last) (filter (by_then t) events)
+    → AllByRecursion (λ event. (last : ℕ × Content) → given lbn event ≡ Some last → IsFoundAfter latent cut.past lbn last)
+    (filter (by_then t) events)
 kept_found disk t latent replay lbn cut [] all = tt
 kept_found disk t latent replay lbn cut (event ∷ events) all = elim (cases_Bool (by_then t event)) [
   | inl by ↦ rw by (
-    λ last is. found_past disk t latent replay lbn last cut (let at = given_at lbn event last is in let early = is_by event.instant t by in omega arith) (all.0 last is),
+    λ last is. found_past disk t latent replay lbn last cut (let at = given_at lbn event last is in let early = is_by event.instant t by in
+        omega arith) (all.0 last is),
     kept_found disk t latent replay lbn cut events all.1,
   )
   | inr late ↦ rw late (kept_found disk t latent replay lbn cut events all.1)
 ]
 
-all_kept : (t : ℕ) (medium : Medium) (past : List Served) → AllByRecursion (λ (s : Served). finish s ≤ t) past → filter (by_then t) (wrote medium past) ≡ wrote medium past
+all_kept : (t : ℕ) (medium : Medium) (past : List Served) → AllByRecursion (λ (s : Served). finish s ≤ t) past
+    → filter (by_then t) (wrote medium past) ≡ wrote medium past
 all_kept t medium [] all = refl
 all_kept t medium (one ∷ past) all =
     filter-append (by_then t) (writes_in (fore_row medium one)) (wrote medium past)
@@ -161,7 +180,8 @@ all_kept t medium (one ∷ past) all =
       | inr reads ↦ rw reads refl
     ]
 
-none_kept : (t : ℕ) (medium : Medium) (rest : List Served) → AllByRecursion (λ (s : Served). t < finish s) rest → filter (by_then t) (wrote medium rest) ≡ []
+none_kept : (t : ℕ) (medium : Medium) (rest : List Served) → AllByRecursion (λ (s : Served). t < finish s) rest
+    → filter (by_then t) (wrote medium rest) ≡ []
 none_kept t medium [] all = refl
 none_kept t medium (one ∷ rest) all =
     filter-append (by_then t) (writes_in (fore_row medium one)) (wrote medium rest)
@@ -173,10 +193,12 @@ none_kept t medium (one ∷ rest) all =
       | inr reads ↦ rw reads refl
     ]
 
-wrote_by : (disk : Disk) (t : ℕ) (medium : Medium) (replay : List Served) (cut : IsCut disk t replay) → filter (by_then t) (wrote medium replay) ≡ wrote medium cut.past
+wrote_by : (disk : Disk) (t : ℕ) (medium : Medium) (replay : List Served) (cut : IsCut disk t replay)
+    → filter (by_then t) (wrote medium replay) ≡ wrote medium cut.past
 wrote_by disk t medium replay cut =
     ap (λ services. filter (by_then t) (wrote medium services)) cut.is
-    ∙ ap (filter (by_then t)) (ap (flat_map writes_in) (map-append (fore_row medium) cut.past cut.rest) ∙ flat_map-append writes_in (map (fore_row medium) cut.past) (map (fore_row medium) cut.rest))
+    ∙ ap (filter (by_then t)) (ap (flat_map writes_in) (map-append (fore_row medium) cut.past cut.rest)
+    ∙ flat_map-append writes_in (map (fore_row medium) cut.past) (map (fore_row medium) cut.rest))
     ∙ filter-append (by_then t) (wrote medium cut.past) (wrote medium cut.rest)
     ∙ ap₂ (λ past rest. past ++ rest) (all_kept t medium cut.past cut.finished) (none_kept t medium cut.rest cut.unfinished)
     ∙ append-nil (wrote medium cut.past)
@@ -188,26 +210,37 @@ front_served disk now (one ∷ past) rest are = (are.0, are.1, are.2, front_serv
 
 -- ---- the law
 
-rows_rest : (t : ℕ) (medium : Medium) (replay : List Served) → AllByRecursion (λ (row : ForeRow). row.request.write ≡ true → (row.finish ≤ t) ⊎ (t ≤ row.media)) (map (fore_row medium) replay) → AllByRecursion (Rests t) replay
-rows_rest t medium replay all = all_unmapped (λ (row : ForeRow). row.request.write ≡ true → (row.finish ≤ t) ⊎ (t ≤ row.media)) (fore_row medium) replay all
+rows_rest : (t : ℕ) (medium : Medium) (replay : List Served)
+    → AllByRecursion (λ (row : ForeRow). row.request.write ≡ true → (row.finish ≤ t) ⊎ (t ≤ row.media)) (map (fore_row medium) replay)
+    → AllByRecursion (Rests t) replay
+rows_rest t medium replay all =
+    all_unmapped (λ (row : ForeRow). row.request.write ≡ true → (row.finish ≤ t) ⊎ (t ≤ row.media)) (fore_row medium) replay all
 
-pub held_at_rest : ForegroundListsAscend → OnePlainReplay → (inputs : Inputs) (run : Run) (t lbn : ℕ) (held : Content) → IsSound inputs.disk.map → IsAccepted inputs → IsFull inputs run → IsAtRest t run
+pub held_at_rest : ForegroundListsAscend → OnePlainReplay → (inputs : Inputs) (run : Run) (t lbn : ℕ) (held : Content)
+    → IsSound inputs.disk.map → IsAccepted inputs → IsFull inputs run → IsAtRest t run
     → held_after (events_by t run) lbn ≡ Some held → held ≡ content (medium_of inputs) lbn t
 unfolding medium_of fore_rows
 held_at_rest ascend one inputs run t lbn held sound accepted full rests is =
     let are = are_served inputs accepted ascend one in
     let replay = served inputs in
     let medium = medium_with inputs.disk inputs.latent replay in
-    let cut = cut_at inputs.disk sound t 0 replay are (rows_rest t medium replay (subst (AllByRecursion (λ (row : ForeRow). row.request.write ≡ true → (row.finish ≤ t) ⊎ (t ≤ row.media))) full.sound.fore rests)) in
+    let cut = cut_at inputs.disk sound t 0 replay are (rows_rest t medium replay
+    (subst (AllByRecursion (λ (row : ForeRow). row.request.write ≡ true → (row.finish ≤ t) ⊎ (t ≤ row.media))) full.sound.fore rests)) in
     let writes = flat_map writes_in run.fore in
     let gots = flat_map deliveries_in run.back in
     let last = some_decided (decided lbn (events_by t run)) held is in
     let found = one_decides (IsFoundAfter inputs.latent cut.past lbn) lbn (filter (by_then t) gots)
-    (kept_found inputs.disk t inputs.latent replay lbn cut gots (rows_found inputs.disk inputs.latent replay lbn run.back (back_found inputs run sound are full))) in
-    let wrote_past : filter (by_then t) writes ≡ wrote medium cut.past = ap (λ rows. filter (by_then t) (flat_map writes_in rows)) full.sound.fore ∙ wrote_by inputs.disk t medium replay cut in
+    (kept_found inputs.disk t inputs.latent replay lbn cut gots
+    (rows_found inputs.disk inputs.latent replay lbn run.back (back_found inputs run sound are full))) in
+    let wrote_past : filter (by_then t) writes ≡ wrote medium cut.past =
+    ap (λ rows. filter (by_then t) (flat_map writes_in rows)) full.sound.fore ∙ wrote_by inputs.disk t medium replay cut in
     let decides : later (decided lbn (wrote medium cut.past)) (decided lbn (filter (by_then t) gots)) ≡ Some last.0 =
-    sym (ap (λ es. later (decided lbn es) (decided lbn (filter (by_then t) gots))) wrote_past) ∙ sym (decided-append lbn (filter (by_then t) writes) (filter (by_then t) gots))
+    sym (ap (λ es. later (decided lbn es) (decided lbn (filter (by_then t) gots))) wrote_past)
+    ∙ sym (decided-append lbn (filter (by_then t) writes) (filter (by_then t) gots))
     ∙ sym (ap (decided lbn) (filter-append (by_then t) writes gots)) ∙ last.1 in
     sym last.2
-    ∙ survives_all inputs.disk medium inputs.latent lbn 0 cut.past last.0 (front_served inputs.disk 0 cut.past cut.rest (subst (AreServed inputs.disk 0) cut.is are)) (decided lbn (wrote medium cut.past)) (decided lbn (filter (by_then t) gots)) refl found decides
-    ∙ sym (ap (λ services. content (medium_with inputs.disk inputs.latent services) lbn t) cut.is ∙ content_then inputs.disk inputs.latent cut.past cut.rest lbn t cut.passed cut.to_come)
+    ∙ survives_all inputs.disk medium inputs.latent lbn 0 cut.past last.0
+    (front_served inputs.disk 0 cut.past cut.rest (subst (AreServed inputs.disk 0) cut.is are)) (decided lbn (wrote medium cut.past))
+    (decided lbn (filter (by_then t) gots)) refl found decides
+    ∙ sym (ap (λ services. content (medium_with inputs.disk inputs.latent services) lbn t) cut.is
+    ∙ content_then inputs.disk inputs.latent cut.past cut.rest lbn t cut.passed cut.to_come)

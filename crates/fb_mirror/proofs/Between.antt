@@ -31,7 +31,8 @@ pub record IsBetween (replay : List Served) (from to : ℕ) : Type 0 where
   pub to_come : AllByRecursion (λ (w : Written). to < w.passage.end) (all_writes after)
 
 -- it is so in a part of the time too
-pub between_within : (replay : List Served) (from to begin end : ℕ) → from ≤ begin → end ≤ to → IsBetween replay from to → IsBetween replay begin end
+pub between_within : (replay : List Served) (from to begin end : ℕ) → from ≤ begin → end ≤ to → IsBetween replay from to
+    → IsBetween replay begin end
 between_within replay from to begin end later earlier is = record {
   before = is.before;
   after = is.after;
@@ -60,7 +61,8 @@ pub record IsPlaced (disk : Disk) (now : ℕ) (replay : List Served) (decision :
   pub of_disk : IsOfDisk disk decision
   pub between : IsBetween replay (instant_of decision) (quiet_until decision)
 
-idle_all : (P : Decision → Type 0) (Q : ℕ → Type 0) (head : Track) (now : ℕ) (instants : List ℕ) → ((begin end : ℕ) → now ≤ begin → Q end → P (idles (record { track = head; begin = begin; end = end })))
+idle_all : (P : Decision → Type 0) (Q : ℕ → Type 0) (head : Track) (now : ℕ) (instants : List ℕ)
+    → ((begin end : ℕ) → now ≤ begin → Q end → P (idles (record { track = head; begin = begin; end = end })))
     → AllByRecursion Q instants → AllByRecursion P (idle_until head now instants)
 idle_all P Q head now [] each all = tt
 idle_all P Q head now (x ∷ instants) each all = elim (cases_Bool (nat_lt now x)) [
@@ -91,7 +93,8 @@ last_placed disk head now last until from = elim (cases_Bool (nat_lt last until)
 ]
 
 -- what comes behind a service is placed behind it
-placed_behind : (disk : Disk) (now : ℕ) (served : Served) (later : List Served) (decision : Decision) → now ≤ finish served → IsServiceOf disk served → IsPlaced disk (finish served) later decision
+placed_behind : (disk : Disk) (now : ℕ) (served : Served) (later : List Served) (decision : Decision) → now ≤ finish served
+    → IsServiceOf disk served → IsPlaced disk (finish served) later decision
     → IsPlaced disk now (served ∷ later) decision
 placed_behind disk now served later decision order is placed =
     let from = placed.from in record {
@@ -110,38 +113,59 @@ placed_behind disk now served later decision order is placed =
 
 module _ (disk : Disk) (sound : IsSound disk.map) where
   -- what a service and those behind it write passes later
-  all_to_come : (to : ℕ) (served : Served) (later : List Served) → IsServiceOf disk served → LiesOnDisk disk.map served.request → AreServed disk (finish served) later → to ≤ free_until served
+  all_to_come : (to : ℕ) (served : Served) (later : List Served) → IsServiceOf disk served → LiesOnDisk disk.map served.request
+      → AreServed disk (finish served) later → to ≤ free_until served
       → AllByRecursion (λ (w : Written). to < w.passage.end) (all_writes (served ∷ later))
   all_to_come to served later is lies are order =
       let within = free_within disk served is lies in
       all_append (λ (w : Written). to < w.passage.end) (writes_of served) (all_writes later)
       (all_weaker _ _ (λ (w : Written) h. omega (arith, h, order)) (writes_of served) (late disk sound served is lies))
-      (all_weaker _ _ (λ (w : Written) h. omega (arith, h, order, within.1)) (all_writes later) (all_late disk sound (finish served) later are))
+      (all_weaker _ _ (λ (w : Written) h. omega (arith, h, order, within.1)) (all_writes later)
+      (all_late disk sound (finish served) later are))
 
   pub decisions_placed : (instants : List ℕ) (until : ℕ) (head : Track) (now : ℕ) (replay : List Served) → AreServed disk now replay
       → AllByRecursion (IsPlaced disk now replay) (decisions_from disk instants until head now replay)
   unfolding decisions_from
   decisions_placed instants until head now [] are =
       all_append (IsPlaced disk now []) (idle_until head now instants) (last_decision head (fold max now instants) until ∷ [])
-      (idle_all (IsPlaced disk now []) (λ x. Unit {0}) head now instants (λ begin end from is. record { from = from; of_disk = tt; between = none_left begin end }) (any_instant instants))
+      (idle_all (IsPlaced disk now []) (λ x. Unit {0}) head now instants
+      (λ begin end from is. record { from = from; of_disk = tt; between = none_left begin end }) (any_instant instants))
       (last_placed disk head now (fold max now instants) until (greatest_from now instants), tt)
   decisions_placed instants until head now (served ∷ later) are =
       let within = free_within disk served are.1 are.2 in
-      all_append (IsPlaced disk now (served ∷ later)) (idle_until head now (filter (λ instant. nat_le instant served.start) instants)) (serves served ∷ decisions_from disk instants until (last_track disk served) (finish served) later)
-      (idle_all (IsPlaced disk now (served ∷ later)) (λ x. x ≤ served.start) head now (filter (λ instant. nat_le instant served.start) instants)
+      all_append (IsPlaced disk now (served ∷ later)) (idle_until head now (filter (λ instant. nat_le instant served.start) instants))
+      (serves served ∷ decisions_from disk instants until (last_track disk served) (finish served) later)
+      (idle_all (IsPlaced disk now (served ∷ later)) (λ x. x ≤ served.start) head now
+      (filter (λ instant. nat_le instant served.start) instants)
       (λ begin end from is. record {
         from = from;
         of_disk = tt;
-        between = record { before = []; after = served ∷ later; is = refl; finished = tt; passed = tt; to_come = all_to_come end served later are.1 are.2 are.3 (omega (arith, is, within.0)) };
+        between = record {
+          before = [];
+          after = served ∷ later;
+          is = refl;
+          finished = tt;
+          passed = tt;
+          to_come = all_to_come end served later are.1 are.2 are.3 (omega (arith, is, within.0));
+        };
       })
       (kept_by served.start instants)) (
         record {
           from = are.0;
           of_disk = (are.1, are.2);
-          between = record { before = []; after = served ∷ later; is = refl; finished = tt; passed = tt; to_come = all_to_come (free_until served) served later are.1 are.2 are.3 (omega arith) };
+          between = record {
+            before = [];
+            after = served ∷ later;
+            is = refl;
+            finished = tt;
+            passed = tt;
+            to_come = all_to_come (free_until served) served later are.1 are.2 are.3 (omega arith);
+          };
         },
-        all_weaker (IsPlaced disk (finish served) later) (IsPlaced disk now (served ∷ later)) (λ decision placed. placed_behind disk now served later decision (omega (arith, are.0, within.0, within.1)) are.1 placed)
-            (decisions_from disk instants until (last_track disk served) (finish served) later) (decisions_placed instants until (last_track disk served) (finish served) later are.3),
+        all_weaker (IsPlaced disk (finish served) later) (IsPlaced disk now (served ∷ later))
+            (λ decision placed. placed_behind disk now served later decision (omega (arith, are.0, within.0, within.1)) are.1 placed)
+            (decisions_from disk instants until (last_track disk served) (finish served) later)
+            (decisions_placed instants until (last_track disk served) (finish served) later are.3),
       )
 
 -- ---- deliveries

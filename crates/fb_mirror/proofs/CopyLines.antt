@@ -4,12 +4,14 @@ use Rattle.std.proofs.lemmas.Option.{same_Some}
 use Rattle.fb_store.specs.declared.content.ContentRun.{ContentRun}
 use Rattle.fb_mirror.specs.Copy.{run_line}
 
-at_run : (runs : List ContentRun) (last : List ℕ) (i : ℕ) (run : ContentRun) → slice_get runs i ≡ Some run → slice_get (map run_line runs ++ last ∷ []) i ≡ Some (run_line run)
+at_run : (runs : List ContentRun) (last : List ℕ) (i : ℕ) (run : ContentRun) → slice_get runs i ≡ Some run
+    → slice_get (map run_line runs ++ last ∷ []) i ≡ Some (run_line run)
 at_run [] last i run is = absurd (grind arith)
 at_run (first ∷ runs) last zero run is = ap (λ r. Some (run_line r)) (same_Some first run is)
 at_run (first ∷ runs) last (suc i) run is = at_run runs last i run is
 
-at_last : (runs : List ContentRun) (last : List ℕ) (i : ℕ) → length runs ≤ i → i < length (map run_line runs ++ last ∷ []) → slice_get (map run_line runs ++ last ∷ []) i ≡ Some last
+at_last : (runs : List ContentRun) (last : List ℕ) (i : ℕ) → length runs ≤ i → i < length (map run_line runs ++ last ∷ [])
+    → slice_get (map run_line runs ++ last ∷ []) i ≡ Some last
 at_last [] last zero from below = refl
 at_last [] last (suc i) from below = absurd (omega arith)
 at_last (first ∷ runs) last zero from below = absurd (omega arith)
@@ -23,6 +25,8 @@ pub line_of_run : (one two last : List ℕ) (runs : List ContentRun) (k : ℕ) (
     → slice_get (one ∷ two ∷ (map run_line runs ++ last ∷ [])) k ≡ Some (run_line run)
 line_of_run one two last runs k run more is = behind_two one two (map run_line runs ++ last ∷ []) k more ∙ at_run runs last (k - 2) run is
 
-pub last_line : (one two last : List ℕ) (runs : List ContentRun) (k : ℕ) → 2 ≤ k → length runs ≤ k - 2 → k < length (one ∷ two ∷ (map run_line runs ++ last ∷ []))
+pub last_line : (one two last : List ℕ) (runs : List ContentRun) (k : ℕ) → 2 ≤ k → length runs ≤ k - 2
+    → k < length (one ∷ two ∷ (map run_line runs ++ last ∷ []))
     → slice_get (one ∷ two ∷ (map run_line runs ++ last ∷ [])) k ≡ Some last
-last_line one two last runs k more from below = behind_two one two (map run_line runs ++ last ∷ []) k more ∙ at_last runs last (k - 2) from (omega arith)
+last_line one two last runs k more from below =
+    behind_two one two (map run_line runs ++ last ∷ []) k more ∙ at_last runs last (k - 2) from (omega arith)

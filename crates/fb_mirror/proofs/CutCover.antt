@@ -29,7 +29,8 @@ begins disk block lbn (suc n) = with_begins disk block lbn (cutting disk block (
 abbrev pub EndsBy : ℕ → Cut → Type 0
 EndsBy end cut = cut.lbn + cut.count ≤ end
 
-with_ends : (disk : Shape) (block lbn end : ℕ) (cuts : List Cut) → lbn < end → BeginsAt (lbn + 1) cuts → AllByRecursion (EndsBy end) cuts → AllByRecursion (EndsBy end) (with_sector disk block lbn cuts)
+with_ends : (disk : Shape) (block lbn end : ℕ) (cuts : List Cut) → lbn < end → BeginsAt (lbn + 1) cuts → AllByRecursion (EndsBy end) cuts
+    → AllByRecursion (EndsBy end) (with_sector disk block lbn cuts)
 with_ends disk block lbn end [] less begins all = (omega arith, tt)
 with_ends disk block lbn end (cut ∷ cuts) less begins all = by (is_cut_before disk block (lbn + 1))
   where
@@ -40,14 +41,16 @@ with_ends disk block lbn end (cut ∷ cuts) less begins all = by (is_cut_before 
 pub cuts_end : (disk : Shape) (block lbn n end : ℕ) → lbn + n ≤ end → AllByRecursion (EndsBy end) (cutting disk block lbn n)
 unfolding cutting
 cuts_end disk block lbn zero end within = tt
-cuts_end disk block lbn (suc n) end within = with_ends disk block lbn end (cutting disk block (lbn + 1) n) (omega arith) (begins disk block (lbn + 1) n) (cuts_end disk block (lbn + 1) n end (omega arith))
+cuts_end disk block lbn (suc n) end within = with_ends disk block lbn end (cutting disk block (lbn + 1) n) (omega arith) (begins disk block
+    (lbn + 1) n) (cuts_end disk block (lbn + 1) n end (omega arith))
 
 -- ---- each has a sector
 
 abbrev pub HasSectors : Cut → Type 0
 HasSectors cut = 0 < cut.count
 
-with_some : (disk : Shape) (block lbn : ℕ) (cuts : List Cut) → AllByRecursion HasSectors cuts → AllByRecursion HasSectors (with_sector disk block lbn cuts)
+with_some : (disk : Shape) (block lbn : ℕ) (cuts : List Cut) → AllByRecursion HasSectors cuts
+    → AllByRecursion HasSectors (with_sector disk block lbn cuts)
 with_some disk block lbn [] all = (omega arith, tt)
 with_some disk block lbn (cut ∷ cuts) all = by (is_cut_before disk block (lbn + 1))
   where
@@ -66,16 +69,19 @@ module _ (Q : ℕ → Type 0) where
   abbrev pub HoldsIn : Cut → Type 0
   HoldsIn cut = (x : ℕ) → cut.lbn ≤ x → x < cut.lbn + cut.count → Q x
 
-  with_holds : (disk : Shape) (block lbn : ℕ) (cuts : List Cut) → BeginsAt (lbn + 1) cuts → AllByRecursion HoldsIn (with_sector disk block lbn cuts) → Q lbn × AllByRecursion HoldsIn cuts
+  with_holds : (disk : Shape) (block lbn : ℕ) (cuts : List Cut) → BeginsAt (lbn + 1) cuts
+      → AllByRecursion HoldsIn (with_sector disk block lbn cuts) → Q lbn × AllByRecursion HoldsIn cuts
   with_holds disk block lbn [] begins all = (all.0 lbn (omega arith) (omega arith), tt)
   with_holds disk block lbn (cut ∷ cuts) begins all = by (is_cut_before disk block (lbn + 1)) all
     where
       by : (b : Bool) → AllByRecursion HoldsIn (if b then cut_of disk lbn 1 ∷ cut ∷ cuts else cut_of disk lbn (cut.count + 1) ∷ cuts)
           → Q lbn × AllByRecursion HoldsIn (cut ∷ cuts)
       by true all = (all.0 lbn (omega arith) (omega arith), all.1)
-      by false all = (all.0 lbn (omega arith) (omega arith), (λ x from to. all.0 x (omega (arith, from, begins)) (omega (arith, to, begins)), all.1))
+      by false all =
+          (all.0 lbn (omega arith) (omega arith), (λ x from to. all.0 x (omega (arith, from, begins)) (omega (arith, to, begins)), all.1))
 
-  pub cuts_hold : (disk : Shape) (block lbn n : ℕ) → AllByRecursion HoldsIn (cutting disk block lbn n) → (x : ℕ) → lbn ≤ x → x < lbn + n → Q x
+  pub cuts_hold : (disk : Shape) (block lbn n : ℕ) → AllByRecursion HoldsIn (cutting disk block lbn n) → (x : ℕ) → lbn ≤ x → x < lbn + n
+      → Q x
   unfolding cutting
   cuts_hold disk block lbn zero all x from to = absurd (omega arith)
   cuts_hold disk block lbn (suc n) all x from to =

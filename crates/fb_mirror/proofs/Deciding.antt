@@ -57,13 +57,15 @@ latest-append lbn (x ∷ xs) ys =
     ap (later first) (latest-append lbn xs ys) ∙ sym (later-assoc first (latest lbn xs) (latest lbn ys))
 
 -- of two at one instant the second decides
-at_once : (instant : ℕ) (first second : Option Content) → later (dated instant first) (dated instant second) ≡ dated instant (over second first)
+at_once : (instant : ℕ) (first second : Option Content)
+    → later (dated instant first) (dated instant second) ≡ dated instant (over second first)
 at_once instant None None = refl
 at_once instant None (Some b) = refl
 at_once instant (Some a) None = refl
 at_once instant (Some a) (Some b) = let same : nat_lt instant instant ≡ false = grind (arith, nat_tests) in rw same refl
 
-one_event : (lbn instant : ℕ) (runs : List ContentRun) → latest lbn (map (λ run. record { instant = instant; run = run }) runs) ≡ dated instant (after_taking (sectors_of runs) lbn None)
+one_event : (lbn instant : ℕ) (runs : List ContentRun)
+    → latest lbn (map (λ run. record { instant = instant; run = run }) runs) ≡ dated instant (after_taking (sectors_of runs) lbn None)
 one_event lbn instant [] = refl
 one_event lbn instant (run ∷ runs) =
     let first = after_taking (sectors_in run) lbn None in
@@ -75,4 +77,5 @@ one_event lbn instant (run ∷ runs) =
 pub latest_decides : (lbn : ℕ) (events : List Event) → latest lbn (changes_of events) ≡ decided lbn events
 latest_decides lbn [] = refl
 latest_decides lbn (event ∷ events) =
-    latest-append lbn (changes_in event) (changes_of events) ∙ ap₂ later (one_event lbn event.instant event.contents) (latest_decides lbn events)
+    latest-append lbn (changes_in event) (changes_of events)
+    ∙ ap₂ later (one_event lbn event.instant event.contents) (latest_decides lbn events)

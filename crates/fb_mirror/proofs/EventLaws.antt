@@ -1,5 +1,6 @@
 -- What events give sectors, and which event decides.
-use Rattle.std.proofs.Common.{◌≡◌, ℕ, ◌<◌, ◌≤◌, List, [], ◌∷◌, ◌++◌, Option, Some, None, Bool, true, false, cond, refl, sym, ap, ◌∙◌, arith, append-nil, inl, inr, subst}
+use Rattle.std.proofs.Common.{◌≡◌, ℕ, ◌<◌, ◌≤◌, List, [], ◌∷◌, ◌++◌, Option, Some, None, Bool, true, false, cond, refl, sym, ap, ◌∙◌, arith}
+use Rattle.std.proofs.Common.{append-nil, inl, inr, subst}
 use Rattle.std.specs.Prelude.{nat_lt}
 use Rattle.std.specs.List.{AllByRecursion}
 use Rattle.std.specs.Option.{option_map}
@@ -19,11 +20,13 @@ use Rattle.fb_rows.specs.declared.fore.ForeRow.{ForeRow}
 use Rattle.fb_model.specs.Content.{number_of}
 use Rattle.fb_mirror.specs.Replacement.{Event, given, later, decided, Decides, writes_in, deliveries_in}
 
-one_decides : (within : Bool) (instant : ℕ) (content : Content) (held : Option Content) → held ≡ cond within (Some content) None → later (option_map (λ c. (instant, c)) held) None ≡ cond within (Some (instant, content)) None
+one_decides : (within : Bool) (instant : ℕ) (content : Content) (held : Option Content) → held ≡ cond within (Some content) None
+    → later (option_map (λ c. (instant, c)) held) None ≡ cond within (Some (instant, content)) None
 one_decides true instant content held is = rw is refl
 one_decides false instant content held is = rw is refl
 
-pub write_gives : (row : ForeRow) (lbn : ℕ) → row.request.write ≡ true → decided lbn (writes_in row) ≡ cond (is_within row.request.lbn row.request.count lbn) (Some (row.finish, Filled (number_of row.request.name))) None
+pub write_gives : (row : ForeRow) (lbn : ℕ) → row.request.write ≡ true → decided lbn (writes_in row)
+    ≡ cond (is_within row.request.lbn row.request.count lbn) (Some (row.finish, Filled (number_of row.request.name))) None
 write_gives row lbn writes =
     let content = Filled (number_of row.request.name) in
     let run : ContentRun = record { first = row.request.lbn; count = row.request.count; content = content } in
@@ -34,7 +37,8 @@ write_gives row lbn writes =
 pub delivery_gives : (row : DeliveryRow) (content_of : ℕ → Content) (lbn : ℕ) → Gives row.content content_of row.block.lbn row.block.count
     → decided lbn (deliveries_in (Got row)) ≡ cond (is_within row.block.lbn row.block.count lbn) (Some (row.end, content_of lbn)) None
 delivery_gives row content_of lbn gives =
-    one_decides (is_within row.block.lbn row.block.count lbn) row.end (content_of lbn) (after_taking (sectors_of row.content) lbn None) (taken_block content_of row.block.lbn row.block.count lbn (sectors_of row.content) None gives)
+    one_decides (is_within row.block.lbn row.block.count lbn) row.end (content_of lbn) (after_taking (sectors_of row.content) lbn None)
+    (taken_block content_of row.block.lbn row.block.count lbn (sectors_of row.content) None gives)
 
 one_or : (one other : ℕ × Content) (b : Bool) → cond b (Some one) (Some other) ≡ None → ⊥
 one_or one other true e = none-some one (sym e)
@@ -53,30 +57,41 @@ none_given lbn (event ∷ events) is = let none = none_of (given lbn event) (dec
 abbrev Below : ℕ → ℕ → Event → Type 0
 Below lbn end other = (that : ℕ × Content) → given lbn other ≡ Some that → that.0 < end
 
-nothing_below : (lbn end : ℕ) (events : List Event) → AllByRecursion (λ event. given lbn event ≡ None) events → AllByRecursion (Below lbn end) events
+nothing_below : (lbn end : ℕ) (events : List Event) → AllByRecursion (λ event. given lbn event ≡ None) events
+    → AllByRecursion (Below lbn end) events
 nothing_below lbn end [] none = tt
 nothing_below lbn end (event ∷ events) none = (λ that is. absurd (none-some that (sym none.0 ∙ is)), nothing_below lbn end events none.1)
 
-below_more : (lbn end : ℕ) (one other : List Event) → AllByRecursion (Below lbn end) one → AllByRecursion (Below lbn end) other → AllByRecursion (Below lbn end) (one ++ other)
+below_more : (lbn end : ℕ) (one other : List Event) → AllByRecursion (Below lbn end) one → AllByRecursion (Below lbn end) other
+    → AllByRecursion (Below lbn end) (one ++ other)
 below_more lbn end [] other first second = second
 below_more lbn end (event ∷ one) other first second = (first.0, below_more lbn end one other first.1 second)
 
-below_later : (lbn instant end : ℕ) (events : List Event) → instant < end → AllByRecursion (λ other. (that : ℕ × Content) → given lbn other ≡ Some that → that.0 ≤ instant) events → AllByRecursion (Below lbn end) events
+below_later : (lbn instant end : ℕ) (events : List Event)
+    → instant < end → AllByRecursion (λ other. (that : ℕ × Content) → given lbn other ≡ Some that → that.0 ≤ instant) events
+    → AllByRecursion (Below lbn end) events
 below_later lbn instant end [] less all = tt
-below_later lbn instant end (event ∷ events) less all = (λ that is. let here = all.0 that is in omega arith, below_later lbn instant end events less all.1)
+below_later lbn instant end (event ∷ events) less all =
+    (λ that is. let here = all.0 that is in omega arith, below_later lbn instant end events less all.1)
 
-below_earlier : (lbn instant end : ℕ) (events : List Event) → instant < end → AllByRecursion (Below lbn instant) events → AllByRecursion (Below lbn end) events
+below_earlier : (lbn instant end : ℕ) (events : List Event) → instant < end → AllByRecursion (Below lbn instant) events
+    → AllByRecursion (Below lbn end) events
 below_earlier lbn instant end [] less all = tt
-below_earlier lbn instant end (event ∷ events) less all = (λ that is. let here = all.0 that is in omega arith, below_earlier lbn instant end events less all.1)
+below_earlier lbn instant end (event ∷ events) less all =
+    (λ that is. let here = all.0 that is in omega arith, below_earlier lbn instant end events less all.1)
 
 -- all events are earlier than what is later than the one that decides
-all_below : (lbn end : ℕ) (events : List Event) (last : ℕ × Content) → last.0 < end → Decides lbn events last → AllByRecursion (Below lbn end) events
+all_below : (lbn end : ℕ) (events : List Event) (last : ℕ × Content) → last.0 < end → Decides lbn events last
+    → AllByRecursion (Below lbn end) events
 all_below lbn end events last less decides =
-    let here : Below lbn end decides.event = λ that is. let same = ap (λ p. p.0) (same_Some last that (sym decides.gives ∙ is)) in omega arith in
+    let here : Below lbn end decides.event =
+    λ that is. let same = ap (λ p. p.0) (same_Some last that (sym decides.gives ∙ is)) in omega arith in
     subst (AllByRecursion (Below lbn end)) (sym decides.split)
-    (below_more lbn end decides.before (decides.event ∷ decides.behind) (below_later lbn last.0 end decides.before less decides.no_later) (here, below_earlier lbn last.0 end decides.behind less decides.earlier))
+    (below_more lbn end decides.before (decides.event ∷ decides.behind) (below_later lbn last.0 end decides.before less decides.no_later)
+    (here, below_earlier lbn last.0 end decides.behind less decides.earlier))
 
-behind_one : (lbn : ℕ) (event : Event) (events : List Event) (last : ℕ × Content) → ((that : ℕ × Content) → given lbn event ≡ Some that → that.0 ≤ last.0) → Decides lbn events last → Decides lbn (event ∷ events) last
+behind_one : (lbn : ℕ) (event : Event) (events : List Event) (last : ℕ × Content)
+    → ((that : ℕ × Content) → given lbn event ≡ Some that → that.0 ≤ last.0) → Decides lbn events last → Decides lbn (event ∷ events) last
 behind_one lbn event events last first decides = record {
   before = event ∷ decides.before;
   event = decides.event;
@@ -87,13 +102,18 @@ behind_one lbn event events last first decides = record {
   earlier = decides.earlier;
 }
 
-at_front : (lbn : ℕ) (event : Event) (events : List Event) (last : ℕ × Content) → given lbn event ≡ Some last → AllByRecursion (Below lbn last.0) events → Decides lbn (event ∷ events) last
-at_front lbn event events last gives earlier = record { before = []; event = event; behind = events; split = refl; gives = gives; no_later = tt; earlier = earlier }
+at_front : (lbn : ℕ) (event : Event) (events : List Event) (last : ℕ × Content) → given lbn event ≡ Some last
+    → AllByRecursion (Below lbn last.0) events → Decides lbn (event ∷ events) last
+at_front lbn event events last gives earlier =
+    record { before = []; event = event; behind = events; split = refl; gives = gives; no_later = tt; earlier = earlier }
 
-one_more : (lbn : ℕ) (event : Event) (events : List Event) (last : ℕ × Content) (first rest : Option (ℕ × Content)) → given lbn event ≡ first → decided lbn events ≡ rest → later first rest ≡ Some last
+one_more : (lbn : ℕ) (event : Event) (events : List Event) (last : ℕ × Content) (first rest : Option (ℕ × Content))
+    → given lbn event ≡ first → decided lbn events ≡ rest → later first rest ≡ Some last
     → ((other : ℕ × Content) → decided lbn events ≡ Some other → Decides lbn events other) → Decides lbn (event ∷ events) last
-one_more lbn event events last None rest f r e so_far = behind_one lbn event events last (λ that is. absurd (none-some that (sym f ∙ is))) (so_far last (r ∙ e))
-one_more lbn event events last (Some one) None f r e so_far = at_front lbn event events last (f ∙ e) (nothing_below lbn last.0 events (none_given lbn events r))
+one_more lbn event events last None rest f r e so_far =
+    behind_one lbn event events last (λ that is. absurd (none-some that (sym f ∙ is))) (so_far last (r ∙ e))
+one_more lbn event events last (Some one) None f r e so_far =
+    at_front lbn event events last (f ∙ e) (nothing_below lbn last.0 events (none_given lbn events r))
 one_more lbn event events last (Some one) (Some other) f r e so_far = elim (cases_Bool (nat_lt other.0 one.0)) [
   | inl less ↦
       let is_one = sym (ap (λ b. cond b (Some one) (Some other)) less) ∙ e in
@@ -105,10 +125,12 @@ one_more lbn event events last (Some one) (Some other) f r e so_far = elim (case
       let is_other = sym (ap (λ b. cond b (Some one) (Some other)) more) ∙ e in
       let same = ap (λ p. p.0) (same_Some other last is_other) in
       let behind : one.0 ≤ other.0 = grind (arith, nat_tests) in
-      behind_one lbn event events last (λ that is. let first = ap (λ p. p.0) (same_Some one that (sym f ∙ is)) in omega arith) (so_far last (r ∙ is_other))
+      behind_one lbn event events last (λ that is. let first = ap (λ p. p.0) (same_Some one that (sym f ∙ is)) in omega arith)
+      (so_far last (r ∙ is_other))
 ]
 
 -- the latest of the events that concern a sector decides, and of equals the last
 pub latest_decides : (lbn : ℕ) (events : List Event) (last : ℕ × Content) → decided lbn events ≡ Some last → Decides lbn events last
 latest_decides lbn [] last is = absurd (none-some last is)
-latest_decides lbn (event ∷ events) last is = one_more lbn event events last (given lbn event) (decided lbn events) refl refl is (λ other so. latest_decides lbn events other so)
+latest_decides lbn (event ∷ events) last is =
+    one_more lbn event events last (given lbn event) (decided lbn events) refl refl is (λ other so. latest_decides lbn events other so)

@@ -1,5 +1,6 @@
 -- Whatever blocks a run registers are sectors of its disk.
-use Rattle.std.proofs.Common.{◌≡◌, ℕ, zero, suc, ◌+◌, ◌*◌, ◌<◌, ◌≤◌, List, [], ◌∷◌, ◌++◌, length, map, drop, Bool, true, false, refl, ap, sym, subst, ◌∙◌, arith, inl, inr, append-nil, append_assoc, nat_le}
+use Rattle.std.proofs.Common.{◌≡◌, ℕ, zero, suc, ◌+◌, ◌*◌, ◌<◌, ◌≤◌, List, [], ◌∷◌, ◌++◌, length, map, drop, Bool, true, false, refl, ap}
+use Rattle.std.proofs.Common.{sym, subst, ◌∙◌, arith, inl, inr, append-nil, append_assoc, nat_le}
 use Rattle.std.specs.Prelude.{◌&&◌, ◌==◌, not, if◌then◌else◌}
 use Rattle.std.specs.List.{AllByRecursion, best_of, fold, slice_index_or}
 use Rattle.std.proofs.lemmas.Bool.{cases_Bool, eqb-true}
@@ -28,10 +29,13 @@ use Rattle.fb_rows.specs.declared.back.DeliveryRow.{DeliveryRow}
 use Rattle.fb_model.specs.Accepted.{IsAccepted}
 use Rattle.fb_model.specs.Inputs.{Inputs}
 use Rattle.fb_model.specs.Decisions.{Decision, serves, idles, ends, instant_of}
-use Rattle.fb_model.specs.History.{called, chose, tested, delivered, finished, LogSegment, Past, blocks_of, calls_of, opened_by, registered, state, task_numbers, tasks, terms_of, wanted}
+use Rattle.fb_model.specs.History.{called, chose, tested, delivered, finished, LogSegment, Past, blocks_of, calls_of, opened_by, registered}
+use Rattle.fb_model.specs.History.{state, task_numbers, tasks, terms_of, wanted}
 use Rattle.fb_model.specs.Completion.{is_closed, segment_by, segments, work}
-use Rattle.fb_model.specs.Segments.{choose_best, choose_in, choose_once, choose_up_to, is_better, is_busy, is_chosen, next_blocks, numbered, unchosen, with_choices}
-use Rattle.fb_model.specs.Steps.{Delivery, Step, decision_in, blocks_by, calls_due, past_after, chosen_past, take_call, tested_past, with_delivery, with_finish}
+use Rattle.fb_model.specs.Segments.{choose_best, choose_in, choose_once, choose_up_to, is_better, is_busy, is_chosen, next_blocks, numbered}
+use Rattle.fb_model.specs.Segments.{unchosen, with_choices}
+use Rattle.fb_model.specs.Steps.{Delivery, Step, decision_in, blocks_by, calls_due, past_after, chosen_past, take_call, tested_past}
+use Rattle.fb_model.specs.Steps.{with_delivery, with_finish}
 use Rattle.std.proofs.Math.Seq.{drop-append_seam}
 use Rattle.fb_model.proofs.Lists.{all_best}
 use Rattle.fb_model.proofs.HistoriesUpTo.{due_first}
@@ -41,11 +45,13 @@ use Rattle.fb_mirror.proofs.CutCover.{EndsBy, cuts_end}
 abbrev pub LiesOn : Shape → Block → Type 0
 LiesOn disk block = block.lbn + block.count ≤ length (places disk)
 
-numbered_lie : (disk : Shape) (task weight n : ℕ) (cuts : List Cut) → AllByRecursion (EndsBy (length (places disk))) cuts → AllByRecursion (LiesOn disk) (numbered task weight n cuts)
+numbered_lie : (disk : Shape) (task weight n : ℕ) (cuts : List Cut) → AllByRecursion (EndsBy (length (places disk))) cuts
+    → AllByRecursion (LiesOn disk) (numbered task weight n cuts)
 numbered_lie disk task weight n [] all = tt
 numbered_lie disk task weight n (cut ∷ cuts) all = (all.0, numbered_lie disk task weight (n + 1) cuts all.1)
 
-live_end : (disk : Shape) (block lbn end : ℕ) (lives : List Bool) → lbn + length lives * block ≤ end → AllByRecursion (EndsBy end) (live_cuts disk block lbn lives)
+live_end : (disk : Shape) (block lbn end : ℕ) (lives : List Bool) → lbn + length lives * block ≤ end
+    → AllByRecursion (EndsBy end) (live_cuts disk block lbn lives)
 live_end disk block lbn end [] within = tt
 live_end disk block lbn end (live ∷ lives) within =
     let rest = live_end disk block (lbn + block) end lives (omega arith) in
@@ -96,14 +102,16 @@ pub record IsLaid (disk : Shape) (calls : List Call) (past : Past) : Type 0 wher
   pub unopened : (task : ℕ) → length (tasks past) ≤ task → segments past task ≡ []
 
 -- an event that leaves calls, tasks and segments as they are, and registers blocks of the disk
-same_laid : (disk : Shape) (calls : List Call) (past after : Past) (added : List Block) → calls_of after ≡ calls_of past → tasks after ≡ tasks past → ((task : ℕ) → segments after task ≡ segments past task) → registered after ≡ registered past ++ added
+same_laid : (disk : Shape) (calls : List Call) (past after : Past) (added : List Block) → calls_of after ≡ calls_of past
+    → tasks after ≡ tasks past → ((task : ℕ) → segments after task ≡ segments past task) → registered after ≡ registered past ++ added
     → AllByRecursion (LiesOn disk) added → IsLaid disk calls past → IsLaid disk calls after
 same_laid disk calls past after added same_calls same_tasks same_segments more lie laid = record {
   rest = laid.rest;
   whole = ap (λ before. before ++ laid.rest) same_calls ∙ laid.whole;
   may = subst (λ before. AreAllowed disk before laid.rest) (sym same_calls) laid.may;
   blocks = subst (AllByRecursion (LiesOn disk)) (sym more) (all_append (LiesOn disk) (registered past) added laid.blocks lie);
-  segments_lie = λ task. subst (λ (tasks : List Terms). AllByRecursion (SegmentLies disk (slice_index_or tasks task (record { kind = Plain; weight = 1; block = 1 })).block) (segments after task)) (sym same_tasks)
+  segments_lie = λ task. subst (λ (tasks : List Terms). AllByRecursion (SegmentLies disk
+      (slice_index_or tasks task (record { kind = Plain; weight = 1; block = 1 })).block) (segments after task)) (sym same_tasks)
       (subst (AllByRecursion (SegmentLies disk (terms_of past task).block)) (sym (same_segments task)) (laid.segments_lie task));
   unopened = λ task beyond. same_segments task ∙ laid.unopened task (subst (λ (tasks : List Terms). length tasks ≤ task) same_tasks beyond);
 }
@@ -113,26 +121,32 @@ module _ (disk : Shape) (calls : List Call) (past : Past) (laid : IsLaid disk ca
   laid_tested rows = same_laid disk calls past (tested rows ∷ past) [] refl refl (λ task. refl) (sym (append-nil (registered past))) tt laid
 
   laid_delivered : (row : DeliveryRow) → IsLaid disk calls (delivered row ∷ past)
-  laid_delivered row = same_laid disk calls past (delivered row ∷ past) [] refl refl (λ task. refl) (sym (append-nil (registered past))) tt laid
+  laid_delivered row =
+      same_laid disk calls past (delivered row ∷ past) [] refl refl (λ task. refl) (sym (append-nil (registered past))) tt laid
 
   laid_finished : (request : Request) → IsLaid disk calls (finished request ∷ past)
-  laid_finished request = same_laid disk calls past (finished request ∷ past) [] refl refl (λ task. refl) (sym (append-nil (registered past))) tt laid
+  laid_finished request =
+      same_laid disk calls past (finished request ∷ past) [] refl refl (λ task. refl) (sym (append-nil (registered past))) tt laid
 
 -- ---- the next call
 
 -- the terms of the tasks stay when one more is opened
-terms_stay : (before : List Terms) (terms : Terms) (task : ℕ) → task < length before → slice_index_or (before ++ terms ∷ []) task (record { kind = Plain; weight = 1; block = 1 }) ≡ slice_index_or before task (record { kind = Plain; weight = 1; block = 1 })
+terms_stay : (before : List Terms) (terms : Terms) (task : ℕ) → task < length before → slice_index_or (before ++ terms ∷ []) task
+    (record { kind = Plain; weight = 1; block = 1 }) ≡ slice_index_or before task (record { kind = Plain; weight = 1; block = 1 })
 terms_stay [] terms task less = absurd (omega arith)
 terms_stay (t ∷ before) terms zero less = refl
 terms_stay (t ∷ before) terms (suc task) less = terms_stay before terms task (omega arith)
 
 abbrev SegmentsLie : Shape → List Terms → ℕ → List LogSegment → Type 0
-SegmentsLie disk tasks task segments = AllByRecursion (SegmentLies disk (slice_index_or tasks task (record { kind = Plain; weight = 1; block = 1 })).block) segments
+SegmentsLie disk tasks task segments =
+    AllByRecursion (SegmentLies disk (slice_index_or tasks task (record { kind = Plain; weight = 1; block = 1 })).block) segments
 
-opened_lie : (disk : Shape) (before : List Terms) (terms : Terms) (task : ℕ) (segments : List LogSegment) → (length before ≤ task → segments ≡ []) → SegmentsLie disk before task segments → SegmentsLie disk (before ++ terms ∷ []) task segments
+opened_lie : (disk : Shape) (before : List Terms) (terms : Terms) (task : ℕ) (segments : List LogSegment)
+    → (length before ≤ task → segments ≡ []) → SegmentsLie disk before task segments → SegmentsLie disk (before ++ terms ∷ []) task segments
 opened_lie disk before terms task segments none lie = elim (cases_Bool (nat_le (length before) task)) [
   | inl beyond ↦ subst (SegmentsLie disk (before ++ terms ∷ []) task) (sym (none (grind (arith, nat_tests)))) tt
-  | inr inside ↦ subst (λ (t : Terms). AllByRecursion (SegmentLies disk t.block) segments) (sym (terms_stay before terms task (grind (arith, nat_tests)))) lie
+  | inr inside ↦ subst (λ (t : Terms). AllByRecursion (SegmentLies disk t.block) segments)
+      (sym (terms_stay before terms task (grind (arith, nat_tests)))) lie
 ]
 
 module _ (disk : Shape) (past : Past) (asker : ℕ) (before : List Call) (same_tasks : tasks past ≡ allowed.tasks before) where
@@ -140,7 +154,8 @@ module _ (disk : Shape) (past : Past) (asker : ℕ) (before : List Call) (same_t
   wanted_lie : (action : Action) → MayAsk disk before asker action → AllByRecursion (LiesOn disk) (blocks_by disk past asker action)
   wanted_lie (Want first count) may =
       let cuts = cutting disk (terms_of past asker).block first count in
-      numbered_lie disk asker (terms_of past asker).weight (length (blocks_of past asker)) cuts (cuts_end disk (terms_of past asker).block first count (length (places disk)) may.3.inside)
+      numbered_lie disk asker (terms_of past asker).weight (length (blocks_of past asker)) cuts
+      (cuts_end disk (terms_of past asker).block first count (length (places disk)) may.3.inside)
   wanted_lie (Open kind weight block) may = tt
   wanted_lie (Abort first count) may = tt
   wanted_lie (Promote first count) may = tt
@@ -150,16 +165,20 @@ module _ (disk : Shape) (past : Past) (asker : ℕ) (before : List Call) (same_t
   wanted_lie (Segment first blocks age live) may = tt
 
   -- the segments of its task lie on the disk after it, and those of others
-  mine_lie : (action : Action) (now : List LogSegment) → MayAsk disk before asker action → (length (tasks past) ≤ asker → now ≡ []) → SegmentsLie disk (tasks past) asker now
+  mine_lie : (action : Action) (now : List LogSegment) → MayAsk disk before asker action → (length (tasks past) ≤ asker → now ≡ [])
+      → SegmentsLie disk (tasks past) asker now
       → SegmentsLie disk (opened_by action (tasks past)) asker (segment_by action now)
   mine_lie (Segment first blocks age live) now may none lie =
       let block = (allowed.terms_of before asker).block in
-      let same : (terms_of past asker).block ≡ block = ap (λ (tasks : List Terms). (slice_index_or tasks asker (record { kind = Plain; weight = 1; block = 1 })).block) same_tasks in
+      let same : (terms_of past asker).block ≡ block =
+      ap (λ (tasks : List Terms). (slice_index_or tasks asker (record { kind = Plain; weight = 1; block = 1 })).block) same_tasks in
       let lives = ap (λ n. n * block) may.5 in
       let range = may.2.inside in
       all_append (SegmentLies disk (terms_of past asker).block) now (_ ∷ []) lie
-      (subst (λ b. first + length live * b ≤ length (places disk)) (sym same) (subst (λ n. first + n ≤ length (places disk)) (sym lives) range), tt)
-  mine_lie (Open kind weight block) now may none lie = opened_lie disk (tasks past) (record { kind = kind; weight = weight; block = block }) asker now none lie
+      (subst (λ b. first + length live * b ≤ length (places disk)) (sym same) (subst (λ n. first + n ≤ length (places disk))
+      (sym lives) range), tt)
+  mine_lie (Open kind weight block) now may none lie =
+      opened_lie disk (tasks past) (record { kind = kind; weight = weight; block = block }) asker now none lie
   mine_lie (Want first count) now may none lie = lie
   mine_lie (Abort first count) now may none lie = lie
   mine_lie (Promote first count) now may none lie = lie
@@ -167,8 +186,10 @@ module _ (disk : Shape) (past : Past) (asker : ℕ) (before : List Call) (same_t
   mine_lie Resume now may none lie = lie
   mine_lie Close now may none lie = lie
 
-others_lie : (disk : Shape) (action : Action) (before : List Terms) (task : ℕ) (now : List LogSegment) → (length before ≤ task → now ≡ []) → SegmentsLie disk before task now → SegmentsLie disk (opened_by action before) task now
-others_lie disk (Open kind weight block) before task now none lie = opened_lie disk before (record { kind = kind; weight = weight; block = block }) task now none lie
+others_lie : (disk : Shape) (action : Action) (before : List Terms) (task : ℕ) (now : List LogSegment) → (length before ≤ task → now ≡ [])
+    → SegmentsLie disk before task now → SegmentsLie disk (opened_by action before) task now
+others_lie disk (Open kind weight block) before task now none lie =
+    opened_lie disk before (record { kind = kind; weight = weight; block = block }) task now none lie
 others_lie disk (Want first count) before task now none lie = lie
 others_lie disk (Abort first count) before task now none lie = lie
 others_lie disk (Promote first count) before task now none lie = lie
@@ -181,8 +202,11 @@ others_lie disk (Segment first blocks age live) before task now none lie = lie
 more_tasks : (action : Action) (before : List Terms) → length before ≤ length (opened_by action before)
 more_tasks action before = omega (arith, ap length (tasks_more action before), length-append before (terms_in action))
 
-still_none : (disk : Shape) (calls : List Call) (asker task opened : ℕ) (action : Action) (now : List LogSegment) → opened ≡ length (allowed.tasks calls) → MayAsk disk calls asker action → opened ≤ task → now ≡ [] → (asker == task) ≡ true → segment_by action now ≡ []
-still_none disk calls asker task opened (Segment first blocks age live) now are may beyond none same = absurd (omega (arith, may.0.opened, eqb-true asker task same))
+still_none : (disk : Shape) (calls : List Call) (asker task opened : ℕ) (action : Action) (now : List LogSegment)
+    → opened ≡ length (allowed.tasks calls) → MayAsk disk calls asker action → opened ≤ task → now ≡ [] → (asker == task) ≡ true
+    → segment_by action now ≡ []
+still_none disk calls asker task opened (Segment first blocks age live) now are may beyond none same =
+    absurd (omega (arith, may.0.opened, eqb-true asker task same))
 still_none disk calls asker task opened (Open kind weight block) now are may beyond none same = none
 still_none disk calls asker task opened (Want first count) now are may beyond none same = none
 still_none disk calls asker task opened (Abort first count) now are may beyond none same = none
@@ -191,7 +215,8 @@ still_none disk calls asker task opened Suspend now are may beyond none same = n
 still_none disk calls asker task opened Resume now are may beyond none same = none
 still_none disk calls asker task opened Close now are may beyond none same = none
 
-laid_called : (disk : Shape) (calls : List Call) (past : Past) (laid : IsLaid disk calls past) (call : Call) (more : List Call) → laid.rest ≡ call ∷ more → IsLaid disk calls (take_call disk past call)
+laid_called : (disk : Shape) (calls : List Call) (past : Past) (laid : IsLaid disk calls past) (call : Call) (more : List Call)
+    → laid.rest ≡ call ∷ more → IsLaid disk calls (take_call disk past call)
 laid_called disk calls past laid call more is =
     let may : AreAllowed disk (calls_of past) (call ∷ more) = subst (AreAllowed disk (calls_of past)) is laid.may in
     let same = tasks_called past in
@@ -199,13 +224,18 @@ laid_called disk calls past laid call more is =
       rest = more;
       whole = append_assoc (calls_of past) (call ∷ []) more ∙ ap (λ rest. calls_of past ++ rest) (sym is) ∙ laid.whole;
       may = may.2;
-      blocks = all_append (LiesOn disk) (registered past) (blocks_by disk past call.task call.action) laid.blocks (wanted_lie disk past call.task (calls_of past) same call.action may.1);
+      blocks = all_append (LiesOn disk) (registered past) (blocks_by disk past call.task call.action) laid.blocks
+          (wanted_lie disk past call.task (calls_of past) same call.action may.1);
       segments_lie = λ task. elim (cases_Bool (call.task == task)) [
-        | inl mine ↦ subst (λ t. SegmentsLie disk (opened_by call.action (tasks past)) t (if call.task == t then segment_by call.action (segments past t) else segments past t)) (eqb-true call.task task mine)
+        | inl mine ↦ subst (λ t. SegmentsLie disk (opened_by call.action (tasks past)) t
+            (if call.task == t then segment_by call.action (segments past t) else segments past t)) (eqb-true call.task task mine)
             (let self : (call.task == call.task) ≡ true = grind (arith, nat_tests) in
-            subst (λ b. SegmentsLie disk (opened_by call.action (tasks past)) call.task (if b then segment_by call.action (segments past call.task) else segments past call.task)) (sym self)
-            (mine_lie disk past call.task (calls_of past) same call.action (segments past call.task) may.1 (laid.unopened call.task) (laid.segments_lie call.task)))
-        | inr other ↦ subst (λ b. SegmentsLie disk (opened_by call.action (tasks past)) task (if b then segment_by call.action (segments past task) else segments past task)) (sym other)
+            subst (λ b. SegmentsLie disk (opened_by call.action (tasks past)) call.task
+            (if b then segment_by call.action (segments past call.task) else segments past call.task)) (sym self)
+            (mine_lie disk past call.task (calls_of past) same call.action (segments past call.task) may.1 (laid.unopened call.task)
+            (laid.segments_lie call.task)))
+        | inr other ↦ subst (λ b. SegmentsLie disk (opened_by call.action (tasks past)) task
+            (if b then segment_by call.action (segments past task) else segments past task)) (sym other)
             (others_lie disk call.action (tasks past) task (segments past task) (laid.unopened task) (laid.segments_lie task))
       ];
       unopened = λ task beyond.
@@ -213,22 +243,26 @@ laid_called disk calls past laid call more is =
           let none = laid.unopened task before in
           elim (cases_Bool (call.task == task)) [
             | inl mine ↦ ap (λ b. if b then segment_by call.action (segments past task) else segments past task) mine
-                ∙ still_none disk (calls_of past) call.task task (length (tasks past)) call.action (segments past task) (ap length same) may.1 before none mine
+                ∙ still_none disk (calls_of past) call.task task (length (tasks past)) call.action (segments past task)
+                (ap length same) may.1 before none mine
             | inr other ↦ ap (λ b. if b then segment_by call.action (segments past task) else segments past task) other ∙ none
           ];
     }
 
 -- ---- the calls of a decision are the next ones
 
-all_called : (disk : Shape) (calls due : List Call) (past : Past) (laid : IsLaid disk calls past) (more : List Call) → due ++ more ≡ laid.rest → IsLaid disk calls (fold (take_call disk) past due)
+all_called : (disk : Shape) (calls due : List Call) (past : Past) (laid : IsLaid disk calls past) (more : List Call)
+    → due ++ more ≡ laid.rest → IsLaid disk calls (fold (take_call disk) past due)
 unfolding laid_called
 all_called disk calls [] past laid more is = laid
-all_called disk calls (call ∷ due) past laid more is = all_called disk calls due (take_call disk past call) (laid_called disk calls past laid call (due ++ more) (sym is)) more refl
+all_called disk calls (call ∷ due) past laid more is =
+    all_called disk calls due (take_call disk past call) (laid_called disk calls past laid call (due ++ more) (sym is)) more refl
 
 -- ---- choices
 
 module _ (disk : Shape) (calls : List Call) where
-  laid_best : (task : ℕ) (past : Past) (left : List LogSegment) → IsLaid disk calls past → AllByRecursion (SegmentLies disk (terms_of past task).block) left → IsLaid disk calls (choose_best disk task past left)
+  laid_best : (task : ℕ) (past : Past) (left : List LogSegment) → IsLaid disk calls past
+      → AllByRecursion (SegmentLies disk (terms_of past task).block) left → IsLaid disk calls (choose_best disk task past left)
   laid_best task past [] laid lie = laid
   laid_best task past (segment ∷ left) laid lie =
       let best = best_of is_better segment left in
@@ -236,7 +270,8 @@ module _ (disk : Shape) (calls : List Call) where
       let blocks = next_blocks past task cuts in
       same_laid disk calls past (chose task best blocks ∷ past) blocks refl refl (λ t. refl) refl
       (numbered_lie disk task (terms_of past task).weight (length (blocks_of past task)) cuts
-      (live_end disk (terms_of past task).block best.first (length (places disk)) best.live (all_best (SegmentLies disk (terms_of past task).block) is_better segment left lie.0 lie.1))) laid
+      (live_end disk (terms_of past task).block best.first (length (places disk)) best.live
+      (all_best (SegmentLies disk (terms_of past task).block) is_better segment left lie.0 lie.1))) laid
 
   laid_once : (task : ℕ) (past : Past) → IsLaid disk calls past → IsLaid disk calls (choose_once disk task past)
   laid_once task past laid = by (is_busy (work past task))
@@ -244,7 +279,8 @@ module _ (disk : Shape) (calls : List Call) where
       by : (busy : Bool) → IsLaid disk calls (if busy then past else choose_best disk task past (unchosen (work past task)))
       by true = laid
       by false = laid_best task past (unchosen (work past task)) laid
-          (all_filter (SegmentLies disk (terms_of past task).block) (λ segment. not (is_chosen (work past task).choices segment)) (segments past task) (laid.segments_lie task))
+          (all_filter (SegmentLies disk (terms_of past task).block) (λ segment. not (is_chosen (work past task).choices segment))
+          (segments past task) (laid.segments_lie task))
 
   laid_up_to : (n task : ℕ) (past : Past) → IsLaid disk calls past → IsLaid disk calls (choose_up_to n disk task past)
   laid_up_to zero task past laid = laid
@@ -264,7 +300,14 @@ module _ (disk : Shape) (calls : List Call) where
 -- ---- decisions
 
 pub laid_first : (inputs : Inputs) → IsAccepted inputs → IsLaid inputs.disk.map inputs.calls []
-laid_first inputs accepted = record { rest = inputs.calls; whole = refl; may = accepted.calls; blocks = tt; segments_lie = λ task. tt; unopened = λ task beyond. refl }
+laid_first inputs accepted = record {
+  rest = inputs.calls;
+  whole = refl;
+  may = accepted.calls;
+  blocks = tt;
+  segments_lie = λ task. tt;
+  unopened = λ task beyond. refl;
+}
 
 -- what a run has registered so far lies on its disk
 abbrev pub AreLaid : Inputs → Past → Type 0
@@ -277,7 +320,8 @@ module _ (inputs : Inputs) (rising : IsRising (map (λ (call : Call). call.insta
       let now = instant_of decision in
       let due = calls_due inputs.calls past now in
       let next = due_first inputs.calls past now rising in
-      let is : due ++ next.0 ≡ laid.rest = sym next.1 ∙ ap (drop (length (calls_of past))) (sym laid.whole) ∙ drop-append_seam (calls_of past) laid.rest in
+      let is : due ++ next.0 ≡ laid.rest = sym next.1 ∙ ap (drop (length (calls_of past))) (sym laid.whole)
+      ∙ drop-append_seam (calls_of past) laid.rest in
       let after = fold (take_call inputs.disk.map) past due in
       laid_choices inputs.disk.map inputs.calls (task_numbers after) after (all_called inputs.disk.map inputs.calls due past laid next.0 is)
 
@@ -285,7 +329,8 @@ module _ (inputs : Inputs) (rising : IsRising (map (λ (call : Call). call.insta
   laid_deliveries past [] laid = laid
   laid_deliveries past (delivery ∷ deliveries) laid =
       laid_deliveries (with_delivery past delivery) deliveries
-      (laid_tested inputs.disk.map inputs.calls (delivered delivery.got ∷ past) (laid_delivered inputs.disk.map inputs.calls past laid delivery.got) delivery.after)
+      (laid_tested inputs.disk.map inputs.calls (delivered delivery.got ∷ past)
+      (laid_delivered inputs.disk.map inputs.calls past laid delivery.got) delivery.after)
 
   laid_finish : (past : Past) (decision : Decision) → AreLaid inputs past → AreLaid inputs (with_finish past decision)
   laid_finish past (serves served) laid = laid_finished inputs.disk.map inputs.calls past laid served.request
@@ -296,7 +341,8 @@ module _ (inputs : Inputs) (rising : IsRising (map (λ (call : Call). call.insta
   unfolding past_after
   laid_after past step laid = laid_finish (fold with_delivery (tested_past inputs past step) step.deliveries) (decision_in step)
       (laid_deliveries (tested_past inputs past step) step.deliveries
-      (laid_tested inputs.disk.map inputs.calls (chosen_past inputs past (decision_in step)) (laid_chosen past (decision_in step) laid) step.test))
+      (laid_tested inputs.disk.map inputs.calls (chosen_past inputs past (decision_in step))
+      (laid_chosen past (decision_in step) laid) step.test))
 
   -- the wanted blocks lie on the disk
   pub wanted_lies : (past : Past) → AreLaid inputs past → AllByRecursion (LiesOn inputs.disk.map) (wanted past)

@@ -1,5 +1,6 @@
 -- Lists that grow with the rows that were seen.
-use Rattle.std.proofs.Common.{◌≡◌, ℕ, zero, suc, ◌+◌, List, [], ◌∷◌, ◌++◌, map, take, drop, slice_get, Option, Some, refl, sym, ap, ◌∙◌, arith, append_assoc, append-nil}
+use Rattle.std.proofs.Common.{◌≡◌, ℕ, zero, suc, ◌+◌, List, [], ◌∷◌, ◌++◌, map, take, drop, slice_get, Option, Some, refl, sym, ap, ◌∙◌}
+use Rattle.std.proofs.Common.{arith, append_assoc, append-nil}
 use Rattle.std.specs.List.{flat_map}
 use Rattle.std.proofs.lemmas.Grind.{flat_map-append}
 use Rattle.std.proofs.lemmas.List.{drop_more, map-append, take_more}
@@ -14,23 +15,29 @@ use Rattle.fb_mirror.specs.Changes.{changes_in, changes_of}
 use Rattle.fb_mirror.specs.Replacement.{Event, sealed_by, sealed_in}
 
 -- the changes of the rows so far, and of the next row
-pub row_added : {X : Type 0} (f : X → List Event) (rows : List X) (i : ℕ) (row : X) (old now new : List Change) → slice_get rows i ≡ Some row
-    → now ≡ old ++ changes_of (flat_map f (take i rows)) → new ≡ now ++ changes_of (f row) → new ≡ old ++ changes_of (flat_map f (take (i + 1) rows))
+pub row_added : {X : Type 0} (f : X → List Event) (rows : List X) (i : ℕ) (row : X) (old now new : List Change)
+    → slice_get rows i ≡ Some row
+    → now ≡ old ++ changes_of (flat_map f (take i rows)) → new ≡ now ++ changes_of (f row)
+    → new ≡ old ++ changes_of (flat_map f (take (i + 1) rows))
 row_added f rows i row old now new is so_far added =
     let before = flat_map f (take i rows) in
-    let whole : flat_map f (take (i + 1) rows) ≡ before ++ f row = ap (flat_map f) (take_at rows i row is) ∙ flat_map-append f (take i rows) (row ∷ []) ∙ ap (λ es. before ++ es) (append-nil (f row)) in
+    let whole : flat_map f (take (i + 1) rows) ≡ before ++ f row = ap (flat_map f) (take_at rows i row is)
+    ∙ flat_map-append f (take i rows) (row ∷ []) ∙ ap (λ es. before ++ es) (append-nil (f row)) in
     added ∙ ap (λ cs. cs ++ changes_of (f row)) so_far ∙ append_assoc old (changes_of before) (changes_of (f row))
     ∙ ap (λ cs. old ++ cs) (sym (ap changes_of whole ∙ flat_map-append changes_in before (f row)))
 
-pub run_added : (f : ContentRun → Change) (runs : List ContentRun) (i : ℕ) (run : ContentRun) (old now new : List Change) → slice_get runs i ≡ Some run
+pub run_added : (f : ContentRun → Change) (runs : List ContentRun) (i : ℕ) (run : ContentRun) (old now new : List Change)
+    → slice_get runs i ≡ Some run
     → now ≡ old ++ map f (take i runs) → new ≡ now ++ f run ∷ [] → new ≡ old ++ map f (take (i + 1) runs)
 run_added f runs i run old now new is so_far added =
     added ∙ ap (λ cs. cs ++ f run ∷ []) so_far ∙ append_assoc old (map f (take i runs)) (f run ∷ [])
     ∙ ap (λ cs. old ++ cs) (sym (ap (map f) (take_at runs i run is) ∙ map-append f (take i runs) (run ∷ [])))
 
 -- a seal row ends the search for one, and any other row is passed over
-pub seal_found : (rows : List BackRow) (i : ℕ) (got : BackRow) (row : SealRow) → slice_get rows i ≡ Some got → got ≡ Seal row → sealed_in (drop i rows) ≡ sealed_in rows → Some row.instant ≡ sealed_in rows
-seal_found rows i got row is seal so_far = sym (ap sealed_in (drop_at rows i got is) ∙ ap (λ r. sealed_by r (sealed_in (drop (i + 1) rows))) seal) ∙ so_far
+pub seal_found : (rows : List BackRow) (i : ℕ) (got : BackRow) (row : SealRow) → slice_get rows i ≡ Some got → got ≡ Seal row
+    → sealed_in (drop i rows) ≡ sealed_in rows → Some row.instant ≡ sealed_in rows
+seal_found rows i got row is seal so_far =
+    sym (ap sealed_in (drop_at rows i got is) ∙ ap (λ r. sealed_by r (sealed_in (drop (i + 1) rows))) seal) ∙ so_far
 
 no_seal : (got : BackRow) (behind : Option ℕ) → ((row : SealRow) → got ≡ Seal row → ⊥) → sealed_by got behind ≡ behind
 no_seal (Gap row) behind other = refl
@@ -42,5 +49,7 @@ no_seal (Segment row) behind other = refl
 no_seal (Complete row) behind other = refl
 no_seal (Task row) behind other = refl
 
-pub seal_passed : (rows : List BackRow) (i : ℕ) (got : BackRow) → slice_get rows i ≡ Some got → ((row : SealRow) → got ≡ Seal row → ⊥) → sealed_in (drop i rows) ≡ sealed_in rows → sealed_in (drop (i + 1) rows) ≡ sealed_in rows
-seal_passed rows i got is other so_far = sym (ap sealed_in (drop_at rows i got is) ∙ no_seal got (sealed_in (drop (i + 1) rows)) other) ∙ so_far
+pub seal_passed : (rows : List BackRow) (i : ℕ) (got : BackRow) → slice_get rows i ≡ Some got → ((row : SealRow) → got ≡ Seal row → ⊥)
+    → sealed_in (drop i rows) ≡ sealed_in rows → sealed_in (drop (i + 1) rows) ≡ sealed_in rows
+seal_passed rows i got is other so_far =
+    sym (ap sealed_in (drop_at rows i got is) ∙ no_seal got (sealed_in (drop (i + 1) rows)) other) ∙ so_far

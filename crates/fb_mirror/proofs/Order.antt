@@ -1,5 +1,6 @@
 -- Changes that are sorted by their instants, those of one instant in their order.
-use Rattle.std.proofs.Common.{◌≡◌, ℕ, suc, ◌+◌, ◌<◌, ◌≤◌, List, [], ◌∷◌, ◌++◌, map, length, get_or, Option, Some, None, Bool, true, false, cond, refl, sym, ap, ◌∙◌, arith, inl, inr, subst}
+use Rattle.std.proofs.Common.{◌≡◌, ℕ, suc, ◌+◌, ◌<◌, ◌≤◌, List, [], ◌∷◌, ◌++◌, map, length, get_or, Option, Some, None, Bool, true, false}
+use Rattle.std.proofs.Common.{cond, refl, sym, ap, ◌∙◌, arith, inl, inr, subst}
 use Rattle.std.specs.Prelude.{nat_lt, filter}
 use Rattle.std.specs.Option.{option_map}
 use Rattle.std.specs.Ordering.{is_lt, nat_cmp}
@@ -43,7 +44,8 @@ abbrev Fits : ℕ → Option (ℕ × Content) → Option (ℕ × Content) → Ty
 Fits instant None there = there ≡ None
 Fits instant (Some last) there = (last.0 < instant → there ≡ None) × (last.0 ≡ instant → there ≡ Some last)
 
-fits_here : (instant : ℕ) (first : ℕ × Content) (all there : Option (ℕ × Content)) → first.0 ≡ instant → Fits instant all there → Fits instant (later (Some first) all) (later (Some first) there)
+fits_here : (instant : ℕ) (first : ℕ × Content) (all there : Option (ℕ × Content)) → first.0 ≡ instant → Fits instant all there
+    → Fits instant (later (Some first) all) (later (Some first) there)
 fits_here instant first None there at fits = rw fits (λ less. absurd (omega arith), λ same. refl)
 fits_here instant first (Some last) there at fits = elim (cases_Bool (nat_lt last.0 first.0)) [
   | inl less ↦
@@ -51,10 +53,14 @@ fits_here instant first (Some last) there at fits = elim (cases_Bool (nat_lt las
       rw (less, fits.0 before) (λ below. absurd (omega arith), λ same. refl)
   | inr more ↦
       let behind : first.0 ≤ last.0 = grind (arith, nat_tests) in
-      rw more (λ below. absurd (omega arith), λ same. ap (later (Some first)) (fits.1 same) ∙ ap (λ b. cond b (Some first) (Some last)) more)
+      rw more (
+        λ below. absurd (omega arith),
+        λ same. ap (later (Some first)) (fits.1 same) ∙ ap (λ b. cond b (Some first) (Some last)) more,
+      )
 ]
 
-fits_there : (instant : ℕ) (first : ℕ × Content) (all there : Option (ℕ × Content)) → (first.0 ≡ instant → ⊥) → Fits instant all there → Fits instant (later (Some first) all) there
+fits_there : (instant : ℕ) (first : ℕ × Content) (all there : Option (ℕ × Content)) → (first.0 ≡ instant → ⊥) → Fits instant all there
+    → Fits instant (later (Some first) all) there
 fits_there instant first None there other fits = (λ less. fits, λ same. absurd (other same))
 fits_there instant first (Some last) there other fits = elim (cases_Bool (nat_lt last.0 first.0)) [
   | inl less ↦
@@ -63,12 +69,14 @@ fits_there instant first (Some last) there other fits = elim (cases_Bool (nat_lt
   | inr more ↦ rw more fits
 ]
 
-fits_with : (instant : ℕ) (change : Change) (content : Option Content) (all there : Option (ℕ × Content)) → change.instant ≡ instant → Fits instant all there
+fits_with : (instant : ℕ) (change : Change) (content : Option Content) (all there : Option (ℕ × Content)) → change.instant ≡ instant
+    → Fits instant all there
     → Fits instant (later (dated change.instant content) all) (later (dated change.instant content) there)
 fits_with instant change None all there at fits = fits
 fits_with instant change (Some c) all there at fits = fits_here instant (change.instant, c) all there at fits
 
-fits_without : (instant : ℕ) (change : Change) (content : Option Content) (all there : Option (ℕ × Content)) → (change.instant ≡ instant → ⊥) → Fits instant all there
+fits_without : (instant : ℕ) (change : Change) (content : Option Content) (all there : Option (ℕ × Content))
+    → (change.instant ≡ instant → ⊥) → Fits instant all there
     → Fits instant (later (dated change.instant content) all) there
 fits_without instant change None all there other fits = fits
 fits_without instant change (Some c) all there other fits = fits_there instant (change.instant, c) all there other fits
@@ -85,7 +93,8 @@ all_fit lbn instant (change ∷ changes) =
     ]
 
 -- two that fit the same are the same
-both_fit : (a b : Option (ℕ × Content)) (there : ℕ → Option (ℕ × Content)) → ((instant : ℕ) → Fits instant a (there instant)) → ((instant : ℕ) → Fits instant b (there instant)) → a ≡ b
+both_fit : (a b : Option (ℕ × Content)) (there : ℕ → Option (ℕ × Content)) → ((instant : ℕ) → Fits instant a (there instant))
+    → ((instant : ℕ) → Fits instant b (there instant)) → a ≡ b
 both_fit None None there one other = refl
 both_fit None (Some b) there one other = sym (one b.0) ∙ (other b.0).1 refl
 both_fit (Some a) None there one other = sym ((one a.0).1 refl) ∙ other a.0
@@ -110,7 +119,8 @@ abbrev AtLeast : ℕ → Option (ℕ × Content) → Type 0
 AtLeast instant None = Unit {0}
 AtLeast instant (Some last) = instant ≤ last.0
 
-later_at_least : (instant : ℕ) (change : Change) (content : Option Content) (rest : Option (ℕ × Content)) → instant ≤ change.instant → AtLeast instant rest → AtLeast instant (later (dated change.instant content) rest)
+later_at_least : (instant : ℕ) (change : Change) (content : Option Content) (rest : Option (ℕ × Content)) → instant ≤ change.instant
+    → AtLeast instant rest → AtLeast instant (later (dated change.instant content) rest)
 later_at_least instant change None rest le above = above
 later_at_least instant change (Some c) None le above = le
 later_at_least instant change (Some c) (Some last) le above = elim (cases_Bool (nat_lt last.0 change.instant)) [
@@ -118,12 +128,15 @@ later_at_least instant change (Some c) (Some last) le above = elim (cases_Bool (
   | inr more ↦ rw more above
 ]
 
-latest_at_least : (lbn instant : ℕ) (changes : List Change) → ((j : ℕ) (d : Change) → j < length changes → instant ≤ (get_or changes j d).instant) → AtLeast instant (latest lbn changes)
+latest_at_least : (lbn instant : ℕ) (changes : List Change)
+    → ((j : ℕ) (d : Change) → j < length changes → instant ≤ (get_or changes j d).instant) → AtLeast instant (latest lbn changes)
 latest_at_least lbn instant [] all = tt
 latest_at_least lbn instant (change ∷ changes) all =
-    later_at_least instant change (own lbn change) (latest lbn changes) (all 0 change (omega arith)) (latest_at_least lbn instant changes (λ j d less. all (suc j) d (omega arith)))
+    later_at_least instant change (own lbn change) (latest lbn changes) (all 0 change (omega arith))
+    (latest_at_least lbn instant changes (λ j d less. all (suc j) d (omega arith)))
 
-last_over : (instant : ℕ) (content : Option Content) (rest : Option (ℕ × Content)) → AtLeast instant rest → over (option_map (λ last. last.1) rest) content ≡ option_map (λ last. last.1) (later (dated instant content) rest)
+last_over : (instant : ℕ) (content : Option Content) (rest : Option (ℕ × Content)) → AtLeast instant rest
+    → over (option_map (λ last. last.1) rest) content ≡ option_map (λ last. last.1) (later (dated instant content) rest)
 last_over instant None None above = refl
 last_over instant (Some c) None above = refl
 last_over instant None (Some last) above = refl
@@ -138,29 +151,35 @@ last_decides lbn (change ∷ changes) up =
     after_taking-append (sectors_in change.run) (sectors_of runs) lbn None
     ∙ taken_over (sectors_of runs) lbn (own lbn change)
     ∙ ap (λ top. over top (own lbn change)) (last_decides lbn changes (λ i j d le less. up (suc i) (suc j) d (omega arith) (omega arith)))
-    ∙ last_over change.instant (own lbn change) (latest lbn changes) (latest_at_least lbn change.instant changes (λ j d less. up 0 (suc j) d (omega arith) (omega arith)))
+    ∙ last_over change.instant (own lbn change) (latest lbn changes)
+    (latest_at_least lbn change.instant changes (λ j d less. up 0 (suc j) d (omega arith) (omega arith)))
 
 -- what sorted changes leave is what decides of them all
-pub sorted_decide : (lbn : ℕ) (xs ys : List Change) → IsStableByKey (λ change. change.instant) nat_cmp xs ys → IsNonDecreasingBy (λ change. change.instant) ys
+pub sorted_decide : (lbn : ℕ) (xs ys : List Change) → IsStableByKey (λ change. change.instant) nat_cmp xs ys
+    → IsNonDecreasingBy (λ change. change.instant) ys
     → after_taking (sectors_of (map (λ change. change.run) ys)) lbn None ≡ option_map (λ last. last.1) (latest lbn xs)
 sorted_decide lbn xs ys stable up = last_decides lbn ys up ∙ ap (option_map (λ last. last.1)) (stable_latest lbn xs ys stable)
 
 abbrev pub Ends : ℕ → Change → Type 0
 Ends end change = change.run.first + change.run.count ≤ end
 
-ends_append : (end : ℕ) (xs ys : List Change) → AllByRecursion (Ends end) xs → AllByRecursion (Ends end) ys → AllByRecursion (Ends end) (xs ++ ys)
+ends_append : (end : ℕ) (xs ys : List Change) → AllByRecursion (Ends end) xs → AllByRecursion (Ends end) ys
+    → AllByRecursion (Ends end) (xs ++ ys)
 ends_append end [] ys one other = other
 ends_append end (x ∷ xs) ys one other = (one.0, ends_append end xs ys one.1 other)
 
-ends_event : (end instant : ℕ) (runs : List ContentRun) → AllByRecursion (λ run. run.first + run.count ≤ end) runs → AllByRecursion (Ends end) (map (λ run. record { instant = instant; run = run }) runs)
+ends_event : (end instant : ℕ) (runs : List ContentRun) → AllByRecursion (λ run. run.first + run.count ≤ end) runs
+    → AllByRecursion (Ends end) (map (λ run. record { instant = instant; run = run }) runs)
 ends_event end instant [] all = tt
 ends_event end instant (run ∷ runs) all = (all.0, ends_event end instant runs all.1)
 
 ends_changes : (end : ℕ) (events : List Event) → AllByRecursion (IsWithin end) events → AllByRecursion (Ends end) (changes_of events)
 ends_changes end [] all = tt
-ends_changes end (event ∷ events) all = ends_append end (changes_in event) (changes_of events) (ends_event end event.instant event.contents all.0) (ends_changes end events all.1)
+ends_changes end (event ∷ events) all = ends_append end (changes_in event) (changes_of events)
+    (ends_event end event.instant event.contents all.0) (ends_changes end events all.1)
 
-ends_runs : (end : ℕ) (changes : List Change) → AllByRecursion (Ends end) changes → AllByRecursion (λ run. run.first + run.count ≤ end) (map (λ change. change.run) changes)
+ends_runs : (end : ℕ) (changes : List Change) → AllByRecursion (Ends end) changes
+    → AllByRecursion (λ run. run.first + run.count ≤ end) (map (λ change. change.run) changes)
 ends_runs end [] all = tt
 ends_runs end (change ∷ changes) all = (all.0, ends_runs end changes all.1)
 
@@ -171,6 +190,7 @@ sorted_ends end events ys moved all =
     let each = All-from_recursion (Ends end) (changes_of events) (ends_changes end events all) in
     recursion_from_All (Ends end) ys (All-permutation (Ends end) (changes_of events) ys moved each)
 
-pub sorted_within : (end : ℕ) (events : List Event) (ys : List Change) → IsPermutation (changes_of events) ys → AllByRecursion (IsWithin end) events
+pub sorted_within : (end : ℕ) (events : List Event) (ys : List Change) → IsPermutation (changes_of events) ys
+    → AllByRecursion (IsWithin end) events
     → AllByRecursion (λ run. run.first + run.count ≤ end) (map (λ change. change.run) ys)
 sorted_within end events ys moved all = ends_runs end ys (sorted_ends end events ys moved all)

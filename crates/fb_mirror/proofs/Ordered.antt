@@ -1,5 +1,6 @@
 -- Decisions follow one another, and so do the deliveries of each.
-use Rattle.std.proofs.Common.{◌≡◌, ℕ, zero, suc, ◌+◌, ◌-◌, ◌<◌, ◌≤◌, max, List, [], ◌∷◌, ◌++◌, map, Bool, true, false, sym, subst, arith, inl, inr, nat_le}
+use Rattle.std.proofs.Common.{◌≡◌, ℕ, zero, suc, ◌+◌, ◌-◌, ◌<◌, ◌≤◌, max, List, [], ◌∷◌, ◌++◌, map, Bool, true, false, sym, subst, arith}
+use Rattle.std.proofs.Common.{inl, inr, nat_le}
 use Rattle.std.specs.Prelude.{filter, nat_lt, not, ◌==◌, if◌then◌else◌}
 use Rattle.std.specs.List.{AllByRecursion, fold}
 use Rattle.std.proofs.lemmas.Bool.{cases_Bool}
@@ -21,7 +22,8 @@ use Rattle.fb_rows.specs.declared.back.DeliveryRow.{DeliveryRow}
 use Rattle.fb_model.specs.PlainReplay.{Served, finish, last_track, media}
 use Rattle.fb_model.specs.Content.{contents_at, Medium}
 use Rattle.fb_model.specs.Plans.{IsPlan, block_begin, block_end, catches, early_dwell, late_dwell}
-use Rattle.fb_model.specs.Decisions.{Decision, serves, Act, serving, idling, ending, decision_of, decisions_from, end_of, idle_until, instant_of, last_decision}
+use Rattle.fb_model.specs.Decisions.{Decision, serves, Act, serving, idling, ending, decision_of, decisions_from, end_of, idle_until}
+use Rattle.fb_model.specs.Decisions.{instant_of, last_decision}
 use Rattle.fb_model.specs.Rides.{begin_at, caught, delivery, due, end_at, gap_of, in_order, is_before, lies_in, missed, placed, rides}
 use Rattle.fb_model.specs.SoundRun.{HasPlan}
 use Rattle.fb_model.proofs.Lists.{all_both}
@@ -39,15 +41,22 @@ use Rattle.fb_mirror.proofs.Writing.{AreServed, free_within}
 -- each begins when the one before it has ended, and is over by its end
 abbrev pub AreInTurn : ℕ → List Decision → Type 0
 AreInTurn now [] = Unit {0}
-AreInTurn now (decision ∷ decisions) = (now ≤ instant_of decision) × (instant_of decision ≤ quiet_until decision) × (quiet_until decision ≤ end_of decision) × AreInTurn (end_of decision) decisions
+AreInTurn now (decision ∷ decisions) = (now ≤ instant_of decision) × (instant_of decision ≤ quiet_until decision)
+    × (quiet_until decision ≤ end_of decision) × AreInTurn (end_of decision) decisions
 
-idle_in_turn : (head : Track) (now : ℕ) (instants : List ℕ) (decisions : List Decision) → AreInTurn (fold max now instants) decisions → AreInTurn now (idle_until head now instants ++ decisions)
+idle_in_turn : (head : Track) (now : ℕ) (instants : List ℕ) (decisions : List Decision) → AreInTurn (fold max now instants) decisions
+    → AreInTurn now (idle_until head now instants ++ decisions)
 idle_in_turn head now [] decisions turns = turns
 idle_in_turn head now (x ∷ instants) decisions turns = elim (cases_Bool (nat_lt now x)) [
   | inl before ↦
       let less : now < x = grind (arith, nat_tests) in
       let on : max now x ≡ x = omega arith in
-      rw before (omega arith, omega arith, omega arith, idle_in_turn head x instants decisions (subst (λ at. AreInTurn (fold max at instants) decisions) on turns))
+      rw before (
+        omega arith,
+        omega arith,
+        omega arith,
+        idle_in_turn head x instants decisions (subst (λ at. AreInTurn (fold max at instants) decisions) on turns),
+      )
   | inr passed ↦
       let more : x ≤ now = grind (arith, nat_tests) in
       let on : max now x ≡ now = omega arith in
@@ -64,14 +73,21 @@ greatest_by : (now bound : ℕ) (instants : List ℕ) → now ≤ bound → AllB
 greatest_by now bound [] by all = by
 greatest_by now bound (x ∷ instants) by all = greatest_by (max now x) bound instants (let here = all.0 in omega arith) all.1
 
-pub decisions_in_turn : (disk : Disk) (instants : List ℕ) (until : ℕ) (head : Track) (now : ℕ) (replay : List Served) → AreServed disk now replay → AreInTurn now (decisions_from disk instants until head now replay)
+pub decisions_in_turn : (disk : Disk) (instants : List ℕ) (until : ℕ) (head : Track) (now : ℕ) (replay : List Served)
+    → AreServed disk now replay → AreInTurn now (decisions_from disk instants until head now replay)
 unfolding decisions_from
-decisions_in_turn disk instants until head now [] are = idle_in_turn head now instants (last_decision head (fold max now instants) until ∷ []) (last_in_turn head (fold max now instants) (fold max now instants) until (omega arith))
+decisions_in_turn disk instants until head now [] are = idle_in_turn head now instants (last_decision head (fold max now instants) until
+    ∷ []) (last_in_turn head (fold max now instants) (fold max now instants) until (omega arith))
 decisions_in_turn disk instants until head now (served ∷ later) are =
     let front = filter (λ instant. nat_le instant served.start) instants in
     let within = free_within disk served are.1 are.2 in
     idle_in_turn head now front (serves served ∷ decisions_from disk instants until (last_track disk served) (finish served) later)
-    (greatest_by now served.start front are.0 (kept_by served.start instants), within.0, within.1, decisions_in_turn disk instants until (last_track disk served) (finish served) later are.3)
+    (
+      greatest_by now served.start front are.0 (kept_by served.start instants),
+      within.0,
+      within.1,
+      decisions_in_turn disk instants until (last_track disk served) (finish served) later are.3,
+    )
 
 -- ---- deliveries
 
@@ -100,61 +116,81 @@ ascend_placed a (first ∷ rows) row from up = elim (cases_Bool (is_before row.e
   | inr behind ↦ rw behind (up.0, ascend_placed first.end rows row (not_before_end row.end row.block first.end first.block behind) up.1)
 ]
 
-ascend_ordered : (a : ℕ) (rows before : List DeliveryRow) → AllByRecursion (λ (row : DeliveryRow). a ≤ row.end) rows → Ascend a before → Ascend a (fold placed before rows)
+ascend_ordered : (a : ℕ) (rows before : List DeliveryRow) → AllByRecursion (λ (row : DeliveryRow). a ≤ row.end) rows → Ascend a before
+    → Ascend a (fold placed before rows)
 ascend_ordered a [] before from up = up
 ascend_ordered a (row ∷ rows) before from up = ascend_ordered a rows (placed before row) from.1 (ascend_placed a before row from.0 up)
 
 caught_ascend : (medium : Medium) (how : How) (dwell : Dwell) (blocks : List Block) → AllByRecursion HasSector blocks
     → Ascend dwell.begin (caught medium.disk (contents_at medium) how dwell blocks)
 caught_ascend medium how dwell blocks all = ascend_ordered dwell.begin
-    (map (λ block. delivery (contents_at medium) how block (block_begin medium.disk.map block dwell.begin) (block_end medium.disk.map block dwell.begin)) (filter (catches medium.disk dwell) blocks)) []
-    (all_filtered (λ (row : DeliveryRow). dwell.begin ≤ row.end) HasSector (catches medium.disk dwell) (λ block. delivery (contents_at medium) how block (block_begin medium.disk.map block dwell.begin) (block_end medium.disk.map block dwell.begin))
-    (λ block some is. let later = begins_later medium.disk block dwell.begin in let behind = ends_behind medium.disk block dwell.begin in omega (arith, later, behind)) blocks all) tt
+    (map (λ block. delivery (contents_at medium) how block (block_begin medium.disk.map block dwell.begin)
+    (block_end medium.disk.map block dwell.begin)) (filter (catches medium.disk dwell) blocks)) []
+    (all_filtered (λ (row : DeliveryRow). dwell.begin ≤ row.end) HasSector (catches medium.disk dwell) (λ block.
+    delivery (contents_at medium) how block (block_begin medium.disk.map block dwell.begin) (block_end medium.disk.map block dwell.begin))
+    (λ block some is. let later = begins_later medium.disk block dwell.begin in let behind = ends_behind medium.disk block dwell.begin in
+    omega (arith, later, behind)) blocks all) tt
 
 caught_by : (medium : Medium) (how : How) (dwell : Dwell) (blocks : List Block) → AllByRecursion HasSector blocks
     → EndBy dwell.end (caught medium.disk (contents_at medium) how dwell blocks)
-caught_by medium how dwell blocks all = all_weaker (IsCaughtIn medium.disk (contents_at medium) how dwell HasSector) (λ (row : DeliveryRow). row.end ≤ dwell.end)
+caught_by medium how dwell blocks all =
+    all_weaker (IsCaughtIn medium.disk (contents_at medium) how dwell HasSector) (λ (row : DeliveryRow). row.end ≤ dwell.end)
     (λ row is. let end = is.end in let in_time = ends_in_time medium.disk dwell row.block is.caught in omega (arith, end, in_time))
     (caught medium.disk (contents_at medium) how dwell blocks) (caught_true medium.disk (contents_at medium) how dwell HasSector blocks all)
 
 -- no sector of a service has passed before the service's media
-sector_end : (disk : Disk) (source : Track) (now : ℕ) (write : Bool) (lbn n m x : ℕ) → lbn ≤ x → x < lbn + n → AllByRecursion (λ (p : Passage). m ≤ p.end) (passages disk source now write lbn n) → m ≤ end_at (passages disk source now write lbn n) x
+sector_end : (disk : Disk) (source : Track) (now : ℕ) (write : Bool) (lbn n m x : ℕ)
+    → lbn ≤ x → x < lbn + n → AllByRecursion (λ (p : Passage). m ≤ p.end) (passages disk source now write lbn n)
+    → m ≤ end_at (passages disk source now write lbn n) x
 unfolding passages
 sector_end disk source now write lbn zero m x from to all = absurd (omega arith)
 sector_end disk source now write lbn (suc n) m x from to all = elim (cases_Bool (lbn == x)) [
   | inl here ↦ rw here (all.0)
-  | inr behind ↦ rw behind (sector_end disk (track_at disk.map lbn) (passage_from disk.map lbn (now + pos disk.mechanism source (track_at disk.map lbn) write)).end write (lbn + 1) n m x (grind (arith, nat_tests)) (omega arith) all.1)
+  | inr behind ↦ rw behind (sector_end disk (track_at disk.map lbn) (passage_from disk.map lbn (now
+      + pos disk.mechanism source (track_at disk.map lbn) write)).end write (lbn + 1) n m x (grind (arith, nat_tests)) (omega arith) all.1)
 ]
 
-ride_end : (disk : Disk) (served : Served) (block : Block) → IsServiceOf disk served → HasSector block → lies_in served.request block ≡ true → media served ≤ end_at served.passages (block.lbn + block.count - 1)
+ride_end : (disk : Disk) (served : Served) (block : Block) → IsServiceOf disk served → HasSector block → lies_in served.request block ≡ true
+    → media served ≤ end_at served.passages (block.lbn + block.count - 1)
 ride_end disk served block is some lies =
     let from : served.request.lbn ≤ block.lbn = grind (arith, nat_tests) in
     let to : block.lbn + block.count ≤ served.request.lbn + served.request.count = grind (arith, nat_tests) in
     let ps = passages disk served.source served.start served.request.write served.request.lbn served.request.count in
     subst (λ (s : Served). media_of s.passages ≤ end_at s.passages (block.lbn + block.count - 1)) (sym is)
-    (sector_end disk served.source served.start served.request.write served.request.lbn served.request.count (media_of ps) (block.lbn + block.count - 1) (omega arith) (omega arith)
-    (all_weaker _ _ (λ (p : Passage) h. omega (arith, h.0, h.1.1)) ps (all_both _ _ ps (begun_after disk served.source served.start served.request.write served.request.lbn served.request.count)
+    (sector_end disk served.source served.start served.request.write served.request.lbn served.request.count (media_of ps)
+    (block.lbn + block.count - 1) (omega arith) (omega arith)
+    (all_weaker _ _ (λ (p : Passage) h. omega (arith, h.0, h.1.1)) ps
+    (all_both _ _ ps (begun_after disk served.source served.start served.request.write served.request.lbn served.request.count)
     (passed_between disk served.source served.start served.request.write served.request.lbn served.request.count).1)))
 
 rides_ascend : (medium : Medium) (served : Served) (blocks : List Block) → IsServiceOf medium.disk served
     → AllByRecursion HasSector blocks → Ascend (media served) (rides (contents_at medium) served blocks)
 rides_ascend medium served blocks is all = by served.request.write
   where
-    by : (write : Bool) → Ascend (media served) (if write then [] else in_order (map (λ block. delivery (contents_at medium) ByRide block (begin_at served.passages block.lbn) (end_at served.passages (block.lbn + block.count - 1))) (filter (lies_in served.request) blocks)))
+    by : (write : Bool) → Ascend (media served) (if write
+        then [] else in_order (map (λ block. delivery (contents_at medium) ByRide block (begin_at served.passages block.lbn)
+        (end_at served.passages (block.lbn + block.count - 1))) (filter (lies_in served.request) blocks)))
     by true = tt
-    by false = ascend_ordered (media served) (map (λ block. delivery (contents_at medium) ByRide block (begin_at served.passages block.lbn) (end_at served.passages (block.lbn + block.count - 1))) (filter (lies_in served.request) blocks)) []
-        (all_filtered (λ (row : DeliveryRow). media served ≤ row.end) HasSector (lies_in served.request) (λ block. delivery (contents_at medium) ByRide block (begin_at served.passages block.lbn) (end_at served.passages (block.lbn + block.count - 1)))
+    by false = ascend_ordered (media served) (map (λ block. delivery (contents_at medium) ByRide block (begin_at served.passages block.lbn)
+        (end_at served.passages (block.lbn + block.count - 1))) (filter (lies_in served.request) blocks)) []
+        (all_filtered (λ (row : DeliveryRow). media served ≤ row.end) HasSector (lies_in served.request) (λ block. delivery
+        (contents_at medium) ByRide block (begin_at served.passages block.lbn) (end_at served.passages (block.lbn + block.count - 1)))
         (λ block some lies. ride_end medium.disk served block is some lies) blocks all) tt
 
 -- the early dwell, then the late one
 dwells_in_turn : (disk : Disk) (served : Served) (plan : Plan) → IsPlan disk (gap_of disk served) plan
-    → (served.start ≤ (early_dwell disk (gap_of disk served) plan).begin) × ((early_dwell disk (gap_of disk served) plan).begin ≤ (early_dwell disk (gap_of disk served) plan).end)
-    × ((early_dwell disk (gap_of disk served) plan).end ≤ (late_dwell disk (gap_of disk served) plan).begin) × ((late_dwell disk (gap_of disk served) plan).begin ≤ media served) × ((late_dwell disk (gap_of disk served) plan).end ≡ media served)
-dwells_in_turn disk served (Direct leave) is = let now = is.0 in let in_time = is.1 in (omega arith, omega arith, omega arith, omega arith, omega arith)
-dwells_in_turn disk served (Detour track leave) is = let after = is.after_arrival in let in_time = is.in_time in (omega arith, omega arith, omega arith, omega arith, omega arith)
+    → (served.start ≤ (early_dwell disk (gap_of disk served) plan).begin)
+    × ((early_dwell disk (gap_of disk served) plan).begin ≤ (early_dwell disk (gap_of disk served) plan).end)
+    × ((early_dwell disk (gap_of disk served) plan).end ≤ (late_dwell disk (gap_of disk served) plan).begin)
+    × ((late_dwell disk (gap_of disk served) plan).begin ≤ media served) × ((late_dwell disk (gap_of disk served) plan).end ≡ media served)
+dwells_in_turn disk served (Direct leave) is = let now = is.0 in let in_time = is.1 in
+    (omega arith, omega arith, omega arith, omega arith, omega arith)
+dwells_in_turn disk served (Detour track leave) is = let after = is.after_arrival in let in_time = is.in_time in
+    (omega arith, omega arith, omega arith, omega arith, omega arith)
 
 -- what is due at a decision is delivered one after another
-pub due_ascends : (medium : Medium) (act : Act) (wanted : List Block) → IsOfDisk medium.disk (decision_of act) → HasPlan medium.disk act → AllByRecursion HasSector wanted
+pub due_ascends : (medium : Medium) (act : Act) (wanted : List Block) → IsOfDisk medium.disk (decision_of act) → HasPlan medium.disk act
+    → AllByRecursion HasSector wanted
     → Ascend (instant_of (decision_of act)) (due medium.disk (contents_at medium) act wanted)
 unfolding due
 due_ascends medium (serving served plan) wanted of_disk is all =
@@ -167,13 +203,20 @@ due_ascends medium (serving served plan) wanted of_disk is all =
     let turns = dwells_in_turn medium.disk served plan is in
     let first_by = caught_by medium ByGap early wanted all in
     let second_by = caught_by medium ByGap late left left_all in
-    let first = ascend_from served.start early.begin (caught medium.disk (contents_at medium) ByGap early wanted) turns.0 (caught_ascend medium ByGap early wanted all) in
-    let second = ascend_from early.end late.begin (caught medium.disk (contents_at medium) ByGap late left) turns.2 (caught_ascend medium ByGap late left left_all) in
-    ascend_append served.start (media served) (caught medium.disk (contents_at medium) ByGap early wanted ++ caught medium.disk (contents_at medium) ByGap late left) (rides (contents_at medium) served last)
-    (ascend_append served.start early.end (caught medium.disk (contents_at medium) ByGap early wanted) (caught medium.disk (contents_at medium) ByGap late left) first first_by (omega (arith, turns.0, turns.1)) second)
-    (all_append (λ (row : DeliveryRow). row.end ≤ media served) (caught medium.disk (contents_at medium) ByGap early wanted) (caught medium.disk (contents_at medium) ByGap late left)
-    (all_weaker _ _ (λ (row : DeliveryRow) h. omega (arith, h, turns.2, turns.3)) (caught medium.disk (contents_at medium) ByGap early wanted) first_by)
-    (all_weaker _ _ (λ (row : DeliveryRow) h. omega (arith, h, turns.4)) (caught medium.disk (contents_at medium) ByGap late left) second_by))
+    let first = ascend_from served.start early.begin (caught medium.disk
+    (contents_at medium) ByGap early wanted) turns.0 (caught_ascend medium ByGap early wanted all) in
+    let second = ascend_from early.end late.begin (caught medium.disk
+    (contents_at medium) ByGap late left) turns.2 (caught_ascend medium ByGap late left left_all) in
+    ascend_append served.start (media served) (caught medium.disk (contents_at medium) ByGap early wanted
+    ++ caught medium.disk (contents_at medium) ByGap late left) (rides (contents_at medium) served last)
+    (ascend_append served.start early.end (caught medium.disk (contents_at medium) ByGap early wanted)
+    (caught medium.disk (contents_at medium) ByGap late left) first first_by (omega (arith, turns.0, turns.1)) second)
+    (all_append (λ (row : DeliveryRow). row.end ≤ media served) (caught medium.disk (contents_at medium) ByGap early wanted)
+    (caught medium.disk (contents_at medium) ByGap late left)
+    (all_weaker _ _ (λ (row : DeliveryRow) h. omega (arith, h, turns.2, turns.3))
+    (caught medium.disk (contents_at medium) ByGap early wanted) first_by)
+    (all_weaker _ _ (λ (row : DeliveryRow) h. omega (arith, h, turns.4))
+    (caught medium.disk (contents_at medium) ByGap late left) second_by))
     (omega (arith, turns.0, turns.1, turns.2, turns.3))
     (rides_ascend medium served last of_disk.0 last_all)
 due_ascends medium (idling dwell) wanted of_disk is all = caught_ascend medium _ dwell wanted all

@@ -8,14 +8,16 @@ abbrev pub over : Option Content → Option Content → Option Content
 over None before = before
 over (Some content) before = Some content
 
-one_over : (here : Bool) (content : Content) (top before : Option Content) → over top (cond here (Some content) before) ≡ over (over top (cond here (Some content) None)) before
+one_over : (here : Bool) (content : Content) (top before : Option Content)
+    → over top (cond here (Some content) before) ≡ over (over top (cond here (Some content) None)) before
 one_over true content None before = refl
 one_over true content (Some other) before = refl
 one_over false content None before = refl
 one_over false content (Some other) before = refl
 
 -- what is taken stands over what was held before
-pub taken_over : (sectors : List (ℕ × Content)) (lbn : ℕ) (before : Option Content) → after_taking sectors lbn before ≡ over (after_taking sectors lbn None) before
+pub taken_over : (sectors : List (ℕ × Content)) (lbn : ℕ) (before : Option Content)
+    → after_taking sectors lbn before ≡ over (after_taking sectors lbn None) before
 taken_over [] lbn before = refl
 taken_over (sector ∷ sectors) lbn before =
     let here = sector.0 == lbn in

@@ -1,5 +1,6 @@
 -- What the replacement of a lost disk holds: what the writes and the deliveries of the survivor's run give it.
-use Rattle.std.specs.Prelude.{◌≡◌, ℕ, ◌+◌, ◌<◌, ◌≤◌, List, [], ◌∷◌, ◌++◌, length, Option, None, Some, nat_lt, map, filter, is_some, if◌then◌else◌}
+use Rattle.std.specs.Prelude.{◌≡◌, ℕ, ◌+◌, ◌<◌, ◌≤◌, List, [], ◌∷◌, ◌++◌, length, Option, None, Some, nat_lt, map, filter, is_some}
+use Rattle.std.specs.Prelude.{if◌then◌else◌}
 use Rattle.std.specs.List.{AllByRecursion, flat_map, range_with_len}
 use Rattle.std.specs.Option.{option_map, unwrap_or}
 use Rattle.fb_store.specs.declared.content.Content.{Content}
@@ -21,7 +22,10 @@ pub record Event : Type 0 where
 -- a foreground write takes effect at its finish, and leaves its number in its sectors
 abbrev pub writes_in : ForeRow → List Event
 writes_in row = if row.request.write
-    then record { instant = row.finish; contents = record { first = row.request.lbn; count = row.request.count; content = Filled (number_of row.request.name) } ∷ [] } ∷ []
+    then record {
+      instant = row.finish;
+      contents = record { first = row.request.lbn; count = row.request.count; content = Filled (number_of row.request.name) } ∷ [];
+    } ∷ []
     else []
 
 -- a delivery takes effect at its end, and gives its block's sectors what they held
@@ -52,7 +56,8 @@ abbrev pub decided : ℕ → List Event → Option (ℕ × Content)
 decided lbn [] = None
 decided lbn (event ∷ events) = later (given lbn event) (decided lbn events)
 
--- an event of the list gives a sector this at this instant; those before it that concern the sector are no later, those behind it are earlier
+-- an event of the list gives a sector this at this instant; those before it that concern the sector are no later, those behind it are
+-- earlier
 pub record Decides (lbn : ℕ) (events : List Event) (last : ℕ × Content) : Type 0 where
   pub before : List Event
   pub event : Event

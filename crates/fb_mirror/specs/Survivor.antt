@@ -23,11 +23,13 @@ sectors inputs = length (places inputs.disk.map)
 
 -- the events of a full run concern sectors of its disk alone
 abbrev pub RunsLieOnTheDisk : Type 0
-RunsLieOnTheDisk = (inputs : Inputs) (run : Run) → IsAccepted inputs → IsFull inputs run → AllByRecursion (IsWithin (sectors inputs)) (events run)
+RunsLieOnTheDisk = (inputs : Inputs) (run : Run) → IsAccepted inputs → IsFull inputs run
+    → AllByRecursion (IsWithin (sectors inputs)) (events run)
 
 -- a sector that an event concerned holds in the replacement what it holds on the survivor at the run's end
 abbrev pub CoveredSectorsAreTheSurvivors : Type 0
-CoveredSectorsAreTheSurvivors = (inputs : Inputs) (run : Run) (lbn : ℕ) (held : Content) → IsSound inputs.disk.map → IsAccepted inputs → IsFull inputs run
+CoveredSectorsAreTheSurvivors = (inputs : Inputs) (run : Run) (lbn : ℕ) (held : Content) → IsSound inputs.disk.map → IsAccepted inputs
+    → IsFull inputs run
     → held_after (events run) lbn ≡ Some held → held ≡ survives inputs run lbn
 
 -- the events that have taken effect by an instant
@@ -40,7 +42,8 @@ IsAtRest t run = AllByRecursion (λ row. row.request.write ≡ true → (row.fin
 
 -- a sector that an event concerned by then holds in the replacement what it holds on the survivor then
 abbrev pub CoveredSectorsAreTheSurvivorsAtRest : Type 0
-CoveredSectorsAreTheSurvivorsAtRest = (inputs : Inputs) (run : Run) (t lbn : ℕ) (held : Content) → IsSound inputs.disk.map → IsAccepted inputs → IsFull inputs run → IsAtRest t run
+CoveredSectorsAreTheSurvivorsAtRest = (inputs : Inputs) (run : Run) (t lbn : ℕ) (held : Content) → IsSound inputs.disk.map
+    → IsAccepted inputs → IsFull inputs run → IsAtRest t run
     → held_after (events_by t run) lbn ≡ Some held → held ≡ content (medium_of inputs) lbn t
 
 -- all sectors of the disk are covered, and the replacement is the survivor at the run's end
@@ -51,10 +54,13 @@ pub record IsWhole (inputs : Inputs) (run : Run) : Type 0 where
 
 -- a rebuild that was sealed has covered all sectors
 abbrev pub SealedRebuildsAreWhole : Type 0
-SealedRebuildsAreWhole = (inputs : Inputs) (run : Run) (instant : ℕ) → IsSound inputs.disk.map → IsAccepted inputs → IsFull inputs run → inputs.calls ≡ rebuild_calls inputs.disk.map
+SealedRebuildsAreWhole = (inputs : Inputs) (run : Run) (instant : ℕ) → IsSound inputs.disk.map → IsAccepted inputs → IsFull inputs run
+    → inputs.calls ≡ rebuild_calls inputs.disk.map
     → sealed_in run.back ≡ Some instant → IsWhole inputs run
 
 -- and from the seal on, at each instant at which no write is under way, the replacement is the survivor then
 abbrev pub SealedRebuildsStayWhole : Type 0
-SealedRebuildsStayWhole = (inputs : Inputs) (run : Run) (sealed t : ℕ) → IsSound inputs.disk.map → IsAccepted inputs → IsFull inputs run → inputs.calls ≡ rebuild_calls inputs.disk.map
-    → sealed_in run.back ≡ Some sealed → sealed ≤ t → IsAtRest t run → (lbn : ℕ) → lbn < sectors inputs → held_after (events_by t run) lbn ≡ Some (content (medium_of inputs) lbn t)
+SealedRebuildsStayWhole = (inputs : Inputs) (run : Run) (sealed t : ℕ) → IsSound inputs.disk.map → IsAccepted inputs → IsFull inputs run
+    → inputs.calls ≡ rebuild_calls inputs.disk.map
+    → sealed_in run.back ≡ Some sealed → sealed ≤ t → IsAtRest t run → (lbn : ℕ) → lbn < sectors inputs
+    → held_after (events_by t run) lbn ≡ Some (content (medium_of inputs) lbn t)

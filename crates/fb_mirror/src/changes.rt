@@ -26,7 +26,8 @@ pub struct Change {
 pub fn contents_in_order(alloc: Global, run: &Run) -> Result<Contents, NoMemory>
     requires { AllByRecursion (IsWithin (10 ^ 12)) (events run.now) }
     ensures held { IfOk result (λ contents. (lbn : ℕ) → after_taking (sectors_of contents) lbn None ≡ held_after (events run.now) lbn) }
-    ensures within { IfOk result (λ contents. (end : ℕ) → AllByRecursion (IsWithin end) (events run.now) → AllByRecursion (λ run. run.first + run.count ≤ end) contents) }
+    ensures within { IfOk result (λ contents. (end : ℕ) → AllByRecursion (IsWithin end) (events run.now)
+        → AllByRecursion (λ run. run.first + run.count ≤ end) contents) }
 {
     let mut changes = changes(alloc, run)?;
     changes.sort_by_key(|change| change.instant)?;

@@ -49,7 +49,8 @@ pub fn rebuild(alloc: Global, count: u64, run: &Run) -> Result<Rebuilt, NoMemory
 
 // The sectors that have contents, as the fewest runs.
 fn covered(alloc: Global, contents: &Contents) -> Result<Contents, NoMemory>
-    ensures { IfOk result (λ runs. (end : ℕ) → AllByRecursion (λ run. run.first + run.count ≤ end) contents.now → runs ≡ runs_of (held_in (λ lbn. after_taking (sectors_of contents.now) lbn None) (range_with_len 0 end))) }
+    ensures { IfOk result (λ runs. (end : ℕ) → AllByRecursion (λ run. run.first + run.count ≤ end) contents.now
+        → runs ≡ runs_of (held_in (λ lbn. after_taking (sectors_of contents.now) lbn None) (range_with_len 0 end))) }
 {
     let mut held = SparseContents::new(alloc);
     held.take(contents)?;
@@ -60,7 +61,8 @@ fn covered(alloc: Global, contents: &Contents) -> Result<Contents, NoMemory>
 fn over_unreadable(alloc: Global, count: u64, contents: &Contents) -> Result<Contents, NoMemory>
     requires disk { count ≤ 10 ^ 12 }
     requires ranges { AllByRecursion (λ run. run.first + run.count ≤ count) contents.now }
-    ensures { IfOk result (λ runs. runs ≡ runs_of (map (λ lbn. (lbn, unwrap_or (after_taking (sectors_of contents.now) lbn None) Unreadable)) (range_with_len 0 count))) }
+    ensures { IfOk result (λ runs. runs
+        ≡ runs_of (map (λ lbn. (lbn, unwrap_or (after_taking (sectors_of contents.now) lbn None) Unreadable)) (range_with_len 0 count))) }
 {
     let mut lost = Contents::new(alloc);
     lost.push(ContentRun {

@@ -1,5 +1,6 @@
 -- The blocks into which a range is cut.
-use Rattle.std.proofs.Common.{◌≡◌, ℕ, zero, suc, ◌+◌, ◌-◌, ◌%◌, ◌<◌, ◌≤◌, ◌==◌, not, List, [], ◌∷◌, true, false, refl, ap, sym, ◌∙◌, arith, subst, inl, inr}
+use Rattle.std.proofs.Common.{◌≡◌, ℕ, zero, suc, ◌+◌, ◌-◌, ◌%◌, ◌<◌, ◌≤◌, ◌==◌, not, List, [], ◌∷◌, true, false, refl, ap, sym, ◌∙◌, arith}
+use Rattle.std.proofs.Common.{subst, inl, inr}
 use Rattle.std.proofs.lemmas.Bool.{cases_Bool, true≢false, or_parts, eq-eqb, cases_lt, not-false}
 use Rattle.std.proofs.Math.Nat.{mod-add-mod, mod-eq_of_lt, mod-lt, mod_self}
 use Rattle.fb_geometry.specs.Shape.{Shape}
@@ -11,7 +12,8 @@ use Rattle.fb_sectormap.specs.Cutting.{IsOneTurn, cutting, with_sector, is_cut_b
 -- cuts that lie end to end, none beyond a multiple of the block size, each in one turn of its track, with its sweep
 abbrev pub AreCuts : Shape → ℕ → ℕ → ℕ → List Cut → Type 0
 AreCuts disk block from end [] = from ≡ end
-AreCuts disk block from end (cut ∷ cuts) = (cut.lbn ≡ from) × (0 < cut.count) × (cut.count ≤ block - from % block) × (cut.track ≡ track_at disk from) × AreCuts disk block (from + cut.count) end cuts × IsOneTurn disk from cut.count
+AreCuts disk block from end (cut ∷ cuts) = (cut.lbn ≡ from) × (0 < cut.count) × (cut.count ≤ block - from % block)
+    × (cut.track ≡ track_at disk from) × AreCuts disk block (from + cut.count) end cuts × IsOneTurn disk from cut.count
     × (cut.sweep ≡ sweep_of disk from cut.count)
 
 -- a sector that no block begins at comes by later in the turn of the one before
@@ -24,9 +26,13 @@ goes_on disk block lbn here =
     (parts.0, ap (λ at. is_later disk (place_at disk at) (place_at disk (lbn + 1))) (sym back) ∙ later)
 
 -- a turn that goes on from the next sector goes on from this one
-turn_before : (disk : Shape) (lbn count : ℕ) → is_later disk (place_at disk lbn) (place_at disk (lbn + 1)) ≡ true → IsOneTurn disk (lbn + 1) count → IsOneTurn disk lbn (count + 1)
-turn_before disk lbn count later on zero less = ap (λ at. is_later disk (place_at disk at) (place_at disk (at + 1))) (let e : lbn + zero ≡ lbn = omega arith in e) ∙ later
-turn_before disk lbn count later on (suc i) less = ap (λ at. is_later disk (place_at disk at) (place_at disk (at + 1))) (let e : lbn + suc i ≡ lbn + 1 + i = omega arith in e) ∙ on i (omega arith)
+turn_before : (disk : Shape) (lbn count : ℕ) → is_later disk (place_at disk lbn) (place_at disk (lbn + 1)) ≡ true
+    → IsOneTurn disk (lbn + 1) count → IsOneTurn disk lbn (count + 1)
+turn_before disk lbn count later on zero less =
+    ap (λ at. is_later disk (place_at disk at) (place_at disk (at + 1))) (let e : lbn + zero ≡ lbn = omega arith in e) ∙ later
+turn_before disk lbn count later on (suc i) less =
+    ap (λ at. is_later disk (place_at disk at) (place_at disk (at + 1))) (let e : lbn + suc i ≡ lbn + 1 + i = omega arith in e)
+    ∙ on i (omega arith)
 
 -- the room up to the next multiple shrinks by one
 room : (block lbn : ℕ) → 0 < block → ((lbn + 1) % block == 0) ≡ false → block - (lbn + 1) % block + 1 ≤ block - lbn % block
@@ -36,10 +42,12 @@ room block lbn some other =
       | inl less ↦ let value : (lbn + 1) % block ≡ lbn % block + 1 = sym (mod-add-mod lbn block 1) ∙ mod-eq_of_lt less in omega arith
       | inr full ↦
           let whole : lbn % block + 1 ≡ block = omega arith in
-          absurd (true≢false (sym (eq-eqb ((lbn + 1) % block) 0 (sym (mod-add-mod lbn block 1) ∙ (ap (λ n. n % block) whole ∙ mod_self block))) ∙ other))
+          absurd (true≢false
+          (sym (eq-eqb ((lbn + 1) % block) 0 (sym (mod-add-mod lbn block 1) ∙ (ap (λ n. n % block) whole ∙ mod_self block))) ∙ other))
     ]
 
-with_cut : (disk : Shape) (block lbn end : ℕ) (cuts : List Cut) → 0 < block → AreCuts disk block (lbn + 1) end cuts → AreCuts disk block lbn end (with_sector disk block lbn cuts)
+with_cut : (disk : Shape) (block lbn end : ℕ) (cuts : List Cut) → 0 < block → AreCuts disk block (lbn + 1) end cuts
+    → AreCuts disk block lbn end (with_sector disk block lbn cuts)
 with_cut disk block lbn end [] some h = (refl, omega arith, omega (arith, mod-lt lbn some), refl, h, λ i less. absurd (omega arith), refl)
 with_cut disk block lbn end (cut ∷ cuts) some h = elim (cases_Bool (is_cut_before disk block (lbn + 1))) [
   | inl here ↦ rw here (refl, omega arith, omega (arith, mod-lt lbn some), refl, h, λ i less. absurd (omega arith), refl)
@@ -62,7 +70,8 @@ unfolding cutting
 cuts_are disk block lbn zero some = omega arith
 cuts_are disk block lbn (suc n) some =
     let next : lbn + 1 + n ≡ lbn + suc n = omega arith in
-    with_cut disk block lbn (lbn + suc n) (cutting disk block (lbn + 1) n) some (subst (λ e. AreCuts disk block (lbn + 1) e (cutting disk block (lbn + 1) n)) next (cuts_are disk block (lbn + 1) n some))
+    with_cut disk block lbn (lbn + suc n) (cutting disk block (lbn + 1) n) some
+    (subst (λ e. AreCuts disk block (lbn + 1) e (cutting disk block (lbn + 1) n)) next (cuts_are disk block (lbn + 1) n some))
 
 pub cuts_rise : (disk : Shape) (block from end : ℕ) (cuts : List Cut) → AreCuts disk block from end cuts → from ≤ end
 cuts_rise disk block from end [] h = omega (arith, h)

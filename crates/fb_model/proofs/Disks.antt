@@ -43,13 +43,15 @@ are_own disk h = own_places disk (is_faultless disk h) (none_grown disk.layout d
 
 -- ---- how many places there are
 
-zone_length : (disk : Shape) (i : ℕ) (zone : Zone) → IsSound disk → slice_get disk.zones i ≡ Some zone → length (zone_places disk zone) ≡ zone_size disk zone
+zone_length : (disk : Shape) (i : ℕ) (zone : Zone) → IsSound disk → slice_get disk.zones i ≡ Some zone
+    → length (zone_places disk zone) ≡ zone_size disk zone
 zone_length disk i zone h at =
     let some = h.some_cylinders i zone at in
     length-same (data_list disk zone) zone.first (zone.last + 1 - zone.first) (cylinder_size disk zone)
     (λ c from below. h.equal i zone c (record { zone_is = at; from = from; upto = omega arith }))
 
-zones_length : (disk : Shape) (zones : List Zone) → ((i : ℕ) (zone : Zone) → slice_get zones i ≡ Some zone → length (zone_places disk zone) ≡ zone_size disk zone)
+zones_length : (disk : Shape) (zones : List Zone)
+    → ((i : ℕ) (zone : Zone) → slice_get zones i ≡ Some zone → length (zone_places disk zone) ≡ zone_size disk zone)
     → length (flat_map (zone_places disk) zones) ≡ sum_by (zone_size disk) zones
 zones_length disk [] each = refl
 zones_length disk (zone ∷ zones) each =
@@ -64,7 +66,8 @@ places_length disk h = zones_length disk disk.zones (λ i zone at. zone_length d
 
 -- ---- when they pass
 
-first_at : (disk : Shape) (place : Place) (t : ℕ) → begin_angle disk place < disk.rotation → IsFirstAt disk.rotation (begin_angle disk place) t (begin_from disk place t)
+first_at : (disk : Shape) (place : Place) (t : ℕ) → begin_angle disk place < disk.rotation
+    → IsFirstAt disk.rotation (begin_angle disk place) t (begin_from disk place t)
 unfolding begin_from
 first_at disk place t h =
     let least = wait_least disk.rotation (begin_angle disk place) t h in
@@ -72,14 +75,17 @@ first_at disk place t h =
       reached = least.reaches;
       from = omega arith;
       first = λ other from at.
-          let waited = least.least (other - t) (ap (λ x. x % disk.rotation) (let same : t + (other - t) ≡ other = omega arith in same) ∙ at) in omega arith;
+          let waited = least.least (other - t) (ap (λ x. x % disk.rotation) (let same : t + (other - t) ≡ other = omega arith in same)
+          ∙ at) in omega arith;
     }
 
 -- a slot of a track begins before the rotation ends
 pub begins_within : (rotation n slot : ℕ) → n ≤ rotation → slot < n → slot_begin rotation n slot < rotation
-begins_within rotation n slot short inside = div_below (slot * rotation) n rotation (omega arith) (omega (arith, mul-le (slot + 1) rotation n rotation (omega arith) (omega arith)))
+begins_within rotation n slot short inside =
+    div_below (slot * rotation) n rotation (omega arith) (omega (arith, mul-le (slot + 1) rotation n rotation (omega arith) (omega arith)))
 
-begins_on : (disk : Shape) (cylinder : ℕ) (place : Place) → IsSound disk → IsFaultless disk → cylinder < cylinders_of disk.zones → LiesOn disk cylinder place → begin_angle disk place < disk.rotation
+begins_on : (disk : Shape) (cylinder : ℕ) (place : Place) → IsSound disk → IsFaultless disk → cylinder < cylinders_of disk.zones
+    → LiesOn disk cylinder place → begin_angle disk place < disk.rotation
 begins_on disk cylinder place h k below lies =
     let by = by_zone disk h cylinder below in
     let here = zone_by_bounds disk k by.index by.zone cylinder by.holds in
@@ -87,7 +93,8 @@ begins_on disk cylinder place h k below lies =
     (omega (arith, ap (slots_at disk.zones) lies.cylinder_is, slots_at-zone disk.zones cylinder by.zone here.found, here.short))
     (omega (arith, ap (slots_at disk.zones) lies.cylinder_is, lies.slot))
 
-pub begins_first : (disk : Shape) (lbn t : ℕ) → IsDisk disk → lbn < length (places disk) → IsFirstAt disk.rotation (begin_angle disk (place_at disk lbn)) t (begin_from disk (place_at disk lbn) t)
+pub begins_first : (disk : Shape) (lbn t : ℕ) → IsDisk disk → lbn < length (places disk)
+    → IsFirstAt disk.rotation (begin_angle disk (place_at disk lbn)) t (begin_from disk (place_at disk lbn) t)
 begins_first disk lbn t h on_disk =
     let found = has_place disk (is_sound disk h) lbn on_disk in
     first_at disk (place_at disk lbn) t (subst (λ (place : Place). begin_angle disk place < disk.rotation) (sym found.placed_at)

@@ -1,5 +1,6 @@
 -- What is due at a decision: each row is of a wanted block, passes whole, and has the bytes of its beginning; none stands twice.
-use Rattle.std.proofs.Common.{◌≡◌, ◌+◌, List, [], ◌∷◌, ◌++◌, refl, true, false, map, filter, Bool, cond, if◌then◌else◌, ◌-◌, not, ◌⊎◌, inl, inr}
+use Rattle.std.proofs.Common.{◌≡◌, ◌+◌, List, [], ◌∷◌, ◌++◌, refl, true, false, map, filter, Bool, cond, if◌then◌else◌, ◌-◌, not, ◌⊎◌, inl}
+use Rattle.std.proofs.Common.{inr}
 use Rattle.std.specs.List.{AllByRecursion, fold}
 use Rattle.fb_units.proofs.Lists.{all_weaker, all_append, all_filter}
 use Rattle.fb_store.specs.Runs.{runs_of, bad_of}
@@ -25,7 +26,8 @@ pub record HasBytes (contents : ContentsAt) (row : DeliveryRow) : Type 0 where
   pub bad : row.bad ≡ bad_of row.content
 
 -- a block of these passes whole in the dwell
-pub record IsCaughtIn (disk : Disk) (contents : ContentsAt) (how : How) (dwell : Dwell) (Q : Block → Type 0) (row : DeliveryRow) : Type 0 where
+pub record IsCaughtIn (disk : Disk) (contents : ContentsAt) (how : How) (dwell : Dwell) (Q : Block → Type 0)
+    (row : DeliveryRow) : Type 0 where
   pub how_so : row.how ≡ how
   pub one_of : Q row.block
   pub caught : catches disk dwell row.block ≡ true
@@ -33,37 +35,54 @@ pub record IsCaughtIn (disk : Disk) (contents : ContentsAt) (how : How) (dwell :
   pub end : row.end ≡ block_end disk.map row.block dwell.begin
   pub bytes : HasBytes contents row
 
-all_choice : (P : DeliveryRow → Type 0) (b : Bool) (first row : DeliveryRow) (xs ys : List DeliveryRow) → P first → P row → AllByRecursion P xs → AllByRecursion P ys
+all_choice : (P : DeliveryRow → Type 0) (b : Bool) (first row : DeliveryRow) (xs ys : List DeliveryRow) → P first → P row
+    → AllByRecursion P xs → AllByRecursion P ys
     → AllByRecursion P (cond b (row ∷ first ∷ ys) (first ∷ xs))
 all_choice P true first row xs ys p q ps qs = (q, (p, qs))
 all_choice P false first row xs ys p q ps qs = (p, ps)
 
-pub all_placed : (P : DeliveryRow → Type 0) (rows : List DeliveryRow) (row : DeliveryRow) → AllByRecursion P rows → P row → AllByRecursion P (placed rows row)
+pub all_placed : (P : DeliveryRow → Type 0) (rows : List DeliveryRow) (row : DeliveryRow) → AllByRecursion P rows → P row
+    → AllByRecursion P (placed rows row)
 all_placed P [] row ps q = (q, ps)
-all_placed P (first ∷ rows) row ps q = all_choice P (is_before row.end row.block first.end first.block) first row (placed rows row) rows ps.0 q (all_placed P rows row ps.1 q) ps.1
+all_placed P (first ∷ rows) row ps q = all_choice P (is_before row.end row.block first.end first.block) first row
+    (placed rows row) rows ps.0 q (all_placed P rows row ps.1 q) ps.1
 
-all_ordered : (P : DeliveryRow → Type 0) (rows before : List DeliveryRow) → AllByRecursion P before → AllByRecursion P rows → AllByRecursion P (fold placed before rows)
+all_ordered : (P : DeliveryRow → Type 0) (rows before : List DeliveryRow) → AllByRecursion P before → AllByRecursion P rows
+    → AllByRecursion P (fold placed before rows)
 all_ordered P [] before ps qs = ps
 all_ordered P (row ∷ rows) before ps qs = all_ordered P rows (placed before row) (all_placed P before row ps qs.0) qs.1
 
-all_one : (P : DeliveryRow → Type 0) (b : Bool) (f : Block → DeliveryRow) (block : Block) (xs : List Block) → (b ≡ true → P (f block)) → AllByRecursion P (map f xs)
+all_one : (P : DeliveryRow → Type 0) (b : Bool) (f : Block → DeliveryRow) (block : Block) (xs : List Block) → (b ≡ true → P (f block))
+    → AllByRecursion P (map f xs)
     → AllByRecursion P (map f (cond b (block ∷ xs) xs))
 all_one P true f block xs p ps = (p refl, ps)
 all_one P false f block xs p ps = ps
 
-pub all_filtered : (P : DeliveryRow → Type 0) (Q : Block → Type 0) (test : Block → Bool) (f : Block → DeliveryRow) → ((block : Block) → Q block → test block ≡ true → P (f block))
+pub all_filtered : (P : DeliveryRow → Type 0) (Q : Block → Type 0) (test : Block → Bool) (f : Block → DeliveryRow)
+    → ((block : Block) → Q block → test block ≡ true → P (f block))
     → (blocks : List Block) → AllByRecursion Q blocks → AllByRecursion P (map f (filter test blocks))
 all_filtered P Q test f each [] qs = tt
-all_filtered P Q test f each (block ∷ blocks) qs = all_one P (test block) f block (filter test blocks) (each block qs.0) (all_filtered P Q test f each blocks qs.1)
+all_filtered P Q test f each (block ∷ blocks) qs =
+    all_one P (test block) f block (filter test blocks) (each block qs.0) (all_filtered P Q test f each blocks qs.1)
 
 -- what a dwell catches of blocks that all have a property
-pub caught_true : (disk : Disk) (contents : ContentsAt) (how : How) (dwell : Dwell) (Q : Block → Type 0) (blocks : List Block) → AllByRecursion Q blocks
+pub caught_true : (disk : Disk) (contents : ContentsAt) (how : How) (dwell : Dwell) (Q : Block → Type 0) (blocks : List Block)
+    → AllByRecursion Q blocks
     → AllByRecursion (IsCaughtIn disk contents how dwell Q) (caught disk contents how dwell blocks)
 caught_true disk contents how dwell Q blocks qs = all_ordered (IsCaughtIn disk contents how dwell Q)
-    (map (λ block. delivery contents how block (block_begin disk.map block dwell.begin) (block_end disk.map block dwell.begin)) (filter (catches disk dwell) blocks))
+    (map (λ block. delivery contents how block (block_begin disk.map block dwell.begin) (block_end disk.map block dwell.begin))
+    (filter (catches disk dwell) blocks))
     [] tt
-    (all_filtered (IsCaughtIn disk contents how dwell Q) Q (catches disk dwell) (λ block. delivery contents how block (block_begin disk.map block dwell.begin) (block_end disk.map block dwell.begin))
-    (λ block q test. record { how_so = refl; one_of = q; caught = test; begin = refl; end = refl; bytes = record { content = refl; bad = refl } }) blocks qs)
+    (all_filtered (IsCaughtIn disk contents how dwell Q) Q (catches disk dwell)
+    (λ block. delivery contents how block (block_begin disk.map block dwell.begin) (block_end disk.map block dwell.begin))
+    (λ block q test. record {
+      how_so = refl;
+      one_of = q;
+      caught = test;
+      begin = refl;
+      end = refl;
+      bytes = record { content = refl; bad = refl };
+    }) blocks qs)
 
 -- a block of these has all its sectors in the read, and passes with its first and last sectors
 pub record IsCarriedBy (contents : ContentsAt) (served : Served) (Q : Block → Type 0) (row : DeliveryRow) : Type 0 where
@@ -76,17 +95,29 @@ pub record IsCarriedBy (contents : ContentsAt) (served : Served) (Q : Block → 
   pub bytes : HasBytes contents row
 
 abbrev pub ride_of : ContentsAt → Served → Block → DeliveryRow
-ride_of contents served block = delivery contents ByRide block (begin_at served.passages block.lbn) (end_at served.passages (block.lbn + block.count - 1))
+ride_of contents served block =
+    delivery contents ByRide block (begin_at served.passages block.lbn) (end_at served.passages (block.lbn + block.count - 1))
 
 abbrev rides_if : Bool → ContentsAt → Served → List Block → List DeliveryRow
-rides_if write contents served blocks = if write then [] else in_order (map (ride_of contents served) (filter (lies_in served.request) blocks))
+rides_if write contents served blocks =
+    if write then [] else in_order (map (ride_of contents served) (filter (lies_in served.request) blocks))
 
-rides_by : (write : Bool) (contents : ContentsAt) (served : Served) (Q : Block → Type 0) (blocks : List Block) → served.request.write ≡ write → AllByRecursion Q blocks
+rides_by : (write : Bool) (contents : ContentsAt) (served : Served) (Q : Block → Type 0) (blocks : List Block)
+    → served.request.write ≡ write → AllByRecursion Q blocks
     → AllByRecursion (IsCarriedBy contents served Q) (rides_if write contents served blocks)
 rides_by true contents served Q blocks e qs = tt
-rides_by false contents served Q blocks e qs = all_ordered (IsCarriedBy contents served Q) (map (ride_of contents served) (filter (lies_in served.request) blocks)) [] tt
+rides_by false contents served Q blocks e qs =
+    all_ordered (IsCarriedBy contents served Q) (map (ride_of contents served) (filter (lies_in served.request) blocks)) [] tt
     (all_filtered (IsCarriedBy contents served Q) Q (lies_in served.request) (ride_of contents served)
-    (λ block q test. record { how_so = refl; read = e; one_of = q; inside = test; begin = refl; end = refl; bytes = record { content = refl; bad = refl } }) blocks qs)
+    (λ block q test. record {
+      how_so = refl;
+      read = e;
+      one_of = q;
+      inside = test;
+      begin = refl;
+      end = refl;
+      bytes = record { content = refl; bad = refl };
+    }) blocks qs)
 
 -- what a read carries of blocks that all have a property
 pub rides_true : (contents : ContentsAt) (served : Served) (Q : Block → Type 0) (blocks : List Block) → AllByRecursion Q blocks
@@ -138,16 +169,23 @@ due_true disk contents (serving served plan) Q wanted qs =
     let last = missed disk late left in
     let left_all = all_filter Q (λ block. not (catches disk early block)) wanted qs in
     let last_all = all_filter Q (λ block. not (catches disk late block)) left left_all in
-    all_append (IsDueRow disk contents (serving served plan) Q) (caught disk contents ByGap early wanted ++ caught disk contents ByGap late left) (rides contents served last)
-    (all_append (IsDueRow disk contents (serving served plan) Q) (caught disk contents ByGap early wanted) (caught disk contents ByGap late left)
-    (all_weaker (IsCaughtIn disk contents ByGap early Q) (IsDueRow disk contents (serving served plan) Q) (λ row p. inl p) (caught disk contents ByGap early wanted) (caught_true disk contents ByGap early Q wanted qs))
-    (all_weaker (IsCaughtIn disk contents ByGap late Q) (IsDueRow disk contents (serving served plan) Q) (λ row p. inr (inl p)) (caught disk contents ByGap late left) (caught_true disk contents ByGap late Q left left_all)))
-    (all_weaker (IsCarriedBy contents served Q) (IsDueRow disk contents (serving served plan) Q) (λ row p. inr (inr p)) (rides contents served last) (rides_true contents served Q last last_all))
+    all_append (IsDueRow disk contents (serving served plan) Q)
+    (caught disk contents ByGap early wanted ++ caught disk contents ByGap late left) (rides contents served last)
+    (all_append (IsDueRow disk contents (serving served plan) Q) (caught disk contents ByGap early wanted)
+    (caught disk contents ByGap late left)
+    (all_weaker (IsCaughtIn disk contents ByGap early Q) (IsDueRow disk contents (serving served plan) Q) (λ row p. inl p)
+    (caught disk contents ByGap early wanted) (caught_true disk contents ByGap early Q wanted qs))
+    (all_weaker (IsCaughtIn disk contents ByGap late Q) (IsDueRow disk contents (serving served plan) Q) (λ row p. inr (inl p))
+    (caught disk contents ByGap late left) (caught_true disk contents ByGap late Q left left_all)))
+    (all_weaker (IsCarriedBy contents served Q) (IsDueRow disk contents (serving served plan) Q) (λ row p. inr (inr p))
+    (rides contents served last) (rides_true contents served Q last last_all))
 due_true disk contents (idling dwell) Q wanted qs = caught_true disk contents ByIdle dwell Q wanted qs
 due_true disk contents (ending now) Q wanted qs = tt
 
 -- and so is each delivery of a sound run, of a block wanted at its decision
-pub delivery_true : (inputs : Inputs) (medium : Medium) (past : Past) (step : Step) (Q : Block → Type 0) → IsDelivered inputs medium past step
-    → AllByRecursion Q (wanted (chosen_past inputs past (decision_in step))) → AllByRecursion (IsDueRow medium.disk (contents_at medium) step.act Q) (map (λ delivery. delivery.got) step.deliveries)
+pub delivery_true : (inputs : Inputs) (medium : Medium) (past : Past) (step : Step) (Q : Block → Type 0)
+    → IsDelivered inputs medium past step
+    → AllByRecursion Q (wanted (chosen_past inputs past (decision_in step)))
+    → AllByRecursion (IsDueRow medium.disk (contents_at medium) step.act Q) (map (λ delivery. delivery.got) step.deliveries)
 delivery_true inputs medium past step Q some qs = all_some (IsDueRow medium.disk (contents_at medium) step.act Q) some
     (due_true medium.disk (contents_at medium) step.act Q (wanted (chosen_past inputs past (decision_in step))) qs)

@@ -1,5 +1,6 @@
 -- What is due lies within its decision, and is the same where the disk holds the same; of a dwell that is under way, what ends by then.
-use Rattle.std.proofs.Common.{◌≡◌, ℕ, ◌+◌, ◌-◌, ◌<◌, ◌≤◌, List, [], ◌∷◌, ◌++◌, map, refl, ap, ap₂, sym, ◌∙◌, arith, Bool, true, false, inl, inr, nat_le}
+use Rattle.std.proofs.Common.{◌≡◌, ℕ, ◌+◌, ◌-◌, ◌<◌, ◌≤◌, List, [], ◌∷◌, ◌++◌, map, refl, ap, ap₂, sym, ◌∙◌, arith, Bool, true, false, inl}
+use Rattle.std.proofs.Common.{inr, nat_le}
 use Rattle.std.specs.Prelude.{filter, ◌&&◌, ◌||◌, ◌==◌, not, nat_lt, if◌then◌else◌}
 use Rattle.std.specs.List.{AllByRecursion, fold}
 use Rattle.std.proofs.lemmas.Bool.{cases_Bool, true≢false, or_cases, and_parts, eqb-true}
@@ -39,7 +40,8 @@ begins_later disk block t = omega arith
 pub ends_behind : (disk : Disk) (block : Block) (t : ℕ) → block_begin disk.map block t ≤ block_end disk.map block t
 ends_behind disk block t = omega arith
 
-pub ends_in_time : (disk : Disk) (dwell : Dwell) (block : Block) → catches disk dwell block ≡ true → block_end disk.map block dwell.begin ≤ dwell.end
+pub ends_in_time : (disk : Disk) (dwell : Dwell) (block : Block) → catches disk dwell block ≡ true
+    → block_end disk.map block dwell.begin ≤ dwell.end
 ends_in_time disk dwell block is_caught = grind (arith, nat_tests)
 
 -- a delivery from one instant to another
@@ -49,9 +51,11 @@ pub record LiesBetween (from to : ℕ) (row : DeliveryRow) : Type 0 where
   pub ends : row.end ≤ to
 
 dwell_plan : (disk : Disk) (served : Served) (plan : Plan) → IsPlan disk (gap_of disk served) plan
-    → (served.start ≤ (early_dwell disk (gap_of disk served) plan).begin) × ((early_dwell disk (gap_of disk served) plan).end ≤ media served) × (served.start ≤ (late_dwell disk (gap_of disk served) plan).begin)
+    → (served.start ≤ (early_dwell disk (gap_of disk served) plan).begin)
+    × ((early_dwell disk (gap_of disk served) plan).end ≤ media served) × (served.start ≤ (late_dwell disk (gap_of disk served) plan).begin)
 dwell_plan disk served (Direct leave) is = let now = is.0 in let in_time = is.1 in (omega arith, omega arith, omega arith)
-dwell_plan disk served (Detour track leave) is = let after = is.after_arrival in let in_time = is.in_time in (omega arith, omega arith, omega arith)
+dwell_plan disk served (Detour track leave) is = let after = is.after_arrival in let in_time = is.in_time in
+    (omega arith, omega arith, omega arith)
 
 late_end : (disk : Disk) (served : Served) (plan : Plan) → (late_dwell disk (gap_of disk served) plan).end ≡ media served
 late_end disk served (Direct leave) = refl
@@ -65,7 +69,11 @@ caught_between disk contents how dwell Q from to row after before is =
     let later = begins_later disk row.block dwell.begin in
     let behind = ends_behind disk row.block dwell.begin in
     let in_time = ends_in_time disk dwell row.block is.caught in
-    record { begins = omega (arith, begin, later, after); in_turn = omega (arith, begin, end, behind); ends = omega (arith, end, in_time, before) }
+    record {
+      begins = omega (arith, begin, later, after);
+      in_turn = omega (arith, begin, end, behind);
+      ends = omega (arith, end, in_time, before);
+    }
 
 -- the deliveries of a decision are over by then; those of a write are over with its gap
 abbrev pub DeliversBy : ℕ → Decision → Type 0
@@ -115,7 +123,14 @@ module _ (disk : Disk) (x y : ContentsAt) (from to : ℕ) (same : AgreeBetween f
   pub same_delivery : (how : How) (block : Block) (begin end : ℕ) → from ≤ begin → begin ≤ to
       → delivery x how block begin end ≡ delivery y how block begin end
   same_delivery how block begin end after before =
-      ap (λ sectors. let runs = runs_of sectors in record { block = block; begin = begin; end = end; how = how; bad = bad_of runs; content = runs }) (same block.lbn block.count begin after before)
+      ap (λ sectors. let runs = runs_of sectors in record {
+        block = block;
+        begin = begin;
+        end = end;
+        how = how;
+        bad = bad_of runs;
+        content = runs;
+      }) (same block.lbn block.count begin after before)
 
   same_caught : (how : How) (dwell : Dwell) (blocks : List Block) → from ≤ dwell.begin → dwell.end ≤ to
       → caught disk x how dwell blocks ≡ caught disk y how dwell blocks
@@ -136,7 +151,8 @@ module _ (disk : Disk) (x y : ContentsAt) (from to : ℕ) (same : AgreeBetween f
         let passes = block_passes disk served block made some.0 lies in
         let end = end_at served.passages (block.lbn + block.count - 1) in
         let row : ride_of x served block ≡ ride_of y served block =
-        same_delivery ByRide block (begin_at served.passages block.lbn) end (omega (arith, after, passes.0)) (omega (arith, passes.1, passes.2, before)) in
+        same_delivery ByRide block (begin_at served.passages block.lbn) end (omega (arith, after, passes.0))
+        (omega (arith, passes.1, passes.2, before)) in
         rw lies (ap₂ (λ row rows. row ∷ rows) row (same_ride served blocks made after before some.1))
     | inr other ↦ rw other (same_ride served blocks made after before some.1)
   ]
@@ -160,7 +176,8 @@ module _ (disk : Disk) (x y : ContentsAt) (from to : ℕ) (same : AgreeBetween f
       (same_caught ByGap late left (omega (arith, after, dwell.2)) (omega (arith, late_end disk served plan, over.0))))
       (if_reads served.request.write (λ reads. ap in_order (same_ride served last made after (over.1 reads) some_last)))
     where
-      if_reads : (write : Bool) {rows others : List DeliveryRow} → (write ≡ false → rows ≡ others) → (if write then [] else rows) ≡ (if write then [] else others)
+      if_reads : (write : Bool) {rows others : List DeliveryRow} → (write ≡ false → rows ≡ others)
+          → (if write then [] else rows) ≡ (if write then [] else others)
       if_reads true h = refl
       if_reads false h = h refl
   same_due (idling dwell) wanted made is after over some = same_caught ByIdle dwell wanted after over
@@ -170,14 +187,17 @@ module _ (disk : Disk) (x y : ContentsAt) (from to : ℕ) (same : AgreeBetween f
 
 pub before_end : (end : ℕ) (block : Block) (other_end : ℕ) (other : Block) → is_before end block other_end other ≡ true → end ≤ other_end
 before_end end block other_end other h =
-    elim (or_cases (nat_lt end other_end) ((end == other_end) && (nat_lt block.task other.task || ((block.task == other.task) && nat_lt block.number other.number))) h) [
+    elim (or_cases (nat_lt end other_end)
+    ((end == other_end) && (nat_lt block.task other.task || ((block.task == other.task) && nat_lt block.number other.number))) h) [
       | inl less ↦ grind (arith, nat_tests)
       | inr tie ↦
-          let same = eqb-true end other_end (and_parts (end == other_end) (nat_lt block.task other.task || ((block.task == other.task) && nat_lt block.number other.number)) tie).0 in
+          let same = eqb-true end other_end (and_parts (end == other_end)
+          (nat_lt block.task other.task || ((block.task == other.task) && nat_lt block.number other.number)) tie).0 in
           omega arith
     ]
 
-pub not_before_end : (end : ℕ) (block : Block) (other_end : ℕ) (other : Block) → is_before end block other_end other ≡ false → other_end ≤ end
+pub not_before_end : (end : ℕ) (block : Block) (other_end : ℕ) (other : Block) → is_before end block other_end other ≡ false
+    → other_end ≤ end
 not_before_end end block other_end other h = elim (cases_Bool (nat_lt end other_end)) [
   | inl less ↦ absurd (let wrong : true ≡ false = rw less at h in true≢false wrong)
   | inr more ↦ grind (arith, nat_tests)
@@ -188,7 +208,14 @@ rising_placed [] row rising = (tt, tt)
 rising_placed (first ∷ rows) row rising = elim (cases_Bool (is_before row.end row.block first.end first.block)) [
   | inl before ↦
       let less = before_end row.end row.block first.end first.block before in
-      rw before ((less, all_weaker (λ (later : DeliveryRow). first.end ≤ later.end) (λ (later : DeliveryRow). row.end ≤ later.end) (λ later h. omega (arith, h, less)) rows rising.0), rising)
+      rw before (
+        (
+          less,
+          all_weaker (λ (later : DeliveryRow). first.end ≤ later.end) (λ (later : DeliveryRow). row.end ≤ later.end)
+              (λ later h. omega (arith, h, less)) rows rising.0,
+        ),
+        rising,
+      )
   | inr behind ↦
       let more = not_before_end row.end row.block first.end first.block behind in
       rw behind (all_placed (λ (later : DeliveryRow). first.end ≤ later.end) rows row rising.0 more, rising_placed rows row rising.1)
@@ -201,16 +228,19 @@ rising_fold (row ∷ rows) before rising = rising_fold rows (placed before row) 
 pub rising_caught : (disk : Disk) (contents : ContentsAt) (how : How) (dwell : Dwell) (blocks : List Block)
     → RisingEnds (caught disk contents how dwell blocks)
 rising_caught disk contents how dwell blocks = rising_fold
-    (map (λ block. delivery contents how block (block_begin disk.map block dwell.begin) (block_end disk.map block dwell.begin)) (filter (catches disk dwell) blocks)) [] tt
+    (map (λ block. delivery contents how block (block_begin disk.map block dwell.begin) (block_end disk.map block dwell.begin))
+    (filter (catches disk dwell) blocks)) [] tt
 
 module _ (t : ℕ) where
-  none_behind : (first : DeliveryRow) (rows : List DeliveryRow) → ends_by_then t first ≡ false → AllByRecursion (λ (later : DeliveryRow). first.end ≤ later.end) rows → filter (ends_by_then t) rows ≡ []
+  none_behind : (first : DeliveryRow) (rows : List DeliveryRow) → ends_by_then t first ≡ false
+      → AllByRecursion (λ (later : DeliveryRow). first.end ≤ later.end) rows → filter (ends_by_then t) rows ≡ []
   none_behind first [] late all = refl
   none_behind first (row ∷ rows) late all =
       let after : ends_by_then t row ≡ false = let from = all.0 in grind (arith, nat_tests) in
       rw after (none_behind first rows late all.1)
 
-  placed_kept : (rows : List DeliveryRow) (row : DeliveryRow) → RisingEnds rows → ends_by_then t row ≡ true → filter (ends_by_then t) (placed rows row) ≡ placed (filter (ends_by_then t) rows) row
+  placed_kept : (rows : List DeliveryRow) (row : DeliveryRow) → RisingEnds rows → ends_by_then t row ≡ true
+      → filter (ends_by_then t) (placed rows row) ≡ placed (filter (ends_by_then t) rows) row
   placed_kept [] row rising by = rw by refl
   placed_kept (first ∷ rows) row rising by = elim (cases_Bool (is_before row.end row.block first.end first.block)) [
     | inl before ↦ elim (cases_Bool (ends_by_then t first)) [
@@ -223,7 +253,8 @@ module _ (t : ℕ) where
         rw (behind, by_first, behind) (ap (λ rows. first ∷ rows) (placed_kept rows row rising.1 by))
   ]
 
-  placed_dropped : (rows : List DeliveryRow) (row : DeliveryRow) → ends_by_then t row ≡ false → filter (ends_by_then t) (placed rows row) ≡ filter (ends_by_then t) rows
+  placed_dropped : (rows : List DeliveryRow) (row : DeliveryRow) → ends_by_then t row ≡ false
+      → filter (ends_by_then t) (placed rows row) ≡ filter (ends_by_then t) rows
   placed_dropped [] row late = rw late refl
   placed_dropped (first ∷ rows) row late = elim (cases_Bool (is_before row.end row.block first.end first.block)) [
     | inl before ↦ rw (before, late) refl
@@ -233,12 +264,14 @@ module _ (t : ℕ) where
     ]
   ]
 
-  fold_kept : (rows before : List DeliveryRow) → RisingEnds before → filter (ends_by_then t) (fold placed before rows) ≡ fold placed (filter (ends_by_then t) before) (filter (ends_by_then t) rows)
+  fold_kept : (rows before : List DeliveryRow) → RisingEnds before
+      → filter (ends_by_then t) (fold placed before rows) ≡ fold placed (filter (ends_by_then t) before) (filter (ends_by_then t) rows)
   fold_kept [] before rising = refl
-  fold_kept (row ∷ rows) before rising = fold_kept rows (placed before row) (rising_placed before row rising) ∙ elim (cases_Bool (ends_by_then t row)) [
-    | inl by ↦ rw by (ap (λ before. fold placed before (filter (ends_by_then t) rows)) (placed_kept before row rising by))
-    | inr late ↦ rw late (ap (λ before. fold placed before (filter (ends_by_then t) rows)) (placed_dropped before row late))
-  ]
+  fold_kept (row ∷ rows) before rising =
+      fold_kept rows (placed before row) (rising_placed before row rising) ∙ elim (cases_Bool (ends_by_then t row)) [
+        | inl by ↦ rw by (ap (λ before. fold placed before (filter (ends_by_then t) rows)) (placed_kept before row rising by))
+        | inr late ↦ rw late (ap (λ before. fold placed before (filter (ends_by_then t) rows)) (placed_dropped before row late))
+      ]
 
 -- ---- of a dwell that is under way
 
@@ -253,7 +286,8 @@ module _ (disk : Disk) (a b : ContentsAt) (t done : ℕ) (since : t ≤ done) (s
   abbrev dwell_until : ℕ → Dwell
   dwell_until until = record { track = head; begin = now; end = until }
 
-  caught_by_then : (until : ℕ) (block : Block) → t < until → block_end disk.map block now ≤ t → catches disk (dwell_until until) block ≡ same_track head block.track
+  caught_by_then : (until : ℕ) (block : Block) → t < until → block_end disk.map block now ≤ t
+      → catches disk (dwell_until until) block ≡ same_track head block.track
   caught_by_then until block late by =
       let in_time : nat_le (block_end disk.map block now) until ≡ true = by_is (block_end disk.map block now) until (omega arith) in
       ap (λ b. same_track head block.track && b) in_time ∙ and_true (same_track head block.track)
@@ -262,7 +296,8 @@ module _ (disk : Disk) (a b : ContentsAt) (t done : ℕ) (since : t ≤ done) (s
       and_true true = refl
       and_true false = refl
 
-  dropped_either : (test : Block → Bool) (row : Block → DeliveryRow) (block : Block) (blocks : List Block) → ends_by_then t (row block) ≡ false
+  dropped_either : (test : Block → Bool) (row : Block → DeliveryRow) (block : Block) (blocks : List Block)
+      → ends_by_then t (row block) ≡ false
       → filter (ends_by_then t) (map row (filter test (block ∷ blocks))) ≡ filter (ends_by_then t) (map row (filter test blocks))
   dropped_either test row block blocks late = elim (cases_Bool (test block)) [
     | inl is ↦ rw (is, late) refl
@@ -270,7 +305,8 @@ module _ (disk : Disk) (a b : ContentsAt) (t done : ℕ) (since : t ≤ done) (s
   ]
 
   rows_by_then : (blocks : List Block)
-      → filter (ends_by_then t) (map row_a (filter (catches disk (dwell_until until_a)) blocks)) ≡ filter (ends_by_then t) (map row_b (filter (catches disk (dwell_until until_b)) blocks))
+      → filter (ends_by_then t) (map row_a (filter (catches disk (dwell_until until_a)) blocks))
+      ≡ filter (ends_by_then t) (map row_b (filter (catches disk (dwell_until until_b)) blocks))
   rows_by_then [] = refl
   rows_by_then (block ∷ blocks) = elim (cases_Bool (nat_le (block_end disk.map block now) t)) [
     | inl by ↦
@@ -278,16 +314,21 @@ module _ (disk : Disk) (a b : ContentsAt) (t done : ℕ) (since : t ≤ done) (s
         let is_a = caught_by_then until_a block late_a in_time in
         let is_b = caught_by_then until_b block late_b in_time in
         kept_both (catches disk (dwell_until until_a) block) (catches disk (dwell_until until_b) block) (is_a ∙ sym is_b) block blocks by
-        (same_delivery disk a b 0 done same how block (block_begin disk.map block now) (block_end disk.map block now) (omega arith) (let behind = ends_behind disk block now in omega arith)) (rows_by_then blocks)
+        (same_delivery disk a b 0 done same how block (block_begin disk.map block now) (block_end disk.map block now) (omega arith)
+        (let behind = ends_behind disk block now in omega arith)) (rows_by_then blocks)
     | inr late ↦
         dropped_either (catches disk (dwell_until until_a)) row_a block blocks late
         ∙ (rows_by_then blocks ∙ sym (dropped_either (catches disk (dwell_until until_b)) row_b block blocks late))
   ]
     where
-      kept_both : (c d : Bool) → c ≡ d → (block : Block) (blocks : List Block) → nat_le (block_end disk.map block now) t ≡ true → row_a block ≡ row_b block
-          → filter (ends_by_then t) (map row_a (filter (catches disk (dwell_until until_a)) blocks)) ≡ filter (ends_by_then t) (map row_b (filter (catches disk (dwell_until until_b)) blocks))
-          → filter (ends_by_then t) (map row_a (if c then block ∷ filter (catches disk (dwell_until until_a)) blocks else filter (catches disk (dwell_until until_a)) blocks))
-          ≡ filter (ends_by_then t) (map row_b (if d then block ∷ filter (catches disk (dwell_until until_b)) blocks else filter (catches disk (dwell_until until_b)) blocks))
+      kept_both : (c d : Bool) → c ≡ d → (block : Block) (blocks : List Block) → nat_le (block_end disk.map block now) t ≡ true
+          → row_a block ≡ row_b block
+          → filter (ends_by_then t) (map row_a (filter (catches disk (dwell_until until_a)) blocks))
+          ≡ filter (ends_by_then t) (map row_b (filter (catches disk (dwell_until until_b)) blocks))
+          → filter (ends_by_then t) (map row_a
+          (if c then block ∷ filter (catches disk (dwell_until until_a)) blocks else filter (catches disk (dwell_until until_a)) blocks))
+          ≡ filter (ends_by_then t) (map row_b
+          (if d then block ∷ filter (catches disk (dwell_until until_b)) blocks else filter (catches disk (dwell_until until_b)) blocks))
       kept_both true true e block blocks by row rows = rw by (ap₂ (λ row rows. row ∷ rows) row rows)
       kept_both true false e block blocks by row rows = absurd (true≢false e)
       kept_both false true e block blocks by row rows = absurd (true≢false (sym e))

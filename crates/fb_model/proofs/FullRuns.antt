@@ -18,7 +18,8 @@ use Rattle.fb_model.specs.Decisions.{Decision, instant_of, Act, serving, idling,
 use Rattle.fb_model.specs.History.{Past, tested, delivered, wanted}
 use Rattle.fb_model.specs.Rides.{gap_of, due}
 use Rattle.fb_model.specs.Images.{findings, test_rows}
-use Rattle.fb_model.specs.Steps.{Delivery, Step, decision_in, decisions_in, chosen_past, tested_past, with_delivery, past_after, AtEach, history, step_rows, task_rows}
+use Rattle.fb_model.specs.Steps.{Delivery, Step, decision_in, decisions_in, chosen_past, tested_past, with_delivery, past_after, AtEach}
+use Rattle.fb_model.specs.Steps.{history, step_rows, task_rows}
 use Rattle.fb_model.specs.SoundRun.{AreFollowed, IsTested}
 use Rattle.fb_model.specs.FullRun.{HasBestPlan, IsBestPlanned, IsAllDelivered, IsFull}
 use Rattle.fb_model.proofs.Lists.{same_first, same_rest, not_none}
@@ -34,11 +35,13 @@ not_both a b (inr h) (inr k) = let less = h.1 in let more = k.1 in omega arith
 not_itself : (a b : Track) → IsTrackBefore a b → a ≡ b → ⊥
 not_itself a b h e = not_both a b h (subst (λ t. IsTrackBefore t a) e (subst (λ t. IsTrackBefore a t) (sym e) h))
 
-one_detour : (c d : Track) (u v : ℕ) → IsTrackBefore c d ⊎ ((c ≡ d) × (u ≤ v)) → IsTrackBefore d c ⊎ ((d ≡ c) × (v ≤ u)) → Detour c u ≡ Detour d v
+one_detour : (c d : Track) (u v : ℕ) → IsTrackBefore c d ⊎ ((c ≡ d) × (u ≤ v)) → IsTrackBefore d c ⊎ ((d ≡ c) × (v ≤ u))
+    → Detour c u ≡ Detour d v
 one_detour c d u v (inl h) (inl k) = absurd (not_both c d h k)
 one_detour c d u v (inl h) (inr k) = absurd (not_itself c d h (sym k.0))
 one_detour c d u v (inr h) (inl k) = absurd (not_itself d c k (sym h.0))
-one_detour c d u v (inr h) (inr k) = ap (λ t. Detour t u) h.0 ∙ ap (Detour d) (let less = h.1 in let more = k.1 in let same : u ≡ v = omega arith in same)
+one_detour c d u v (inr h) (inr k) =
+    ap (λ t. Detour t u) h.0 ∙ ap (Detour d) (let less = h.1 in let more = k.1 in let same : u ≡ v = omega arith in same)
 
 one_first : (a b : Plan) → IsNoLater a b → IsNoLater b a → a ≡ b
 one_first (Direct u) (Direct v) h k = ap Direct (let same : u ≡ v = omega arith in same)
@@ -57,7 +60,8 @@ abbrev pub gots : List Delivery → List DeliveryRow
 gots deliveries = map (λ delivery. delivery.got) deliveries
 
 -- what follows deliveries is determined
-one_following : (medium : Medium) (past : Past) (xs ys : List Delivery) → AreFollowed medium past xs → AreFollowed medium past ys → gots xs ≡ gots ys → xs ≡ ys
+one_following : (medium : Medium) (past : Past) (xs ys : List Delivery) → AreFollowed medium past xs → AreFollowed medium past ys
+    → gots xs ≡ gots ys → xs ≡ ys
 one_following medium past [] [] h k e = refl
 one_following medium past [] (y ∷ ys) h k e = absurd (not_none y.got (gots ys) (sym e))
 one_following medium past (x ∷ xs) [] h k e = absurd (not_none x.got (gots xs) e)
@@ -66,7 +70,8 @@ one_following medium past (x ∷ xs) (y ∷ ys) h k e =
     let after : x.after ≡ y.after = h.0 ∙ ap (λ got. findings past got ++ test_rows medium (delivered got ∷ past) got.end) got ∙ sym k.0 in
     let same : x ≡ y = ap (λ g. record { got = g; after = x.after }) got ∙ ap (λ rows. record { got = y.got; after = rows }) after in
     ap (λ d. d ∷ xs) same
-    ∙ ap (λ ds. y ∷ ds) (one_following medium (with_delivery past y) xs ys (subst (λ d. AreFollowed medium (with_delivery past d) xs) same h.1) k.1 (same_rest x.got y.got (gots xs) (gots ys) e))
+    ∙ ap (λ ds. y ∷ ds) (one_following medium (with_delivery past y) xs ys
+    (subst (λ d. AreFollowed medium (with_delivery past d) xs) same h.1) k.1 (same_rest x.got y.got (gots xs) (gots ys) e))
 
 one_act : (disk : Disk) (wanted : List Block) (a b : Act) → decision_of a ≡ decision_of b
     → HasBestPlan disk wanted a → HasBestPlan disk wanted b → a ≡ b

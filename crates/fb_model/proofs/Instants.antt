@@ -1,5 +1,6 @@
 -- The instants of arrivals and calls, and those of them by an instant.
-use Rattle.std.proofs.Common.{◌≡◌, ◌⊎◌, ℕ, ◌<◌, ◌≤◌, List, [], ◌∷◌, map, Bool, true, false, refl, ap, ap₂, sym, ◌∙◌, arith, inl, inr, nat_le}
+use Rattle.std.proofs.Common.{◌≡◌, ◌⊎◌, ℕ, ◌<◌, ◌≤◌, List, [], ◌∷◌, map, Bool, true, false, refl, ap, ap₂, sym, ◌∙◌, arith, inl, inr}
+use Rattle.std.proofs.Common.{nat_le}
 use Rattle.std.specs.Prelude.{filter}
 use Rattle.std.specs.List.{AllByRecursion, fold}
 use Rattle.std.proofs.lemmas.Bool.{cases_Bool}
@@ -20,8 +21,10 @@ abbrev pub IsAmong : ℕ → List ℕ → Type 0
 IsAmong t [] = ⊥
 IsAmong t (x ∷ xs) = (x ≡ t) ⊎ IsAmong t xs
 
-pub all_after : (t x : ℕ) (instants : List ℕ) → t < x → AllByRecursion (λ later. x ≤ later) instants → AllByRecursion (λ instant. is_by_then t instant ≡ false) instants
-all_after t x instants h all = all_weaker (λ later. x ≤ later) (λ instant. is_by_then t instant ≡ false) (λ y from. after_is y t (omega (arith, from, h))) instants all
+pub all_after : (t x : ℕ) (instants : List ℕ) → t < x → AllByRecursion (λ later. x ≤ later) instants
+    → AllByRecursion (λ instant. is_by_then t instant ≡ false) instants
+all_after t x instants h all =
+    all_weaker (λ later. x ≤ later) (λ instant. is_by_then t instant ≡ false) (λ y from. after_is y t (omega (arith, from, h))) instants all
 
 -- ---- an instant comes among others
 
@@ -36,7 +39,8 @@ pub rising_among : (xs : List ℕ) (t : ℕ) → IsRising xs → IsRising (among
 rising_among [] t rising = (tt, tt)
 rising_among (x ∷ xs) t rising = elim (cases_Bool (nat_le x t)) [
   | inl first ↦ rw first (all_among (λ later. x ≤ later) xs t rising.0 (grind (arith, nat_tests)), rising_among xs t rising.1)
-  | inr later ↦ rw later (let less : t ≤ x = grind (arith, nat_tests) in ((less, all_weaker (λ y. x ≤ y) (λ y. t ≤ y) (λ y h. omega (arith, h, less)) xs rising.0), rising))
+  | inr later ↦ rw later (let less : t ≤ x = grind (arith, nat_tests) in
+      ((less, all_weaker (λ y. x ≤ y) (λ y. t ≤ y) (λ y h. omega (arith, h, less)) xs rising.0), rising))
 ]
 
 pub was_among : (u : ℕ) (xs : List ℕ) (t : ℕ) → IsAmong u xs → IsAmong u (among xs t)
@@ -46,7 +50,8 @@ was_among u (x ∷ xs) t there = elim (cases_Bool (nat_le x t)) [
   | inr later ↦ rw later (inr there)
 ]
 
-kept_among : (t : ℕ) (xs : List ℕ) (x : ℕ) → IsRising xs → is_by_then t x ≡ true → filter (is_by_then t) (among xs x) ≡ among (filter (is_by_then t) xs) x
+kept_among : (t : ℕ) (xs : List ℕ) (x : ℕ) → IsRising xs → is_by_then t x ≡ true
+    → filter (is_by_then t) (among xs x) ≡ among (filter (is_by_then t) xs) x
 kept_among t [] x rising by = rw by refl
 kept_among t (y ∷ xs) x rising by = elim (cases_Bool (nat_le y x)) [
   | inl first ↦
@@ -78,7 +83,8 @@ pub was_all_among : (u : ℕ) (ts xs : List ℕ) → IsAmong u xs → IsAmong u 
 was_all_among u [] xs there = there
 was_all_among u (t ∷ ts) xs there = was_all_among u ts (among xs t) (was_among u xs t there)
 
-kept_all_among : (t : ℕ) (us xs : List ℕ) → IsRising xs → filter (is_by_then t) (fold among xs us) ≡ fold among (filter (is_by_then t) xs) (filter (is_by_then t) us)
+kept_all_among : (t : ℕ) (us xs : List ℕ) → IsRising xs
+    → filter (is_by_then t) (fold among xs us) ≡ fold among (filter (is_by_then t) xs) (filter (is_by_then t) us)
 kept_all_among t [] xs rising = refl
 kept_all_among t (u ∷ us) xs rising = kept_all_among t us (among xs u) (rising_among xs u rising) ∙ elim (cases_Bool (is_by_then t u)) [
   | inl by ↦ rw by (ap (λ ys. fold among ys (filter (is_by_then t) us)) (kept_among t xs u rising by))
@@ -87,26 +93,36 @@ kept_all_among t (u ∷ us) xs rising = kept_all_among t us (among xs u) (rising
 
 -- ---- of requests and calls
 
-arrivals_among : (requests : List Request) → AllByRecursion (λ (r : Request). IsAmong r.arrival (map (λ (r : Request). r.arrival) requests)) requests
+arrivals_among : (requests : List Request)
+    → AllByRecursion (λ (r : Request). IsAmong r.arrival (map (λ (r : Request). r.arrival) requests)) requests
 arrivals_among [] = tt
 arrivals_among (request ∷ requests) = (
   inl refl,
-  all_weaker (λ (r : Request). IsAmong r.arrival (map (λ (r : Request). r.arrival) requests)) (λ (r : Request). IsAmong r.arrival (map (λ (r : Request). r.arrival) (request ∷ requests))) (λ r there. inr there) requests (arrivals_among requests),
+  all_weaker (λ (r : Request). IsAmong r.arrival (map (λ (r : Request). r.arrival) requests))
+      (λ (r : Request). IsAmong r.arrival (map (λ (r : Request). r.arrival) (request ∷ requests))) (λ r there. inr there) requests
+      (arrivals_among requests),
 )
 
 abbrev pub instants_from : List Request → List Call → List ℕ
 instants_from requests calls = fold among (map (λ (r : Request). r.arrival) requests) (map (λ (call : Call). call.instant) calls)
 
-pub all_come : (requests : List Request) (calls : List Call) → AllByRecursion (λ (r : Request). IsAmong r.arrival (instants_from requests calls)) requests
-all_come requests calls = all_weaker (λ (r : Request). IsAmong r.arrival (map (λ (r : Request). r.arrival) requests)) (λ (r : Request). IsAmong r.arrival (instants_from requests calls))
-    (λ r there. was_all_among r.arrival (map (λ (call : Call). call.instant) calls) (map (λ (r : Request). r.arrival) requests) there) requests (arrivals_among requests)
+pub all_come : (requests : List Request) (calls : List Call)
+    → AllByRecursion (λ (r : Request). IsAmong r.arrival (instants_from requests calls)) requests
+all_come requests calls = all_weaker (λ (r : Request). IsAmong r.arrival (map (λ (r : Request). r.arrival) requests))
+    (λ (r : Request). IsAmong r.arrival (instants_from requests calls))
+    (λ r there. was_all_among r.arrival (map (λ (call : Call). call.instant) calls) (map (λ (r : Request). r.arrival) requests) there)
+    requests (arrivals_among requests)
 
-pub same_instants : (t : ℕ) (requests_a requests_b : List Request) (calls_a calls_b : List Call) → IsRising (map (λ (r : Request). r.arrival) requests_a) → IsRising (map (λ (r : Request). r.arrival) requests_b)
-    → filter (λ (r : Request). nat_le r.arrival t) requests_a ≡ filter (λ (r : Request). nat_le r.arrival t) requests_b → filter (λ (call : Call). nat_le call.instant t) calls_a ≡ filter (λ (call : Call). nat_le call.instant t) calls_b
+pub same_instants : (t : ℕ) (requests_a requests_b : List Request) (calls_a calls_b : List Call)
+    → IsRising (map (λ (r : Request). r.arrival) requests_a) → IsRising (map (λ (r : Request). r.arrival) requests_b)
+    → filter (λ (r : Request). nat_le r.arrival t) requests_a ≡ filter (λ (r : Request). nat_le r.arrival t) requests_b
+    → filter (λ (call : Call). nat_le call.instant t) calls_a ≡ filter (λ (call : Call). nat_le call.instant t) calls_b
     → filter (is_by_then t) (instants_from requests_a calls_a) ≡ filter (is_by_then t) (instants_from requests_b calls_b)
 same_instants t requests_a requests_b calls_a calls_b rising_a rising_b requests calls =
     let arrival = λ (r : Request). r.arrival in
     let instant = λ (call : Call). call.instant in
     let each = λ (requests : List Request) (calls : List Call) (rising : IsRising (map arrival requests)).
-    kept_all_among t (map instant calls) (map arrival requests) rising ∙ ap₂ (fold among) (kept_map (is_by_then t) arrival requests) (kept_map (is_by_then t) instant calls) in
-    each requests_a calls_a rising_a ∙ (ap₂ (λ requests calls. fold among (map arrival requests) (map instant calls)) requests calls ∙ sym (each requests_b calls_b rising_b))
+    kept_all_among t (map instant calls) (map arrival requests) rising
+    ∙ ap₂ (fold among) (kept_map (is_by_then t) arrival requests) (kept_map (is_by_then t) instant calls) in
+    each requests_a calls_a rising_a ∙ (ap₂ (λ requests calls. fold among (map arrival requests) (map instant calls)) requests calls
+    ∙ sym (each requests_b calls_b rising_b))

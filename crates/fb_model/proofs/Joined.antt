@@ -1,9 +1,11 @@
 -- The foreground list: each request once, in the order of arrival.
-use Rattle.std.proofs.Common.{ℕ, ◌≤◌, List, [], ◌∷◌, ◌++◌, map, sym, subst, arith, inl, inr, nat_le, append_assoc, append-nil, IsPermutation}
+use Rattle.std.proofs.Common.{ℕ, ◌≤◌, List, [], ◌∷◌, ◌++◌, map, sym, subst, arith, inl, inr, nat_le, append_assoc, append-nil}
+use Rattle.std.proofs.Common.{IsPermutation}
 use Rattle.std.specs.List.{AllByRecursion, fold}
 use Rattle.std.proofs.lemmas.Bool.{cases_Bool}
 use Rattle.std.proofs.lemmas.Bool.Decides.{nat_tests}
-use Rattle.std.proofs.lemmas.List.Sorted.{IsPermutation-refl, IsPermutation-trans, IsPermutation-cons, IsPermutation-to_front, IsPermutation-append_left}
+use Rattle.std.proofs.lemmas.List.Sorted.{IsPermutation-refl, IsPermutation-trans, IsPermutation-cons, IsPermutation-to_front}
+use Rattle.std.proofs.lemmas.List.Sorted.{IsPermutation-append_left}
 use Rattle.fb_units.specs.declared.types.Request.{Request}
 use Rattle.fb_units.specs.Rising.{IsRising}
 use Rattle.fb_model.specs.Foreground.{behind, promoted}
@@ -14,22 +16,29 @@ use Rattle.fb_model.specs.Laws.{IsInOrder}
 abbrev arrivals : List Request → List ℕ
 arrivals requests = map (λ request. request.arrival) requests
 
-all_behind : (t : ℕ) (requests : List Request) (read : Request) → AllByRecursion (λ later. t ≤ later) (arrivals requests) → t ≤ read.arrival → AllByRecursion (λ later. t ≤ later) (arrivals (behind requests read))
+all_behind : (t : ℕ) (requests : List Request) (read : Request) → AllByRecursion (λ later. t ≤ later) (arrivals requests) → t ≤ read.arrival
+    → AllByRecursion (λ later. t ≤ later) (arrivals (behind requests read))
 all_behind t [] read all h = (h, tt)
 all_behind t (request ∷ requests) read all h = elim (cases_Bool (nat_le request.arrival read.arrival)) [
   | inl first ↦ rw first (all.0, all_behind t requests read all.1 h)
   | inr later ↦ rw later (h, all)
 ]
 
-all_after : (t first : ℕ) (requests : List Request) → t ≤ first → AllByRecursion (λ later. first ≤ later) (arrivals requests) → AllByRecursion (λ later. t ≤ later) (arrivals requests)
+all_after : (t first : ℕ) (requests : List Request) → t ≤ first → AllByRecursion (λ later. first ≤ later) (arrivals requests)
+    → AllByRecursion (λ later. t ≤ later) (arrivals requests)
 all_after t first [] h all = tt
 all_after t first (request ∷ requests) h all = (let one = all.0 in omega arith, all_after t first requests h all.1)
 
 rising_behind : (requests : List Request) (read : Request) → IsRising (arrivals requests) → IsRising (arrivals (behind requests read))
 rising_behind [] read rising = (tt, tt)
 rising_behind (request ∷ requests) read rising = elim (cases_Bool (nat_le request.arrival read.arrival)) [
-  | inl first ↦ rw first (all_behind request.arrival requests read rising.0 (grind (arith, nat_tests)), rising_behind requests read rising.1)
-  | inr later ↦ rw later (let earlier : read.arrival ≤ request.arrival = grind (arith, nat_tests) in (earlier, all_after read.arrival request.arrival requests earlier rising.0), rising)
+  | inl first ↦
+      rw first (all_behind request.arrival requests read rising.0 (grind (arith, nat_tests)), rising_behind requests read rising.1)
+  | inr later ↦ rw later (
+    let earlier : read.arrival ≤ request.arrival = grind (arith, nat_tests) in
+        (earlier, all_after read.arrival request.arrival requests earlier rising.0),
+    rising,
+  )
 ]
 
 rising_all : (reads requests : List Request) → IsRising (arrivals requests) → IsRising (arrivals (fold behind requests reads))
@@ -45,7 +54,8 @@ moved_behind (request ∷ requests) read = elim (cases_Bool (nat_le request.arri
 
 moved_all : (reads requests : List Request) → IsPermutation (requests ++ reads) (fold behind requests reads)
 moved_all [] requests = subst (λ xs. IsPermutation xs requests) (sym (append-nil requests)) (IsPermutation-refl requests)
-moved_all (read ∷ reads) requests = IsPermutation-trans (requests ++ read ∷ reads) (behind requests read ++ reads) (fold behind (behind requests read) reads)
+moved_all (read ∷ reads) requests =
+    IsPermutation-trans (requests ++ read ∷ reads) (behind requests read ++ reads) (fold behind (behind requests read) reads)
     (subst (λ xs. IsPermutation xs (behind requests read ++ reads)) (append_assoc requests (read ∷ []) reads)
     (IsPermutation-append_left reads (requests ++ read ∷ []) (behind requests read) (moved_behind requests read)))
     (moved_all reads (behind requests read))

@@ -1,5 +1,6 @@
 -- Lists whose elements all have a property, and what a test keeps of them.
-use Rattle.std.proofs.Common.{◌≡◌, ℕ, zero, suc, ◌+◌, ◌≤◌, ◌<◌, List, [], ◌∷◌, ◌++◌, Bool, true, false, map, inl, inr, refl, ap, ap₂, sym, ◌∙◌, arith, nat_le}
+use Rattle.std.proofs.Common.{◌≡◌, ℕ, zero, suc, ◌+◌, ◌≤◌, ◌<◌, List, [], ◌∷◌, ◌++◌, Bool, true, false, map, inl, inr, refl, ap, ap₂, sym}
+use Rattle.std.proofs.Common.{◌∙◌, arith, nat_le}
 use Rattle.std.specs.Prelude.{filter}
 use Rattle.std.specs.List.{AllByRecursion, best_of, flat_map, range_with_len}
 use Rattle.std.proofs.lemmas.Bool.{cases_Bool, true≢false}
@@ -7,7 +8,8 @@ use Rattle.std.proofs.lemmas.Bool.Decides.{nat_tests}
 use Rattle.fb_units.proofs.Lists.{all_filter, all_append}
 use Rattle.fb_units.specs.Rising.{IsRising}
 
-pub all_both : {X : Type 0} (P Q : X → Type 0) (xs : List X) → AllByRecursion P xs → AllByRecursion Q xs → AllByRecursion (λ x. P x × Q x) xs
+pub all_both : {X : Type 0} (P Q : X → Type 0) (xs : List X) → AllByRecursion P xs → AllByRecursion Q xs
+    → AllByRecursion (λ x. P x × Q x) xs
 all_both P Q [] a b = tt
 all_both P Q (x ∷ xs) a b = ((a.0, b.0), all_both P Q xs a.1 b.1)
 
@@ -19,11 +21,13 @@ pub all_map : {X Y : Type 0} (P : Y → Type 0) (f : X → Y) (xs : List X) → 
 all_map P f [] all = tt
 all_map P f (x ∷ xs) all = (all.0, all_map P f xs all.1)
 
-pub all_unmapped : {X Y : Type 0} (P : Y → Type 0) (f : X → Y) (xs : List X) → AllByRecursion P (map f xs) → AllByRecursion (λ x. P (f x)) xs
+pub all_unmapped : {X Y : Type 0} (P : Y → Type 0) (f : X → Y) (xs : List X) → AllByRecursion P (map f xs)
+    → AllByRecursion (λ x. P (f x)) xs
 all_unmapped P f [] all = tt
 all_unmapped P f (x ∷ xs) all = (all.0, all_unmapped P f xs all.1)
 
-pub all_flat_map : {X Y : Type 0} (P : Y → Type 0) (f : X → List Y) → ((x : X) → AllByRecursion P (f x)) → (xs : List X) → AllByRecursion P (flat_map f xs)
+pub all_flat_map : {X Y : Type 0} (P : Y → Type 0) (f : X → List Y) → ((x : X) → AllByRecursion P (f x)) → (xs : List X)
+    → AllByRecursion P (flat_map f xs)
 all_flat_map P f each [] = tt
 all_flat_map P f each (x ∷ xs) = all_append P (f x) (flat_map f xs) (each x) (all_flat_map P f each xs)
 
@@ -47,12 +51,14 @@ pub same_map : {X Y : Type 0} (f g : X → Y) → ((x : X) → f x ≡ g x) → 
 same_map f g same [] = refl
 same_map f g same (x ∷ xs) = ap₂ (λ y ys. y ∷ ys) (same x) (same_map f g same xs)
 
-pub same_map_where : {X Y : Type 0} (P : X → Type 0) (f g : X → Y) → ((x : X) → P x → f x ≡ g x) → (xs : List X) → AllByRecursion P xs → map f xs ≡ map g xs
+pub same_map_where : {X Y : Type 0} (P : X → Type 0) (f g : X → Y) → ((x : X) → P x → f x ≡ g x) → (xs : List X) → AllByRecursion P xs
+    → map f xs ≡ map g xs
 same_map_where P f g same [] all = refl
 same_map_where P f g same (x ∷ xs) all = ap₂ (λ y ys. y ∷ ys) (same x all.0) (same_map_where P f g same xs all.1)
 
 -- functions that agree on what a test keeps
-pub same_kept : {X Y : Type 0} (test : X → Bool) (f g : X → Y) → ((x : X) → test x ≡ true → f x ≡ g x) → (xs : List X) → map f (filter test xs) ≡ map g (filter test xs)
+pub same_kept : {X Y : Type 0} (test : X → Bool) (f g : X → Y) → ((x : X) → test x ≡ true → f x ≡ g x) → (xs : List X)
+    → map f (filter test xs) ≡ map g (filter test xs)
 same_kept test f g same [] = refl
 same_kept test f g same (x ∷ xs) = elim (cases_Bool (test x)) [
   | inl kept ↦ rw kept (ap₂ (λ y ys. y ∷ ys) (same x kept) (same_kept test f g same xs))

@@ -1,5 +1,6 @@
 -- No decision looks ahead: what is known of a run by an instant depends only on what has come by then.
-use Rattle.std.proofs.Common.{◌≡◌, ℕ, ◌<◌, ◌≤◌, List, [], ◌∷◌, ◌++◌, length, map, refl, ap, ap₂, sym, subst, ◌∙◌, arith, append_assoc, false}
+use Rattle.std.proofs.Common.{◌≡◌, ℕ, ◌<◌, ◌≤◌, List, [], ◌∷◌, ◌++◌, length, map, refl, ap, ap₂, sym, subst, ◌∙◌, arith, append_assoc}
+use Rattle.std.proofs.Common.{false}
 use Rattle.std.specs.Prelude.{filter}
 use Rattle.std.specs.List.{AllByRecursion, fold, flat_map}
 use Rattle.fb_units.proofs.Lists.{all_weaker}
@@ -17,11 +18,13 @@ use Rattle.fb_rows.specs.declared.run.Run.{Run}
 use Rattle.fb_model.specs.PlainReplay.{Key, has_arrived, first_track, plain_replay}
 use Rattle.fb_model.specs.Inputs.{Inputs, requests, served}
 use Rattle.fb_model.specs.Content.{Medium, Written, contents_at, medium_of, fore_row, fore_rows}
-use Rattle.fb_model.specs.Decisions.{Decision, idles, instant_of, end_of, Act, serving, idling, ending, decision_of, decisions_from, decisions, among}
+use Rattle.fb_model.specs.Decisions.{Decision, idles, instant_of, end_of, Act, serving, idling, ending, decision_of, decisions_from}
+use Rattle.fb_model.specs.Decisions.{decisions, among}
 use Rattle.fb_model.specs.History.{Past, tested, wanted}
 use Rattle.fb_model.specs.Images.{test_rows}
 use Rattle.fb_model.specs.Rides.{due}
-use Rattle.fb_model.specs.Steps.{Delivery, Step, decision_in, decisions_in, chosen_past, with_delivery, with_finish, tested_past, past_after, AtEach, opening, step_rows}
+use Rattle.fb_model.specs.Steps.{Delivery, Step, decision_in, decisions_in, chosen_past, with_delivery, with_finish, tested_past}
+use Rattle.fb_model.specs.Steps.{past_after, AtEach, opening, step_rows}
 use Rattle.fb_model.specs.Accepted.{IsAccepted, IsRising}
 use Rattle.fb_model.specs.SoundRun.{AreFollowed}
 use Rattle.fb_model.specs.FullRun.{HasBestPlan, IsFull}
@@ -37,18 +40,23 @@ use Rattle.fb_model.proofs.Passages.{LiesOnDisk, are_services, requests_lie, wri
 use Rattle.fb_model.proofs.ContentsUpTo.{medium_with, HoldSame, same_contents, hold_same, same_fore}
 use Rattle.fb_model.proofs.Instants.{instants_from, rising_all_among, all_come, same_instants}
 use Rattle.fb_model.proofs.DecisionsUpTo.{IsMade, IsLater, AlikeDecisions, same, dwelling, later, end_from, alike_decisions}
-use Rattle.fb_model.proofs.HistoriesUpTo.{HasSector, AreFine, HasBegun, wanted_fine, chosen_fine, after_fine, all_fine_weaker, calls_by, RiseInTime, same_chosen}
-use Rattle.fb_model.proofs.RowsUpTo.{AreUnknown, AreKnownAlike, IsUnknown, unknown_before, alike_behind, tests_unknown, tasks_unknown, delivered_rows, deliveries_unknown, same_tests, same_followed, ends_by_then, RisingEnds, alike_deliveries}
+use Rattle.fb_model.proofs.HistoriesUpTo.{HasSector, AreFine, HasBegun, wanted_fine, chosen_fine, after_fine, all_fine_weaker, calls_by}
+use Rattle.fb_model.proofs.HistoriesUpTo.{RiseInTime, same_chosen}
+use Rattle.fb_model.proofs.RowsUpTo.{AreUnknown, AreKnownAlike, IsUnknown, unknown_before, alike_behind, tests_unknown, tasks_unknown}
+use Rattle.fb_model.proofs.RowsUpTo.{delivered_rows, deliveries_unknown, same_tests, same_followed, ends_by_then, RisingEnds}
+use Rattle.fb_model.proofs.RowsUpTo.{alike_deliveries}
 use Rattle.fb_model.proofs.Unlined.{unlined_inputs, steps_same, instants_same}
 use Rattle.fb_model.proofs.DueUpTo.{LiesBetween, AgreeBetween, delivers_by, due_between, same_due, rising_caught, same_by_then}
 
 -- ---- one decision
 
-gots_all : (P : DeliveryRow → Type 0) (deliveries : List Delivery) → AllByRecursion P (gots deliveries) → AllByRecursion (λ (d : Delivery). P d.got) deliveries
+gots_all : (P : DeliveryRow → Type 0) (deliveries : List Delivery) → AllByRecursion P (gots deliveries)
+    → AllByRecursion (λ (d : Delivery). P d.got) deliveries
 gots_all P [] all = tt
 gots_all P (d ∷ ds) all = (all.0, gots_all P ds all.1)
 
-regroup : (test opened got rest more : List BackRow) → (((test ++ opened) ++ got) ++ rest) ++ more ≡ test ++ (opened ++ (got ++ (rest ++ more)))
+regroup : (test opened got rest more : List BackRow)
+    → (((test ++ opened) ++ got) ++ rest) ++ more ≡ test ++ (opened ++ (got ++ (rest ++ more)))
 regroup test opened got rest more = simp append_assoc
 
 opening_unknown : (t : ℕ) (disk : Disk) (act : Act) → IsLater t disk (decision_of act) → AllByRecursion (IsUnknown t) (opening disk act)
@@ -56,7 +64,8 @@ opening_unknown t disk (serving served plan) late = (λ follows. after_is served
 opening_unknown t disk (idling dwell) late = (λ follows. after_is dwell.end t late.upto, tt)
 opening_unknown t disk (ending now) late = tt
 
-module _ (disk : Disk) (latent : List ℕ) (key : Key) (trace : List Request) (passed_over : ℕ) (calls : List Call) (until : ℕ) (writes : List Written) where
+module _ (disk : Disk) (latent : List ℕ) (key : Key) (trace : List Request) (passed_over : ℕ) (calls : List Call) (until : ℕ)
+    (writes : List Written) where
   abbrev inputs : Inputs
   inputs = record { disk = disk; latent = latent; trace = trace; passed_over = passed_over; calls = calls; key = key; until = until }
 
@@ -64,23 +73,28 @@ module _ (disk : Disk) (latent : List ℕ) (key : Key) (trace : List Request) (p
   medium = record { disk = disk; latent = latent; writes = writes }
 
   -- deliveries lie within their decision
-  step_between : (P : DeliveryRow → Type 0) (past : Past) (step : Step) → IsFullStep inputs medium past step → IsMade disk (decision_in step) → AreFine P past
+  step_between : (P : DeliveryRow → Type 0) (past : Past) (step : Step) → IsFullStep inputs medium past step
+      → IsMade disk (decision_in step) → AreFine P past
       → AllByRecursion (LiesBetween (instant_of (decision_in step)) (end_of (decision_in step))) (gots step.deliveries)
   step_between P past step full made fine =
       let blocks = wanted (chosen_past inputs past (decision_in step)) in
       subst (AllByRecursion (LiesBetween (instant_of (decision_in step)) (end_of (decision_in step)))) (sym full.all)
-      (all_weaker (IsDueRow disk (contents_at medium) step.act HasSector) (LiesBetween (instant_of (decision_in step)) (end_of (decision_in step)))
+      (all_weaker (IsDueRow disk (contents_at medium) step.act HasSector)
+      (LiesBetween (instant_of (decision_in step)) (end_of (decision_in step)))
       (λ row due_row.
       let over = delivers_by disk (decision_in step) (end_of (decision_in step)) made (omega arith) in
       let block = due_block disk (contents_at medium) step.act HasSector row due_row in
       due_between disk (contents_at medium) step.act HasSector (end_of (decision_in step)) made
       (best_is_plan disk blocks step.act full.best) over row block due_row)
       (due disk (contents_at medium) step.act blocks)
-      (due_true disk (contents_at medium) step.act HasSector blocks (wanted_fine P (chosen_past inputs past (decision_in step)) (chosen_fine P inputs past (decision_in step) fine))))
+      (due_true disk (contents_at medium) step.act HasSector blocks
+      (wanted_fine P (chosen_past inputs past (decision_in step)) (chosen_fine P inputs past (decision_in step) fine))))
 
   -- nothing of decisions after t is known
-  steps_unknown : (t : ℕ) (P : DeliveryRow → Type 0) → ((row : DeliveryRow) → P row) → (past : Past) (steps : List Step) (more : List BackRow) → AllByRecursion (IsLater t disk) (decisions_in steps)
-      → AtEach (IsFullStep inputs medium) inputs past steps → AreFine P past → AreUnknown t more → AreUnknown t (flat_map (step_rows disk) steps ++ more)
+  steps_unknown : (t : ℕ) (P : DeliveryRow → Type 0) → ((row : DeliveryRow) → P row)
+      → (past : Past) (steps : List Step) (more : List BackRow) → AllByRecursion (IsLater t disk) (decisions_in steps)
+      → AtEach (IsFullStep inputs medium) inputs past steps → AreFine P past → AreUnknown t more
+      → AreUnknown t (flat_map (step_rows disk) steps ++ more)
   steps_unknown t P any past [] more late full fine unknown = unknown
   steps_unknown t P any past (step ∷ steps) more late full fine unknown =
       let rest = flat_map (step_rows disk) steps in
@@ -88,13 +102,16 @@ module _ (disk : Disk) (latent : List ℕ) (key : Key) (trace : List Request) (p
       let instant = late.0.from in
       let between = step_between P past step full.0 late.0.made fine in
       let others = steps_unknown t P any (past_after inputs past step) steps more late.1 full.1
-      (after_fine P inputs past step (gots_all P step.deliveries (all_weaker (LiesBetween (instant_of d) (end_of d)) P (λ row h. any row) (gots step.deliveries) between)) fine) unknown in
+      (after_fine P inputs past step (gots_all P step.deliveries
+      (all_weaker (LiesBetween (instant_of d) (end_of d)) P (λ row h. any row) (gots step.deliveries) between)) fine) unknown in
       subst (AreUnknown t) (sym (regroup step.test (opening disk step.act) (delivered_rows step.deliveries) rest more))
       (unknown_before t step.test (opening disk step.act ++ (delivered_rows step.deliveries ++ (rest ++ more)))
-      (subst (AllByRecursion (IsUnknown t)) (sym full.0.tests.test) (tests_unknown t medium (chosen_past inputs past d) (instant_of d) instant))
+      (subst (AllByRecursion (IsUnknown t)) (sym full.0.tests.test)
+      (tests_unknown t medium (chosen_past inputs past d) (instant_of d) instant))
       (unknown_before t (opening disk step.act) (delivered_rows step.deliveries ++ (rest ++ more)) (opening_unknown t disk step.act late.0)
       (deliveries_unknown t medium (tested_past inputs past step) step.deliveries (rest ++ more) full.0.tests.followed
-      (all_weaker (LiesBetween (instant_of d) (end_of d)) (λ (row : DeliveryRow). t < row.end) (λ row h. let begins = h.begins in let in_turn = h.in_turn in omega (arith, begins, in_turn, instant)) (gots step.deliveries) between)
+      (all_weaker (LiesBetween (instant_of d) (end_of d)) (λ (row : DeliveryRow). t < row.end)
+      (λ row h. let begins = h.begins in let in_turn = h.in_turn in omega (arith, begins, in_turn, instant)) (gots step.deliveries) between)
       others)))
 
 -- ---- two runs
@@ -102,10 +119,12 @@ module _ (disk : Disk) (latent : List ℕ) (key : Key) (trace : List Request) (p
 any_delivery : DeliveryRow → Type 0
 any_delivery row = Unit {0}
 
-module _ (disk : Disk) (latent : List ℕ) (key : Key) (trace_a trace_b : List Request) (over_a over_b : ℕ) (calls_a calls_b : List Call) (until_a until_b : ℕ) (writes_a writes_b : List Written)
+module _ (disk : Disk) (latent : List ℕ) (key : Key) (trace_a trace_b : List Request) (over_a over_b : ℕ) (calls_a calls_b : List Call)
+    (until_a until_b : ℕ) (writes_a writes_b : List Written)
     (rising_a : RiseInTime calls_a) (rising_b : RiseInTime calls_b)
     (t done : ℕ) (since : t ≤ done) (come : filter (calls_by t) calls_a ≡ filter (calls_by t) calls_b)
-    (hold : HoldSame done (record { disk = disk; latent = latent; writes = writes_a }) (record { disk = disk; latent = latent; writes = writes_b })) where
+    (hold : HoldSame done (record { disk = disk; latent = latent; writes = writes_a })
+    (record { disk = disk; latent = latent; writes = writes_b })) where
   abbrev inputs_a : Inputs
   inputs_a = record { disk = disk; latent = latent; trace = trace_a; passed_over = over_a; calls = calls_a; key = key; until = until_a }
 
@@ -121,11 +140,13 @@ module _ (disk : Disk) (latent : List ℕ) (key : Key) (trace_a trace_b : List R
   agree : AgreeBetween 0 done (contents_at medium_a) (contents_at medium_b)
   agree lbn n u after before = same_contents done medium_a medium_b hold lbn n u before
 
-  chooses : (past : Past) (d e : Decision) → instant_of d ≤ t → instant_of d ≡ instant_of e → chosen_past inputs_a past d ≡ chosen_past inputs_b past e
+  chooses : (past : Past) (d e : Decision) → instant_of d ≤ t → instant_of d ≡ instant_of e
+      → chosen_past inputs_a past d ≡ chosen_past inputs_b past e
   chooses past d e h at = same_chosen inputs_a inputs_b t past d e refl rising_a rising_b come h at
 
   -- a step of the one run's would do in the other
-  as_well : (past : Past) (step : Step) → instant_of (decision_in step) ≤ t → end_of (decision_in step) ≤ done → IsMade disk (decision_in step) → AreFine (HasBegun done) past
+  as_well : (past : Past) (step : Step) → instant_of (decision_in step) ≤ t → end_of (decision_in step) ≤ done
+      → IsMade disk (decision_in step) → AreFine (HasBegun done) past
       → IsFullStep inputs_b medium_b past step → IsFullStep inputs_a medium_a past step
   as_well past step h ended made fine full =
       let d = decision_in step in
@@ -136,25 +157,34 @@ module _ (disk : Disk) (latent : List ℕ) (key : Key) (trace_a trace_b : List R
       let between = step_between disk latent key trace_b over_b calls_b until_b writes_b (HasBegun done) past step full made fine in
       record {
         tests = record {
-          test = full.tests.test ∙ (ap (λ past. test_rows medium_b past (instant_of d)) (sym chosen) ∙ sym (same_tests done medium_a medium_b hold chosen_a (instant_of d) fine_a (omega arith)));
+          test = full.tests.test ∙ (ap (λ past. test_rows medium_b past (instant_of d)) (sym chosen)
+              ∙ sym (same_tests done medium_a medium_b hold chosen_a (instant_of d) fine_a (omega arith)));
           followed = same_followed done medium_a medium_b hold (tested step.test ∷ chosen_a) step.deliveries (tt, fine_a)
-              (all_weaker (LiesBetween (instant_of d) (end_of d)) (λ (row : DeliveryRow). (row.begin ≤ done) × (row.end ≤ done)) (λ row lies. let in_turn = lies.in_turn in let over = lies.ends in (omega (arith, in_turn, over, ended), omega (arith, over, ended))) (gots step.deliveries) between)
+              (all_weaker (LiesBetween (instant_of d) (end_of d)) (λ (row : DeliveryRow). (row.begin ≤ done) × (row.end ≤ done))
+              (λ row lies. let in_turn = lies.in_turn in let over = lies.ends in
+              (omega (arith, in_turn, over, ended), omega (arith, over, ended))) (gots step.deliveries) between)
               (subst (λ past. AreFollowed medium_b (tested step.test ∷ past) step.deliveries) (sym chosen) full.tests.followed);
         };
         best = subst (λ past. HasBestPlan disk (wanted past) step.act) (sym chosen) full.best;
         all = full.all ∙ (ap (λ past. due disk (contents_at medium_b) step.act (wanted past)) (sym chosen)
-            ∙ sym (same_due disk (contents_at medium_a) (contents_at medium_b) 0 done agree step.act (wanted chosen_a) made (best_is_plan disk blocks step.act full.best) (omega arith) (delivers_by disk d done made ended) (wanted_fine (HasBegun done) chosen_a fine_a)));
+            ∙ sym (same_due disk (contents_at medium_a) (contents_at medium_b) 0 done agree step.act
+            (wanted chosen_a) made (best_is_plan disk blocks step.act full.best) (omega arith) (delivers_by disk d done made ended)
+            (wanted_fine (HasBegun done) chosen_a fine_a)));
       }
 
   goes_on : (past : Past) (step : Step) → instant_of (decision_in step) ≤ t → past_after inputs_a past step ≡ past_after inputs_b past step
   unfolding past_after
-  goes_on past step h = ap (λ past. with_finish (fold with_delivery (tested step.test ∷ past) step.deliveries) (decision_in step)) (chooses past (decision_in step) (decision_in step) h refl)
+  goes_on past step h = ap (λ past. with_finish (fold with_delivery (tested step.test ∷ past) step.deliveries) (decision_in step))
+      (chooses past (decision_in step) (decision_in step) h refl)
 
   -- a dwell that is under way
-  dwell_alike : (past : Past) (head : Track) (now end_a end_b : ℕ) (x y : Step) (rest_a rest_b more_a more_b : List BackRow) → now ≤ t → t < end_a → t < end_b → AreFine (HasBegun done) past
-      → IsFullStep inputs_a medium_a past (dwelt x (record { track = head; begin = now; end = end_a })) → IsFullStep inputs_b medium_b past (dwelt y (record { track = head; begin = now; end = end_b }))
+  dwell_alike : (past : Past) (head : Track) (now end_a end_b : ℕ) (x y : Step) (rest_a rest_b more_a more_b : List BackRow) → now ≤ t
+      → t < end_a → t < end_b → AreFine (HasBegun done) past
+      → IsFullStep inputs_a medium_a past (dwelt x (record { track = head; begin = now; end = end_a }))
+      → IsFullStep inputs_b medium_b past (dwelt y (record { track = head; begin = now; end = end_b }))
       → AreUnknown t (rest_a ++ more_a) → AreUnknown t (rest_b ++ more_b)
-      → AreKnownAlike t ((step_rows disk (dwelt x (record { track = head; begin = now; end = end_a })) ++ rest_a) ++ more_a) ((step_rows disk (dwelt y (record { track = head; begin = now; end = end_b })) ++ rest_b) ++ more_b)
+      → AreKnownAlike t ((step_rows disk (dwelt x (record { track = head; begin = now; end = end_a })) ++ rest_a) ++ more_a)
+      ((step_rows disk (dwelt y (record { track = head; begin = now; end = end_b })) ++ rest_b) ++ more_b)
   unfolding due
   dwell_alike past head now end_a end_b x y rest_a rest_b more_a more_b h late_a late_b fine full_a full_b unknown_a unknown_b =
       let dwell_a : Dwell = record { track = head; begin = now; end = end_a } in
@@ -168,24 +198,35 @@ module _ (disk : Disk) (latent : List ℕ) (key : Key) (trace_a trace_b : List R
       let rows : x.test ≡ y.test = full_a.tests.test ∙ (same_tests done medium_a medium_b hold chosen_a now fine_a (omega arith)
       ∙ (ap (λ past. test_rows medium_b past now) chosen ∙ sym full_b.tests.test)) in
       let pasts : tested x.test ∷ chosen_a ≡ tested y.test ∷ chosen_b = ap₂ (λ rows past. tested rows ∷ past) rows chosen in
-      let between = step_between disk latent key trace_a over_a calls_a until_a writes_a (HasBegun done) past (dwelt x dwell_a) full_a tt fine in
+      let between =
+      step_between disk latent key trace_a over_a calls_a until_a writes_a (HasBegun done) past (dwelt x dwell_a) full_a tt fine in
       let kept : filter (ends_by_then t) (gots x.deliveries) ≡ filter (ends_by_then t) (gots y.deliveries) =
-      ap (filter (ends_by_then t)) full_a.all ∙ (same_by_then disk (contents_at medium_a) (contents_at medium_b) t done since agree ByIdle head now end_a end_b late_a late_b (wanted chosen_a)
-      ∙ (ap (λ past. filter (ends_by_then t) (due disk (contents_at medium_b) (idling dwell_b) (wanted past))) chosen ∙ sym (ap (filter (ends_by_then t)) full_b.all))) in
-      let alike = alike_deliveries t done since medium_a medium_b hold (tested x.test ∷ chosen_a) x.deliveries y.deliveries (rest_a ++ more_a) (rest_b ++ more_b) (tt, fine_a) full_a.tests.followed
+      ap (filter (ends_by_then t)) full_a.all ∙ (same_by_then disk (contents_at medium_a)
+      (contents_at medium_b) t done since agree ByIdle head now end_a end_b late_a late_b (wanted chosen_a)
+      ∙ (ap (λ past. filter (ends_by_then t) (due disk (contents_at medium_b) (idling dwell_b) (wanted past))) chosen
+      ∙ sym (ap (filter (ends_by_then t)) full_b.all))) in
+      let alike = alike_deliveries t done since medium_a medium_b hold (tested x.test ∷ chosen_a) x.deliveries y.deliveries (rest_a
+      ++ more_a) (rest_b ++ more_b) (tt, fine_a) full_a.tests.followed
       (subst (λ past. AreFollowed medium_b past y.deliveries) (sym pasts) full_b.tests.followed)
-      (subst RisingEnds (sym full_a.all) (rising_caught disk (contents_at medium_a) ByIdle (record { track = head; begin = now; end = end_a }) (wanted chosen_a)))
-      (subst RisingEnds (sym full_b.all) (rising_caught disk (contents_at medium_b) ByIdle (record { track = head; begin = now; end = end_b }) (wanted chosen_b)))
-      (all_weaker (LiesBetween now end_a) (λ (row : DeliveryRow). row.begin ≤ row.end) (λ row lies. lies.in_turn) (gots x.deliveries) between)
+      (subst RisingEnds (sym full_a.all)
+      (rising_caught disk (contents_at medium_a) ByIdle (record { track = head; begin = now; end = end_a }) (wanted chosen_a)))
+      (subst RisingEnds (sym full_b.all)
+      (rising_caught disk (contents_at medium_b) ByIdle (record { track = head; begin = now; end = end_b }) (wanted chosen_b)))
+      (all_weaker (LiesBetween now end_a) (λ (row : DeliveryRow). row.begin ≤ row.end) (λ row lies. lies.in_turn)
+      (gots x.deliveries) between)
       kept unknown_a unknown_b in
       let got_a = delivered_rows x.deliveries ++ (rest_a ++ more_a) in
       let got_b = delivered_rows y.deliveries ++ (rest_b ++ more_b) in
-      let opened : AreKnownAlike t (IdleLine (record { track = head; begin = now; end = end_a }) ∷ got_a) (IdleLine (record { track = head; begin = now; end = end_b }) ∷ got_b) = λ follows.
-      ap (λ b. only_if b (IdleLine (record { track = head; begin = now; end = end_a })) (known_from t false got_a)) (after_is end_a t late_a)
-      ∙ (alike false ∙ sym (ap (λ b. only_if b (IdleLine (record { track = head; begin = now; end = end_b })) (known_from t false got_b)) (after_is end_b t late_b))) in
+      let opened : AreKnownAlike t (IdleLine (record { track = head; begin = now; end = end_a })
+      ∷ got_a) (IdleLine (record { track = head; begin = now; end = end_b }) ∷ got_b) = λ follows.
+      ap (λ b. only_if b (IdleLine (record { track = head; begin = now; end = end_a })) (known_from t false got_a))
+      (after_is end_a t late_a)
+      ∙ (alike false ∙ sym (ap (λ b. only_if b (IdleLine (record { track = head; begin = now; end = end_b })) (known_from t false got_b))
+      (after_is end_b t late_b))) in
       λ follows.
       ap (known_from t follows) (regroup x.test (opening disk (idling dwell_a)) (delivered_rows x.deliveries) rest_a more_a)
-      ∙ (alike_behind t x.test (IdleLine (record { track = head; begin = now; end = end_a }) ∷ got_a) (IdleLine (record { track = head; begin = now; end = end_b }) ∷ got_b) opened follows
+      ∙ (alike_behind t x.test (IdleLine (record { track = head; begin = now; end = end_a }) ∷ got_a)
+      (IdleLine (record { track = head; begin = now; end = end_b }) ∷ got_b) opened follows
       ∙ (ap (λ rows. known_from t follows (rows ++ (IdleLine (record { track = head; begin = now; end = end_b }) ∷ got_b))) rows
       ∙ sym (ap (known_from t follows) (regroup y.test (opening disk (idling dwell_b)) (delivered_rows y.deliveries) rest_b more_b))))
 
@@ -276,7 +317,8 @@ module _ (disk : Disk) (latent : List ℕ) (key : Key) (trace_a trace_b : List R
 record IsRunOf (t : ℕ) (inputs : Inputs) (list : List Request) (instants : List ℕ) (run : Run) : Type 0 where
   pub steps : List Step
   pub tasks : List BackRow
-  pub fore : run.fore ≡ map (fore_row (medium_with inputs.disk inputs.latent (plain_replay inputs.disk inputs.key list))) (plain_replay inputs.disk inputs.key list)
+  pub fore : run.fore ≡ map (fore_row (medium_with inputs.disk inputs.latent (plain_replay inputs.disk inputs.key list)))
+      (plain_replay inputs.disk inputs.key list)
   pub back : run.back ≡ flat_map (step_rows inputs.disk) steps ++ tasks
   pub end : run.end ≡ end_from 0 (decisions_from inputs.disk instants inputs.until first_track 0 (plain_replay inputs.disk inputs.key list))
   pub decided : decisions_in steps
@@ -284,7 +326,8 @@ record IsRunOf (t : ℕ) (inputs : Inputs) (list : List Request) (instants : Lis
   pub each : AtEach (IsFullStep inputs (medium_with inputs.disk inputs.latent (plain_replay inputs.disk inputs.key list))) inputs [] steps
   pub unknown : AreUnknown t tasks
 
-run_of : (t : ℕ) (inputs : Inputs) (run : Run) → IsFull inputs run → IsRunOf t inputs (requests inputs) (instants_from (requests inputs) inputs.calls) run
+run_of : (t : ℕ) (inputs : Inputs) (run : Run) → IsFull inputs run
+    → IsRunOf t inputs (requests inputs) (instants_from (requests inputs) inputs.calls) run
 unfolding decisions served medium_of fore_rows
 run_of t inputs run full = record {
   steps = full.steps;
@@ -302,7 +345,8 @@ unlined_run : (t : ℕ) (inputs : Inputs) (list : List Request) (run : Run) → 
     → IsRunOf t (unlined_inputs inputs) list (instants_from list (map without_line inputs.calls)) run
 unlined_run t inputs list run is =
     let medium = medium_with inputs.disk inputs.latent (plain_replay inputs.disk inputs.key list) in
-    subst (λ instants. IsRunOf t (unlined_inputs inputs) list instants run) (sym (ap (fold among (map (λ (r : Request). r.arrival) list)) (instants_same inputs.calls)))
+    subst (λ instants. IsRunOf t (unlined_inputs inputs) list instants run)
+    (sym (ap (fold among (map (λ (r : Request). r.arrival) list)) (instants_same inputs.calls)))
     (record {
       steps = is.steps;
       tasks = is.tasks;
@@ -322,18 +366,37 @@ record IsListOf (disk : Disk) (list : List Request) : Type 0 where
 list_of : (inputs : Inputs) → IsAccepted inputs → IsListOf inputs.disk (requests inputs)
 list_of inputs accepted = record { rises = (in_order inputs accepted).ascend; lie = requests_lie inputs accepted }
 
-runs_alike : (t : ℕ) (disk : Disk) (latent : List ℕ) (key : Key) (trace_a trace_b : List Request) (over_a over_b : ℕ) (calls_a calls_b : List Call) (until_a until_b : ℕ) (list_a list_b : List Request) (run_a run_b : Run)
+runs_alike : (t : ℕ) (disk : Disk) (latent : List ℕ) (key : Key) (trace_a trace_b : List Request) (over_a over_b : ℕ)
+    (calls_a calls_b : List Call) (until_a until_b : ℕ) (list_a list_b : List Request) (run_a run_b : Run)
     → IsSound disk.map → IsListOf disk list_a → IsListOf disk list_b → RiseInTime calls_a → RiseInTime calls_b
-    → IsRunOf t (record { disk = disk; latent = latent; trace = trace_a; passed_over = over_a; calls = calls_a; key = key; until = until_a }) list_a (instants_from list_a calls_a) run_a
-    → IsRunOf t (record { disk = disk; latent = latent; trace = trace_b; passed_over = over_b; calls = calls_b; key = key; until = until_b }) list_b (instants_from list_b calls_b) run_b
-    → t < run_a.end → t < run_b.end → filter (has_arrived t) list_a ≡ filter (has_arrived t) list_b → filter (calls_by t) calls_a ≡ filter (calls_by t) calls_b
+    → IsRunOf t (record {
+      disk = disk;
+      latent = latent;
+      trace = trace_a;
+      passed_over = over_a;
+      calls = calls_a;
+      key = key;
+      until = until_a;
+    }) list_a (instants_from list_a calls_a) run_a
+    → IsRunOf t (record {
+      disk = disk;
+      latent = latent;
+      trace = trace_b;
+      passed_over = over_b;
+      calls = calls_b;
+      key = key;
+      until = until_b;
+    }) list_b (instants_from list_b calls_b) run_b
+    → t < run_a.end → t < run_b.end → filter (has_arrived t) list_a ≡ filter (has_arrived t) list_b
+    → filter (calls_by t) calls_a ≡ filter (calls_by t) calls_b
     → SameKnown t run_a run_b
 runs_alike t disk latent key trace_a trace_b over_a over_b calls_a calls_b until_a until_b list_a list_b run_a run_b sound accepted_a accepted_b rising_a rising_b full_a full_b long_a long_b arrived come =
     let replay_a = plain_replay disk key list_a in
     let replay_b = plain_replay disk key list_b in
     let turns_a = plain_turns (length list_a) disk key first_track 0 list_a (omega arith) in
     let turns_b = plain_turns (length list_b) disk key first_track 0 list_b (omega arith) in
-    let alike = alike_turns t disk key first_track 0 list_a list_b replay_a replay_b arrived accepted_a.rises accepted_b.rises turns_a turns_b in
+    let alike =
+    alike_turns t disk key first_track 0 list_a list_b replay_a replay_b arrived accepted_a.rises accepted_b.rises turns_a turns_b in
     let late_a = write_late disk key sound first_track 0 list_a replay_a turns_a accepted_a.lie in
     let late_b = write_late disk key sound first_track 0 list_b replay_b turns_b accepted_b.lie in
     let hold = hold_same disk latent t alike.done replay_a replay_b alike.alike late_a late_b in
@@ -345,34 +408,45 @@ runs_alike t disk latent key trace_a trace_b over_a over_b calls_a calls_b until
     (rising_all_among (map (λ (call : Call). call.instant) calls_a) (map (λ (r : Request). r.arrival) list_a) accepted_a.rises)
     (rising_all_among (map (λ (call : Call). call.instant) calls_b) (map (λ (r : Request). r.arrival) list_b) accepted_b.rises)
     (same_instants t list_a list_b calls_a calls_b accepted_a.rises accepted_b.rises arrived come)
-    first_track 0 list_a list_b 0 0 alike.alike turns_a turns_b (all_come list_a calls_a) (all_come list_b calls_b) (subst (λ e. t < e) full_a.end long_a) (subst (λ e. t < e) full_b.end long_b) in
+    first_track 0 list_a list_b 0 0 alike.alike turns_a turns_b (all_come list_a calls_a) (all_come list_b calls_b)
+    (subst (λ e. t < e) full_a.end long_a) (subst (λ e. t < e) full_b.end long_b) in
     record {
-      fore = ap (fore_known t) full_a.fore ∙ (same_fore t alike.done medium_a medium_b hold disk alike.alike (are_services disk key first_track 0 list_a replay_a turns_a) ∙ sym (ap (fore_known t) full_b.fore));
+      fore = ap (fore_known t) full_a.fore
+          ∙ (same_fore t alike.done medium_a medium_b hold disk alike.alike (are_services disk key first_track 0 list_a replay_a turns_a)
+          ∙ sym (ap (fore_known t) full_b.fore));
       back = ap (known_from t false) full_a.back
-          ∙ (steps_alike disk latent key trace_a trace_b over_a over_b calls_a calls_b until_a until_b medium_a.writes medium_b.writes rising_a rising_b t alike.done alike.from come hold
-          [] decided full_a.steps full_b.steps full_a.tasks full_b.tasks full_a.decided full_b.decided full_a.each full_b.each tt full_a.unknown full_b.unknown false
+          ∙ (steps_alike disk latent key trace_a trace_b over_a over_b calls_a calls_b until_a until_b medium_a.writes medium_b.writes
+          rising_a rising_b t alike.done alike.from come hold
+          [] decided full_a.steps full_b.steps full_a.tasks full_b.tasks full_a.decided full_b.decided full_a.each full_b.each tt
+          full_a.unknown full_b.unknown false
           ∙ sym (ap (known_from t false) full_b.back));
     }
 
-same_inputs : (a b : Inputs) → a.disk ≡ b.disk → a.latent ≡ b.latent → a.key ≡ b.key → b ≡ record b { disk = a.disk; latent = a.latent; key = a.key }
+same_inputs : (a b : Inputs) → a.disk ≡ b.disk → a.latent ≡ b.latent → a.key ≡ b.key
+    → b ≡ record b { disk = a.disk; latent = a.latent; key = a.key }
 same_inputs a b disk latent key =
     ap (λ x. record b { disk = x }) (sym disk)
-    ∙ (ap (λ x. record b { disk = a.disk; latent = x }) (sym latent) ∙ ap (λ x. record b { disk = a.disk; latent = a.latent; key = x }) (sym key))
+    ∙ (ap (λ x. record b { disk = a.disk; latent = x }) (sym latent)
+    ∙ ap (λ x. record b { disk = a.disk; latent = a.latent; key = x }) (sym key))
 
 -- calls that are the same but for their lines are the same without them
-same_unlined : (t : ℕ) (calls_a calls_b : List Call) → map without_line (filter (calls_by t) calls_a) ≡ map without_line (filter (calls_by t) calls_b)
+same_unlined : (t : ℕ) (calls_a calls_b : List Call)
+    → map without_line (filter (calls_by t) calls_a) ≡ map without_line (filter (calls_by t) calls_b)
     → filter (calls_by t) (map without_line calls_a) ≡ filter (calls_by t) (map without_line calls_b)
 same_unlined t calls_a calls_b e = kept_map (calls_by t) without_line calls_a ∙ (e ∙ sym (kept_map (calls_by t) without_line calls_b))
 
 unlined_rising : (calls : List Call) → RiseInTime calls → RiseInTime (map without_line calls)
 unlined_rising calls rising = subst IsRising (sym (instants_same calls)) rising
 
-pub no_look_ahead : (a b : Inputs) (run_a run_b : Run) (t : ℕ) → IsSound a.disk.map → IsAccepted a → IsAccepted b → IsFull a run_a → IsFull b run_b → t < run_a.end → t < run_b.end → AgreeUpTo t a b → SameKnown t run_a run_b
+pub no_look_ahead : (a b : Inputs) (run_a run_b : Run) (t : ℕ) → IsSound a.disk.map → IsAccepted a → IsAccepted b → IsFull a run_a
+    → IsFull b run_b → t < run_a.end → t < run_b.end → AgreeUpTo t a b → SameKnown t run_a run_b
 no_look_ahead a b run_a run_b t sound accepted_a accepted_b full_a full_b long_a long_b agree =
     let is = same_inputs a b agree.disk agree.latent agree.key in
     let like_a = record b { disk = a.disk; latent = a.latent; key = a.key } in
-    runs_alike t a.disk a.latent a.key a.trace b.trace a.passed_over b.passed_over (map without_line a.calls) (map without_line b.calls) a.until b.until (requests a) (requests b) run_a run_b sound
+    runs_alike t a.disk a.latent a.key a.trace b.trace a.passed_over b.passed_over (map without_line a.calls)
+    (map without_line b.calls) a.until b.until (requests a) (requests b) run_a run_b sound
     (list_of a accepted_a) (list_of like_a (subst IsAccepted is accepted_b))
     (unlined_rising a.calls accepted_a.instants) (unlined_rising b.calls accepted_b.instants)
-    (unlined_run t a (requests a) run_a (run_of t a run_a full_a)) (unlined_run t like_a (requests b) run_b (run_of t like_a run_b (subst (λ inputs. IsFull inputs run_b) is full_b)))
+    (unlined_run t a (requests a) run_a (run_of t a run_a full_a))
+    (unlined_run t like_a (requests b) run_b (run_of t like_a run_b (subst (λ inputs. IsFull inputs run_b) is full_b)))
     long_a long_b agree.requests (same_unlined t a.calls b.calls agree.calls)

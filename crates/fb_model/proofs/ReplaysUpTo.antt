@@ -1,5 +1,6 @@
 -- Up to an instant the plain replay depends only on the requests that have arrived by then.
-use Rattle.std.proofs.Common.{◌≡◌, ℕ, ◌≤◌, ◌<◌, max, List, [], ◌∷◌, ◌++◌, map, refl, ap, sym, subst, ◌∙◌, arith, true, false, true≢false, Some, inl, inr}
+use Rattle.std.proofs.Common.{◌≡◌, ℕ, ◌≤◌, ◌<◌, max, List, [], ◌∷◌, ◌++◌, map, refl, ap, sym, subst, ◌∙◌, arith, true, false, true≢false}
+use Rattle.std.proofs.Common.{Some, inl, inr}
 use Rattle.std.specs.Prelude.{◌||◌, filter}
 use Rattle.std.specs.List.{AllByRecursion, list_any}
 use Rattle.std.proofs.lemmas.Bool.{cases_Bool, cases_lt}
@@ -17,7 +18,8 @@ use Rattle.fb_model.proofs.Replays.{IsTurn, AreTurns, Rises, turn_start, turns_e
 
 -- ---- those that have arrived by t
 
-any_kept : (t u : ℕ) (requests : List Request) → u ≤ t → list_any (has_arrived u) (filter (has_arrived t) requests) ≡ list_any (has_arrived u) requests
+any_kept : (t u : ℕ) (requests : List Request) → u ≤ t
+    → list_any (has_arrived u) (filter (has_arrived t) requests) ≡ list_any (has_arrived u) requests
 any_kept t u [] h = refl
 any_kept t u (request ∷ requests) h = elim (cases_Bool (has_arrived t request)) [
   | inl come ↦ rw come (ap (λ b. has_arrived u request || b) (any_kept t u requests h))
@@ -26,7 +28,8 @@ any_kept t u (request ∷ requests) h = elim (cases_Bool (has_arrived t request)
       rw (late, later) (any_kept t u requests h)
 ]
 
-any_same : (t u : ℕ) (xs ys : List Request) → u ≤ t → filter (has_arrived t) xs ≡ filter (has_arrived t) ys → list_any (has_arrived u) xs ≡ true → list_any (has_arrived u) ys ≡ true
+any_same : (t u : ℕ) (xs ys : List Request) → u ≤ t → filter (has_arrived t) xs ≡ filter (has_arrived t) ys
+    → list_any (has_arrived u) xs ≡ true → list_any (has_arrived u) ys ≡ true
 any_same t u xs ys h same some = sym (any_kept t u ys h) ∙ (ap (list_any (has_arrived u)) (sym same) ∙ (any_kept t u xs h ∙ some))
 
 ready_kept : (t u : ℕ) (key : Request → ℕ) (left others : List Request) (pick : Request) → u ≤ t → IsFirstReady key u left pick others
@@ -37,7 +40,8 @@ ready_kept t u key left others pick h m =
     record {
       front = filter (has_arrived t) m.front;
       back = filter (has_arrived t) m.back;
-      whole = ap (filter (has_arrived t)) m.whole ∙ (filter-append (has_arrived t) m.front (pick ∷ m.back) ∙ ap (λ xs. filter (has_arrived t) m.front ++ xs) at_pick);
+      whole = ap (filter (has_arrived t)) m.whole
+          ∙ (filter-append (has_arrived t) m.front (pick ∷ m.back) ∙ ap (λ xs. filter (has_arrived t) m.front ++ xs) at_pick);
       rest = ap (filter (has_arrived t)) m.rest ∙ filter-append (has_arrived t) m.front m.back;
       arrived = m.arrived;
       before = all_filter (λ request. request.arrival ≤ u → key pick < key request) (has_arrived t) m.front m.before;
@@ -54,26 +58,36 @@ record IsSameTurn (t : ℕ) (a b : Served) (others_a others_b : List Request) : 
   pub others : filter (has_arrived t) others_a ≡ filter (has_arrived t) others_b
 
 module _ (t : ℕ) (disk : Disk) (key : Key) where
-  no_later : (now : ℕ) (left_a left_b : List Request) (a b : ℕ) → filter (has_arrived t) left_a ≡ filter (has_arrived t) left_b → a ≤ t → IsReadyAt now left_a a → IsReadyAt now left_b b → b ≤ a
+  no_later : (now : ℕ) (left_a left_b : List Request) (a b : ℕ) → filter (has_arrived t) left_a ≡ filter (has_arrived t) left_b → a ≤ t
+      → IsReadyAt now left_a a → IsReadyAt now left_b b → b ≤ a
   no_later now left_a left_b a b same h ready_a ready_b = ready_b.first a ready_a.from (any_same t a left_a left_b h same ready_a.arrived)
 
-  turn_ready : (head : Track) (now : ℕ) (left others : List Request) (served : Served) → Rises left → IsTurn disk key head now left served others → IsReadyAt now left served.start
-  turn_ready head now left others served rises turn = turn_start (key disk head served.start) now served.start left others served.request rises turn.start turn.pick
+  turn_ready : (head : Track) (now : ℕ) (left others : List Request) (served : Served) → Rises left
+      → IsTurn disk key head now left served others → IsReadyAt now left served.start
+  turn_ready head now left others served rises turn =
+      turn_start (key disk head served.start) now served.start left others served.request rises turn.start turn.pick
 
-  same_turn : (head : Track) (now : ℕ) (left_a left_b others_a others_b : List Request) (a b : Served) → filter (has_arrived t) left_a ≡ filter (has_arrived t) left_b → Rises left_a → Rises left_b
-      → IsTurn disk key head now left_a a others_a → IsTurn disk key head now left_b b others_b → a.start ≤ t → IsSameTurn t a b others_a others_b
+  same_turn : (head : Track) (now : ℕ) (left_a left_b others_a others_b : List Request) (a b : Served)
+      → filter (has_arrived t) left_a ≡ filter (has_arrived t) left_b → Rises left_a → Rises left_b
+      → IsTurn disk key head now left_a a others_a → IsTurn disk key head now left_b b others_b → a.start ≤ t
+      → IsSameTurn t a b others_a others_b
   same_turn head now left_a left_b others_a others_b a b same rises_a rises_b turn_a turn_b h =
       let ready_a = turn_ready head now left_a others_a a rises_a turn_a in
       let ready_b = turn_ready head now left_b others_b b rises_b turn_b in
       let back = no_later now left_a left_b a.start b.start same h ready_a ready_b in
       let on = no_later now left_b left_a b.start a.start (sym same) (omega arith) ready_b ready_a in
       let start : a.start ≡ b.start = omega arith in
-      let first_a = one_pick (key disk head a.start) a.start (filter (has_arrived t) left_a) (filter (has_arrived t) others_a) a.request (ready_kept t a.start (key disk head a.start) left_a others_a a.request h turn_a.pick) in
-      let pick_b : IsFirstReady (key disk head a.start) a.start left_b b.request others_b = subst (λ u. IsFirstReady (key disk head u) u left_b b.request others_b) (sym start) turn_b.pick in
-      let first_b = one_pick (key disk head a.start) a.start (filter (has_arrived t) left_b) (filter (has_arrived t) others_b) b.request (ready_kept t a.start (key disk head a.start) left_b others_b b.request h pick_b) in
-      let picks = same_pick (a.request, filter (has_arrived t) others_a) (b.request, filter (has_arrived t) others_b) (sym first_a ∙ (ap (first_ready (key disk head a.start) a.start) same ∙ first_b)) in
+      let first_a = one_pick (key disk head a.start) a.start (filter (has_arrived t) left_a) (filter (has_arrived t) others_a) a.request
+      (ready_kept t a.start (key disk head a.start) left_a others_a a.request h turn_a.pick) in
+      let pick_b : IsFirstReady (key disk head a.start) a.start left_b b.request others_b =
+      subst (λ u. IsFirstReady (key disk head u) u left_b b.request others_b) (sym start) turn_b.pick in
+      let first_b = one_pick (key disk head a.start) a.start (filter (has_arrived t) left_b) (filter (has_arrived t) others_b) b.request
+      (ready_kept t a.start (key disk head a.start) left_b others_b b.request h pick_b) in
+      let picks = same_pick (a.request, filter (has_arrived t) others_a) (b.request, filter (has_arrived t) others_b) (sym first_a
+      ∙ (ap (first_ready (key disk head a.start) a.start) same ∙ first_b)) in
       record {
-        served = turn_a.passes ∙ (ap (service disk head a.start) (ap (λ pair. pair.0) picks) ∙ (ap (λ u. service disk head u b.request) start ∙ sym turn_b.passes));
+        served = turn_a.passes ∙ (ap (service disk head a.start) (ap (λ pair. pair.0) picks)
+            ∙ (ap (λ u. service disk head u b.request) start ∙ sym turn_b.passes));
         others = ap (λ pair. pair.1) picks;
       }
 
@@ -85,7 +99,8 @@ StartsBehind t done served = (t < served.start) × (done ≤ served.start)
 
 -- services are the same while they start by t, and these are done before another one starts
 pub data AlikeBy (t done : ℕ) : List Served → List Served → Type 0 where
-  both : {served : Served} {xs ys : List Served} → served.start ≤ t → finish served ≤ done → AlikeBy t done xs ys → AlikeBy t done (served ∷ xs) (served ∷ ys)
+  both : {served : Served} {xs ys : List Served} → served.start ≤ t → finish served ≤ done → AlikeBy t done xs ys
+      → AlikeBy t done (served ∷ xs) (served ∷ ys)
   rest : {xs ys : List Served} → AllByRecursion (StartsBehind t done) xs → AllByRecursion (StartsBehind t done) ys → AlikeBy t done xs ys
 
 pub record AreAlike (t now : ℕ) (xs ys : List Served) : Type 0 where
@@ -100,20 +115,25 @@ all_of_map P f (x ∷ xs) all = (all.0, all_of_map P f xs all.1)
 
 module _ (t : ℕ) (disk : Disk) (key : Key) where
   -- no service starts before now
-  pub none_before : (head : Track) (now : ℕ) (left : List Request) (replay : List Served) → AreTurns disk key head now left replay → AllByRecursion (λ (s : Served). now ≤ s.start) replay
-  none_before head now left replay turns = all_of_map (λ later. now ≤ later) (λ (s : Served). s.start) replay (all_from disk key head now now left replay turns (omega arith))
+  pub none_before : (head : Track) (now : ℕ) (left : List Request) (replay : List Served) → AreTurns disk key head now left replay
+      → AllByRecursion (λ (s : Served). now ≤ s.start) replay
+  none_before head now left replay turns =
+      all_of_map (λ later. now ≤ later) (λ (s : Served). s.start) replay (all_from disk key head now now left replay turns (omega arith))
 
-  all_behind : (head : Track) (now : ℕ) (left : List Request) (served : Served) (later : List Served) → AreTurns disk key head now left (served ∷ later) → t < served.start
+  all_behind : (head : Track) (now : ℕ) (left : List Request) (served : Served) (later : List Served)
+      → AreTurns disk key head now left (served ∷ later) → t < served.start
       → AllByRecursion (StartsBehind t (max t now)) (served ∷ later)
   all_behind head now left served later turns h =
       let from = none_before head now left (served ∷ later) turns in
       let ends = turns_end disk key head now left turns.0 served turns.1 in (
         (h, omega (arith, from.0)),
-        all_weaker (λ (s : Served). finish served ≤ s.start) (StartsBehind t (max t now)) (λ s after. (omega (arith, after, ends, h), omega (arith, after, ends, from.0, h))) later
+        all_weaker (λ (s : Served). finish served ≤ s.start) (StartsBehind t (max t now))
+            (λ s after. (omega (arith, after, ends, h), omega (arith, after, ends, from.0, h))) later
             (none_before (last_track disk served) (finish served) turns.0 later turns.2),
       )
 
-  none_come : (head : Track) (now : ℕ) (left_a left_b : List Request) (b : Served) (later : List Served) → left_a ≡ [] → filter (has_arrived t) left_a ≡ filter (has_arrived t) left_b → Rises left_b
+  none_come : (head : Track) (now : ℕ) (left_a left_b : List Request) (b : Served) (later : List Served) → left_a ≡ []
+      → filter (has_arrived t) left_a ≡ filter (has_arrived t) left_b → Rises left_b
       → AreTurns disk key head now left_b (b ∷ later) → t < b.start
   none_come head now left_a left_b b later none same rises turns = elim (cases_lt t b.start) [
     | inl less ↦ less
@@ -122,9 +142,11 @@ module _ (t : ℕ) (disk : Disk) (key : Key) where
         absurd (true≢false (sym some ∙ ap (list_any (has_arrived b.start)) none))
   ]
 
-  pub alike_turns : (head : Track) (now : ℕ) (left_a left_b : List Request) (xs ys : List Served) → filter (has_arrived t) left_a ≡ filter (has_arrived t) left_b → Rises left_a → Rises left_b
+  pub alike_turns : (head : Track) (now : ℕ) (left_a left_b : List Request) (xs ys : List Served)
+      → filter (has_arrived t) left_a ≡ filter (has_arrived t) left_b → Rises left_a → Rises left_b
       → AreTurns disk key head now left_a xs → AreTurns disk key head now left_b ys → AreAlike t now xs ys
-  alike_turns head now left_a left_b [] [] same rises_a rises_b turns_a turns_b = record { done = max t now; from = omega arith; after = omega arith; alike = rest tt tt }
+  alike_turns head now left_a left_b [] [] same rises_a rises_b turns_a turns_b =
+      record { done = max t now; from = omega arith; after = omega arith; alike = rest tt tt }
   alike_turns head now left_a left_b [] (b ∷ ys) same rises_a rises_b turns_a turns_b = record {
     done = max t now;
     from = omega arith;
@@ -159,7 +181,8 @@ module _ (t : ℕ) (disk : Disk) (key : Key) where
       alike = rest (all_behind head now left_a a xs turns_a less) (all_behind head now left_b b ys turns_b (elim (cases_lt t b.start) [
         | inl later ↦ later
         | inr by ↦
-            let turn = same_turn t disk key head now left_b left_a turns_b.0 turns_a.0 b a (sym same) rises_b rises_a turns_b.1 turns_a.1 by in
+            let turn =
+            same_turn t disk key head now left_b left_a turns_b.0 turns_a.0 b a (sym same) rises_b rises_a turns_b.1 turns_a.1 by in
             absurd (omega (arith, ap (λ (s : Served). s.start) turn.served, by, less))
       ]));
     }

@@ -1,6 +1,7 @@
 -- Which rows are known by an instant: none of a test or a delivery after it. And what is known by then is the same where the disk holds the
 -- same.
-use Rattle.std.proofs.Common.{◌≡◌, ℕ, ◌<◌, ◌≤◌, List, [], ◌∷◌, ◌++◌, map, refl, ap, ap₂, sym, subst, ◌∙◌, arith, append_assoc, Bool, true, false, inl, inr, nat_le}
+use Rattle.std.proofs.Common.{◌≡◌, ℕ, ◌<◌, ◌≤◌, List, [], ◌∷◌, ◌++◌, map, refl, ap, ap₂, sym, subst, ◌∙◌, arith, append_assoc, Bool, true}
+use Rattle.std.proofs.Common.{false, inl, inr, nat_le}
 use Rattle.std.specs.Prelude.{filter, ◌&&◌, not, if◌then◌else◌}
 use Rattle.std.specs.List.{AllByRecursion, flat_map}
 use Rattle.std.proofs.lemmas.Bool.{cases_Bool}
@@ -10,13 +11,16 @@ use Rattle.fb_store.specs.Runs.{runs_of}
 use Rattle.fb_wanted.specs.declared.block.Block.{Block}
 use Rattle.fb_wanted.specs.States.{is_delivered}
 use Rattle.fb_rows.specs.declared.back.BackRow.{BackRow}
-use Rattle.fb_rows.specs.declared.back.BackRow.TheVariants.{Got as GotLine, Bad as BadLine, Seal as SealLine, Segment as SegmentLine, Complete as CompleteLine}
+use Rattle.fb_rows.specs.declared.back.BackRow.TheVariants.{Got as GotLine, Bad as BadLine, Seal as SealLine, Segment as SegmentLine}
+use Rattle.fb_rows.specs.declared.back.BackRow.TheVariants.{Complete as CompleteLine}
 use Rattle.fb_rows.specs.declared.back.DeliveryRow.{DeliveryRow}
 use Rattle.fb_model.specs.Content.{Medium, contents_at}
-use Rattle.fb_model.specs.History.{Past, called, chose, tested, delivered, finished, task_numbers, terms_of, blocks_of, same_block, is_open_backup}
+use Rattle.fb_model.specs.History.{Past, called, chose, tested, delivered, finished, task_numbers, terms_of, blocks_of, same_block}
+use Rattle.fb_model.specs.History.{is_open_backup}
 use Rattle.fb_model.specs.Completion.{Choice, choices, work, is_complete, was_complete}
 use Rattle.fb_model.specs.Segments.{live_count}
-use Rattle.fb_model.specs.Images.{bad_sectors, is_scrub, findings, held_at_delivery, packed, is_newly_cleaned, segment_rows, image, seal_rows, complete_rows, test_rows}
+use Rattle.fb_model.specs.Images.{bad_sectors, is_scrub, findings, held_at_delivery, packed, is_newly_cleaned, segment_rows, image}
+use Rattle.fb_model.specs.Images.{seal_rows, complete_rows, test_rows}
 use Rattle.fb_model.specs.Steps.{Delivery, with_delivery, task_row, task_rows}
 use Rattle.fb_model.specs.SoundRun.{AreFollowed}
 use Rattle.fb_model.specs.Known.{is_known, follows_known, only_if, known_from}
@@ -43,11 +47,13 @@ module _ (t : ℕ) where
   pub unknown_before : (rows more : List BackRow) → AllByRecursion (IsUnknown t) rows → AreUnknown t more → AreUnknown t (rows ++ more)
   unknown_before [] more all h = h
   unknown_before (row ∷ rows) more all h = λ follows.
-      ap (λ b. only_if b row (known_from t (follows_known t follows row) (rows ++ more))) (all.0 follows) ∙ unknown_before rows more all.1 h (follows_known t follows row)
+      ap (λ b. only_if b row (known_from t (follows_known t follows row) (rows ++ more))) (all.0 follows)
+      ∙ unknown_before rows more all.1 h (follows_known t follows row)
 
   pub alike_behind : (rows xs ys : List BackRow) → AreKnownAlike t xs ys → AreKnownAlike t (rows ++ xs) (rows ++ ys)
   alike_behind [] xs ys h = h
-  alike_behind (row ∷ rows) xs ys h = λ follows. ap (only_if (is_known t follows row) row) (alike_behind rows xs ys h (follows_known t follows row))
+  alike_behind (row ∷ rows) xs ys h =
+      λ follows. ap (only_if (is_known t follows row) row) (alike_behind rows xs ys h (follows_known t follows row))
 
   one_unknown : (b : Bool) (row : BackRow) → IsUnknown t row → AllByRecursion (IsUnknown t) (if b then row ∷ [] else [])
   one_unknown true row h = (h, tt)
@@ -58,15 +64,25 @@ module _ (t : ℕ) where
   unfolding test_rows
   tests_unknown medium past now h =
       let late : nat_le now t ≡ false = after_is now t h in
-      all_append (IsUnknown t) (flat_map (segment_rows (packed medium past) past now) (task_numbers past)) (flat_map (λ task. seal_rows (image medium past task now) past now task ++ complete_rows past now task) (task_numbers past))
+      all_append (IsUnknown t) (flat_map (segment_rows (packed medium past) past now) (task_numbers past))
+      (flat_map (λ task. seal_rows (image medium past task now) past now task ++ complete_rows past now task) (task_numbers past))
       (all_flat_map (IsUnknown t) (segment_rows (packed medium past) past now) (λ task.
-      all_map (IsUnknown t) (λ choice. SegmentLine (record { task = task; segment = choice.segment.number; instant = now; live = live_count choice.segment; content = packed medium past choice }))
+      all_map (IsUnknown t) (λ choice. SegmentLine (record {
+        task = task;
+        segment = choice.segment.number;
+        instant = now;
+        live = live_count choice.segment;
+        content = packed medium past choice;
+      }))
       (filter (is_newly_cleaned (work past task)) (choices past task))
-      (all_any (λ (choice : Choice). (follows : Bool) → nat_le now t ≡ false) (λ choice follows. late) (filter (is_newly_cleaned (work past task)) (choices past task)))) (task_numbers past))
+      (all_any (λ (choice : Choice). (follows : Bool) → nat_le now t ≡ false) (λ choice follows. late)
+      (filter (is_newly_cleaned (work past task)) (choices past task)))) (task_numbers past))
       (all_flat_map (IsUnknown t) (λ task. seal_rows (image medium past task now) past now task ++ complete_rows past now task) (λ task.
       all_append (IsUnknown t) (seal_rows (image medium past task now) past now task) (complete_rows past now task)
-      (one_unknown (is_open_backup past task && is_complete past task) (SealLine (record { task = task; instant = now; content = image medium past task now })) (λ follows. late))
-      (one_unknown (is_complete past task && not (was_complete past task)) (CompleteLine (record { task = task; instant = now })) (λ follows. late))) (task_numbers past))
+      (one_unknown (is_open_backup past task && is_complete past task)
+      (SealLine (record { task = task; instant = now; content = image medium past task now })) (λ follows. late))
+      (one_unknown (is_complete past task && not (was_complete past task)) (CompleteLine (record { task = task; instant = now }))
+      (λ follows. late))) (task_numbers past))
 
   pub tasks_unknown : (past : Past) → AreUnknown t (task_rows past)
   unfolding task_rows
@@ -77,7 +93,8 @@ module _ (t : ℕ) where
       each (task ∷ tasks) = λ follows. each tasks false
 
   -- findings that follow what isn't known
-  sectors_unknown : (task : ℕ) (lbns : List ℕ) (more : List BackRow) → AreUnknown t more → known_from t false (map (λ lbn. BadLine (record { task = task; lbn = lbn })) lbns ++ more) ≡ []
+  sectors_unknown : (task : ℕ) (lbns : List ℕ) (more : List BackRow) → AreUnknown t more
+      → known_from t false (map (λ lbn. BadLine (record { task = task; lbn = lbn })) lbns ++ more) ≡ []
   sectors_unknown task [] more h = h false
   sectors_unknown task (lbn ∷ lbns) more h = sectors_unknown task lbns more h
 
@@ -93,7 +110,8 @@ module _ (t : ℕ) where
       let late : nat_le got.end t ≡ false = after_is got.end t h in
       ap (λ b. only_if b (GotLine got) (known_from t b ((findings past got ++ test_rows medium next got.end) ++ more))) late
       ∙ (ap (known_from t false) (append_assoc (findings past got) (test_rows medium next got.end) more)
-      ∙ findings_unknown (is_scrub (terms_of past got.block.task).kind) got.block.task (bad_sectors got.content) (test_rows medium next got.end ++ more)
+      ∙ findings_unknown (is_scrub (terms_of past got.block.task).kind) got.block.task (bad_sectors got.content)
+      (test_rows medium next got.end ++ more)
       (unknown_before (test_rows medium next got.end) more (tests_unknown medium next got.end h) unknown))
 
 -- the rows of deliveries with what follows each
@@ -101,7 +119,8 @@ abbrev pub delivered_rows : List Delivery → List BackRow
 delivered_rows deliveries = flat_map (λ delivery. GotLine delivery.got ∷ delivery.after) deliveries
 
 module _ (t : ℕ) (medium : Medium) where
-  pub deliveries_unknown : (past : Past) (deliveries : List Delivery) (more : List BackRow) → AreFollowed medium past deliveries → AllByRecursion (λ (row : DeliveryRow). t < row.end) (gots deliveries)
+  pub deliveries_unknown : (past : Past) (deliveries : List Delivery) (more : List BackRow) → AreFollowed medium past deliveries
+      → AllByRecursion (λ (row : DeliveryRow). t < row.end) (gots deliveries)
       → AreUnknown t more → AreUnknown t (delivered_rows deliveries ++ more)
   deliveries_unknown past [] more followed late h = h
   deliveries_unknown past (d ∷ ds) more followed late h =
@@ -128,36 +147,66 @@ module _ (done : ℕ) (a b : Medium) (same : HoldSame done a b) where
   same_held (finished request ∷ past) block fine = same_held past block fine.1
 
   same_packed : (past : Past) (choice : Choice) → AreFine (HasBegun done) past → packed a past choice ≡ packed b past choice
-  same_packed past choice fine = ap runs_of (flat_map_same (held_at_delivery a past) (held_at_delivery b past) (λ block. same_held past block fine) choice.blocks)
+  same_packed past choice fine =
+      ap runs_of (flat_map_same (held_at_delivery a past) (held_at_delivery b past) (λ block. same_held past block fine) choice.blocks)
 
   same_image : (past : Past) (task now : ℕ) → now ≤ done → image a past task now ≡ image b past task now
-  same_image past task now h = ap runs_of (flat_map_same (λ (block : Block). contents_at a block.lbn block.count now) (λ (block : Block). contents_at b block.lbn block.count now)
-      (λ block. same_contents done a b same block.lbn block.count now h) (filter (λ block. is_delivered ((work past task).bare block)) (blocks_of past task)))
+  same_image past task now h = ap runs_of (flat_map_same (λ (block : Block). contents_at a block.lbn block.count now)
+      (λ (block : Block). contents_at b block.lbn block.count now)
+      (λ block. same_contents done a b same block.lbn block.count now h)
+      (filter (λ block. is_delivered ((work past task).bare block)) (blocks_of past task)))
 
-  same_segments : (past : Past) (now task : ℕ) → AreFine (HasBegun done) past → segment_rows (packed a past) past now task ≡ segment_rows (packed b past) past now task
+  same_segments : (past : Past) (now task : ℕ) → AreFine (HasBegun done) past
+      → segment_rows (packed a past) past now task ≡ segment_rows (packed b past) past now task
   same_segments past now task fine = same_map
-      (λ (choice : Choice). SegmentLine (record { task = task; segment = choice.segment.number; instant = now; live = live_count choice.segment; content = packed a past choice }))
-      (λ (choice : Choice). SegmentLine (record { task = task; segment = choice.segment.number; instant = now; live = live_count choice.segment; content = packed b past choice }))
-      (λ choice. ap (λ content. SegmentLine (record { task = task; segment = choice.segment.number; instant = now; live = live_count choice.segment; content = content })) (same_packed past choice fine))
+      (λ (choice : Choice). SegmentLine (record {
+        task = task;
+        segment = choice.segment.number;
+        instant = now;
+        live = live_count choice.segment;
+        content = packed a past choice;
+      }))
+      (λ (choice : Choice). SegmentLine (record {
+        task = task;
+        segment = choice.segment.number;
+        instant = now;
+        live = live_count choice.segment;
+        content = packed b past choice;
+      }))
+      (λ choice. ap (λ content. SegmentLine (record {
+        task = task;
+        segment = choice.segment.number;
+        instant = now;
+        live = live_count choice.segment;
+        content = content;
+      })) (same_packed past choice fine))
       (filter (is_newly_cleaned (work past task)) (choices past task))
 
-  same_seals : (past : Past) (now task : ℕ) → now ≤ done → seal_rows (image a past task now) past now task ≡ seal_rows (image b past task now) past now task
-  same_seals past now task h = ap (λ content. if is_open_backup past task && is_complete past task then SealLine (record { task = task; instant = now; content = content }) ∷ [] else []) (same_image past task now h)
+  same_seals : (past : Past) (now task : ℕ) → now ≤ done
+      → seal_rows (image a past task now) past now task ≡ seal_rows (image b past task now) past now task
+  same_seals past now task h = ap (λ content. if is_open_backup past task && is_complete past task
+      then SealLine (record { task = task; instant = now; content = content }) ∷ [] else []) (same_image past task now h)
 
   pub same_tests : (past : Past) (now : ℕ) → AreFine (HasBegun done) past → now ≤ done → test_rows a past now ≡ test_rows b past now
   unfolding test_rows
   same_tests past now fine h = ap₂ (λ segments others. segments ++ others)
-      (flat_map_same (segment_rows (packed a past) past now) (segment_rows (packed b past) past now) (λ task. same_segments past now task fine) (task_numbers past))
-      (flat_map_same (λ task. seal_rows (image a past task now) past now task ++ complete_rows past now task) (λ task. seal_rows (image b past task now) past now task ++ complete_rows past now task)
+      (flat_map_same (segment_rows (packed a past) past now) (segment_rows (packed b past) past now)
+      (λ task. same_segments past now task fine) (task_numbers past))
+      (flat_map_same (λ task. seal_rows (image a past task now) past now task ++ complete_rows past now task)
+      (λ task. seal_rows (image b past task now) past now task ++ complete_rows past now task)
       (λ task. ap (λ rows. rows ++ complete_rows past now task) (same_seals past now task h)) (task_numbers past))
 
   same_after : (past : Past) (got : DeliveryRow) → AreFine (HasBegun done) past → IsOver done got
       → findings past got ++ test_rows a (delivered got ∷ past) got.end ≡ findings past got ++ test_rows b (delivered got ∷ past) got.end
   same_after past got fine over = ap (λ rows. findings past got ++ rows) (same_tests (delivered got ∷ past) got.end (over.0, fine) over.1)
 
-  pub same_followed : (past : Past) (deliveries : List Delivery) → AreFine (HasBegun done) past → AllByRecursion (IsOver done) (gots deliveries) → AreFollowed b past deliveries → AreFollowed a past deliveries
+  pub same_followed : (past : Past) (deliveries : List Delivery) → AreFine (HasBegun done) past
+      → AllByRecursion (IsOver done) (gots deliveries) → AreFollowed b past deliveries → AreFollowed a past deliveries
   same_followed past [] fine over followed = tt
-  same_followed past (d ∷ ds) fine over followed = (followed.0 ∙ sym (same_after past d.got fine over.0), same_followed (with_delivery past d) ds (tt, (over.0.0, fine)) over.1 followed.1)
+  same_followed past (d ∷ ds) fine over followed = (
+    followed.0 ∙ sym (same_after past d.got fine over.0),
+    same_followed (with_delivery past d) ds (tt, (over.0.0, fine)) over.1 followed.1,
+  )
 
 -- ---- deliveries of a dwell that is under way: those that end by t are the same
 
@@ -169,14 +218,17 @@ abbrev pub RisingEnds : List DeliveryRow → Type 0
 RisingEnds [] = Unit {0}
 RisingEnds (row ∷ rows) = AllByRecursion (λ (later : DeliveryRow). row.end ≤ later.end) rows × RisingEnds rows
 
-ends_late : (t : ℕ) (rows : List DeliveryRow) → AllByRecursion (λ row. ends_by_then t row ≡ false) rows → AllByRecursion (λ (row : DeliveryRow). t < row.end) rows
+ends_late : (t : ℕ) (rows : List DeliveryRow) → AllByRecursion (λ row. ends_by_then t row ≡ false) rows
+    → AllByRecursion (λ (row : DeliveryRow). t < row.end) rows
 ends_late t [] all = tt
 ends_late t (row ∷ rows) all = (is_after row.end t all.0, ends_late t rows all.1)
 
-pub rest_late : (t : ℕ) (row : DeliveryRow) (rows : List DeliveryRow) → RisingEnds (row ∷ rows) → ends_by_then t row ≡ false → AllByRecursion (λ (row : DeliveryRow). t < row.end) (row ∷ rows)
+pub rest_late : (t : ℕ) (row : DeliveryRow) (rows : List DeliveryRow) → RisingEnds (row ∷ rows) → ends_by_then t row ≡ false
+    → AllByRecursion (λ (row : DeliveryRow). t < row.end) (row ∷ rows)
 rest_late t row rows rising late = let h = is_after row.end t late in (h, each rows rising.0)
   where
-    each : (rows : List DeliveryRow) → AllByRecursion (λ (later : DeliveryRow). row.end ≤ later.end) rows → AllByRecursion (λ (row : DeliveryRow). t < row.end) rows
+    each : (rows : List DeliveryRow) → AllByRecursion (λ (later : DeliveryRow). row.end ≤ later.end) rows
+        → AllByRecursion (λ (row : DeliveryRow). t < row.end) rows
     each [] all = tt
     each (later ∷ rows) all = (let from = all.0 in let h = is_after row.end t late in omega arith, each rows all.1)
 
@@ -185,38 +237,46 @@ late_kept t [] all = refl
 late_kept t (row ∷ rows) all = rw (after_is row.end t all.0) (late_kept t rows all.1)
 
 module _ (t done : ℕ) (since : t ≤ done) (a b : Medium) (same : HoldSame done a b) where
-  pub alike_deliveries : (past : Past) (xs ys : List Delivery) (more_x more_y : List BackRow) → AreFine (HasBegun done) past → AreFollowed a past xs → AreFollowed b past ys
+  pub alike_deliveries : (past : Past) (xs ys : List Delivery) (more_x more_y : List BackRow) → AreFine (HasBegun done) past
+      → AreFollowed a past xs → AreFollowed b past ys
       → RisingEnds (gots xs) → RisingEnds (gots ys) → AllByRecursion (λ (row : DeliveryRow). row.begin ≤ row.end) (gots xs)
       → filter (ends_by_then t) (gots xs) ≡ filter (ends_by_then t) (gots ys) → AreUnknown t more_x → AreUnknown t more_y
       → AreKnownAlike t (delivered_rows xs ++ more_x) (delivered_rows ys ++ more_y)
   alike_deliveries past [] ys more_x more_y fine follow_x follow_y rising_x rising_y order e unknown_x unknown_y = λ follows.
-      unknown_x follows ∙ sym (deliveries_unknown t b past ys more_y follow_y (ends_late t (gots ys) (all_dropped (ends_by_then t) (gots ys) (sym e))) unknown_y follows)
+      unknown_x follows ∙ sym (deliveries_unknown t b past ys more_y follow_y
+      (ends_late t (gots ys) (all_dropped (ends_by_then t) (gots ys) (sym e))) unknown_y follows)
   alike_deliveries past (x ∷ xs) [] more_x more_y fine follow_x follow_y rising_x rising_y order e unknown_x unknown_y = λ follows.
-      deliveries_unknown t a past (x ∷ xs) more_x follow_x (ends_late t (gots (x ∷ xs)) (all_dropped (ends_by_then t) (gots (x ∷ xs)) e)) unknown_x follows ∙ sym (unknown_y follows)
-  alike_deliveries past (x ∷ xs) (y ∷ ys) more_x more_y fine follow_x follow_y rising_x rising_y order e unknown_x unknown_y = elim (cases_Bool (ends_by_then t x.got)) [
-    | inl by_x ↦
-        let kept : x.got ∷ filter (ends_by_then t) (gots xs) ≡ filter (ends_by_then t) (gots (y ∷ ys)) = rw by_x at e in
-        elim (cases_Bool (ends_by_then t y.got)) [
-          | inl by_y ↦
-              let both : x.got ∷ filter (ends_by_then t) (gots xs) ≡ y.got ∷ filter (ends_by_then t) (gots ys) = rw by_y at kept in
-              let got = same_first x.got y.got (filter (ends_by_then t) (gots xs)) (filter (ends_by_then t) (gots ys)) both in
-              let end : x.got.end ≤ t = is_by x.got.end t by_x in
-              let over : IsOver done x.got = (let from = order.0 in omega arith, omega arith) in
-              let after : x.after ≡ y.after = follow_x.0 ∙ (same_after done a b same past x.got fine over
-              ∙ (ap (λ got. findings past got ++ test_rows b (delivered got ∷ past) got.end) got ∙ sym follow_y.0)) in
-              let one : x ≡ y = ap₂ (λ got after. record { got = got; after = after }) got after in
-              subst (λ d. AreKnownAlike t (delivered_rows (x ∷ xs) ++ more_x) (delivered_rows (d ∷ ys) ++ more_y)) one
-              (λ follows. ap (known_from t follows) (append_assoc (GotLine x.got ∷ x.after) (delivered_rows xs) more_x)
-              ∙ (alike_behind t (GotLine x.got ∷ x.after) (delivered_rows xs ++ more_x) (delivered_rows ys ++ more_y)
-              (alike_deliveries (with_delivery past x) xs ys more_x more_y (tt, (over.0, fine)) follow_x.1 (subst (λ d. AreFollowed b (with_delivery past d) ys) (sym one) follow_y.1)
-              rising_x.1 rising_y.1 order.1 (same_rest x.got y.got (filter (ends_by_then t) (gots xs)) (filter (ends_by_then t) (gots ys)) both) unknown_x unknown_y) follows
-              ∙ sym (ap (known_from t follows) (append_assoc (GotLine x.got ∷ x.after) (delivered_rows ys) more_y))))
-          | inr late_y ↦ absurd (not_none x.got (filter (ends_by_then t) (gots xs)) (kept ∙ late_kept t (gots (y ∷ ys)) (rest_late t y.got (gots ys) rising_y late_y)))
-        ]
-    | inr late_x ↦
-        let late = rest_late t x.got (gots xs) rising_x late_x in
-        let none = late_kept t (gots (x ∷ xs)) late in
-        λ follows.
-        deliveries_unknown t a past (x ∷ xs) more_x follow_x late unknown_x follows
-        ∙ sym (deliveries_unknown t b past (y ∷ ys) more_y follow_y (ends_late t (gots (y ∷ ys)) (all_dropped (ends_by_then t) (gots (y ∷ ys)) (sym e ∙ none))) unknown_y follows)
-  ]
+      deliveries_unknown t a past (x ∷ xs) more_x follow_x (ends_late t (gots (x ∷ xs))
+      (all_dropped (ends_by_then t) (gots (x ∷ xs)) e)) unknown_x follows ∙ sym (unknown_y follows)
+  alike_deliveries past (x ∷ xs) (y ∷ ys) more_x more_y fine follow_x follow_y rising_x rising_y order e unknown_x unknown_y =
+      elim (cases_Bool (ends_by_then t x.got)) [
+        | inl by_x ↦
+            let kept : x.got ∷ filter (ends_by_then t) (gots xs) ≡ filter (ends_by_then t) (gots (y ∷ ys)) = rw by_x at e in
+            elim (cases_Bool (ends_by_then t y.got)) [
+              | inl by_y ↦
+                  let both : x.got ∷ filter (ends_by_then t) (gots xs) ≡ y.got ∷ filter (ends_by_then t) (gots ys) = rw by_y at kept in
+                  let got = same_first x.got y.got (filter (ends_by_then t) (gots xs)) (filter (ends_by_then t) (gots ys)) both in
+                  let end : x.got.end ≤ t = is_by x.got.end t by_x in
+                  let over : IsOver done x.got = (let from = order.0 in omega arith, omega arith) in
+                  let after : x.after ≡ y.after = follow_x.0 ∙ (same_after done a b same past x.got fine over
+                  ∙ (ap (λ got. findings past got ++ test_rows b (delivered got ∷ past) got.end) got ∙ sym follow_y.0)) in
+                  let one : x ≡ y = ap₂ (λ got after. record { got = got; after = after }) got after in
+                  subst (λ d. AreKnownAlike t (delivered_rows (x ∷ xs) ++ more_x) (delivered_rows (d ∷ ys) ++ more_y)) one
+                  (λ follows. ap (known_from t follows) (append_assoc (GotLine x.got ∷ x.after) (delivered_rows xs) more_x)
+                  ∙ (alike_behind t (GotLine x.got ∷ x.after) (delivered_rows xs ++ more_x) (delivered_rows ys ++ more_y)
+                  (alike_deliveries (with_delivery past x) xs ys more_x more_y (tt, (over.0, fine)) follow_x.1
+                  (subst (λ d. AreFollowed b (with_delivery past d) ys) (sym one) follow_y.1)
+                  rising_x.1 rising_y.1 order.1 (same_rest x.got y.got (filter (ends_by_then t) (gots xs))
+                  (filter (ends_by_then t) (gots ys)) both) unknown_x unknown_y) follows
+                  ∙ sym (ap (known_from t follows) (append_assoc (GotLine x.got ∷ x.after) (delivered_rows ys) more_y))))
+              | inr late_y ↦ absurd (not_none x.got (filter (ends_by_then t) (gots xs))
+                  (kept ∙ late_kept t (gots (y ∷ ys)) (rest_late t y.got (gots ys) rising_y late_y)))
+            ]
+        | inr late_x ↦
+            let late = rest_late t x.got (gots xs) rising_x late_x in
+            let none = late_kept t (gots (x ∷ xs)) late in
+            λ follows.
+            deliveries_unknown t a past (x ∷ xs) more_x follow_x late unknown_x follows
+            ∙ sym (deliveries_unknown t b past (y ∷ ys) more_y follow_y
+            (ends_late t (gots (y ∷ ys)) (all_dropped (ends_by_then t) (gots (y ∷ ys)) (sym e ∙ none))) unknown_y follows)
+      ]

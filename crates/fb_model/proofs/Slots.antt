@@ -7,7 +7,8 @@ use Rattle.fb_model.specs.Laws.{IsInSlot, HasOneSlot}
 
 module _ (rotation n : ℕ) (some : 0 < n) where
   ascends : (a b : ℕ) → a ≤ b → slot_begin rotation n a ≤ slot_begin rotation n b
-  ascends a b h = le-div (a * rotation / n) (b * rotation) n some (omega (arith, div-add-mod' (a * rotation) n, mul-le a rotation b rotation h (omega arith)))
+  ascends a b h = le-div (a * rotation / n) (b * rotation) n some
+      (omega (arith, div-add-mod' (a * rotation) n, mul-le a rotation b rotation h (omega arith)))
 
   -- no slot ends before it
   not_later : (angle a b : ℕ) → IsInSlot rotation n angle a → IsInSlot rotation n angle b → a ≤ b
@@ -17,7 +18,11 @@ module _ (rotation n : ℕ) (some : 0 < n) where
   ]
 
   some_slot : (angle k : ℕ) → k ≤ n → angle < slot_begin rotation n k → (slot : ℕ) × IsInSlot rotation n angle slot
-  some_slot angle zero le below = absurd (omega (arith, div-add-mod' (0 * rotation) n, mul-le 1 (slot_begin rotation n 0) n (slot_begin rotation n 0) (omega arith) (omega arith)))
+  some_slot angle zero le below = absurd (omega (
+    arith,
+    div-add-mod' (0 * rotation) n,
+    mul-le 1 (slot_begin rotation n 0) n (slot_begin rotation n 0) (omega arith) (omega arith),
+  ))
   some_slot angle (suc k) le below = elim (cases_lt angle (slot_begin rotation n k)) [
     | inl before ↦ some_slot angle k (omega arith) before
     | inr here ↦ (k, record { inside = omega arith; from = here; below = let next : suc k ≡ k + 1 = omega arith in rw (← next) below })
@@ -30,5 +35,9 @@ one_slot rotation n angle some h =
     record {
       slot = found.0;
       lies = found.1;
-      only = λ other lies. omega (arith, not_later rotation n some angle other found.0 lies found.1, not_later rotation n some angle found.0 other found.1 lies);
+      only = λ other lies. omega (
+        arith,
+        not_later rotation n some angle other found.0 lies found.1,
+        not_later rotation n some angle found.0 other found.1 lies,
+      );
     }

@@ -6,7 +6,8 @@ use Rattle.std.proofs.lemmas.List.Folds.{list_any-append}
 use Rattle.fb_wanted.specs.declared.block.Block.{Block}
 use Rattle.fb_wanted.specs.declared.block.State.{State}
 use Rattle.fb_wanted.specs.declared.block.State.TheVariants.{Wanted}
-use Rattle.fb_model.specs.History.{Event, called, chose, tested, delivered, finished, Past, registered, registers, same_block, state_after_event, state_from}
+use Rattle.fb_model.specs.History.{Event, called, chose, tested, delivered, finished, Past, registered, registers, same_block}
+use Rattle.fb_model.specs.History.{state_after_event, state_from}
 
 first_any : {X : Type 0} (p : X → Bool) (xs ys : List X) → list_any p ys ≡ false → list_any p (xs ++ ys) ≡ true → list_any p xs ≡ true
 first_any p xs ys none some = grind (arith, list_any-append p xs ys)

@@ -15,7 +15,8 @@ use Rattle.fb_model.specs.Laws.{HaveOneForeground}
 -- the rows, of what they are made from
 abbrev rows_from : Disk → List ℕ → Key → List Request → List Request → List ForeRow
 rows_from disk latent key trace reads =
-    map (fore_row (record { disk = disk; latent = latent; writes = flat_map writes_of (plain_replay disk key (fold behind trace reads)) })) (plain_replay disk key (fold behind trace reads))
+    map (fore_row (record { disk = disk; latent = latent; writes = flat_map writes_of (plain_replay disk key (fold behind trace reads)) }))
+    (plain_replay disk key (fold behind trace reads))
 
 rows_are : (inputs : Inputs) → fore_rows inputs ≡ rows_from inputs.disk inputs.latent inputs.key inputs.trace (promoted inputs.calls)
 unfolding served medium_of fore_rows

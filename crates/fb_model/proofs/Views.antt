@@ -1,5 +1,6 @@
 -- How events change the way a task stands.
-use Rattle.std.proofs.Common.{◌≡◌, ℕ, zero, suc, length, subst, ◌+◌, ◌==◌, List, [], ◌∷◌, ◌++◌, Bool, true, false, inl, inr, filter, append-nil, refl, sym}
+use Rattle.std.proofs.Common.{◌≡◌, ℕ, zero, suc, length, subst, ◌+◌, ◌==◌, List, [], ◌∷◌, ◌++◌, Bool, true, false, inl, inr, filter}
+use Rattle.std.proofs.Common.{append-nil, refl, sym}
 use Rattle.std.specs.List.{AllByRecursion, list_any, slice_index_or}
 use Rattle.std.proofs.Math.Bool.{or-true, or-false, and-true, and-false}
 use Rattle.std.proofs.lemmas.Bool.{cases_Bool}
@@ -16,8 +17,10 @@ use Rattle.fb_calls.specs.declared.call.Kind.TheVariants.{Plain}
 use Rattle.fb_rows.specs.declared.back.DeliveryRow.{DeliveryRow}
 use Rattle.fb_rows.specs.declared.back.BackRow.{BackRow}
 use Rattle.fb_wanted.specs.declared.block.Block.{Block}
-use Rattle.fb_model.specs.History.{Past, LogSegment, called, chose, tested, delivered, finished, terms_of, tasks, same_block, bare_state, content_of}
-use Rattle.fb_model.specs.Completion.{view, own_of, is_unsealed, closed_view, aborted_view, written_view, added_view, wanted_view, chosen_view, delivered_view, tested_view, is_complete}
+use Rattle.fb_model.specs.History.{Past, LogSegment, called, chose, tested, delivered, finished, terms_of, tasks, same_block, bare_state}
+use Rattle.fb_model.specs.History.{content_of}
+use Rattle.fb_model.specs.Completion.{view, own_of, is_unsealed, closed_view, aborted_view, written_view, added_view, wanted_view}
+use Rattle.fb_model.specs.Completion.{chosen_view, delivered_view, tested_view, is_complete}
 
 none_filtered : (task : ℕ) (bs : List Block) → list_any (λ b. b.task == task) bs ≡ false → filter (λ block. block.task == task) bs ≡ []
 none_filtered task [] h = refl
@@ -33,11 +36,13 @@ module _ (past : Past) (call : Call) (kept : tasks (called call [] ∷ past) ≡
   unfolding view bare_state content_of
   called-silent other = rw (kept, append-nil, list_any-append, other, or-false) refl
 
-  pub suspended-view : call.task ≡ task → call.action ≡ Suspend → view (called call [] ∷ past) task ≡ record (view past task) { suspended = true }
+  pub suspended-view : call.task ≡ task → call.action ≡ Suspend
+      → view (called call [] ∷ past) task ≡ record (view past task) { suspended = true }
   unfolding view bare_state content_of
   suspended-view own is = rw (append-nil, list_any-append, is, same_number call.task task own, or-false) refl
 
-  pub resumed-view : call.task ≡ task → call.action ≡ Resume → view (called call [] ∷ past) task ≡ record (view past task) { suspended = false }
+  pub resumed-view : call.task ≡ task → call.action ≡ Resume
+      → view (called call [] ∷ past) task ≡ record (view past task) { suspended = false }
   unfolding view bare_state content_of
   resumed-view own is = rw (append-nil, list_any-append, is, same_number call.task task own, or-false) refl
 
@@ -45,7 +50,8 @@ module _ (past : Past) (call : Call) (kept : tasks (called call [] ∷ past) ≡
   unfolding view bare_state content_of
   closed-view own is = rw (append-nil, list_any-append, is, same_number call.task task own, or-false) refl
 
-  pub aborted-view : (first count : ℕ) → call.task ≡ task → call.action ≡ Abort first count → view (called call [] ∷ past) task ≡ aborted_view first count (view past task)
+  pub aborted-view : (first count : ℕ) → call.task ≡ task → call.action ≡ Abort first count
+      → view (called call [] ∷ past) task ≡ aborted_view first count (view past task)
   unfolding view bare_state content_of
   aborted-view first count own is = rw (append-nil, list_any-append, is, same_number call.task task own, or-false) refl
 
@@ -56,26 +62,32 @@ module _ (past : Past) (call : Call) (kept : tasks (called call [] ∷ past) ≡
     | inr other ↦ called-silent other
   ]
 
-  pub added-view : (first blocks age : ℕ) (live : List Bool) → call.task ≡ task → call.action ≡ Segment first blocks age live → view (called call [] ∷ past) task
-      ≡ added_view (record { number = length (view past task).segments + 1; first = first; blocks = blocks; age = age; live = live }) (view past task)
+  pub added-view : (first blocks age : ℕ) (live : List Bool) → call.task ≡ task → call.action ≡ Segment first blocks age live
+      → view (called call [] ∷ past) task
+      ≡ added_view (record { number = length (view past task).segments + 1; first = first; blocks = blocks; age = age; live = live })
+      (view past task)
   unfolding view bare_state content_of
   added-view first blocks age live own is = rw (append-nil, list_any-append, is, same_number call.task task own, or-false) refl
 
 -- a task is opened
-index_other : {X : Type 0} (xs : List X) (x d : X) (i : ℕ) → (length xs == i) ≡ false → slice_index_or (xs ++ x ∷ []) i d ≡ slice_index_or xs i d
+index_other : {X : Type 0} (xs : List X) (x d : X) (i : ℕ) → (length xs == i) ≡ false
+    → slice_index_or (xs ++ x ∷ []) i d ≡ slice_index_or xs i d
 index_other [] x d zero h = absurd (grind (arith, nat_tests))
 index_other [] x d (suc i) h = refl
 index_other (y ∷ ys) x d zero h = refl
 index_other (y ∷ ys) x d (suc i) h = index_other ys x d i (grind (arith, nat_tests))
 
-module _ (past : Past) (call : Call) (kind : Kind) (weight block : ℕ) (is : call.action ≡ Open kind weight block) (next : call.task ≡ length (tasks past)) (task : ℕ) where
+module _ (past : Past) (call : Call) (kind : Kind) (weight block : ℕ) (is : call.action ≡ Open kind weight block)
+    (next : call.task ≡ length (tasks past)) (task : ℕ) where
   pub opened-silent : (call.task == task) ≡ false → view (called call [] ∷ past) task ≡ view past task
   unfolding view bare_state content_of
   opened-silent other =
-      let terms = index_other (tasks past) (record { kind = kind; weight = weight; block = block }) (record { kind = Plain; weight = 1; block = 1 }) task (rw (sym next) other) in
+      let terms = index_other (tasks past) (record { kind = kind; weight = weight; block = block })
+      (record { kind = Plain; weight = 1; block = 1 }) task (rw (sym next) other) in
       rw (is, terms, append-nil, list_any-append, other, or-false) refl
 
-  pub opened-view : call.task ≡ task → view (called call [] ∷ past) task ≡ record (view past task) { work = record (view past task).work { terms = terms_of (called call [] ∷ past) task } }
+  pub opened-view : call.task ≡ task → view (called call [] ∷ past) task
+      ≡ record (view past task) { work = record (view past task).work { terms = terms_of (called call [] ∷ past) task } }
   unfolding view bare_state content_of
   opened-view own = rw (is, append-nil, list_any-append, same_number call.task task own, or-false) refl
 
@@ -84,17 +96,22 @@ all_filtered : (task : ℕ) (bs : List Block) → AllByRecursion (λ b. b.task �
 all_filtered task [] h = refl
 all_filtered task (b ∷ bs) h = rw (same_number b.task task h.0, all_filtered task bs h.1) refl
 
-no_own : (block : Block) (task : ℕ) (bs : List Block) → (task == block.task) ≡ false → AllByRecursion (λ b. b.task ≡ task) bs → list_any (same_block block) bs ≡ false
+no_own : (block : Block) (task : ℕ) (bs : List Block) → (task == block.task) ≡ false → AllByRecursion (λ b. b.task ≡ task) bs
+    → list_any (same_block block) bs ≡ false
 no_own block task [] other h = refl
-no_own block task (b ∷ bs) other h = let differ : (block.task == b.task) ≡ false = other_task block.task task b.task other h.0 in rw differ (no_own block task bs other h.1) where
+no_own block task (b ∷ bs) other h = let differ : (block.task == b.task) ≡ false = other_task block.task task b.task other h.0 in
+    rw differ (no_own block task bs other h.1) where
   other_task : (a t b : ℕ) → (t == a) ≡ false → b ≡ t → (a == b) ≡ false
   other_task a t b other e = grind (arith, nat_tests)
 
-no_filtered : (task own : ℕ) (bs : List Block) → (own == task) ≡ false → AllByRecursion (λ b. b.task ≡ own) bs → filter (λ block. block.task == task) bs ≡ []
+no_filtered : (task own : ℕ) (bs : List Block) → (own == task) ≡ false → AllByRecursion (λ b. b.task ≡ own) bs
+    → filter (λ block. block.task == task) bs ≡ []
 no_filtered task own [] other h = refl
-no_filtered task own (b ∷ bs) other h = let differ : (b.task == task) ≡ false = rw h.0 other in rw differ (no_filtered task own bs other h.1)
+no_filtered task own (b ∷ bs) other h = let differ : (b.task == task) ≡ false = rw h.0 other in
+    rw differ (no_filtered task own bs other h.1)
 
-module _ (past : Past) (call : Call) (first count : ℕ) (is : call.action ≡ Want first count) (blocks : List Block) (mine : AllByRecursion (λ b. b.task ≡ call.task) blocks) (task : ℕ) where
+module _ (past : Past) (call : Call) (first count : ℕ) (is : call.action ≡ Want first count) (blocks : List Block)
+    (mine : AllByRecursion (λ b. b.task ≡ call.task) blocks) (task : ℕ) where
   pub wanted-silent : (call.task == task) ≡ false → view (called call blocks ∷ past) task ≡ view past task
   unfolding view bare_state content_of
   wanted-silent other =
@@ -103,18 +120,31 @@ module _ (past : Past) (call : Call) (first count : ℕ) (is : call.action ≡ W
 
   pub wanted-view : call.task ≡ task → view (called call blocks ∷ past) task ≡ wanted_view task blocks (view past task)
   unfolding view bare_state content_of
-  wanted-view own = rw (is, filter-append, all_filtered task blocks (subst (λ t. AllByRecursion (λ b. b.task ≡ t) blocks) own mine), list_any-append, same_number call.task task own, or-true) refl
+  wanted-view own = rw (
+    is,
+    filter-append,
+    all_filtered task blocks (subst (λ t. AllByRecursion (λ b. b.task ≡ t) blocks) own mine),
+    list_any-append,
+    same_number call.task task own,
+    or-true,
+  ) refl
 
-module _ (past : Past) (chooser : ℕ) (segment : LogSegment) (blocks : List Block) (mine : AllByRecursion (λ b. b.task ≡ chooser) blocks) (task : ℕ) where
+module _ (past : Past) (chooser : ℕ) (segment : LogSegment) (blocks : List Block) (mine : AllByRecursion (λ b. b.task ≡ chooser) blocks)
+    (task : ℕ) where
   pub chosen-silent : (chooser == task) ≡ false → view (chose chooser segment blocks ∷ past) task ≡ view past task
   unfolding view bare_state content_of
   chosen-silent other =
       let none = λ (b : Block). no_own (own_of task b) chooser blocks other mine in
       rw (filter-append, no_filtered task chooser blocks other mine, append-nil, other) (simp none)
 
-  pub chosen-view : chooser ≡ task → view (chose chooser segment blocks ∷ past) task ≡ chosen_view task (record { segment = segment; blocks = blocks }) (view past task)
+  pub chosen-view : chooser ≡ task
+      → view (chose chooser segment blocks ∷ past) task ≡ chosen_view task (record { segment = segment; blocks = blocks }) (view past task)
   unfolding view bare_state content_of
-  chosen-view own = rw (filter-append, all_filtered task blocks (subst (λ t. AllByRecursion (λ b. b.task ≡ t) blocks) own mine), same_number chooser task own) refl
+  chosen-view own = rw (
+    filter-append,
+    all_filtered task blocks (subst (λ t. AllByRecursion (λ b. b.task ≡ t) blocks) own mine),
+    same_number chooser task own,
+  ) refl
 
 -- a block is delivered
 module _ (past : Past) (row : DeliveryRow) (task : ℕ) where
@@ -140,6 +170,7 @@ module _ (past : Past) (request : Request) (task : ℕ) where
   unfolding view bare_state content_of
   written-silent other = rw other (simp and-false)
 
-  pub written-view : request.write ≡ true → is_unsealed (view past task) ≡ true → view (finished request ∷ past) task ≡ written_view request (view past task)
+  pub written-view : request.write ≡ true → is_unsealed (view past task) ≡ true
+      → view (finished request ∷ past) task ≡ written_view request (view past task)
   unfolding view bare_state content_of
   written-view write is_open = rw (write, is_open) (simp and-true)

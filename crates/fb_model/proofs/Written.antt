@@ -1,5 +1,6 @@
 -- What services write: until when none of it has passed, and what of it a sector holds in the end.
-use Rattle.std.proofs.Common.{◌≡◌, ℕ, zero, suc, ◌+◌, ◌<◌, ◌≤◌, List, [], ◌∷◌, ◌++◌, map, Option, None, Some, Bool, true, false, refl, ap, ◌∙◌, arith, inl, inr, append-nil}
+use Rattle.std.proofs.Common.{◌≡◌, ℕ, zero, suc, ◌+◌, ◌<◌, ◌≤◌, List, [], ◌∷◌, ◌++◌, map, Option, None, Some, Bool, true, false, refl, ap}
+use Rattle.std.proofs.Common.{◌∙◌, arith, inl, inr, append-nil}
 use Rattle.std.specs.Prelude.{filter, ◌==◌, if◌then◌else◌}
 use Rattle.std.specs.List.{AllByRecursion, last_or}
 use Rattle.std.proofs.lemmas.Bool.{cases_Bool}
@@ -29,14 +30,19 @@ begun_after disk source now write lbn zero = tt
 begun_after disk source now write lbn (suc n) =
     let first = passage_from disk.map lbn (now + pos disk.mechanism source (track_at disk.map lbn) write) in
     let rest = passed_between disk (track_at disk.map lbn) first.end write (lbn + 1) n in
-    ((let h : first.begin ≤ first.begin = omega arith in h), all_weaker _ _ (λ (p : Passage) h. (let le : first.begin ≤ p.begin = omega (arith, h.0) in le)) _ rest.1)
+    (
+      (let h : first.begin ≤ first.begin = omega arith in h),
+      all_weaker _ _ (λ (p : Passage) h. (let le : first.begin ≤ p.begin = omega (arith, h.0) in le)) _ rest.1,
+    )
 
 -- the first one begins between start and finish
 pub media_first : (disk : Disk) (source : Track) (start : ℕ) (write : Bool) (lbn n : ℕ) → 0 < n
-    → (start ≤ media_of (passages disk source start write lbn n)) × (media_of (passages disk source start write lbn n) ≤ finish_of start (passages disk source start write lbn n))
+    → (start ≤ media_of (passages disk source start write lbn n))
+    × (media_of (passages disk source start write lbn n) ≤ finish_of start (passages disk source start write lbn n))
 unfolding passages
 media_first disk source start write lbn zero some = absurd (omega arith)
-media_first disk source start write lbn (suc n) some = let all = (passed_between disk source start write lbn (suc n)).1 in (all.0.0, omega (arith, all.0.1, all.0.2))
+media_first disk source start write lbn (suc n) some = let all = (passed_between disk source start write lbn (suc n)).1 in
+    (all.0.0, omega (arith, all.0.1, all.0.2))
 
 -- ---- what the writes leave
 
@@ -45,14 +51,16 @@ abbrev pub is_of : ℕ → Written → Bool
 is_of lbn write = write.passage.lbn == lbn
 
 -- writes that ended by then are those of the sector
-pub ended_by : (lbn t : ℕ) (writes : List Written) → AllByRecursion (λ (w : Written). w.passage.end ≤ t) writes → filter (is_of_by lbn t) writes ≡ filter (is_of lbn) writes
+pub ended_by : (lbn t : ℕ) (writes : List Written) → AllByRecursion (λ (w : Written). w.passage.end ≤ t) writes
+    → filter (is_of_by lbn t) writes ≡ filter (is_of lbn) writes
 ended_by lbn t [] all = refl
 ended_by lbn t (w ∷ writes) all = grind (arith, nat_tests, all.0, ended_by lbn t writes all.1)
 
 -- what the first of these writes left, while none of the others has ended
 pub content_then : (disk : Disk) (latent : List ℕ) (before after : List Written) (lbn t : ℕ)
     → AllByRecursion (λ (w : Written). w.passage.end ≤ t) before → AllByRecursion (λ (w : Written). t < w.passage.end) after
-    → content (record { disk = disk; latent = latent; writes = before ++ after }) lbn t ≡ content_by (last_or None (filter (is_of lbn) before)) (unwritten latent lbn)
+    → content (record { disk = disk; latent = latent; writes = before ++ after }) lbn t
+    ≡ content_by (last_or None (filter (is_of lbn) before)) (unwritten latent lbn)
 content_then disk latent before after lbn t passed to_come =
     ap (λ ws. content_by (last_or None ws) (unwritten latent lbn))
     (filter-append (is_of_by lbn t) before after
@@ -75,8 +83,11 @@ own_writes disk source now write lbn (suc n) writer x before first = elim (cases
   | inl same ↦
       let inside : is_within lbn (suc n) x ≡ true = grind (arith, nat_tests) in
       let behind : is_within (lbn + 1) n x ≡ false = grind (arith, nat_tests) in
-      rw (same, inside) (own_writes disk (track_at disk.map lbn) (passage_from disk.map lbn (now + pos disk.mechanism source (track_at disk.map lbn) write)).end write (lbn + 1) n writer x _ first ∙ rw behind refl)
+      rw (same, inside) (own_writes disk (track_at disk.map lbn) (passage_from disk.map lbn
+      (now + pos disk.mechanism source (track_at disk.map lbn) write)).end write (lbn + 1) n writer x _ first ∙ rw behind refl)
   | inr other ↦
       let again : is_within (lbn + 1) n x ≡ is_within lbn (suc n) x = grind (arith, nat_tests) in
-      rw other (own_writes disk (track_at disk.map lbn) (passage_from disk.map lbn (now + pos disk.mechanism source (track_at disk.map lbn) write)).end write (lbn + 1) n writer x before first ∙ ap (λ b. if b then Filled writer else content_by before first) again)
+      rw other (own_writes disk (track_at disk.map lbn) (passage_from disk.map lbn
+      (now + pos disk.mechanism source (track_at disk.map lbn) write)).end write (lbn + 1) n writer x before first
+      ∙ ap (λ b. if b then Filled writer else content_by before first) again)
 ]

@@ -1,5 +1,6 @@
 -- How a task stands, when it is complete, and what each kind of event makes of it.
-use Rattle.std.specs.Prelude.{ℕ, ◌+◌, List, [], ◌∷◌, ◌++◌, length, Bool, true, false, ◌&&◌, ◌||◌, not, ◌==◌, nat_lt, Option, Some, None, find, if◌then◌else◌}
+use Rattle.std.specs.Prelude.{ℕ, ◌+◌, List, [], ◌∷◌, ◌++◌, length, Bool, true, false, ◌&&◌, ◌||◌, not, ◌==◌, nat_lt, Option, Some, None}
+use Rattle.std.specs.Prelude.{find, if◌then◌else◌}
 use Rattle.std.specs.List.{list_any, list_all}
 use Rattle.fb_units.specs.declared.types.Request.{Request}
 use Rattle.fb_calls.specs.declared.call.Kind.{Kind}
@@ -16,11 +17,13 @@ use Rattle.fb_wanted.specs.States.{shares, is_delivered, is_wanted}
 use Rattle.fb_rows.specs.declared.back.BackRow.{BackRow}
 use Rattle.fb_rows.specs.declared.back.DeliveryRow.{DeliveryRow}
 use Rattle.fb_rows.specs.declared.back.BackRow.TheVariants.{Segment as SegmentLine}
-use Rattle.fb_model.specs.History.{called, chose, tested, Past, LogSegment, Terms, terms_of, blocks_of, calls_of, same_block, is_seal_of, bare_state, content_of, is_aborted, is_suspended, is_sealed}
+use Rattle.fb_model.specs.History.{called, chose, tested, Past, LogSegment, Terms, terms_of, blocks_of, calls_of, same_block, is_seal_of}
+use Rattle.fb_model.specs.History.{bare_state, content_of, is_aborted, is_suspended, is_sealed}
 
 -- a segment call adds a segment; they are numbered from 1
 abbrev pub segment_by : Action → List LogSegment → List LogSegment
-segment_by (Segment first blocks age live) before = before ++ record { number = length before + 1; first = first; blocks = blocks; age = age; live = live } ∷ []
+segment_by (Segment first blocks age live) before =
+    before ++ record { number = length before + 1; first = first; blocks = blocks; age = age; live = live } ∷ []
 segment_by _ before = before
 
 -- the segments of a task in line order
@@ -37,7 +40,8 @@ pub record Choice : Type 0 where
 -- the segments that a task has chosen, in order
 abbrev pub choices : Past → ℕ → List Choice
 choices [] task = []
-choices (chose chooser segment blocks ∷ past) task = if chooser == task then choices past task ++ record { segment = segment; blocks = blocks } ∷ [] else choices past task
+choices (chose chooser segment blocks ∷ past) task =
+    if chooser == task then choices past task ++ record { segment = segment; blocks = blocks } ∷ [] else choices past task
 choices (_ ∷ past) task = choices past task
 
 -- the action is a close
@@ -193,7 +197,10 @@ added_view segment view = record view { work = record view.work { segments = vie
 
 -- blocks are registered
 abbrev pub registering : ℕ → List Block → Work → Work
-registering task blocks work = record work { blocks = work.blocks ++ blocks; bare = λ block. if list_any (same_block (own_of task block)) blocks then Wanted else work.bare block }
+registering task blocks work = record work {
+  blocks = work.blocks ++ blocks;
+  bare = λ block. if list_any (same_block (own_of task block)) blocks then Wanted else work.bare block;
+}
 
 -- a want call
 abbrev pub wanted_view : ℕ → List Block → TaskView → TaskView
@@ -201,7 +208,8 @@ wanted_view task blocks view = record view { wants = true; work = registering ta
 
 -- a choice of a segment
 abbrev pub chosen_view : ℕ → Choice → TaskView → TaskView
-chosen_view task choice view = record view { work = registering task choice.blocks (record view.work { choices = view.choices ++ choice ∷ [] }) }
+chosen_view task choice view =
+    record view { work = registering task choice.blocks (record view.work { choices = view.choices ++ choice ∷ [] }) }
 
 -- a delivery of one of its blocks
 abbrev pub delivered_view : DeliveryRow → TaskView → TaskView

@@ -68,7 +68,14 @@ found medium served = if served.request.write then []
 abbrev pub fore_row : Medium → Served → ForeRow
 fore_row medium served =
     let runs = found medium served in
-    record { request = served.request; start = served.start; media = media served; finish = finish served; bad = bad_of runs; content = runs }
+    record {
+      request = served.request;
+      start = served.start;
+      media = media served;
+      finish = finish served;
+      bad = bad_of runs;
+      content = runs;
+    }
 
 -- the foreground rows of the plain replay, in order
 unfoldable pub fore_rows : Inputs → List ForeRow

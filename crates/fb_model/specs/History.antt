@@ -139,7 +139,8 @@ abbrev pub state_from : State → Past → Block → State
 state_from before [] block = before
 state_from before (event ∷ past) block = state_after_event past event block (state_from before past block)
 
--- the state of a registered block, leaving suspension aside; what stands for the state before the first event doesn't matter (StatesBeginWithRegistration)
+-- the state of a registered block, leaving suspension aside; what stands for the state before the first event doesn't matter
+-- (StatesBeginWithRegistration)
 unfoldable pub bare_state : Past → Block → State
 bare_state past block = state_from Wanted past block
 
@@ -158,7 +159,8 @@ suspended_after _ before = before
 -- the task's last suspend or resume was a suspend
 abbrev pub is_suspended : Past → ℕ → Bool
 is_suspended [] task = false
-is_suspended (called call blocks ∷ past) task = if call.task == task then suspended_after call.action (is_suspended past task) else is_suspended past task
+is_suspended (called call blocks ∷ past) task =
+    if call.task == task then suspended_after call.action (is_suspended past task) else is_suspended past task
 is_suspended (_ ∷ past) task = is_suspended past task
 
 -- the state of a registered block

@@ -10,7 +10,8 @@ use Rattle.fb_store.specs.Runs.{runs_of, same_content}
 use Rattle.fb_wanted.specs.declared.block.Block.{Block}
 use Rattle.fb_rows.specs.declared.back.DeliveryRow.{DeliveryRow}
 use Rattle.fb_rows.specs.declared.back.BackRow.{BackRow}
-use Rattle.fb_rows.specs.declared.back.BackRow.TheVariants.{Bad as BadLine, Seal as SealLine, Segment as SegmentLine, Complete as CompleteLine}
+use Rattle.fb_rows.specs.declared.back.BackRow.TheVariants.{Bad as BadLine, Seal as SealLine, Segment as SegmentLine}
+use Rattle.fb_rows.specs.declared.back.BackRow.TheVariants.{Complete as CompleteLine}
 use Rattle.fb_model.specs.Content.{Medium, contents_at}
 use Rattle.fb_wanted.specs.States.{is_delivered}
 use Rattle.fb_model.specs.History.{delivered, Past, terms_of, task_numbers, blocks_of, same_block, is_open_backup}
@@ -56,7 +57,8 @@ is_newly_cleaned work choice = is_cleaned work choice && not (work.reported choi
 -- the rows of the segments that are cleaned and have none yet, each with the contents given for it
 abbrev pub segment_rows : (Choice → List ContentRun) → Past → ℕ → ℕ → List BackRow
 segment_rows content past now task = map
-    (λ choice. SegmentLine (record { task = task; segment = choice.segment.number; instant = now; live = live_count choice.segment; content = content choice }))
+    (λ choice. SegmentLine
+    (record { task = task; segment = choice.segment.number; instant = now; live = live_count choice.segment; content = content choice }))
     (filter (is_newly_cleaned (work past task)) (choices past task))
 
 -- a backup is sealed, with these contents, at the first test at which it is complete

@@ -4,7 +4,9 @@ use Rattle.fb_geometry.specs.Sound.{IsSound}
 use Rattle.fb_calls.specs.declared.call.Call.{Call}
 use Rattle.fb_rows.specs.declared.fore.ForeRow.{ForeRow}
 use Rattle.fb_rows.specs.declared.back.BackRow.{BackRow}
-use Rattle.fb_rows.specs.declared.back.BackRow.TheVariants.{Gap as GapLine, Idle as IdleLine, Got as GotLine, Bad as BadLine, Seal as SealLine, Segment as SegmentLine, Complete as CompleteLine, Task as TaskLine}
+use Rattle.fb_rows.specs.declared.back.BackRow.TheVariants.{Gap as GapLine, Idle as IdleLine, Got as GotLine, Bad as BadLine}
+use Rattle.fb_rows.specs.declared.back.BackRow.TheVariants.{Seal as SealLine, Segment as SegmentLine, Complete as CompleteLine}
+use Rattle.fb_rows.specs.declared.back.BackRow.TheVariants.{Task as TaskLine}
 use Rattle.fb_rows.specs.declared.run.Run.{Run}
 use Rattle.fb_model.specs.Inputs.{Inputs, requests}
 use Rattle.fb_model.specs.Accepted.{IsAccepted}
@@ -55,7 +57,8 @@ pub record AgreeUpTo (t : ℕ) (a b : Inputs) : Type 0 where
   pub latent : a.latent ≡ b.latent
   pub key : a.key ≡ b.key
   pub requests : filter (λ request. nat_le request.arrival t) (requests a) ≡ filter (λ request. nat_le request.arrival t) (requests b)
-  pub calls : map without_line (filter (λ call. nat_le call.instant t) a.calls) ≡ map without_line (filter (λ call. nat_le call.instant t) b.calls)
+  pub calls : map without_line (filter (λ call. nat_le call.instant t) a.calls)
+      ≡ map without_line (filter (λ call. nat_le call.instant t) b.calls)
 
 -- the parts known by t are equal
 pub record SameKnown (t : ℕ) (a b : Run) : Type 0 where
@@ -64,7 +67,8 @@ pub record SameKnown (t : ℕ) (a b : Run) : Type 0 where
 
 -- on a disk without a fault, nothing that is known by t depends on what comes after t
 abbrev pub NoLookAhead : Type 0
-NoLookAhead = (a b : Inputs) (run_a run_b : Run) (t : ℕ) → IsSound a.disk.map → IsAccepted a → IsAccepted b → IsFull a run_a → IsFull b run_b
+NoLookAhead = (a b : Inputs) (run_a run_b : Run) (t : ℕ) → IsSound a.disk.map → IsAccepted a → IsAccepted b → IsFull a run_a
+    → IsFull b run_b
     → t < run_a.end → t < run_b.end → AgreeUpTo t a b → SameKnown t run_a run_b
 
 -- accepted inputs have at most one full run

@@ -1,5 +1,6 @@
 -- Laws of the definitions, each in its subject's own words.
-use Rattle.std.specs.Prelude.{◌≡◌, ℕ, ◌+◌, ◌-◌, ◌*◌, ◌%◌, ◌<◌, ◌≤◌, List, [], ◌∷◌, ◌++◌, length, map, true, Option, Some, None, IsPermutation}
+use Rattle.std.specs.Prelude.{◌≡◌, ℕ, ◌+◌, ◌-◌, ◌*◌, ◌%◌, ◌<◌, ◌≤◌, List, [], ◌∷◌, ◌++◌, length, map, true, Option, Some, None}
+use Rattle.std.specs.Prelude.{IsPermutation}
 use Rattle.std.specs.List.{AllByRecursion, list_any, sum_by}
 use Rattle.fb_units.specs.declared.types.Request.{Request}
 use Rattle.fb_units.specs.declared.types.Track.{Track}
@@ -27,7 +28,8 @@ use Rattle.fb_model.specs.Content.{fore_rows}
 use Rattle.fb_model.specs.History.{Past, registered, same_block, state_from, bare_state}
 use Rattle.fb_model.specs.SoundRun.{IsSound}
 use Rattle.fb_model.specs.Accepted.{IsAccepted}
-use Rattle.fb_model.specs.PlainReplay.{Key, Served, finish, last_track, service, has_arrived, first_least, first_ready, first_track, plain_replay}
+use Rattle.fb_model.specs.PlainReplay.{Key, Served, finish, last_track, service, has_arrived, first_least, first_ready, first_track}
+use Rattle.fb_model.specs.PlainReplay.{plain_replay}
 
 -- ---- the platter
 
@@ -122,7 +124,8 @@ IsReadyPickOf key now requests (Some pick) = IsFirstReady key now requests pick.
 
 -- the same among the requests that have arrived
 abbrev pub ReadyPicksAreFirstLeast : Type 0
-ReadyPicksAreFirstLeast = (key : Request → ℕ) (now : ℕ) (requests : List Request) → IsReadyPickOf key now requests (first_ready key now requests)
+ReadyPicksAreFirstLeast = (key : Request → ℕ) (now : ℕ) (requests : List Request)
+    → IsReadyPickOf key now requests (first_ready key now requests)
 
 -- there is no other pick
 abbrev pub OnePick : Type 0
@@ -186,7 +189,8 @@ pub record IsReadyAt (now : ℕ) (requests : List Request) (instant : ℕ) : Typ
   pub first : (other : ℕ) → now ≤ other → list_any (has_arrived other) requests ≡ true → instant ≤ other
 
 -- as soon as a request has arrived, the first of least key among those that have is served; the others are left
-pub record IsServedNext (disk : Disk) (key : Key) (head : Track) (now : ℕ) (left : List Request) (served : Served) (others : List Request) : Type 0 where
+pub record IsServedNext (disk : Disk) (key : Key) (head : Track) (now : ℕ) (left : List Request) (served : Served)
+    (others : List Request) : Type 0 where
   pub start : IsReadyAt now left served.start
   pub pick : IsFirstReady (key disk head served.start) served.start left served.request others
   pub passes : served ≡ service disk head served.start served.request
@@ -195,7 +199,8 @@ pub record IsServedNext (disk : Disk) (key : Key) (head : Track) (now : ℕ) (le
 abbrev pub FollowsRules : Disk → Key → Track → ℕ → List Request → List Served → Type 0
 FollowsRules disk key head now left [] = left ≡ []
 FollowsRules disk key head now left (served ∷ later) =
-    (others : List Request) × IsServedNext disk key head now left served others × FollowsRules disk key (last_track disk served) (finish served) others later
+    (others : List Request) × IsServedNext disk key head now left served others
+    × FollowsRules disk key (last_track disk served) (finish served) others later
 
 -- the plain replay follows the rules, and no other list of services does
 pub record IsOnlyReplay (disk : Disk) (key : Key) (requests : List Request) : Type 0 where
@@ -204,7 +209,8 @@ pub record IsOnlyReplay (disk : Disk) (key : Key) (requests : List Request) : Ty
 
 -- where requests stand by arrival, only the plain replay follows the rules
 abbrev pub OnePlainReplay : Type 0
-OnePlainReplay = (disk : Disk) (key : Key) (requests : List Request) → IsRising (map (λ request. request.arrival) requests) → IsOnlyReplay disk key requests
+OnePlainReplay = (disk : Disk) (key : Key) (requests : List Request) → IsRising (map (λ request. request.arrival) requests)
+    → IsOnlyReplay disk key requests
 
 -- ---- the best plan
 
@@ -229,4 +235,5 @@ pub record HaveOneForeground (a b : Inputs) : Type 0 where
 
 -- background work leaves the foreground as it is
 abbrev pub ForegroundIsUntouched : Type 0
-ForegroundIsUntouched = (a b : Inputs) (run_a run_b : Run) → HaveOneForeground a b → IsSound a run_a → IsSound b run_b → run_a.fore ≡ run_b.fore
+ForegroundIsUntouched = (a b : Inputs) (run_a run_b : Run) → HaveOneForeground a b → IsSound a run_a → IsSound b run_b
+    → run_a.fore ≡ run_b.fore

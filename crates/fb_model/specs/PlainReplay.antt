@@ -1,6 +1,7 @@
 -- The plain replay: requests are served one after another, each the first of least key among those that have arrived.
 -- The shortest positioning time is studied by Worthington, Ganger and Patt (SIGMETRICS 1994); the ties are this project's.
-use Rattle.std.specs.Prelude.{ℕ, zero, suc, ◌+◌, ◌-◌, ◌%◌, List, [], ◌∷◌, length, Bool, true, false, nat_le, Option, Some, None, unwrap_or, if◌then◌else◌}
+use Rattle.std.specs.Prelude.{ℕ, zero, suc, ◌+◌, ◌-◌, ◌%◌, List, [], ◌∷◌, length, Bool, true, false, nat_le, Option, Some, None, unwrap_or}
+use Rattle.std.specs.Prelude.{if◌then◌else◌}
 use Rattle.std.specs.Option.{option_map}
 use Rattle.std.specs.List.{list_any}
 use Rattle.fb_units.specs.declared.types.Track.{Track}
@@ -27,7 +28,8 @@ sstf disk head now request = distance_of (track_at disk.map request.lbn).cylinde
 
 -- the circular elevator: how many cylinders upwards, with the first one behind the last
 abbrev pub clook : Key
-clook disk head now request = ((track_at disk.map request.lbn).cylinder + cylinders_of disk.map.zones - head.cylinder) % cylinders_of disk.map.zones
+clook disk head now request =
+    ((track_at disk.map request.lbn).cylinder + cylinders_of disk.map.zones - head.cylinder) % cylinders_of disk.map.zones
 
 -- shortest positioning time first: how long until the first sector begins to pass
 abbrev pub sptf : Key
@@ -73,7 +75,8 @@ has_arrived now request = nat_le request.arrival now
 -- the pick from a request and those behind it, given the pick from those behind it: the pick, and the others
 abbrev pub better : (Request → ℕ) → Request → List Request → Option (Request × List Request) → Option (Request × List Request)
 better key request others None = Some (request, others)
-better key request others (Some best) = if nat_le (key request) (key best.0) then Some (request, others) else Some (best.0, request ∷ best.1)
+better key request others (Some best) =
+    if nat_le (key request) (key best.0) then Some (request, others) else Some (best.0, request ∷ best.1)
 
 -- the same where the request has to wait
 abbrev pub kept : Request → Option (Request × List Request) → Option (Request × List Request)

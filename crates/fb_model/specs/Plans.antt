@@ -32,12 +32,15 @@ IsPlan disk gap (Detour track leave) = IsDetour disk gap track leave
 -- where the head waits before it leaves for the target
 abbrev pub early_dwell : Disk → Gap → Plan → Dwell
 early_dwell disk gap (Direct leave) = record { track = gap.source; begin = gap.now; end = leave }
-early_dwell disk gap (Detour track leave) = record { track = track; begin = gap.now + pos disk.mechanism gap.source track false; end = leave }
+early_dwell disk gap (Detour track leave) =
+    record { track = track; begin = gap.now + pos disk.mechanism gap.source track false; end = leave }
 
 -- and where it waits on the target
 abbrev pub late_dwell : Disk → Gap → Plan → Dwell
-late_dwell disk gap (Direct leave) = record { track = gap.target; begin = leave + pos disk.mechanism gap.source gap.target gap.write; end = gap.deadline }
-late_dwell disk gap (Detour track leave) = record { track = gap.target; begin = leave + pos disk.mechanism track gap.target gap.write; end = gap.deadline }
+late_dwell disk gap (Direct leave) =
+    record { track = gap.target; begin = leave + pos disk.mechanism gap.source gap.target gap.write; end = gap.deadline }
+late_dwell disk gap (Detour track leave) =
+    record { track = gap.target; begin = leave + pos disk.mechanism track gap.target gap.write; end = gap.deadline }
 
 -- a block's passage from t on: its first slot begins, and then its last slot ends
 abbrev pub block_begin : Shape → Block → ℕ → ℕ

@@ -1,5 +1,6 @@
 -- The deliveries that are due: what dwells catch and what foreground reads carry.
-use Rattle.std.specs.Prelude.{ℕ, ◌+◌, ◌-◌, List, [], ◌∷◌, ◌++◌, Bool, ◌&&◌, ◌||◌, not, ◌==◌, nat_le, nat_lt, filter, find, map, if◌then◌else◌}
+use Rattle.std.specs.Prelude.{ℕ, ◌+◌, ◌-◌, List, [], ◌∷◌, ◌++◌, Bool, ◌&&◌, ◌||◌, not, ◌==◌, nat_le, nat_lt, filter, find, map}
+use Rattle.std.specs.Prelude.{if◌then◌else◌}
 use Rattle.std.specs.Option.{option_map_or}
 use Rattle.std.specs.List.{fold}
 use Rattle.fb_units.specs.declared.types.Request.{Request}
@@ -20,7 +21,13 @@ use Rattle.fb_model.specs.Decisions.{Act, serving, idling, ending}
 
 -- the gap of a request
 abbrev pub gap_of : Disk → Served → Gap
-gap_of disk served = record { source = served.source; target = target disk served; now = served.start; deadline = media served; write = served.request.write }
+gap_of disk served = record {
+  source = served.source;
+  target = target disk served;
+  now = served.start;
+  deadline = media served;
+  write = served.request.write;
+}
 
 -- the delivery of a block, with what its sectors hold as its passage begins
 abbrev pub delivery : ContentsAt → How → Block → ℕ → ℕ → DeliveryRow

@@ -13,7 +13,8 @@ use Rattle.fb_model.specs.Completion.{Choice, Work, work, segments, is_choice_of
 -- blocks for cut ranges, numbered from n on
 abbrev pub numbered : ℕ → ℕ → ℕ → List Cut → List Block
 numbered task weight n [] = []
-numbered task weight n (cut ∷ cuts) = record { task = task; number = n; lbn = cut.lbn; count = cut.count; track = cut.track; weight = weight; sweep = cut.sweep }
+numbered task weight n (cut ∷ cuts) =
+    record { task = task; number = n; lbn = cut.lbn; count = cut.count; track = cut.track; weight = weight; sweep = cut.sweep }
     ∷ numbered task weight (n + 1) cuts
 
 -- the next blocks of a task
@@ -26,7 +27,8 @@ live_count segment = length (filter (λ live. live) segment.live)
 
 -- a greater ratio of benefit to cost, (N - L) * age / (N + L), compared by cross products
 abbrev pub is_better : LogSegment → LogSegment → Bool
-is_better a b = nat_lt ((b.blocks - live_count b) * b.age * (a.blocks + live_count a)) ((a.blocks - live_count a) * a.age * (b.blocks + live_count b))
+is_better a b =
+    nat_lt ((b.blocks - live_count b) * b.age * (a.blocks + live_count a)) ((a.blocks - live_count a) * a.age * (b.blocks + live_count b))
 
 -- the segment has been chosen
 abbrev pub is_chosen : List Choice → LogSegment → Bool

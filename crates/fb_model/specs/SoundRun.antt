@@ -15,7 +15,8 @@ use Rattle.fb_model.specs.Decisions.{Act, serving, instant_of, decisions, run_en
 use Rattle.fb_model.specs.History.{Past, delivered, wanted}
 use Rattle.fb_model.specs.Images.{findings, test_rows}
 use Rattle.fb_model.specs.Rides.{gap_of, due}
-use Rattle.fb_model.specs.Steps.{Delivery, Step, decision_in, decisions_in, chosen_past, tested_past, with_delivery, history, AtEach, step_rows, task_rows}
+use Rattle.fb_model.specs.Steps.{Delivery, Step, decision_in, decisions_in, chosen_past, tested_past, with_delivery, history, AtEach}
+use Rattle.fb_model.specs.Steps.{step_rows, task_rows}
 
 -- some of the elements, in their order
 pub data IsSublist {A : Type 0} : List A → List A → Type 0 where

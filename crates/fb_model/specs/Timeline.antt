@@ -1,5 +1,6 @@
 -- Where the head is, from the rows of a run.
-use Rattle.std.specs.Prelude.{◌≡◌, ℕ, ◌+◌, ◌%◌, List, [], ◌∷◌, ◌++◌, Bool, false, ◌&&◌, not, ◌==◌, nat_le, Option, Some, None, if◌then◌else◌}
+use Rattle.std.specs.Prelude.{◌≡◌, ℕ, ◌+◌, ◌%◌, List, [], ◌∷◌, ◌++◌, Bool, false, ◌&&◌, not, ◌==◌, nat_le, Option, Some, None}
+use Rattle.std.specs.Prelude.{if◌then◌else◌}
 use Rattle.fb_units.specs.declared.types.Track.{Track}
 use Rattle.fb_units.specs.Tracks.{same_track}
 use Rattle.fb_sectormap.specs.Lookup.{place_at, track_at}
@@ -32,7 +33,8 @@ arrival disk gap from leave = stay gap.target (leave + pos disk.mechanism from g
 
 -- straight from the source to the target, or over a track that is neither
 abbrev pub gap_legs : Disk → Gap → Plan → List Leg
-gap_legs disk gap (Direct leave) = stay gap.source gap.now leave ∷ way disk gap.source gap.target gap.write leave ++ arrival disk gap gap.source leave ∷ []
+gap_legs disk gap (Direct leave) =
+    stay gap.source gap.now leave ∷ way disk gap.source gap.target gap.write leave ++ arrival disk gap gap.source leave ∷ []
 gap_legs disk gap (Detour track leave) =
     move gap.source track false gap.now (gap.now + pos disk.mechanism gap.source track false)
     ∷ stay track (gap.now + pos disk.mechanism gap.source track false) leave
@@ -60,7 +62,8 @@ unfoldable pub timeline : Disk → List BackRow → List ForeRow → List Leg
 timeline disk [] fore = []
 timeline disk (IdleLine dwell ∷ back) fore = stay dwell.track dwell.begin dwell.end ∷ timeline disk back fore
 timeline disk (GapLine row ∷ back) [] = gap_legs disk row.gap row.plan ++ timeline disk back []
-timeline disk (GapLine row ∷ back) (served ∷ fore) = gap_legs disk row.gap row.plan ++ service_legs disk row.gap served ++ timeline disk back fore
+timeline disk (GapLine row ∷ back) (served ∷ fore) =
+    gap_legs disk row.gap row.plan ++ service_legs disk row.gap served ++ timeline disk back fore
 timeline disk (_ ∷ back) fore = timeline disk back fore
 
 -- the leg can begin on this track at this instant

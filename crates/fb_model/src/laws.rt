@@ -1,5 +1,8 @@
 // Laws of the definitions.
-ghost use Rattle.fb_model.specs.Laws.{WaitsAreLeast, SlotsCoverRotation, AnglesHaveOneSlot, PassagesBeginFirst, PlacesAreOwn, SectorsByZone, PicksAreFirstLeast, ReadyPicksAreFirstLeast, OnePick, OneReadyPick, ForegroundListsAscend, ReplaysServeEachOnce, RequestsHaveOneRow, OnePlainReplay, OneBestPlan, StatesBeginWithRegistration, ForegroundIsUntouched};
+ghost use Rattle.fb_model.specs.Laws.{WaitsAreLeast, SlotsCoverRotation, AnglesHaveOneSlot, PassagesBeginFirst, PlacesAreOwn};
+ghost use Rattle.fb_model.specs.Laws.{SectorsByZone, PicksAreFirstLeast, ReadyPicksAreFirstLeast, OnePick, OneReadyPick};
+ghost use Rattle.fb_model.specs.Laws.{ForegroundListsAscend, ReplaysServeEachOnce, RequestsHaveOneRow, OnePlainReplay, OneBestPlan};
+ghost use Rattle.fb_model.specs.Laws.{StatesBeginWithRegistration, ForegroundIsUntouched};
 ghost use Rattle.fb_model.specs.Known.{OneFullRun, NoLookAhead};
 
 /// The wait for an angle is the shortest after which the platter stands at it.

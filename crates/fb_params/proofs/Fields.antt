@@ -16,15 +16,21 @@ module _ (layout : Layout) (table : Members) (ranges : keeps InRange layout tabl
   pub seek-within : list_all (is_row_within (from_to 0 (10 ^ 9))) (elements_at (codes "seek") table) ≡ true
   seek-within = rows-within (must (codes "seek") (Rows 2) (from_to 0 (10 ^ 9))) (get_member (codes "seek") table) (front-within 6 _ refl)
 
-pub defects-within : (layout : Layout) (table : Members) → keeps InRange layout table ≡ Ok tt → list_all (is_row_within (from_to 0 999999)) (elements_at (codes "defects") table) ≡ true
-defects-within PerTrack table ranges = rows-within defects_key (get_member (codes "defects") table) (kept_at InRange (back_keys PerTrack) table (in_range PerTrack table ranges).back 0 defects_key refl)
-defects-within PerCylinder table ranges = rows-within defects_key (get_member (codes "defects") table) (kept_at InRange (back_keys PerCylinder) table (in_range PerCylinder table ranges).back 0 defects_key refl)
+pub defects-within : (layout : Layout) (table : Members) → keeps InRange layout table ≡ Ok tt
+    → list_all (is_row_within (from_to 0 999999)) (elements_at (codes "defects") table) ≡ true
+defects-within PerTrack table ranges = rows-within defects_key (get_member (codes "defects") table) (kept_at InRange
+    (back_keys PerTrack) table (in_range PerTrack table ranges).back 0 defects_key refl)
+defects-within PerCylinder table ranges = rows-within defects_key (get_member (codes "defects") table) (kept_at InRange
+    (back_keys PerCylinder) table (in_range PerCylinder table ranges).back 0 defects_key refl)
 
-pub grown-within : (layout : Layout) (table : Members) → layout ≡ PerCylinder → keeps InRange layout table ≡ Ok tt → list_all (is_row_within (from_to 0 999999)) (elements_at (codes "grown") table) ≡ true
+pub grown-within : (layout : Layout) (table : Members) → layout ≡ PerCylinder → keeps InRange layout table ≡ Ok tt
+    → list_all (is_row_within (from_to 0 999999)) (elements_at (codes "grown") table) ≡ true
 grown-within PerTrack table is ranges = absurd (cc)
-grown-within PerCylinder table is ranges = rows-within grown_key (get_member (codes "grown") table) (kept_at InRange (back_keys PerCylinder) table (in_range PerCylinder table ranges).back 1 grown_key refl)
+grown-within PerCylinder table is ranges = rows-within grown_key (get_member (codes "grown") table) (kept_at InRange
+    (back_keys PerCylinder) table (in_range PerCylinder table ranges).back 1 grown_key refl)
 
-pub sector_bytes-number : (layout : Layout) (table : Members) → keeps Present layout table ≡ Ok tt → keeps OfKind layout table ≡ Ok tt → keeps InRange layout table ≡ Ok tt
+pub sector_bytes-number : (layout : Layout) (table : Members) → keeps Present layout table ≡ Ok tt → keeps OfKind layout table ≡ Ok tt
+    → keeps InRange layout table ≡ Ok tt
     → IsNumberOf (record { low = 16; high = 4096; multiple = 16 }) (number_at (codes "sector_bytes") table)
 sector_bytes-number layout table there kinds ranges =
     number-required (codes "sector_bytes") (record { low = 16; high = 4096; multiple = 16 }) (get_member (codes "sector_bytes") table)
@@ -45,15 +51,23 @@ module _ (layout : Layout) (zone : Members) (none : first_in InRange (zone_keys 
   zone-at i key is = number-within key (get_member key.name zone) (kept_at InRange (zone_keys layout) zone none i key is)
 
   pub zone-within : AreZoneNumbers zone
-  zone-within = record { first = zone-at 0 _ refl; last = zone-at 1 _ refl; sectors = zone-at 2 _ refl; track_skew = zone-at 3 _ refl; cylinder_skew = zone-at 4 _ refl }
+  zone-within = record {
+    first = zone-at 0 _ refl;
+    last = zone-at 1 _ refl;
+    sectors = zone-at 2 _ refl;
+    track_skew = zone-at 3 _ refl;
+    cylinder_skew = zone-at 4 _ refl;
+  }
 
   spares-at : number_at (spares_key layout).name zone ≤ (spares_key layout).range.high
   spares-at = zone-at 5 _ refl
 
-pub spares-within : (layout : Layout) (zone : Members) → first_in InRange (zone_keys layout) zone ≡ None → layout ≡ PerTrack → number_at (codes "spares") zone ≤ 10000
+pub spares-within : (layout : Layout) (zone : Members) → first_in InRange (zone_keys layout) zone ≡ None → layout ≡ PerTrack
+    → number_at (codes "spares") zone ≤ 10000
 spares-within PerTrack zone none is = spares-at PerTrack zone none
 spares-within PerCylinder zone none is = absurd (cc)
 
-pub cylinder_spares-within : (layout : Layout) (zone : Members) → first_in InRange (zone_keys layout) zone ≡ None → layout ≡ PerCylinder → number_at (codes "cylinder_spares") zone ≤ 640000
+pub cylinder_spares-within : (layout : Layout) (zone : Members) → first_in InRange (zone_keys layout) zone ≡ None → layout ≡ PerCylinder
+    → number_at (codes "cylinder_spares") zone ≤ 640000
 cylinder_spares-within PerTrack zone none is = absurd (cc)
 cylinder_spares-within PerCylinder zone none is = spares-at PerCylinder zone none

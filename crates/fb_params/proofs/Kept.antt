@@ -31,7 +31,8 @@ none-unless_fault a f None ok = refl
 none-unless_fault a f (Some b) ok = absurd (cc)
 
 -- if no key breaks the rule, the i-th obeys it
-pub kept_at : (rule : Rule) (keys : List Key) (table : Members) → first_in rule keys table ≡ None → (i : ℕ) (key : Key) → slice_get keys i ≡ Some key → breaks rule key (get_member key.name table) ≡ false
+pub kept_at : (rule : Rule) (keys : List Key) (table : Members) → first_in rule keys table ≡ None → (i : ℕ) (key : Key)
+    → slice_get keys i ≡ Some key → breaks rule key (get_member key.name table) ≡ false
 kept_at Known keys table none i key at = refl
 kept_at Present keys table none i key at = none-find _ keys (none-option_map _ _ none) i key at
 kept_at OfKind keys table none i key at = none-find _ keys (none-option_map _ _ none) i key at
@@ -43,7 +44,8 @@ pub record IsKept (rule : Rule) (layout : Layout) (table : Members) : Type 0 whe
   pub zones : first_some (first_in rule (zone_keys layout)) (zones_of table) ≡ None
   pub back : first_in rule (back_keys layout) table ≡ None
 
-pub present : (layout : Layout) (table : Members) → keeps Present layout table ≡ Ok tt → first_in Present (front_keys ++ back_keys layout) table ≡ None
+pub present : (layout : Layout) (table : Members) → keeps Present layout table ≡ Ok tt
+    → first_in Present (front_keys ++ back_keys layout) table ≡ None
 unfolding keeps
 present layout table ok = (none-option_or _ _ (none-unless_fault tt _ _ ok)).0
 

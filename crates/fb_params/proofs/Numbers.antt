@@ -18,16 +18,19 @@ number_of-within range (array items) within = omega arith
 number_of-within range (table rest) within = omega arith
 
 -- the number at a key that obeys its range isn't above it
-pub number-within : (key : Key) (found : Option Data) → breaks InRange key found ≡ false → unwrap_or (option_map number_of found) 0 ≤ key.range.high
+pub number-within : (key : Key) (found : Option Data) → breaks InRange key found ≡ false
+    → unwrap_or (option_map number_of found) 0 ≤ key.range.high
 number-within key None kept = omega arith
 number-within key (Some value) kept = number_of-within key.range value ((and_parts _ _ (not-false _ kept)).0)
 
 -- the rows at a key that obeys its range are within it
-pub rows-within : (key : Key) (found : Option Data) → breaks InRange key found ≡ false → list_all (is_row_within key.range) (unwrap_or (option_map elements found) []) ≡ true
+pub rows-within : (key : Key) (found : Option Data) → breaks InRange key found ≡ false
+    → list_all (is_row_within key.range) (unwrap_or (option_map elements found) []) ≡ true
 rows-within key None kept = refl
 rows-within key (Some value) kept = (and_parts _ _ (not-false _ kept)).1
 
-index-within : (range : Range) (values : List Data) → list_all (is_within range) values ≡ true → (i : ℕ) → slice_index (map number_of values) i ≤ range.high
+index-within : (range : Range) (values : List Data) → list_all (is_within range) values ≡ true → (i : ℕ)
+    → slice_index (map number_of values) i ≤ range.high
 index-within range [] within i = omega arith
 index-within range (value ∷ values) within zero = number_of-within range value ((and_parts _ _ within).0)
 index-within range (value ∷ values) within (suc i) = index-within range values ((and_parts _ _ within).1) i
@@ -42,8 +45,10 @@ pub record IsNumberOf (range : Range) (n : ℕ) : Type 0 where
   pub few : n ≤ range.high
   pub whole : n % range.multiple ≡ 0
 
-number_of-required : (range : Range) (value : Data) → is_of Number value ≡ true → is_within range value ≡ true → IsNumberOf range (number_of value)
-number_of-required range (integer (pos n)) kind within = record { some = grind (arith, nat_tests); few = grind (arith, nat_tests); whole = grind (arith, nat_tests) }
+number_of-required : (range : Range) (value : Data) → is_of Number value ≡ true → is_within range value ≡ true
+    → IsNumberOf range (number_of value)
+number_of-required range (integer (pos n)) kind within =
+    record { some = grind (arith, nat_tests); few = grind (arith, nat_tests); whole = grind (arith, nat_tests) }
 number_of-required range (integer (negsuc n)) kind within = absurd (false≢true within)
 number_of-required range (string s) kind within = absurd (false≢true kind)
 number_of-required range (float x) kind within = absurd (false≢true kind)
@@ -54,7 +59,8 @@ number_of-required range (table rest) kind within = absurd (false≢true kind)
 
 -- the number at a required key is in its range
 pub number-required : (name : List ℕ) (range : Range) (found : Option Data)
-    → breaks Present (must name Number range) found ≡ false → breaks OfKind (must name Number range) found ≡ false → breaks InRange (must name Number range) found ≡ false
+    → breaks Present (must name Number range) found ≡ false → breaks OfKind (must name Number range) found ≡ false
+    → breaks InRange (must name Number range) found ≡ false
     → IsNumberOf range (unwrap_or (option_map number_of found) 0)
 number-required name range None present kind within = absurd (true≢false present)
 number-required name range (Some value) present kind within =

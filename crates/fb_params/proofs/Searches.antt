@@ -20,7 +20,8 @@ find-map f p (x ∷ xs) = elim (cases_Bool (p (f x))) [
   | inr miss ↦ rw miss (find-map f p xs)
 ]
 
-option_map-map : (found : Option DeclaredKey) → option_map (λ key. key.name) (option_map key_of found) ≡ option_map (λ key. key.name.now) found
+option_map-map : (found : Option DeclaredKey)
+    → option_map (λ key. key.name) (option_map key_of found) ≡ option_map (λ key. key.name.now) found
 option_map-map None = refl
 option_map-map (Some key) = refl
 
@@ -73,30 +74,35 @@ broken-first_in InRange keys table other = refl
 
 -- the first key of the code's table that breaks a rule
 pub broken-key_of : (rule : Rule) (keys : List DeclaredKey) (table : Members) → (rule ≡ Known → ⊥)
-    → option_map (λ key. key.name.now) (find (λ key. breaks rule (key_of key) (get_member key.name.now table)) keys) ≡ first_in rule (map key_of keys) table
+    → option_map (λ key. key.name.now) (find (λ key. breaks rule (key_of key) (get_member key.name.now table)) keys)
+    ≡ first_in rule (map key_of keys) table
 broken-key_of rule keys table other =
     sym (ap (option_map (λ key. key.name)) (find-map key_of (λ key. breaks rule key (get_member key.name table)) keys) ∙ option_map-map _)
     ∙ broken-first_in rule (map key_of keys) table other
 
-first_some-cons_option : {A B : Type 0} (f : A → Option B) (o : Option A) (xs : List A) → first_some f (cons_option o xs) ≡ option_or (option_and_then f o) (first_some f xs)
+first_some-cons_option : {A B : Type 0} (f : A → Option B) (o : Option A) (xs : List A)
+    → first_some f (cons_option o xs) ≡ option_or (option_and_then f o) (first_some f xs)
 first_some-cons_option f None xs = refl
 first_some-cons_option f (Some x) xs = refl
 
 -- what the zones from the i-th value on give first
 pub first_some-drop : {B : Type 0} (f : Members → Option B) (values : List Value) (i : ℕ) (d : Value) → i < length values
     → first_some f (filter_map as_table (map view (drop i values)))
-    ≡ option_or (option_and_then f (as_table (view (get_or values i d)))) (first_some f (filter_map as_table (map view (drop (i + 1) values))))
+    ≡ option_or (option_and_then f (as_table (view (get_or values i d))))
+    (first_some f (filter_map as_table (map view (drop (i + 1) values))))
 first_some-drop f values i d inside = rw (drop_more values i d inside) (first_some-cons_option f (as_table (view (get_or values i d))) _)
 
 -- what a search of the zones that found nothing says of the i-th value and of those behind it
-pub first_some-none : {B : Type 0} (f : Members → Option B) (values : List Value) (i : ℕ) (value : Value) → i < length values → value ≡ get_or values i value
+pub first_some-none : {B : Type 0} (f : Members → Option B) (values : List Value) (i : ℕ) (value : Value) → i < length values
+    → value ≡ get_or values i value
     → first_some f (filter_map as_table (map view (drop i values))) ≡ None
     → (option_and_then f (as_table (view value)) ≡ None) × (first_some f (filter_map as_table (map view (drop (i + 1) values))) ≡ None)
 first_some-none f values i value inside is none =
     let parts = none-option_or _ _ (sym (first_some-drop f values i value inside) ∙ none) in
     (ap (λ v. option_and_then f (as_table (view v))) is ∙ parts.0, parts.1)
 
-map-cons_option : {A B : Type 0} (f : A → B) (o : Option A) (xs : List A) → map f (cons_option o xs) ≡ option_to_list (option_map f o) ++ map f xs
+map-cons_option : {A B : Type 0} (f : A → B) (o : Option A) (xs : List A)
+    → map f (cons_option o xs) ≡ option_to_list (option_map f o) ++ map f xs
 map-cons_option f None xs = refl
 map-cons_option f (Some x) xs = refl
 
@@ -106,11 +112,14 @@ zones-drop : {B : Type 0} (f : Members → B) (values : List Value) (i : ℕ) (d
 zones-drop f values i d inside = rw (drop_more values i d inside) (map-cons_option f (as_table (view (get_or values i d))) _)
 
 -- the zones so far, and then those from the i-th value on
-pub zones-more : {B : Type 0} (f : Members → B) (whole done : List B) (values : List Value) (i : ℕ) (value : Value) → i < length values → value ≡ get_or values i value
+pub zones-more : {B : Type 0} (f : Members → B) (whole done : List B) (values : List Value) (i : ℕ) (value : Value) → i < length values
+    → value ≡ get_or values i value
     → whole ≡ done ++ map f (filter_map as_table (map view (drop i values)))
-    → whole ≡ (done ++ option_to_list (option_map f (as_table (view value)))) ++ map f (filter_map as_table (map view (drop (i + 1) values)))
+    → whole ≡ (done ++ option_to_list (option_map f (as_table (view value))))
+    ++ map f (filter_map as_table (map view (drop (i + 1) values)))
 zones-more f whole done values i value inside is so_far =
     so_far
     ∙ (ap (λ rest. done ++ rest) (zones-drop f values i value inside)
     ∙ (sym (append_assoc done (option_to_list (option_map f (as_table (view (get_or values i value))))) _)
-    ∙ ap (λ v. (done ++ option_to_list (option_map f (as_table (view v)))) ++ map f (filter_map as_table (map view (drop (i + 1) values)))) (sym is)))
+    ∙ ap (λ v. (done ++ option_to_list (option_map f (as_table (view v)))) ++ map f (filter_map as_table (map view (drop (i + 1) values))))
+    (sym is)))

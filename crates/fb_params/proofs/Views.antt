@@ -19,24 +19,29 @@ elements-array (datetime d) items is = absurd (cc)
 elements-array (table t) items is = absurd (cc)
 
 -- a test of values by their data
-pub list_all-view : (passes : Data → Bool) (values : List Value) (seen : List Data) → map view values ≡ seen → list_all (λ value. passes (view value)) values ≡ list_all passes seen
+pub list_all-view : (passes : Data → Bool) (values : List Value) (seen : List Data) → map view values ≡ seen
+    → list_all (λ value. passes (view value)) values ≡ list_all passes seen
 list_all-view passes values seen is = sym (list_all-map passes view values) ∙ ap (list_all passes) is
 
-all-at : (passes : Data → Bool) (values : List Value) → list_all passes (map view values) ≡ true → (i : ℕ) (d : Value) → i < length values → passes (view (get_or values i d)) ≡ true
+all-at : (passes : Data → Bool) (values : List Value) → list_all passes (map view values) ≡ true → (i : ℕ) (d : Value) → i < length values
+    → passes (view (get_or values i d)) ≡ true
 all-at passes [] all i d inside = absurd (omega arith)
 all-at passes (value ∷ values) all zero d inside = (and_parts _ _ all).0
 all-at passes (value ∷ values) all (suc i) d inside = all-at passes values (and_parts _ _ all).1 i d (omega arith)
 
 -- where all values pass, the i-th does
-pub list_all-at : (passes : Data → Bool) (values : List Value) (i : ℕ) (value : Value) → list_all passes (map view values) ≡ true → i < length values → value ≡ get_or values i value → passes (view value) ≡ true
+pub list_all-at : (passes : Data → Bool) (values : List Value) (i : ℕ) (value : Value) → list_all passes (map view values) ≡ true
+    → i < length values → value ≡ get_or values i value → passes (view value) ≡ true
 list_all-at passes values i value all inside is = subst (λ v. passes (view v) ≡ true) (sym is) (all-at passes values all i value inside)
 
-number-at : (values : List Value) (i : ℕ) (d : Value) → i < length values → slice_index (map number_of (map view values)) i ≡ number_of (view (get_or values i d))
+number-at : (values : List Value) (i : ℕ) (d : Value) → i < length values
+    → slice_index (map number_of (map view values)) i ≡ number_of (view (get_or values i d))
 number-at [] i d inside = absurd (omega arith)
 number-at (value ∷ values) zero d inside = refl
 number-at (value ∷ values) (suc i) d inside = number-at values i d (omega arith)
 
 -- the i-th number of a row that has these elements
-pub nth-at : (row : Data) (values : List Value) (i : ℕ) (value : Value) → map view values ≡ elements row → i < length values → value ≡ get_or values i value → nth i row ≡ number_of (view value)
+pub nth-at : (row : Data) (values : List Value) (i : ℕ) (value : Value) → map view values ≡ elements row → i < length values
+    → value ≡ get_or values i value → nth i row ≡ number_of (view value)
 nth-at row values i value seen inside is =
     ap (λ found. slice_index (map number_of found) i) (sym seen) ∙ (number-at values i value inside ∙ ap (λ v. number_of (view v)) (sym is))

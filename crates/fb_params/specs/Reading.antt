@@ -14,7 +14,8 @@ use Rattle.fb_seek.specs.Faults.{first_fault as first_seek_fault}
 use Rattle.fb_params.specs.declared.rule.Rule.{Rule}
 use Rattle.fb_params.specs.declared.rule.Rule.TheVariants.{Known, Present, OfKind, InRange}
 use Rattle.fb_params.specs.declared.fault.ParamsFault.{ParamsFault}
-use Rattle.fb_params.specs.declared.fault.ParamsFault.TheVariants.{NotToml, UnknownKey, MissingKey, WrongKind, OutOfRange, Geometry, Seek, LatentOutside}
+use Rattle.fb_params.specs.declared.fault.ParamsFault.TheVariants.{NotToml, UnknownKey, MissingKey, WrongKind, OutOfRange, Geometry, Seek}
+use Rattle.fb_params.specs.declared.fault.ParamsFault.TheVariants.{LatentOutside}
 use Rattle.fb_params.specs.declared.parameters.Parameters.{Parameters}
 use Rattle.fb_params.specs.Tables.{number_at, layout_of}
 use Rattle.fb_params.specs.Rules.{first_key}
@@ -88,4 +89,9 @@ params_of bytes = do
 
 -- the value that parameters hold
 abbrev pub held : Parameters → ParamsValue
-held params = record { outline = params.disk.map; mechanics = params.disk.mechanism; sector_bytes = params.disk.sector_bytes; latent = params.latent.items }
+held params = record {
+  outline = params.disk.map;
+  mechanics = params.disk.mechanism;
+  sector_bytes = params.disk.sector_bytes;
+  latent = params.latent.items;
+}

@@ -1,5 +1,6 @@
 -- The rules that each key of a file has to obey, and the first key that breaks one.
-use Rattle.std.specs.Prelude.{ℕ, ◌%◌, pos, negsuc, List, [], ◌∷◌, ◌++◌, length, Bool, true, false, ◌&&◌, not, ◌==◌, nat_le, Option, Some, None, is_some, option_map}
+use Rattle.std.specs.Prelude.{ℕ, ◌%◌, pos, negsuc, List, [], ◌∷◌, ◌++◌, length, Bool, true, false, ◌&&◌, not, ◌==◌, nat_le, Option, Some}
+use Rattle.std.specs.Prelude.{None, is_some, option_map}
 use Rattle.std.specs.List.{list_any, list_all, filter, find}
 use Rattle.std.specs.Option.{option_or}
 use Rattle.std.specs.Ordering.{nat_cmp, is_lt}

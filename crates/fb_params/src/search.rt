@@ -92,7 +92,8 @@ fn unknown_in<'a>(front: &[Key], back: &[Key], table: &'a Table) -> Option<&'a s
 }
 
 fn unknown_name<'a>(front: &[Key], back: &[Key], table: &'a Table) -> Option<&'a String>
-    ensures first { option_copied result ≡ find (λ name. not (is_name_of (map key_of front.now ++ map key_of back.now) (string_bytes name))) (keys table.now) }
+    ensures first { option_copied result
+        ≡ find (λ name. not (is_name_of (map key_of front.now ++ map key_of back.now) (string_bytes name))) (keys table.now) }
     ensures ordered { IsStrictlySortedBy string_cmp (keys table.now) }
 {
     table
@@ -115,7 +116,8 @@ fn is_name_of(known: &[Key], name: &str) -> bool
 
 // The first of these keys that breaks the rule with its value, or without one.
 fn broken_in(rule: Rule, known: &'static [Key], table: &Table) -> Option<&'static str>
-    ensures { option_copied result ≡ option_map (λ key. key.name.now) (find (λ key. breaks rule (key_of key) (get_member key.name.now (table_view table.now))) known.now) }
+    ensures { option_copied result ≡ option_map (λ key. key.name.now)
+        (find (λ key. breaks rule (key_of key) (get_member key.name.now (table_view table.now))) known.now) }
 {
     let key = known
         .iter()

@@ -29,7 +29,8 @@ use Rattle.fb_plan.proofs.Gains.{adds, gain_by, in_filter, value-by-one, value-b
 use Rattle.fb_plan.proofs.Offered.{sum-offered}
 use Rattle.fb_plan.proofs.Swept.{passes-as}
 
-pub sum-agree : (f g : Entry → ℕ) (xs : List Entry) → ((i : ℕ) (e : Entry) → slice_get xs i ≡ Some e → f e ≡ g e) → sum_by f xs ≡ sum_by g xs
+pub sum-agree : (f g : Entry → ℕ) (xs : List Entry) → ((i : ℕ) (e : Entry) → slice_get xs i ≡ Some e → f e ≡ g e)
+    → sum_by f xs ≡ sum_by g xs
 sum-agree f g [] same = refl
 sum-agree f g (x ∷ xs) same =
     omega (arith, sum_by-cons f x xs, sum_by-cons g x xs, same 0 x refl, sum-agree f g xs (λ i e at. same (suc i) e at))

@@ -62,7 +62,8 @@ fn is_called(range: SectorRange, calls: &[Call], sizes: &[u32]) -> bool
 
 // Whether the range shares a sector with that of a call.
 fn is_in_call(range: SectorRange, call: &Call, sizes: &[u32]) -> bool
-    ensures { (calls : List _) → sizes.now ≡ map (λ terms. terms.block) (tasks calls) → result ≡ list_any (share range) (ranges_in (terms_of calls call.now.task).block call.now.action) }
+    ensures { (calls : List _) → sizes.now ≡ map (λ terms. terms.block) (tasks calls)
+        → result ≡ list_any (share range) (ranges_in (terms_of calls call.now.task).block call.now.action) }
 {
     match call.action {
         Action::Want { first, count } => range.shares(SectorRange { first, count }),

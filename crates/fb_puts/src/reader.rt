@@ -5,8 +5,10 @@ ghost use Rattle.fb_units.specs.Lines.{fields_of};
 ghost use Rattle.fb_geometry.specs.Places.{places};
 ghost use Rattle.fb_puts.specs.Asked.{asked};
 ghost use Rattle.fb_puts.specs.Ranges.{lies_in, share, AreApart};
-ghost use Rattle.fb_puts.specs.Reader.{progress, terms_of, with_step, IsNextPut, IsNextReserve, IsReader, IsWithin, MayFollow, AreTerms, IsApart};
-ghost use Rattle.fb_puts.specs.Reading.{at_end, at_start, free_put, judged_put, judged_reserve, next_progress, next_read, puts_of, range_of, some_on_disk};
+ghost use Rattle.fb_puts.specs.Reader.{progress, terms_of, with_step, IsNextPut, IsNextReserve, IsReader, IsWithin, MayFollow, AreTerms};
+ghost use Rattle.fb_puts.specs.Reader.{IsApart};
+ghost use Rattle.fb_puts.specs.Reading.{at_end, at_start, free_put, judged_put, judged_reserve, next_progress, next_read, puts_of};
+ghost use Rattle.fb_puts.specs.Reading.{range_of, some_on_disk};
 ghost use Rattle.fb_puts.specs.Reading as reading;
 ghost use Rattle.fb_puts.specs.Rules.{ArePuts};
 ghost use Rattle.fb_puts.specs.Taken.{HasTaken, IsKnown, IsSure};
@@ -67,9 +69,11 @@ pub fn read_puts(
     trace: &Trace,
     calls: &Calls,
 ) -> Result<Puts, PutsError>
-    ensures answer { Answers accepted result (puts_of (record { sectors = length (places map.now); asked = asked trace.now.requests.items calls.now.calls.items }) bytes.now) }
+    ensures answer { Answers accepted result
+        (puts_of (record { sectors = length (places map.now); asked = asked trace.now.requests.items calls.now.calls.items }) bytes.now) }
     ensures rules { IfOk result (λ puts. ArePuts (length (places map.now)) (accepted puts)) }
-    ensures untouched { IfOk result (λ puts. AllByRecursion (λ range. share (reserve puts) range ≡ false) (asked trace.now.requests.items calls.now.calls.items)) }
+    ensures untouched { IfOk result
+        (λ puts. AllByRecursion (λ range. share (reserve puts) range ≡ false) (asked trace.now.requests.items calls.now.calls.items)) }
 {
     let terms = Terms {
         sectors: map.count(),
@@ -91,7 +95,8 @@ fn read_apart(alloc: Global, terms: &Terms, bytes: &[u8]) -> Result<Option<Puts>
     requires terms { AreTerms terms.now }
     ensures answer { IfOk result (λ read. IfSome read (λ puts. puts_of (terms_of terms.now) bytes.now ≡ Ok (accepted puts))) }
     ensures rules { IfOk result (λ read. IfSome read (λ puts. ArePuts (terms_of terms.now).sectors (accepted puts))) }
-    ensures untouched { IfOk result (λ read. IfSome read (λ puts. AllByRecursion (λ range. share (reserve puts) range ≡ false) (terms_of terms.now).asked)) }
+    ensures untouched { IfOk result
+        (λ read. IfSome read (λ puts. AllByRecursion (λ range. share (reserve puts) range ≡ false) (terms_of terms.now).asked)) }
 {
     let start = Reader::new(alloc, Taken::Unknown);
     let reader = match read_lines(terms, bytes, start) {
@@ -113,7 +118,8 @@ fn read_lines(terms: &Terms, bytes: &[u8], start: Reader) -> Result<Reader, Puts
     requires terms { AreTerms terms.now }
     requires start { progress start ≡ at_start }
     requires reader { IsReader (terms_of terms.now) start }
-    ensures apart { IfOk result (λ reader. AreApart (map range_of reader.puts.items) → puts_of (terms_of terms.now) bytes.now ≡ Ok (at_end (progress reader))) }
+    ensures apart { IfOk result
+        (λ reader. AreApart (map range_of reader.puts.items) → puts_of (terms_of terms.now) bytes.now ≡ Ok (at_end (progress reader))) }
     ensures known { IsKnown start.taken → Answers (λ reader. at_end (progress reader)) result (puts_of (terms_of terms.now) bytes.now) }
     ensures known_apart { IsKnown start.taken → IfOk result (λ reader. AreApart (map range_of reader.puts.items)) }
     ensures sound { IfOk result (IsReader (terms_of terms.now)) }
@@ -183,8 +189,10 @@ impl Reader {
     fn read_line(&mut self, terms: &Terms, number: u64, line: &[u8]) -> Result<(), PutsError>
         requires terms { AreTerms terms.now }
         requires reader { IsReader (terms_of terms.now) self.old }
-        ensures known { IsKnown self.old.taken → Answers (λ _. progress self.new) result (next_progress (terms_of terms.now) number (progress self.old) line.now) }
-        ensures apart { OnOk result (AreApart (map range_of self.new.puts.items) → AreApart (map range_of self.old.puts.items) × (next_progress (terms_of terms.now) number (progress self.old) line.now ≡ Ok (progress self.new))) }
+        ensures known { IsKnown self.old.taken
+            → Answers (λ _. progress self.new) result (next_progress (terms_of terms.now) number (progress self.old) line.now) }
+        ensures apart { OnOk result (AreApart (map range_of self.new.puts.items) → AreApart (map range_of self.old.puts.items)
+            × (next_progress (terms_of terms.now) number (progress self.old) line.now ≡ Ok (progress self.new))) }
         ensures still { OnOk result (IsKnown self.old.taken → IsKnown self.new.taken) }
         ensures sound { OnOk result (IsReader (terms_of terms.now) self.new) }
     {
@@ -202,8 +210,10 @@ impl Reader {
     fn step(&self, terms: &Terms, line: &[u8]) -> Result<Step, PutsReason>
         requires terms { AreTerms terms.now }
         requires reader { IsReader (terms_of terms.now) self.now }
-        ensures known { IsKnown self.now.taken → Agrees (with_step (progress self.now)) result (next_read (terms_of terms.now) (progress self.now) (fields_of line.now)) }
-        ensures apart { IfOk result (λ step. IsApart self.now.puts.items step → next_read (terms_of terms.now) (progress self.now) (fields_of line.now) ≡ Ok (with_step (progress self.now) step)) }
+        ensures known { IsKnown self.now.taken
+            → Agrees (with_step (progress self.now)) result (next_read (terms_of terms.now) (progress self.now) (fields_of line.now)) }
+        ensures apart { IfOk result (λ step. IsApart self.now.puts.items step
+            → next_read (terms_of terms.now) (progress self.now) (fields_of line.now) ≡ Ok (with_step (progress self.now) step)) }
         ensures next { IfOk result (MayFollow (terms_of terms.now) self.now) }
     {
         if next_field(line).is_none() {
@@ -229,7 +239,8 @@ impl Reader {
         requires reserve { self.now.reserve ≡ Some reserve }
         requires instant { put.instant ≤ 10 ^ 15 }
         requires within { IsWithin (range_of put) }
-        ensures value { IsSure self.now.taken (map range_of self.now.puts.items) (range_of put) → result ≡ judged_put (terms_of terms.now) reserve self.now.instant self.now.puts.items put }
+        ensures value { IsSure self.now.taken (map range_of self.now.puts.items) (range_of put)
+            → result ≡ judged_put (terms_of terms.now) reserve self.now.instant self.now.puts.items put }
         ensures same { IfOk result (λ next. next ≡ put) }
         ensures next { IfOk result (IsNextPut (terms_of terms.now) self.now) }
     {
@@ -248,7 +259,8 @@ impl Reader {
         requires reserve { reserve.first + reserve.count < 2 ^ 63 }
         requires some { 0 < put.count }
         requires within { IsWithin (range_of put) }
-        ensures value { IsSure self.now.taken (map range_of self.now.puts.items) (range_of put) → result ≡ free_put reserve self.now.puts.items put }
+        ensures value { IsSure self.now.taken (map range_of self.now.puts.items) (range_of put)
+            → result ≡ free_put reserve self.now.puts.items put }
         ensures same { IfOk result (λ next. next ≡ put) }
         ensures inside { OnOk result (lies_in (range_of put) reserve ≡ true) }
         ensures apart { OnOk result (IsKnown self.now.taken → list_any (share (range_of put)) (map range_of self.now.puts.items) ≡ false) }
@@ -272,7 +284,8 @@ impl Reader {
         requires next { (terms : reading.Terms) × IsReader terms self.old × MayFollow terms self.old step }
         ensures step { OnOk result (progress self.new ≡ with_step (progress self.old) step) }
         ensures still { OnOk result (IsKnown self.old.taken → IsKnown self.new.taken) }
-        ensures sound { OnOk result ((terms : reading.Terms) → IsReader terms self.old → MayFollow terms self.old step → IsReader terms self.new) }
+        ensures sound { OnOk result ((terms : reading.Terms) → IsReader terms self.old → MayFollow terms self.old step
+            → IsReader terms self.new) }
     {
         match step {
             Step::Blank => {}

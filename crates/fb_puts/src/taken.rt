@@ -34,7 +34,8 @@ impl Taken {
     pub fn has(&self, range: SectorRange) -> bool
         requires some { 0 < range.count }
         requires fits { range.first + range.count < 2 ^ 63 }
-        ensures { (ranges : List SectorRange) → HasTaken self.now ranges → IsSure self.now ranges range → result ≡ list_any (share range) ranges }
+        ensures { (ranges : List SectorRange) → HasTaken self.now ranges → IsSure self.now ranges range
+            → result ≡ list_any (share range) ranges }
     {
         match self {
             Taken::Known(ends) => is_taken(ends, range),
@@ -46,7 +47,8 @@ impl Taken {
     pub fn add(&mut self, range: SectorRange) -> Result<(), NoMemory>
         requires some { 0 < range.count }
         requires fits { range.first + range.count < 2 ^ 63 }
-        ensures taken { OnOk result ((ranges : List SectorRange) → HasTaken self.old ranges → (IsKnown self.old → list_any (share range) ranges ≡ false) → HasTaken self.new (ranges ++ range ∷ [])) }
+        ensures taken { OnOk result ((ranges : List SectorRange) → HasTaken self.old ranges
+            → (IsKnown self.old → list_any (share range) ranges ≡ false) → HasTaken self.new (ranges ++ range ∷ [])) }
         ensures known { OnOk result (IsKnown self.old → IsKnown self.new) }
     {
         match self {
@@ -96,7 +98,8 @@ fn is_taken(ends: &BTreeMap<u64, u64>, range: SectorRange) -> bool
 // The first sector of the range that ends first of those that end behind this sector.
 fn first_ending_behind(ends: &BTreeMap<u64, u64>, lbn: u64) -> Option<u64>
     requires { lbn < 2 ^ 63 }
-    ensures found { IfSome result (λ first. (end : ℕ) × (get nat_cmp ends.now end ≡ Some first) × (lbn < end) × ((other : ℕ) → ContainsKey nat_cmp ends.now other → lbn < other → end ≤ other)) }
+    ensures found { IfSome result (λ first. (end : ℕ) × (get nat_cmp ends.now end ≡ Some first) × (lbn < end)
+        × ((other : ℕ) → ContainsKey nat_cmp ends.now other → lbn < other → end ≤ other)) }
     ensures none { IfNone result ((other : ℕ) → ContainsKey nat_cmp ends.now other → other ≤ lbn) }
 {
     match ends.range(lbn + 1..).next() {

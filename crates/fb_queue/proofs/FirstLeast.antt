@@ -1,5 +1,6 @@
 -- The first request of least key, found by place.
-use Rattle.std.proofs.Common.{◌≡◌, ◌≢◌, ℕ, zero, suc, ◌+◌, ◌-◌, ◌<◌, ◌≤◌, List, [], ◌∷◌, ◌++◌, length, take, drop, refl, sym, ap, subst, ◌∙◌, arith, Some, None, Option, Bool, true, false, inl, inr, ◌⊎◌}
+use Rattle.std.proofs.Common.{◌≡◌, ◌≢◌, ℕ, zero, suc, ◌+◌, ◌-◌, ◌<◌, ◌≤◌, List, [], ◌∷◌, ◌++◌, length, take, drop, refl, sym, ap, subst}
+use Rattle.std.proofs.Common.{◌∙◌, arith, Some, None, Option, Bool, true, false, inl, inr, ◌⊎◌}
 use Rattle.std.specs.Prelude.{slice_get, nat_le, remove, if◌then◌else◌}
 use Rattle.std.proofs.lemmas.Bool.{cases_lt, cases_eq}
 use Rattle.std.proofs.lemmas.Bool.Decides.{nat_tests}
@@ -10,7 +11,8 @@ use Rattle.fb_model.specs.PlainReplay.{first_least, better}
 use Rattle.fb_queue.specs.Least.{IsFirstLeastAt}
 
 -- one more request, which is not better
-pub keeps_best : (key : Request → ℕ) (rs : List Request) (i best least : ℕ) (r b : Request) → IsFirstLeastAt key rs i best → slice_get rs best ≡ Some b → least ≡ key b → slice_get rs i ≡ Some r → least ≤ key r
+pub keeps_best : (key : Request → ℕ) (rs : List Request) (i best least : ℕ) (r b : Request) → IsFirstLeastAt key rs i best
+    → slice_get rs best ≡ Some b → least ≡ key b → slice_get rs i ≡ Some r → least ≤ key r
     → IsFirstLeastAt key rs (i + 1) best
 keeps_best key rs i best least r b h at_best e at_i le = record {
   within = omega (arith, h.within);
@@ -23,7 +25,8 @@ keeps_best key rs i best least r b h at_best e at_i le = record {
 }
 
 -- one more request, which is better
-pub takes_best : (key : Request → ℕ) (rs : List Request) (i best least : ℕ) (r b : Request) → IsFirstLeastAt key rs i best → slice_get rs best ≡ Some b → least ≡ key b → slice_get rs i ≡ Some r → key r < least
+pub takes_best : (key : Request → ℕ) (rs : List Request) (i best least : ℕ) (r b : Request) → IsFirstLeastAt key rs i best
+    → slice_get rs best ≡ Some b → least ≡ key b → slice_get rs i ≡ Some r → key r < least
     → IsFirstLeastAt key rs (i + 1) i
 takes_best key rs i best least r b h at_best e at_i lt = record {
   within = omega arith;
@@ -31,24 +34,31 @@ takes_best key rs i best least r b h at_best e at_i lt = record {
       let kq : q ≡ r = one_element (slice_get rs i) q r at_q at_i in
       elim (cases_lt k i) [
         | inl m ↦ omega (arith, h.least k x b m at_k at_best, ap key kq)
-        | inr m ↦ let kx : x ≡ r = one_element (slice_get rs i) x r (ap (slice_get rs) (omega arith) ∙ at_k) at_i in omega (arith, ap key kx, ap key kq)
+        | inr m ↦ let kx : x ≡ r = one_element (slice_get rs i) x r (ap (slice_get rs) (omega arith) ∙ at_k) at_i in
+            omega (arith, ap key kx, ap key kq)
       ];
-  first = λ k x q l at_k at_q. let kq : q ≡ r = one_element (slice_get rs i) q r at_q at_i in omega (arith, h.least k x b l at_k at_best, ap key kq);
+  first = λ k x q l at_k at_q. let kq : q ≡ r = one_element (slice_get rs i) q r at_q at_i in
+      omega (arith, h.least k x b l at_k at_best, ap key kq);
 }
 
-front_better : (key : Request → ℕ) (r : Request) (rs : List Request) (best : Option (Request × List Request)) → ((b : Request × List Request) → best ≡ Some b → key r ≤ key b.0) → better key r rs best ≡ Some (r, rs)
+front_better : (key : Request → ℕ) (r : Request) (rs : List Request) (best : Option (Request × List Request))
+    → ((b : Request × List Request) → best ≡ Some b → key r ≤ key b.0) → better key r rs best ≡ Some (r, rs)
 front_better key r rs None h = refl
-front_better key r rs (Some b) h = let le : key r ≤ key b.0 = h b refl in let t : nat_le (key r) (key b.0) ≡ true = grind (arith, nat_tests) in rw t refl
+front_better key r rs (Some b) h = let le : key r ≤ key b.0 = h b refl in
+    let t : nat_le (key r) (key b.0) ≡ true = grind (arith, nat_tests) in rw t refl
 
 -- the best one stays so before one that isn't better
-pub later_better : (key : Request → ℕ) (r q : Request) (rs qs : List Request) (best : Option (Request × List Request)) → best ≡ Some (q, qs) → key q < key r → better key r rs best ≡ Some (q, r ∷ qs)
-later_better key r q rs qs best e lt = let t : nat_le (key r) (key q) ≡ false = grind (arith, nat_tests) in ap (better key r rs) e ∙ ap (λ b. if b then Some (r, rs) else Some (q, r ∷ qs)) t
+pub later_better : (key : Request → ℕ) (r q : Request) (rs qs : List Request) (best : Option (Request × List Request)) → best ≡ Some (q, qs)
+    → key q < key r → better key r rs best ≡ Some (q, r ∷ qs)
+later_better key r q rs qs best e lt = let t : nat_le (key r) (key q) ≡ false = grind (arith, nat_tests) in
+    ap (better key r rs) e ∙ ap (λ b. if b then Some (r, rs) else Some (q, r ∷ qs)) t
 
 abbrev IsIn : List Request → Option (Request × List Request) → Type 0
 IsIn rs None = Unit {0}
 IsIn rs (Some b) = (k : ℕ) × (slice_get rs k ≡ Some b.0)
 
-in_better : (key : Request → ℕ) (r : Request) (rs : List Request) (best : Option (Request × List Request)) → IsIn rs best → IsIn (r ∷ rs) (better key r rs best)
+in_better : (key : Request → ℕ) (r : Request) (rs : List Request) (best : Option (Request × List Request)) → IsIn rs best
+    → IsIn (r ∷ rs) (better key r rs best)
 in_better key r rs None h = (0, refl)
 in_better key r rs (Some b) h = chosen (nat_le (key r) (key b.0))
   where
@@ -61,15 +71,18 @@ is_in key [] = tt
 is_in key (r ∷ rs) = in_better key r rs (first_least key rs) (is_in key rs)
 
 -- what is picked is among them
-pub picked_is_there : (key : Request → ℕ) (rs : List Request) (b : Request × List Request) → first_least key rs ≡ Some b → (k : ℕ) × (slice_get rs k ≡ Some b.0)
+pub picked_is_there : (key : Request → ℕ) (rs : List Request) (b : Request × List Request) → first_least key rs ≡ Some b
+    → (k : ℕ) × (slice_get rs k ≡ Some b.0)
 picked_is_there key rs b e = subst (IsIn rs) e (is_in key rs)
 
 -- the first of least key is what the plain replay takes
-pub first_least_at : (key : Request → ℕ) (rs : List Request) (place : ℕ) (q : Request) → IsFirstLeastAt key rs (length rs) place → slice_get rs place ≡ Some q → first_least key rs ≡ Some (q, remove rs place)
+pub first_least_at : (key : Request → ℕ) (rs : List Request) (place : ℕ) (q : Request) → IsFirstLeastAt key rs (length rs) place
+    → slice_get rs place ≡ Some q → first_least key rs ≡ Some (q, remove rs place)
 first_least_at key [] place q h at_q = absurd (omega (arith, h.within))
 first_least_at key (r ∷ rs) zero q h at_q =
     let same : r ≡ q = same_Some r q at_q in
-    front_better key r rs (first_least key rs) (λ b e. let there = picked_is_there key rs b e in h.least (suc there.0) b.0 r (omega (arith, slice_get_within rs there.0 b.0 there.1)) there.1 refl)
+    front_better key r rs (first_least key rs) (λ b e. let there = picked_is_there key rs b e in
+    h.least (suc there.0) b.0 r (omega (arith, slice_get_within rs there.0 b.0 there.1)) there.1 refl)
     ∙ ap (λ x. Some (x, rs)) same
 first_least_at key (r ∷ rs) (suc place) q h at_q =
     later_better key r q rs (remove rs place) (first_least key rs)
@@ -83,7 +96,8 @@ first_least_at key (r ∷ rs) (suc place) q h at_q =
 pub first_is_best : (key : Request → ℕ) (rs : List Request) → IsFirstLeastAt key rs 1 0
 first_is_best key rs = record {
   within = omega arith;
-  least = λ k r q lt at_k at_q. let same : r ≡ q = one_element (slice_get rs 0) r q (ap (slice_get rs) (omega arith) ∙ at_k) at_q in omega (arith, ap key same);
+  least = λ k r q lt at_k at_q. let same : r ≡ q = one_element (slice_get rs 0) r q (ap (slice_get rs) (omega arith) ∙ at_k) at_q in
+      omega (arith, ap key same);
   first = λ k r q lt at_k at_q. absurd (omega arith);
 }
 
@@ -92,7 +106,8 @@ pub record IsBest (key : Request → ℕ) (rs : List Request) (i at value : ℕ)
   pub best : IsFirstLeastAt key rs i at
   pub least : (q : Request) → slice_get rs at ≡ Some q → value ≡ key q
 
-pub goes_on : (key : Request → ℕ) (rs : List Request) (i at least at' least' next : ℕ) → IsBest key rs i at least → i < length rs → ((r : Request) → slice_get rs i ≡ Some r → next ≡ key r)
+pub goes_on : (key : Request → ℕ) (rs : List Request) (i at least at' least' next : ℕ) → IsBest key rs i at least → i < length rs
+    → ((r : Request) → slice_get rs i ≡ Some r → next ≡ key r)
     → ((next < least) × (at' ≡ i) × (least' ≡ next)) ⊎ ((least ≤ next) × (at' ≡ at) × (least' ≡ least)) → IsBest key rs (i + 1) at' least'
 goes_on key rs i at least at' least' next h lt is (inl new) =
     let r = within rs i lt in

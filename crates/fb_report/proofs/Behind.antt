@@ -1,6 +1,7 @@
 -- The lines behind those that were read.
 use Rattle.fb_report.proofs.Words.{◌≡◌, ℕ, ◌+◌, ◌<◌, List, [], ◌∷◌, ◌++◌, length, Bool, true, false, refl, sym, ap, ◌∙◌, arith, map, subst}
-use Rattle.fb_report.proofs.Words.{Result, Err, slice_split, length-slice_split, Bor, length-map, map-append, Report, ReportsFault, ReadError}
+use Rattle.fb_report.proofs.Words.{Result, Err, slice_split, length-slice_split, Bor, length-map, map-append, Report, ReportsFault}
+use Rattle.fb_report.proofs.Words.{ReadError}
 use Rattle.fb_report.proofs.Words.{AnswersReport, Grammar, may_follow, may_end, ended_with, lines_behind}
 use Rattle.fb_units.specs.declared.read_error.ReadError.TheVariants.{Fault}
 
@@ -13,7 +14,8 @@ pub some_part : (p : ℕ → Bool) (text : List ℕ) → 0 < length (slice_split
 some_part p text = omega (arith, length-slice_split p text)
 
 -- a line stands behind the end line
-pub ended_early : (lines : List (List ℕ)) (line next : List ℕ) (parts : List (List ℕ)) → 0 < length parts → ended_with lines line (next ∷ parts) ≡ Err (length lines + 1)
+pub ended_early : (lines : List (List ℕ)) (line next : List ℕ) (parts : List (List ℕ)) → 0 < length parts
+    → ended_with lines line (next ∷ parts) ≡ Err (length lines + 1)
 ended_early lines line next [] some = absurd (omega arith)
 ended_early lines line [] (other ∷ parts) some = refl
 ended_early lines line (byte ∷ bytes) (other ∷ parts) some = refl
@@ -42,8 +44,10 @@ module _ (grammar : Grammar) (lines : List (List ℕ)) (line : List ℕ) where
   rest_read = refl
 
 -- the fault that a verdict names: the line behind these
-pub names_fault : (report : Report) (error : ReadError ReportsFault) (lines : List (Bor (List ℕ))) (count : ℕ) (verdict : Result (List (List ℕ)) ℕ)
-    → error ≡ Fault (record { report = report; line = count + 1 }) → count ≡ length lines → verdict ≡ Err (length (texts lines) + 1) → AnswersReport report (Err error) verdict
+pub names_fault : (report : Report) (error : ReadError ReportsFault) (lines : List (Bor (List ℕ))) (count : ℕ)
+    (verdict : Result (List (List ℕ)) ℕ)
+    → error ≡ Fault (record { report = report; line = count + 1 }) → count ≡ length lines → verdict ≡ Err (length (texts lines) + 1)
+    → AnswersReport report (Err error) verdict
 names_fault report error lines count verdict e all f =
     let P : ReadError ReportsFault → Type 0 = λ error. AnswersReport report (Err error) verdict in
     subst P (sym e) (refl, f ∙ ap (λ n. Err (n + 1)) (length-map lines (λ text. text.now) ∙ sym all))
@@ -51,7 +55,9 @@ names_fault report error lines count verdict e all f =
 -- what a test of the lines says of the same lines
 pub tested : (test : Grammar → List (List ℕ) → Bool) (grammar other : Grammar) (lines same : List (Bor (List ℕ))) (result answer : Bool)
     → result ≡ test grammar (texts lines) → result ≡ answer → grammar ≡ other → lines ≡ same → test other (texts same) ≡ answer
-tested test grammar other lines same result answer is was g l = sym (is ∙ ap (λ grammar. test grammar (texts lines)) g ∙ ap (λ lines. test other (texts lines)) l) ∙ was
+tested test grammar other lines same result answer is was g l =
+    sym (is ∙ ap (λ grammar. test grammar (texts lines)) g ∙ ap (λ lines. test other (texts lines)) l) ∙ was
 
-pub texts_more : (lines new : List (Bor (List ℕ))) (line : Bor (List ℕ)) → new ≡ lines ++ line ∷ [] → texts new ≡ texts lines ++ line.now ∷ []
+pub texts_more : (lines new : List (Bor (List ℕ))) (line : Bor (List ℕ)) → new ≡ lines ++ line ∷ []
+    → texts new ≡ texts lines ++ line.now ∷ []
 texts_more lines new line e = ap texts e ∙ map-append (λ text. text.now) lines (line ∷ [])

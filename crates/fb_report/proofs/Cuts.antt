@@ -6,9 +6,11 @@ use Rattle.fb_report.specs.declared.grammar.Fields.{Fields}
 
 module _ (p : ℕ → Bool) (text : List ℕ) (place : ℕ) (at : place ≡ position_or_len p text) where
   -- the part before that byte, and the parts behind it
-  pub cut_at : place < length text → slice_split p text ≡ take place text ∷ slice_split p (take (length text - (place + 1)) (drop (place + 1) text))
+  pub cut_at : place < length text
+      → slice_split p text ≡ take place text ∷ slice_split p (take (length text - (place + 1)) (drop (place + 1) text))
   cut_at inside =
-      let whole : take (length text - (place + 1)) (drop (place + 1) text) ≡ drop (place + 1) text = take_all (length text - (place + 1)) (drop (place + 1) text) (omega (arith, length-drop (place + 1) text)) in
+      let whole : take (length text - (place + 1)) (drop (place + 1) text) ≡ drop (place + 1) text =
+      take_all (length text - (place + 1)) (drop (place + 1) text) (omega (arith, length-drop (place + 1) text)) in
       slice_split_first p text 0 (omega arith)
       ∙ ap (λ i. take i text ∷ slice_split p (drop (i + 1) text)) (sym at)
       ∙ ap (λ rest. take place text ∷ slice_split p rest) (sym whole)

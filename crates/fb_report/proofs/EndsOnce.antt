@@ -18,7 +18,8 @@ as_many (form ∷ forms) [] h = absurd (cc)
 as_many (form ∷ forms) (field ∷ fields) h = ap suc (as_many forms fields (and_parts (form field) (have_forms forms fields) h).1)
 
 -- the first byte of a line is that of its first field
-onto_begins : (byte : ℕ) (parts : List (List ℕ)) → (bytes : List ℕ) × (others : List (List ℕ)) × (onto_first byte parts ≡ (byte ∷ bytes) ∷ others)
+onto_begins : (byte : ℕ) (parts : List (List ℕ))
+    → (bytes : List ℕ) × (others : List (List ℕ)) × (onto_first byte parts ≡ (byte ∷ bytes) ∷ others)
 onto_begins byte [] = ([], [], refl)
 onto_begins byte (part ∷ parts) = (part, parts, refl)
 
@@ -38,7 +39,8 @@ pub record IsPlainLine (line : List ℕ) : Type 0 where
 refused : (forms : List Form) → IsPlain forms → (rest : List ℕ) → is_line_of forms (101 ∷ rest) ≡ true → ⊥
 refused forms plain rest h =
     let begins = onto_begins 101 (report_fields rest) in
-    let fields : report_fields (101 ∷ rest) ≡ (101 ∷ begins.0) ∷ begins.1 = slice_split-cons_no (λ byte. byte == 32) 101 rest refl ∙ begins.2 in
+    let fields : report_fields (101 ∷ rest) ≡ (101 ∷ begins.0) ∷ begins.1 = slice_split-cons_no (λ byte. byte == 32) 101 rest refl
+    ∙ begins.2 in
     let first : (plain.first (101 ∷ begins.0) && have_forms plain.others begins.1) ≡ true =
     sym (ap (λ forms. have_forms forms ((101 ∷ begins.0) ∷ begins.1)) plain.is) ∙ (sym (ap (have_forms forms) fields) ∙ h) in
     true≢false (sym (and_parts (plain.first (101 ∷ begins.0)) (have_forms plain.others begins.1) first).0 ∙ plain.refuses begins.0)
@@ -50,7 +52,8 @@ plain_line forms plain line h = record {
 }
 
 -- one of the rows
-row_line : (rows : List (List Form)) → AllByRecursion IsPlain rows → (line : List ℕ) → list_any (λ forms. is_line_of forms line) rows ≡ true → IsPlainLine line
+row_line : (rows : List (List Form)) → AllByRecursion IsPlain rows → (line : List ℕ) → list_any (λ forms. is_line_of forms line) rows ≡ true
+    → IsPlainLine line
 row_line [] plain line h = absurd (cc)
 row_line (row ∷ rows) plain line h = elim (cases_Bool (is_line_of row line)) [
   | inl is ↦ plain_line row plain.0 line is
@@ -75,18 +78,26 @@ word_begins (byte ∷ bytes) h =
     (bytes, ap (λ first. first ∷ bytes) ((Decides-eqb byte 101).0 (and_parts (byte == 101) (bytes_eq bytes (codes "nd")) h).0))
 
 -- a line begins as its first field does
-onto_same : (first byte : ℕ) (bytes : List ℕ) (parts others : List (List ℕ)) → onto_first first parts ≡ (byte ∷ bytes) ∷ others → first ≡ byte
+onto_same : (first byte : ℕ) (bytes : List ℕ) (parts others : List (List ℕ)) → onto_first first parts ≡ (byte ∷ bytes) ∷ others
+    → first ≡ byte
 onto_same first byte bytes [] others h = cc
 onto_same first byte bytes (part ∷ parts) others h = cc
 
-line_begins : (line : List ℕ) (byte : ℕ) (bytes : List ℕ) (others : List (List ℕ)) → report_fields line ≡ (byte ∷ bytes) ∷ others → (rest : List ℕ) × (line ≡ byte ∷ rest)
+line_begins : (line : List ℕ) (byte : ℕ) (bytes : List ℕ) (others : List (List ℕ)) → report_fields line ≡ (byte ∷ bytes) ∷ others
+    → (rest : List ℕ) × (line ≡ byte ∷ rest)
 line_begins [] byte bytes others h = absurd (cc)
 line_begins (first ∷ rest) byte bytes others h = elim (cases_Bool (first == 32)) [
-  | inl space ↦ let wrong : [] ∷ report_fields rest ≡ (byte ∷ bytes) ∷ others = sym (slice_split-cons_yes (λ byte. byte == 32) first rest space) ∙ h in absurd (cc)
-  | inr other ↦ (rest, ap (λ byte. byte ∷ rest) (onto_same first byte bytes (report_fields rest) others (sym (slice_split-cons_no (λ byte. byte == 32) first rest other) ∙ h)))
+  | inl space ↦ let wrong : [] ∷ report_fields rest ≡ (byte ∷ bytes) ∷ others =
+      sym (slice_split-cons_yes (λ byte. byte == 32) first rest space) ∙ h in absurd (cc)
+  | inr other ↦ (
+    rest,
+    ap (λ byte. byte ∷ rest)
+        (onto_same first byte bytes (report_fields rest) others (sym (slice_split-cons_no (λ byte. byte == 32) first rest other) ∙ h)),
+  )
 ]
 
-has_word : (others : List Form) (fields : List (List ℕ)) → have_forms (is_word (codes "end") ∷ others) fields ≡ true → (bytes : List ℕ) × (more : List (List ℕ)) × (fields ≡ (101 ∷ bytes) ∷ more)
+has_word : (others : List Form) (fields : List (List ℕ)) → have_forms (is_word (codes "end") ∷ others) fields ≡ true
+    → (bytes : List ℕ) × (more : List (List ℕ)) × (fields ≡ (101 ∷ bytes) ∷ more)
 has_word others [] h = absurd (cc)
 has_word others (field ∷ more) h =
     let word = word_begins field (and_parts (is_word (codes "end") field) (have_forms others more) h).0 in
@@ -125,12 +136,14 @@ module _ (grammar : Grammar) (by_word : EndsByWord grammar) where
   ender [] line h = absurd (cc)
   ender (first ∷ rows) line h = end_line grammar.last by_word.last line h
 
-  are_ended : (lines parts all : List (List ℕ)) → AllByRecursion IsPlainLine lines → lines_behind grammar lines parts ≡ Ok all → AreEnded all
+  are_ended : (lines parts all : List (List ℕ)) → AllByRecursion IsPlainLine lines → lines_behind grammar lines parts ≡ Ok all
+      → AreEnded all
   unfolding lines_behind
   are_ended lines [] all plain h = absurd (cc)
   are_ended lines (rest ∷ []) all plain h = absurd (cc)
   are_ended lines (line ∷ next ∷ parts) all plain h = elim (row_or_end grammar lines line next parts all h) [
-    | inl row ↦ are_ended (lines ++ line ∷ []) (next ∷ parts) all (all_push IsPlainLine lines line plain (follower lines line row.follows)) row.others
+    | inl row ↦ are_ended (lines ++ line ∷ []) (next
+        ∷ parts) all (all_push IsPlainLine lines line plain (follower lines line row.follows)) row.others
     | inr end ↦ record { front = lines; last = line; is = end.whole; plain = plain; end = ender lines line end.ends }
   ]
 
@@ -142,18 +155,22 @@ ends_once lines ended =
     record {
       some = omega arith;
       last = λ line index at found.
-          let same : last ≡ line = same_Some last line (sym (ap (λ lines. slice_get lines index) ended.is ∙ get_right front (last ∷ []) 0 index (omega arith)) ∙ found) in
+          let same : last ≡ line = same_Some last line
+          (sym (ap (λ lines. slice_get lines index) ended.is ∙ get_right front (last ∷ []) 0 index (omega arith)) ∙ found) in
           subst BeginsLikeEnd same ended.end.begins;
       others = λ line index before found.
-          (all_get IsPlainLine front index line ended.plain (sym (ap (λ lines. slice_get lines index) ended.is ∙ get_left front (last ∷ []) index (omega arith)) ∙ found)).unlike;
+          (all_get IsPlainLine front index line ended.plain
+          (sym (ap (λ lines. slice_get lines index) ended.is ∙ get_left front (last ∷ []) index (omega arith)) ∙ found)).unlike;
       few = let P : List (List ℕ) → Type 0 = AllByRecursion (λ line. length (report_fields line) ≤ 16) in
           subst P (sym ended.is)
-          (all_push (λ line. length (report_fields line) ≤ 16) front last (all_weaker IsPlainLine (λ line. length (report_fields line) ≤ 16) (λ line plain. plain.few) front ended.plain) ended.end.few);
+          (all_push (λ line. length (report_fields line) ≤ 16) front last
+          (all_weaker IsPlainLine (λ line. length (report_fields line) ≤ 16) (λ line plain. plain.few) front ended.plain) ended.end.few);
     }
 
 -- ---- the two grammars
 
-plain : (first : Form) (others : List Form) → ((bytes : List ℕ) → first (101 ∷ bytes) ≡ false) → length (first ∷ others) ≤ 16 → IsPlain (first ∷ others)
+plain : (first : Form) (others : List Form) → ((bytes : List ℕ) → first (101 ∷ bytes) ≡ false) → length (first ∷ others) ≤ 16
+    → IsPlain (first ∷ others)
 plain first others refuses few = record { first = first; others = others; is = refl; refuses = refuses; few = few }
 
 fore_by_word : EndsByWord fore_grammar
@@ -166,7 +183,25 @@ fore_by_word = record {
 back_by_word : EndsByWord back_grammar
 back_by_word = record {
   first = plain _ _ (λ bytes. refl) (lit≤ tt);
-  rows = (plain _ _ (λ bytes. refl) (lit≤ tt), (plain _ _ (λ bytes. refl) (lit≤ tt), (plain _ _ (λ bytes. refl) (lit≤ tt), (plain _ _ (λ bytes. refl) (lit≤ tt), (plain _ _ (λ bytes. refl) (lit≤ tt), (plain _ _ (λ bytes. refl) (lit≤ tt), (plain _ _ (λ bytes. refl) (lit≤ tt), (plain _ _ (λ bytes. refl) (lit≤ tt), (plain _ _ (λ bytes. refl) (lit≤ tt), tt)))))))));
+  rows = (
+    plain _ _ (λ bytes. refl) (lit≤ tt),
+    (
+      plain _ _ (λ bytes. refl) (lit≤ tt),
+      (
+        plain _ _ (λ bytes. refl) (lit≤ tt),
+        (
+          plain _ _ (λ bytes. refl) (lit≤ tt),
+          (
+            plain _ _ (λ bytes. refl) (lit≤ tt),
+            (
+              plain _ _ (λ bytes. refl) (lit≤ tt),
+              (plain _ _ (λ bytes. refl) (lit≤ tt), (plain _ _ (λ bytes. refl) (lit≤ tt), (plain _ _ (λ bytes. refl) (lit≤ tt), tt))),
+            ),
+          ),
+        ),
+      ),
+    ),
+  );
   last = record { others = _; is = refl; few = lit≤ tt };
 }
 

@@ -14,7 +14,8 @@ apart stop byte low is = grind (arith, nat_tests)
 -- a field has neither spaces nor line feeds
 pub none_in : (stop : ℕ) (field : List ℕ) → stop ≤ 32 → list_all plain field ≡ true → list_any (λ byte. byte == stop) field ≡ false
 none_in stop [] low is = refl
-none_in stop (byte ∷ bytes) low is = let both = and_parts (plain byte) (list_all plain bytes) is in rw (apart stop byte low both.0, none_in stop bytes low both.1) refl
+none_in stop (byte ∷ bytes) low is = let both = and_parts (plain byte) (list_all plain bytes) is in
+    rw (apart stop byte low both.0, none_in stop bytes low both.1) refl
 
 -- the fields behind the first, each behind a space
 abbrev spaced : List (List ℕ) → List ℕ
@@ -28,18 +29,24 @@ with_spaced line (field ∷ fields) = with_spaced (line ++ 32 ∷ field) fields 
 abbrev AreWhole : List (List ℕ) → Type 0
 AreWhole fields = AllByRecursion (λ field. list_all plain field ≡ true) fields
 
-split_fields : (first : List ℕ) (fields : List (List ℕ)) → AreWhole (first ∷ fields) → slice_split (λ byte. byte == 32) (first ++ spaced fields) ≡ first ∷ fields
-split_fields first [] whole = ap (slice_split (λ byte. byte == 32)) (append-nil first) ∙ split_none (λ byte. byte == 32) first (none_in 32 first (omega arith) whole.0)
+split_fields : (first : List ℕ) (fields : List (List ℕ)) → AreWhole (first ∷ fields)
+    → slice_split (λ byte. byte == 32) (first ++ spaced fields) ≡ first ∷ fields
+split_fields first [] whole = ap (slice_split (λ byte. byte == 32)) (append-nil first)
+    ∙ split_none (λ byte. byte == 32) first (none_in 32 first (omega arith) whole.0)
 split_fields first (field ∷ fields) whole =
-    split_at (λ byte. byte == 32) first 32 (field ++ spaced fields) (none_in 32 first (omega arith) whole.0) refl ∙ ap (λ parts. first ∷ parts) (split_fields field fields whole.1)
+    split_at (λ byte. byte == 32) first 32 (field ++ spaced fields) (none_in 32 first (omega arith) whole.0) refl
+    ∙ ap (λ parts. first ∷ parts) (split_fields field fields whole.1)
 
-no_feed : (first : List ℕ) (fields : List (List ℕ)) → AreWhole (first ∷ fields) → list_any (λ byte. byte == 10) (first ++ spaced fields) ≡ false
+no_feed : (first : List ℕ) (fields : List (List ℕ)) → AreWhole (first ∷ fields)
+    → list_any (λ byte. byte == 10) (first ++ spaced fields) ≡ false
 no_feed first [] whole = ap (list_any (λ byte. byte == 10)) (append-nil first) ∙ none_in 10 first (omega arith) whole.0
 no_feed first (field ∷ fields) whole =
-    list_any-append (λ byte. byte == 10) first (spaced (field ∷ fields)) ∙ rw (none_in 10 first (omega arith) whole.0, no_feed field fields whole.1) refl
+    list_any-append (λ byte. byte == 10) first (spaced (field ∷ fields))
+    ∙ rw (none_in 10 first (omega arith) whole.0, no_feed field fields whole.1) refl
 
 -- a line of whole fields passes a test that its fields pass
-in_line : (test : List ℕ → Bool) (passes : List (List ℕ) → Bool) → ((line : List ℕ) → test line ≡ passes (report_fields line)) → (first : List ℕ) (fields : List (List ℕ)) → AreWhole (first ∷ fields)
+in_line : (test : List ℕ → Bool) (passes : List (List ℕ) → Bool) → ((line : List ℕ) → test line ≡ passes (report_fields line))
+    → (first : List ℕ) (fields : List (List ℕ)) → AreWhole (first ∷ fields)
     → passes (first ∷ fields) ≡ true → IsLine test (line_of first fields)
 in_line test passes same first fields whole pass = record {
   part = first ++ spaced fields;
@@ -72,13 +79,16 @@ one_of (forms ∷ rows) fields (inr are) = rw (one_of rows fields are) (or-true 
 
 module _ (grammar : Grammar) (first : List ℕ) (fields : List (List ℕ)) where
   pub in_first : AreFields grammar.first (first ∷ fields) → IsLine (is_first grammar) (line_of first fields)
-  in_first are = in_line (is_first grammar) (have_forms grammar.first) (λ line. refl) first fields (whole_fields grammar.first (first ∷ fields) are) (have grammar.first (first ∷ fields) are)
+  in_first are = in_line (is_first grammar) (have_forms grammar.first) (λ line. refl) first fields (whole_fields grammar.first
+      (first ∷ fields) are) (have grammar.first (first ∷ fields) are)
 
   pub in_row : AreOneOf grammar.rows (first ∷ fields) → IsLine (is_row grammar) (line_of first fields)
   in_row are = in_line (is_row grammar) (λ parts. list_any (λ forms. have_forms forms parts) grammar.rows) (λ line. refl) first fields
       (whole_one grammar.rows (first ∷ fields) are) (one_of grammar.rows (first ∷ fields) are)
 
   -- a last line whose fields are those of no row
-  pub in_last : AreFields grammar.last (first ∷ fields) → list_any (λ forms. have_forms forms (first ∷ fields)) grammar.rows ≡ false → IsLine (is_last grammar) (line_of first fields)
-  in_last are none = in_line (is_last grammar) (λ parts. have_forms grammar.last parts && not (list_any (λ forms. have_forms forms parts) grammar.rows)) (λ line. refl) first fields
+  pub in_last : AreFields grammar.last (first ∷ fields) → list_any (λ forms. have_forms forms (first ∷ fields)) grammar.rows ≡ false
+      → IsLine (is_last grammar) (line_of first fields)
+  in_last are none = in_line (is_last grammar)
+      (λ parts. have_forms grammar.last parts && not (list_any (λ forms. have_forms forms parts) grammar.rows)) (λ line. refl) first fields
       (whole_fields grammar.last (first ∷ fields) are) (rw (have grammar.last (first ∷ fields) are, none) refl)

@@ -10,7 +10,8 @@ use Rattle.fb_rows.specs.declared.run.Run.{Run}
 pub record AreLines {X : Type 0} (first : List ℕ) (line : X → List ℕ) (rows : List X) (last : List ℕ) (lines : List (List ℕ)) : Type 0 where
   pub are : lines ≡ first ∷ (map line rows ++ last ∷ [])
 
-module _ {X : Type 0} (first : List ℕ) (line : X → List ℕ) (rows : List X) (last : List ℕ) (lines : List (List ℕ)) (h : AreLines first line rows last lines) where
+module _ {X : Type 0} (first : List ℕ) (line : X → List ℕ) (rows : List X) (last : List ℕ) (lines : List (List ℕ))
+    (h : AreLines first line rows last lines) where
   pub length_lines : length lines ≡ length rows + 2
   length_lines = ap length h.are ∙ omega (arith, length-append (map line rows) (last ∷ []), length-map rows line)
 
@@ -31,10 +32,12 @@ module _ {X : Type 0} (first : List ℕ) (line : X → List ℕ) (rows : List X)
       ∙ ap (λ xs. slice_get xs (suc (length rows))) h.are
       ∙ get_right (map line rows) (last ∷ []) 0 (length rows) (omega (arith, length-map rows line))
 
-pub fore_are : (size : ℕ) (bytes : Bytes) (run : Run) → AreLines fore_first (fore_line size bytes) run.fore (fore_last (length run.fore) run.passed_over) (fore_lines size bytes run)
+pub fore_are : (size : ℕ) (bytes : Bytes) (run : Run)
+    → AreLines fore_first (fore_line size bytes) run.fore (fore_last (length run.fore) run.passed_over) (fore_lines size bytes run)
 unfolding fore_lines
 fore_are size bytes run = record { are = refl }
 
-pub back_are : (names : List (List ℕ)) (size : ℕ) (bytes : Bytes) (run : Run) → AreLines back_first (back_line names size bytes) run.back (back_last run.end) (back_lines names size bytes run)
+pub back_are : (names : List (List ℕ)) (size : ℕ) (bytes : Bytes) (run : Run)
+    → AreLines back_first (back_line names size bytes) run.back (back_last run.end) (back_lines names size bytes run)
 unfolding back_lines
 back_are names size bytes run = record { are = refl }

@@ -9,7 +9,8 @@ abbrev pub stays_below : ℕ → List ℕ → Bool
 stays_below n digits = list_all is_ascii_digit digits && nat_lt (digits_after n digits) (2 ^ 64)
 
 -- a byte that is no digit, or one with which the number passes 2^64
-pub stays_below-not : (n byte : ℕ) (bytes : List ℕ) → (is_ascii_digit byte ≡ true → 2 ^ 64 ≤ 10 * n + (byte - 48)) → stays_below n (byte ∷ bytes) ≡ false
+pub stays_below-not : (n byte : ℕ) (bytes : List ℕ) → (is_ascii_digit byte ≡ true → 2 ^ 64 ≤ 10 * n + (byte - 48))
+    → stays_below n (byte ∷ bytes) ≡ false
 stays_below-not n byte bytes past = elim (cases_Bool (is_ascii_digit byte)) [
   | inl digit ↦ let above : 2 ^ 64 ≤ digits_after n (byte ∷ bytes) = omega (arith, past digit, digits_grow (10 * n + (byte - 48)) bytes) in
       let not_below : nat_lt (digits_after n (byte ∷ bytes)) (2 ^ 64) ≡ false = grind (arith, nat_tests) in

@@ -6,7 +6,8 @@ use Rattle.fb_report.proofs.ReadBack.{printed_are_read_back}
 
 module _ (grammar : Grammar) (many place : ℕ) (line : List ℕ) where
   pub at_first : place ≡ 0 → IsLine (is_first grammar) line → IsLine (is_in_place grammar many place) line
-  at_first at is = let here : (place == 0) ≡ true = grind (arith, nat_tests) in record { part = is.part; is_ended = is.is_ended; whole = is.whole; passes = rw here is.passes }
+  at_first at is = let here : (place == 0) ≡ true = grind (arith, nat_tests) in
+      record { part = is.part; is_ended = is.is_ended; whole = is.whole; passes = rw here is.passes }
 
   pub at_row : 0 < place → place + 1 < many → IsLine (is_row grammar) line → IsLine (is_in_place grammar many place) line
   at_row behind before is =
@@ -35,8 +36,10 @@ one_place_more P lines now here at before is place line inside got = elim (cases
 
 -- lines that are all in their places are read back
 pub all_in_place : (grammar : Grammar) (lines : List (List ℕ)) (now many : ℕ) → length lines ≡ many → 2 ≤ many → many ≤ now
-    → ((place : ℕ) (line : List ℕ) → place < now → slice_get lines place ≡ Some line → IsLine (is_in_place grammar many place) line) → IsReadBack grammar lines
+    → ((place : ℕ) (line : List ℕ) → place < now → slice_get lines place ≡ Some line → IsLine (is_in_place grammar many place) line)
+    → IsReadBack grammar lines
 all_in_place grammar lines now many same ends all in_place = printed_are_read_back grammar lines (record {
   ends = omega arith;
-  in_place = λ place line got. subst (λ n. IsLine (is_in_place grammar n place) line) (sym same) (in_place place line (omega (arith, slice_get_within lines place line got)) got);
+  in_place = λ place line got. subst (λ n. IsLine (is_in_place grammar n place) line) (sym same)
+      (in_place place line (omega (arith, slice_get_within lines place line got)) got);
 })

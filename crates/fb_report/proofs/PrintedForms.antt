@@ -45,7 +45,8 @@ no_zero (c ∷ digits) above = let other : (c == 48) ≡ false = grind (arith, n
 leading : (n : ℕ) → n < 2 ^ 64 → has_no_leading_zero (decimal n) ≡ true
 leading n small = elim (cases_Bool (nat_lt 0 n)) [
   | inl some ↦ let more : 0 < n = grind (arith, nat_tests) in no_zero (decimal n) (first_decimal n more small)
-  | inr none ↦ let zero : 0 ≡ n = grind (arith, nat_tests) in subst (λ m. has_no_leading_zero (decimal m) ≡ true) zero (ap has_no_leading_zero (decimal_digit 0 (omega arith)))
+  | inr none ↦ let zero : 0 ≡ n = grind (arith, nat_tests) in
+      subst (λ m. has_no_leading_zero (decimal m) ≡ true) zero (ap has_no_leading_zero (decimal_digit 0 (omega arith)))
 ]
 
 pub number_is : (n : ℕ) → n < 2 ^ 64 → IsField is_number (decimal n)
@@ -80,11 +81,17 @@ digits_are (c ∷ text) are = are
 
 -- a number has only digits
 only_digits : (text : List ℕ) → IsField is_number text → list_all is_ascii_digit text ≡ true
-only_digits text is = digits_are text (and_parts (are_digits text) (has_no_leading_zero text) (and_parts _ (nat_lt (digits_after 0 text) (2 ^ 64)) is.fits).0).0
+only_digits text is = digits_are text (and_parts (are_digits text) (has_no_leading_zero text)
+    (and_parts _ (nat_lt (digits_after 0 text) (2 ^ 64)) is.fits).0).0
 
 pub track_is : (cylinder head : List ℕ) → IsField is_number cylinder → IsField is_number head → IsField is_track (cylinder ++ 46 ∷ head)
 track_is cylinder head is too = record {
-  fits = rw (before_point cylinder head (only_digits cylinder is), after_point cylinder head (only_digits cylinder is), is.fits, too.fits) refl;
+  fits = rw (
+    before_point cylinder head (only_digits cylinder is),
+    after_point cylinder head (only_digits cylinder is),
+    is.fits,
+    too.fits,
+  ) refl;
   whole = list_all-append plain cylinder (46 ∷ head) ∙ rw (is.whole, too.whole) refl;
 }
 

@@ -7,7 +7,8 @@ use Rattle.std.proofs.lemmas.List.{length-append}
 use Rattle.fb_report.proofs.Behind.{row_read}
 
 -- the first part of a text ends at the first byte that passes
-pub split_at : (p : ℕ → Bool) (xs : List ℕ) (y : ℕ) (ys : List ℕ) → list_any p xs ≡ false → p y ≡ true → slice_split p (xs ++ y ∷ ys) ≡ xs ∷ slice_split p ys
+pub split_at : (p : ℕ → Bool) (xs : List ℕ) (y : ℕ) (ys : List ℕ) → list_any p xs ≡ false → p y ≡ true
+    → slice_split p (xs ++ y ∷ ys) ≡ xs ∷ slice_split p ys
 split_at p [] y ys none at = rw at refl
 split_at p (x ∷ xs) y ys none at =
     let both = or_parts (p x) (list_any p xs) none in
@@ -41,13 +42,15 @@ module _ (grammar : Grammar) where
 
   -- a line with its line feed, in front of others
   joined : (before lines : List (List ℕ)) (line part : List ℕ) → line ≡ ended part → list_any feed part ≡ false
-      → lines_behind grammar before (slice_split feed (flat_map (λ x. x) (line ∷ lines))) ≡ lines_behind grammar before (part ∷ slice_split feed (flat_map (λ x. x) lines))
+      → lines_behind grammar before (slice_split feed (flat_map (λ x. x) (line ∷ lines)))
+      ≡ lines_behind grammar before (part ∷ slice_split feed (flat_map (λ x. x) lines))
   joined before lines line part is whole =
       ap (λ x. lines_behind grammar before (slice_split feed (x ++ flat_map (λ y. y) lines))) is
       ∙ ap (lines_behind grammar before) (feed_at part (flat_map (λ x. x) lines) whole)
 
   -- the last line stands where no row may
-  last_is : (line : List ℕ) (many place : ℕ) → 2 ≤ many → place + 1 ≡ many → is_in_place grammar many place line ≡ true → (is_line_of grammar.last line ≡ true) × (is_row grammar line ≡ false)
+  last_is : (line : List ℕ) (many place : ℕ) → 2 ≤ many → place + 1 ≡ many → is_in_place grammar many place line ≡ true
+      → (is_line_of grammar.last line ≡ true) × (is_row grammar line ≡ false)
   last_is line many place ends at is =
       let later : (place == 0) ≡ false = grind (arith, nat_tests) in
       let here : (place + 1 == many) ≡ true = grind (arith, nat_tests) in
@@ -55,19 +58,22 @@ module _ (grammar : Grammar) where
       let both = and_parts (is_line_of grammar.last line) (not (is_row grammar line)) last in
       (both.0, not-true (is_row grammar line) both.1)
 
-  row_is : (line : List ℕ) (many place : ℕ) (before : List (List ℕ)) → place + 2 ≤ many → length before ≡ place → is_in_place grammar many place line ≡ true → may_follow grammar before line ≡ true
+  row_is : (line : List ℕ) (many place : ℕ) (before : List (List ℕ)) → place + 2 ≤ many → length before ≡ place
+      → is_in_place grammar many place line ≡ true → may_follow grammar before line ≡ true
   row_is line many place [] inside e is = let here : (place == 0) ≡ true = grind (arith, nat_tests) in rw here at is
   row_is line many place (first ∷ rows) inside e is =
       let later : (place == 0) ≡ false = grind (arith, nat_tests) in
       let more : (place + 1 == many) ≡ false = grind (arith, nat_tests) in
       rw (later, more) at is
 
-  no_row : (before : List (List ℕ)) (line : List ℕ) → 0 < length before → (is_line_of grammar.last line ≡ true) × (is_row grammar line ≡ false) → (may_follow grammar before line ≡ false) × (may_end grammar before line ≡ true)
+  no_row : (before : List (List ℕ)) (line : List ℕ) → 0 < length before → (is_line_of grammar.last line ≡ true)
+      × (is_row grammar line ≡ false) → (may_follow grammar before line ≡ false) × (may_end grammar before line ≡ true)
   no_row [] line some is = absurd (omega arith)
   no_row (first ∷ rows) line some is = (is.1, is.0)
 
   -- one line more is read
-  read_more : (test : List ℕ → Bool) (before lines : List (List ℕ)) (line : List ℕ) (this : IsLine test line) → may_follow grammar before this.part ≡ true
+  read_more : (test : List ℕ → Bool) (before lines : List (List ℕ)) (line : List ℕ) (this : IsLine test line)
+      → may_follow grammar before this.part ≡ true
       → IsReadOn (before ++ this.part ∷ []) lines → IsReadOn before (line ∷ lines)
   read_more test before lines line this follows later =
       let rest = slice_split feed (flat_map (λ x. x) lines) in
@@ -80,8 +86,10 @@ module _ (grammar : Grammar) where
       }
 
   -- the rest is read behind the lines before it
-  read_on : (many place : ℕ) (before lines : List (List ℕ)) → 2 ≤ many → length before ≡ place → place + length lines ≡ many → 0 < length lines
-      → ((k at : ℕ) (line : List ℕ) → at ≡ place + k → slice_get lines k ≡ Some line → IsLine (is_in_place grammar many at) line) → IsReadOn before lines
+  read_on : (many place : ℕ) (before lines : List (List ℕ)) → 2 ≤ many → length before ≡ place → place + length lines ≡ many
+      → 0 < length lines
+      → ((k at : ℕ) (line : List ℕ) → at ≡ place + k → slice_get lines k ≡ Some line → IsLine (is_in_place grammar many at) line)
+      → IsReadOn before lines
   read_on many place before [] ends e all some h = absurd (omega arith)
   read_on many place before (line ∷ []) ends e all some h =
       let this = h 0 place line (omega arith) refl in
@@ -93,8 +101,10 @@ module _ (grammar : Grammar) where
       }
   read_on many place before (line ∷ next ∷ lines) ends e all some h =
       let this = h 0 place line (omega arith) refl in
-      read_more (is_in_place grammar many place) before (next ∷ lines) line this (row_is this.part many place before (omega arith) e this.passes)
-      (read_on many (place + 1) (before ++ this.part ∷ []) (next ∷ lines) ends (omega (arith, length-append before (this.part ∷ []))) (omega arith) (omega arith)
+      read_more (is_in_place grammar many place) before (next ∷ lines) line this
+      (row_is this.part many place before (omega arith) e this.passes)
+      (read_on many (place + 1) (before ++ this.part ∷ []) (next ∷ lines) ends (omega (arith, length-append before (this.part ∷ [])))
+      (omega arith) (omega arith)
       (λ k at line same is. h (suc k) at line (omega arith) is))
 
 pub printed_are_read_back : PrintedAreReadBack

@@ -17,11 +17,13 @@ pub too_few : (forms : List Form) (i : ℕ) → i < length forms → have_forms 
 too_few forms i more = none_left (drop i forms) (omega (arith, length-drop i forms))
 
 -- behind other lines only a row may follow
-row_follows : (grammar : Grammar) (lines : List (List ℕ)) (line : List ℕ) → 0 < length lines → may_follow grammar lines line ≡ list_any (λ forms. is_line_of forms line) grammar.rows
+row_follows : (grammar : Grammar) (lines : List (List ℕ)) (line : List ℕ) → 0 < length lines
+    → may_follow grammar lines line ≡ list_any (λ forms. is_line_of forms line) grammar.rows
 row_follows grammar [] line some = absurd (omega arith)
 row_follows grammar (first ∷ rows) line some = refl
 
-pub row_of_table : (table : Table) (lines : List (Bor (List ℕ))) (line : List ℕ) (fields : List (List ℕ)) → 0 < length lines → fields ≡ report_fields line
+pub row_of_table : (table : Table) (lines : List (Bor (List ℕ))) (line : List ℕ) (fields : List (List ℕ)) → 0 < length lines
+    → fields ≡ report_fields line
     → list_any (λ row. have_forms (map fits row.now) fields) table.rows.now ≡ may_follow (written table) (map (λ text. text.now) lines) line
 row_of_table table lines line fields some e =
     ap (λ parts. list_any (λ row. have_forms (map fits row.now) parts) table.rows.now) e

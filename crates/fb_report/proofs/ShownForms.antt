@@ -21,7 +21,8 @@ is_byte n = nat_lt n 256
 low_part : (n : ℕ) → is_byte (n % 256) ≡ true
 low_part n = grind (arith, nat_tests)
 
-all_flat : {X : Type 0} (p : ℕ → Bool) (f : X → List ℕ) → ((x : X) → list_all p (f x) ≡ true) → (xs : List X) → list_all p (flat_map f xs) ≡ true
+all_flat : {X : Type 0} (p : ℕ → Bool) (f : X → List ℕ) → ((x : X) → list_all p (f x) ≡ true) → (xs : List X)
+    → list_all p (flat_map f xs) ≡ true
 all_flat p f each [] = refl
 all_flat p f each (x ∷ xs) = list_all-append p (f x) (flat_map f xs) ∙ rw (each x, all_flat p f each xs) refl
 
@@ -48,23 +49,27 @@ high_first (suc k) n = rw (one_byte k n, high_first k n) refl
 
 mark_bytes : (writer lbn : ℕ) → list_all is_byte (mark writer lbn) ≡ true
 unfolding mark
-mark_bytes writer lbn = list_all-append is_byte (bytes_high_first 8 writer) (bytes_high_first 8 lbn) ∙ rw (high_first 8 writer, high_first 8 lbn) refl
+mark_bytes writer lbn =
+    list_all-append is_byte (bytes_high_first 8 writer) (bytes_high_first 8 lbn) ∙ rw (high_first 8 writer, high_first 8 lbn) refl
 
 fill_bytes : (writer lbn size : ℕ) → list_all is_byte (fill writer lbn size) ≡ true
 unfolding fill
-fill_bytes writer lbn size = all_map is_byte (λ i. slice_index (mark writer lbn) (i % 16)) (λ i. at_any (mark writer lbn) (i % 16) (mark_bytes writer lbn)) (range_with_len 0 size)
+fill_bytes writer lbn size = all_map is_byte (λ i. slice_index (mark writer lbn) (i % 16))
+    (λ i. at_any (mark writer lbn) (i % 16) (mark_bytes writer lbn)) (range_with_len 0 size)
 
 sector_all : (lbn size : ℕ) (content : Content) → list_all is_byte (sector_bytes lbn size content) ≡ true
 sector_all lbn size (Filled writer) = fill_bytes writer lbn size
 sector_all lbn size Unreadable = all_same size
 
 contents_all : (size : ℕ) (runs : List ContentRun) → list_all is_byte (contents_bytes size runs) ≡ true
-contents_all size runs = all_flat is_byte (run_bytes size) (λ run. all_flat is_byte (λ i. sector_bytes (run.first + i) size run.content) (λ i. sector_all (run.first + i) size run.content) (range_with_len 0 run.count)) runs
+contents_all size runs = all_flat is_byte (run_bytes size) (λ run. all_flat is_byte (λ i. sector_bytes (run.first + i) size run.content)
+    (λ i. sector_all (run.first + i) size run.content) (range_with_len 0 run.count)) runs
 
 digest_all : (hash : List ℕ) (n : ℕ) → list_all is_byte (digest_bytes hash n) ≡ true
 unfolding digest_bytes
 digest_all hash zero = refl
-digest_all hash (suc n) = list_all-append is_byte (digest_bytes hash n) (bytes_high_first 4 (slice_index hash n)) ∙ rw (digest_all hash n, high_first 4 (slice_index hash n)) refl
+digest_all hash (suc n) = list_all-append is_byte (digest_bytes hash n) (bytes_high_first 4 (slice_index hash n))
+    ∙ rw (digest_all hash n, high_first 4 (slice_index hash n)) refl
 
 digest_some : (hash : List ℕ) (n : ℕ) → 0 < n → 0 < length (digest_bytes hash n)
 unfolding digest_bytes
@@ -75,16 +80,23 @@ digest_some hash (suc n) some = omega (arith, length-append (digest_bytes hash n
 
 fill_length : (writer lbn size : ℕ) → length (fill writer lbn size) ≡ size
 unfolding fill
-fill_length writer lbn size = length-map (range_with_len 0 size) (λ i. slice_index (mark writer lbn) (i % 16)) ∙ length-range_with_len 0 size
+fill_length writer lbn size =
+    length-map (range_with_len 0 size) (λ i. slice_index (mark writer lbn) (i % 16)) ∙ length-range_with_len 0 size
 
 sector_length : (lbn size : ℕ) (content : Content) → length (sector_bytes lbn size content) ≡ size
 sector_length lbn size (Filled writer) = fill_length writer lbn size
 sector_length lbn size Unreadable = length-replicate size 0
 
-sectors_some : (size first count : ℕ) (content : Content) → 0 < size → 0 < count → 0 < length (flat_map (λ i. sector_bytes (first + i) size content) (range_with_len 0 count))
+sectors_some : (size first count : ℕ) (content : Content) → 0 < size → 0 < count
+    → 0 < length (flat_map (λ i. sector_bytes (first + i) size content) (range_with_len 0 count))
 sectors_some size first zero content big some = absurd (omega arith)
 sectors_some size first (suc count) content big some =
-    omega (arith, sector_length (first + 0) size content, length-append (sector_bytes (first + 0) size content) (flat_map (λ i. sector_bytes (first + i) size content) (range_with_len 1 count)))
+    omega (
+      arith,
+      sector_length (first + 0) size content,
+      length-append (sector_bytes (first + 0) size content)
+          (flat_map (λ i. sector_bytes (first + i) size content) (range_with_len 1 count)),
+    )
 
 abbrev count_of : ContentRun → ℕ
 count_of run = run.count
@@ -92,8 +104,16 @@ count_of run = run.count
 contents_some : (size : ℕ) (runs : List ContentRun) → 0 < size → HasSectors runs → 0 < length (contents_bytes size runs)
 contents_some size [] big some = absurd (omega arith)
 contents_some size (run ∷ runs) big some = elim (cases_lt 0 run.count) [
-  | inl more ↦ omega (arith, sectors_some size run.first run.count run.content big more, length-append (run_bytes size run) (contents_bytes size runs))
-  | inr none ↦ omega (arith, contents_some size runs big (omega (arith, some, sum_by-append count_of (run ∷ []) runs)), length-append (run_bytes size run) (contents_bytes size runs))
+  | inl more ↦ omega (
+    arith,
+    sectors_some size run.first run.count run.content big more,
+    length-append (run_bytes size run) (contents_bytes size runs),
+  )
+  | inr none ↦ omega (
+    arith,
+    contents_some size runs big (omega (arith, some, sum_by-append count_of (run ∷ []) runs)),
+    length-append (run_bytes size run) (contents_bytes size runs),
+  )
 ]
 
 -- ---- digits

@@ -45,14 +45,17 @@ no_task (Task task) never = absurd (never task refl)
 no_task (_) never = refl
 
 -- a line more of a text of lines
-pub line_more : (now new line : List ℕ) (rest : List (List ℕ)) (whole : List ℕ) → now ++ flat_map (λ x. x) (line ∷ rest) ≡ whole → new ≡ now ++ line → new ++ flat_map (λ x. x) rest ≡ whole
-line_more now new line rest whole so_far is = ap (λ xs. xs ++ flat_map (λ x. x) rest) is ∙ append_assoc now line (flat_map (λ x. x) rest) ∙ so_far
+pub line_more : (now new line : List ℕ) (rest : List (List ℕ)) (whole : List ℕ) → now ++ flat_map (λ x. x) (line ∷ rest) ≡ whole
+    → new ≡ now ++ line → new ++ flat_map (λ x. x) rest ≡ whole
+line_more now new line rest whole so_far is =
+    ap (λ xs. xs ++ flat_map (λ x. x) rest) is ∙ append_assoc now line (flat_map (λ x. x) rest) ∙ so_far
 
 pub greater : (a b : ℕ) → ord_max nat_cmp a b ≡ max a b
 greater a b = grind (arith, nat_tests)
 
 -- a text of ten lines, each added to those before it
-pub ten_lines : (a b c d e f g h i j t1 t2 t3 t4 t5 t6 t7 t8 t9 t10 : List ℕ) → t1 ≡ a → t2 ≡ t1 ++ b → t3 ≡ t2 ++ c → t4 ≡ t3 ++ d → t5 ≡ t4 ++ e → t6 ≡ t5 ++ f → t7 ≡ t6 ++ g → t8 ≡ t7 ++ h → t9 ≡ t8 ++ i → t10 ≡ t9 ++ j
+pub ten_lines : (a b c d e f g h i j t1 t2 t3 t4 t5 t6 t7 t8 t9 t10 : List ℕ) → t1 ≡ a → t2 ≡ t1 ++ b → t3 ≡ t2 ++ c → t4 ≡ t3 ++ d
+    → t5 ≡ t4 ++ e → t6 ≡ t5 ++ f → t7 ≡ t6 ++ g → t8 ≡ t7 ++ h → t9 ≡ t8 ++ i → t10 ≡ t9 ++ j
     → t10 ≡ flat_map (λ x. x) (a ∷ b ∷ c ∷ d ∷ e ∷ f ∷ g ∷ h ∷ i ∷ j ∷ [])
 ten_lines a b c d e f g h i j t1 t2 t3 t4 t5 t6 t7 t8 t9 t10 e1 e2 e3 e4 e5 e6 e7 e8 e9 e10 =
     rw (e10, e9, e8, e7, e6, e5, e4, e3, e2, e1) (simp (append_assoc, append-nil))

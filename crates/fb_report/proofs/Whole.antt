@@ -1,13 +1,15 @@
 -- What a report that was read says of its text and of its lines.
 use Rattle.fb_report.proofs.Words.{◌≡◌, ℕ, ◌+◌, ◌<◌, List, [], ◌∷◌, ◌++◌, ◌⊎◌, inl, inr, length, true, refl, sym, ap, ◌∙◌, arith}
 use Rattle.fb_report.proofs.Words.{append_assoc, append-nil, Result, Ok, Err, IfOk, ◌==◌, slice_split, flat_map, join_with_byte, cases_Bool}
-use Rattle.fb_report.proofs.Words.{join_with_byte-slice_split, Report, ReportsFault, ReadError, AnswersReport, Grammar, may_follow, may_end, ended}
+use Rattle.fb_report.proofs.Words.{join_with_byte-slice_split, Report, ReportsFault, ReadError, AnswersReport, Grammar, may_follow, may_end}
+use Rattle.fb_report.proofs.Words.{ended}
 use Rattle.fb_report.proofs.Words.{ended_with, lines_behind, report_of}
 use Rattle.std.proofs.lemmas.Grind.{flat_map-append}
 use Rattle.fb_report.proofs.Behind.{row_read, end_read, fault_read}
 
 -- only an empty rest ends a report
-ended_whole : (lines : List (List ℕ)) (line next : List ℕ) (parts all : List (List ℕ)) → ended_with lines line (next ∷ parts) ≡ Ok all → (next ∷ parts ≡ [] ∷ []) × (all ≡ lines ++ line ∷ [])
+ended_whole : (lines : List (List ℕ)) (line next : List ℕ) (parts all : List (List ℕ)) → ended_with lines line (next ∷ parts) ≡ Ok all
+    → (next ∷ parts ≡ [] ∷ []) × (all ≡ lines ++ line ∷ [])
 ended_whole lines line [] [] all h = (refl, cc)
 ended_whole lines line [] (other ∷ parts) all h = absurd (cc)
 ended_whole lines line (byte ∷ bytes) [] all h = absurd (cc)
@@ -23,7 +25,8 @@ pub record IsEnd (grammar : Grammar) (lines : List (List ℕ)) (line : List ℕ)
   pub nothing : parts ≡ [] ∷ []
   pub whole : all ≡ lines ++ line ∷ []
 
-pub row_or_end : (grammar : Grammar) (lines : List (List ℕ)) (line next : List ℕ) (parts all : List (List ℕ)) → lines_behind grammar lines (line ∷ next ∷ parts) ≡ Ok all
+pub row_or_end : (grammar : Grammar) (lines : List (List ℕ)) (line next : List ℕ) (parts all : List (List ℕ))
+    → lines_behind grammar lines (line ∷ next ∷ parts) ≡ Ok all
     → IsRow grammar lines line (next ∷ parts) all ⊎ IsEnd grammar lines line (next ∷ parts) all
 row_or_end grammar lines line next parts all h =
     let some : 0 < length (next ∷ parts) = omega arith in
@@ -33,7 +36,8 @@ row_or_end grammar lines line next parts all h =
         | inl ends ↦
             let last = ended_whole lines line next parts all (sym (end_read grammar lines line (next ∷ parts) some other ends) ∙ h) in
             inr (record { ends = ends; nothing = last.0; whole = last.1 })
-        | inr unended ↦ let wrong : Err (length lines + 1) ≡ Ok all = sym (fault_read grammar lines line (next ∷ parts) other unended) ∙ h in absurd (cc)
+        | inr unended ↦ let wrong : Err (length lines + 1) ≡ Ok all = sym (fault_read grammar lines line (next ∷ parts) other unended)
+            ∙ h in absurd (cc)
       ]
     ]
 
@@ -42,7 +46,8 @@ line_more : (before line rest : List ℕ) → (before ++ (ended line ++ [])) ++ 
 line_more before line rest = simp (append_assoc, append-nil)
 
 -- the lines with their line feeds are the text
-text_of : (grammar : Grammar) (lines parts all : List (List ℕ)) → lines_behind grammar lines parts ≡ Ok all → flat_map ended all ≡ flat_map ended lines ++ join_with_byte 10 parts
+text_of : (grammar : Grammar) (lines parts all : List (List ℕ)) → lines_behind grammar lines parts ≡ Ok all
+    → flat_map ended all ≡ flat_map ended lines ++ join_with_byte 10 parts
 unfolding lines_behind
 text_of grammar lines [] all h = absurd (cc)
 text_of grammar lines (rest ∷ []) all h = absurd (cc)
@@ -56,7 +61,9 @@ text_of grammar lines (line ∷ next ∷ parts) all h = elim (row_or_end grammar
       ∙ sym (ap (λ parts. flat_map ended lines ++ (line ++ 10 ∷ join_with_byte 10 parts)) end.nothing)
 ]
 
-pub whole_text : (grammar : Grammar) (report : Report) (text : List ℕ) (answer : Result (List (List ℕ)) (ReadError ReportsFault)) → AnswersReport report answer (report_of grammar text)
+pub whole_text : (grammar : Grammar) (report : Report) (text : List ℕ) (answer : Result (List (List ℕ)) (ReadError ReportsFault))
+    → AnswersReport report answer (report_of grammar text)
     → IfOk answer (λ lines. flat_map ended lines ≡ text)
-whole_text grammar report text (Ok lines) h = text_of grammar [] (slice_split (λ byte. byte == 10) text) lines h ∙ join_with_byte-slice_split 10 text
+whole_text grammar report text (Ok lines) h =
+    text_of grammar [] (slice_split (λ byte. byte == 10) text) lines h ∙ join_with_byte-slice_split 10 text
 whole_text grammar report text (Err error) h = tt

@@ -88,7 +88,8 @@ is_complete_text complete = if complete then codes "complete" else codes "open"
 
 -- task, kind, how many blocks are registered, delivered, aborted and left, and whether it is complete
 abbrev pub task_fields : List (List ℕ) → TaskRow → List (List ℕ)
-task_fields names row = task_text names row.task ∷ task_kind_text row.kind ∷ decimal row.registered ∷ decimal row.delivered ∷ decimal row.aborted
+task_fields names row =
+    task_text names row.task ∷ task_kind_text row.kind ∷ decimal row.registered ∷ decimal row.delivered ∷ decimal row.aborted
     ∷ decimal (row.registered - row.delivered - row.aborted) ∷ is_complete_text row.complete ∷ []
 
 -- the line of a task at the end

@@ -8,7 +8,8 @@ use Rattle.fb_report.specs.declared.grammar.Table.{Table}
 use Rattle.fb_report.specs.declared.grammar.Fields.{Fields}
 use Rattle.fb_report.specs.declared.reading.Report.{Report}
 use Rattle.fb_report.specs.declared.reading.Report.TheVariants.{Fore, Back}
-use Rattle.fb_report.specs.Grammar.{Grammar, fore_grammar, back_grammar, is_word, is_one_of, is_number, is_track, is_request, are_bytes, report_fields}
+use Rattle.fb_report.specs.Grammar.{Grammar, fore_grammar, back_grammar, is_word, is_one_of, is_number, is_track, is_request, are_bytes}
+use Rattle.fb_report.specs.Grammar.{report_fields}
 
 -- the field is what a form asks for
 abbrev pub fits : Form → List ℕ → Bool

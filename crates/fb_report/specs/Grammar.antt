@@ -1,5 +1,6 @@
 -- The grammar of printed reports.
-use Rattle.std.specs.Prelude.{ℕ, ◌+◌, ◌^◌, List, [], ◌∷◌, ◌++◌, length, replicate, Bool, true, false, not, ◌&&◌, ◌||◌, ◌==◌, nat_le, nat_lt, Result, Ok, Err, codes, if◌then◌else◌}
+use Rattle.std.specs.Prelude.{ℕ, ◌+◌, ◌^◌, List, [], ◌∷◌, ◌++◌, length, replicate, Bool, true, false, not, ◌&&◌, ◌||◌, ◌==◌, nat_le, nat_lt}
+use Rattle.std.specs.Prelude.{Result, Ok, Err, codes, if◌then◌else◌}
 use Rattle.std.specs.Char.{is_ascii_digit}
 use Rattle.std.specs.List.{after_first, before_first, list_all, list_any, slice_split}
 use Rattle.std.specs.Str.{bytes_eq}
@@ -85,7 +86,8 @@ fore_grammar = record {
 abbrev pub gap_forms : List Form
 gap_forms = is_word (codes "gap") ∷ is_request ∷ is_track ∷ is_track ∷ numbers 2
 
--- the background report: gaps by their two plans, idle dwells, deliveries, unreadable sectors, seals, segments, completions and tasks; and the
+-- the background report: gaps by their two plans, idle dwells, deliveries, unreadable sectors, seals, segments, completions and tasks; and
+-- the
 -- run's end
 abbrev pub back_grammar : Grammar
 back_grammar = record {
@@ -93,12 +95,14 @@ back_grammar = record {
   rows = (gap_forms ++ is_word (codes "direct") ∷ is_number ∷ [])
       ∷ (gap_forms ++ is_word (codes "detour") ∷ is_track ∷ is_number ∷ [])
       ∷ (is_word (codes "idle") ∷ is_track ∷ numbers 2)
-      ∷ (is_word (codes "got") ∷ is_name ∷ numbers 5 ++ is_one_of (codes "gap" ∷ codes "idle" ∷ codes "ride" ∷ []) ∷ is_number ∷ are_bytes ∷ [])
+      ∷ (is_word (codes "got") ∷ is_name ∷ numbers 5 ++ is_one_of (codes "gap" ∷ codes "idle" ∷ codes "ride" ∷ []) ∷ is_number ∷ are_bytes
+      ∷ [])
       ∷ (is_word (codes "bad") ∷ is_name ∷ is_number ∷ [])
       ∷ (is_word (codes "seal") ∷ is_name ∷ numbers 2 ++ are_bytes ∷ [])
       ∷ (is_word (codes "seg") ∷ is_name ∷ numbers 3 ++ are_bytes ∷ [])
       ∷ (is_word (codes "done") ∷ is_name ∷ is_number ∷ [])
-      ∷ (is_word (codes "task") ∷ is_name ∷ is_one_of (codes "plain" ∷ codes "backup" ∷ codes "scrub" ∷ codes "clean" ∷ []) ∷ numbers 4 ++ is_one_of (codes "complete" ∷ codes "open" ∷ []) ∷ [])
+      ∷ (is_word (codes "task") ∷ is_name ∷ is_one_of (codes "plain" ∷ codes "backup" ∷ codes "scrub" ∷ codes "clean" ∷ []) ∷ numbers 4
+      ++ is_one_of (codes "complete" ∷ codes "open" ∷ []) ∷ [])
       ∷ [];
   last = is_word (codes "end") ∷ is_number ∷ [];
 }
@@ -134,7 +138,8 @@ with_line grammar lines line parts later =
 unfoldable pub lines_behind : Grammar → List (List ℕ) → List (List ℕ) → Result (List (List ℕ)) ℕ
 lines_behind grammar lines [] = Err (length lines + 1)
 lines_behind grammar lines (rest ∷ []) = Err (length lines + 1)
-lines_behind grammar lines (line ∷ next ∷ parts) = with_line grammar lines line (next ∷ parts) (lines_behind grammar (lines ++ line ∷ []) (next ∷ parts))
+lines_behind grammar lines (line ∷ next ∷ parts) =
+    with_line grammar lines line (next ∷ parts) (lines_behind grammar (lines ++ line ∷ []) (next ∷ parts))
 
 -- the lines of a report, each without its line feed; or the number, from 1, of the first that isn't in its place
 abbrev pub report_of : Grammar → List ℕ → Result (List (List ℕ)) ℕ

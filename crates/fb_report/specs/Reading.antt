@@ -29,4 +29,5 @@ pub record EndsOnce (lines : List (List ℕ)) : Type 0 where
   pub few : AllByRecursion (λ line. length (report_fields line) ≤ 16) lines
 
 abbrev pub ReportsEndOnce : Type 0
-ReportsEndOnce = (grammar : Grammar) (lines : List (List ℕ)) → (grammar ≡ fore_grammar) ⊎ (grammar ≡ back_grammar) → IsReport grammar lines → EndsOnce lines
+ReportsEndOnce = (grammar : Grammar) (lines : List (List ℕ)) → (grammar ≡ fore_grammar) ⊎ (grammar ≡ back_grammar) → IsReport grammar lines
+    → EndsOnce lines

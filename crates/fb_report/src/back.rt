@@ -38,7 +38,8 @@ pub fn back_piece(
     requires named { AllByRecursion (HasNamedTask names.now) run.now.back }
     requires piece { k < length run.now.back + 2 }
     ensures value { IfOk result (λ line. slice_get (back_lines names.now sector_bytes bytes run.now) k ≡ Some line.items) }
-    ensures form { IfOk result (λ line. 0 < sector_bytes → AreNames names.now → AllByRecursion CountsSectors run.now.back → IsLine (is_in_place back_grammar (length run.now.back + 2) k) line.items) }
+    ensures form { IfOk result (λ line. 0 < sector_bytes → AreNames names.now → AllByRecursion CountsSectors run.now.back
+        → IsLine (is_in_place back_grammar (length run.now.back + 2) k) line.items) }
 {
     let rows = run.back.len() as u64;
     if k == 0 {

@@ -2,7 +2,9 @@
 ghost use Rattle.std.specs.Prelude.{◌≡◌, ◌<◌, ◌%◌, ◌^◌, [], ◌∷◌, codes, length, OnOk, IfOk};
 ghost use Rattle.std.specs.List.{sum_by};
 ghost use Rattle.fb_report.specs.Lines.{with_fields};
-ghost use Rattle.fb_report.specs.Back.{back_line, bad_line, complete_line, gap_fields, gap_line, got_fields, got_line, how_text, idle_line, is_complete_text, plan_fields, seal_line, segment_fields, segment_line, task_fields, task_kind_text, task_line};
+ghost use Rattle.fb_report.specs.Back.{back_line, bad_line, complete_line, gap_fields, gap_line, got_fields, got_line, how_text, idle_line};
+ghost use Rattle.fb_report.specs.Back.{is_complete_text, plan_fields, seal_line, segment_fields, segment_line, task_fields, task_kind_text};
+ghost use Rattle.fb_report.specs.Back.{task_line};
 ghost use Rattle.fb_report.specs.Grammar.{are_bytes, back_grammar, is_number, is_track, is_word};
 ghost use Rattle.fb_report.specs.Printed.{AreNames, AreOneOf, CountsSectors, HasSectors, IsField, IsLine, is_row};
 ghost use Rattle.fb_rows.specs.Tasks.{HasNamedTask};
@@ -31,7 +33,8 @@ pub fn back_line(
     requires whole { sector_bytes % 16 ≡ 0 }
     requires named { HasNamedTask names.now row.now }
     ensures value { IfOk result (λ line. line.items ≡ back_line names.now sector_bytes bytes row.now) }
-    ensures form { IfOk result (λ line. 0 < sector_bytes → AreNames names.now → CountsSectors row.now → IsLine (is_row back_grammar) line.items) }
+    ensures form { IfOk result
+        (λ line. 0 < sector_bytes → AreNames names.now → CountsSectors row.now → IsLine (is_row back_grammar) line.items) }
 {
     match row {
         BackRow::Gap(row) => gap_line(alloc, row),
@@ -68,7 +71,8 @@ fn push_gap(line: &mut Line, row: &GapRow) -> Result<(), NoMemory>
 
 fn push_plan(line: &mut Line, plan: Plan) -> Result<(), NoMemory>
     ensures value { OnOk result (line.new ≡ with_fields line.old (plan_fields plan)) }
-    ensures form { OnOk result (AreOneOf ((is_word (codes "direct") ∷ is_number ∷ []) ∷ (is_word (codes "detour") ∷ is_track ∷ is_number ∷ []) ∷ []) (plan_fields plan)) }
+    ensures form { OnOk result (AreOneOf ((is_word (codes "direct") ∷ is_number ∷ [])
+        ∷ (is_word (codes "detour") ∷ is_track ∷ is_number ∷ []) ∷ []) (plan_fields plan)) }
 {
     match plan {
         Plan::Direct { leave } => {
@@ -104,7 +108,8 @@ fn got_line(
     requires whole { sector_bytes % 16 ≡ 0 }
     requires named { row.now.block.task < length names.now }
     ensures value { IfOk result (λ line. line.items ≡ got_line names.now sector_bytes bytes row.now) }
-    ensures form { IfOk result (λ line. 0 < sector_bytes → AreNames names.now → HasSectors row.now.content → IsLine (is_row back_grammar) line.items) }
+    ensures form { IfOk result
+        (λ line. 0 < sector_bytes → AreNames names.now → HasSectors row.now.content → IsLine (is_row back_grammar) line.items) }
 {
     let found = shown(alloc, &row.content, sector_bytes, bytes)?;
     let mut line = Line::new(alloc, b"got")?;
@@ -121,7 +126,8 @@ fn push_delivery(
 ) -> Result<(), NoMemory>
     requires named { row.now.block.task < length names.now }
     ensures value { OnOk result (line.new ≡ with_fields line.old (got_fields names.now row.now found.now)) }
-    ensures form { OnOk result (AreNames names.now → IsField are_bytes found.now → AreOneOf back_grammar.rows (codes "got" ∷ got_fields names.now row.now found.now)) }
+    ensures form { OnOk result (AreNames names.now → IsField are_bytes found.now
+        → AreOneOf back_grammar.rows (codes "got" ∷ got_fields names.now row.now found.now)) }
 {
     line.task(names, row.block.task)?;
     line.number(row.block.number as u64)?;
@@ -165,7 +171,8 @@ fn seal_line(
     requires whole { sector_bytes % 16 ≡ 0 }
     requires named { row.now.task < length names.now }
     ensures value { IfOk result (λ line. line.items ≡ seal_line names.now sector_bytes bytes row.now) }
-    ensures form { IfOk result (λ line. AreNames names.now → sum_by (λ run. run.count) row.now.content < 2 ^ 64 → IsLine (is_row back_grammar) line.items) }
+    ensures form { IfOk result
+        (λ line. AreNames names.now → sum_by (λ run. run.count) row.now.content < 2 ^ 64 → IsLine (is_row back_grammar) line.items) }
 {
     let digest = shown(alloc, &row.content, sector_bytes, bytes.digested())?;
     let mut line = Line::new(alloc, b"seal")?;
@@ -203,7 +210,8 @@ fn push_segment(
 ) -> Result<(), NoMemory>
     requires named { row.now.task < length names.now }
     ensures value { OnOk result (line.new ≡ with_fields line.old (segment_fields names.now row.now digest.now)) }
-    ensures form { OnOk result (AreNames names.now → IsField are_bytes digest.now → AreOneOf back_grammar.rows (codes "seg" ∷ segment_fields names.now row.now digest.now)) }
+    ensures form { OnOk result (AreNames names.now → IsField are_bytes digest.now
+        → AreOneOf back_grammar.rows (codes "seg" ∷ segment_fields names.now row.now digest.now)) }
 {
     line.task(names, row.task)?;
     line.number(row.segment as u64)?;

@@ -35,7 +35,8 @@ pub fn fore_piece(
     requires whole { sector_bytes % 16 ≡ 0 }
     requires piece { k < length run.now.fore + 2 }
     ensures value { IfOk result (λ line. slice_get (fore_lines sector_bytes bytes run.now) k ≡ Some line.items) }
-    ensures form { IfOk result (λ line. 0 < sector_bytes → AllByRecursion ReadsSectors run.now.fore → IsLine (is_in_place fore_grammar (length run.now.fore + 2) k) line.items) }
+    ensures form { IfOk result (λ line. 0 < sector_bytes → AllByRecursion ReadsSectors run.now.fore
+        → IsLine (is_in_place fore_grammar (length run.now.fore + 2) k) line.items) }
 {
     let rows = run.fore.len() as u64;
     if k == 0 {
@@ -90,7 +91,8 @@ pub fn fore_line(
 // Adds the fields of a row behind its name, with the bytes that it found.
 fn push_row(line: &mut Line, row: &ForeRow, found: &[u8]) -> Result<(), NoMemory>
     ensures value { OnOk result (line.new ≡ with_fields line.old (row_fields row.now found.now)) }
-    ensures form { OnOk result (IsField are_bytes found.now → AreFields (is_one_of (codes "R" ∷ codes "W" ∷ []) ∷ numbers 7 ++ are_bytes ∷ []) (row_fields row.now found.now)) }
+    ensures form { OnOk result (IsField are_bytes found.now
+        → AreFields (is_one_of (codes "R" ∷ codes "W" ∷ []) ∷ numbers 7 ++ are_bytes ∷ []) (row_fields row.now found.now)) }
 {
     let count = row.request.count;
     let bad = bad_count(row);

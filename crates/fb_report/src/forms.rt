@@ -117,10 +117,12 @@ fn is_lower_hex(byte: u8) -> bool
 
 /// The text before the first `stop` byte and the text behind it; none if there is no such byte.
 pub fn split_once(text: &[u8], stop: u8) -> Option<(&[u8], &[u8])>
-    ensures some { IfSome result (λ parts. (position_or_len (λ byte. byte == stop) text.now < length text.now) × (parts.0.now ≡ before_first (λ byte. byte == stop) text.now) × (parts.1.now ≡ after_first (λ byte. byte == stop) text.now)) }
+    ensures some { IfSome result (λ parts. (position_or_len (λ byte. byte == stop) text.now < length text.now)
+        × (parts.0.now ≡ before_first (λ byte. byte == stop) text.now) × (parts.1.now ≡ after_first (λ byte. byte == stop) text.now)) }
     ensures none { IfNone result (position_or_len (λ byte. byte == stop) text.now ≡ length text.now) }
     ensures shorter { IfSome result (λ parts. length parts.1.now < length text.now) }
-    ensures split { MatchOption result (slice_split (λ byte. byte == stop) text.now ≡ text.now ∷ []) (λ parts. slice_split (λ byte. byte == stop) text.now ≡ parts.0.now ∷ slice_split (λ byte. byte == stop) parts.1.now) }
+    ensures split { MatchOption result (slice_split (λ byte. byte == stop) text.now ≡ text.now ∷ [])
+        (λ parts. slice_split (λ byte. byte == stop) text.now ≡ parts.0.now ∷ slice_split (λ byte. byte == stop) parts.1.now) }
 {
     let place = place_of(text, stop);
     if place < text.len() {

@@ -119,7 +119,8 @@ fn end<'a>(
     line: &'a [u8],
     behind: &[u8],
 ) -> Result<ReportLines<'a>, ReportsError>
-    ensures { AnswersReport report result (ended_with (map (λ text. text.now) lines.entry.items) line.now (slice_split (λ byte. byte == 10) behind.now)) }
+    ensures { AnswersReport report result
+        (ended_with (map (λ text. text.now) lines.entry.items) line.now (slice_split (λ byte. byte == 10) behind.now)) }
 {
     if behind.is_empty() {
         lines.push(line)?;

@@ -17,7 +17,8 @@ pub fn pour<S: Sink>(
     sector_bytes: u32,
 ) -> Result<(), NoMemory>
     requires whole { sector_bytes % 16 ≡ 0 }
-    ensures { OnOk result ((before : List ℕ) → S.took sink.old before → S.took sink.new (before ++ contents_bytes sector_bytes contents.now)) }
+    ensures { OnOk result ((before : List ℕ) → S.took sink.old before
+        → S.took sink.new (before ++ contents_bytes sector_bytes contents.now)) }
 {
     let mut buffer = vec![in alloc; 0; sector_bytes as usize]?;
     let sector = buffer.as_mut_slice();

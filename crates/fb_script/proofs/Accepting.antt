@@ -1,5 +1,6 @@
 -- What is accepted obeys the rules.
-use Rattle.std.proofs.Common.{◌≡◌, ℕ, ◌+◌, ◌*◌, ◌^◌, ◌<◌, ◌≤◌, Bool, true, false, not, ◌&&◌, nat_le, nat_lt, nat_eq, List, length, max, get_or, Some, Result, Ok, position, is_some, refl, sym, ap, ◌∙◌, subst, arith}
+use Rattle.std.proofs.Common.{◌≡◌, ℕ, ◌+◌, ◌*◌, ◌^◌, ◌<◌, ◌≤◌, Bool, true, false, not, ◌&&◌, nat_le, nat_lt, nat_eq, List, length, max}
+use Rattle.std.proofs.Common.{get_or, Some, Result, Ok, position, is_some, refl, sym, ap, ◌∙◌, subst, arith}
 use Rattle.fb_units.proofs.Lists.{same_Ok}
 use Rattle.fb_units.specs.Judging.{◌>>◌, or_refuse, refuse}
 use Rattle.fb_units.proofs.Judged.{both_ok, value_ok, test_ok}
@@ -9,7 +10,9 @@ use Rattle.fb_geometry.specs.Places.{places}
 use Rattle.fb_calls.specs.declared.call.Action.{Action}
 use Rattle.fb_calls.specs.declared.call.Action.TheVariants.{Open, Want, Abort, Promote, Suspend, Resume, Close, Segment}
 use Rattle.fb_script.specs.declared.opened_task.OpenedTask.{OpenedTask}
-use Rattle.fb_script.specs.declared.fault.CallsReason.TheVariants.{TaskTaken, UnknownTask, Closed, WrongKind, WantedTwice, Empty, BeyondDisk, TooLarge, WeightOutOfRange, BlockOutOfRange, TooManyBlocks, TooMany}
+use Rattle.fb_script.specs.declared.fault.CallsReason.TheVariants.{TaskTaken, UnknownTask, Closed, WrongKind, WantedTwice, Empty}
+use Rattle.fb_script.specs.declared.fault.CallsReason.TheVariants.{BeyondDisk, TooLarge, WeightOutOfRange, BlockOutOfRange, TooManyBlocks}
+use Rattle.fb_script.specs.declared.fault.CallsReason.TheVariants.{TooMany}
 use Rattle.fb_calls.specs.Allowed.{IsRange, IsOpen, MayAsk, tasks, terms_of, has_want}
 use Rattle.fb_calls.specs.Blocks.{blocks_in, reads_in}
 use Rattle.fb_script.specs.Judgement.{Progress, is_beyond, some_on_disk, are_too_many, opened, allowed, allowed_for, task_for}
@@ -25,7 +28,8 @@ use Rattle.fb_calls.specs.declared.call.Kind.TheVariants.{Plain}
 use Rattle.std.specs.Str.{bytes_eq}
 
 -- if a check and those after it didn't refuse, its test doesn't hold, and those after it didn't refuse
-pub passed : {E B : Type 0} (reason : E) (test : Bool) (rest : Result B E) (b : B) → (refuse reason test >> rest) ≡ Ok b → (test ≡ false) × (rest ≡ Ok b)
+pub passed : {E B : Type 0} (reason : E) (test : Bool) (rest : Result B E) (b : B) → (refuse reason test >> rest) ≡ Ok b
+    → (test ≡ false) × (rest ≡ Ok b)
 passed reason true rest b given = cc
 passed reason false rest b given = (refl, given)
 
@@ -53,10 +57,12 @@ IsWithinEntry entry = (entry.instant ≤ 10 ^ 15) × ((action : Action) → entr
 -- what an action may ask for of a session
 abbrev pub MayAskOn : Shape → Progress → OpenedTask → Action → Type 0
 MayAskOn disk so_far session (Open kind weight block) = Unit {0}
-MayAskOn disk so_far session (Want first count) = (is_clean session.kind ≡ false) × (is_backup session.kind && session.wanted ≡ false) × IsRange disk first count
+MayAskOn disk so_far session (Want first count) =
+    (is_clean session.kind ≡ false) × (is_backup session.kind && session.wanted ≡ false) × IsRange disk first count
 MayAskOn disk so_far session (Abort first count) = (is_clean session.kind ≡ false) × IsRange disk first count
 MayAskOn disk so_far session (Promote first count) = IsRange disk first count × (count ≤ 2048)
-MayAskOn disk so_far session (Segment first blocks age live) = (is_clean session.kind ≡ true) × (first + blocks * session.block ≤ length (places disk)) × (blocks ≤ 4096)
+MayAskOn disk so_far session (Segment first blocks age live) =
+    (is_clean session.kind ≡ true) × (first + blocks * session.block ≤ length (places disk)) × (blocks ≤ 4096)
 MayAskOn disk so_far session _ = Unit {0}
 
 -- how much there may be with an action
@@ -65,7 +71,8 @@ pub record IsRoomFor (disk : Shape) (so_far : Progress) (session : OpenedTask) (
   pub reads : so_far.reads + reads_in action ≤ max (10 ^ 6) so_far.reads
 
 module _ (disk : Shape) (so_far : Progress) (few : so_far.blocks ≤ 16 * 10 ^ 6) (session : OpenedTask) where
-  pub allowed_passed : (action : Action) (u : Unit {0}) → allowed disk so_far session action ≡ Ok u → MayAskOn disk so_far session action × IsRoomFor disk so_far session action
+  pub allowed_passed : (action : Action) (u : Unit {0}) → allowed disk so_far session action ≡ Ok u
+      → MayAskOn disk so_far session action × IsRoomFor disk so_far session action
   unfolding allowed
   allowed_passed (Open kind weight block) u given = (tt, record { blocks = omega arith; reads = omega arith })
   allowed_passed (Want first count) u given =
@@ -81,7 +88,10 @@ module _ (disk : Shape) (so_far : Progress) (few : so_far.blocks ≤ 16 * 10 ^ 6
       let range = both_ok (some_on_disk disk first count) _ u given in
       let large = passed TooLarge (nat_lt 2048 count) _ u range.2 in
       let many = test_ok TooMany (nat_lt (10 ^ 6) (so_far.reads + 1)) u large.1 in
-      ((range_passed disk first count range.0 range.1, grind (arith, nat_tests)), record { blocks = omega arith; reads = grind (arith, nat_tests) })
+      (
+        (range_passed disk first count range.0 range.1, grind (arith, nat_tests)),
+        record { blocks = omega arith; reads = grind (arith, nat_tests) },
+      )
   allowed_passed Suspend u given = (tt, record { blocks = omega arith; reads = omega arith })
   allowed_passed Resume u given = (tt, record { blocks = omega arith; reads = omega arith })
   allowed_passed Close u given = (tt, record { blocks = omega arith; reads = omega arith })
@@ -89,8 +99,12 @@ module _ (disk : Shape) (so_far : Progress) (few : so_far.blocks ≤ 16 * 10 ^ 6
       let kind = passed WrongKind (not (is_clean session.kind)) _ u given in
       let inside = passed BeyondDisk (is_beyond disk first (blocks * session.block)) _ u kind.1 in
       let large = passed TooLarge (nat_lt 4096 blocks) _ u inside.1 in
-      let room = test_ok TooManyBlocks (are_too_many so_far.blocks (blocks_in disk session.block (Segment first blocks age live))) u large.1 in
-      ((grind (arith, nat_tests), grind (arith, nat_tests), grind (arith, nat_tests)), record { blocks = grind (arith, nat_tests); reads = omega arith })
+      let room =
+      test_ok TooManyBlocks (are_too_many so_far.blocks (blocks_in disk session.block (Segment first blocks age live))) u large.1 in
+      (
+        (grind (arith, nat_tests), grind (arith, nat_tests), grind (arith, nat_tests)),
+        record { blocks = grind (arith, nat_tests); reads = omega arith },
+      )
 
 -- the task that an action is for
 abbrev pub IsPlace : Progress → ℕ → Action → Type 0
@@ -123,7 +137,8 @@ module _ (disk : Shape) (traced : ℕ) (so_far : Progress) (knows : Knows disk t
   pub same_block : (task : ℕ) → (session_of so_far.sessions task).block ≡ (terms_of so_far.calls task).block
   same_block task = ap (λ known. known.1) (same_terms task)
 
-  admits_open : (kind : Kind) (weight block task : ℕ) (name : List ℕ) → opened so_far.names name weight block ≡ Ok task → Admits disk so_far task (Open kind weight block)
+  admits_open : (kind : Kind) (weight block task : ℕ) (name : List ℕ) → opened so_far.names name weight block ≡ Ok task
+      → Admits disk so_far task (Open kind weight block)
   unfolding opened
   admits_open kind weight block task name given =
       let free = passed TaskTaken (is_some (task_of so_far.names name)) _ task given in
@@ -131,7 +146,13 @@ module _ (disk : Shape) (traced : ℕ) (so_far : Progress) (knows : Knows disk t
       let large = passed BlockOutOfRange (not (nat_le 1 block && nat_le block 2048)) _ task heavy.1 in
       let number : length so_far.names ≡ task = same_Ok (length so_far.names) task large.1 in
       record {
-        may = (sym number ∙ knows.names_are, grind (arith, nat_tests), grind (arith, nat_tests), grind (arith, nat_tests), grind (arith, nat_tests));
+        may = (
+          sym number ∙ knows.names_are,
+          grind (arith, nat_tests),
+          grind (arith, nat_tests),
+          grind (arith, nat_tests),
+          grind (arith, nat_tests),
+        );
         place = (sym number ∙ (knows.names_are ∙ sym same_length), grind (arith, nat_tests));
         room = record { blocks = omega (arith, knows.few_blocks); reads = omega arith };
       }
@@ -140,10 +161,12 @@ module _ (disk : Shape) (traced : ℕ) (so_far : Progress) (knows : Knows disk t
     is_open : IsOpen so_far.calls task
     is_open = record { opened = omega (arith, knows.names_are, inside); not_closed = sym (knows.closed task) ∙ unclosed }
 
-    may_ask : (action : Action) → IsOnSession action → IsSpelled action → MayAskOn disk so_far (session_of so_far.sessions task) action → MayAsk disk so_far.calls task action
+    may_ask : (action : Action) → IsOnSession action → IsSpelled action → MayAskOn disk so_far (session_of so_far.sessions task) action
+        → MayAsk disk so_far.calls task action
     may_ask (Open kind weight block) on spelled may = absurd on
     may_ask (Want first count) on spelled may =
-        (is_open, ap is_clean (sym (same_kind task)) ∙ may.0, ap (λ kind. is_backup kind && has_want so_far.calls task) (sym (same_kind task)) ∙ (ap (λ w. is_backup (session_of so_far.sessions task).kind && w) (sym (knows.wanted task)) ∙ may.1), may.2)
+        (is_open, ap is_clean (sym (same_kind task)) ∙ may.0, ap (λ kind. is_backup kind && has_want so_far.calls task) (sym
+        (same_kind task)) ∙ (ap (λ w. is_backup (session_of so_far.sessions task).kind && w) (sym (knows.wanted task)) ∙ may.1), may.2)
     may_ask (Abort first count) on spelled may = (is_open, ap is_clean (sym (same_kind task)) ∙ may.0, may.1)
     may_ask (Promote first count) on spelled may = (is_open, may.0, may.1)
     may_ask Suspend on spelled may = is_open
@@ -153,7 +176,8 @@ module _ (disk : Shape) (traced : ℕ) (so_far : Progress) (knows : Knows disk t
       is_open,
       ap is_clean (sym (same_kind task)) ∙ may.0,
       record {
-        some = some_product blocks (terms_of so_far.calls task).block spelled.0 (subst (λ block. 1 ≤ block) (same_block task) (knows.sizes task));
+        some = some_product blocks (terms_of so_far.calls task).block spelled.0 (subst (λ block. 1 ≤ block) (same_block task)
+            (knows.sizes task));
         inside = subst (λ block. first + blocks * block ≤ length (places disk)) (same_block task) may.1;
       },
       may.2,
@@ -171,7 +195,8 @@ module _ (disk : Shape) (traced : ℕ) (so_far : Progress) (knows : Knows disk t
     place_on Close on = omega (arith, inside, knows.names_are, same_length)
     place_on (Segment first blocks age live) on = omega (arith, inside, knows.names_are, same_length)
 
-  admits_on : (action : Action) (task : ℕ) (name : List ℕ) → IsOnSession action → IsSpelled action → allowed_for disk so_far name action ≡ Ok task → Admits disk so_far task action
+  admits_on : (action : Action) (task : ℕ) (name : List ℕ) → IsOnSession action → IsSpelled action
+      → allowed_for disk so_far name action ≡ Ok task → Admits disk so_far task action
   unfolding allowed_for
   admits_on action task name on spelled given =
       let found = both_ok (or_refuse UnknownTask (task_of so_far.names name)) _ task given in
@@ -179,14 +204,16 @@ module _ (disk : Shape) (traced : ℕ) (so_far : Progress) (knows : Knows disk t
       let may = both_ok (allowed disk so_far (session_of so_far.sessions found.0) action) _ task unclosed.1 in
       let same : found.0 ≡ task = same_Ok found.0 task may.2 in
       let facts = allowed_passed disk so_far knows.few_blocks (session_of so_far.sessions found.0) action may.0 may.1 in
-      let inside = position_inside (bytes_eq name) so_far.names found.0 (value_ok UnknownTask (task_of so_far.names name) found.0 found.1) in
+      let inside =
+      position_inside (bytes_eq name) so_far.names found.0 (value_ok UnknownTask (task_of so_far.names name) found.0 found.1) in
       subst (λ t. Admits disk so_far t action) same (record {
         may = may_ask found.0 inside unclosed.0 action on spelled facts.0;
         place = place_on found.0 inside unclosed.0 action on;
         room = facts.1;
       })
 
-  pub admits : (action : Action) (task : ℕ) (name : List ℕ) → IsSpelled action → task_for disk so_far name action ≡ Ok task → Admits disk so_far task action
+  pub admits : (action : Action) (task : ℕ) (name : List ℕ) → IsSpelled action → task_for disk so_far name action ≡ Ok task
+      → Admits disk so_far task action
   unfolding task_for
   admits (Open kind weight block) task name spelled given = admits_open kind weight block task name given
   admits (Want first count) task name spelled given = admits_on (Want first count) task name tt spelled given

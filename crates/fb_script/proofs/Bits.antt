@@ -1,5 +1,6 @@
 -- The blocks that hexadecimal digits stand for.
-use Rattle.std.proofs.Common.{◌+◌, ◌≡◌, ℕ, zero, suc, ◌*◌, ◌/◌, ◌%◌, ◌<◌, ◌≤◌, true, false, List, [], ◌∷◌, length, get_or, take, length-take, inl, inr, refl, arith, ◌∙◌}
+use Rattle.std.proofs.Common.{◌+◌, ◌≡◌, ℕ, zero, suc, ◌*◌, ◌/◌, ◌%◌, ◌<◌, ◌≤◌, true, false, List, [], ◌∷◌, length, get_or, take}
+use Rattle.std.proofs.Common.{length-take, inl, inr, refl, arith, ◌∙◌}
 use Rattle.std.specs.Char.{is_digit}
 use Rattle.std.specs.List.{list_all}
 use Rattle.std.proofs.lemmas.Bool.{cases_lt}
@@ -13,7 +14,8 @@ length-bits [] = refl
 length-bits (digit ∷ digits) = let rest = length-bits digits in omega arith
 
 -- whether a block is live is a bit of the digit that has it
-pub bit_at : (digits : List ℕ) (block : ℕ) → block < 4 * length digits → get_or (bits digits) block false ≡ get_or (bits_of (get_or digits (block / 4) 0)) (block % 4) false
+pub bit_at : (digits : List ℕ) (block : ℕ) → block < 4 * length digits
+    → get_or (bits digits) block false ≡ get_or (bits_of (get_or digits (block / 4) 0)) (block % 4) false
 unfolding bits
 bit_at [] block h = absurd (omega arith)
 bit_at (digit ∷ digits) zero h = refl
@@ -46,11 +48,13 @@ no_bit (suc (suc (suc zero))) = refl
 no_bit (suc (suc (suc (suc k)))) = refl
 
 -- a zero stands for four blocks that aren't live
-pub zero_dead : (blocks : ℕ) (digits : List ℕ) (i : ℕ) → i % 4 ≡ 0 → i < 4 * length digits → get_or digits (i / 4) 0 ≡ 48 → (k : ℕ) → k < 4 → get_or (take blocks (bits digits)) (i + k) false ≡ false
+pub zero_dead : (blocks : ℕ) (digits : List ℕ) (i : ℕ) → i % 4 ≡ 0 → i < 4 * length digits → get_or digits (i / 4) 0 ≡ 48 → (k : ℕ) → k < 4
+    → get_or (take blocks (bits digits)) (i + k) false ≡ false
 zero_dead blocks digits i multiple inside no_digit k small = elim (cases_lt (i + k) blocks) [
   | inl within ↦
       let digit : (i + k) / 4 ≡ i / 4 = omega arith in
       let place : (i + k) % 4 ≡ k = omega arith in
-      get_or-take blocks (bits digits) (i + k) false (omega arith) ∙ bit_at digits (i + k) (omega arith) ∙ rw (digit, place, no_digit) (no_bit k)
+      get_or-take blocks (bits digits) (i + k) false (omega arith) ∙ bit_at digits (i + k) (omega arith)
+      ∙ rw (digit, place, no_digit) (no_bit k)
   | inr past ↦ get_or_past (take blocks (bits digits)) (i + k) false (omega (arith, length-take blocks (bits digits)))
 ]

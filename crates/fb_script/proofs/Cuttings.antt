@@ -18,10 +18,12 @@ module _ (disk : Shape) (block : ℕ) (some : 0 < block) where
   ]
 
   -- a sector before blocks that hold so many sectors
-  one_more : (lbn n : ℕ) (cuts : List Cut) → n + (lbn + 1) % block ≤ block * length cuts → suc n + lbn % block ≤ block * length (with_sector disk block lbn cuts)
+  one_more : (lbn n : ℕ) (cuts : List Cut) → n + (lbn + 1) % block ≤ block * length cuts
+      → suc n + lbn % block ≤ block * length (with_sector disk block lbn cuts)
   one_more lbn n [] held = let rest = mod-lt lbn some in omega arith
   one_more lbn n (cut ∷ cuts) held = elim (cases_Bool (is_cut_before disk block (lbn + 1))) [
-    | inl here ↦ rw here (let rest = mod-lt lbn some in let next = mod-lt (lbn + 1) some in let more : block * (1 + length (cut ∷ cuts)) ≡ block + block * length (cut ∷ cuts) = omega arith in omega arith)
+    | inl here ↦ rw here (let rest = mod-lt lbn some in let next = mod-lt (lbn + 1) some in
+        let more : block * (1 + length (cut ∷ cuts)) ≡ block + block * length (cut ∷ cuts) = omega arith in omega arith)
     | inr goes_on ↦ rw goes_on (let step = next_rest lbn (λ multiple. absurd (grind (arith, nat_tests))) in omega arith)
   ]
 

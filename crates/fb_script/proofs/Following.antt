@@ -1,5 +1,6 @@
 -- A script with one more call.
-use Rattle.std.proofs.Common.{◌≡◌, ℕ, ◌+◌, ◌*◌, ◌^◌, ◌≤◌, List, [], ◌∷◌, ◌++◌, length, map, length-append, append_assoc, append-nil, refl, sym, ap, subst, arith}
+use Rattle.std.proofs.Common.{◌≡◌, ℕ, ◌+◌, ◌*◌, ◌^◌, ◌≤◌, List, [], ◌∷◌, ◌++◌, length, map, length-append, append_assoc, append-nil, refl}
+use Rattle.std.proofs.Common.{sym, ap, subst, arith}
 use Rattle.std.specs.List.{AllByRecursion}
 use Rattle.fb_units.specs.Rising.{IsRising}
 use Rattle.fb_geometry.specs.Shape.{Shape}
@@ -37,14 +38,22 @@ pub record Knows (disk : Shape) (traced : ℕ) (so_far : Progress) : Type 0 wher
   pub last : AllByRecursion (λ instant. instant ≤ so_far.instant) (map (λ call. call.instant) so_far.calls)
 
 -- allowed calls with one more that is allowed after them are allowed
-pub allowed_push : (disk : Shape) (before calls : List Call) (call : Call) → AreAllowed disk before calls → call.instant ≤ 10 ^ 15 → MayAsk disk (before ++ calls) call.task call.action
+pub allowed_push : (disk : Shape) (before calls : List Call) (call : Call) → AreAllowed disk before calls → call.instant ≤ 10 ^ 15
+    → MayAsk disk (before ++ calls) call.task call.action
     → AreAllowed disk before (calls ++ call ∷ [])
-allowed_push disk before [] call allowed early may = (early, subst (λ front. MayAsk disk front call.task call.action) (append-nil before) may, tt)
+allowed_push disk before [] call allowed early may =
+    (early, subst (λ front. MayAsk disk front call.task call.action) (append-nil before) may, tt)
 allowed_push disk before (first ∷ calls) call allowed early may =
-    (allowed.0, allowed.1, allowed_push disk (before ++ first ∷ []) calls call allowed.2 early (subst (λ front. MayAsk disk front call.task call.action) (sym (append_assoc before (first ∷ []) calls)) may))
+    (
+      allowed.0,
+      allowed.1,
+      allowed_push disk (before ++ first ∷ []) calls call allowed.2 early
+          (subst (λ front. MayAsk disk front call.task call.action) (sym (append_assoc before (first ∷ []) calls)) may),
+    )
 
 pub blocks_from-push : (disk : Shape) (before calls : List Call) (call : Call)
-    → blocks_from disk before (calls ++ call ∷ []) ≡ blocks_from disk before calls + blocks_in disk (terms_of (before ++ calls) call.task).block call.action
+    → blocks_from disk before (calls ++ call ∷ [])
+    ≡ blocks_from disk before calls + blocks_in disk (terms_of (before ++ calls) call.task).block call.action
 blocks_from-push disk before [] call = rw (append-nil before) (omega arith)
 blocks_from-push disk before (first ∷ calls) call =
     let rest = blocks_from-push disk (before ++ first ∷ []) calls call in
@@ -61,8 +70,14 @@ length-read_of n call Resume = refl
 length-read_of n call Close = refl
 length-read_of n call (Segment first blocks age live) = refl
 
-pub reads-push : (n : ℕ) (calls : List Call) (call : Call) → length (promoted_from n (calls ++ call ∷ [])) ≡ length (promoted_from n calls) + reads_in call.action
+pub reads-push : (n : ℕ) (calls : List Call) (call : Call)
+    → length (promoted_from n (calls ++ call ∷ [])) ≡ length (promoted_from n calls) + reads_in call.action
 reads-push n [] call = omega (arith, length-append (read_of n call call.action) [], length-read_of n call call.action)
 reads-push n (first ∷ calls) call =
     let reads = read_of n first first.action in
-    omega (arith, length-append reads (promoted_from (n + length reads) (calls ++ call ∷ [])), length-append reads (promoted_from (n + length reads) calls), reads-push (n + length reads) calls call)
+    omega (
+      arith,
+      length-append reads (promoted_from (n + length reads) (calls ++ call ∷ [])),
+      length-append reads (promoted_from (n + length reads) calls),
+      reads-push (n + length reads) calls call,
+    )

@@ -1,5 +1,6 @@
 -- After a call that may follow, the calls still obey the rules.
-use Rattle.std.proofs.Common.{◌≡◌, ℕ, ◌^◌, ◌≤◌, Bool, true, false, ◌&&◌, ◌||◌, nat_eq, List, [], ◌∷◌, ◌++◌, length, map, length-append, append-nil, refl, sym, ap, ◌∙◌, subst, arith}
+use Rattle.std.proofs.Common.{◌≡◌, ℕ, ◌^◌, ◌≤◌, Bool, true, false, ◌&&◌, ◌||◌, nat_eq, List, [], ◌∷◌, ◌++◌, length, map, length-append}
+use Rattle.std.proofs.Common.{append-nil, refl, sym, ap, ◌∙◌, subst, arith}
 use Rattle.std.specs.List.{AllByRecursion, list_any}
 use Rattle.std.proofs.Math.Bool.{or-false, and-false, and-true}
 use Rattle.std.proofs.lemmas.Grind.{flat_map-append}
@@ -23,7 +24,8 @@ use Rattle.fb_script.proofs.Following.{of_session, of_task, Knows, allowed_push,
 use Rattle.fb_script.proofs.Lists.{get_or-push_like, get_or-push_holds, get_or-set_like, get_or-set_marked, map-set_like}
 
 tasks-push : (calls : List Call) (call : Call) → tasks (calls ++ call ∷ []) ≡ tasks calls ++ terms_in call.action
-tasks-push calls call = flat_map-append (λ (c : Call). terms_in c.action) calls (call ∷ []) ∙ ap (λ last. tasks calls ++ last) (append-nil (terms_in call.action))
+tasks-push calls call = flat_map-append (λ (c : Call). terms_in c.action) calls (call ∷ [])
+    ∙ ap (λ last. tasks calls ++ last) (append-nil (terms_in call.action))
 
 any-push : (test : Call → Bool) (calls : List Call) (call : Call) → list_any test (calls ++ call ∷ []) ≡ (list_any test calls || test call)
 any-push test calls call = list_any-append test calls (call ∷ []) ∙ ap (λ last. list_any test calls || last) (or-false (test call))
@@ -35,22 +37,28 @@ unmarked before here = sym (ap (λ last. before || last) (and-false here) ∙ or
 marked : (before here : Bool) → (before || here) ≡ (before || (here && true))
 marked before here = ap (λ last. before || last) (sym (and-true here))
 
-terms_after : (sessions : List OpenedTask) (task : ℕ) (action : Action) (terms : List Terms) → map of_session sessions ≡ map of_task terms → map of_session (sessions_after sessions task action) ≡ map of_task (terms ++ terms_in action)
+terms_after : (sessions : List OpenedTask) (task : ℕ) (action : Action) (terms : List Terms) → map of_session sessions ≡ map of_task terms
+    → map of_session (sessions_after sessions task action) ≡ map of_task (terms ++ terms_in action)
 terms_after sessions task (Open kind weight block) terms same =
-    map_push of_session sessions (record { kind = kind; block = block; wanted = false; closed = false }) ∙ ap (λ front. front ++ (kind, block) ∷ []) same
+    map_push of_session sessions (record { kind = kind; block = block; wanted = false; closed = false })
+    ∙ ap (λ front. front ++ (kind, block) ∷ []) same
     ∙ sym (map_push of_task terms (record { kind = kind; weight = weight; block = block }))
 terms_after sessions task (Want first count) terms same =
-    map-set_like of_session sessions (record (session_of sessions task) { wanted = true }) (record { kind = Plain; block = 1; wanted = false; closed = false }) task refl ∙ same ∙ ap (map of_task) (sym (append-nil terms))
+    map-set_like of_session sessions (record (session_of sessions task) { wanted = true })
+    (record { kind = Plain; block = 1; wanted = false; closed = false }) task refl ∙ same ∙ ap (map of_task) (sym (append-nil terms))
 terms_after sessions task (Abort first count) terms same = same ∙ ap (map of_task) (sym (append-nil terms))
 terms_after sessions task (Promote first count) terms same = same ∙ ap (map of_task) (sym (append-nil terms))
 terms_after sessions task Suspend terms same = same ∙ ap (map of_task) (sym (append-nil terms))
 terms_after sessions task Resume terms same = same ∙ ap (map of_task) (sym (append-nil terms))
 terms_after sessions task Close terms same =
-    map-set_like of_session sessions (record (session_of sessions task) { closed = true }) (record { kind = Plain; block = 1; wanted = false; closed = false }) task refl ∙ same ∙ ap (map of_task) (sym (append-nil terms))
+    map-set_like of_session sessions (record (session_of sessions task) { closed = true })
+    (record { kind = Plain; block = 1; wanted = false; closed = false }) task refl ∙ same ∙ ap (map of_task) (sym (append-nil terms))
 terms_after sessions task (Segment first blocks age live) terms same = same ∙ ap (map of_task) (sym (append-nil terms))
 
-names_long : (names : List (List ℕ)) (name : List ℕ) (action : Action) (terms : List Terms) → length names ≡ length terms → length (names_after names name action) ≡ length (terms ++ terms_in action)
-names_long names name (Open kind weight block) terms same = omega (arith, length-append names (name ∷ []), length-append terms (record { kind = kind; weight = weight; block = block } ∷ []), same)
+names_long : (names : List (List ℕ)) (name : List ℕ) (action : Action) (terms : List Terms) → length names ≡ length terms
+    → length (names_after names name action) ≡ length (terms ++ terms_in action)
+names_long names name (Open kind weight block) terms same =
+    omega (arith, length-append names (name ∷ []), length-append terms (record { kind = kind; weight = weight; block = block } ∷ []), same)
 names_long names name (Want first count) terms same = omega (arith, length-append terms [], same)
 names_long names name (Abort first count) terms same = omega (arith, length-append terms [], same)
 names_long names name (Promote first count) terms same = omega (arith, length-append terms [], same)
@@ -63,59 +71,75 @@ abbrev no_session : OpenedTask
 no_session = record { kind = Plain; block = 1; wanted = false; closed = false }
 
 module _ (so_far : Progress) (task i : ℕ) where
-  closed_after : (action : Action) → IsPlace so_far task action → (session_of (sessions_after so_far.sessions task action) i).closed ≡ ((session_of so_far.sessions i).closed || (nat_eq task i && is_close action))
+  closed_after : (action : Action) → IsPlace so_far task action → (session_of (sessions_after so_far.sessions task action) i).closed
+      ≡ ((session_of so_far.sessions i).closed || (nat_eq task i && is_close action))
   closed_after (Open kind weight block) place =
-      get_or-push_like (λ (s : OpenedTask). s.closed) so_far.sessions (record { kind = kind; block = block; wanted = false; closed = false }) no_session i refl ∙ unmarked _ (nat_eq task i)
+      get_or-push_like (λ (s : OpenedTask). s.closed) so_far.sessions
+      (record { kind = kind; block = block; wanted = false; closed = false }) no_session i refl ∙ unmarked _ (nat_eq task i)
   closed_after (Want first count) place =
-      get_or-set_like (λ (s : OpenedTask). s.closed) so_far.sessions (record (session_of so_far.sessions task) { wanted = true }) no_session task i refl ∙ unmarked _ (nat_eq task i)
+      get_or-set_like (λ (s : OpenedTask). s.closed) so_far.sessions
+      (record (session_of so_far.sessions task) { wanted = true }) no_session task i refl ∙ unmarked _ (nat_eq task i)
   closed_after Close place =
-      get_or-set_marked (λ (s : OpenedTask). s.closed) so_far.sessions (record (session_of so_far.sessions task) { closed = true }) no_session task i place refl ∙ marked _ (nat_eq task i)
+      get_or-set_marked (λ (s : OpenedTask). s.closed) so_far.sessions
+      (record (session_of so_far.sessions task) { closed = true }) no_session task i place refl ∙ marked _ (nat_eq task i)
   closed_after (Abort first count) place = unmarked (session_of so_far.sessions i).closed (nat_eq task i)
   closed_after (Promote first count) place = unmarked (session_of so_far.sessions i).closed (nat_eq task i)
   closed_after Suspend place = unmarked (session_of so_far.sessions i).closed (nat_eq task i)
   closed_after Resume place = unmarked (session_of so_far.sessions i).closed (nat_eq task i)
   closed_after (Segment first blocks age live) place = unmarked (session_of so_far.sessions i).closed (nat_eq task i)
 
-  wanted_after : (action : Action) → IsPlace so_far task action → (session_of (sessions_after so_far.sessions task action) i).wanted ≡ ((session_of so_far.sessions i).wanted || (nat_eq task i && is_want action))
+  wanted_after : (action : Action) → IsPlace so_far task action → (session_of (sessions_after so_far.sessions task action) i).wanted
+      ≡ ((session_of so_far.sessions i).wanted || (nat_eq task i && is_want action))
   wanted_after (Open kind weight block) place =
-      get_or-push_like (λ (s : OpenedTask). s.wanted) so_far.sessions (record { kind = kind; block = block; wanted = false; closed = false }) no_session i refl ∙ unmarked _ (nat_eq task i)
+      get_or-push_like (λ (s : OpenedTask). s.wanted) so_far.sessions
+      (record { kind = kind; block = block; wanted = false; closed = false }) no_session i refl ∙ unmarked _ (nat_eq task i)
   wanted_after (Want first count) place =
-      get_or-set_marked (λ (s : OpenedTask). s.wanted) so_far.sessions (record (session_of so_far.sessions task) { wanted = true }) no_session task i place refl ∙ marked _ (nat_eq task i)
+      get_or-set_marked (λ (s : OpenedTask). s.wanted) so_far.sessions
+      (record (session_of so_far.sessions task) { wanted = true }) no_session task i place refl ∙ marked _ (nat_eq task i)
   wanted_after Close place =
-      get_or-set_like (λ (s : OpenedTask). s.wanted) so_far.sessions (record (session_of so_far.sessions task) { closed = true }) no_session task i refl ∙ unmarked _ (nat_eq task i)
+      get_or-set_like (λ (s : OpenedTask). s.wanted) so_far.sessions
+      (record (session_of so_far.sessions task) { closed = true }) no_session task i refl ∙ unmarked _ (nat_eq task i)
   wanted_after (Abort first count) place = unmarked (session_of so_far.sessions i).wanted (nat_eq task i)
   wanted_after (Promote first count) place = unmarked (session_of so_far.sessions i).wanted (nat_eq task i)
   wanted_after Suspend place = unmarked (session_of so_far.sessions i).wanted (nat_eq task i)
   wanted_after Resume place = unmarked (session_of so_far.sessions i).wanted (nat_eq task i)
   wanted_after (Segment first blocks age live) place = unmarked (session_of so_far.sessions i).wanted (nat_eq task i)
 
-sizes_after : (so_far : Progress) (task : ℕ) (action : Action) → IsPlace so_far task action → ((i : ℕ) → 1 ≤ (session_of so_far.sessions i).block) → (i : ℕ) → 1 ≤ (session_of (sessions_after so_far.sessions task action) i).block
+sizes_after : (so_far : Progress) (task : ℕ) (action : Action) → IsPlace so_far task action
+    → ((i : ℕ) → 1 ≤ (session_of so_far.sessions i).block) → (i : ℕ) → 1 ≤ (session_of (sessions_after so_far.sessions task action) i).block
 sizes_after so_far task (Open kind weight block) place sizes i =
-    get_or-push_holds (λ (s : OpenedTask). 1 ≤ s.block) so_far.sessions (record { kind = kind; block = block; wanted = false; closed = false }) no_session sizes place.1 i
+    get_or-push_holds (λ (s : OpenedTask). 1 ≤ s.block) so_far.sessions
+    (record { kind = kind; block = block; wanted = false; closed = false }) no_session sizes place.1 i
 sizes_after so_far task (Want first count) place sizes i =
-    subst (λ size. 1 ≤ size) (sym (get_or-set_like (λ (s : OpenedTask). s.block) so_far.sessions (record (session_of so_far.sessions task) { wanted = true }) no_session task i refl)) (sizes i)
+    subst (λ size. 1 ≤ size) (sym (get_or-set_like (λ (s : OpenedTask). s.block) so_far.sessions
+    (record (session_of so_far.sessions task) { wanted = true }) no_session task i refl)) (sizes i)
 sizes_after so_far task Close place sizes i =
-    subst (λ size. 1 ≤ size) (sym (get_or-set_like (λ (s : OpenedTask). s.block) so_far.sessions (record (session_of so_far.sessions task) { closed = true }) no_session task i refl)) (sizes i)
+    subst (λ size. 1 ≤ size) (sym (get_or-set_like (λ (s : OpenedTask). s.block) so_far.sessions
+    (record (session_of so_far.sessions task) { closed = true }) no_session task i refl)) (sizes i)
 sizes_after so_far task (Abort first count) place sizes i = sizes i
 sizes_after so_far task (Promote first count) place sizes i = sizes i
 sizes_after so_far task Suspend place sizes i = sizes i
 sizes_after so_far task Resume place sizes i = sizes i
 sizes_after so_far task (Segment first blocks age live) place sizes i = sizes i
 
-pub call_kept : (disk : Shape) (traced : ℕ) (so_far : Progress) → Knows disk traced so_far → (name : List ℕ) (call : Call) → so_far.instant ≤ call.instant → call.instant ≤ 10 ^ 15
+pub call_kept : (disk : Shape) (traced : ℕ) (so_far : Progress) → Knows disk traced so_far → (name : List ℕ) (call : Call)
+    → so_far.instant ≤ call.instant → call.instant ≤ 10 ^ 15
     → Admits disk so_far call.task call.action → Knows disk traced (with_call disk name so_far call)
 call_kept disk traced so_far knows name call later early admits =
     let calls = so_far.calls in
     let instant : Call → ℕ = λ c. c.instant in
-    let before : AllByRecursion (λ instant. instant ≤ call.instant) (map instant calls) = all_weaker (λ i. i ≤ so_far.instant) (λ i. i ≤ call.instant) (λ i le. omega arith) (map instant calls) knows.last in
+    let before : AllByRecursion (λ instant. instant ≤ call.instant) (map instant calls) =
+    all_weaker (λ i. i ≤ so_far.instant) (λ i. i ≤ call.instant) (λ i le. omega arith) (map instant calls) knows.last in
     let cut = ap (λ block. blocks_in disk block call.action) (same_block disk traced so_far knows call.task) in
     record {
       terms = terms_after so_far.sessions call.task call.action (tasks calls) knows.terms ∙ ap (map of_task) (sym (tasks-push calls call));
       names_are = names_long so_far.names name call.action (tasks calls) knows.names_are ∙ ap length (sym (tasks-push calls call));
       sizes = sizes_after so_far call.task call.action admits.place knows.sizes;
-      closed = λ task. closed_after so_far call.task task call.action admits.place ∙ ap (λ b. b || (nat_eq call.task task && is_close call.action)) (knows.closed task)
+      closed = λ task. closed_after so_far call.task task call.action admits.place
+          ∙ ap (λ b. b || (nat_eq call.task task && is_close call.action)) (knows.closed task)
           ∙ sym (any-push (λ c. nat_eq c.task task && is_close c.action) calls call);
-      wanted = λ task. wanted_after so_far call.task task call.action admits.place ∙ ap (λ b. b || (nat_eq call.task task && is_want call.action)) (knows.wanted task)
+      wanted = λ task. wanted_after so_far call.task task call.action admits.place
+          ∙ ap (λ b. b || (nat_eq call.task task && is_want call.action)) (knows.wanted task)
           ∙ sym (any-push (λ c. nat_eq c.task task && is_want c.action) calls call);
       allowed = allowed_push disk [] calls call knows.allowed early admits.may;
       blocks_are = omega (arith, blocks_from-push disk [] calls call, knows.blocks_are, cut);
@@ -123,5 +147,6 @@ call_kept disk traced so_far knows name call later early admits =
       reads_are = omega (arith, reads-push 1 calls call, knows.reads_are);
       few_reads = λ few. let reads = knows.few_reads few in omega (arith, admits.room.reads);
       rising = subst IsRising (sym (map_push instant calls call)) (rising_push (map instant calls) call.instant knows.rising before);
-      last = subst (AllByRecursion (λ i. i ≤ call.instant)) (sym (map_push instant calls call)) (all_push (λ i. i ≤ call.instant) (map instant calls) call.instant before (omega arith));
+      last = subst (AllByRecursion (λ i. i ≤ call.instant)) (sym (map_push instant calls call)) (all_push (λ i. i ≤ call.instant)
+          (map instant calls) call.instant before (omega arith));
     }

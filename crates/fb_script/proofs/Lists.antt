@@ -1,18 +1,21 @@
 -- Lists with one more element, or with one replaced.
-use Rattle.std.proofs.Common.{◌≡◌, ℕ, zero, suc, ◌<◌, Bool, true, false, ◌||◌, nat_eq, List, [], ◌∷◌, ◌++◌, length, get_or, set, map, inl, inr, refl, sym, ap, ◌∙◌, arith}
+use Rattle.std.proofs.Common.{◌≡◌, ℕ, zero, suc, ◌<◌, Bool, true, false, ◌||◌, nat_eq, List, [], ◌∷◌, ◌++◌, length, get_or, set, map, inl}
+use Rattle.std.proofs.Common.{inr, refl, sym, ap, ◌∙◌, arith}
 use Rattle.std.proofs.Math.Bool.{or-false, or-true}
 use Rattle.std.proofs.lemmas.Bool.{cases_Bool}
 use Rattle.std.proofs.lemmas.Bool.Decides.{nat_tests}
 
 -- a function has the same values at all indexes after one more element, if that has the value of the default
-pub get_or-push_like : {X Y : Type 0} (f : X → Y) (xs : List X) (x d : X) (i : ℕ) → f x ≡ f d → f (get_or (xs ++ x ∷ []) i d) ≡ f (get_or xs i d)
+pub get_or-push_like : {X Y : Type 0} (f : X → Y) (xs : List X) (x d : X) (i : ℕ) → f x ≡ f d
+    → f (get_or (xs ++ x ∷ []) i d) ≡ f (get_or xs i d)
 get_or-push_like f [] x d zero same = same
 get_or-push_like f [] x d (suc i) same = refl
 get_or-push_like f (y ∷ xs) x d zero same = refl
 get_or-push_like f (y ∷ xs) x d (suc i) same = get_or-push_like f xs x d i same
 
 -- a function has the same values at all indexes after an element is replaced by one with the same value
-pub get_or-set_like : {X Y : Type 0} (f : X → Y) (xs : List X) (y d : X) (i j : ℕ) → f y ≡ f (get_or xs i d) → f (get_or (set xs i y) j d) ≡ f (get_or xs j d)
+pub get_or-set_like : {X Y : Type 0} (f : X → Y) (xs : List X) (y d : X) (i j : ℕ) → f y ≡ f (get_or xs i d)
+    → f (get_or (set xs i y) j d) ≡ f (get_or xs j d)
 get_or-set_like f [] y d i j same = refl
 get_or-set_like f (x ∷ xs) y d zero zero same = same
 get_or-set_like f (x ∷ xs) y d zero (suc j) same = refl
@@ -26,11 +29,14 @@ same_test i j = elim (cases_Bool (nat_eq i j)) [
 ]
 
 -- a test holds where it held before, and at the index of an element that is replaced by one that passes
-pub get_or-set_marked : {X : Type 0} (f : X → Bool) (xs : List X) (y d : X) (i j : ℕ) → i < length xs → f y ≡ true → f (get_or (set xs i y) j d) ≡ (f (get_or xs j d) || nat_eq i j)
+pub get_or-set_marked : {X : Type 0} (f : X → Bool) (xs : List X) (y d : X) (i j : ℕ) → i < length xs → f y ≡ true
+    → f (get_or (set xs i y) j d) ≡ (f (get_or xs j d) || nat_eq i j)
 get_or-set_marked f [] y d i j inside marked = absurd (omega arith)
 get_or-set_marked f (x ∷ xs) y d zero zero inside marked = marked ∙ sym (or-true (f x))
-get_or-set_marked f (x ∷ xs) y d zero (suc j) inside marked = let other : nat_eq 0 (suc j) ≡ false = grind (arith, nat_tests) in rw other (sym (or-false (f (get_or xs j d))))
-get_or-set_marked f (x ∷ xs) y d (suc i) zero inside marked = let other : nat_eq (suc i) 0 ≡ false = grind (arith, nat_tests) in rw other (sym (or-false (f x)))
+get_or-set_marked f (x ∷ xs) y d zero (suc j) inside marked = let other : nat_eq 0 (suc j) ≡ false = grind (arith, nat_tests) in
+    rw other (sym (or-false (f (get_or xs j d))))
+get_or-set_marked f (x ∷ xs) y d (suc i) zero inside marked = let other : nat_eq (suc i) 0 ≡ false = grind (arith, nat_tests) in
+    rw other (sym (or-false (f x)))
 get_or-set_marked f (x ∷ xs) y d (suc i) (suc j) inside marked = rw (same_test i j) (get_or-set_marked f xs y d i j (omega arith) marked)
 
 pub map-set_like : {X Y : Type 0} (f : X → Y) (xs : List X) (y d : X) (i : ℕ) → f y ≡ f (get_or xs i d) → map f (set xs i y) ≡ map f xs
@@ -38,7 +44,8 @@ map-set_like f [] y d i same = refl
 map-set_like f (x ∷ xs) y d zero same = ap (λ z. z ∷ map f xs) same
 map-set_like f (x ∷ xs) y d (suc i) same = ap (λ zs. f x ∷ zs) (map-set_like f xs y d i same)
 
-pub get_or-push_holds : {X : Type 0} (P : X → Type 0) (xs : List X) (x d : X) → ((i : ℕ) → P (get_or xs i d)) → P x → (i : ℕ) → P (get_or (xs ++ x ∷ []) i d)
+pub get_or-push_holds : {X : Type 0} (P : X → Type 0) (xs : List X) (x d : X) → ((i : ℕ) → P (get_or xs i d)) → P x → (i : ℕ)
+    → P (get_or (xs ++ x ∷ []) i d)
 get_or-push_holds P [] x d all h zero = h
 get_or-push_holds P [] x d all h (suc i) = all zero
 get_or-push_holds P (y ∷ xs) x d all h zero = all zero

@@ -1,5 +1,6 @@
 -- The blocks of a segment, one after another.
-use Rattle.std.proofs.Common.{◌≡◌, ℕ, ◌+◌, ◌*◌, ◌<◌, false, Bool, List, [], length, take, drop, get_or, true, length-take, length-append, inl, inr, refl, sym, ap, ◌∙◌, arith}
+use Rattle.std.proofs.Common.{◌≡◌, ℕ, ◌+◌, ◌*◌, ◌<◌, false, Bool, List, [], length, take, drop, get_or, true, length-take, length-append}
+use Rattle.std.proofs.Common.{inl, inr, refl, sym, ap, ◌∙◌, arith}
 use Rattle.std.specs.Prelude.{if◌then◌else◌}
 use Rattle.std.proofs.lemmas.Bool.{cases_lt}
 use Rattle.std.proofs.lemmas.List.{drop_more, drop_all, get_or-take}
@@ -16,13 +17,17 @@ rest disk block first lives i = length (live_cuts disk block (first + i * block)
 module _ (disk : Shape) (block first : ℕ) (lives : List Bool) where
   -- the first block that is left, and those behind it
   block_first : (i j : ℕ) → j ≡ i + 1 → i < length lives
-      → rest disk block first lives i ≡ length (if get_or lives i false then cutting disk block (first + i * block) block else []) + rest disk block first lives j
+      → rest disk block first lives i
+      ≡ length (if get_or lives i false then cutting disk block (first + i * block) block else []) + rest disk block first lives j
   block_first i j next inside =
       let lbn : first + i * block + block ≡ first + j * block = rw next (omega arith) in
       rw (drop_more lives i false inside)
-      (length-append (if get_or lives i false then cutting disk block (first + i * block) block else []) (live_cuts disk block (first + i * block + block) (drop (i + 1) lives))
-      ∙ ap (λ n. length (if get_or lives i false then cutting disk block (first + i * block) block else []) + length (live_cuts disk block n (drop (i + 1) lives))) lbn
-      ∙ ap (λ k. length (if get_or lives i false then cutting disk block (first + i * block) block else []) + length (live_cuts disk block (first + j * block) (drop k lives))) (sym next))
+      (length-append (if get_or lives i false then cutting disk block (first + i * block) block else [])
+      (live_cuts disk block (first + i * block + block) (drop (i + 1) lives))
+      ∙ ap (λ n. length (if get_or lives i false then cutting disk block (first + i * block) block else [])
+      + length (live_cuts disk block n (drop (i + 1) lives))) lbn
+      ∙ ap (λ k. length (if get_or lives i false then cutting disk block (first + i * block) block else [])
+      + length (live_cuts disk block (first + j * block) (drop k lives))) (sym next))
 
   -- a block that isn't live adds nothing
   dead_first : (i j : ℕ) → j ≡ i + 1 → get_or lives i false ≡ false → rest disk block first lives i ≡ rest disk block first lives j
@@ -32,7 +37,8 @@ module _ (disk : Shape) (block first : ℕ) (lives : List Bool) where
   ]
 
   -- four blocks of which none is live add nothing
-  pub four_dead : (i : ℕ) → ((k : ℕ) → k < 4 → get_or lives (i + k) false ≡ false) → rest disk block first lives i ≡ rest disk block first lives (i + 4)
+  pub four_dead : (i : ℕ) → ((k : ℕ) → k < 4 → get_or lives (i + k) false ≡ false)
+      → rest disk block first lives i ≡ rest disk block first lives (i + 4)
   four_dead i dead =
       dead_first i (i + 1) (omega arith) (ap (λ place. get_or lives place false) (omega arith) ∙ dead 0 (omega arith))
       ∙ dead_first (i + 1) (i + 2) (omega arith) (dead 1 (omega arith))
@@ -40,8 +46,10 @@ module _ (disk : Shape) (block first : ℕ) (lives : List Bool) where
       ∙ dead_first (i + 3) (i + 4) (omega arith) (dead 3 (omega arith))
 
 -- the block at a place, and those behind it
-pub one_block : (disk : Shape) (block blocks first i : ℕ) (digits : List ℕ) (live : Bool) → is_live blocks digits ≡ true → i < blocks → live ≡ get_or (bits digits) i false
-    → rest disk block first (take blocks (bits digits)) i ≡ length (if live then cutting disk block (first + i * block) block else []) + rest disk block first (take blocks (bits digits)) (i + 1)
+pub one_block : (disk : Shape) (block blocks first i : ℕ) (digits : List ℕ) (live : Bool) → is_live blocks digits ≡ true → i < blocks
+    → live ≡ get_or (bits digits) i false
+    → rest disk block first (take blocks (bits digits)) i
+    ≡ length (if live then cutting disk block (first + i * block) block else []) + rest disk block first (take blocks (bits digits)) (i + 1)
 one_block disk block blocks first i digits live form within is =
     let lives = take blocks (bits digits) in
     let inside : i < length lives = omega (arith, length-bits digits, length-take blocks (bits digits), live_length blocks digits form) in

@@ -17,7 +17,8 @@ use Rattle.fb_script.proofs.Keeping.{call_kept}
 use Rattle.fb_script.proofs.Spelling.{entry_within}
 
 module _ (disk : Shape) (traced : ℕ) where
-  call_allowed : (number : ℕ) (so_far : Progress) (entry : Entry) (call : Call) → Knows disk traced so_far → IsWithinEntry entry → call_of disk so_far number entry ≡ Ok call
+  call_allowed : (number : ℕ) (so_far : Progress) (entry : Entry) (call : Call) → Knows disk traced so_far → IsWithinEntry entry
+      → call_of disk so_far number entry ≡ Ok call
       → Knows disk traced (with_call disk entry.name so_far call)
   unfolding call_of
   call_allowed number so_far entry call knows within given =
@@ -27,9 +28,11 @@ module _ (disk : Shape) (traced : ℕ) where
       let made : Call = record { line = number; instant = entry.instant; task = task.0; action = asked.0 } in
       let later : so_far.instant ≤ entry.instant = grind (arith, nat_tests) in
       subst (λ c. Knows disk traced (with_call disk entry.name so_far c)) (same_Ok made call task.2)
-      (call_kept disk traced so_far knows entry.name made later within.0 (admits disk traced so_far knows asked.0 task.0 entry.name (within.1 asked.0 asked.1) task.1))
+      (call_kept disk traced so_far knows entry.name made later within.0
+      (admits disk traced so_far knows asked.0 task.0 entry.name (within.1 asked.0 asked.1) task.1))
 
-  line_allowed : (number : ℕ) (so_far next : Progress) (fields : List (List ℕ)) → Knows disk traced so_far → line_read disk number so_far fields ≡ Ok next → Knows disk traced next
+  line_allowed : (number : ℕ) (so_far next : Progress) (fields : List (List ℕ)) → Knows disk traced so_far
+      → line_read disk number so_far fields ≡ Ok next → Knows disk traced next
   unfolding line_read
   line_allowed number so_far next [] knows given = subst (Knows disk traced) (same_Ok so_far next given) knows
   line_allowed number so_far next (field ∷ fields) knows given =
@@ -38,7 +41,8 @@ module _ (disk : Shape) (traced : ℕ) where
       subst (Knows disk traced) (same_Ok (with_call disk entry.0.name so_far call.0) next call.2)
       (call_allowed number so_far entry.0 call.0 knows (entry_within (field ∷ fields) entry.0 entry.1) call.1)
 
-  lines_allowed : (number : ℕ) (so_far : Progress) (lines : List (List ℕ)) (accepted : Accepted) → Knows disk traced so_far → lines_from disk number so_far lines ≡ Ok accepted
+  lines_allowed : (number : ℕ) (so_far : Progress) (lines : List (List ℕ)) (accepted : Accepted) → Knows disk traced so_far
+      → lines_from disk number so_far lines ≡ Ok accepted
       → (last : Progress) × (at_end last ≡ accepted) × Knows disk traced last
   unfolding lines_from
   lines_allowed number so_far [] accepted knows given = (so_far, same_Ok (at_end so_far) accepted given, knows)

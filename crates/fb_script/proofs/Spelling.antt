@@ -1,5 +1,6 @@
 -- What a line spells is of its form.
-use Rattle.std.proofs.Common.{◌≡◌, ℕ, ◌≤◌, Bool, not, ◌&&◌, List, [], ◌∷◌, length, take, length-take, Option, Some, None, Result, Ok, inl, inr, sym, ap, ◌∙◌, subst, arith}
+use Rattle.std.proofs.Common.{◌≡◌, ℕ, ◌≤◌, Bool, not, ◌&&◌, List, [], ◌∷◌, length, take, length-take, Option, Some, None, Result, Ok, inl}
+use Rattle.std.proofs.Common.{inr, sym, ap, ◌∙◌, subst, arith}
 use Rattle.std.proofs.lemmas.Bool.{cases_Bool}
 use Rattle.fb_units.proofs.Lists.{same_Ok}
 use Rattle.fb_units.proofs.Judged.{both_ok, value_ok, number_small, millis_small}
@@ -10,7 +11,9 @@ use Rattle.fb_calls.specs.declared.call.Action.TheVariants.{Open, Want, Abort, P
 use Rattle.fb_script.specs.declared.fault.CallsReason.{CallsReason}
 use Rattle.fb_script.specs.declared.fault.CallsReason.TheVariants.{BadLine, BadTime, BadNumber, UnknownKind}
 use Rattle.fb_script.specs.declared.words.Verb.{Verb}
-use Rattle.fb_script.specs.declared.words.Verb.TheVariants.{Open as OpenVerb, Want as WantVerb, Abort as AbortVerb, Promote as PromoteVerb, Suspend as SuspendVerb, Resume as ResumeVerb, Close as CloseVerb, Segment as SegmentVerb}
+use Rattle.fb_script.specs.declared.words.Verb.TheVariants.{Open as OpenVerb, Want as WantVerb, Abort as AbortVerb, Promote as PromoteVerb}
+use Rattle.fb_script.specs.declared.words.Verb.TheVariants.{Suspend as SuspendVerb, Resume as ResumeVerb, Close as CloseVerb}
+use Rattle.fb_script.specs.declared.words.Verb.TheVariants.{Segment as SegmentVerb}
 use Rattle.fb_script.specs.Line.{Entry, number, range_of, asked_by, has_its_fields, entry_of}
 use Rattle.fb_script.specs.Live.{bits, is_live, live_of}
 use Rattle.fb_calls.specs.Names.{is_name}
@@ -22,7 +25,10 @@ live_spelled : (blocks : ℕ) (digits : List ℕ) (live : List Bool) → live_of
 live_spelled blocks digits live given = elim (cases_Bool (is_live blocks digits)) [
   | inl form ↦
       let same : take blocks (bits digits) ≡ live = cc in
-      (live_some blocks digits form, sym (ap length same) ∙ omega (arith, length-take blocks (bits digits), length-bits digits, live_length blocks digits form))
+      (
+        live_some blocks digits form,
+        sym (ap length same) ∙ omega (arith, length-take blocks (bits digits), length-bits digits, live_length blocks digits form),
+      )
   | inr other ↦ absurd (cc)
 ]
 
@@ -33,7 +39,8 @@ AreSpelled asked = (action : Action) → asked ≡ Ok action → IsSpelled actio
 is_spelled : (made : Action) → IsSpelled made → AreSpelled (Ok made)
 is_spelled made spelled action same = subst IsSpelled (same_Ok made action same) spelled
 
-asked_spelled : (verb : Option Verb) (more : List (List ℕ)) (asked : Result Action CallsReason) → asked_by verb more ≡ Ok asked → AreSpelled asked
+asked_spelled : (verb : Option Verb) (more : List (List ℕ)) (asked : Result Action CallsReason) → asked_by verb more ≡ Ok asked
+    → AreSpelled asked
 unfolding asked_by
 asked_spelled None more asked given = λ action same. cc
 asked_spelled (Some OpenVerb) [] asked given = cc
@@ -84,4 +91,5 @@ entry_within (time ∷ verb ∷ name ∷ more) entry given =
     let whole = passed BadLine (not (has_its_fields (verb_of verb) (length more) && is_name name)) _ entry given in
     let instant = both_ok (or_refuse BadTime (millis_of time)) _ entry whole.1 in
     let asked = both_ok (asked_by (verb_of verb) more) _ entry instant.2 in
-    subst IsWithinEntry (same_Ok _ entry asked.2) (millis_small time instant.0 (value_ok BadTime (millis_of time) instant.0 instant.1), asked_spelled (verb_of verb) more asked.0 asked.1)
+    subst IsWithinEntry (same_Ok _ entry asked.2)
+    (millis_small time instant.0 (value_ok BadTime (millis_of time) instant.0 instant.1), asked_spelled (verb_of verb) more asked.0 asked.1)

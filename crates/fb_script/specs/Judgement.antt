@@ -7,7 +7,9 @@ use Rattle.fb_calls.specs.declared.call.Action.{Action}
 use Rattle.fb_calls.specs.declared.call.Action.TheVariants.{Open, Want, Abort, Promote, Segment}
 use Rattle.fb_calls.specs.declared.call.Call.{Call}
 use Rattle.fb_script.specs.declared.fault.CallsReason.{CallsReason}
-use Rattle.fb_script.specs.declared.fault.CallsReason.TheVariants.{OutOfOrder, TaskTaken, UnknownTask, Closed, WrongKind, WantedTwice, Empty, BeyondDisk, TooLarge, WeightOutOfRange, BlockOutOfRange, TooManyBlocks, TooMany}
+use Rattle.fb_script.specs.declared.fault.CallsReason.TheVariants.{OutOfOrder, TaskTaken, UnknownTask, Closed, WrongKind, WantedTwice}
+use Rattle.fb_script.specs.declared.fault.CallsReason.TheVariants.{Empty, BeyondDisk, TooLarge, WeightOutOfRange, BlockOutOfRange}
+use Rattle.fb_script.specs.declared.fault.CallsReason.TheVariants.{TooManyBlocks, TooMany}
 use Rattle.fb_script.specs.declared.opened_task.OpenedTask.{OpenedTask}
 use Rattle.fb_calls.specs.Blocks.{blocks_in, reads_in}
 use Rattle.fb_script.specs.Line.{Entry}

@@ -7,7 +7,9 @@ use Rattle.fb_calls.specs.declared.call.Action.TheVariants.{Open, Want, Abort, P
 use Rattle.fb_script.specs.declared.fault.CallsReason.{CallsReason}
 use Rattle.fb_script.specs.declared.fault.CallsReason.TheVariants.{BadLine, BadTime, BadNumber, UnknownVerb, UnknownKind}
 use Rattle.fb_script.specs.declared.words.Verb.{Verb}
-use Rattle.fb_script.specs.declared.words.Verb.TheVariants.{Open as OpenVerb, Want as WantVerb, Abort as AbortVerb, Promote as PromoteVerb, Suspend as SuspendVerb, Resume as ResumeVerb, Close as CloseVerb, Segment as SegmentVerb}
+use Rattle.fb_script.specs.declared.words.Verb.TheVariants.{Open as OpenVerb, Want as WantVerb, Abort as AbortVerb, Promote as PromoteVerb}
+use Rattle.fb_script.specs.declared.words.Verb.TheVariants.{Suspend as SuspendVerb, Resume as ResumeVerb, Close as CloseVerb}
+use Rattle.fb_script.specs.declared.words.Verb.TheVariants.{Segment as SegmentVerb}
 use Rattle.fb_script.specs.Live.{live_of}
 use Rattle.fb_calls.specs.Names.{is_name}
 use Rattle.fb_script.specs.Words.{verb_of, kind_of, fields_behind}

@@ -6,7 +6,9 @@ use Rattle.fb_units.specs.Judging.{◌>>=◌}
 use Rattle.fb_calls.specs.declared.call.Action.{Action}
 use Rattle.fb_calls.specs.declared.call.Action.TheVariants.{Open, Want, Abort, Promote, Suspend, Resume, Close, Segment}
 use Rattle.fb_script.specs.declared.entry.Asked.{Asked}
-use Rattle.fb_script.specs.declared.entry.Asked.TheVariants.{Open as AskedOpen, Want as AskedWant, Abort as AskedAbort, Promote as AskedPromote, Suspend as AskedSuspend, Resume as AskedResume, Close as AskedClose, Segment as AskedSegment}
+use Rattle.fb_script.specs.declared.entry.Asked.TheVariants.{Open as AskedOpen, Want as AskedWant, Abort as AskedAbort}
+use Rattle.fb_script.specs.declared.entry.Asked.TheVariants.{Promote as AskedPromote, Suspend as AskedSuspend, Resume as AskedResume}
+use Rattle.fb_script.specs.declared.entry.Asked.TheVariants.{Close as AskedClose, Segment as AskedSegment}
 use Rattle.fb_script.specs.declared.entry.Entry.{Entry}
 use Rattle.fb_script.specs.declared.fault.CallsReason.{CallsReason}
 use Rattle.fb_script.specs.declared.reader.Reader.{Reader}

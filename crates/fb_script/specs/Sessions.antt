@@ -22,7 +22,8 @@ names_after names name _ = names
 
 -- the sessions after an action: an open adds one, and a want and a close are noted in that of the task
 abbrev pub sessions_after : List OpenedTask → ℕ → Action → List OpenedTask
-sessions_after sessions task (Open kind weight block) = sessions ++ record { kind = kind; block = block; wanted = false; closed = false } ∷ []
+sessions_after sessions task (Open kind weight block) =
+    sessions ++ record { kind = kind; block = block; wanted = false; closed = false } ∷ []
 sessions_after sessions task (Want first count) = set sessions task (record (session_of sessions task) { wanted = true })
 sessions_after sessions task Close = set sessions task (record (session_of sessions task) { closed = true })
 sessions_after sessions task _ = sessions

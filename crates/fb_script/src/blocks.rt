@@ -15,7 +15,8 @@ pub fn count_cuts(map: &SectorMap, block: u32, first: u64, count: u64, most: u64
     requires block { 0 < block }
     requires on_disk { first + count ≤ length (places map.now) }
     requires fits { first + count < 2 ^ 64 }
-    ensures { MatchOption result (most < length (cutting map.now block first count)) (λ cuts. (cuts ≡ length (cutting map.now block first count)) × (cuts ≤ most)) }
+    ensures { MatchOption result (most < length (cutting map.now block first count))
+        (λ cuts. (cuts ≡ length (cutting map.now block first count)) × (cuts ≤ most)) }
 {
     if count / block as u64 > most {
         return None;
@@ -54,7 +55,8 @@ pub fn count_live_cuts(
     requires few { blocks ≤ 4096 }
     requires on_disk { first + blocks * block ≤ length (places map.now) }
     requires fits { first + blocks * block < 2 ^ 64 }
-    ensures { MatchOption result (most < length (live_cuts map.now block first (take blocks (bits live.now)))) (λ cuts. (cuts ≡ length (live_cuts map.now block first (take blocks (bits live.now)))) × (cuts ≤ most)) }
+    ensures { MatchOption result (most < length (live_cuts map.now block first (take blocks (bits live.now))))
+        (λ cuts. (cuts ≡ length (live_cuts map.now block first (take blocks (bits live.now)))) × (cuts ≤ most)) }
 {
     let mut i = 0;
     let mut cuts = 0;
@@ -76,7 +78,8 @@ fn count_block(map: &SectorMap, block: u32, lbn: u64, live: bool, most: u64) -> 
     requires block { 0 < block }
     requires on_disk { lbn + block ≤ length (places map.now) }
     requires fits { lbn + block < 2 ^ 64 }
-    ensures { MatchOption result (most < length (if live then cutting map.now block lbn block else [])) (λ cuts. (cuts ≡ length (if live then cutting map.now block lbn block else [])) × (cuts ≤ most)) }
+    ensures { MatchOption result (most < length (if live then cutting map.now block lbn block else []))
+        (λ cuts. (cuts ≡ length (if live then cutting map.now block lbn block else [])) × (cuts ≤ most)) }
 {
     if live {
         count_cuts(map, block, lbn, block as u64, most)

@@ -123,7 +123,8 @@ pub fn read_entry(line: &[u8]) -> Result<Entry<'_>, CallsReason>
 
 // The first field of a line and the rest of the line; `BadLine` if it has no field left.
 fn field(line: &[u8]) -> Result<(&[u8], &[u8]), CallsReason>
-    ensures { MatchResult result (λ found. fields_of line.now ≡ found.0.now ∷ fields_of found.1.now) (λ reason. (fields_of line.now ≡ []) × (reason ≡ BadLine)) }
+    ensures { MatchResult result (λ found. fields_of line.now ≡ found.0.now ∷ fields_of found.1.now)
+        (λ reason. (fields_of line.now ≡ []) × (reason ≡ BadLine)) }
 {
     match next_field(line) {
         Some(found) => Ok(found),

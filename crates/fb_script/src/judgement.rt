@@ -11,7 +11,8 @@ ghost use Rattle.fb_calls.specs.Sessions.{is_clean};
 ghost use Rattle.fb_script.specs.Sessions.{task_of};
 ghost use Rattle.fb_script.specs.Judgement.{is_beyond, some_on_disk, opened, allowed, allowed_for, task_for, call_of};
 ghost use Rattle.fb_script.specs.Reading.{line_read};
-ghost use Rattle.fb_script.specs.Reader.{said, action, call, names, progress, with_step, HasBlock, IsWithin, IsAskedWithin, IsSmall, IsOnSession, HasRoom, IsReader, AreBlocksOf, IsAllowed, IsStep, MayFollow};
+ghost use Rattle.fb_script.specs.Reader.{said, action, call, names, progress, with_step, HasBlock, IsWithin, IsAskedWithin, IsSmall};
+ghost use Rattle.fb_script.specs.Reader.{IsOnSession, HasRoom, IsReader, AreBlocksOf, IsAllowed, IsStep, MayFollow};
 ghost use Rattle.fb_script.specs.Verdict.{Agrees};
 
 use crate::CallsReason;
@@ -66,7 +67,8 @@ impl Reader {
         line: &'a [u8],
     ) -> Result<Option<Step<'a>>, CallsReason>
         requires { IsReader self.now }
-        ensures value { Agrees (with_step map.now (progress self.now)) result (line_read map.now number (progress self.now) (fields_of line.now)) }
+        ensures value { Agrees (with_step map.now (progress self.now)) result
+            (line_read map.now number (progress self.now) (fields_of line.now)) }
         ensures next { IfOk result (MayFollow map.now (progress self.now)) }
     {
         if next_field(line).is_none() {

@@ -5,7 +5,8 @@ ghost use Rattle.fb_calls.specs.Allowed.{tasks, IsScript};
 ghost use Rattle.fb_calls.specs.Blocks.{reads_in};
 ghost use Rattle.fb_script.specs.Judgement.{with_blocks};
 ghost use Rattle.fb_script.specs.Reading.{next_progress, calls_of, at_start, at_end};
-ghost use Rattle.fb_script.specs.Reader.{progress, names, action, call, HasBlock, HasRoom, IsNameFor, IsReader, IsTaskFor, IsSmall, IsWithin};
+ghost use Rattle.fb_script.specs.Reader.{progress, names, action, call, HasBlock, HasRoom, IsNameFor, IsReader, IsTaskFor, IsSmall};
+ghost use Rattle.fb_script.specs.Reader.{IsWithin};
 ghost use Rattle.fb_script.specs.Sessions.{names_after, sessions_after, task_of};
 ghost use Rattle.fb_script.specs.Verdict.{Answers, accepted};
 
@@ -110,7 +111,8 @@ impl Reader {
         requires small { IsSmall step.asked }
         requires within { IsWithin step.asked }
         requires few { self.old.blocks + step.blocks ≤ 16 * 10 ^ 6 }
-        ensures call { OnOk result (progress self.new ≡ with_blocks step.entry.blocks step.entry.name.now (progress self.old) (call step.entry)) }
+        ensures call { OnOk result
+            (progress self.new ≡ with_blocks step.entry.blocks step.entry.name.now (progress self.old) (call step.entry)) }
         ensures sound { OnOk result (IsReader self.new) }
     {
         if self.calls.len() >= MOST_CALLS {
@@ -136,8 +138,10 @@ impl Reader {
         requires free { IsNameFor (names self.old.names.keys) step.asked step.name.now }
         requires room { HasRoom self.old.reads step.asked }
         requires small { IsSmall step.asked }
-        ensures names { OnOk result (names self.new.names.keys ≡ names_after (names self.old.names.keys) step.entry.name.now (action step.entry.asked)) }
-        ensures sessions { OnOk result (self.new.sessions.items ≡ sessions_after self.old.sessions.items step.entry.task (action step.entry.asked)) }
+        ensures names { OnOk result
+            (names self.new.names.keys ≡ names_after (names self.old.names.keys) step.entry.name.now (action step.entry.asked)) }
+        ensures sessions { OnOk result
+            (self.new.sessions.items ≡ sessions_after self.old.sessions.items step.entry.task (action step.entry.asked)) }
         ensures reads { OnOk result (self.new.reads ≡ self.old.reads + reads_in (action step.entry.asked)) }
         ensures calls { self.new.calls ≡ self.old.calls }
         ensures blocks { self.new.blocks ≡ self.old.blocks }

@@ -1,5 +1,6 @@
 -- A table without faults can be looked up.
-use Rattle.std.proofs.Common.{◌≡◌, ℕ, zero, suc, ◌+◌, ◌-◌, ◌*◌, ◌/◌, ◌^◌, ◌<◌, ◌≤◌, List, [], ◌∷◌, length, Bool, true, false, refl, ap, sym, ◌∙◌, arith, Option, Some, None, inl, inr, subst, add-one, ◌≢◌}
+use Rattle.std.proofs.Common.{◌≡◌, ℕ, zero, suc, ◌+◌, ◌-◌, ◌*◌, ◌/◌, ◌^◌, ◌<◌, ◌≤◌, List, [], ◌∷◌, length, Bool, true, false, refl, ap, sym}
+use Rattle.std.proofs.Common.{◌∙◌, arith, Option, Some, None, inl, inr, subst, add-one, ◌≢◌}
 use Rattle.std.proofs.Math.Nat.{zero-div}
 use Rattle.std.specs.Prelude.{nat_lt, nat_le, ◌==◌, ◌||◌}
 use Rattle.std.specs.List.{slice_index_or, list_any}
@@ -9,12 +10,14 @@ use Rattle.fb_seek.specs.declared.point.SeekPoint.{SeekPoint}
 use Rattle.fb_seek.specs.declared.fault.SeekFault.{SeekFault}
 use Rattle.fb_seek.specs.declared.fault.SeekFault.TheVariants.{FirstNotOne, DistanceNotRising, TimeFalls, TooShort, OutOfRange}
 use Rattle.fb_seek.specs.Mechanics.{Mechanics}
-use Rattle.fb_seek.specs.Faults.{first_bad, stays_near, falls, last_distance, is_bad_time, is_out_of_range, or_else, fault_at, fault_if, fault_from, fault_among, first_fault}
+use Rattle.fb_seek.specs.Faults.{first_bad, stays_near, falls, last_distance, is_bad_time, is_out_of_range, or_else, fault_at, fault_if}
+use Rattle.fb_seek.specs.Faults.{fault_from, fault_among, first_fault}
 use Rattle.fb_seek.specs.Table.{IsTable}
 use Rattle.fb_seek.specs.Positioning.{seek_after, seek_along, seek}
 
 -- if a search found no bad point, no point is bad after the one before it
-adjacent : (is_bad : SeekPoint → SeekPoint → Bool) (index : ℕ) (before : SeekPoint) (points : List SeekPoint) → first_bad is_bad index before points ≡ None
+adjacent : (is_bad : SeekPoint → SeekPoint → Bool) (index : ℕ) (before : SeekPoint) (points : List SeekPoint)
+    → first_bad is_bad index before points ≡ None
     → (k : ℕ) (d : SeekPoint) → k < length points → is_bad (slice_index_or (before ∷ points) k d) (slice_index_or points k d) ≡ false
 adjacent is_bad index before [] h k d l = absurd (omega arith)
 adjacent is_bad index before (next ∷ points) h zero d l = elim (cases_Bool (is_bad before next)) [
@@ -26,7 +29,8 @@ adjacent is_bad index before (next ∷ points) h (suc k) d l = elim (cases_Bool 
   | inr good ↦ adjacent is_bad (index + 1) next points (rw good at h) k d (omega arith)
 ]
 
-good_time : (points : List SeekPoint) → list_any is_bad_time points ≡ false → (k : ℕ) (d : SeekPoint) → k < length points → (slice_index_or points k d).time ≤ 10 ^ 9
+good_time : (points : List SeekPoint) → list_any is_bad_time points ≡ false → (k : ℕ) (d : SeekPoint) → k < length points
+    → (slice_index_or points k d).time ≤ 10 ^ 9
 good_time [] h k d l = absurd (omega arith)
 good_time (point ∷ points) h zero d l = grind (arith, nat_tests)
 good_time (point ∷ points) h (suc k) d l = elim (cases_Bool (is_bad_time point)) [
@@ -34,7 +38,8 @@ good_time (point ∷ points) h (suc k) d l = elim (cases_Bool (is_bad_time point
   | inr good ↦ good_time points (rw good at h) k d (omega arith)
 ]
 
-at_end : (point : SeekPoint) (points : List SeekPoint) (k : ℕ) (d : SeekPoint) → k ≡ length points → (slice_index_or (point ∷ points) k d).distance ≡ last_distance point points
+at_end : (point : SeekPoint) (points : List SeekPoint) (k : ℕ) (d : SeekPoint) → k ≡ length points
+    → (slice_index_or (point ∷ points) k d).distance ≡ last_distance point points
 at_end point [] zero d e = refl
 at_end point [] (suc k) d e = absurd (omega arith)
 at_end point (next ∷ points) zero d e = absurd (omega arith)
@@ -61,11 +66,18 @@ record InRange (arm : Mechanics) : Type 0 where
 
 in_range : (arm : Mechanics) → is_out_of_range arm ≡ false → InRange arm
 in_range arm h = elim (cases_Bool (list_any is_bad_time arm.points)) [
-  | inl bad ↦ absurd (let e : (nat_lt 4096 (length arm.points) || true || nat_lt (10 ^ 9) arm.head_switch || nat_lt (10 ^ 9) arm.write_settle || (arm.cylinders == 0) || nat_lt (10 ^ 6) arm.cylinders) ≡ false = rw bad at h in grind (arith, nat_tests))
-  | inr good ↦ record { head_switch = grind (arith, nat_tests); write_settle = grind (arith, nat_tests); some_cylinders = grind (arith, nat_tests); times = good }
+  | inl bad ↦ absurd (let e : (nat_lt 4096 (length arm.points) || true || nat_lt (10 ^ 9) arm.head_switch || nat_lt
+      (10 ^ 9) arm.write_settle || (arm.cylinders == 0) || nat_lt (10 ^ 6) arm.cylinders) ≡ false = rw bad at h in grind (arith, nat_tests))
+  | inr good ↦ record {
+    head_switch = grind (arith, nat_tests);
+    write_settle = grind (arith, nat_tests);
+    some_cylinders = grind (arith, nat_tests);
+    times = good;
+  }
 ]
 
-from_first : (arm : Mechanics) (first : SeekPoint) (points : List SeekPoint) → arm.points ≡ first ∷ points → fault_from arm first points ≡ None → IsTable arm
+from_first : (arm : Mechanics) (first : SeekPoint) (points : List SeekPoint) → arm.points ≡ first ∷ points
+    → fault_from arm first points ≡ None → IsTable arm
 unfolding fault_from
 from_first arm first points e h = elim (cases_Bool (first.distance == 1)) [
   | inl one ↦
@@ -123,9 +135,11 @@ along_at (first ∷ points) k distance d l passed reached =
     rw add-one (after_at first points k distance d (omega arith) (λ i h. passed (suc i) (omega arith)) (rw add-one at reached))
 
 -- the time of a seek is that between the two neighbouring points around its distance
-pub seek_from : (arm : Mechanics) (points : List SeekPoint) (k distance : ℕ) (d : SeekPoint) → points ≡ arm.points → distance ≢ 0 → k ≢ 0 → k < length points
+pub seek_from : (arm : Mechanics) (points : List SeekPoint) (k distance : ℕ) (d : SeekPoint) → points ≡ arm.points → distance ≢ 0 → k ≢ 0
+    → k < length points
     → ((i : ℕ) (e : SeekPoint) → i < k → (slice_index_or points i e).distance < distance) → distance ≤ (slice_index_or points k d).distance
-    → (slice_index_or points (k - 1) d).time + (distance - (slice_index_or points (k - 1) d).distance) * ((slice_index_or points k d).time - (slice_index_or points (k - 1) d).time)
+    → (slice_index_or points (k - 1) d).time
+    + (distance - (slice_index_or points (k - 1) d).distance) * ((slice_index_or points k d).time - (slice_index_or points (k - 1) d).time)
     / ((slice_index_or points k d).distance - (slice_index_or points (k - 1) d).distance)
     ≡ seek arm distance
 unfolding between
@@ -147,7 +161,8 @@ no_way before next distance e =
     let nothing : (distance - before.distance) * (next.time - before.time) ≡ 0 = rw none (omega arith) in
     rw (nothing, zero-div) (omega arith)
 
-at_first : (first : SeekPoint) (points : List SeekPoint) (distance : ℕ) → distance ≡ first.distance → ((d : SeekPoint) → 0 < length points → first.distance < (slice_index_or points 0 d).distance)
+at_first : (first : SeekPoint) (points : List SeekPoint) (distance : ℕ) → distance ≡ first.distance
+    → ((d : SeekPoint) → 0 < length points → first.distance < (slice_index_or points 0 d).distance)
     → seek_after first points distance ≡ first.time
 unfolding between
 at_first first [] distance e rises = refl
@@ -156,22 +171,26 @@ at_first first (next ∷ points) distance e rises =
     rw near (no_way first next distance e)
 
 along_one : (points : List SeekPoint) (distance : ℕ) (d : SeekPoint) → 0 < length points → distance ≡ (slice_index_or points 0 d).distance
-    → ((e : SeekPoint) → 1 < length points → (slice_index_or points 0 e).distance < (slice_index_or points 1 e).distance) → (slice_index_or points 0 d).time ≡ seek_along points distance
+    → ((e : SeekPoint) → 1 < length points → (slice_index_or points 0 e).distance < (slice_index_or points 1 e).distance)
+    → (slice_index_or points 0 d).time ≡ seek_along points distance
 along_one [] distance d l e rises = absurd (omega arith)
 along_one (first ∷ points) distance d l e rises = sym (at_first first points distance e (λ d l. rises d (omega arith)))
 
 -- the time of a seek over one cylinder is that of the first point
-pub seek_one : (arm : Mechanics) (points : List SeekPoint) (distance : ℕ) (d : SeekPoint) → IsTable arm → points ≡ arm.points → distance ≢ 0 → distance ≤ (slice_index_or points 0 d).distance
+pub seek_one : (arm : Mechanics) (points : List SeekPoint) (distance : ℕ) (d : SeekPoint) → IsTable arm → points ≡ arm.points → distance ≢ 0
+    → distance ≤ (slice_index_or points 0 d).distance
     → (slice_index_or points 0 d).time ≡ seek arm distance
 seek_one arm points distance d table same some near =
     let moves : (distance == 0) ≡ false = grind (arith, nat_tests) in
     let one = table.from_one d in
-    let here : (slice_index_or points 0 d).distance ≡ (slice_index_or arm.points 0 d).distance = ap (λ (ps : List SeekPoint). (slice_index_or ps 0 d).distance) same in
+    let here : (slice_index_or points 0 d).distance ≡ (slice_index_or arm.points 0 d).distance =
+    ap (λ (ps : List SeekPoint). (slice_index_or ps 0 d).distance) same in
     rw moves (ap (λ (ps : List SeekPoint). (slice_index_or ps 0 d).time) same
     ∙ along_one arm.points distance d table.some (omega arith) (λ e l. table.rising 0 e (omega arith)))
 
 -- a look-up of a distance on the disk doesn't go past the table
-pub within_table : (arm : Mechanics) (points : List SeekPoint) (k distance : ℕ) → IsTable arm → points ≡ arm.points → distance < arm.cylinders → k ≤ length points
+pub within_table : (arm : Mechanics) (points : List SeekPoint) (k distance : ℕ) → IsTable arm → points ≡ arm.points
+    → distance < arm.cylinders → k ≤ length points
     → ((i : ℕ) (e : SeekPoint) → i < k → (slice_index_or points i e).distance < distance) → k < length points
 within_table arm points k distance table same near le passed = elim (cases_lt k (length points)) [
   | inl less ↦ less
@@ -179,7 +198,8 @@ within_table arm points k distance table same near le passed = elim (cases_lt k 
       let some : 0 < length points = omega (arith, ap length same, table.some) in
       let last = passed (length points - 1) (record { distance = 0; time = 0 }) (omega arith) in
       let far : arm.cylinders ≤ (slice_index_or points (length points - 1) (record { distance = 0; time = 0 })).distance + 1 =
-      subst (λ (ps : List SeekPoint). arm.cylinders ≤ (slice_index_or ps (length points - 1) (record { distance = 0; time = 0 })).distance + 1) (sym same)
+      subst (λ (ps : List SeekPoint). arm.cylinders
+      ≤ (slice_index_or ps (length points - 1) (record { distance = 0; time = 0 })).distance + 1) (sym same)
       (table.far (length points - 1) (record { distance = 0; time = 0 }) (omega (arith, ap length same))) in
       omega arith)
 ]

@@ -38,27 +38,32 @@ whole_part : (a t k : ℕ) → a ≤ k → a * t / k ≤ t
 whole_part a t k le = div-le_of_le-mul k (mul-le-mul_right t le)
 
 -- no distance takes less time than the point before it
-from_before : (before : SeekPoint) (points : List SeekPoint) (far : ℕ) → AreSlower before points → before.time ≤ seek_after before points far
+from_before : (before : SeekPoint) (points : List SeekPoint) (far : ℕ) → AreSlower before points
+    → before.time ≤ seek_after before points far
 from_before before [] far slower = omega arith
 from_before before (next ∷ points) far slower = elim (cases_Bool (nat_le far next.distance)) [
   | inl here ↦ rw here (omega arith)
   | inr there ↦ rw there (let rest = from_before next points far slower.2 in let time = slower.1 in omega (arith, rest, time))
 ]
 
-after_rises : (before : SeekPoint) (points : List SeekPoint) (near far : ℕ) → AreSlower before points → near ≤ far → seek_after before points near ≤ seek_after before points far
+after_rises : (before : SeekPoint) (points : List SeekPoint) (near far : ℕ) → AreSlower before points → near ≤ far
+    → seek_after before points near ≤ seek_after before points far
 after_rises before [] near far slower le = omega arith
 after_rises before (next ∷ points) near far slower le =
     let run : 0 < next.distance - before.distance = let rise = slower.0 in omega (arith, rise) in
     let time : before.time ≤ next.time = slower.1 in
     elim (cases_Bool (nat_le near next.distance)) [
       | inl here ↦ elim (cases_Bool (nat_le far next.distance)) [
-        | inl both ↦ rw (here, both) (let part = part_rises (near - before.distance) (far - before.distance) (next.time - before.time) (next.distance - before.distance) run (omega arith) in omega (arith, part))
+        | inl both ↦ rw (here, both) (let part = part_rises (near - before.distance) (far - before.distance) (next.time - before.time)
+            (next.distance - before.distance) run (omega arith) in omega (arith, part))
         | inr past ↦ let inside : near ≤ next.distance = grind (arith, nat_tests) in
             rw (here, past) (
-            let part = whole_part (near - before.distance) (next.time - before.time) (next.distance - before.distance) (omega (arith, inside)) in
+            let part =
+            whole_part (near - before.distance) (next.time - before.time) (next.distance - before.distance) (omega (arith, inside)) in
             let rest = from_before next points far slower.2 in omega (arith, part, rest, time))
       ]
-      | inr there ↦ let past : nat_le far next.distance ≡ false = grind (arith, nat_tests) in rw (there, past) (after_rises next points near far slower.2 le)
+      | inr there ↦ let past : nat_le far next.distance ≡ false = grind (arith, nat_tests) in
+          rw (there, past) (after_rises next points near far slower.2 le)
     ]
 
 along_rises : (points : List SeekPoint)
@@ -67,10 +72,12 @@ along_rises : (points : List SeekPoint)
     → (near far : ℕ) → near ≤ far → seek_along points near ≤ seek_along points far
 along_rises [] rising slower near far le = omega arith
 along_rises (first ∷ points) rising slower near far le =
-    after_rises first points near far (are_slower first points (λ k d l. rw add-one at (rising k d (omega arith))) (λ k d l. rw add-one at (slower k d (omega arith)))) le
+    after_rises first points near far
+    (are_slower first points (λ k d l. rw add-one at (rising k d (omega arith))) (λ k d l. rw add-one at (slower k d (omega arith)))) le
 
 pub seeks_rise : (arm : Mechanics) → IsTable arm → SeeksRise arm
 seeks_rise arm table = λ near far le. elim (cases_Bool (near == 0)) [
   | inl here ↦ rw here (omega arith)
-  | inr moves ↦ let farther : (far == 0) ≡ false = grind (arith, nat_tests) in rw (moves, farther) (along_rises arm.points table.rising table.slower near far le)
+  | inr moves ↦ let farther : (far == 0) ≡ false = grind (arith, nat_tests) in
+      rw (moves, farther) (along_rises arm.points table.rising table.slower near far le)
 ]

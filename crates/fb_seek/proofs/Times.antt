@@ -7,7 +7,8 @@ use Rattle.fb_seek.specs.Positioning.{seek}
 use Rattle.fb_seek.specs.Table.{AreTimes}
 
 -- with the time of the next distance they are one more
-pub one_more : (arm : Mechanics) (times : List ℕ) → AreTimes arm times → seek arm (length times) ≤ 10 ^ 9 → AreTimes arm (times ++ seek arm (length times) ∷ [])
+pub one_more : (arm : Mechanics) (times : List ℕ) → AreTimes arm times → seek arm (length times) ≤ 10 ^ 9
+    → AreTimes arm (times ++ seek arm (length times) ∷ [])
 one_more arm times are short distance d inside = elim (cases_lt distance (length times)) [
   | inl before ↦ (get_or_append_left times _ d distance before ∙ (are distance d before).0, (are distance d before).1)
   | inr behind ↦

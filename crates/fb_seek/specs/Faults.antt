@@ -1,5 +1,6 @@
 -- Why a seek table is refused: the first fault in a fixed order.
-use Rattle.std.specs.Prelude.{◌≡◌, ℕ, ◌+◌, ◌-◌, ◌^◌, List, [], ◌∷◌, length, Bool, ◌||◌, ◌==◌, nat_lt, nat_le, Option, Some, None, Result, Ok, Err, if◌then◌else◌}
+use Rattle.std.specs.Prelude.{◌≡◌, ℕ, ◌+◌, ◌-◌, ◌^◌, List, [], ◌∷◌, length, Bool, ◌||◌, ◌==◌, nat_lt, nat_le, Option, Some, None, Result}
+use Rattle.std.specs.Prelude.{Ok, Err, if◌then◌else◌}
 use Rattle.std.specs.List.{list_any}
 use Rattle.fb_seek.specs.declared.point.SeekPoint.{SeekPoint}
 use Rattle.fb_seek.specs.declared.fault.SeekFault.{SeekFault}

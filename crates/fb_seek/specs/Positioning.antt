@@ -28,4 +28,5 @@ distance_of a b = (a - b) + (b - a)
 -- the time from one track to another, and until the head has settled there if it is to write
 unfoldable pub pos : Mechanics → Track → Track → Bool → ℕ
 pos arm a b write = if same_track a b then 0 else
-    max (seek arm (distance_of a.cylinder b.cylinder)) (if a.head == b.head then 0 else arm.head_switch) + (if write then arm.write_settle else 0)
+    max (seek arm (distance_of a.cylinder b.cylinder)) (if a.head == b.head then 0 else arm.head_switch)
+    + (if write then arm.write_settle else 0)

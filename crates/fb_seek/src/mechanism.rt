@@ -30,9 +30,11 @@ impl Model for Mechanism {
 
     ghost Value = { Mechanics };
 
-    ghost view = { λ m. record { points = m.points.items; cylinders = m.cylinders; head_switch = m.head_switch; write_settle = m.write_settle } };
+    ghost view = { λ m. record { points = m.points.items; cylinders = m.cylinders; head_switch = m.head_switch;
+        write_settle = m.write_settle } };
 
-    ghost invariant = { λ m. IsArm (record { points = m.points.items; cylinders = m.cylinders; head_switch = m.head_switch; write_settle = m.write_settle }) m.times.items };
+    ghost invariant = { λ m. IsArm (record { points = m.points.items; cylinders = m.cylinders; head_switch = m.head_switch;
+        write_settle = m.write_settle }) m.times.items };
 }
 
 impl Mechanism {
@@ -48,7 +50,8 @@ impl Mechanism {
         head_switch: Ns,
         write_settle: Ns,
     ) -> Result<Mechanism, SeekFault>
-        ensures { Judges (record { points = points.items; cylinders = cylinders; head_switch = head_switch; write_settle = write_settle }) result }
+        ensures { Judges (record { points = points.items; cylinders = cylinders; head_switch = head_switch; write_settle = write_settle })
+            result }
     {
         match fault_of(points.as_slice(), cylinders, head_switch, write_settle) {
             Some(fault) => Err(fault),

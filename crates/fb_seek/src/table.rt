@@ -63,7 +63,8 @@ pub fn is_out_of_range(
     head_switch: Ns,
     write_settle: Ns,
 ) -> bool
-    ensures { result ≡ is_out_of_range (record { points = points.now; cylinders = cylinders; head_switch = head_switch; write_settle = write_settle }) }
+    ensures { result
+        ≡ is_out_of_range (record { points = points.now; cylinders = cylinders; head_switch = head_switch; write_settle = write_settle }) }
 {
     if points.len() > MOST_POINTS {
         return true;
@@ -107,7 +108,8 @@ pub fn fault_of(
     head_switch: Ns,
     write_settle: Ns,
 ) -> Option<SeekFault>
-    ensures { result ≡ first_fault (record { points = points.now; cylinders = cylinders; head_switch = head_switch; write_settle = write_settle }) }
+    ensures { result
+        ≡ first_fault (record { points = points.now; cylinders = cylinders; head_switch = head_switch; write_settle = write_settle }) }
 {
     let Some((first, rest)) = points.split_first() else {
         return Some(SeekFault::NoPoints);
@@ -133,7 +135,8 @@ pub fn fault_of(
 // The index of the first point whose distance is not below this one; the number of points if there
 // is none.
 pub fn next_point(points: &[SeekPoint], distance: u32) -> usize
-    requires { (k : ℕ) (d : SeekPoint) → k + 1 < length points.now → (slice_index_or points.now k d).distance < (slice_index_or points.now (k + 1) d).distance }
+    requires { (k : ℕ) (d : SeekPoint) → k + 1 < length points.now
+        → (slice_index_or points.now k d).distance < (slice_index_or points.now (k + 1) d).distance }
     ensures bound { result ≤ length points.now }
     ensures passed { (k : ℕ) (d : SeekPoint) → k < result → (slice_index_or points.now k d).distance < distance }
     ensures reached { (d : SeekPoint) → result < length points.now → distance ≤ (slice_index_or points.now result d).distance }

@@ -90,7 +90,8 @@ pub fn wait_on(disk: &Disk, from: Departure, approach: &Approach, lbn: u64, writ
     requires approach { IsApproach disk.now from approach.now }
     requires first { approach.now.run.first ≤ lbn }
     requires end { lbn < approach.now.run.end }
-    ensures value { result ≡ begin_from disk.now.map (place_at disk.now.map lbn) (from.instant + pos disk.now.mechanism from.track (track_at disk.now.map lbn) write) - from.instant }
+    ensures value { result ≡ begin_from disk.now.map (place_at disk.now.map lbn) (from.instant
+        + pos disk.now.mechanism from.track (track_at disk.now.map lbn) write) - from.instant }
     ensures soon { result < 3 * 10 ^ 9 }
 {
     let geometry = disk.map.geometry();

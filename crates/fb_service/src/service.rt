@@ -69,7 +69,8 @@ pub fn first_pass(disk: &Disk, source: Track, now: Ns, lbn: u64, write: bool) ->
     requires source { IsTrackOf disk.now.map source }
     requires block { lbn < length (places disk.now.map) }
     requires now { now ≤ 9 * 10 ^ 18 }
-    ensures value { result ≡ begin_from disk.now.map (place_at disk.now.map lbn) (now + pos disk.now.mechanism source (place_at disk.now.map lbn).track write) }
+    ensures value { result ≡ begin_from disk.now.map (place_at disk.now.map lbn) (now
+        + pos disk.now.mechanism source (place_at disk.now.map lbn).track write) }
     ensures after { now ≤ result }
     ensures soon { result < now + 3 * 10 ^ 9 }
 {
@@ -103,7 +104,8 @@ fn stretch_extent(disk: &Disk, source: Track, now: Ns, lbn: u64, most: u32, writ
     ensures first { result.first ≡ lbn }
     ensures bound { result.count ≤ most }
     ensures on_disk { IsTrackOf disk.now.map result.track }
-    ensures begin { result.begin ≡ begin_from disk.now.map (place_at disk.now.map lbn) (now + pos disk.now.mechanism source (place_at disk.now.map lbn).track write) }
+    ensures begin { result.begin ≡ begin_from disk.now.map (place_at disk.now.map lbn) (now
+        + pos disk.now.mechanism source (place_at disk.now.map lbn).track write) }
     ensures unbroken { IsUnbroken disk.now.map result }
     ensures timed { ArePassing disk.now.map lbn result.count }
     ensures after { now ≤ result.begin }

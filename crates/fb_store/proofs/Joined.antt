@@ -1,5 +1,6 @@
 -- A run behind the fewest runs joins the last of them, or becomes a run of its own.
-use Rattle.std.proofs.Common.{◌≡◌, ℕ, ◌+◌, ◌<◌, List, [], ◌∷◌, ◌++◌, refl, true, false, true≢false, Bool, cond, arith, sym, ap, ap₂, ◌∙◌, ◌&&◌, ◌==◌, suc, zero, eqb→eq, length, get_or, set, Some, slice_get}
+use Rattle.std.proofs.Common.{◌≡◌, ℕ, ◌+◌, ◌<◌, List, [], ◌∷◌, ◌++◌, refl, true, false, true≢false, Bool, cond, arith, sym, ap, ap₂, ◌∙◌}
+use Rattle.std.proofs.Common.{◌&&◌, ◌==◌, suc, zero, eqb→eq, length, get_or, set, Some, slice_get}
 use Rattle.std.proofs.lemmas.Option.{get_or_from_slice_get}
 use Rattle.fb_store.specs.declared.content.Content.{Content}
 use Rattle.fb_store.specs.declared.content.ContentRun.{ContentRun}
@@ -20,14 +21,16 @@ pub some_run : (runs : List ContentRun) (run : ContentRun) → last_joins runs r
 some_run [] run joined = absurd (true≢false (sym joined))
 some_run (first ∷ runs) run joined = omega arith
 
-pub last_joins-at : (runs : List ContentRun) (n : ℕ) (d run : ContentRun) → length runs ≡ n + 1 → last_joins runs run ≡ joins (get_or runs n d) run
+pub last_joins-at : (runs : List ContentRun) (n : ℕ) (d run : ContentRun) → length runs ≡ n + 1
+    → last_joins runs run ≡ joins (get_or runs n d) run
 last_joins-at [] n d run size = absurd (omega arith)
 last_joins-at (last ∷ []) zero d run size = refl
 last_joins-at (last ∷ []) (suc n) d run size = absurd (omega arith)
 last_joins-at (first ∷ next ∷ runs) zero d run size = absurd (omega arith)
 last_joins-at (first ∷ next ∷ runs) (suc n) d run size = last_joins-at (next ∷ runs) n d run (omega arith)
 
-set_last : (runs : List ContentRun) (n : ℕ) (d run : ContentRun) → length runs ≡ n + 1 → last_joins runs run ≡ true → set runs n (longer (get_or runs n d) run) ≡ glued runs run
+set_last : (runs : List ContentRun) (n : ℕ) (d run : ContentRun) → length runs ≡ n + 1 → last_joins runs run ≡ true
+    → set runs n (longer (get_or runs n d) run) ≡ glued runs run
 set_last [] n d run size joined = absurd (omega arith)
 set_last (last ∷ []) zero d run size joined = rw joined refl
 set_last (last ∷ []) (suc n) d run size joined = absurd (omega arith)
@@ -43,9 +46,11 @@ one_and : (n : ℕ) → n + 1 ≡ 1 + n
 one_and n = omega arith
 
 -- a sector before the last run
-glued_one : (w j k : Bool) (lbn : ℕ) (content : Content) (last run : ContentRun) → ((last.first == lbn + 1) && same_content content last.content) ≡ w → joins last run ≡ j
+glued_one : (w j k : Bool) (lbn : ℕ) (content : Content) (last run : ContentRun)
+    → ((last.first == lbn + 1) && same_content content last.content) ≡ w → joins last run ≡ j
     → (w ≡ true → joins (run_of lbn (last.count + 1) content) run ≡ j)
-    → with_content lbn content (cond j (longer last run ∷ []) (last ∷ run ∷ [])) ≡ glued (cond w (run_of lbn (last.count + 1) content ∷ []) (run_of lbn 1 content ∷ last ∷ [])) run
+    → with_content lbn content (cond j (longer last run ∷ []) (last ∷ run ∷ []))
+    ≡ glued (cond w (run_of lbn (last.count + 1) content ∷ []) (run_of lbn 1 content ∷ last ∷ [])) run
 glued_one true true k lbn content last run we je same =
     let count : last.count + run.count + 1 ≡ last.count + 1 + run.count = omega arith in
     rw (we, same refl) (ap (λ n. run_of lbn n content ∷ []) count)
@@ -53,9 +58,11 @@ glued_one true false k lbn content last run we je same = rw (we, same refl) refl
 glued_one false true k lbn content last run we je same = rw (we, je) refl
 glued_one false false k lbn content last run we je same = rw (we, je) refl
 
-same_end : (lbn : ℕ) (content : Content) (last run : ContentRun) → ((last.first == lbn + 1) && same_content content last.content) ≡ true → joins (run_of lbn (last.count + 1) content) run ≡ joins last run
+same_end : (lbn : ℕ) (content : Content) (last run : ContentRun) → ((last.first == lbn + 1) && same_content content last.content) ≡ true
+    → joins (run_of lbn (last.count + 1) content) run ≡ joins last run
 same_end lbn content last run w =
-    let first = eqb→eq last.first (lbn + 1) (so (last.first == lbn + 1) (left (last.first == lbn + 1) (same_content content last.content) w)) in
+    let first =
+    eqb→eq last.first (lbn + 1) (so (last.first == lbn + 1) (left (last.first == lbn + 1) (same_content content last.content) w)) in
     let same = is_same content last.content (right (last.first == lbn + 1) (same_content content last.content) w) in
     let place : lbn + (last.count + 1) ≡ last.first + last.count = omega arith in
     ap₂ (λ at c. (run.first == at) && same_content c run.content) place same
@@ -66,30 +73,41 @@ glued_more : (w : Bool) (lbn : ℕ) (content : Content) (first next run : Conten
 glued_more true lbn content first next run runs = refl
 glued_more false lbn content first next run runs = refl
 
-glued_with : (lbn : ℕ) (content : Content) (runs : List ContentRun) (run : ContentRun) → with_content lbn content (glued runs run) ≡ glued (with_content lbn content runs) run
-glued_with lbn content [] run = ap (λ n. cond ((run.first == lbn + 1) && same_content content run.content) (run_of lbn n content ∷ []) (run_of lbn 1 content ∷ run ∷ [])) (one_and run.count)
-glued_with lbn content (last ∷ []) run = glued_one ((last.first == lbn + 1) && same_content content last.content) (joins last run) true lbn content last run refl refl (same_end lbn content last run)
-glued_with lbn content (first ∷ next ∷ runs) run = glued_more ((first.first == lbn + 1) && same_content content first.content) lbn content first next run runs
+glued_with : (lbn : ℕ) (content : Content) (runs : List ContentRun) (run : ContentRun)
+    → with_content lbn content (glued runs run) ≡ glued (with_content lbn content runs) run
+glued_with lbn content [] run = ap (λ n. cond ((run.first == lbn + 1) && same_content content run.content) (run_of lbn n content ∷ [])
+    (run_of lbn 1 content ∷ run ∷ [])) (one_and run.count)
+glued_with lbn content (last ∷ []) run = glued_one ((last.first == lbn + 1)
+    && same_content content last.content) (joins last run) true lbn content last run refl refl (same_end lbn content last run)
+glued_with lbn content (first ∷ next ∷ runs) run =
+    glued_more ((first.first == lbn + 1) && same_content content first.content) lbn content first next run runs
 
-one_run : (first count : ℕ) (content : Content) → 0 < count → runs_of (sectors_in (run_of first count content)) ≡ run_of first count content ∷ []
+one_run : (first count : ℕ) (content : Content) → 0 < count
+    → runs_of (sectors_in (run_of first count content)) ≡ run_of first count content ∷ []
 one_run first zero content some = absurd (omega arith)
-one_run first (suc n) content some = run_ahead (λ lbn. content) first n 0 n content (omega arith) (λ lbn a b. refl) (λ none. absurd (omega arith))
+one_run first (suc n) content some =
+    run_ahead (λ lbn. content) first n 0 n content (omega arith) (λ lbn a b. refl) (λ none. absurd (omega arith))
 
 -- the fewest runs of some sectors followed by those of a run
 glue : (sectors : List (ℕ × Content)) (run : ContentRun) → 0 < run.count → runs_of (sectors ++ sectors_in run) ≡ glued (runs_of sectors) run
 glue [] run some = one_run run.first run.count run.content some
-glue (sector ∷ sectors) run some = ap (with_content sector.0 sector.1) (glue sectors run some) ∙ glued_with sector.0 sector.1 (runs_of sectors) run
+glue (sector ∷ sectors) run some =
+    ap (with_content sector.0 sector.1) (glue sectors run some) ∙ glued_with sector.0 sector.1 (runs_of sectors) run
 
-pub joined_last : (runs : List ContentRun) (n : ℕ) (d run : ContentRun) → length runs ≡ n + 1 → 0 < run.count → runs ≡ runs_of (sectors_of runs) → last_joins runs run ≡ true
+pub joined_last : (runs : List ContentRun) (n : ℕ) (d run : ContentRun) → length runs ≡ n + 1 → 0 < run.count
+    → runs ≡ runs_of (sectors_of runs) → last_joins runs run ≡ true
     → set runs n (longer (get_or runs n d) run) ≡ runs_of (sectors_of runs ++ sectors_in run)
-joined_last runs n d run size some fewest joined = set_last runs n d run size joined ∙ (ap (λ rs. glued rs run) fewest ∙ sym (glue (sectors_of runs) run some))
+joined_last runs n d run size some fewest joined =
+    set_last runs n d run size joined ∙ (ap (λ rs. glued rs run) fewest ∙ sym (glue (sectors_of runs) run some))
 
-pub pushed_last : (runs : List ContentRun) (run : ContentRun) → 0 < run.count → runs ≡ runs_of (sectors_of runs) → last_joins runs run ≡ false
+pub pushed_last : (runs : List ContentRun) (run : ContentRun) → 0 < run.count → runs ≡ runs_of (sectors_of runs)
+    → last_joins runs run ≡ false
     → runs ++ run ∷ [] ≡ runs_of (sectors_of runs ++ sectors_in run)
 pushed_last runs run some fewest apart = push_last runs run apart ∙ (ap (λ rs. glued rs run) fewest ∙ sym (glue (sectors_of runs) run some))
 
 joins-first : (a b : ContentRun) → joins a b ≡ true → b.first ≡ a.first + a.count
-joins-first a b joined = eqb→eq b.first (a.first + a.count) (so (b.first == a.first + a.count) (left (b.first == a.first + a.count) (same_content a.content b.content) joined))
+joins-first a b joined = eqb→eq b.first (a.first
+    + a.count) (so (b.first == a.first + a.count) (left (b.first == a.first + a.count) (same_content a.content b.content) joined))
 
 -- a run that continues the last one begins where that ends
 pub joined-first : (runs : List ContentRun) (n : ℕ) (last run : ContentRun) → length runs ≡ n + 1 → slice_get runs n ≡ Some last
@@ -99,7 +117,8 @@ joined-first runs n last run size at joined =
     joins-first last run (sym (last_joins-at runs n last run size ∙ is) ∙ joined)
 
 -- the fewest runs of some sectors are the fewest runs of the sectors that they have
-pub fewest-again : (sectors : List (ℕ × Content)) (runs : List ContentRun) → runs ≡ runs_of sectors → (sectors_of runs ≡ sectors) × (runs ≡ runs_of (sectors_of runs))
+pub fewest-again : (sectors : List (ℕ × Content)) (runs : List ContentRun) → runs ≡ runs_of sectors
+    → (sectors_of runs ≡ sectors) × (runs ≡ runs_of (sectors_of runs))
 fewest-again sectors runs e =
     let own = ap sectors_of e ∙ sectors_of-runs_of sectors in
     (own, e ∙ ap runs_of (sym own))

@@ -1,5 +1,6 @@
 -- The fewest runs of sectors give exactly these contents, and no run continues the one before it.
-use Rattle.std.proofs.Common.{◌≡◌, ℕ, ◌+◌, List, [], ◌∷◌, ◌++◌, refl, true, false, map, Bool, cond, T, arith, sym, ap, ap₂, ◌∙◌, true≢false, eqb→eq, ◌&&◌, ◌==◌, suc}
+use Rattle.std.proofs.Common.{◌≡◌, ℕ, ◌+◌, List, [], ◌∷◌, ◌++◌, refl, true, false, map, Bool, cond, T, arith, sym, ap, ap₂, ◌∙◌, true≢false}
+use Rattle.std.proofs.Common.{eqb→eq, ◌&&◌, ◌==◌, suc}
 use Rattle.std.specs.List.{range_with_len}
 use Rattle.fb_store.specs.declared.content.Content.{Content}
 use Rattle.fb_store.specs.declared.content.Content.TheVariants.{Filled, Unreadable}
@@ -26,19 +27,22 @@ is_same Unreadable Unreadable p = refl
 
 -- a sector before some runs: joined with the first run, or a run of its own
 abbrev pub joined : Bool → ℕ → Content → ContentRun → List ContentRun → List ContentRun
-joined b lbn content run runs = cond b (record { first = lbn; count = run.count + 1; content = content } ∷ runs) (record { first = lbn; count = 1; content = content } ∷ run ∷ runs)
+joined b lbn content run runs = cond b (record { first = lbn; count = run.count + 1; content = content }
+    ∷ runs) (record { first = lbn; count = 1; content = content } ∷ run ∷ runs)
 
 longer : (lbn n : ℕ) → range_with_len lbn (n + 1) ≡ lbn ∷ range_with_len (lbn + 1) n
 longer lbn n = let more : n + 1 ≡ suc n = omega arith in ap (range_with_len lbn) more
 
 grown : (b : Bool) (lbn : ℕ) (content : Content) (run : ContentRun) (runs : List ContentRun)
-    → (b ≡ true → run.first ≡ lbn + 1) → (b ≡ true → content ≡ run.content) → sectors_of (joined b lbn content run runs) ≡ (lbn, content) ∷ sectors_of (run ∷ runs)
+    → (b ≡ true → run.first ≡ lbn + 1) → (b ≡ true → content ≡ run.content)
+    → sectors_of (joined b lbn content run runs) ≡ (lbn, content) ∷ sectors_of (run ∷ runs)
 grown false lbn content run runs p q = refl
 grown true lbn content run runs p q =
     ap (λ lbns. map (λ lbn. (lbn, content)) lbns ++ sectors_of runs) (longer lbn run.count)
     ∙ ap₂ (λ first c. (lbn, content) ∷ (map (λ lbn. (lbn, c)) (range_with_len first run.count) ++ sectors_of runs)) (sym (p refl)) (q refl)
 
-with_one : (lbn : ℕ) (content : Content) (runs : List ContentRun) → sectors_of (with_content lbn content runs) ≡ (lbn, content) ∷ sectors_of runs
+with_one : (lbn : ℕ) (content : Content) (runs : List ContentRun)
+    → sectors_of (with_content lbn content runs) ≡ (lbn, content) ∷ sectors_of runs
 with_one lbn content [] = refl
 with_one lbn content (run ∷ runs) = grown ((run.first == lbn + 1) && same_content content run.content) lbn content run runs
     (λ p. eqb→eq run.first (lbn + 1) (so (run.first == lbn + 1) (left (run.first == lbn + 1) (same_content content run.content) p)))
@@ -47,14 +51,21 @@ with_one lbn content (run ∷ runs) = grown ((run.first == lbn + 1) && same_cont
 -- the runs give exactly these contents, in this order
 pub sectors_of-runs_of : (sectors : List (ℕ × Content)) → sectors_of (runs_of sectors) ≡ sectors
 sectors_of-runs_of [] = refl
-sectors_of-runs_of (sector ∷ sectors) = with_one sector.0 sector.1 (runs_of sectors) ∙ ap (λ rest. sector ∷ rest) (sectors_of-runs_of sectors)
+sectors_of-runs_of (sector ∷ sectors) =
+    with_one sector.0 sector.1 (runs_of sectors) ∙ ap (λ rest. sector ∷ rest) (sectors_of-runs_of sectors)
 
-few_joined : (b : Bool) (lbn : ℕ) (content : Content) (run : ContentRun) (runs : List ContentRun) → ((run.first == lbn + 1) && same_content content run.content) ≡ b
-    → (b ≡ true → run.first ≡ lbn + 1) → (b ≡ true → content ≡ run.content) → AreFewest (run ∷ runs) → AreFewest (joined b lbn content run runs)
+few_joined : (b : Bool) (lbn : ℕ) (content : Content) (run : ContentRun) (runs : List ContentRun)
+    → ((run.first == lbn + 1) && same_content content run.content) ≡ b
+    → (b ≡ true → run.first ≡ lbn + 1) → (b ≡ true → content ≡ run.content) → AreFewest (run ∷ runs)
+    → AreFewest (joined b lbn content run runs)
 few_joined false lbn content run runs e p q few = (e, few)
 few_joined true lbn content run [] e p q few = tt
 few_joined true lbn content run (next ∷ runs) e p q few =
-    (ap₂ (λ at c. (next.first == at) && same_content c next.content) (let place : lbn + (run.count + 1) ≡ run.first + run.count = let first = p refl in omega arith in place) (q refl) ∙ few.0, few.1)
+    (
+      ap₂ (λ at c. (next.first == at) && same_content c next.content)
+          (let place : lbn + (run.count + 1) ≡ run.first + run.count = let first = p refl in omega arith in place) (q refl) ∙ few.0,
+      few.1,
+    )
 
 few_with : (lbn : ℕ) (content : Content) (runs : List ContentRun) → AreFewest runs → AreFewest (with_content lbn content runs)
 few_with lbn content [] few = tt

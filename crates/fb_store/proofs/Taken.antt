@@ -1,5 +1,6 @@
 -- What sectors hold after contents were taken or a range was dropped, and the contents of ranges.
-use Rattle.std.proofs.Common.{◌≡◌, ℕ, ◌+◌, ◌-◌, ◌<◌, ◌≤◌, List, [], ◌∷◌, ◌++◌, Option, Some, None, refl, true, false, map, Bool, cond, arith, sym, ap, ap₂, ◌∙◌, ◌==◌, suc, zero, inl, inr, take, append_assoc, append-nil, slice_get, subst}
+use Rattle.std.proofs.Common.{◌≡◌, ℕ, ◌+◌, ◌-◌, ◌<◌, ◌≤◌, List, [], ◌∷◌, ◌++◌, Option, Some, None, refl, true, false, map, Bool, cond}
+use Rattle.std.proofs.Common.{arith, sym, ap, ap₂, ◌∙◌, ◌==◌, suc, zero, inl, inr, take, append_assoc, append-nil, slice_get, subst}
 use Rattle.std.specs.Option.{IsSome}
 use Rattle.std.specs.List.{range_with_len, AllByRecursion}
 use Rattle.std.proofs.lemmas.Bool.{cases_lt}
@@ -16,33 +17,44 @@ use Rattle.fb_store.proofs.Held.{none_held}
 use Rattle.fb_store.proofs.Originals.{inside, before, after, goes_on}
 use Rattle.fb_store.proofs.Joined.{fewest-again}
 
-pub after_taking-append : (sectors more : List (ℕ × Content)) (lbn : ℕ) (held : Option Content) → after_taking (sectors ++ more) lbn held ≡ after_taking more lbn (after_taking sectors lbn held)
+pub after_taking-append : (sectors more : List (ℕ × Content)) (lbn : ℕ) (held : Option Content)
+    → after_taking (sectors ++ more) lbn held ≡ after_taking more lbn (after_taking sectors lbn held)
 after_taking-append [] more lbn held = refl
 after_taking-append (sector ∷ sectors) more lbn held = after_taking-append sectors more lbn (cond (sector.0 == lbn) (Some sector.1) held)
 
 -- the contents of neighbouring sectors are taken
 on : (content_of : ℕ → Content) (first n lbn : ℕ) (held : Option Content) (b : Bool) → (first == lbn) ≡ b
-    → after_taking (map (λ l. (l, content_of l)) (range_with_len first (suc n))) lbn held ≡ after_taking (map (λ l. (l, content_of l)) (range_with_len (first + 1) n)) lbn (cond b (Some (content_of first)) held)
-on content_of first n lbn held b e = ap (λ x. after_taking (map (λ l. (l, content_of l)) (range_with_len (first + 1) n)) lbn (cond x (Some (content_of first)) held)) e
+    → after_taking (map (λ l. (l, content_of l)) (range_with_len first (suc n))) lbn held
+    ≡ after_taking (map (λ l. (l, content_of l)) (range_with_len (first + 1) n)) lbn (cond b (Some (content_of first)) held)
+on content_of first n lbn held b e =
+    ap (λ x. after_taking (map (λ l. (l, content_of l)) (range_with_len (first + 1) n)) lbn (cond x (Some (content_of first)) held)) e
 
-taken_before : (content_of : ℕ → Content) (first n lbn : ℕ) (held : Option Content) → lbn < first → after_taking (map (λ l. (l, content_of l)) (range_with_len first n)) lbn held ≡ held
+taken_before : (content_of : ℕ → Content) (first n lbn : ℕ) (held : Option Content) → lbn < first
+    → after_taking (map (λ l. (l, content_of l)) (range_with_len first n)) lbn held ≡ held
 taken_before content_of first zero lbn held less = refl
-taken_before content_of first (suc n) lbn held less = on content_of first n lbn held false (more_differs first lbn less) ∙ taken_before content_of (first + 1) n lbn held (omega arith)
+taken_before content_of first (suc n) lbn held less =
+    on content_of first n lbn held false (more_differs first lbn less) ∙ taken_before content_of (first + 1) n lbn held (omega arith)
 
-taken_after : (content_of : ℕ → Content) (first n lbn : ℕ) (held : Option Content) → first + n ≤ lbn → after_taking (map (λ l. (l, content_of l)) (range_with_len first n)) lbn held ≡ held
+taken_after : (content_of : ℕ → Content) (first n lbn : ℕ) (held : Option Content) → first + n ≤ lbn
+    → after_taking (map (λ l. (l, content_of l)) (range_with_len first n)) lbn held ≡ held
 taken_after content_of first zero lbn held more = refl
-taken_after content_of first (suc n) lbn held more = on content_of first n lbn held false (less_differs first lbn (omega arith)) ∙ taken_after content_of (first + 1) n lbn held (omega arith)
+taken_after content_of first (suc n) lbn held more = on content_of first n lbn held false (less_differs first lbn (omega arith))
+    ∙ taken_after content_of (first + 1) n lbn held (omega arith)
 
-taken_inside : (content_of : ℕ → Content) (first n lbn : ℕ) (held : Option Content) → first ≤ lbn → lbn < first + n → after_taking (map (λ l. (l, content_of l)) (range_with_len first n)) lbn held ≡ Some (content_of lbn)
+taken_inside : (content_of : ℕ → Content) (first n lbn : ℕ) (held : Option Content) → first ≤ lbn → lbn < first + n
+    → after_taking (map (λ l. (l, content_of l)) (range_with_len first n)) lbn held ≡ Some (content_of lbn)
 taken_inside content_of first zero lbn held from to = absurd (omega arith)
 taken_inside content_of first (suc n) lbn held from to = elim (cases_lt first lbn) [
-  | inl less ↦ on content_of first n lbn held false (less_differs first lbn less) ∙ taken_inside content_of (first + 1) n lbn held (omega arith) (omega arith)
+  | inl less ↦ on content_of first n lbn held false (less_differs first lbn less)
+      ∙ taken_inside content_of (first + 1) n lbn held (omega arith) (omega arith)
   | inr more ↦ let same : first ≡ lbn = omega arith in
-      on content_of first n lbn held true (here first lbn same) ∙ (taken_before content_of (first + 1) n lbn (Some (content_of first)) (omega arith) ∙ ap (λ l. Some (content_of l)) same)
+      on content_of first n lbn held true (here first lbn same)
+      ∙ (taken_before content_of (first + 1) n lbn (Some (content_of first)) (omega arith) ∙ ap (λ l. Some (content_of l)) same)
 ]
 
 -- the contents of a block are taken
-pub taken_block : (content_of : ℕ → Content) (first n lbn : ℕ) (sectors : List (ℕ × Content)) (held : Option Content) → sectors ≡ map (λ l. (l, content_of l)) (range_with_len first n)
+pub taken_block : (content_of : ℕ → Content) (first n lbn : ℕ) (sectors : List (ℕ × Content)) (held : Option Content)
+    → sectors ≡ map (λ l. (l, content_of l)) (range_with_len first n)
     → after_taking sectors lbn held ≡ after_take content_of first n lbn held
 taken_block content_of first n lbn sectors held e = ap (λ ss. after_taking ss lbn held) e ∙ elim (cases_lt lbn first) [
   | inl a ↦ taken_before content_of first n lbn held a ∙ ap (λ b. cond b (Some (content_of lbn)) held) (sym (before first n lbn a))
@@ -53,13 +65,17 @@ taken_block content_of first n lbn sectors held e = ap (λ ss. after_taking ss l
 ]
 
 -- one more run is taken
-pub taken_more : (runs : List ContentRun) (i : ℕ) (run : ContentRun) (lbn : ℕ) (original was is : Option Content) → take (i + 1) runs ≡ take i runs ++ run ∷ []
+pub taken_more : (runs : List ContentRun) (i : ℕ) (run : ContentRun) (lbn : ℕ) (original was is : Option Content)
+    → take (i + 1) runs ≡ take i runs ++ run ∷ []
     → was ≡ after_taking (sectors_of (take i runs)) lbn original
-    → (run.first ≤ lbn → lbn < run.first + run.count → is ≡ Some run.content) → (lbn < run.first → is ≡ was) → (run.first + run.count ≤ lbn → is ≡ was)
+    → (run.first ≤ lbn → lbn < run.first + run.count → is ≡ Some run.content) → (lbn < run.first → is ≡ was)
+    → (run.first + run.count ≤ lbn → is ≡ was)
     → is ≡ after_taking (sectors_of (take (i + 1) runs)) lbn original
 taken_more runs i run lbn original was is split so_far within less more =
     let whole = ap (λ rs. after_taking (sectors_of rs) lbn original) split
-    ∙ (ap (λ ss. after_taking ss lbn original) (sectors_more (take i runs) run) ∙ (after_taking-append (sectors_of (take i runs)) (sectors_in run) lbn original ∙ ap (λ h. after_taking (sectors_in run) lbn h) (sym so_far))) in
+    ∙ (ap (λ ss. after_taking ss lbn original) (sectors_more (take i runs) run)
+    ∙ (after_taking-append (sectors_of (take i runs)) (sectors_in run) lbn original
+    ∙ ap (λ h. after_taking (sectors_in run) lbn h) (sym so_far))) in
     elim (cases_lt lbn run.first) [
       | inl a ↦ less a ∙ sym (whole ∙ taken_before (λ l. run.content) run.first run.count lbn was a)
       | inr a ↦ elim (cases_lt lbn (run.first + run.count)) [
@@ -69,10 +85,12 @@ taken_more runs i run lbn original was is split so_far within less more =
     ] where
       sectors_more : (runs : List ContentRun) (run : ContentRun) → sectors_of (runs ++ run ∷ []) ≡ sectors_of runs ++ sectors_in run
       sectors_more [] run = append-nil (sectors_in run)
-      sectors_more (first ∷ runs) run = ap (λ rest. sectors_in first ++ rest) (sectors_more runs run) ∙ sym (append_assoc (sectors_in first) (sectors_of runs) (sectors_in run))
+      sectors_more (first ∷ runs) run = ap (λ rest. sectors_in first ++ rest) (sectors_more runs run)
+          ∙ sym (append_assoc (sectors_in first) (sectors_of runs) (sectors_in run))
 
 -- what a sector holds after a range was dropped
-pub dropped : (first n lbn : ℕ) (was is : Option Content) → (first ≤ lbn → lbn < first + n → is ≡ None) → (lbn < first → is ≡ was) → (first + n ≤ lbn → is ≡ was)
+pub dropped : (first n lbn : ℕ) (was is : Option Content) → (first ≤ lbn → lbn < first + n → is ≡ None) → (lbn < first → is ≡ was)
+    → (first + n ≤ lbn → is ≡ was)
     → is ≡ after_dropping first n lbn was
 dropped first n lbn was is within less more = elim (cases_lt lbn first) [
   | inl a ↦ less a ∙ ap (λ b. cond b None was) (sym (before first n lbn a))
@@ -90,7 +108,8 @@ pub held_at-empty : (ranges : List (ℕ × Option Content)) (lbn : ℕ) → rang
 held_at-empty ranges lbn none = ap (λ rs. held_at rs lbn) none ∙ none_held (begins_at []) lbn (λ begin le. refl)
 
 -- the contents of two neighbouring ranges
-pub held_in-split : (content_of : ℕ → Option Content) (first m n : ℕ) → held_in content_of (range_with_len first (m + n)) ≡ held_in content_of (range_with_len first m) ++ held_in content_of (range_with_len (first + m) n)
+pub held_in-split : (content_of : ℕ → Option Content) (first m n : ℕ) → held_in content_of (range_with_len first (m + n))
+    ≡ held_in content_of (range_with_len first m) ++ held_in content_of (range_with_len (first + m) n)
 held_in-split content_of first zero n =
     let at : first + 0 ≡ first = omega arith in
     let all : 0 + n ≡ n = omega arith in
@@ -99,36 +118,46 @@ held_in-split content_of first (suc m) n =
     let at : first + 1 + m ≡ first + suc m = omega arith in
     let all : suc m + n ≡ suc (m + n) = omega arith in
     rw all (ap (λ rest. held_sector first (content_of first) ++ rest) (held_in-split content_of (first + 1) m n)
-    ∙ (sym (append_assoc (held_sector first (content_of first)) (held_in content_of (range_with_len (first + 1) m)) (held_in content_of (range_with_len (first + 1 + m) n)))
+    ∙ (sym (append_assoc (held_sector first (content_of first)) (held_in content_of (range_with_len (first + 1) m))
+    (held_in content_of (range_with_len (first + 1 + m) n)))
     ∙ ap (λ lbn. held_in content_of (range_with_len first (suc m)) ++ held_in content_of (range_with_len lbn n)) at))
 
-held_some : (content_of : ℕ → Option Content) (content : Content) (first n : ℕ) → ((lbn : ℕ) → first ≤ lbn → lbn < first + n → content_of lbn ≡ Some content)
+held_some : (content_of : ℕ → Option Content) (content : Content) (first n : ℕ)
+    → ((lbn : ℕ) → first ≤ lbn → lbn < first + n → content_of lbn ≡ Some content)
     → held_in content_of (range_with_len first n) ≡ map (λ lbn. (lbn, content)) (range_with_len first n)
 held_some content_of content first zero all = refl
 held_some content_of content first (suc n) all =
-    ap₂ (λ o rest. held_sector first o ++ rest) (all first (omega arith) (omega arith)) (held_some content_of content (first + 1) n (λ lbn a b. all lbn (omega arith) (omega arith)))
+    ap₂ (λ o rest. held_sector first o ++ rest) (all first (omega arith) (omega arith))
+    (held_some content_of content (first + 1) n (λ lbn a b. all lbn (omega arith) (omega arith)))
 
-pub held_none : (content_of : ℕ → Option Content) (first n : ℕ) → ((lbn : ℕ) → first ≤ lbn → lbn < first + n → content_of lbn ≡ None) → held_in content_of (range_with_len first n) ≡ []
+pub held_none : (content_of : ℕ → Option Content) (first n : ℕ) → ((lbn : ℕ) → first ≤ lbn → lbn < first + n → content_of lbn ≡ None)
+    → held_in content_of (range_with_len first n) ≡ []
 held_none content_of first zero all = refl
 held_none content_of first (suc n) all =
-    ap₂ (λ o rest. held_sector first o ++ rest) (all first (omega arith) (omega arith)) (held_none content_of (first + 1) n (λ lbn a b. all lbn (omega arith) (omega arith)))
+    ap₂ (λ o rest. held_sector first o ++ rest) (all first (omega arith) (omega arith))
+    (held_none content_of (first + 1) n (λ lbn a b. all lbn (omega arith) (omega arith)))
 
 -- the contents of the sectors up to the next range are one run, or none
-pub held_range : (ranges : List (ℕ × Option Content)) (lbn next : ℕ) (content : Content) → lbn < next → ((begin : ℕ) → IsSome (begins_at ranges begin) → lbn < begin → next ≤ begin)
-    → Some content ≡ held_at ranges lbn → held_in (held_at ranges) (range_with_len lbn (next - lbn)) ≡ sectors_in (record { first = lbn; count = next - lbn; content = content })
+pub held_range : (ranges : List (ℕ × Option Content)) (lbn next : ℕ) (content : Content) → lbn < next
+    → ((begin : ℕ) → IsSome (begins_at ranges begin) → lbn < begin → next ≤ begin)
+    → Some content ≡ held_at ranges lbn → held_in (held_at ranges) (range_with_len lbn (next - lbn))
+    ≡ sectors_in (record { first = lbn; count = next - lbn; content = content })
 held_range ranges lbn next content some least held =
     held_some (held_at ranges) content lbn (next - lbn) (λ l a b. goes_on ranges lbn next l least a (omega arith) ∙ sym held)
 
-pub held_gap : (ranges : List (ℕ × Option Content)) (lbn next : ℕ) → lbn < next → ((begin : ℕ) → IsSome (begins_at ranges begin) → lbn < begin → next ≤ begin)
+pub held_gap : (ranges : List (ℕ × Option Content)) (lbn next : ℕ) → lbn < next
+    → ((begin : ℕ) → IsSome (begins_at ranges begin) → lbn < begin → next ≤ begin)
     → None ≡ held_at ranges lbn → held_in (held_at ranges) (range_with_len lbn (next - lbn)) ≡ []
 held_gap ranges lbn next some least held =
     held_none (held_at ranges) lbn (next - lbn) (λ l a b. goes_on ranges lbn next l least a (omega arith) ∙ sym held)
 
-pub none_added : (runs : List ContentRun) (sectors : List (ℕ × Content)) → sectors ≡ [] → runs ≡ runs_of (sectors_of runs) → runs ≡ runs_of (sectors_of runs ++ sectors)
+pub none_added : (runs : List ContentRun) (sectors : List (ℕ × Content)) → sectors ≡ [] → runs ≡ runs_of (sectors_of runs)
+    → runs ≡ runs_of (sectors_of runs ++ sectors)
 none_added runs sectors none fewest = fewest ∙ ap runs_of (sym (append-nil (sectors_of runs)) ∙ ap (λ ss. sectors_of runs ++ ss) (sym none))
 
 -- the runs of a range so far, and those up to the next range
-pub added_more : (content_of : ℕ → Option Content) (start : List (ℕ × Content)) (runs more : List ContentRun) (first lbn next : ℕ) → first ≤ lbn → lbn ≤ next
+pub added_more : (content_of : ℕ → Option Content) (start : List (ℕ × Content)) (runs more : List ContentRun) (first lbn next : ℕ)
+    → first ≤ lbn → lbn ≤ next
     → runs ≡ runs_of (start ++ held_in content_of (range_with_len first (lbn - first)))
     → more ≡ runs_of (sectors_of runs ++ held_in content_of (range_with_len lbn (next - lbn)))
     → more ≡ runs_of (start ++ held_in content_of (range_with_len first (next - first)))
@@ -138,17 +167,21 @@ added_more content_of start runs more first lbn next from to so_far added =
     let own = (fewest-again (start ++ before) runs so_far).0 in
     let at : first + (lbn - first) ≡ lbn = omega arith in
     let size : next - first ≡ lbn - first + (next - lbn) = omega arith in
-    let whole = ap (λ n. held_in content_of (range_with_len first n)) size ∙ (held_in-split content_of first (lbn - first) (next - lbn) ∙ ap (λ l. before ++ held_in content_of (range_with_len l (next - lbn))) at) in
+    let whole = ap (λ n. held_in content_of (range_with_len first n)) size ∙ (held_in-split content_of first (lbn - first) (next - lbn)
+    ∙ ap (λ l. before ++ held_in content_of (range_with_len l (next - lbn))) at) in
     added ∙ ap runs_of (ap (λ ss. ss ++ next_sectors) own ∙ (append_assoc start before next_sectors ∙ ap (λ ss. start ++ ss) (sym whole)))
 
 -- the first i + 1 elements of a list are the first i and the one behind them
-pub take_one : (runs : List ContentRun) (i : ℕ) (run : ContentRun) → slice_get runs i ≡ Some run → take (i + 1) runs ≡ take i runs ++ run ∷ []
+pub take_one : (runs : List ContentRun) (i : ℕ) (run : ContentRun) → slice_get runs i ≡ Some run
+    → take (i + 1) runs ≡ take i runs ++ run ∷ []
 take_one [] i run at = absurd (grind arith)
 take_one (first ∷ runs) zero run at = ap (λ x. x ∷ []) (same_Some first run at)
-take_one (first ∷ runs) (suc i) run at = let more : suc i + 1 ≡ suc (i + 1) = omega arith in rw more (ap (λ rest. first ∷ rest) (take_one runs i run at))
+take_one (first ∷ runs) (suc i) run at = let more : suc i + 1 ≡ suc (i + 1) = omega arith in
+    rw more (ap (λ rest. first ∷ rest) (take_one runs i run at))
 
 -- what holds of the first i runs and of the next one holds of the first i + 1
-pub so_far_more : (P : ContentRun → Type 0) (runs : List ContentRun) (i : ℕ) (run : ContentRun) → slice_get runs i ≡ Some run → ((j : ℕ) (r : ContentRun) → j < i → slice_get runs j ≡ Some r → P r) → P run
+pub so_far_more : (P : ContentRun → Type 0) (runs : List ContentRun) (i : ℕ) (run : ContentRun) → slice_get runs i ≡ Some run
+    → ((j : ℕ) (r : ContentRun) → j < i → slice_get runs j ≡ Some r → P r) → P run
     → (j : ℕ) (r : ContentRun) → j < i + 1 → slice_get runs j ≡ Some r → P r
 so_far_more P runs i run at before here j r less there = elim (cases_lt j i) [
   | inl l ↦ before j r l there
@@ -156,12 +189,14 @@ so_far_more P runs i run at before here j r less there = elim (cases_lt j i) [
 ]
 
 -- contents that end by a sector change nothing from that sector on
-pub taken_past : (end lbn : ℕ) (runs : List ContentRun) (held : Option Content) → AllByRecursion (λ run. run.first + run.count ≤ end) runs → end ≤ lbn → after_taking (sectors_of runs) lbn held ≡ held
+pub taken_past : (end lbn : ℕ) (runs : List ContentRun) (held : Option Content) → AllByRecursion (λ run. run.first + run.count ≤ end) runs
+    → end ≤ lbn → after_taking (sectors_of runs) lbn held ≡ held
 taken_past end lbn [] held all past = refl
 taken_past end lbn (run ∷ runs) held all past =
     let here = all.0 in
     after_taking-append (sectors_in run) (sectors_of runs) lbn held
-    ∙ (taken_past end lbn runs (after_taking (sectors_in run) lbn held) all.1 past ∙ taken_after (λ l. run.content) run.first run.count lbn held (omega arith))
+    ∙ (taken_past end lbn runs (after_taking (sectors_in run) lbn held) all.1 past
+    ∙ taken_after (λ l. run.content) run.first run.count lbn held (omega arith))
 
 pub dropped_past : (first n lbn : ℕ) (held : Option Content) → held ≡ None → after_dropping first n lbn held ≡ None
 dropped_past first n lbn held none = go (is_within first n lbn) where
@@ -170,22 +205,31 @@ dropped_past first n lbn held none = go (is_within first n lbn) where
   go false = none
 
 -- sectors from which on nothing is held add nothing
-held_in-further : (content_of : ℕ → Option Content) (end more : ℕ) → EndsBy content_of end → held_in content_of (range_with_len 0 (end + more)) ≡ held_in content_of (range_with_len 0 end)
+held_in-further : (content_of : ℕ → Option Content) (end more : ℕ) → EndsBy content_of end
+    → held_in content_of (range_with_len 0 (end + more)) ≡ held_in content_of (range_with_len 0 end)
 held_in-further content_of end more none =
     held_in-split content_of 0 end more
-    ∙ (ap (λ rest. held_in content_of (range_with_len 0 end) ++ rest) (held_none content_of (0 + end) more (λ lbn a b. none lbn (omega arith)))
+    ∙ (ap (λ rest. held_in content_of (range_with_len 0 end) ++ rest)
+    (held_none content_of (0 + end) more (λ lbn a b. none lbn (omega arith)))
     ∙ append-nil (held_in content_of (range_with_len 0 end)))
 
-held_in-ends : (content_of : ℕ → Option Content) (end other : ℕ) → EndsBy content_of end → EndsBy content_of other → held_in content_of (range_with_len 0 end) ≡ held_in content_of (range_with_len 0 other)
+held_in-ends : (content_of : ℕ → Option Content) (end other : ℕ) → EndsBy content_of end → EndsBy content_of other
+    → held_in content_of (range_with_len 0 end) ≡ held_in content_of (range_with_len 0 other)
 held_in-ends content_of end other none nothing = elim (cases_lt end other) [
-  | inl less ↦ let more : end + (other - end) ≡ other = omega arith in sym (ap (λ n. held_in content_of (range_with_len 0 n)) (sym more) ∙ held_in-further content_of end (other - end) none)
-  | inr le ↦ let more : other + (end - other) ≡ end = omega arith in ap (λ n. held_in content_of (range_with_len 0 n)) (sym more) ∙ held_in-further content_of other (end - other) nothing
+  | inl less ↦ let more : end + (other - end) ≡ other = omega arith in
+      sym (ap (λ n. held_in content_of (range_with_len 0 n)) (sym more) ∙ held_in-further content_of end (other - end) none)
+  | inr le ↦ let more : other + (end - other) ≡ end = omega arith in
+      ap (λ n. held_in content_of (range_with_len 0 n)) (sym more) ∙ held_in-further content_of other (end - other) nothing
 ]
 
-pub contents_to : (content_of : ℕ → Option Content) (runs : List ContentRun) (end other : ℕ) → EndsBy content_of end → runs ≡ runs_of (held_in content_of (range_with_len 0 end)) → EndsBy content_of other
+pub contents_to : (content_of : ℕ → Option Content) (runs : List ContentRun) (end other : ℕ) → EndsBy content_of end
+    → runs ≡ runs_of (held_in content_of (range_with_len 0 end)) → EndsBy content_of other
     → runs ≡ runs_of (held_in content_of (range_with_len 0 other))
 contents_to content_of runs end other ends e nothing = e ∙ ap runs_of (held_in-ends content_of end other ends nothing)
 
-pub held_all : (f : ℕ → Option Content) (content_at : ℕ → Content) (a n : ℕ) → ((lbn : ℕ) → a ≤ lbn → lbn < a + n → f lbn ≡ Some (content_at lbn)) → held_in f (range_with_len a n) ≡ map (λ lbn. (lbn, content_at lbn)) (range_with_len a n)
+pub held_all : (f : ℕ → Option Content) (content_at : ℕ → Content) (a n : ℕ)
+    → ((lbn : ℕ) → a ≤ lbn → lbn < a + n → f lbn ≡ Some (content_at lbn))
+    → held_in f (range_with_len a n) ≡ map (λ lbn. (lbn, content_at lbn)) (range_with_len a n)
 held_all f content_at a zero same = refl
-held_all f content_at a (suc n) same = rw (same a (omega arith) (omega arith), held_all f content_at (a + 1) n (λ lbn le lt. same lbn (omega arith) (omega arith))) refl
+held_all f content_at a (suc n) same =
+    rw (same a (omega arith) (omega arith), held_all f content_at (a + 1) n (λ lbn le lt. same lbn (omega arith) (omega arith))) refl

@@ -33,4 +33,5 @@ content_in holding lbn = unwrap_or (held_at holding.ranges lbn) (unwritten holdi
 
 -- a range begins at each run and behind it
 abbrev pub AreCut : (ℕ → Option (Option Content)) → List ContentRun → Type 0
-AreCut begins runs = (i : ℕ) (run : ContentRun) → slice_get runs i ≡ Some run → IsSome (begins run.first) × IsSome (begins (run.first + run.count))
+AreCut begins runs = (i : ℕ) (run : ContentRun) → slice_get runs i ≡ Some run
+    → IsSome (begins run.first) × IsSome (begins (run.first + run.count))

@@ -52,7 +52,8 @@ impl SparseContents {
     /// sectors stay as they are. Out of memory, it returns `NoMemory` and no content has changed.
     pub fn take(&mut self, contents: &Contents) -> Result<(), NoMemory>
         ensures ok { OnOk result ((lbn : ℕ) → held_at self.new lbn ≡ after_taking (sectors_of contents.now) lbn (held_at self.old lbn)) }
-        ensures given { OnOk result ((content_of : ℕ → Content) (first n lbn : ℕ) → Gives contents.now content_of first n → held_at self.new lbn ≡ after_take content_of first n lbn (held_at self.old lbn)) }
+        ensures given { OnOk result ((content_of : ℕ → Content) (first n lbn : ℕ) → Gives contents.now content_of first n
+            → held_at self.new lbn ≡ after_take content_of first n lbn (held_at self.old lbn)) }
         ensures err { OnErr result ((lbn : ℕ) → held_at self.new lbn ≡ held_at self.old lbn) }
     {
         cut_runs(&mut self.ranges, contents)?;
@@ -77,7 +78,8 @@ impl SparseContents {
     /// All that is held, as the fewest runs, ascending. Its only error is `NoMemory`.
     pub fn contents(&self, alloc: Global) -> Result<Contents, NoMemory>
         ensures ends { EndsBy (held_at self.now) (10 ^ 12) }
-        ensures fewest { IfOk result (λ runs. (end : ℕ) → EndsBy (held_at self.now) end → runs ≡ runs_of (held_in (held_at self.now) (range_with_len 0 end))) }
+        ensures fewest { IfOk result
+            (λ runs. (end : ℕ) → EndsBy (held_at self.now) end → runs ≡ runs_of (held_in (held_at self.now) (range_with_len 0 end))) }
     {
         let mut runs = Contents::new(alloc);
         self.add_runs(&mut runs, 0, self.end())?;
@@ -89,7 +91,8 @@ impl SparseContents {
     pub fn add_runs(&self, runs: &mut Contents, first: u64, count: u64) -> Result<(), NoMemory>
         requires range { first + count ≤ 10 ^ 12 }
         requires fewest { (sectors : List (ℕ × Content)) × (runs.old ≡ runs_of sectors) }
-        ensures { OnOk result ((sectors : List (ℕ × Content)) → runs.old ≡ runs_of sectors → runs.new ≡ runs_of (sectors ++ held_in (held_at self.now) (range_with_len first count))) }
+        ensures { OnOk result ((sectors : List (ℕ × Content)) → runs.old ≡ runs_of sectors
+            → runs.new ≡ runs_of (sectors ++ held_in (held_at self.now) (range_with_len first count))) }
     {
         let end = first + count;
         let mut lbn = first;
@@ -114,7 +117,8 @@ impl SparseContents {
         requires range { (lbn < end) × (end ≤ 10 ^ 12) }
         requires fewest { runs.old ≡ runs_of (sectors_of runs.old) }
         ensures next { IfOk result (λ next. (lbn < next) × (next ≤ end)) }
-        ensures more { IfOk result (λ next. runs.new ≡ runs_of (sectors_of runs.old ++ held_in (held_at self.now) (range_with_len lbn (next - lbn)))) }
+        ensures more { IfOk result
+            (λ next. runs.new ≡ runs_of (sectors_of runs.old ++ held_in (held_at self.now) (range_with_len lbn (next - lbn)))) }
     {
         let next = next_begin(&self.ranges, lbn, end);
         match held_at(&self.ranges, lbn) {
@@ -151,7 +155,8 @@ fn cut_runs(
 fn assign_runs(ranges: &mut BTreeMap<u64, Option<Content>>, contents: &Contents)
     requires { AreCut (get nat_cmp ranges.old) contents.now }
     ensures past { EndsBy (held_of (get nat_cmp ranges.old)) (10 ^ 12) → EndsBy (held_of (get nat_cmp ranges.new)) (10 ^ 12) }
-    ensures value { (lbn : ℕ) → held_of (get nat_cmp ranges.new) lbn ≡ after_taking (sectors_of contents.now) lbn (held_of (get nat_cmp ranges.old) lbn) }
+    ensures value { (lbn : ℕ)
+        → held_of (get nat_cmp ranges.new) lbn ≡ after_taking (sectors_of contents.now) lbn (held_of (get nat_cmp ranges.old) lbn) }
 {
     for i in 0..contents.len() {
         let run = contents.get(i);

@@ -3,47 +3,59 @@ use Rattle.fb_tasks.proofs.Words.{◌≡◌, ℕ, zero, suc, ◌+◌, ◌^◌, �
 use Rattle.fb_tasks.proofs.Words.{arith, subst, length-map-range_with_len, true≢false, Request, Shape, Call, IsScript, Content, Gives}
 use Rattle.fb_tasks.proofs.Words.{Block, Entry, Wanted, is_wanted, BackRow, DeliveryRow, Past, finished, registered, state, tasks, wanted}
 use Rattle.fb_tasks.proofs.Words.{view, with_choices, test_rows_found, take_call, with_delivery, task_row, task_rows, delivery_of}
-use Rattle.fb_tasks.proofs.Words.{Tells, MayTake, MayChooseAndTest, MayDeliver, IsUpToDate, tested_at, IsCalled, all_at, filter_to, some_same}
+use Rattle.fb_tasks.proofs.Words.{Tells, MayTake, MayChooseAndTest, MayDeliver, IsUpToDate, tested_at, IsCalled, all_at, filter_to}
+use Rattle.fb_tasks.proofs.Words.{some_same}
 use Rattle.fb_tasks.proofs.Calls.{may-take, called-more, called-tested, called-chosen, called-delivered, called-finished}
 use Rattle.std.specs.Prelude.{slice_get}
 use Rattle.fb_tasks.specs.declared.session.Session.{Session}
 use Rattle.fb_tasked.specs.Following.{Follows}
 use Rattle.fb_tasks.specs.Telling.{IsBlockOf, entry_of}
 
-module _ {up_to_date : Bool} {disk : Shape} {calls : List Call} {next : ℕ} {sessions : List Session} {held : List Entry} (h : Follows up_to_date disk calls next sessions held) where
+module _ {up_to_date : Bool} {disk : Shape} {calls : List Call} {next : ℕ} {sessions : List Session} {held : List Entry}
+    (h : Follows up_to_date disk calls next sessions held) where
   -- and after this as well
-  follows-on : (b : Bool) (past : Past) (now : List Session) (after : List Entry) (n : ℕ) → IsCalled disk calls past n → Tells disk past now after → (b ≡ true → IsUpToDate past) → Follows b disk calls n now after
-  follows-on b past now after n called tells tested = record { script = h.script; past = past; called = called; tells = tells; tested = tested }
+  follows-on : (b : Bool) (past : Past) (now : List Session) (after : List Entry) (n : ℕ) → IsCalled disk calls past n
+      → Tells disk past now after → (b ≡ true → IsUpToDate past) → Follows b disk calls n now after
+  follows-on b past now after n called tells tested =
+      record { script = h.script; past = past; called = called; tells = tells; tested = tested }
 
   -- the next call takes effect
   module _ (call : Call) (at : slice_get calls next ≡ Some call) where
     pub follows-may : MayTake disk h.past sessions held call
     follows-may = may-take disk calls h.script.allowed h.script.few_calls h.past next h.called call at sessions held h.tells
 
-    pub follows-more : (now : List Session) (after : List Entry) → Tells disk (take_call disk h.past call) now after → Follows false disk calls (next + 1) now after
+    pub follows-more : (now : List Session) (after : List Entry) → Tells disk (take_call disk h.past call) now after
+        → Follows false disk calls (next + 1) now after
     follows-more now after tells = follows-on false (take_call disk h.past call) now after (next + 1)
-        (called-more disk calls h.script.allowed h.script.few_calls h.past next h.called call at sessions held h.tells) tells (λ never. absurd (true≢false (sym never)))
+        (called-more disk calls h.script.allowed h.script.few_calls h.past next h.called call at sessions held h.tells) tells
+        (λ never. absurd (true≢false (sym never)))
 
   -- all tasks were tested after the last event that could complete something
   pub follows-may-choose : MayChooseAndTest disk h.past sessions held
   follows-may-choose = record { tells = h.tells; few = omega (arith, h.called.few) }
 
-  pub follows-up_to_date : (instant : ℕ) (now : List Session) (after : List Entry) → Tells disk (tested_at disk h.past instant) now after → IsUpToDate (tested_at disk h.past instant) → Follows true disk calls next now after
+  pub follows-up_to_date : (instant : ℕ) (now : List Session) (after : List Entry) → Tells disk (tested_at disk h.past instant) now after
+      → IsUpToDate (tested_at disk h.past instant) → Follows true disk calls next now after
   follows-up_to_date instant now after tells all = follows-on true (tested_at disk h.past instant) now after next
-      (called-tested disk calls (with_choices disk h.past) next (called-chosen disk calls h.past next h.called sessions held h.tells) (test_rows_found (with_choices disk h.past) instant)) tells (λ _. all)
+      (called-tested disk calls (with_choices disk h.past) next (called-chosen disk calls h.past next h.called sessions held h.tells)
+      (test_rows_found (with_choices disk h.past) instant)) tells (λ _. all)
 
   -- a block is delivered
-  pub follows-delivered : (got : DeliveryRow) (now : List Session) (after : List Entry) → Tells disk (with_delivery h.past (delivery_of h.past got)) now after → IsUpToDate (with_delivery h.past (delivery_of h.past got)) → (b : Bool) → Follows b disk calls next now after
+  pub follows-delivered : (got : DeliveryRow) (now : List Session) (after : List Entry)
+      → Tells disk (with_delivery h.past (delivery_of h.past got)) now after → IsUpToDate (with_delivery h.past (delivery_of h.past got))
+      → (b : Bool) → Follows b disk calls next now after
   follows-delivered got now after tells all b = follows-on b (with_delivery h.past (delivery_of h.past got)) now after next
       (called-delivered disk calls h.past next got h.called) tells (λ _. all)
 
   -- a write passes
-  pub follows-finished : (request : Request) (now : List Session) (after : List Entry) → Tells disk (finished request ∷ h.past) now after → Follows false disk calls next now after
+  pub follows-finished : (request : Request) (now : List Session) (after : List Entry) → Tells disk (finished request ∷ h.past) now after
+      → Follows false disk calls next now after
   follows-finished request now after tells = follows-on false (finished request ∷ h.past) now after next
       (called-finished disk calls h.past next h.called request) tells (λ never. absurd (true≢false (sym never)))
 
 -- nothing has happened yet
-pub follows-first : (disk : Shape) (calls : List Call) (sessions : List Session) → IsScript disk 0 calls → Tells disk [] sessions [] → Follows false disk calls 0 sessions []
+pub follows-first : (disk : Shape) (calls : List Call) (sessions : List Session) → IsScript disk 0 calls → Tells disk [] sessions []
+    → Follows false disk calls 0 sessions []
 follows-first disk calls sessions script tells = record {
   script = script;
   past = [];
@@ -53,20 +65,26 @@ follows-first disk calls sessions script tells = record {
 }
 
 -- a registered block stands where its entry does, in the entry's state
-pub registered-at : {disk : Shape} {past : Past} {sessions : List Session} {held : List Entry} (tells : Tells disk past sessions held) (place : ℕ) (entry : Entry) → slice_get held place ≡ Some entry
+pub registered-at : {disk : Shape} {past : Past} {sessions : List Session} {held : List Entry} (tells : Tells disk past sessions held)
+    (place : ℕ) (entry : Entry) → slice_get held place ≡ Some entry
     → (slice_get (registered past) place ≡ Some entry.block) × (state past entry.block ≡ entry.state)
 unfolding view
 registered-at {past} tells place entry at = back (registered past) place (ap (λ es. slice_get es place) (sym tells.entries) ∙ at) where
-  back : (blocks : List Block) (n : ℕ) → slice_get (map (entry_of past) blocks) n ≡ Some entry → (slice_get blocks n ≡ Some entry.block) × (state past entry.block ≡ entry.state)
+  back : (blocks : List Block) (n : ℕ) → slice_get (map (entry_of past) blocks) n ≡ Some entry
+      → (slice_get blocks n ≡ Some entry.block) × (state past entry.block ≡ entry.state)
   back [] n there = absurd (grind arith)
-  back (b ∷ bs) zero there = subst (λ (e : Entry). (Some b ≡ Some e.block) × (state past e.block ≡ e.state)) (some_same (entry_of past b) entry there) (refl, refl)
+  back (b ∷ bs) zero there =
+      subst (λ (e : Entry). (Some b ≡ Some e.block) × (state past e.block ≡ e.state)) (some_same (entry_of past b) entry there) (refl, refl)
   back (b ∷ bs) (suc n) there = back bs n there
 
-pub within-at : {disk : Shape} {past : Past} {sessions : List Session} {held : List Entry} (tells : Tells disk past sessions held) (place : ℕ) (entry : Entry) → slice_get held place ≡ Some entry → entry.block.lbn + entry.block.count ≤ 10 ^ 12
-within-at {disk} {past} tells place entry at = (all_at (IsBlockOf disk (length (tasks past))) (registered past) place entry.block tells.on_disk (registered-at tells place entry at).0).within
+pub within-at : {disk : Shape} {past : Past} {sessions : List Session} {held : List Entry} (tells : Tells disk past sessions held)
+    (place : ℕ) (entry : Entry) → slice_get held place ≡ Some entry → entry.block.lbn + entry.block.count ≤ 10 ^ 12
+within-at {disk} {past} tells place entry at = (all_at (IsBlockOf disk (length (tasks past)))
+    (registered past) place entry.block tells.on_disk (registered-at tells place entry at).0).within
 
 -- a block is wanted where its entry says so
-wanted-at : {disk : Shape} {past : Past} {sessions : List Session} {held : List Entry} (tells : Tells disk past sessions held) (place : ℕ) (entry : Entry) → slice_get held place ≡ Some entry → entry.state ≡ Wanted
+wanted-at : {disk : Shape} {past : Past} {sessions : List Session} {held : List Entry} (tells : Tells disk past sessions held) (place : ℕ)
+    (entry : Entry) → slice_get held place ≡ Some entry → entry.state ≡ Wanted
     → (i : ℕ) × (slice_get (wanted past) i ≡ Some entry.block)
 unfolding wanted
 wanted-at {past} tells place entry at is =
@@ -74,13 +92,16 @@ wanted-at {past} tells place entry at is =
     filter_to (λ block. is_wanted (state past block)) (registered past) place entry.block there.0 (ap is_wanted (there.1 ∙ is))
 
 -- and may be delivered then
-pub follows-may-deliver : {disk : Shape} {calls : List Call} {next : ℕ} {sessions : List Session} {held : List Entry} (h : Follows true disk calls next sessions held) (got : DeliveryRow) (place : ℕ) (content_at : ℕ → Content)
-    → slice_get held place ≡ Some (record { block = got.block; state = Wanted }) → Gives got.content content_at got.block.lbn got.block.count → MayDeliver disk h.past sessions held got
+pub follows-may-deliver : {disk : Shape} {calls : List Call} {next : ℕ} {sessions : List Session} {held : List Entry}
+    (h : Follows true disk calls next sessions held) (got : DeliveryRow) (place : ℕ) (content_at : ℕ → Content)
+    → slice_get held place ≡ Some (record { block = got.block; state = Wanted })
+    → Gives got.content content_at got.block.lbn got.block.count → MayDeliver disk h.past sessions held got
 follows-may-deliver h got place content_at at gives =
     let there = wanted-at h.tells place (record { block = got.block; state = Wanted }) at refl in
     record { tells = h.tells; up_to_date = h.tested refl; place = there.0; wanted = there.1; content_at = content_at; content = gives }
 
 -- each task has its row
-pub rows-there : {disk : Shape} {past : Past} {sessions : List Session} {held : List Entry} (tells : Tells disk past sessions held) → (rows : List BackRow) → rows ≡ task_rows past → length rows ≡ length sessions
+pub rows-there : {disk : Shape} {past : Past} {sessions : List Session} {held : List Entry} (tells : Tells disk past sessions held)
+    → (rows : List BackRow) → rows ≡ task_rows past → length rows ≡ length sessions
 unfolding task_rows
 rows-there {past} tells rows is = ap length is ∙ (length-map-range_with_len (task_row past) 0 (length (tasks past)) ∙ sym tells.as_many)

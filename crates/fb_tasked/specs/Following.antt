@@ -10,7 +10,8 @@ use Rattle.fb_tasks.specs.Script.{IsCalled}
 use Rattle.fb_tasks.specs.Telling.{Tells, IsUpToDate}
 
 -- the sessions and the wanted set tell a history in which the first calls have taken effect, and perhaps all was tested
-pub record Follows (up_to_date : Bool) (disk : Shape) (calls : List Call) (next : ℕ) (sessions : List Session) (held : List Entry) : Type 0 where
+pub record Follows (up_to_date : Bool) (disk : Shape) (calls : List Call) (next : ℕ) (sessions : List Session)
+    (held : List Entry) : Type 0 where
   pub script : IsScript disk 0 calls
   pub past : Past
   pub called : IsCalled disk calls past next

@@ -92,7 +92,8 @@ struct PlayedScript {
 impl PlayedScript {
     // Nothing has happened yet.
     fn new(alloc: Global, script: &[u8], latent: &[u64]) -> Result<PlayedScript, Fail>
-        ensures { IfOk result (λ played. Follows played.up_to_date played.map played.calls.calls.items played.called played.sessions played.wanted) }
+        ensures { IfOk result
+            (λ played. Follows played.up_to_date played.map played.calls.calls.items played.called played.sessions played.wanted) }
     {
         let map = disk(alloc)?;
         let calls = read_calls(alloc, script, &map, 0)?;
@@ -111,7 +112,8 @@ impl PlayedScript {
     // What happens next.
     fn step(&mut self, rt: &impl Abort, alloc: Global, step: Step) -> Result<(), Fail>
         requires { Follows self.old.up_to_date self.old.map self.old.calls.calls.items self.old.called self.old.sessions self.old.wanted }
-        ensures { OnOk result (Follows self.new.up_to_date self.new.map self.new.calls.calls.items self.new.called self.new.sessions self.new.wanted) }
+        ensures { OnOk result
+            (Follows self.new.up_to_date self.new.map self.new.calls.calls.items self.new.called self.new.sessions self.new.wanted) }
     {
         match step {
             Step::Prepare(now) => Ok(self.prepare(now)?),
@@ -144,7 +146,8 @@ impl PlayedScript {
     // The calls up to an instant take effect, the tasks choose segments, and all are tested.
     fn prepare(&mut self, now: Ns) -> Result<(), NoMemory>
         requires { Follows self.old.up_to_date self.old.map self.old.calls.calls.items self.old.called self.old.sessions self.old.wanted }
-        ensures { OnOk result (Follows self.new.up_to_date self.new.map self.new.calls.calls.items self.new.called self.new.sessions self.new.wanted) }
+        ensures { OnOk result
+            (Follows self.new.up_to_date self.new.map self.new.calls.calls.items self.new.called self.new.sessions self.new.wanted) }
     {
         self.call(now)?;
         self.up_to_date = true;
@@ -167,7 +170,8 @@ impl PlayedScript {
     // The task's block of that number, if it may be delivered.
     fn wanted_block(&self, task: u32, number: u32) -> Result<Block, Fail>
         requires { Follows self.now.up_to_date self.now.map self.now.calls.calls.items self.now.called self.now.sessions self.now.wanted }
-        ensures { IfOk result (λ block. (self.now.up_to_date ≡ true) × (place : ℕ) × (slice_get self.now.wanted place ≡ Some (record { block = block; state = State.Wanted }))) }
+        ensures { IfOk result (λ block. (self.now.up_to_date ≡ true) × (place : ℕ)
+            × (slice_get self.now.wanted place ≡ Some (record { block = block; state = State.Wanted }))) }
     {
         match self.entry(task, number) {
             Some(entry) => match entry.state {
@@ -189,7 +193,8 @@ impl PlayedScript {
     ) -> Result<(), NoMemory>
         requires follows { Follows true self.old.map self.old.calls.calls.items self.old.called self.old.sessions self.old.wanted }
         requires wanted { (place : ℕ) × (slice_get self.old.wanted place ≡ Some (record { block = block; state = State.Wanted })) }
-        ensures { OnOk result (Follows self.new.up_to_date self.new.map self.new.calls.calls.items self.new.called self.new.sessions self.new.wanted) }
+        ensures { OnOk result
+            (Follows self.new.up_to_date self.new.map self.new.calls.calls.items self.new.called self.new.sessions self.new.wanted) }
     {
         let content = self.store.runs(alloc, block.lbn, block.count)?;
         runs_are_fewest();
@@ -208,7 +213,8 @@ impl PlayedScript {
     // A write passes.
     fn write(&mut self, first: u64, count: u32, writer: u64) -> Result<(), Fail>
         requires { Follows self.old.up_to_date self.old.map self.old.calls.calls.items self.old.called self.old.sessions self.old.wanted }
-        ensures { OnOk result (Follows self.new.up_to_date self.new.map self.new.calls.calls.items self.new.called self.new.sessions self.new.wanted) }
+        ensures { OnOk result
+            (Follows self.new.up_to_date self.new.map self.new.calls.calls.items self.new.called self.new.sessions self.new.wanted) }
     {
         if first >= 96 || count > 96 {
             return Err(Fail::from("beyond the disk"));

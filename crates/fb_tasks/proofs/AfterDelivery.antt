@@ -5,7 +5,8 @@ use Rattle.fb_tasks.proofs.Words.{◌∙◌, arith, subst, AllByRecursion, flat_
 use Rattle.fb_tasks.proofs.Words.{length-set, slice_get_within, slice_get-get_or, Shape, is_clean, option_map, BackRow, BadLine, GotLine}
 use Rattle.fb_tasks.proofs.Words.{DeliveryRow, Deliver, Entry, Wanted, after, is_block, Content, Gives, Past, tested, delivered, tasks}
 use Rattle.fb_tasks.proofs.Words.{terms_of, registered, is_seal_of, Choice, TaskView, view, delivered_view, is_unsealed, is_done}
-use Rattle.fb_tasks.proofs.Words.{is_cleaned, delivered-silent, delivered-view, tested-view, number_same, test_rows_found, segment_rows_found}
+use Rattle.fb_tasks.proofs.Words.{is_cleaned, delivered-silent, delivered-view, tested-view, number_same, test_rows_found}
+use Rattle.fb_tasks.proofs.Words.{segment_rows_found}
 use Rattle.fb_tasks.proofs.Words.{seal_rows_found, complete_rows, is_newly_cleaned, findings, is_scrub, bad_sectors, Session}
 use Rattle.fb_tasks.proofs.Words.{rows_after, HasTaken, entry_of, choice_in, AreReported, MayFinish, IsBlockOf, IsAtWork, HoldsBlocks}
 use Rattle.fb_tasks.proofs.Words.{Stands, Told, HasNoChoice, Tells, IsUpToDate, MayDeliver, all_at, number_other, same_number, other_number}
@@ -17,24 +18,29 @@ use Rattle.fb_tasks.proofs.{Deliveries.at_work_now, States.seen, RowsOf.reported
 use Rattle.fb_tasks.proofs.{Leaving.begun_after, Leaving.begun_longer, Leaving.begun_same}
 
 -- where one number alone gives anything
-flat_one : {X : Type 0} (f : ℕ → List X) (k a n : ℕ) → a ≤ k → k < a + n → ((j : ℕ) → a ≤ j → j < a + n → (j ≡ k → ⊥) → f j ≡ []) → flat_map f (range_with_len a n) ≡ f k
+flat_one : {X : Type 0} (f : ℕ → List X) (k a n : ℕ) → a ≤ k → k < a + n → ((j : ℕ) → a ≤ j → j < a + n → (j ≡ k → ⊥) → f j ≡ [])
+    → flat_map f (range_with_len a n) ≡ f k
 flat_one f k a zero from to others = absurd (omega arith)
 flat_one f k a (suc n) from to others = elim (cases_Bool (a == k)) [
   | inl here ↦
       let e = same_number a k here in
-      let rest = flat_none f (range_with_len (a + 1) n) (all_range (λ j. f j ≡ []) (a + 1) n (λ j after below. others j (omega arith) (omega arith) (λ same. absurd (omega (arith, e, same, after))))) in
+      let rest = flat_none f (range_with_len (a + 1) n) (all_range (λ j. f j ≡ []) (a + 1) n
+      (λ j after below. others j (omega arith) (omega arith) (λ same. absurd (omega (arith, e, same, after))))) in
       rw rest (append-nil (f a) ∙ ap f e)
   | inr other ↦
       let differ = other_number a k other in
-      rw (others a (omega arith) (omega arith) differ) (flat_one f k (a + 1) n (grind (arith, nat_tests)) (omega arith) (λ j after below. others j (omega arith) (omega arith)))
+      rw (others a (omega arith) (omega arith) differ)
+      (flat_one f k (a + 1) n (grind (arith, nat_tests)) (omega arith) (λ j after below. others j (omega arith) (omega arith)))
 ]
 
-module _ {disk : Shape} {past : Past} {sessions : List Session} {held : List Entry} (got : DeliveryRow) (may : MayDeliver disk past sessions held got) where
+module _ {disk : Shape} {past : Past} {sessions : List Session} {held : List Entry} (got : DeliveryRow)
+    (may : MayDeliver disk past sessions held got) where
   pub placed : WasWanted past got.block
   placed = was_wanted past got.block may.place may.wanted
 
   pub opened : got.block.task < length (tasks past)
-  opened = (all_at (IsBlockOf disk (length (tasks past))) (registered past) placed.place got.block may.tells.on_disk placed.registered_there).task
+  opened = (all_at (IsBlockOf disk (length (tasks past)))
+      (registered past) placed.place got.block may.tells.on_disk placed.registered_there).task
 
   pub within_sessions : got.block.task < length sessions
   within_sessions = omega (arith, opened, may.tells.as_many)
@@ -50,7 +56,8 @@ module _ {disk : Shape} {past : Past} {sessions : List Session} {held : List Ent
     there = some_at sessions task (subst (λ n. task < n) (sym may.tells.as_many) less)
 
     done-other : (is_unsealed (view past task) && is_done (view past task).work) ≡ false
-    done-other = rw ((seen past task).unsealed, (seen past task).done) (sym (seals_given past 0 task) ∙ ap (list_any (is_seal_of task)) (may.up_to_date.no_rows 0))
+    done-other = rw ((seen past task).unsealed, (seen past task).done) (sym (seals_given past 0 task)
+        ∙ ap (list_any (is_seal_of task)) (may.up_to_date.no_rows 0))
 
     tested-other : (view past task).was_complete ≡ is_done (view past task).work
     tested-other = rw ((seen past task).was, (seen past task).done) (may.up_to_date.tested task)
@@ -63,26 +70,34 @@ module _ {disk : Shape} {past : Past} {sessions : List Session} {held : List Ent
 
   -- the block's own task alone gives rows
   pub own-rows : (now : ℕ) → test_rows_found (delivered got ∷ past) now
-      ≡ segment_rows_found (delivered got ∷ past) now got.block.task ++ (seal_rows_found (delivered got ∷ past) now got.block.task ++ complete_rows (delivered got ∷ past) now got.block.task)
+      ≡ segment_rows_found (delivered got ∷ past) now got.block.task
+      ++ (seal_rows_found (delivered got ∷ past) now got.block.task ++ complete_rows (delivered got ∷ past) now got.block.task)
   unfolding test_rows_found
   own-rows now = ap₂ (λ a b. a ++ b)
-      (flat_one (segment_rows_found (delivered got ∷ past) now) got.block.task 0 (length (tasks past)) (omega arith) (omega (arith, opened)) (λ j from less differ. no_segments j (λ e. differ (sym e)) (omega (arith, less)) now))
-      (flat_one (λ task. seal_rows_found (delivered got ∷ past) now task ++ complete_rows (delivered got ∷ past) now task) got.block.task 0 (length (tasks past)) (omega arith) (omega (arith, opened)) (λ j from less differ. no_ends j (λ e. differ (sym e)) (omega (arith, less)) now))
+      (flat_one (segment_rows_found (delivered got ∷ past) now) got.block.task 0 (length (tasks past)) (omega arith) (omega (arith, opened))
+      (λ j from less differ. no_segments j (λ e. differ (sym e)) (omega (arith, less)) now))
+      (flat_one (λ task. seal_rows_found (delivered got ∷ past) now task ++ complete_rows (delivered got ∷ past) now task) got.block.task 0
+      (length (tasks past)) (omega arith) (omega (arith, opened))
+      (λ j from less differ. no_ends j (λ e. differ (sym e)) (omega (arith, less)) now))
 
   module _ (now : List Entry) (h : HoldsBlocks disk (delivered got ∷ past) now) where
     pub all-given : AreAllRows (delivered got ∷ past) (rows_after past got)
-    all-given task = rows-given (delivered got ∷ past) got.end (findings past got) (findings-mute past got) task (λ more. (h.unopened task more).choices)
+    all-given task =
+        rows-given (delivered got ∷ past) got.end (findings past got) (findings-mute past got) task (λ more. (h.unopened task more).choices)
 
     pub up_to_date-delivered : IsUpToDate (tested (rows_after past got) ∷ delivered got ∷ past)
     up_to_date-delivered = up_to_date-tested (delivered got ∷ past) (rows_after past got) (λ task less. all-given task)
 
     other-tested : (task : ℕ) (session : Session) → (got.block.task ≡ task → ⊥) → slice_get sessions task ≡ Some session
-        → (Stands (view (tested (rows_after past got) ∷ delivered got ∷ past) task) session) × (IsAtWork (view (tested (rows_after past got) ∷ delivered got ∷ past) task).work session)
+        → (Stands (view (tested (rows_after past got) ∷ delivered got ∷ past) task) session)
+        × (IsAtWork (view (tested (rows_after past got) ∷ delivered got ∷ past) task).work session)
     other-tested task session other at =
         let less : task < length (tasks past) = rw may.tells.as_many at (slice_get_within sessions task session at) in
         let told = told-other task other less session at in
-        rw (tested-view (delivered got ∷ past) (rows_after past got) task) (still-stands task (view (delivered got ∷ past) task) (rows_after past got) (all-given task) session
-        (rw (silent task other less) (done-other task other less)) (told.complete ∙ rw (silent task other less) (tested-other task other less)) told.stands told.at_work)
+        rw (tested-view (delivered got ∷ past) (rows_after past got) task)
+        (still-stands task (view (delivered got ∷ past) task) (rows_after past got) (all-given task) session
+        (rw (silent task other less) (done-other task other less))
+        (told.complete ∙ rw (silent task other less) (tested-other task other less)) told.stands told.at_work)
 
     -- the sessions tell the history with its delivery and its test
     pub tells-delivered : {Rows : Type 0} (new : Session) → (Stands
@@ -92,40 +107,53 @@ module _ {disk : Shape} {past : Past} {sessions : List Session} {held : List Ent
     tells-delivered new own =
         let after : Past = tested (rows_after past got) ∷ delivered got ∷ past in
         let touched = record new { touched = true } in
-        tells-tested (rows_after past got) (set sessions got.block.task touched) h (length-set sessions got.block.task touched ∙ may.tells.as_many) all-given
-        (each_set (λ task session. (Stands (view after task) session) × (IsAtWork (view after task).work session)) sessions got.block.task touched
+        tells-tested (rows_after past got) (set sessions got.block.task touched) h
+        (length-set sessions got.block.task touched ∙ may.tells.as_many) all-given
+        (each_set (λ task session. (Stands (view after task) session) × (IsAtWork (view after task).work session)) sessions got.block.task
+        touched
         (flagged-stands true (view after got.block.task) new own.0, own.1) (λ task session other at. other-tested task session other at))
-        (each_set (λ task session. session.touched ≡ false → HasNoChoice (view (delivered got ∷ past) task)) sessions got.block.task touched (λ untouched. absurd (true≢false untouched))
-        (λ task session other at untouched. let less : task < length (tasks past) = rw may.tells.as_many at (slice_get_within sessions task session at) in
+        (each_set (λ task session. session.touched ≡ false → HasNoChoice (view (delivered got ∷ past) task)) sessions got.block.task touched
+        (λ untouched. absurd (true≢false untouched))
+        (λ task session other at untouched.
+        let less : task < length (tasks past) = rw may.tells.as_many at (slice_get_within sessions task session at) in
         ((told-other task other less session at).quiet untouched).chosen))
 
 -- before the test each cleaned segment but the chosen one has its row
-module _ (v : TaskView) (got : DeliveryRow) (old mid : Session) (stands : Stands v old) (reported : AreReported v.work) (same : mid.log.unfinished ≡ old.log.unfinished) where
+module _ (v : TaskView) (got : DeliveryRow) (old mid : Session) (stands : Stands v old) (reported : AreReported v.work)
+    (same : mid.log.unfinished ≡ old.log.unfinished) where
   abbrev IsSilent : Choice → Type 0
   IsSilent choice = (mid.log.unfinished ≡ Some choice.segment.number → ⊥) → is_newly_cleaned (delivered_view got v).work choice ≡ false
 
-  chosen-silent : (done : List Choice) (current : Option Choice) → old.log.unfinished ≡ option_map (λ choice. choice.segment.number) current → AllByRecursion (λ choice. is_cleaned v.work choice ≡ true) done
-      → AllByRecursion (λ choice. is_newly_cleaned v.work choice ≡ false) (done ++ choice_in current) → AllByRecursion IsSilent (done ++ choice_in current)
+  chosen-silent : (done : List Choice) (current : Option Choice) → old.log.unfinished ≡ option_map (λ choice. choice.segment.number) current
+      → AllByRecursion (λ choice. is_cleaned v.work choice ≡ true) done
+      → AllByRecursion (λ choice. is_newly_cleaned v.work choice ≡ false) (done ++ choice_in current)
+      → AllByRecursion IsSilent (done ++ choice_in current)
   chosen-silent [] None unfinished cleaned none = tt
   chosen-silent [] (Some current) unfinished cleaned none = ((λ not_it. absurd (not_it (same ∙ unfinished))), tt)
-  chosen-silent (c ∷ cs) current unfinished cleaned none = ((λ _. grind (arith, cleaned.0, none.0)), chosen-silent cs current unfinished cleaned.1 none.1)
+  chosen-silent (c ∷ cs) current unfinished cleaned none =
+      ((λ _. grind (arith, cleaned.0, none.0)), chosen-silent cs current unfinished cleaned.1 none.1)
 
   pub others-silent : AllByRecursion IsSilent v.choices
   others-silent = elim (cases_Bool (is_clean old.kind)) [
-    | inl cleans ↦ let log = stands.log cleans in rw log.chosen (chosen-silent log.done log.current log.unfinished log.cleaned (rw log.chosen at reported))
+    | inl cleans ↦ let log = stands.log cleans in
+        rw log.chosen (chosen-silent log.done log.current log.unfinished log.cleaned (rw log.chosen at reported))
     | inr other ↦ rw (stands.unchosen other) tt
   ]
 
-module _ {disk : Shape} {past : Past} {sessions : List Session} {held : List Entry} (got : DeliveryRow) (may : MayDeliver disk past sessions held got) where
-  pub held-now : (now : List Entry) → now ≡ after got.block.task (Deliver got.block.number) held → HoldsBlocks disk (delivered got ∷ past) now
+module _ {disk : Shape} {past : Past} {sessions : List Session} {held : List Entry} (got : DeliveryRow)
+    (may : MayDeliver disk past sessions held got) where
+  pub held-now : (now : List Entry) → now ≡ after got.block.task (Deliver got.block.number) held
+      → HoldsBlocks disk (delivered got ∷ past) now
   held-now now is = delivered-holds disk past got held now (delivered-entries past got held now may.tells.entries is) may.tells.blocks
 
-  pub wanted-entry : (e : Entry) × (i : ℕ) × (slice_get held i ≡ Some e) × (is_block got.block.task got.block.number e ≡ true) × (e.state ≡ Wanted)
+  pub wanted-entry : (e : Entry) × (i : ℕ) × (slice_get held i ≡ Some e) × (is_block got.block.task got.block.number e ≡ true)
+      × (e.state ≡ Wanted)
   wanted-entry =
       let was = placed got may in (
         entry_of past got.block,
         was.place,
-        ap (λ es. slice_get es was.place) may.tells.entries ∙ map_at (entry_of past) (registered past) was.place got.block was.registered_there,
+        ap (λ es. slice_get es was.place) may.tells.entries
+            ∙ map_at (entry_of past) (registered past) was.place got.block was.registered_there,
         ap₂ (λ a b. a && b) (number_same got.block.task got.block.task refl) (number_same got.block.number got.block.number refl),
         was.shown_wanted,
       )
@@ -137,7 +165,8 @@ module _ {disk : Shape} {past : Past} {sessions : List Session} {held : List Ent
       let there = slice_get-get_or sessions got.block.task old (within_sessions got may) in
       record { may = may; at = there ∙ ap Some (sym (rw same at says)); is = is }
 
-module _ {disk : Shape} {past : Past} {sessions : List Session} {held now : List Entry} {got : DeliveryRow} {old : Session} (t : Delivers disk past sessions held got old now) where
+module _ {disk : Shape} {past : Past} {sessions : List Session} {held now : List Entry} {got : DeliveryRow} {old : Session}
+    (t : Delivers disk past sessions held got old now) where
   told-own : Told (view past got.block.task) old
   told-own = t.may.tells.each got.block.task old t.at
 
@@ -145,9 +174,11 @@ module _ {disk : Shape} {past : Past} {sessions : List Session} {held now : List
   was = placed got t.may
 
   pub busy-own : is_clean old.kind ≡ true → old.log.unfinished ≡ None → ⊥
-  busy-own cleans idle = at_work_now (view past got.block.task) got was.own_place was.own_there was.bare old.log (told-own.stands.log cleans) idle
+  busy-own cleans idle =
+      at_work_now (view past got.block.task) got was.own_place was.own_there was.bare old.log (told-own.stands.log cleans) idle
 
-  module _ {mid : Session} (takes : (content_at : ℕ → Content) → Gives got.content content_at got.block.lbn got.block.count → HasTaken content_at got.block old mid) where
+  module _ {mid : Session} (takes : (content_at : ℕ → Content) → Gives got.content content_at got.block.lbn got.block.count
+      → HasTaken content_at got.block old mid) where
     taken : HasTaken t.may.content_at got.block old mid
     taken = takes t.may.content_at t.may.content
 
@@ -157,12 +188,14 @@ module _ {disk : Shape} {past : Past} {sessions : List Session} {held now : List
       stands = rw (delivered-view past got got.block.task refl)
           (delivered-stands (view past got.block.task) got was.own_place was.own_there was.bare
           t.may.content_at old mid (t.may.tells.placed got.block.task).indexed t.may.content taken told-own.stands);
-      reported = rw (delivered-view past got got.block.task refl) (others-silent (view past got.block.task) got old mid told-own.stands told-own.reported
+      reported = rw (delivered-view past got got.block.task refl)
+          (others-silent (view past got.block.task) got old mid told-own.stands told-own.reported
           (ap (λ (s : Session). s.log.unfinished) taken.same));
     }
 
     -- the rows of the session's test, one after the other
-    module _ (rows : List BackRow) {with_got : List BackRow} {lbns : List ℕ} (is : lbns ≡ (if is_scrub mid.kind then bad_sectors got.content else [])) (pushed : with_got ≡ rows ++ GotLine got ∷ []) where
+    module _ (rows : List BackRow) {with_got : List BackRow} {lbns : List ℕ}
+        (is : lbns ≡ (if is_scrub mid.kind then bad_sectors got.content else [])) (pushed : with_got ≡ rows ++ GotLine got ∷ []) where
       abbrev found : List BackRow
       found = map (λ lbn. BadLine (record { task = got.block.task; lbn = lbn })) lbns
 

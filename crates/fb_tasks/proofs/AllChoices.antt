@@ -15,21 +15,26 @@ use Rattle.fb_tasks.proofs.{Complete.filter-le, RowsOf.reported_rows, Cuts.range
 use Rattle.std.proofs.lemmas.List.Sums.{fold-append}
 pub use Rattle.fb_tasks.proofs.Lists.{all_range}
 
-up_to_still : (n : ℕ) (disk : Shape) (task : ℕ) (past : Past) → (0 < n → choose_once disk task past ≡ past) → choose_up_to n disk task past ≡ past
+up_to_still : (n : ℕ) (disk : Shape) (task : ℕ) (past : Past) → (0 < n → choose_once disk task past ≡ past)
+    → choose_up_to n disk task past ≡ past
 up_to_still zero disk task past still = refl
 up_to_still (suc n) disk task past still = let e = still (omega arith) in ap (choose_up_to n disk task) e
     ∙ up_to_still n disk task past (λ _. e)
 
-pub up_to_split : (k m : ℕ) (disk : Shape) (task : ℕ) (past : Past) → choose_up_to (k + m) disk task past ≡ choose_up_to m disk task (choose_up_to k disk task past)
+pub up_to_split : (k m : ℕ) (disk : Shape) (task : ℕ) (past : Past)
+    → choose_up_to (k + m) disk task past ≡ choose_up_to m disk task (choose_up_to k disk task past)
 up_to_split zero m disk task past = ap (λ n. choose_up_to n disk task past) (let e : 0 + m ≡ m = omega arith in e)
-up_to_split (suc k) m disk task past = ap (λ n. choose_up_to n disk task past) (let e : suc k + m ≡ suc (k + m) = omega arith in e) ∙ up_to_split k m disk task (choose_once disk task past)
+up_to_split (suc k) m disk task past = ap (λ n. choose_up_to n disk task past) (let e : suc k + m ≡ suc (k + m) = omega arith in e)
+    ∙ up_to_split k m disk task (choose_once disk task past)
 
-pub in_is : (disk : Shape) (past : Past) (task : ℕ) → choose_in disk past task ≡ (if is_clean (view past task).terms.kind && not (view past task).closed then choose_up_to (length (view past task).segments) disk task past else past)
+pub in_is : (disk : Shape) (past : Past) (task : ℕ) → choose_in disk past task ≡ (if is_clean (view past task).terms.kind
+    && not (view past task).closed then choose_up_to (length (view past task).segments) disk task past else past)
 unfolding view
 in_is disk past task = refl
 
 -- as its session has it
-in_by : (disk : Shape) (past : Past) (task : ℕ) (session : Session) (b : Bool) → Stands (view past task) session → (is_clean session.kind && not session.closed) ≡ b
+in_by : (disk : Shape) (past : Past) (task : ℕ) (session : Session) (b : Bool) → Stands (view past task) session
+    → (is_clean session.kind && not session.closed) ≡ b
     → choose_in disk past task ≡ (if b then choose_up_to (length (view past task).segments) disk task past else past)
 in_by disk past task session b stands is = rw (in_is disk past task, stands.terms, sym stands.closed, is) refl
 
@@ -44,15 +49,18 @@ pub idle-turned : {disk : Shape} {past : Past} {task now : ℕ} {session : Sessi
     → HasTurned disk past (choose_in disk past task) task now session held rows rows
 idle-turned {disk} {past} {task} {now} {session} none may = still-turned (in_by disk past task session false may.stands none) may
 
-pub turned-on : {disk : Shape} {past mid new : Past} {task now : ℕ} {before session : Session} {was held : List Entry} {old rows more : List BackRow}
+pub turned-on : {disk : Shape} {past mid new : Past} {task now : ℕ} {before session : Session} {was held : List Entry}
+    {old rows more : List BackRow}
     → HasTurned disk past mid task now before was old rows → HasTurned disk mid new task now session held rows more
     → HasTurned disk past new task now session held old more
 turned-on a b = record { may = b.may; rows = λ start so_far. b.rows start (a.rows start so_far) }
 
 -- after as many turns as there are segments, or after one that changed nothing, all was chosen
-pub turns_in : {disk : Shape} {past : Past} {task : ℕ} {session : Session} {held : List Entry} (k n : ℕ) → (is_clean session.kind && not session.closed) ≡ true
+pub turns_in : {disk : Shape} {past : Past} {task : ℕ} {session : Session} {held : List Entry} (k n : ℕ)
+    → (is_clean session.kind && not session.closed) ≡ true
     → n ≡ length session.log.segments → MayChoose disk past task session held → k ≤ n
-    → (0 < n - k → choose_once disk task (choose_up_to k disk task past) ≡ choose_up_to k disk task past) → choose_in disk past task ≡ choose_up_to k disk task past
+    → (0 < n - k → choose_once disk task (choose_up_to k disk task past) ≡ choose_up_to k disk task past)
+    → choose_in disk past task ≡ choose_up_to k disk task past
 turns_in {disk} {past} {task} {session} k n may_be count may le still =
     let log = may.stands.log (and_parts (is_clean session.kind) (not session.closed) may_be).0 in
     let as_many : length (view past task).segments ≡ k + (n - k) = omega
@@ -66,13 +74,15 @@ count_is (x ∷ xs) = omega (arith, sum_by-cons (λ _. 1) x xs, count_is xs)
 
 module _ (disk : Shape) (task : ℕ) where
   -- a turn chooses nothing where a segment is unfinished or none is left
-  still_once : (past : Past) → (is_busy (view past task).work ≡ false → unchosen (view past task).work ≡ []) → choose_once disk task past ≡ past
+  still_once : (past : Past) → (is_busy (view past task).work ≡ false → unchosen (view past task).work ≡ [])
+      → choose_once disk task past ≡ past
   still_once past none = rw (once_is disk past task) (grind (arith, none))
 
   -- a task that has no segment to choose stays
   pub stays : (past : Past) → HasNoChoice (view past task) → choose_in disk past task ≡ past
   stays past none = rw (in_is disk past task) (by (is_clean (view past task).terms.kind && not (view past task).closed) refl) where
-    by : (b : Bool) → (is_clean (view past task).terms.kind && not (view past task).closed) ≡ b → (if b then choose_up_to (length (view past task).segments) disk task past else past) ≡ past
+    by : (b : Bool) → (is_clean (view past task).terms.kind && not (view past task).closed) ≡ b
+        → (if b then choose_up_to (length (view past task).segments) disk task past else past) ≡ past
     by true chooses = up_to_still (length (view past task).segments) disk task past (λ _. still_once past (none chooses))
     by false other = refl
 
@@ -90,22 +100,34 @@ module _ (disk : Shape) (task : ℕ) where
     stopped : IsDone past → IsDone (choose_up_to (suc n) disk task past)
     stopped none = subst IsDone (sym (up_to_still (suc n) disk task past (λ _. still_once past none))) none
 
-    by_left : ((next : Past) → AllByRecursion (IsSegmentOf disk (view next task).terms.block) (view next task).segments → length (unchosen (view next task).work) ≤ n → IsDone (choose_up_to n disk task next))
-        → is_busy (view past task).work ≡ false → (left : List LogSegment) → unchosen (view past task).work ≡ left → IsDone (choose_up_to (suc n) disk task past)
+    by_left : ((next : Past) → AllByRecursion (IsSegmentOf disk (view next task).terms.block) (view next task).segments
+        → length (unchosen (view next task).work) ≤ n → IsDone (choose_up_to n disk task next))
+        → is_busy (view past task).work ≡ false → (left : List LogSegment) → unchosen (view past task).work ≡ left
+        → IsDone (choose_up_to (suc n) disk task past)
     by_left rest free [] are = stopped (λ _. are)
     by_left rest free (s ∷ ss) are =
         let best = best_of is_better s ss in
         let next = chose task best (chosen_blocks disk task (view past task) best) ∷ past in
         let once : choose_once disk task past ≡ next = once_is disk past task ∙ rw (free, are) refl in
         let now = next_view disk past task best in
-        let fewer = left_less (λ _. 1) disk task (view past task) best (best_left disk (view past task) s ss (rw (seen past task).segments (numbered_given past task)) on_disk are) in
-        let count : length (unchosen (view next task).work) + 1 ≤ length (unchosen (view past task).work) = rw now (omega (arith, fewer, count_is (unchosen (view past task).work), count_is (unchosen (chosen_view task (chosen_for disk task (view past task) best) (view past task)).work))) in
+        let fewer = left_less (λ _. 1) disk task (view past task) best (best_left disk (view past task) s ss
+        (rw (seen past task).segments (numbered_given past task)) on_disk are) in
+        let count : length (unchosen (view next task).work) + 1 ≤ length (unchosen (view past task).work) = rw now (omega (
+          arith,
+          fewer,
+          count_is (unchosen (view past task).work),
+          count_is (unchosen (chosen_view task (chosen_for disk task (view past task) best) (view past task)).work),
+        )) in
         subst (λ p. IsDone (choose_up_to n disk task p)) (sym once) (rest next (rw now on_disk) (omega (arith, count, few)))
 
-  pub no-choice-left : (past : Past) → AllByRecursion (IsSegmentOf disk (view past task).terms.block) (view past task).segments → HasNoChoice (view (choose_in disk past task) task)
-  no-choice-left past on_disk = subst (λ p. HasNoChoice (view p task)) (sym (in_is disk past task)) (by (is_clean (view past task).terms.kind && not (view past task).closed) refl) where
-    by : (b : Bool) → (is_clean (view past task).terms.kind && not (view past task).closed) ≡ b → HasNoChoice (view (if b then choose_up_to (length (view past task).segments) disk task past else past) task)
-    by true chooses = λ _. (none_after (length (view past task).segments) past on_disk (filter-le (λ s. not (is_chosen (view past task).choices s)) (view past task).segments))
+  pub no-choice-left : (past : Past) → AllByRecursion (IsSegmentOf disk (view past task).terms.block) (view past task).segments
+      → HasNoChoice (view (choose_in disk past task) task)
+  no-choice-left past on_disk = subst (λ p. HasNoChoice (view p task)) (sym (in_is disk past task))
+      (by (is_clean (view past task).terms.kind && not (view past task).closed) refl) where
+    by : (b : Bool) → (is_clean (view past task).terms.kind && not (view past task).closed) ≡ b
+        → HasNoChoice (view (if b then choose_up_to (length (view past task).segments) disk task past else past) task)
+    by true chooses = λ _. (none_after (length (view past task).segments) past on_disk
+        (filter-le (λ s. not (is_chosen (view past task).choices s)) (view past task).segments))
     by false other = λ chooses free. absurd (true≢false (sym chooses ∙ other))
 
 -- what holds of a history, and still after each choice of a task, holds after all of its choices
@@ -136,12 +158,15 @@ module _ (P : Past → Type 0) (disk : Shape) (task : ℕ)
 pub in_same : (disk : Shape) (task other : ℕ) (past : Past) → (task ≡ other → ⊥) → view (choose_in disk past task) other ≡ view past other
 in_same disk task other past differ = by_in (λ p. view p other ≡ view past other) disk task
     (λ p same s ss are. let best = best_of is_better s ss in
-    chosen-silent p task best (chosen_blocks disk task (view p task) best) (added_own disk task (view p task) best) other (number_other task other differ) ∙ same) past refl
+    chosen-silent p task best (chosen_blocks disk task (view p task) best) (added_own disk task (view p task) best) other
+    (number_other task other differ) ∙ same) past refl
 
 -- what holds after each choice holds after all
-module _ (P : Past → Type 0) (disk : Shape) (kept : (past : Past) (task : ℕ) (segment : LogSegment) (blocks : List Block) → P past → P (chose task segment blocks ∷ past)) where
+module _ (P : Past → Type 0) (disk : Shape)
+    (kept : (past : Past) (task : ℕ) (segment : LogSegment) (blocks : List Block) → P past → P (chose task segment blocks ∷ past)) where
   pub by_task : (task : ℕ) (past : Past) → P past → P (choose_in disk past task)
-  by_task task past h = by_in P disk task (λ p here s ss are. kept p task (best_of is_better s ss) (chosen_blocks disk task (view p task) (best_of is_better s ss)) here) past h
+  by_task task past h = by_in P disk task
+      (λ p here s ss are. kept p task (best_of is_better s ss) (chosen_blocks disk task (view p task) (best_of is_better s ss)) here) past h
 
   by_tasks : (ns : List ℕ) (past : Past) → P past → P (fold (choose_in disk) past ns)
   by_tasks [] past h = h
@@ -155,25 +180,45 @@ pub in_tasks : (disk : Shape) (task : ℕ) (past : Past) → tasks (choose_in di
 in_tasks disk task past = by_task (λ p. tasks p ≡ tasks past) disk (λ p chooser segment blocks same. same) task past refl
 
 -- choices don't register more than they could
-pub in_fewer : (disk : Shape) (task : ℕ) (past : Past) → AllByRecursion (IsSegmentOf disk (view past task).terms.block) (view past task).segments → length (registered (choose_in disk past task)) + choosable_by disk (choose_in disk past task) task ≤ length (registered past) + choosable_by disk past task
+pub in_fewer : (disk : Shape) (task : ℕ) (past : Past)
+    → AllByRecursion (IsSegmentOf disk (view past task).terms.block) (view past task).segments
+    → length (registered (choose_in disk past task)) + choosable_by disk (choose_in disk past task) task
+    ≤ length (registered past) + choosable_by disk past task
 in_fewer disk task past on_disk = (by_in (λ p. AllByRecursion (IsSegmentOf disk (view p task).terms.block) (view p task).segments
     × (length (registered p) + choosable_by disk p task ≤ length (registered past) + choosable_by disk past task)) disk task
     (λ p h s ss are. let best = best_of is_better s ss in
-    (rw (next_view disk p task best) h.0, omega (arith, h.1, few_less disk p task best (best_left disk (view p task) s ss (rw (seen p task).segments (numbered_given p task)) h.0 are)))) past (on_disk, omega arith)).1
+    (
+      rw (next_view disk p task best) h.0,
+      omega (
+        arith,
+        h.1,
+        few_less disk p task best (best_left disk (view p task) s ss (rw (seen p task).segments (numbered_given p task)) h.0 are),
+      ),
+    )) past (on_disk, omega arith)).1
 
 -- a task that stays gives the same rows
-pub rows-same : (past new : Past) (task now : ℕ) → view new task ≡ view past task → segment_rows_found new now task ≡ segment_rows_found past now task
-rows-same past new task now same = segment_rows_is new now task ∙ (ap (λ v. segment_rows_of v.work now task) same ∙ sym (segment_rows_is past now task))
+pub rows-same : (past new : Past) (task now : ℕ) → view new task ≡ view past task
+    → segment_rows_found new now task ≡ segment_rows_found past now task
+rows-same past new task now same =
+    segment_rows_is new now task ∙ (ap (λ v. segment_rows_of v.work now task) same ∙ sym (segment_rows_is past now task))
 
 -- and it can choose the same
-pub choosable-same : (disk : Shape) (past new : Past) (task : ℕ) → view new task ≡ view past task → choosable_by disk new task ≡ choosable_by disk past task
+pub choosable-same : (disk : Shape) (past new : Past) (task : ℕ) → view new task ≡ view past task
+    → choosable_by disk new task ≡ choosable_by disk past task
 choosable-same disk past new task same = rw same refl
 
-pub sum_range : (f g : ℕ → ℕ) (a n : ℕ) → ((k : ℕ) → a ≤ k → k < a + n → f k ≡ g k) → sum_by f (range_with_len a n) ≡ sum_by g (range_with_len a n)
+pub sum_range : (f g : ℕ → ℕ) (a n : ℕ) → ((k : ℕ) → a ≤ k → k < a + n → f k ≡ g k)
+    → sum_by f (range_with_len a n) ≡ sum_by g (range_with_len a n)
 sum_range f g a zero same = refl
 sum_range f g a (suc n) same =
     let rest = sum_range f g (a + 1) n (λ k from to. same k (omega arith) (omega arith)) in
-    omega (arith, sum_by-cons f a (range_with_len (a + 1) n), sum_by-cons g a (range_with_len (a + 1) n), rest, same a (omega arith) (omega arith))
+    omega (
+      arith,
+      sum_by-cons f a (range_with_len (a + 1) n),
+      sum_by-cons g a (range_with_len (a + 1) n),
+      rest,
+      same a (omega arith) (omega arith),
+    )
 
 -- after the choices of the first tasks
 abbrev pub past_at : Shape → Past → ℕ → Past
@@ -198,16 +243,20 @@ pub record HaveBegun (disk : Shape) (count : ℕ) (past : Past) (sessions : List
   pub few : length (registered past) + sum_by (choosable_by disk past) (range_with_len n (count - n)) ≤ 16 * 10 ^ 6
 
 -- and the rows of what they cleaned follow
-pub record Partly (disk : Shape) (past : Past) (sessions : List Session) (held : List Entry) (instant : ℕ) (before rows : List BackRow) (n : ℕ) : Type 0 where
+pub record Partly (disk : Shape) (past : Past) (sessions : List Session) (held : List Entry) (instant : ℕ) (before rows : List BackRow)
+    (n : ℕ) : Type 0 where
   pub begun : HaveBegun disk (length (tasks past)) (past_at disk past n) sessions held n
   pub open begun use *
   pub rows_are : rows ≡ before ++ flat_map (segment_rows_found (past_at disk past n) instant) (range_with_len 0 n)
 
 -- the sum over the tasks that are left, and without the first of them
-left_split : (f : ℕ → ℕ) (n count : ℕ) → n < count → sum_by f (range_with_len n (count - n)) ≡ f n + sum_by f (range_with_len (n + 1) (count - (n + 1)))
-left_split f n count less = let e : count - n ≡ suc (count - (n + 1)) = omega arith in rw e (sum_by-cons f n (range_with_len (n + 1) (count - (n + 1))))
+left_split : (f : ℕ → ℕ) (n count : ℕ) → n < count
+    → sum_by f (range_with_len n (count - n)) ≡ f n + sum_by f (range_with_len (n + 1) (count - (n + 1)))
+left_split f n count less = let e : count - n ≡ suc (count - (n + 1)) = omega arith in
+    rw e (sum_by-cons f n (range_with_len (n + 1) (count - (n + 1))))
 
-pub partly-start : (disk : Shape) (past : Past) (sessions : List Session) (held : List Entry) (instant : ℕ) (rows : List BackRow) → MayChooseAndTest disk past sessions held → Partly disk past sessions held instant rows rows 0
+pub partly-start : (disk : Shape) (past : Past) (sessions : List Session) (held : List Entry) (instant : ℕ) (rows : List BackRow)
+    → MayChooseAndTest disk past sessions held → Partly disk past sessions held instant rows rows 0
 partly-start disk past sessions held instant rows h = let tells = h.tells in record {
   begun = record {
     as_many = tells.as_many;
@@ -216,7 +265,8 @@ partly-start disk past sessions held instant rows h = let tells = h.tells in rec
         let chosen : task < 0 → HasNoChoice (view past task) = λ less. absurd (omega (arith, less)) in
         assumption (later, chosen, told);
     blocks = tells.blocks;
-    few = subst (λ k. length (registered past) + sum_by (choosable_by disk past) (range_with_len 0 k) ≤ 16 * 10 ^ 6) (let e : length (tasks past) ≡ length (tasks past) - 0 = omega arith in e) h.few;
+    few = subst (λ k. length (registered past) + sum_by (choosable_by disk past) (range_with_len 0 k) ≤ 16 * 10 ^ 6)
+        (let e : length (tasks past) ≡ length (tasks past) - 0 = omega arith in e) h.few;
   };
   rows_are = sym (append-nil rows);
 }
@@ -246,7 +296,8 @@ module _ {disk : Shape} {past : Past} {instant : ℕ} {before : List BackRow} wh
       let same = λ (other : ℕ) (differ : n ≡ other → ⊥). in_same disk n other old differ in
       let within : n < length (tasks past) = omega (arith, slice_get_within sessions n session at, h.as_many) in
       let fewer = in_fewer disk n old (h.blocks.placed n).segments in
-      let rest = sum_range (choosable_by disk after) (choosable_by disk old) (n + 1) (length (tasks past) - (n + 1)) (λ k from to. choosable-same disk old after k (same k (λ e. absurd (omega arith)))) in
+      let rest = sum_range (choosable_by disk after) (choosable_by disk old) (n
+      + 1) (length (tasks past) - (n + 1)) (λ k from to. choosable-same disk old after k (same k (λ e. absurd (omega arith)))) in
       let kept = flat_same (segment_rows_found after instant) (segment_rows_found old instant) (range_with_len 0 n)
       (all_range (λ k. segment_rows_found after instant k ≡ segment_rows_found old instant k) 0 n
       (λ k le lt. rows-same old after k instant (same k (λ e. absurd (omega arith))))) in
@@ -268,7 +319,8 @@ module _ {disk : Shape} {past : Past} {instant : ℕ} {before : List BackRow} wh
           blocks = turned.may.blocks;
           few = omega (arith, h.few, fewer, rest, left_split (choosable_by disk old) n (length (tasks past)) within);
         });
-        rows_are = rw (past_more disk past n) (rows_more (segment_rows_found after instant) before rows more (segment_rows_found after instant n) n (h.rows_are ∙ ap (λ rs. before ++ rs) (sym kept)) given refl);
+        rows_are = rw (past_more disk past n) (rows_more (segment_rows_found after instant) before rows more
+            (segment_rows_found after instant n) n (h.rows_are ∙ ap (λ rs. before ++ rs) (sym kept)) given refl);
       }
 
   -- sessions that were not touched have nothing to choose

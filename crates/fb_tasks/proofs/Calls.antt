@@ -1,4 +1,5 @@
--- The calls of a script take effect one after another: how many blocks are registered or can be by choices, and that other events leave it as it is.
+-- The calls of a script take effect one after another: how many blocks are registered or can be by choices, and that other events leave it
+-- as it is.
 use Rattle.fb_tasks.proofs.Words.{◌≡◌, ℕ, zero, suc, ◌+◌, ◌<◌, ◌≤◌, ◌==◌, not, List, [], ◌∷◌, ◌++◌, Bool, inl, inr, length, filter}
 use Rattle.fb_tasks.proofs.Words.{length-append, refl, ap, sym, ◌∙◌, arith, subst, ◌^◌, Some, length-take, take, drop, slice_get}
 use Rattle.fb_tasks.proofs.Words.{append-nil, append_assoc, AllByRecursion, fold, range_with_len, sum_by, cases_Bool, filter-append}
@@ -22,7 +23,8 @@ abbrev pub in_all : Shape → Past → ℕ
 in_all disk past = length (registered past) + choosable disk past
 
 -- a sum of which one element changed
-sum_changed : (f g : ℕ → ℕ) (a n k x y : ℕ) → a ≤ k → k < a + n → ((j : ℕ) → (k ≡ j → ⊥) → f j ≡ g j) → x + f k ≤ y + g k → x + sum_by f (range_with_len a n) ≤ y + sum_by g (range_with_len a n)
+sum_changed : (f g : ℕ → ℕ) (a n k x y : ℕ) → a ≤ k → k < a + n → ((j : ℕ) → (k ≡ j → ⊥) → f j ≡ g j) → x + f k ≤ y + g k
+    → x + sum_by f (range_with_len a n) ≤ y + sum_by g (range_with_len a n)
 sum_changed f g a zero k x y from to same one = absurd (omega arith)
 sum_changed f g a (suc n) k x y from to same one =
     let heads = sum_by-cons f a (range_with_len (a + 1) n) in
@@ -41,47 +43,58 @@ sum_changed f g a (suc n) k x y from to same one =
 abbrev pub AreOnDisk : Shape → Past → Type 0
 AreOnDisk disk past = (task : ℕ) → AllByRecursion (IsSegmentOf disk (view past task).terms.block) (view past task).segments
 
-on_disk_kept : (disk : Shape) (past : Past) (task : ℕ) (segment : LogSegment) (blocks : List Block) → AreOnDisk disk past → AreOnDisk disk (chose task segment blocks ∷ past)
+on_disk_kept : (disk : Shape) (past : Past) (task : ℕ) (segment : LogSegment) (blocks : List Block) → AreOnDisk disk past
+    → AreOnDisk disk (chose task segment blocks ∷ past)
 unfolding view
 on_disk_kept disk past task segment blocks h = h
 
 -- a task's choices register no more than it could choose
-task_less : (disk : Shape) (past : Past) (n : ℕ) → n < length (tasks past) → AreOnDisk disk past → in_all disk (choose_in disk past n) ≤ in_all disk past
+task_less : (disk : Shape) (past : Past) (n : ℕ) → n < length (tasks past) → AreOnDisk disk past
+    → in_all disk (choose_in disk past n) ≤ in_all disk past
 task_less disk past n opened on_disk =
     let new = choose_in disk past n in
     let numbers = ap (λ ts. sum_by (choosable_by disk new) (range_with_len 0 (length ts))) (in_tasks disk n past) in
-    let sums = sum_changed (choosable_by disk new) (choosable_by disk past) 0 (length (tasks past)) n (length (registered new)) (length (registered past)) (omega arith) (omega arith)
+    let sums = sum_changed (choosable_by disk new) (choosable_by disk past) 0 (length (tasks past)) n (length (registered new))
+    (length (registered past)) (omega arith) (omega arith)
     (λ j differ. choosable-same disk past new j (in_same disk n j past differ)) (in_fewer disk n past (on_disk n)) in
     omega (arith, numbers, sums)
 
-tasks_less : (disk : Shape) (ns : List ℕ) (past : Past) → AllByRecursion (λ n. n < length (tasks past)) ns → AreOnDisk disk past → in_all disk (fold (choose_in disk) past ns) ≤ in_all disk past
+tasks_less : (disk : Shape) (ns : List ℕ) (past : Past) → AllByRecursion (λ n. n < length (tasks past)) ns → AreOnDisk disk past
+    → in_all disk (fold (choose_in disk) past ns) ≤ in_all disk past
 tasks_less disk [] past opened on_disk = omega arith
 tasks_less disk (n ∷ ns) past opened on_disk =
-    let rest = tasks_less disk ns (choose_in disk past n) (subst (λ ts. AllByRecursion (λ n. n < length ts) ns) (sym (in_tasks disk n past)) opened.1)
+    let rest =
+    tasks_less disk ns (choose_in disk past n) (subst (λ ts. AllByRecursion (λ n. n < length ts) ns) (sym (in_tasks disk n past)) opened.1)
     (by_task (AreOnDisk disk) disk (on_disk_kept disk) n past on_disk) in
     omega (arith, rest, task_less disk past n opened.0 on_disk)
 
 pub choices_less : (disk : Shape) (past : Past) → AreOnDisk disk past → in_all disk (with_choices disk past) ≤ in_all disk past
 unfolding with_choices
-choices_less disk past on_disk = tasks_less disk (task_numbers past) past (all_range (λ n. n < length (tasks past)) 0 (length (tasks past)) (λ k from to. omega arith)) on_disk
+choices_less disk past on_disk = tasks_less disk (task_numbers past) past (all_range (λ n. n < length (tasks past)) 0 (length (tasks past))
+    (λ k from to. omega arith)) on_disk
 
 -- calls
 module _ (disk : Shape) (past : Past) (call : Call) where
   -- the call adds no more than the blocks that it can give
   abbrev pub Grows : Type 0
-  Grows = in_all disk (take_call disk past call) ≤ in_all disk past + blocks_in disk (allowed.terms_of (calls_of past) call.task).block call.action
+  Grows = in_all disk (take_call disk past call)
+      ≤ in_all disk past + blocks_in disk (allowed.terms_of (calls_of past) call.task).block call.action
 
   block_there : (allowed.terms_of (calls_of past) call.task).block ≡ (terms_of past call.task).block
   block_there = ap (λ t. t.block) (terms_there past call.task ∙ (seen past call.task).terms)
 
-  grown : (blocks : List Block) → blocks_by disk past call.task call.action ≡ blocks → in_all disk (take_call disk past call) ≡ length (registered past) + length blocks + choosable disk (called call blocks ∷ past)
+  grown : (blocks : List Block) → blocks_by disk past call.task call.action ≡ blocks
+      → in_all disk (take_call disk past call) ≡ length (registered past) + length blocks + choosable disk (called call blocks ∷ past)
   grown blocks is = rw (is, length-append) refl
 
-  still : (blocks : List Block) → opened_by call.action (tasks past) ≡ tasks past → ((before : List LogSegment) → segment_by call.action before ≡ before) → choosable disk (called call blocks ∷ past) ≡ choosable disk past
+  still : (blocks : List Block)
+      → opened_by call.action (tasks past) ≡ tasks past → ((before : List LogSegment) → segment_by call.action before ≡ before)
+      → choosable disk (called call blocks ∷ past) ≡ choosable disk past
   unfolding view
   still blocks kept gives =
       ap (λ ts. sum_by (choosable_by disk (called call blocks ∷ past)) (range_with_len 0 (length ts))) kept
-      ∙ sum_range (choosable_by disk (called call blocks ∷ past)) (choosable_by disk past) 0 (length (tasks past)) (λ k from to. one k) where
+      ∙ sum_range (choosable_by disk (called call blocks ∷ past)) (choosable_by disk past) 0 (length (tasks past))
+      (λ k from to. one k) where
         one : (k : ℕ) → choosable_by disk (called call blocks ∷ past) k ≡ choosable_by disk past k
         one k = elim (cases_Bool (call.task == k)) [
           | inl own ↦ rw (kept, own, gives (segments past k)) refl
@@ -101,26 +114,32 @@ module _ (disk : Shape) (past : Past) (call : Call) where
       )
 
   -- a new task has nothing to choose
-  open_grows : (kind : Kind) (weight block : ℕ) → call.action ≡ Open kind weight block → call.task ≡ length (tasks past) → ((task : ℕ) → length (tasks past) ≤ task → IsUntouched (view past task)) → Grows
+  open_grows : (kind : Kind) (weight block : ℕ) → call.action ≡ Open kind weight block → call.task ≡ length (tasks past)
+      → ((task : ℕ) → length (tasks past) ≤ task → IsUntouched (view past task)) → Grows
   open_grows kind weight block is next unopened =
       let new = called call [] ∷ past in
       let count = length (tasks past) in
-      let longer : length (tasks new) ≡ count + 1 = rw is (length-append (tasks past) (record { kind = kind; weight = weight; block = block } ∷ [])) in
+      let longer : length (tasks new) ≡ count + 1 =
+      rw is (length-append (tasks past) (record { kind = kind; weight = weight; block = block } ∷ [])) in
       let split = ap (λ n. sum_by (choosable_by disk new) (range_with_len 0 n)) longer in
       let last = ap (sum_by (choosable_by disk new)) (range_next count) in
       let parts = sum_by-append (choosable_by disk new) (range_with_len 0 count) (count ∷ []) in
       let one = sum_by-cons (choosable_by disk new) count [] in
-      let nothing : choosable_by disk new count ≡ 0 = rw (opened-view past call kind weight block is next count next, (unopened count (omega arith)).segments) refl in
-      let old = sum_range (choosable_by disk new) (choosable_by disk past) 0 count (λ k from to. choosable-same disk past new k (opened-silent past call kind weight block is next k (number_other call.task k (λ e. absurd (omega arith))))) in
+      let nothing : choosable_by disk new count ≡ 0 =
+      rw (opened-view past call kind weight block is next count next, (unopened count (omega arith)).segments) refl in
+      let old = sum_range (choosable_by disk new) (choosable_by disk past) 0 count (λ k from to. choosable-same disk past new k
+      (opened-silent past call kind weight block is next k (number_other call.task k (λ e. absurd (omega arith))))) in
       omega (arith, grown [] (ap (blocks_by disk past call.task) is), split, last, parts, one, nothing, old)
 
   -- a segment can be chosen
-  segment_grows : (first blocks age : ℕ) (live : List Bool) → call.action ≡ Segment first blocks age live → call.task < length (tasks past) → Grows
+  segment_grows : (first blocks age : ℕ) (live : List Bool) → call.action ≡ Segment first blocks age live → call.task < length (tasks past)
+      → Grows
   segment_grows first blocks age live is opened =
       let new = called call [] ∷ past in
       let kept : tasks new ≡ tasks past = ap (λ a. opened_by a (tasks past)) is in
       let numbers = ap (λ ts. sum_by (choosable_by disk new) (range_with_len 0 (length ts))) kept in
-      let sums = sum_changed (choosable_by disk new) (choosable_by disk past) 0 (length (tasks past)) call.task 0 (length (live_cuts disk (view past call.task).terms.block first live)) (omega arith) (omega arith)
+      let sums = sum_changed (choosable_by disk new) (choosable_by disk past) 0 (length (tasks past)) call.task 0
+      (length (live_cuts disk (view past call.task).terms.block first live)) (omega arith) (omega arith)
       (λ j differ. choosable-same disk past new j (called-silent past call kept j (number_other call.task j differ))) (more kept) in
       omega (
         arith,
@@ -133,17 +152,27 @@ module _ (disk : Shape) (past : Past) (call : Call) where
         at_most : (f : LogSegment → ℕ) (p : LogSegment → Bool) (s : LogSegment) → sum_by f (filter p (s ∷ [])) ≤ f s
         at_most f p s = grind (arith, sum_by-cons f s [])
 
-        more : tasks (called call [] ∷ past) ≡ tasks past → 0 + choosable_by disk (called call [] ∷ past) call.task ≤ length (live_cuts disk (view past call.task).terms.block first live) + choosable_by disk past call.task
+        more : tasks (called call [] ∷ past) ≡ tasks past → 0 + choosable_by disk (called call [] ∷ past) call.task
+            ≤ length (live_cuts disk (view past call.task).terms.block first live) + choosable_by disk past call.task
         more kept =
             let cuts = λ (s : LogSegment). length (live_cuts disk (view past call.task).terms.block s.first s.live) in
             let p = λ (s : LogSegment). not (is_chosen (view past call.task).choices s) in
             let added = next_segment (view past call.task) first blocks age live in
-            let sum : choosable_by disk (called call [] ∷ past) call.task ≡ sum_by cuts (filter p ((view past call.task).segments ++ added ∷ [])) = rw (added-view past call kept call.task first blocks age live refl is) refl in
-            omega (arith, sum, ap (sum_by cuts) (filter-append p (view past call.task).segments (added ∷ [])), sum_by-append cuts (filter p (view past call.task).segments) (filter p (added ∷ [])), at_most cuts p added)
+            let sum : choosable_by disk (called call [] ∷ past) call.task ≡ sum_by cuts (filter p
+            ((view past call.task).segments ++ added ∷ [])) = rw (added-view past call kept call.task first blocks age live refl is) refl in
+            omega (
+              arith,
+              sum,
+              ap (sum_by cuts) (filter-append p (view past call.task).segments (added ∷ [])),
+              sum_by-append cuts (filter p (view past call.task).segments) (filter p (added ∷ [])),
+              at_most cuts p added,
+            )
 
   -- a call that keeps the rules
-  by_action : (action : Action) → call.action ≡ action → MayAsk disk (calls_of past) call.task action → ((task : ℕ) → length (tasks past) ≤ task → IsUntouched (view past task)) → Grows
-  by_action (Open kind weight block) is asks unopened = open_grows kind weight block is (omega (arith, asks.0, ap length (opened_same past))) unopened
+  by_action : (action : Action) → call.action ≡ action → MayAsk disk (calls_of past) call.task action
+      → ((task : ℕ) → length (tasks past) ≤ task → IsUntouched (view past task)) → Grows
+  by_action (Open kind weight block) is asks unopened =
+      open_grows kind weight block is (omega (arith, asks.0, ap length (opened_same past))) unopened
   by_action (Want first count) is asks unopened = want_grows first count is
   by_action (Segment first blocks age live) is asks unopened = segment_grows first blocks age live is (open_there past call.task asks.0).0
   by_action _ is asks unopened =
@@ -151,12 +180,18 @@ module _ (disk : Shape) (past : Past) (call : Call) where
       omega (arith, grown [] (ap (blocks_by disk past call.task) is), kept)
 
   -- what it registers alone
-  pub call_registers : length (blocks_by disk past call.task call.action) ≤ blocks_in disk (allowed.terms_of (calls_of past) call.task).block call.action
+  pub call_registers : length (blocks_by disk past call.task call.action)
+      ≤ blocks_in disk (allowed.terms_of (calls_of past) call.task).block call.action
   call_registers = registers call.action where
-    registers : (action : Action) → length (blocks_by disk past call.task action) ≤ blocks_in disk (allowed.terms_of (calls_of past) call.task).block action
+    registers : (action : Action)
+        → length (blocks_by disk past call.task action) ≤ blocks_in disk (allowed.terms_of (calls_of past) call.task).block action
     registers (Want first count) =
         let cuts = cutting disk (terms_of past call.task).block first count in
-        omega (arith, cuts_count call.task (terms_of past call.task).weight (length (blocks_of past call.task)) cuts, ap (λ b. length (cutting disk b first count)) block_there)
+        omega (
+          arith,
+          cuts_count call.task (terms_of past call.task).weight (length (blocks_of past call.task)) cuts,
+          ap (λ b. length (cutting disk b first count)) block_there,
+        )
     registers _ = omega arith
 
 -- how many calls have taken effect
@@ -164,7 +199,8 @@ pub count-is : (disk : Shape) (calls : List Call) (past : Past) (next : ℕ) →
 count-is disk calls past next h = omega (arith, ap length h.taken, length-take next calls, h.within)
 
 -- the next call
-module _ (disk : Shape) (calls : List Call) (rules : AreAllowed disk [] calls) (few_calls : length calls < 2 ^ 32) (past : Past) (next : ℕ) (h : IsCalled disk calls past next) (call : Call) (at : slice_get calls next ≡ Some call) where
+module _ (disk : Shape) (calls : List Call) (rules : AreAllowed disk [] calls) (few_calls : length calls < 2 ^ 32) (past : Past) (next : ℕ)
+    (h : IsCalled disk calls past next) (call : Call) (at : slice_get calls next ≡ Some call) where
   within_next : next < length calls
   within_next = slice_get_within calls next call at
 
@@ -176,15 +212,19 @@ module _ (disk : Shape) (calls : List Call) (rules : AreAllowed disk [] calls) (
 
   may_ask : MayAsk disk (calls_of past) call.task call.action
   may_ask = subst (λ before. MayAsk disk before call.task call.action) (sym h.taken) (asks_at [] calls next at rules) where
-    asks_at : (before rest : List Call) (n : ℕ) → slice_get rest n ≡ Some call → AreAllowed disk before rest → MayAsk disk (before ++ take n rest) call.task call.action
+    asks_at : (before rest : List Call) (n : ℕ) → slice_get rest n ≡ Some call → AreAllowed disk before rest
+        → MayAsk disk (before ++ take n rest) call.task call.action
     asks_at before [] n there may = absurd (grind arith)
     asks_at before (c ∷ cs) zero there may =
         let e : c ≡ call = grind arith in
-        subst (λ front. MayAsk disk front call.task call.action) (sym (append-nil before)) (subst (λ c. MayAsk disk before c.task c.action) e may.1)
-    asks_at before (c ∷ cs) (suc n) there may = subst (λ front. MayAsk disk front call.task call.action) (append_assoc before (c ∷ []) (take n cs)) (asks_at (before ++ c ∷ []) cs n there may.2)
+        subst (λ front. MayAsk disk front call.task call.action) (sym (append-nil before))
+        (subst (λ c. MayAsk disk before c.task c.action) e may.1)
+    asks_at before (c ∷ cs) (suc n) there may = subst (λ front. MayAsk disk front call.task call.action) (append_assoc before (c ∷ [])
+        (take n cs)) (asks_at (before ++ c ∷ []) cs n there may.2)
 
   -- what is left to register, with the call's own part
-  left_split : blocks_from disk (take next calls) (drop next calls) ≡ blocks_in disk (allowed.terms_of (calls_of past) call.task).block call.action + blocks_from disk (take (next + 1) calls) (drop (next + 1) calls)
+  left_split : blocks_from disk (take next calls) (drop next calls) ≡ blocks_in disk
+      (allowed.terms_of (calls_of past) call.task).block call.action + blocks_from disk (take (next + 1) calls) (drop (next + 1) calls)
   left_split = rw (left-is, h.taken, front_is) refl
 
   pub may-take : (sessions : List Session) (held : List Entry) → Tells disk past sessions held → MayTake disk past sessions held call
@@ -195,7 +235,8 @@ module _ (disk : Shape) (calls : List Call) (rules : AreAllowed disk [] calls) (
     few_calls = omega (arith, count-is disk calls past next h, within_next, few_calls);
   }
 
-  pub called-more : (sessions : List Session) (held : List Entry) → Tells disk past sessions held → IsCalled disk calls (take_call disk past call) (next + 1)
+  pub called-more : (sessions : List Session) (held : List Entry) → Tells disk past sessions held
+      → IsCalled disk calls (take_call disk past call) (next + 1)
   called-more sessions held tells = record {
     within = omega (arith, within_next);
     taken = ap (λ cs. cs ++ call ∷ []) h.taken ∙ sym front_is;
@@ -212,7 +253,8 @@ module _ (disk : Shape) (calls : List Call) (past : Past) (next : ℕ) (h : IsCa
   unfolding view
   called-finished request = record { within = h.within; taken = h.taken; few = h.few }
 
-  pub called-chosen : (sessions : List Session) (held : List Entry) → Tells disk past sessions held → IsCalled disk calls (with_choices disk past) next
+  pub called-chosen : (sessions : List Session) (held : List Entry) → Tells disk past sessions held
+      → IsCalled disk calls (with_choices disk past) next
   called-chosen sessions held tells = record {
     within = h.within;
     taken = by_all (λ p. calls_of p ≡ calls_of past) disk (λ p task segment blocks same. same) past refl ∙ h.taken;
@@ -220,6 +262,7 @@ module _ (disk : Shape) (calls : List Call) (past : Past) (next : ℕ) (h : IsCa
   }
 
 -- a delivery and its test
-pub called-delivered : (disk : Shape) (calls : List Call) (past : Past) (next : ℕ) (got : DeliveryRow) → IsCalled disk calls past next → IsCalled disk calls (with_delivery past (delivery_of past got)) next
+pub called-delivered : (disk : Shape) (calls : List Call) (past : Past) (next : ℕ) (got : DeliveryRow) → IsCalled disk calls past next
+    → IsCalled disk calls (with_delivery past (delivery_of past got)) next
 unfolding view
 called-delivered disk calls past next got h = record { within = h.within; taken = h.taken; few = h.few }

@@ -33,12 +33,15 @@ pub record IsLeft (disk : Shape) (v : TaskView) (segment : LogSegment) : Type 0 
 abbrev IsThere : Shape → TaskView → LogSegment → Type 0
 IsThere disk v x = (1 ≤ x.number) × (slice_get v.segments (x.number - 1) ≡ Some x) × IsSegmentOf disk v.terms.block x
 
-pub best_left : (disk : Shape) (v : TaskView) (s : LogSegment) (ss : List LogSegment) → NumberedFrom 1 v.segments → AllByRecursion (IsSegmentOf disk v.terms.block) v.segments → unchosen v.work ≡ s ∷ ss → IsLeft disk v (best_of is_better s ss)
+pub best_left : (disk : Shape) (v : TaskView) (s : LogSegment) (ss : List LogSegment) → NumberedFrom 1 v.segments
+    → AllByRecursion (IsSegmentOf disk v.terms.block) v.segments → unchosen v.work ≡ s ∷ ss → IsLeft disk v (best_of is_better s ss)
 best_left disk v s ss given on_disk are =
-    let both = all_with (λ x. (1 ≤ x.number) × (slice_get v.segments (x.number - 1) ≡ Some x)) (IsSegmentOf disk v.terms.block) (IsThere disk v) (λ x n o. (n.0, n.1, o)) v.segments (at_number 1 v.segments given) on_disk in
+    let both = all_with (λ x. (1 ≤ x.number) × (slice_get v.segments (x.number - 1) ≡ Some x)) (IsSegmentOf disk v.terms.block)
+    (IsThere disk v) (λ x n o. (n.0, n.1, o)) v.segments (at_number 1 v.segments given) on_disk in
     let left = all_with (λ x. not (is_chosen v.choices x) ≡ true) (IsThere disk v) (IsLeft disk v)
     (λ x l t. record { left = not-true (is_chosen v.choices x) l; from_one = t.0; there = t.1; on_disk = t.2 })
-    (unchosen v.work) (all_pass (λ x. not (is_chosen v.choices x)) v.segments) (all_filter (IsThere disk v) (λ x. not (is_chosen v.choices x)) v.segments both) in
+    (unchosen v.work) (all_pass (λ x. not (is_chosen v.choices x)) v.segments)
+    (all_filter (IsThere disk v) (λ x. not (is_chosen v.choices x)) v.segments both) in
     let all = subst (AllByRecursion (IsLeft disk v)) are left in
     all_best (IsLeft disk v) is_better s ss all.0 all.1
 
@@ -51,7 +54,11 @@ chosen_for disk task v segment = record { segment = segment; blocks = chosen_blo
 
 indexed_below : (n : ℕ) (bs : List Block) → AreIndexed n bs → AllByRecursion (λ b. b.number < n + length bs) bs
 indexed_below n [] h = tt
-indexed_below n (b ∷ bs) h = (omega (arith, h.0), all_weaker (λ c. c.number < n + 1 + length bs) (λ c. c.number < n + length (b ∷ bs)) (λ c less. omega (arith, less)) bs (indexed_below (n + 1) bs h.1))
+indexed_below n (b ∷ bs) h = (
+  omega (arith, h.0),
+  all_weaker (λ c. c.number < n + 1 + length bs) (λ c. c.number < n + length (b ∷ bs)) (λ c less. omega (arith, less)) bs
+      (indexed_below (n + 1) bs h.1),
+)
 
 module _ (disk : Shape) (task : ℕ) (v : TaskView) (best : LogSegment) where
   abbrev fresh : List Block
@@ -75,20 +82,28 @@ module _ (disk : Shape) (task : ℕ) (v : TaskView) (best : LogSegment) where
   kept_all (s ∷ ss) = grind (arith, nat_tests, kept_all ss, list_any-append (is_choice_of s) v.choices (choice ∷ []))
 
   -- the blocks before stay, and the new ones are wanted
-  pub old_bare : AreIndexed 0 v.blocks → AllByRecursion (λ block. (chosen_view task (chosen_for disk task v best) v).bare block ≡ v.bare block) v.blocks
+  pub old_bare : AreIndexed 0 v.blocks
+      → AllByRecursion (λ block. (chosen_view task (chosen_for disk task v best) v).bare block ≡ v.bare block) v.blocks
   old_bare indexed = all_weaker (λ b. b.number < 0 + length v.blocks) (λ block. new.bare block ≡ v.bare block)
-      (λ block less. rw (no_smaller (own_of task block) (length v.blocks) fresh (omega (arith, less)) added_indexed) refl) v.blocks (indexed_below 0 v.blocks indexed)
+      (λ block less. rw (no_smaller (own_of task block) (length v.blocks) fresh (omega (arith, less)) added_indexed) refl) v.blocks
+      (indexed_below 0 v.blocks indexed)
 
-  pub new_bare : AllByRecursion (λ block. (chosen_view task (chosen_for disk task v best) v).bare block ≡ Wanted) (chosen_blocks disk task v best)
+  pub new_bare : AllByRecursion (λ block. (chosen_view task (chosen_for disk task v best) v).bare block ≡ Wanted)
+      (chosen_blocks disk task v best)
   new_bare = fresh_wanted task fresh v.bare new.bare (λ _. refl) added_own
 
-  pub cleaned_same : AreIndexed 0 v.blocks → v.blocks ≡ flat_map (λ choice. choice.blocks) v.choices → AllByRecursion (λ choice. is_cleaned (chosen_view task (chosen_for disk task v best) v).work choice ≡ is_cleaned v.work choice) v.choices
-  cleaned_same indexed blocks = all_weaker (λ (c : Choice). AllByRecursion (λ block. new.bare block ≡ v.bare block) c.blocks) (λ c. is_cleaned new.work c ≡ is_cleaned v.work c)
+  pub cleaned_same : AreIndexed 0 v.blocks → v.blocks ≡ flat_map (λ choice. choice.blocks) v.choices → AllByRecursion
+      (λ choice. is_cleaned (chosen_view task (chosen_for disk task v best) v).work choice ≡ is_cleaned v.work choice) v.choices
+  cleaned_same indexed blocks = all_weaker (λ (c : Choice). AllByRecursion (λ block. new.bare block ≡ v.bare block) c.blocks)
+      (λ c. is_cleaned new.work c ≡ is_cleaned v.work c)
       (λ c all. all_same (λ block. is_delivered (new.bare block)) (λ block. is_delivered (v.bare block)) c.blocks
-      (all_weaker (λ block. new.bare block ≡ v.bare block) (λ block. is_delivered (new.bare block) ≡ is_delivered (v.bare block)) (λ block e. ap is_delivered e) c.blocks all))
-      v.choices (all_flat (λ block. new.bare block ≡ v.bare block) (λ (c : Choice). c.blocks) v.choices (subst (AllByRecursion (λ block. new.bare block ≡ v.bare block)) blocks (old_bare indexed)))
+      (all_weaker (λ block. new.bare block ≡ v.bare block) (λ block. is_delivered (new.bare block) ≡ is_delivered (v.bare block))
+      (λ block e. ap is_delivered e) c.blocks all))
+      v.choices (all_flat (λ block. new.bare block ≡ v.bare block) (λ (c : Choice). c.blocks) v.choices
+      (subst (AllByRecursion (λ block. new.bare block ≡ v.bare block)) blocks (old_bare indexed)))
 
-  module _ (log : clean.Cleaning) (h : Cleans v.work log) (idle : log.unfinished ≡ None) (going : v.closed ≡ false) (is_left : IsLeft disk v best) (some : 0 < v.terms.block) (indexed : AreIndexed 0 v.blocks) where
+  module _ (log : clean.Cleaning) (h : Cleans v.work log) (idle : log.unfinished ≡ None) (going : v.closed ≡ false)
+      (is_left : IsLeft disk v best) (some : 0 < v.terms.block) (indexed : AreIndexed 0 v.blocks) where
     -- nothing is at work
     all_done : v.choices ≡ h.done
     all_done = by h.current h.by where
@@ -97,12 +112,15 @@ module _ (disk : Shape) (task : ℕ) (v : TaskView) (best : LogSegment) where
       by (Some now) is = absurd (none-some now.segment.number (sym idle ∙ is.unfinished))
 
     cleaned_all : AllByRecursion (λ c. is_cleaned new.work c ≡ true) h.done
-    cleaned_all = all_with (λ c. is_cleaned new.work c ≡ is_cleaned v.work c) (λ c. is_cleaned v.work c ≡ true) (λ c. is_cleaned new.work c ≡ true)
+    cleaned_all =
+        all_with (λ c. is_cleaned new.work c ≡ is_cleaned v.work c) (λ c. is_cleaned v.work c ≡ true) (λ c. is_cleaned new.work c ≡ true)
         (λ c same e. same ∙ e) h.done (rw all_done at (cleaned_same indexed h.blocks)) h.cleaned
 
     -- the choices and the blocks with the new one, whether or not it is cleaned at once
-    module _ (done : List Choice) (current : Option Choice) (split : v.choices ++ choice ∷ [] ≡ done ++ choice_in current) (cleaned : AllByRecursion (λ c. is_cleaned new.work c ≡ true) done)
-        (unfinished : Option ℕ) (says : unfinished ≡ option_map (λ c. c.segment.number) current) (is_it : AllByRecursion (λ now. (choice ≡ now) × (done ≡ h.done)) (choice_in current)) where
+    module _ (done : List Choice) (current : Option Choice) (split : v.choices ++ choice ∷ [] ≡ done ++ choice_in current)
+        (cleaned : AllByRecursion (λ c. is_cleaned new.work c ≡ true) done)
+        (unfinished : Option ℕ) (says : unfinished ≡ option_map (λ c. c.segment.number) current)
+        (is_it : AllByRecursion (λ now. (choice ≡ now) × (done ≡ h.done)) (choice_in current)) where
       of_current : (P : Choice → Type 0) → (done ≡ h.done → P choice) → AllByRecursion P (choice_in current)
       of_current P now = all_weaker (λ now. (choice ≡ now) × (done ≡ h.done)) P (λ c is. subst P is.0 (now is.1)) (choice_in current) is_it
 
@@ -114,34 +132,48 @@ module _ (disk : Shape) (task : ℕ) (v : TaskView) (best : LogSegment) where
             cleaned = cleaned;
             unfinished = says;
             blocks = rw (flat_map-append, append-nil fresh) (ap (λ bs. bs ++ fresh) h.blocks);
-            cut = all_append (IsCutFrom log.block) v.choices (choice ∷ []) h.cut (rw h.block (live_cover disk task v.terms.weight v.terms.block (length v.blocks) best.first best.live some), tt);
-            taken = of_current (HoldsChoice new.work now) (λ _. all_weaker (λ b. new.bare b ≡ Wanted) (HoldsBlock new.work (clean.taken_for now best.number))
+            cut = all_append (IsCutFrom log.block) v.choices (choice ∷ []) h.cut (
+              rw h.block (live_cover disk task v.terms.weight v.terms.block (length v.blocks) best.first best.live some),
+              tt,
+            );
+            taken = of_current (HoldsChoice new.work now)
+                (λ _. all_weaker (λ b. new.bare b ≡ Wanted) (HoldsBlock new.work (clean.taken_for now best.number))
                 (λ b e done. absurd (true≢false (sym done ∙ ap is_delivered e))) fresh new_bare);
             numbers = all_append (λ c. c.segment.number ≤ length v.segments) v.choices (choice ∷ []) h.numbers
                 (omega (arith, slice_get_within v.segments (best.number - 1) best is_left.there, is_left.from_one), tt);
             distinct = of_current (λ now. AllByRecursion (λ c. (c.segment.number == now.segment.number) ≡ false) done)
                 (λ same. rw (same, sym all_done) (none_pass (is_choice_of best) v.choices is_left.left));
-            ascend = of_current (λ c. Ascend 0 c.blocks) (λ _. live_ascend disk task v.terms.weight v.terms.block (length v.blocks) best.first 0 best.live some (omega arith));
+            ascend = of_current (λ c. Ascend 0 c.blocks)
+                (λ _. live_ascend disk task v.terms.weight v.terms.block (length v.blocks) best.first 0 best.live some (omega arith));
             known = of_current (IsAtNumber v.segments) (λ _. is_left.there);
-            unreported = of_current (λ now. v.reported now.segment.number ≡ false) (λ _. grind (arith, h.reported best.number, is_left.left));
+            unreported =
+                of_current (λ now. v.reported now.segment.number ≡ false) (λ _. grind (arith, h.reported best.number, is_left.left));
             reported = λ number said. rw (list_any-append, h.reported number said) refl;
             over = λ closed. absurd (true≢false (sym closed ∙ going));
             segments = rw h.segments (kept_all v.segments);
           }
 
     -- the chosen segment is being cleaned
-    pub chosen-by : CleansBy (chosen_view task (chosen_for disk task v best) v).work (clean.after_choice (Some best.number) log) h.done (Some (chosen_for disk task v best))
+    pub chosen-by : CleansBy (chosen_view task (chosen_for disk task v best) v).work (clean.after_choice (Some best.number) log) h.done
+        (Some (chosen_for disk task v best))
     chosen-by = added-by h.done (Some choice) (ap (λ cs. cs ++ choice ∷ []) all_done) cleaned_all (Some best.number) refl ((refl, refl), tt)
 
     -- a segment without live blocks is cleaned at once
     pub emptied-by : chosen_blocks disk task v best ≡ []
-        → CleansBy (chosen_view task (chosen_for disk task v best) v).work (record (clean.after_choice (Some best.number) log) { unfinished = None }) (h.done ++ chosen_for disk task v best ∷ []) None
+        → CleansBy (chosen_view task (chosen_for disk task v best) v).work
+        (record (clean.after_choice (Some best.number) log) { unfinished = None }) (h.done ++ chosen_for disk task v best ∷ []) None
     emptied-by empty = added-by (h.done ++ choice ∷ []) None (rw (all_done, append-nil) refl)
-        (all_append (λ c. is_cleaned new.work c ≡ true) h.done (choice ∷ []) cleaned_all (ap (list_all (λ block. is_delivered (new.bare block))) empty, tt)) None refl tt
+        (all_append (λ c. is_cleaned new.work c ≡ true) h.done (choice ∷ []) cleaned_all (
+          ap (list_all (λ block. is_delivered (new.bare block))) empty,
+          tt,
+        )) None refl tt
 
 -- the wanted set holds the new blocks too
-pub chosen-holds : (disk : Shape) (past : Past) (task : ℕ) (best : LogSegment) (session : Session) (held now : List Entry) → task < length (tasks past) → (view past task).terms.weight ≤ 1000 → 0 < (view past task).terms.block → (view past task).terms.block ≤ 2048 → length (places disk) ≤ 10 ^ 12
-    → IsSegmentOf disk (view past task).terms.block best → session.suspended ≡ (view past task).suspended → now ≡ held ++ new_entries session (chosen_blocks disk task (view past task) best)
+pub chosen-holds : (disk : Shape) (past : Past) (task : ℕ) (best : LogSegment) (session : Session) (held now : List Entry)
+    → task < length (tasks past) → (view past task).terms.weight ≤ 1000 → 0 < (view past task).terms.block
+    → (view past task).terms.block ≤ 2048 → length (places disk) ≤ 10 ^ 12
+    → IsSegmentOf disk (view past task).terms.block best → session.suspended ≡ (view past task).suspended
+    → now ≡ held ++ new_entries session (chosen_blocks disk task (view past task) best)
     → HoldsBlocks disk past held → HoldsBlocks disk (chose task best (chosen_blocks disk task (view past task) best) ∷ past) now
 chosen-holds disk past task best session held now opened light some short small on_disk says pushed h =
     let v = view past task in
@@ -153,11 +185,17 @@ chosen-holds disk past task best session held now opened light some short small 
     let placed = h.placed task in
     let whole : best.first + length best.live * (view past task).terms.block ≤ length (places disk) = rw on_disk.1 on_disk.0 in
     record {
-      entries = registered-entries past (chose task best blocks ∷ past) task blocks others (λ block. ap (λ x. x.bare block) own_now) (ap (λ x. x.suspended) own_now) placed.indexed indexed own session held now says h.entries pushed;
+      entries = registered-entries past (chose task best blocks ∷ past) task blocks others (λ block. ap (λ x. x.bare block) own_now)
+          (ap (λ x. x.suspended) own_now) placed.indexed indexed own session held now says h.entries pushed;
       on_disk = all_append (IsBlockOf disk (length (tasks past))) (registered past) blocks h.on_disk
-          (live_placed disk (length (tasks past)) task v.terms.weight v.terms.block (length v.blocks) best.first best.live opened light some short whole (omega (arith, whole, small)));
+          (live_placed disk (length (tasks past)) task v.terms.weight v.terms.block
+          (length v.blocks) best.first best.live opened light some short whole (omega (arith, whole, small)));
       placed = λ t. one_or_other (λ t. IsPlaced disk (view (chose task best blocks ∷ past) t).work) task t
-          (rw own_now (record { indexed = indexed_append 0 v.blocks blocks placed.indexed (subst (λ n. AreIndexed n blocks) (let e : length (view past task).blocks ≡ 0 + length (view past task).blocks = omega arith in e) indexed); segments = placed.segments })) (λ other. rw (others t other) (h.placed t));
+          (rw own_now (record {
+            indexed = indexed_append 0 v.blocks blocks placed.indexed (subst (λ n. AreIndexed n blocks)
+                (let e : length (view past task).blocks ≡ 0 + length (view past task).blocks = omega arith in e) indexed);
+            segments = placed.segments;
+          })) (λ other. rw (others t other) (h.placed t));
       unopened = λ t more. rw (others t (number_other task t (λ e. absurd (omega arith)))) (h.unopened t more);
     }
 
@@ -173,27 +211,51 @@ pub record ChoiceStep (disk : Shape) (past : Past) (task number : ℕ) (session 
   pub once : choose_once disk task past ≡ chose task best (chosen_blocks disk task (view past task) best) ∷ past
 
 -- what a choice registers it could register before
-pub next_view : (disk : Shape) (past : Past) (task : ℕ) (best : LogSegment) → view (chose task best (chosen_blocks disk task (view past task) best) ∷ past) task ≡ chosen_view task (chosen_for disk task (view past task) best) (view past task)
-next_view disk past task best = chosen-view past task best (chosen_blocks disk task (view past task) best) (added_own disk task (view past task) best) task refl
+pub next_view : (disk : Shape) (past : Past) (task : ℕ) (best : LogSegment)
+    → view (chose task best (chosen_blocks disk task (view past task) best) ∷ past) task
+    ≡ chosen_view task (chosen_for disk task (view past task) best) (view past task)
+next_view disk past task best =
+    chosen-view past task best (chosen_blocks disk task (view past task) best) (added_own disk task (view past task) best) task refl
 
 -- of what is left to choose the choice takes its segment
-pub left_less : (f : LogSegment → ℕ) (disk : Shape) (task : ℕ) (v : TaskView) (best : LogSegment) → IsLeft disk v best → sum_by f (unchosen (chosen_view task (chosen_for disk task v best) v).work) + f best ≤ sum_by f (unchosen v.work)
-left_less f disk task v best left = sum_without f (λ s. not (is_chosen v.choices s)) (λ s. not (is_chosen (v.choices ++ chosen_for disk task v best ∷ []) s)) (λ s h.
-    grind (arith, list_any-append (is_choice_of s) v.choices (chosen_for disk task v best ∷ []))) v.segments (best.number - 1) best left.there (ap not left.left) (ap not chosen_now) where
+pub left_less : (f : LogSegment → ℕ) (disk : Shape) (task : ℕ) (v : TaskView) (best : LogSegment) → IsLeft disk v best
+    → sum_by f (unchosen (chosen_view task (chosen_for disk task v best) v).work) + f best ≤ sum_by f (unchosen v.work)
+left_less f disk task v best left =
+    sum_without f (λ s. not (is_chosen v.choices s)) (λ s. not (is_chosen (v.choices ++ chosen_for disk task v best ∷ []) s)) (λ s h.
+    grind (arith, list_any-append (is_choice_of s) v.choices (chosen_for disk task v best ∷ []))) v.segments
+    (best.number - 1) best left.there (ap not left.left) (ap not chosen_now) where
       chosen_now : is_chosen (v.choices ++ chosen_for disk task v best ∷ []) best ≡ true
-      chosen_now = rw (list_any-append (is_choice_of best) v.choices (chosen_for disk task v best ∷ []), number_same best.number best.number refl) (or-true (is_chosen v.choices best))
+      chosen_now = rw (
+        list_any-append (is_choice_of best) v.choices (chosen_for disk task v best ∷ []),
+        number_same best.number best.number refl,
+      ) (or-true (is_chosen v.choices best))
 
 pub few_less : (disk : Shape) (past : Past) (task : ℕ) (best : LogSegment) → IsLeft disk (view past task) best
-    → length (registered past ++ chosen_blocks disk task (view past task) best) + choosable_by disk (chose task best (chosen_blocks disk task (view past task) best) ∷ past) task ≤ length (registered past) + choosable_by disk past task
+    → length (registered past ++ chosen_blocks disk task (view past task) best) + choosable_by disk
+    (chose task best (chosen_blocks disk task (view past task) best) ∷ past) task ≤ length (registered past) + choosable_by disk past task
 few_less disk past task best left =
     let v = view past task in
     let fewer = left_less (λ (s : LogSegment). length (live_cuts disk (view past task).terms.block s.first s.live)) disk task v best left in
-    let given : choosable_by disk (chose task best (chosen_blocks disk task (view past task) best) ∷ past) task ≡ sum_by (λ (s : LogSegment). length (live_cuts disk (view past task).terms.block s.first s.live)) (unchosen (chosen_view task (chosen_for disk task (view past task) best) (view past task)).work) = rw (next_view disk past task best) refl in
-    omega (arith, fewer, given, length-append (registered past) (chosen_blocks disk task v best), cuts_count task v.terms.weight (length v.blocks) (live_cuts disk v.terms.block best.first best.live))
+    let given : choosable_by disk (chose task best (chosen_blocks disk task (view past task) best) ∷ past) task
+    ≡ sum_by (λ (s : LogSegment). length (live_cuts disk (view past task).terms.block s.first s.live)) (unchosen
+    (chosen_view task (chosen_for disk task (view past task) best) (view past task)).work) = rw (next_view disk past task best) refl in
+    omega (
+      arith,
+      fewer,
+      given,
+      length-append (registered past) (chosen_blocks disk task v best),
+      cuts_count task v.terms.weight (length v.blocks) (live_cuts disk v.terms.block best.first best.live),
+    )
 
 -- the row of a cleaned segment
 abbrev pub segment_row_of : Work → ℕ → ℕ → Choice → BackRow
-segment_row_of w now task choice = SegmentLine (record { task = task; segment = choice.segment.number; instant = now; live = live_count choice.segment; content = found_for w choice.blocks })
+segment_row_of w now task choice = SegmentLine (record {
+  task = task;
+  segment = choice.segment.number;
+  instant = now;
+  live = live_count choice.segment;
+  content = found_for w choice.blocks;
+})
 
 abbrev pub segment_rows_of : Work → ℕ → ℕ → List BackRow
 segment_rows_of w now task = map (segment_row_of w now task) (filter (is_newly_cleaned w) w.choices)
@@ -204,16 +266,20 @@ segment_rows_is past now task = refl
 
 abbrev pub best_of_left : Shape → ℕ → Past → List LogSegment → Past
 best_of_left disk task past [] = past
-best_of_left disk task past (s ∷ ss) = chose task (best_of is_better s ss) (chosen_blocks disk task (view past task) (best_of is_better s ss)) ∷ past
+best_of_left disk task past (s ∷ ss) =
+    chose task (best_of is_better s ss) (chosen_blocks disk task (view past task) (best_of is_better s ss)) ∷ past
 
-pub once_is : (disk : Shape) (past : Past) (task : ℕ) → choose_once disk task past ≡ (if is_busy (view past task).work then past else best_of_left disk task past (unchosen (view past task).work))
+pub once_is : (disk : Shape) (past : Past) (task : ℕ) → choose_once disk task past
+    ≡ (if is_busy (view past task).work then past else best_of_left disk task past (unchosen (view past task).work))
 unfolding view
 once_is disk past task = by_left (unchosen (view past task).work) where
-  by_left : (left : List LogSegment) → (if is_busy (view past task).work then past else choose_best disk task past left) ≡ (if is_busy (view past task).work then past else best_of_left disk task past left)
+  by_left : (left : List LogSegment) → (if is_busy (view past task).work then past else choose_best disk task past left)
+      ≡ (if is_busy (view past task).work then past else best_of_left disk task past left)
   by_left [] = refl
   by_left (s ∷ ss) = refl
 
-live_left : (n : ℕ) (ss : List clean.LogSegment) → map (λ (s : clean.LogSegment). s.live) (clean.without n ss) ≡ map (λ (s : clean.LogSegment). s.live) ss
+live_left : (n : ℕ) (ss : List clean.LogSegment)
+    → map (λ (s : clean.LogSegment). s.live) (clean.without n ss) ≡ map (λ (s : clean.LogSegment). s.live) ss
 live_left n [] = refl
 live_left n (s ∷ ss) = grind (arith, live_left n ss)
 
@@ -251,15 +317,20 @@ module _ {disk : Shape} {past : Past} {task : ℕ} {session : Session} {held : L
     by_left (s ∷ ss) are = record {
       best = best_of is_better s ss;
       left = best_left disk v s ss (rw (seen past task).segments (numbered_given past task)) (may.blocks.placed task).segments are;
-      number_is = some_same (best_of is_better s ss).number number (sym (choice_kept v.work going session.log log_is.segments idle (s ∷ ss) are) ∙ is);
+      number_is = some_same (best_of is_better s ss).number number
+          (sym (choice_kept v.work going session.log log_is.segments idle (s ∷ ss) are) ∙ is);
       idle = idle;
       once = rw (once_is disk past task, free, are) refl;
     }
 
   -- where the session chooses nothing the history doesn't
   pub none-step : clean.choice_of session.log ≡ None → choose_once disk task past ≡ past
-  none-step is = rw (once_is disk past task) (elim (cases_Bool (is_busy v.work)) [ inl busy ↦ rw busy refl | inr free ↦ rw free (by_left free (unchosen v.work) refl) ]) where
-    by_left : is_busy v.work ≡ false → (left : List LogSegment) → unchosen v.work ≡ left → best_of_left disk task past (unchosen v.work) ≡ past
+  none-step is = rw (once_is disk past task) (elim (cases_Bool (is_busy v.work)) [
+    | inl busy ↦ rw busy refl
+    | inr free ↦ rw free (by_left free (unchosen v.work) refl)
+  ]) where
+    by_left : is_busy v.work ≡ false → (left : List LogSegment) → unchosen v.work ≡ left
+        → best_of_left disk task past (unchosen v.work) ≡ past
     by_left free [] are = rw are refl
     by_left free (s ∷ ss) are = absurd (none-some (best_of is_better s ss).number
         (sym is ∙ choice_kept v.work going session.log log_is.segments (grind (arith, may.at_work cleans.0, free)) (s ∷ ss) are))
@@ -269,13 +340,17 @@ module _ {disk : Shape} {past : Past} {task : ℕ} {session : Session} {held : L
   none-turned log now rows is same = rw (none-step is, same) (record { may = may; rows = λ before so_far. so_far })
 
   -- a chosen session stands as it did, but for its log
-  chosen-stands : (best : LogSegment) (log : clean.Cleaning) → Cleans (after best).work log → Stands (after best) (record session { log = log })
+  chosen-stands : (best : LogSegment) (log : clean.Cleaning) → Cleans (after best).work log
+      → Stands (after best) (record session { log = log })
   chosen-stands best log now =
       let h = may.stands in
-      let ascend : is_backup session.kind ≡ true → Ascend 0 (after best).blocks = λ backup. absurd (no_backup session.kind cleans.0 backup) in
-      let unwanted : is_backup session.kind ≡ true → v.wants ≡ false → (after best).blocks ≡ [] = λ backup. absurd (no_backup session.kind cleans.0 backup) in
+      let ascend : is_backup session.kind ≡ true
+      → Ascend 0 (after best).blocks = λ backup. absurd (no_backup session.kind cleans.0 backup) in
+      let unwanted : is_backup session.kind ≡ true → v.wants ≡ false
+      → (after best).blocks ≡ [] = λ backup. absurd (no_backup session.kind cleans.0 backup) in
       let image : is_unsealed v ≡ true → HoldsImage (after best).work (held_at session.image) = λ is_open.
-      absurd (no_backup session.kind cleans.0 (ap (λ t. is_backup t.kind) (sym h.terms) ∙ (and_parts (is_backup v.terms.kind) (not v.sealed) is_open).0)) in
+      absurd (no_backup session.kind cleans.0
+      (ap (λ t. is_backup t.kind) (sym h.terms) ∙ (and_parts (is_backup v.terms.kind) (not v.sealed) is_open).0)) in
       let log_now = λ (_ : is_clean session.kind ≡ true). now in
       let unchosen : is_clean session.kind ≡ false → (after best).choices ≡ [] = λ other. absurd (true≢false (sym cleans.0 ∙ other)) in
       assumption (ascend, unwanted, image, log_now, unchosen, h)
@@ -283,41 +358,56 @@ module _ {disk : Shape} {past : Past} {task : ℕ} {session : Session} {held : L
   -- a new block is not delivered, so its choice is not cleaned
   uncleaned : (best : LogSegment) → 0 < length (added best) → is_cleaned (after best).work (chosen_for disk task v best) ≡ false
   uncleaned best some = first_wanted (added best) some (new_bare disk task v best) where
-    first_wanted : (bs : List Block) → 0 < length bs → AllByRecursion (λ b. (after best).bare b ≡ Wanted) bs → list_all (λ b. is_delivered ((after best).bare b)) bs ≡ false
+    first_wanted : (bs : List Block) → 0 < length bs → AllByRecursion (λ b. (after best).bare b ≡ Wanted) bs
+        → list_all (λ b. is_delivered ((after best).bare b)) bs ≡ false
     first_wanted [] h all = absurd (omega arith)
     first_wanted (b ∷ bs) h all = rw all.0 refl
 
   -- the choices before it give the rows that they gave
   rows_now : (best : LogSegment) (now : ℕ) → segment_rows_found (next best) now task
-      ≡ segment_rows_found past now task ++ map (segment_row_of (after best).work now task) (filter (is_newly_cleaned (after best).work) (chosen_for disk task v best ∷ []))
+      ≡ segment_rows_found past now task
+      ++ map (segment_row_of (after best).work now task) (filter (is_newly_cleaned (after best).work) (chosen_for disk task v best ∷ []))
   rows_now best now =
       let same = filter_same (is_newly_cleaned (after best).work) (is_newly_cleaned v.work) v.choices
-      (all_weaker (λ choice. is_cleaned (after best).work choice ≡ is_cleaned v.work choice) (λ choice. is_newly_cleaned (after best).work choice ≡ is_newly_cleaned v.work choice)
-      (λ choice same. ap (λ b. b && not (v.reported choice.segment.number)) same) v.choices (cleaned_same disk task v best (may.blocks.placed task).indexed log_is.blocks)) in
+      (all_weaker (λ choice. is_cleaned (after best).work choice ≡ is_cleaned v.work choice)
+      (λ choice. is_newly_cleaned (after best).work choice ≡ is_newly_cleaned v.work choice)
+      (λ choice same. ap (λ b. b && not (v.reported choice.segment.number)) same) v.choices
+      (cleaned_same disk task v best (may.blocks.placed task).indexed log_is.blocks)) in
       segment_rows_is (next best) now task ∙ (ap (λ v. segment_rows_of v.work now task) (next_view disk past task best)
       ∙ rw (segment_rows_is past now task, filter-append, map-append, same) refl)
 
-  module _ (number : ℕ) (step : ChoiceStep disk past task number session) (log : clean.Cleaning) (taken : log ≡ clean.after_choice (Some number) session.log) where
+  module _ (number : ℕ) (step : ChoiceStep disk past task number session) (log : clean.Cleaning)
+      (taken : log ≡ clean.after_choice (Some number) session.log) where
     -- the live blocks of the chosen segment
     live-now : clean.live_of log number ≡ clean.live_blocks session.block step.best.first step.best.live
-    live-now = rw (taken, live_left number session.log.segments, log_is.segments, sym step.number_is, live_there v.work v.segments step.best step.left.there, may.stands.terms) refl
+    live-now = rw (
+      taken,
+      live_left number session.log.segments,
+      log_is.segments,
+      sym step.number_is,
+      live_there v.work v.segments step.best step.left.there,
+      may.stands.terms,
+    ) refl
 
     cuts_now : cuts_of disk session.block (clean.live_of log number) ≡ live_cuts disk v.terms.block step.best.first step.best.live
     cuts_now = rw (live-now, cuts_of_live disk session.block step.best.first step.best.live, may.stands.terms) refl
 
     pub live-on_disk : AllByRecursion (λ lbn. lbn + session.block ≤ length (places disk)) (clean.live_of log number)
     live-on_disk =
-        let whole : step.best.first + length step.best.live * session.block ≤ length (places disk) = rw step.left.on_disk.1 (rw may.stands.terms at step.left.on_disk.0) in
+        let whole : step.best.first + length step.best.live * session.block ≤ length (places disk) =
+        rw step.left.on_disk.1 (rw may.stands.terms at step.left.on_disk.0) in
         rw live-now (live_blocks-within session.block step.best.first (length (places disk)) step.best.live whole)
 
     pub live-few : length held + length (cuts_of disk session.block (clean.live_of log number)) ≤ 16000000
     live-few =
-        let one = sum_without (λ s. length (live_cuts disk v.terms.block s.first s.live)) (λ s. not (is_chosen v.choices s)) (λ s. false) (λ s e. absurd (true≢false (sym e)))
+        let one = sum_without (λ s. length (live_cuts disk v.terms.block s.first s.live)) (λ s. not (is_chosen v.choices s)) (λ s. false)
+        (λ s e. absurd (true≢false (sym e)))
         v.segments (step.best.number - 1) step.best step.left.there (ap not step.left.left) refl in
         omega (arith, one, may.few, ap length may.blocks.entries, length-map (registered past) (entry_of past), ap length cuts_now)
 
     module _ (small : length (places disk) ≤ 10 ^ 12) (now : List Entry)
-        (pushed : now ≡ held ++ new_entries session (numbered task session.weight (numbering.registered task (numbering.blocks_of held)) (cuts_of disk session.block (clean.live_of log number))))
+        (pushed : now ≡ held ++ new_entries session (numbered task session.weight (numbering.registered task (numbering.blocks_of held))
+        (cuts_of disk session.block (clean.live_of log number))))
         (instant : ℕ) (old : List BackRow) where
       log_at : log ≡ clean.after_choice (Some step.best.number) session.log
       log_at = rw step.number_is taken
@@ -328,10 +418,13 @@ module _ {disk : Shape} {past : Past} {task : ℕ} {session : Session} {held : L
       -- what the wanted set registers are the history's blocks
       holds_now : HoldsBlocks disk (next step.best) now
       holds_now =
-          let many : numbering.registered task (numbering.blocks_of held) ≡ length v.blocks = rw (may.blocks.entries, named_same past (registered past), (seen past task).blocks) refl in
-          let blocks : numbered task session.weight (numbering.registered task (numbering.blocks_of held)) (cuts_of disk session.block (clean.live_of log number)) ≡ added step.best =
+          let many : numbering.registered task (numbering.blocks_of held) ≡ length v.blocks =
+          rw (may.blocks.entries, named_same past (registered past), (seen past task).blocks) refl in
+          let blocks : numbered task session.weight (numbering.registered task (numbering.blocks_of held))
+          (cuts_of disk session.block (clean.live_of log number)) ≡ added step.best =
           rw (cuts_now, many, may.stands.terms) refl in
-          chosen-holds disk past task step.best session held now opened (rw may.stands.terms may.stands.weight) some_block (rw may.stands.terms may.stands.block.1) small
+          chosen-holds disk past task step.best session held now opened (rw may.stands.terms may.stands.weight) some_block
+          (rw may.stands.terms may.stands.block.1) small
           step.left.on_disk may.stands.suspended (pushed ∙ rw blocks refl) may.blocks where
             -- a task with a segment was opened
             opened : task < length (tasks past)
@@ -348,9 +441,11 @@ module _ {disk : Shape} {past : Past} {task : ℕ} {session : Session} {held : L
       live_length = rw (live-now, may.stands.terms) refl
 
       -- some give blocks: their segment is not cleaned, and has no row
-      pub live-turned : 0 < length (clean.live_of log number) → HasTurned disk past (choose_once disk task past) task instant (record session { log = log }) now old old
+      pub live-turned : 0 < length (clean.live_of log number)
+          → HasTurned disk past (choose_once disk task past) task instant (record session { log = log }) now old old
       live-turned some =
-          let chosen = chosen-by disk task v step.best session.log log_is step.idle going step.left some_block (may.blocks.placed task).indexed in
+          let chosen =
+          chosen-by disk task v step.best session.log log_is step.idle going step.left some_block (may.blocks.placed task).indexed in
           let some_added : 0 < length (added step.best) = omega (
             arith,
             cuts_count task v.terms.weight (length v.blocks) (live_cuts disk v.terms.block step.best.first step.best.live),
@@ -360,7 +455,8 @@ module _ {disk : Shape} {past : Past} {task : ℕ} {session : Session} {held : L
           rw step.once (record {
             may = record {
               blocks = holds_now;
-              stands = rw (next_view disk past task step.best) (chosen-stands step.best log (rw log_at (record { done = log_is.done; current = Some (chosen_for disk task v step.best); by = chosen })));
+              stands = rw (next_view disk past task step.best) (chosen-stands step.best log
+                  (rw log_at (record { done = log_is.done; current = Some (chosen_for disk task v step.best); by = chosen })));
               at_work = λ _. rw (log_at, next_view disk past task step.best, busy_by chosen, open_still) refl;
               few = few_now;
             };
@@ -383,16 +479,32 @@ module _ {disk : Shape} {past : Past} {task : ℕ} {session : Session} {held : L
           let live_none : clean.live_blocks v.terms.block step.best.first step.best.live ≡ [] =
           nil_from_length (clean.live_blocks v.terms.block step.best.first step.best.live) (sym live_length ∙ none) in
           let empty : added step.best ≡ [] = rw (← cuts_of_live disk v.terms.block step.best.first step.best.live, live_none) refl in
-          let emptied = emptied-by disk task v step.best session.log log_is step.idle going step.left some_block (may.blocks.placed task).indexed empty in
-          let cleaned : is_cleaned (after step.best).work (chosen_for disk task v step.best) ≡ true = ap (list_all (λ block. is_delivered ((after step.best).bare block))) empty in
+          let emptied =
+          emptied-by disk task v step.best session.log log_is step.idle going step.left some_block (may.blocks.placed task).indexed empty in
+          let cleaned : is_cleaned (after step.best).work (chosen_for disk task v step.best) ≡ true =
+          ap (list_all (λ block. is_delivered ((after step.best).bare block))) empty in
           let silent : v.reported step.best.number ≡ false = grind (arith, log_is.reported step.best.number, step.left.left) in
-          let found : found_for (after step.best).work (added step.best) ≡ [] = ap (λ bs. runs_of (flat_map (λ block. sectors_of ((after step.best).found block)) bs)) empty in
+          let found : found_for (after step.best).work (added step.best) ≡ [] =
+          ap (λ bs. runs_of (flat_map (λ block. sectors_of ((after step.best).found block)) bs)) empty in
           rw step.once (record {
             may = record {
               blocks = holds_now;
-              stands = rw (next_view disk past task step.best) (chosen-stands step.best (record log { unfinished = None }) (rw log_at (record { done = log_is.done ++ chosen_for disk task v step.best ∷ []; current = None; by = emptied })));
+              stands = rw (next_view disk past task step.best) (chosen-stands step.best (record log { unfinished = None })
+                  (rw log_at (record { done = log_is.done ++ chosen_for disk task v step.best ∷ []; current = None; by = emptied })));
               at_work = λ _. rw (next_view disk past task step.best, busy_by emptied) refl;
               few = few_now;
             };
-            rows = λ before so_far. rw (rows_now step.best instant, cleaned, silent, rows_are, so_far, nothing, found, live_length, live_blocks-count, sym step.number_is, append_assoc) refl;
+            rows = λ before so_far. rw (
+              rows_now step.best instant,
+              cleaned,
+              silent,
+              rows_are,
+              so_far,
+              nothing,
+              found,
+              live_length,
+              live_blocks-count,
+              sym step.number_is,
+              append_assoc,
+            ) refl;
           })

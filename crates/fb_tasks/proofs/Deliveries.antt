@@ -14,7 +14,8 @@ use Rattle.fb_tasks.proofs.{Frames.changed-entries, Sealed.held_same, Sealed.wit
 use Rattle.fb_tasks.proofs.{Sealed.ascend_from}
 use Rattle.fb_clean.specs.Segments as clean
 
-get_append : {X : Type 0} (xs ys : List X) (i : ℕ) (x : X) → slice_get (xs ++ ys) i ≡ Some x → (slice_get xs i ≡ Some x) ⊎ ((j : ℕ) × (slice_get ys j ≡ Some x))
+get_append : {X : Type 0} (xs ys : List X) (i : ℕ) (x : X) → slice_get (xs ++ ys) i ≡ Some x
+    → (slice_get xs i ≡ Some x) ⊎ ((j : ℕ) × (slice_get ys j ≡ Some x))
 get_append [] ys i x h = inr (i, h)
 get_append (y ∷ xs) ys zero x h = inl h
 get_append (y ∷ xs) ys (suc i) x h = get_append xs ys i x h
@@ -22,27 +23,46 @@ get_append (y ∷ xs) ys (suc i) x h = get_append xs ys i x h
 -- blocks are told apart by their numbers
 pub indexed_from : (n : ℕ) (bs : List Block) → AreIndexed n bs → AllByRecursion (λ b. n ≤ b.number) bs
 indexed_from n [] h = tt
-indexed_from n (b ∷ bs) h = (omega (arith, h.0), all_weaker (λ c. n + 1 ≤ c.number) (λ c. n ≤ c.number) (λ c le. omega (arith, le)) bs (indexed_from (n + 1) bs h.1))
+indexed_from n (b ∷ bs) h = (
+  omega (arith, h.0),
+  all_weaker (λ c. n + 1 ≤ c.number) (λ c. n ≤ c.number) (λ c le. omega (arith, le)) bs (indexed_from (n + 1) bs h.1),
+)
 
-pub only_one : (n : ℕ) (bs : List Block) (i : ℕ) (x : Block) → AreIndexed n bs → slice_get bs i ≡ Some x → AllByRecursion (λ b. b.number ≡ x.number → b ≡ x) bs
+pub only_one : (n : ℕ) (bs : List Block) (i : ℕ) (x : Block) → AreIndexed n bs → slice_get bs i ≡ Some x
+    → AllByRecursion (λ b. b.number ≡ x.number → b ≡ x) bs
 only_one n [] i x h at = tt
 only_one n (b ∷ bs) zero x h at =
     let e = some_same b x at in
-    ((λ same. e), all_weaker (λ c. n + 1 ≤ c.number) (λ c. c.number ≡ x.number → c ≡ x) (λ c le same. absurd (omega (arith, le, same, h.0, ap (λ (z : Block). z.number) e))) bs (indexed_from (n + 1) bs h.1))
+    (
+      (λ same. e),
+      all_weaker (λ c. n + 1 ≤ c.number) (λ c. c.number ≡ x.number → c ≡ x)
+          (λ c le same. absurd (omega (arith, le, same, h.0, ap (λ (z : Block). z.number) e))) bs (indexed_from (n + 1) bs h.1),
+    )
 only_one n (b ∷ bs) (suc i) x h at =
-    ((λ same. absurd (omega (arith, same, h.0, all_at (λ c. n + 1 ≤ c.number) bs i x (indexed_from (n + 1) bs h.1) at))), only_one (n + 1) bs i x h.1 at)
+    (
+      (λ same. absurd (omega (arith, same, h.0, all_at (λ c. n + 1 ≤ c.number) bs i x (indexed_from (n + 1) bs h.1) at))),
+      only_one (n + 1) bs i x h.1 at,
+    )
 
 -- and lie apart
 abbrev pub AreApart : Block → Block → Type 0
 AreApart a b = (a.lbn + a.count ≤ b.lbn) ⊎ (b.lbn + b.count ≤ a.lbn)
 
-apart : (low : ℕ) (bs : List Block) (i : ℕ) (x : Block) → Ascend low bs → slice_get bs i ≡ Some x → AllByRecursion (λ b. (b ≡ x) ⊎ AreApart b x) bs
+apart : (low : ℕ) (bs : List Block) (i : ℕ) (x : Block) → Ascend low bs → slice_get bs i ≡ Some x
+    → AllByRecursion (λ b. (b ≡ x) ⊎ AreApart b x) bs
 apart low [] i x h at = tt
 apart low (b ∷ bs) zero x h at =
     let e = some_same b x at in
-    (inl e, all_weaker (λ c. b.lbn + b.count ≤ c.lbn) (λ c. (c ≡ x) ⊎ AreApart c x) (λ c le. inr (inr (subst (λ z. z.lbn + z.count ≤ c.lbn) e le))) bs (ascend_from (b.lbn + b.count) bs h.1))
+    (
+      inl e,
+      all_weaker (λ c. b.lbn + b.count ≤ c.lbn) (λ c. (c ≡ x) ⊎ AreApart c x)
+          (λ c le. inr (inr (subst (λ z. z.lbn + z.count ≤ c.lbn) e le))) bs (ascend_from (b.lbn + b.count) bs h.1),
+    )
 apart low (b ∷ bs) (suc i) x h at =
-    (inr (inl (all_at (λ c. b.lbn + b.count ≤ c.lbn) bs i x (ascend_from (b.lbn + b.count) bs h.1) at)), apart (b.lbn + b.count) bs i x h.1 at)
+    (
+      inr (inl (all_at (λ c. b.lbn + b.count ≤ c.lbn) bs i x (ascend_from (b.lbn + b.count) bs h.1) at)),
+      apart (b.lbn + b.count) bs i x h.1 at,
+    )
 
 module _ (v : TaskView) (got : DeliveryRow) where
   -- a delivered block stays delivered
@@ -50,57 +70,79 @@ module _ (v : TaskView) (got : DeliveryRow) where
   still_done block done = grind arith
 
   -- the blocks hold what was taken of them
-  pub taken-holds : (held now : ℕ → Option Content) (content_at : ℕ → Content) (low i : ℕ) (bs : List Block) → ((lbn : ℕ) → now lbn ≡ after_take content_at got.block.lbn got.block.count lbn (held lbn)) → Gives got.content content_at got.block.lbn got.block.count
-      → Ascend low bs → slice_get bs i ≡ Some got.block → AllByRecursion (λ b. b.number ≡ got.block.number → b ≡ got.block) bs → AllByRecursion (HoldsBlock v.work held) bs → AllByRecursion (HoldsBlock (delivered_view got v).work now) bs
+  pub taken-holds : (held now : ℕ → Option Content) (content_at : ℕ → Content) (low i : ℕ) (bs : List Block)
+      → ((lbn : ℕ) → now lbn ≡ after_take content_at got.block.lbn got.block.count lbn (held lbn))
+      → Gives got.content content_at got.block.lbn got.block.count
+      → Ascend low bs → slice_get bs i ≡ Some got.block → AllByRecursion (λ b. b.number ≡ got.block.number → b ≡ got.block) bs
+      → AllByRecursion (HoldsBlock v.work held) bs → AllByRecursion (HoldsBlock (delivered_view got v).work now) bs
   taken-holds held now content_at low i bs takes gives ascends at single holds =
-      all_with (λ b. b.number ≡ got.block.number → b ≡ got.block) (λ b. HoldsBlock v.work held b × ((b ≡ got.block) ⊎ AreApart b got.block)) (HoldsBlock (delivered_view got v).work now) one bs single
+      all_with (λ b. b.number ≡ got.block.number → b ≡ got.block) (λ b. HoldsBlock v.work held b × ((b ≡ got.block) ⊎ AreApart b got.block))
+      (HoldsBlock (delivered_view got v).work now) one bs single
       (all_both (HoldsBlock v.work held) (λ b. (b ≡ got.block) ⊎ AreApart b got.block) bs holds (apart low bs i got.block ascends at)) where
         its_own : held_in now (range_with_len got.block.lbn got.block.count) ≡ sectors_of ((delivered_view got v).found got.block)
-        its_own = held_all now content_at got.block.lbn got.block.count (λ lbn le lt. rw (takes lbn, within got.block.lbn got.block.count lbn le lt) refl)
+        its_own = held_all now content_at got.block.lbn got.block.count
+            (λ lbn le lt. rw (takes lbn, within got.block.lbn got.block.count lbn le lt) refl)
             ∙ (sym gives ∙ rw (number_same got.block.number got.block.number refl) refl)
 
-        outside : (b : Block) (lbn : ℕ) → b.lbn ≤ lbn → lbn < b.lbn + b.count → AreApart b got.block → is_within got.block.lbn got.block.count lbn ≡ false
+        outside : (b : Block) (lbn : ℕ) → b.lbn ≤ lbn → lbn < b.lbn + b.count → AreApart b got.block
+            → is_within got.block.lbn got.block.count lbn ≡ false
         outside b lbn le lt (inl less) = before_it got.block.lbn got.block.count lbn (omega arith)
         outside b lbn le lt (inr more) = behind_it got.block.lbn got.block.count lbn (omega arith)
 
-        one : (b : Block) → (b.number ≡ got.block.number → b ≡ got.block) → HoldsBlock v.work held b × ((b ≡ got.block) ⊎ AreApart b got.block) → HoldsBlock (delivered_view got v).work now b
+        one : (b : Block) → (b.number ≡ got.block.number → b ≡ got.block)
+            → HoldsBlock v.work held b × ((b ≡ got.block) ⊎ AreApart b got.block) → HoldsBlock (delivered_view got v).work now b
         one b only both = elim (cases_Bool (got.block.number == b.number)) [
           | inl it ↦ rw (only (sym (same_number got.block.number b.number it))) (λ _. its_own)
           | inr other ↦ elim both.1 [
             | inl it ↦ absurd (other_number got.block.number b.number other (ap (λ (x : Block). x.number) (sym it)))
-            | inr far ↦ rw other (λ done. held_same now held b.lbn b.count (λ lbn le lt. rw (takes lbn, outside b lbn le lt far) refl) ∙ both.0 done)
+            | inr far ↦ rw other (λ done. held_same now held b.lbn b.count (λ lbn le lt. rw (takes lbn, outside b lbn le lt far) refl)
+                ∙ both.0 done)
           ]
         ]
 
   -- a sector that no block has holds nothing
-  pub taken-only : (held now : ℕ → Option Content) (content_at : ℕ → Content) (i : ℕ) (bs : List Block) → ((lbn : ℕ) → now lbn ≡ after_take content_at got.block.lbn got.block.count lbn (held lbn)) → slice_get bs i ≡ Some got.block
-      → ((lbn : ℕ) → list_any (λ b. is_within b.lbn b.count lbn) bs ≡ false → held lbn ≡ None) → (lbn : ℕ) → list_any (λ b. is_within b.lbn b.count lbn) bs ≡ false → now lbn ≡ None
+  pub taken-only : (held now : ℕ → Option Content) (content_at : ℕ → Content) (i : ℕ) (bs : List Block)
+      → ((lbn : ℕ) → now lbn ≡ after_take content_at got.block.lbn got.block.count lbn (held lbn)) → slice_get bs i ≡ Some got.block
+      → ((lbn : ℕ) → list_any (λ b. is_within b.lbn b.count lbn) bs ≡ false → held lbn ≡ None) → (lbn : ℕ)
+      → list_any (λ b. is_within b.lbn b.count lbn) bs ≡ false → now lbn ≡ None
   taken-only held now content_at i bs takes at only lbn none =
-      rw (takes lbn, all_at (λ b. is_within b.lbn b.count lbn ≡ false) bs i got.block (none_pass (λ b. is_within b.lbn b.count lbn) bs none) at) (only lbn none)
+      rw (
+        takes lbn,
+        all_at (λ b. is_within b.lbn b.count lbn ≡ false) bs i got.block (none_pass (λ b. is_within b.lbn b.count lbn) bs none) at,
+      ) (only lbn none)
 
   -- a block that is not delivered belongs to the choice that is not cleaned
-  pub in_current : (done current : List Choice) (i : ℕ) → slice_get (flat_map (λ (choice : Choice). choice.blocks) (done ++ current)) i ≡ Some got.block → AllByRecursion (λ choice. is_cleaned v.work choice ≡ true) done → v.bare got.block ≡ Wanted
+  pub in_current : (done current : List Choice) (i : ℕ)
+      → slice_get (flat_map (λ (choice : Choice). choice.blocks) (done ++ current)) i ≡ Some got.block
+      → AllByRecursion (λ choice. is_cleaned v.work choice ≡ true) done → v.bare got.block ≡ Wanted
       → (j : ℕ) × (slice_get (flat_map (λ (choice : Choice). choice.blocks) current) j ≡ Some got.block)
   in_current [] current i at cleaned bare = (i, at)
-  in_current (c ∷ cs) current i at cleaned bare = elim (get_append c.blocks (flat_map (λ (choice : Choice). choice.blocks) (cs ++ current)) i got.block at) [
-    | inl here ↦ absurd (let done = all_at (λ b. is_delivered (v.bare b) ≡ true) c.blocks i got.block (list_all_each (λ b. is_delivered (v.bare b)) c.blocks cleaned.0) here in grind (arith, done))
-    | inr rest ↦ in_current cs current rest.0 rest.1 cleaned.1 bare
-  ]
+  in_current (c ∷ cs) current i at cleaned bare =
+      elim (get_append c.blocks (flat_map (λ (choice : Choice). choice.blocks) (cs ++ current)) i got.block at) [
+        | inl here ↦ absurd (let done = all_at (λ b. is_delivered (v.bare b) ≡ true) c.blocks i got.block
+            (list_all_each (λ b. is_delivered (v.bare b)) c.blocks cleaned.0) here in grind (arith, done))
+        | inr rest ↦ in_current cs current rest.0 rest.1 cleaned.1 bare
+      ]
 
 module _ (past : Past) (got : DeliveryRow) where
   -- the block's own task changes alone
-  pub either : (P : TaskView → Type 0) (task : ℕ) → (got.block.task ≡ task → P (delivered_view got (view past task))) → P (view past task) → P (view (delivered got ∷ past) task)
+  pub either : (P : TaskView → Type 0) (task : ℕ) → (got.block.task ≡ task → P (delivered_view got (view past task))) → P (view past task)
+      → P (view (delivered got ∷ past) task)
   either P task own still = elim (cases_Bool (got.block.task == task)) [
     | inl mine ↦ let e = same_number got.block.task task mine in rw (delivered-view past got task e) (own e)
     | inr other ↦ rw (delivered-silent past got task other) still
   ]
 
   -- the wanted set has the block delivered
-  pub delivered-entries : (held now : List Entry) → held ≡ map (entry_of past) (registered past) → now ≡ after got.block.task (Deliver got.block.number) held → now ≡ map (entry_of (delivered got ∷ past)) (registered past)
+  pub delivered-entries : (held now : List Entry) → held ≡ map (entry_of past) (registered past)
+      → now ≡ after got.block.task (Deliver got.block.number) held → now ≡ map (entry_of (delivered got ∷ past)) (registered past)
   delivered-entries held now entries is_after = is_after ∙ (ap (after got.block.task (Deliver got.block.number)) entries
-      ∙ changed-entries got.block.task (Deliver got.block.number) (view past) (view (delivered got ∷ past)) (registered past) (λ t other. delivered-silent past got t other)
-      (rw (delivered-view past got got.block.task refl) (all_any _ (λ block. one (view past got.block.task) block) (registered past)))) where
-        one : (v : TaskView) (block : Block) → (if block.number == got.block.number then Delivered else state_in v block) ≡ state_in (delivered_view got v) block
+      ∙ changed-entries got.block.task (Deliver got.block.number) (view past) (view (delivered got ∷ past)) (registered past)
+      (λ t other. delivered-silent past got t other)
+      (rw (delivered-view past got got.block.task refl)
+      (all_any _ (λ block. one (view past got.block.task) block) (registered past)))) where
+        one : (v : TaskView) (block : Block)
+            → (if block.number == got.block.number then Delivered else state_in v block) ≡ state_in (delivered_view got v) block
         one v block = grind (arith, nat_tests)
 
 -- the block that is delivered stands among its task's, and was wanted
@@ -127,7 +169,8 @@ was_wanted past block i at =
     }
 
 module _ (disk : Shape) (past : Past) (got : DeliveryRow) where
-  pub delivered-holds : (held now : List Entry) → now ≡ map (entry_of (delivered got ∷ past)) (registered past) → HoldsBlocks disk past held → HoldsBlocks disk (delivered got ∷ past) now
+  pub delivered-holds : (held now : List Entry) → now ≡ map (entry_of (delivered got ∷ past)) (registered past) → HoldsBlocks disk past held
+      → HoldsBlocks disk (delivered got ∷ past) now
   delivered-holds held now entries h = record {
     entries = entries;
     on_disk = h.on_disk;
@@ -136,13 +179,17 @@ module _ (disk : Shape) (past : Past) (got : DeliveryRow) where
   }
 
 -- the task's own view
-module _ (v : TaskView) (got : DeliveryRow) (place : ℕ) (there : slice_get v.blocks place ≡ Some got.block) (bare : v.bare got.block ≡ Wanted) where
+module _ (v : TaskView) (got : DeliveryRow) (place : ℕ) (there : slice_get v.blocks place ≡ Some got.block)
+    (bare : v.bare got.block ≡ Wanted) where
   single : AreIndexed 0 v.blocks → AllByRecursion (λ b. b.number ≡ got.block.number → b ≡ got.block) v.blocks
   single indexed = only_one 0 v.blocks place got.block indexed there
 
-  cleaned_still : (cs : List Choice) → AllByRecursion (λ choice. is_cleaned v.work choice ≡ true) cs → AllByRecursion (λ choice. is_cleaned (delivered_view got v).work choice ≡ true) cs
-  cleaned_still cs all = all_weaker (λ choice. is_cleaned v.work choice ≡ true) (λ choice. is_cleaned (delivered_view got v).work choice ≡ true) (λ choice done. each choice.blocks done) cs all where
-    each : (bs : List Block) → list_all (λ b. is_delivered (v.bare b)) bs ≡ true → list_all (λ b. is_delivered ((delivered_view got v).bare b)) bs ≡ true
+  cleaned_still : (cs : List Choice) → AllByRecursion (λ choice. is_cleaned v.work choice ≡ true) cs
+      → AllByRecursion (λ choice. is_cleaned (delivered_view got v).work choice ≡ true) cs
+  cleaned_still cs all = all_weaker (λ choice. is_cleaned v.work choice ≡ true)
+      (λ choice. is_cleaned (delivered_view got v).work choice ≡ true) (λ choice done. each choice.blocks done) cs all where
+    each : (bs : List Block) → list_all (λ b. is_delivered (v.bare b)) bs ≡ true
+        → list_all (λ b. is_delivered ((delivered_view got v).bare b)) bs ≡ true
     each [] done = refl
     each (b ∷ bs) done = grind (arith, each bs, still_done v got b)
 
@@ -153,34 +200,46 @@ module _ (v : TaskView) (got : DeliveryRow) (place : ℕ) (there : slice_get v.b
     none_there None by = none-some got.block (in_current v got h.done [] place (rw (by.blocks, by.chosen) at there) by.cleaned bare).1
     none_there (Some choice) by = none-some choice.segment.number (sym idle ∙ by.unfinished)
 
-  delivered-cleans : (content_at : ℕ → Content) (old : clean.Cleaning) (now : List (List (ℕ × Option Content))) → AreIndexed 0 v.blocks → Gives got.content content_at got.block.lbn got.block.count
-      → ((number lbn : ℕ) → old.unfinished ≡ Some number → clean.taken_for (record old { taken = now }) number lbn ≡ after_take content_at got.block.lbn got.block.count lbn (clean.taken_for old number lbn))
+  delivered-cleans : (content_at : ℕ → Content) (old : clean.Cleaning) (now : List (List (ℕ × Option Content))) → AreIndexed 0 v.blocks
+      → Gives got.content content_at got.block.lbn got.block.count
+      → ((number lbn : ℕ) → old.unfinished ≡ Some number → clean.taken_for (record old { taken = now }) number lbn
+      ≡ after_take content_at got.block.lbn got.block.count lbn (clean.taken_for old number lbn))
       → Cleans v.work old → Cleans (delivered_view got v).work (record old { taken = now })
   delivered-cleans content_at old now indexed gives takes h =
       let cleaned = cleaned_still h.done h.cleaned in
       let taken = taken_now h.current h.by in
       let over : v.closed ≡ true → AllByRecursion (λ b. is_over ((delivered_view got v).bare b) ≡ true) v.blocks = λ closed.
-      all_weaker (λ b. is_over (v.bare b) ≡ true) (λ b. is_over ((delivered_view got v).bare b) ≡ true) (λ b over. grind arith) v.blocks (h.over closed) in
+      all_weaker (λ b. is_over (v.bare b) ≡ true) (λ b. is_over ((delivered_view got v).bare b) ≡ true) (λ b over. grind arith) v.blocks
+      (h.over closed) in
       record { done = h.done; current = h.current; by = assumption (cleaned, taken, over, h.by) } where
-        taken_now : (current : Option Choice) → CleansBy v.work old h.done current → AllByRecursion (HoldsChoice (delivered_view got v).work (record old { taken = now })) (choice_in current)
+        taken_now : (current : Option Choice) → CleansBy v.work old h.done current
+            → AllByRecursion (HoldsChoice (delivered_view got v).work (record old { taken = now })) (choice_in current)
         taken_now None by = tt
         taken_now (Some choice) by =
             let whole = rw by.chosen at by.blocks in
             let there_now = in_current v got h.done (choice ∷ []) place (rw whole at there) by.cleaned bare in
-            let only = all_right (λ (c : Choice). AllByRecursion (λ b. b.number ≡ got.block.number → b ≡ got.block) c.blocks) h.done (choice ∷ [])
-            (all_flat (λ b. b.number ≡ got.block.number → b ≡ got.block) (λ (c : Choice). c.blocks) (h.done ++ choice ∷ []) (rw whole at (single indexed))) in (
-              taken-holds v got (clean.taken_for old choice.segment.number) (clean.taken_for (record old { taken = now }) choice.segment.number) content_at 0 there_now.0 choice.blocks
+            let only =
+            all_right (λ (c : Choice). AllByRecursion (λ b. b.number ≡ got.block.number → b ≡ got.block) c.blocks) h.done (choice ∷ [])
+            (all_flat (λ b. b.number ≡ got.block.number → b ≡ got.block) (λ (c : Choice). c.blocks) (h.done ++ choice ∷ [])
+            (rw whole at (single indexed))) in (
+              taken-holds v got (clean.taken_for old choice.segment.number)
+                  (clean.taken_for (record old { taken = now }) choice.segment.number) content_at 0 there_now.0 choice.blocks
                   (λ lbn. takes choice.segment.number lbn by.unfinished) gives by.ascend.0 (rw append-nil at there_now.1) only.0 by.taken.0,
               tt,
             )
 
-  pub delivered-stands : (content_at : ℕ → Content) (old new : Session) → AreIndexed 0 v.blocks → Gives got.content content_at got.block.lbn got.block.count → HasTaken content_at got.block old new → Stands v old → Stands (delivered_view got v) new
+  pub delivered-stands : (content_at : ℕ → Content) (old new : Session) → AreIndexed 0 v.blocks
+      → Gives got.content content_at got.block.lbn got.block.count → HasTaken content_at got.block old new → Stands v old
+      → Stands (delivered_view got v) new
   delivered-stands content_at old new indexed gives takes h =
       let image : is_unsealed v ≡ true → HoldsImage (delivered_view got v).work (held_at new.image) = λ is_open.
-      let backup : is_backup old.kind ≡ true = ap (λ t. is_backup t.kind) (sym h.terms) ∙ (and_parts (is_backup v.terms.kind) (not v.sealed) is_open).0 in
+      let backup : is_backup old.kind ≡ true = ap (λ t. is_backup t.kind) (sym h.terms)
+      ∙ (and_parts (is_backup v.terms.kind) (not v.sealed) is_open).0 in
       let image = h.image is_open in record {
-        each = taken-holds v got (held_at old.image) (held_at new.image) content_at 0 place v.blocks (takes.image backup) gives (h.ascend backup) there (single indexed) image.each;
+        each = taken-holds v got (held_at old.image) (held_at new.image) content_at 0 place v.blocks (takes.image backup) gives
+            (h.ascend backup) there (single indexed) image.each;
         only = taken-only v got (held_at old.image) (held_at new.image) content_at place v.blocks (takes.image backup) there image.only;
       } in
-      let log = λ (cleans : is_clean old.kind ≡ true). delivered-cleans content_at old.log new.log.taken indexed gives (takes.log cleans) (h.log cleans) in
+      let log = λ (cleans : is_clean old.kind ≡ true).
+      delivered-cleans content_at old.log new.log.taken indexed gives (takes.log cleans) (h.log cleans) in
       rw takes.same (assumption (image, log, h))

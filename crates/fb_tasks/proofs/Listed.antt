@@ -30,7 +30,9 @@ module _ {sessions : List Session} {touched rewantable : BTreeSet ℕ} (h : AreL
   listed_set task new there = listed_changed h task new (λ _. there) (λ _. h.covered task there)
 
   -- or stays as touched and as open as it was
-  pub listed_kept : (task : ℕ) (old new : Session) → task < length sessions → old ≡ get_or sessions task old → new.touched ≡ old.touched → (is_backup new.kind && not new.sealed) ≡ (is_backup old.kind && not old.sealed) → AreListed (set sessions task new) touched rewantable
+  pub listed_kept : (task : ℕ) (old new : Session) → task < length sessions → old ≡ get_or sessions task old
+      → new.touched ≡ old.touched → (is_backup new.kind && not new.sealed) ≡ (is_backup old.kind && not old.sealed)
+      → AreListed (set sessions task new) touched rewantable
   listed_kept task old new within at same open_same =
       let there = slice_get-get_or sessions task old within ∙ ap Some (sym at) in
       listed_changed h task new (λ is. h.listed task old there (sym same ∙ is)) (λ is. h.backups task old there (sym open_same ∙ is))
@@ -40,11 +42,13 @@ module _ {sessions : List Session} {touched rewantable : BTreeSet ℕ} (h : AreL
   listed_within task is = h.within task (h.covered task is)
 
   -- which is
-  pub listed_there : (task : ℕ) (session : Session) → contains nat_cmp touched task ≡ true → session ≡ get_or sessions task session → slice_get sessions task ≡ Some session
+  pub listed_there : (task : ℕ) (session : Session) → contains nat_cmp touched task ≡ true → session ≡ get_or sessions task session
+      → slice_get sessions task ≡ Some session
   listed_there task session is at = slice_get-get_or sessions task session (listed_within task is) ∙ ap Some (sym at)
 
   -- a task is noted
-  module _ {task : ℕ} {more more_rewantable : BTreeSet ℕ} (less : task < length sessions) (is : IsNoted task touched rewantable more more_rewantable) where
+  module _ {task : ℕ} {more more_rewantable : BTreeSet ℕ} (less : task < length sessions)
+      (is : IsNoted task touched rewantable more more_rewantable) where
     pub listed_more : AreListed sessions more more_rewantable
     listed_more = record {
       room = h.room;
@@ -55,37 +59,53 @@ module _ {sessions : List Session} {touched rewantable : BTreeSet ℕ} (h : AreL
     }
 
     -- and its session changes
-    pub listed_noted : contains nat_cmp more task ≡ true → contains nat_cmp more_rewantable task ≡ true → (new : Session) → AreListed (set sessions task new) more more_rewantable
+    pub listed_noted : contains nat_cmp more task ≡ true → contains nat_cmp more_rewantable task ≡ true → (new : Session)
+        → AreListed (set sessions task new) more more_rewantable
     listed_noted noted rewantable_noted new = listed_changed listed_more task new (λ _. noted) (λ _. rewantable_noted)
 
   -- a session that isn't touched is opened, and is rewantable if it is a backup
-  pub listed_push : (new : Session) (more_rewantable : BTreeSet ℕ) (task : ℕ) → task ≡ length sessions → new.touched ≡ false → length sessions < 4294967295 → ((k : ℕ) → contains nat_cmp rewantable k ≡ true → contains nat_cmp more_rewantable k ≡ true)
-      → ((k : ℕ) → contains nat_cmp more_rewantable k ≡ true → (k ≡ task) ⊎ (contains nat_cmp rewantable k ≡ true)) → ((is_backup new.kind && not new.sealed) ≡ true → contains nat_cmp more_rewantable task ≡ true) → AreListed (sessions ++ new ∷ []) touched more_rewantable
+  pub listed_push : (new : Session) (more_rewantable : BTreeSet ℕ) (task : ℕ) → task ≡ length sessions → new.touched ≡ false
+      → length sessions < 4294967295 → ((k : ℕ) → contains nat_cmp rewantable k ≡ true → contains nat_cmp more_rewantable k ≡ true)
+      → ((k : ℕ) → contains nat_cmp more_rewantable k ≡ true → (k ≡ task) ⊎ (contains nat_cmp rewantable k ≡ true))
+      → ((is_backup new.kind && not new.sealed) ≡ true → contains nat_cmp more_rewantable task ≡ true)
+      → AreListed (sessions ++ new ∷ []) touched more_rewantable
   listed_push new more_rewantable task last untouched more stay only there = record {
     room = omega (arith, more, length-append sessions (new ∷ []));
     listed = each_push (IsTouchedIn touched) sessions new (λ is. absurd (true≢false (sym is ∙ untouched))) h.listed;
     covered = λ k is. stay k (h.covered k is);
-    backups = each_push (IsRewantableIn more_rewantable) sessions new (λ is. ap (contains nat_cmp more_rewantable) (sym last) ∙ there is) (λ k session at is. stay k (h.backups k session at is));
-    within = λ k is. elim (only k is) [ inl it ↦ omega (arith, it, last, length-append sessions (new ∷ [])) | inr old ↦ omega (arith, h.within k old, length-append sessions (new ∷ [])) ];
+    backups = each_push (IsRewantableIn more_rewantable) sessions new (λ is. ap (contains nat_cmp more_rewantable) (sym last) ∙ there is)
+        (λ k session at is. stay k (h.backups k session at is));
+    within = λ k is. elim (only k is) [
+      | inl it ↦ omega (arith, it, last, length-append sessions (new ∷ []))
+      | inr old ↦ omega (arith, h.within k old, length-append sessions (new ∷ []))
+    ];
   }
 
   -- a task was tested: it isn't touched any more, and is rewantable if it is an open backup
-  pub listed_less : (task : ℕ) (new : Session) (less less_rewantable : BTreeSet ℕ) (flag : Bool) → contains nat_cmp touched task ≡ true → new.touched ≡ false → flag ≡ (is_backup new.kind && not new.sealed)
-      → ((k : ℕ) → contains nat_cmp touched k ≡ true → (k ≡ task) ⊎ (contains nat_cmp less k ≡ true)) → ((k : ℕ) → contains nat_cmp less k ≡ true → contains nat_cmp touched k ≡ true) → contains nat_cmp less task ≡ false
-      → ((k : ℕ) → contains nat_cmp rewantable k ≡ true → (k ≡ task) ⊎ (contains nat_cmp less_rewantable k ≡ true)) → ((k : ℕ) → contains nat_cmp less_rewantable k ≡ true → contains nat_cmp rewantable k ≡ true)
-      → (flag ≡ true → contains nat_cmp rewantable task ≡ true → contains nat_cmp less_rewantable task ≡ true) → AreListed (set sessions task new) less less_rewantable
+  pub listed_less : (task : ℕ) (new : Session) (less less_rewantable : BTreeSet ℕ) (flag : Bool) → contains nat_cmp touched task ≡ true
+      → new.touched ≡ false → flag ≡ (is_backup new.kind && not new.sealed)
+      → ((k : ℕ) → contains nat_cmp touched k ≡ true → (k ≡ task) ⊎ (contains nat_cmp less k ≡ true))
+      → ((k : ℕ) → contains nat_cmp less k ≡ true → contains nat_cmp touched k ≡ true) → contains nat_cmp less task ≡ false
+      → ((k : ℕ) → contains nat_cmp rewantable k ≡ true → (k ≡ task) ⊎ (contains nat_cmp less_rewantable k ≡ true))
+      → ((k : ℕ) → contains nat_cmp less_rewantable k ≡ true → contains nat_cmp rewantable k ≡ true)
+      → (flag ≡ true → contains nat_cmp rewantable task ≡ true → contains nat_cmp less_rewantable task ≡ true)
+      → AreListed (set sessions task new) less less_rewantable
   listed_less task new less less_rewantable flag there untouched is_open others only gone rewantable_others rewantable_only kept = record {
     room = omega (arith, h.room, length-set sessions task new);
     listed = each_set (IsTouchedIn less) sessions task new (λ is. absurd (true≢false (sym is ∙ untouched)))
         (λ k session differ at is. the_other (others k (h.listed k session at is)) (λ it. differ (sym it)));
-    covered = λ k is. the_other (rewantable_others k (h.covered k (only k is))) (λ it. true≢false (sym is ∙ (ap (contains nat_cmp less) it ∙ gone)));
+    covered = λ k is. the_other (rewantable_others k (h.covered k (only k is)))
+        (λ it. true≢false (sym is ∙ (ap (contains nat_cmp less) it ∙ gone)));
     backups = each_set (IsRewantableIn less_rewantable) sessions task new (λ is. kept (is_open ∙ is) (h.covered task there))
         (λ k session differ at is. the_other (rewantable_others k (h.backups k session at is)) (λ it. differ (sym it)));
     within = λ k is. omega (arith, h.within k (rewantable_only k is), length-set sessions task new);
   }
 
   -- a note that failed added nothing
-  pub listed_failed : (more_rewantable : BTreeSet ℕ) → ((k : ℕ) → contains nat_cmp rewantable k ≡ true → contains nat_cmp more_rewantable k ≡ true) → ((k : ℕ) → contains nat_cmp more_rewantable k ≡ true → contains nat_cmp rewantable k ≡ true) → AreListed sessions touched more_rewantable
+  pub listed_failed : (more_rewantable : BTreeSet ℕ)
+      → ((k : ℕ) → contains nat_cmp rewantable k ≡ true → contains nat_cmp more_rewantable k ≡ true)
+      → ((k : ℕ) → contains nat_cmp more_rewantable k ≡ true → contains nat_cmp rewantable k ≡ true)
+      → AreListed sessions touched more_rewantable
   listed_failed more_rewantable stay only = record {
     room = h.room;
     listed = h.listed;
@@ -95,5 +115,6 @@ module _ {sessions : List Session} {touched rewantable : BTreeSet ℕ} (h : AreL
   }
 
   -- what isn't rewantable is no open backup
-  pub no_backup_there : (k : ℕ) (session : Session) → contains nat_cmp rewantable k ≡ false → slice_get sessions k ≡ Some session → (is_backup session.kind && not session.sealed) ≡ false
+  pub no_backup_there : (k : ℕ) (session : Session) → contains nat_cmp rewantable k ≡ false → slice_get sessions k ≡ Some session
+      → (is_backup session.kind && not session.sealed) ≡ false
   no_backup_there k session none at = grind (arith, h.backups k session at)

@@ -1,15 +1,18 @@
 -- What holds of each element, and lists that are mapped, filtered and tested.
-use Rattle.std.proofs.Common.{◌≡◌, ℕ, zero, suc, ◌+◌, ◌<◌, ◌≤◌, ◌==◌, List, [], ◌∷◌, Bool, true, false, Some, inl, inr, length, filter, map, find, set, slice_get, refl, arith, subst, ◌++◌}
+use Rattle.std.proofs.Common.{◌≡◌, ℕ, zero, suc, ◌+◌, ◌<◌, ◌≤◌, ◌==◌, List, [], ◌∷◌, Bool, true, false, Some, inl, inr, length, filter, map}
+use Rattle.std.proofs.Common.{find, set, slice_get, refl, arith, subst, ◌++◌}
 use Rattle.std.specs.List.{AllByRecursion, flat_map, list_any, list_all}
 use Rattle.std.proofs.lemmas.Bool.{cases_Bool, cases_lt}
 use Rattle.std.proofs.lemmas.Bool.Decides.{nat_tests}
 use Rattle.std.proofs.lemmas.Option.{slice_get-map}
 pub use Rattle.std.proofs.lemmas.Option.{same_Some as some_same}
-pub use Rattle.fb_units.proofs.Lists.{none_of_any as none_pass, all_weaker, element_at as some_at, all_range, all_append, all_left, all_right, all_filter}
+pub use Rattle.fb_units.proofs.Lists.{none_of_any as none_pass, all_weaker, element_at as some_at, all_range, all_append, all_left}
+pub use Rattle.fb_units.proofs.Lists.{all_right, all_filter}
 pub use Rattle.fb_geometry.proofs.Faultless.{all_get as all_at, find-none as find_none}
 pub use Rattle.fb_model.proofs.Lists.{all_any, all_map, none_kept as filter_none}
 
-pub all_with : {X : Type 0} (P Q R : X → Type 0) → ((x : X) → P x → Q x → R x) → (xs : List X) → AllByRecursion P xs → AllByRecursion Q xs → AllByRecursion R xs
+pub all_with : {X : Type 0} (P Q R : X → Type 0) → ((x : X) → P x → Q x → R x) → (xs : List X) → AllByRecursion P xs → AllByRecursion Q xs
+    → AllByRecursion R xs
 all_with P Q R f [] p q = tt
 all_with P Q R f (x ∷ xs) p q = (f x p.0 q.0, all_with P Q R f xs p.1 q.1)
 
@@ -17,11 +20,13 @@ pub all_pass : {X : Type 0} (p : X → Bool) (xs : List X) → AllByRecursion (�
 all_pass p [] = tt
 all_pass p (x ∷ xs) = grind (arith, all_pass p xs)
 
-pub all_flat : {X Y : Type 0} (P : Y → Type 0) (f : X → List Y) (xs : List X) → AllByRecursion P (flat_map f xs) → AllByRecursion (λ x. AllByRecursion P (f x)) xs
+pub all_flat : {X Y : Type 0} (P : Y → Type 0) (f : X → List Y) (xs : List X) → AllByRecursion P (flat_map f xs)
+    → AllByRecursion (λ x. AllByRecursion P (f x)) xs
 all_flat P f [] p = tt
 all_flat P f (x ∷ xs) p = (all_left P (f x) (flat_map f xs) p, all_flat P f xs (all_right P (f x) (flat_map f xs) p))
 
-pub flat_all : {X Y : Type 0} (P : Y → Type 0) (f : X → List Y) (xs : List X) → AllByRecursion (λ x. AllByRecursion P (f x)) xs → AllByRecursion P (flat_map f xs)
+pub flat_all : {X Y : Type 0} (P : Y → Type 0) (f : X → List Y) (xs : List X) → AllByRecursion (λ x. AllByRecursion P (f x)) xs
+    → AllByRecursion P (flat_map f xs)
 flat_all P f [] p = tt
 flat_all P f (x ∷ xs) p = all_append P (f x) (flat_map f xs) p.0 (flat_all P f xs p.1)
 
@@ -60,12 +65,14 @@ filter_from p (y ∷ ys) i x h = elim (cases_Bool (p y)) [
   | inl pass ↦ first i (rw pass at h) pass (λ k at. filter_from p ys k x at)
   | inr fail ↦ let rest = filter_from p ys i x (rw fail at h) in (suc rest.0, rest.1, rest.2)
 ] where
-  first : (k : ℕ) → slice_get (y ∷ filter p ys) k ≡ Some x → p y ≡ true → ((n : ℕ) → slice_get (filter p ys) n ≡ Some x → Found p ys x) → Found p (y ∷ ys) x
+  first : (k : ℕ) → slice_get (y ∷ filter p ys) k ≡ Some x → p y ≡ true → ((n : ℕ) → slice_get (filter p ys) n ≡ Some x → Found p ys x)
+      → Found p (y ∷ ys) x
   first zero at pass rest = (zero, at, subst (λ z. p z ≡ true) (some_same y x at) pass)
   first (suc k) at pass rest = let r = rest k at in (suc r.0, r.1, r.2)
 
 -- an element that is found has what all have, and passes
-pub find_all : {X : Type 0} (P : X → Type 0) (p : X → Bool) (xs : List X) (x : X) → AllByRecursion P xs → find p xs ≡ Some x → P x × (list_any p xs ≡ true)
+pub find_all : {X : Type 0} (P : X → Type 0) (p : X → Bool) (xs : List X) (x : X) → AllByRecursion P xs → find p xs ≡ Some x
+    → P x × (list_any p xs ≡ true)
 find_all P p [] x all h = absurd (cc)
 find_all P p (y ∷ ys) x all h = elim (cases_Bool (p y)) [
   | inl pass ↦ rw pass (subst P (some_same y x (rw pass at h)) all.0, refl)
@@ -100,19 +107,23 @@ pub step_to : (P : ℕ → Type 0) (n m : ℕ) → n ≤ m → ((k : ℕ) → n 
 step_to P n zero le step h = subst P (let e : n ≡ 0 = omega arith in e) h
 step_to P n (suc m) le step h = elim (cases_lt m n) [
   | inl less ↦ subst P (let e : n ≡ suc m = omega arith in e) h
-  | inr more ↦ subst P (let e : m + 1 ≡ suc m = omega arith in e) (step m more (omega arith) (step_to P n m more (λ k from to. step k from (omega arith)) h))
+  | inr more ↦ subst P (let e : m + 1 ≡ suc m = omega arith in
+      e) (step m more (omega arith) (step_to P n m more (λ k from to. step k from (omega arith)) h))
 ]
 
 -- what holds of a new element and of each other holds of each
-pub each_set : {X : Type 0} (P : ℕ → X → Type 0) (xs : List X) (i : ℕ) (new : X) → P i new → ((k : ℕ) (x : X) → (i ≡ k → ⊥) → slice_get xs k ≡ Some x → P k x)
+pub each_set : {X : Type 0} (P : ℕ → X → Type 0) (xs : List X) (i : ℕ) (new : X) → P i new
+    → ((k : ℕ) (x : X) → (i ≡ k → ⊥) → slice_get xs k ≡ Some x → P k x)
     → (k : ℕ) (x : X) → slice_get (set xs i new) k ≡ Some x → P k x
 each_set P [] i new own others k x at = absurd (cc)
 each_set P (y ∷ ys) zero new own others zero x at = subst (P 0) (some_same new x at) own
 each_set P (y ∷ ys) zero new own others (suc k) x at = others (suc k) x (λ e. absurd (omega arith)) at
 each_set P (y ∷ ys) (suc i) new own others zero x at = others zero x (λ e. absurd (omega arith)) at
-each_set P (y ∷ ys) (suc i) new own others (suc k) x at = each_set (λ n. P (suc n)) ys i new own (λ n z differ. others (suc n) z (λ e. differ (omega arith))) k x at
+each_set P (y ∷ ys) (suc i) new own others (suc k) x at =
+    each_set (λ n. P (suc n)) ys i new own (λ n z differ. others (suc n) z (λ e. differ (omega arith))) k x at
 
-pub each_push : {X : Type 0} (P : ℕ → X → Type 0) (xs : List X) (new : X) → P (length xs) new → ((k : ℕ) (x : X) → slice_get xs k ≡ Some x → P k x)
+pub each_push : {X : Type 0} (P : ℕ → X → Type 0) (xs : List X) (new : X) → P (length xs) new
+    → ((k : ℕ) (x : X) → slice_get xs k ≡ Some x → P k x)
     → (k : ℕ) (x : X) → slice_get (xs ++ new ∷ []) k ≡ Some x → P k x
 each_push P [] new own others zero x at = subst (P 0) (some_same new x at) own
 each_push P [] new own others (suc k) x at = absurd (cc)

@@ -16,31 +16,38 @@ pub all_member : (added : List Block) → AllByRecursion (λ block. list_any (sa
 all_member [] = tt
 all_member (b ∷ bs) = (
   rw (itself b) refl,
-  all_weaker (λ block. list_any (same_block block) bs ≡ true) (λ block. list_any (same_block block) (b ∷ bs) ≡ true) (λ block h. rw h (or-true (same_block block b))) bs (all_member bs),
+  all_weaker (λ block. list_any (same_block block) bs ≡ true) (λ block. list_any (same_block block) (b ∷ bs) ≡ true)
+      (λ block h. rw h (or-true (same_block block b))) bs (all_member bs),
 )
 
 -- blocks that are numbered on from n have no smaller number
-pub no_smaller : (block : Block) (n : ℕ) (added : List Block) → block.number < n → AreIndexed n added → list_any (same_block block) added ≡ false
+pub no_smaller : (block : Block) (n : ℕ) (added : List Block) → block.number < n → AreIndexed n added
+    → list_any (same_block block) added ≡ false
 no_smaller block n [] less h = refl
 no_smaller block n (b ∷ bs) less h = grind (arith, nat_tests, h.0, no_smaller block (n + 1) bs (omega arith) h.1)
 
-pub no_own : (block : Block) (task : ℕ) (added : List Block) → (block.task ≡ task → ⊥) → AllByRecursion (λ b. b.task ≡ task) added → list_any (same_block block) added ≡ false
+pub no_own : (block : Block) (task : ℕ) (added : List Block) → (block.task ≡ task → ⊥) → AllByRecursion (λ b. b.task ≡ task) added
+    → list_any (same_block block) added ≡ false
 no_own block task [] other h = refl
 no_own block task (b ∷ bs) other h = grind (arith, nat_tests, h.0, no_own block task bs other h.1)
 
 -- the numbers of a task's blocks are below their number
-pub indexed_below : (task n total : ℕ) (bs : List Block) → n + length (filter (λ b. b.task == task) bs) ≡ total → AreIndexed n (filter (λ b. b.task == task) bs) → AllByRecursion (λ block. block.task ≡ task → block.number < total) bs
+pub indexed_below : (task n total : ℕ) (bs : List Block) → n + length (filter (λ b. b.task == task) bs) ≡ total
+    → AreIndexed n (filter (λ b. b.task == task) bs) → AllByRecursion (λ block. block.task ≡ task → block.number < total) bs
 indexed_below task n total [] e h = tt
 indexed_below task n total (b ∷ bs) e h = elim (cases_Bool (b.task == task)) [
-  | inl own ↦ let k = rw own at h in let f = rw own at e in ((λ mine. omega (arith, k.0, f)), indexed_below task (n + 1) total bs (omega (arith, f)) k.1)
+  | inl own ↦ let k = rw own at h in let f = rw own at e in
+      ((λ mine. omega (arith, k.0, f)), indexed_below task (n + 1) total bs (omega (arith, f)) k.1)
   | inr other ↦ ((λ mine. absurd (other_number b.task task other mine)), indexed_below task n total bs (rw other at e) (rw other at h))
 ]
 
 -- no block that is registered already is registered again
-pub none_again : (past : Past) (task : ℕ) (added : List Block) → AreIndexed 0 (blocks_of past task) → AreIndexed (length (blocks_of past task)) added → AllByRecursion (λ b. b.task ≡ task) added
+pub none_again : (past : Past) (task : ℕ) (added : List Block) → AreIndexed 0 (blocks_of past task)
+    → AreIndexed (length (blocks_of past task)) added → AllByRecursion (λ b. b.task ≡ task) added
     → AllByRecursion (λ block. list_any (same_block block) added ≡ false) (registered past)
 none_again past task added before after own =
-    all_weaker (λ block. block.task ≡ task → block.number < length (blocks_of past task)) (λ block. list_any (same_block block) added ≡ false)
+    all_weaker (λ block. block.task ≡ task → block.number < length (blocks_of past task))
+    (λ block. list_any (same_block block) added ≡ false)
     (λ block less. elim (cases_Bool (block.task == task)) [
       | inl mine ↦ no_smaller block (length (blocks_of past task)) added (less (same_number block.task task mine)) after
       | inr other ↦ no_own block task added (other_number block.task task other) own
@@ -49,11 +56,15 @@ none_again past task added before after own =
 -- the blocks of a task are its own
 pub own : (past : Past) (task : ℕ) → AllByRecursion (λ block. block.task ≡ task) (view past task).blocks
 unfolding view
-own past task = all_weaker (λ block. (block.task == task) ≡ true) (λ block. block.task ≡ task) (λ block. same_number block.task task) (blocks_of past task) (all_pass (λ block. block.task == task) (registered past))
+own past task = all_weaker (λ block. (block.task == task) ≡ true) (λ block. block.task ≡ task) (λ block. same_number block.task task)
+    (blocks_of past task) (all_pass (λ block. block.task == task) (registered past))
 
 pub indexed_append : (n : ℕ) (xs ys : List Block) → AreIndexed n xs → AreIndexed (n + length xs) ys → AreIndexed n (xs ++ ys)
 indexed_append n [] ys p q = subst (λ k. AreIndexed k ys) (let e : n + 0 ≡ n = omega arith in e) q
-indexed_append n (x ∷ xs) ys p q = (p.0, indexed_append (n + 1) xs ys p.1 (subst (λ k. AreIndexed k ys) (let e : n + suc (length xs) ≡ n + 1 + length xs = omega arith in e) q))
+indexed_append n (x ∷ xs) ys p q = (
+  p.0,
+  indexed_append (n + 1) xs ys p.1 (subst (λ k. AreIndexed k ys) (let e : n + suc (length xs) ≡ n + 1 + length xs = omega arith in e) q),
+)
 
 -- the wanted set names the registered blocks
 pub named_same : (past : Past) (bs : List Block) → numbering.blocks_of (map (entry_of past) bs) ≡ bs
@@ -62,36 +73,51 @@ named_same past (b ∷ bs) = rw (named_same past bs) refl
 
 pub all_own : (task : ℕ) (added : List Block) → AllByRecursion (λ b. b.task ≡ task) added → filter (λ b. b.task == task) added ≡ added
 all_own task [] h = refl
-all_own task (b ∷ bs) h = let own : (b.task == task) ≡ true = number_same b.task task h.0 in rw own (ap (λ xs. b ∷ xs) (all_own task bs h.1))
+all_own task (b ∷ bs) h = let own : (b.task == task) ≡ true = number_same b.task task h.0 in
+    rw own (ap (λ xs. b ∷ xs) (all_own task bs h.1))
 
 -- blocks that were just registered are wanted
 pub fresh_wanted : (task : ℕ) (added : List Block) (before now : Block → State)
     → ((block : Block) → now block ≡ (if list_any (same_block (own_of task block)) added then Wanted else before block))
     → AllByRecursion (λ b. b.task ≡ task) added → AllByRecursion (λ block. now block ≡ Wanted) added
-fresh_wanted task added before now bare own = all_with (λ block. list_any (same_block block) added ≡ true) (λ b. b.task ≡ task) (λ block. now block ≡ Wanted)
-    (λ block one mine. bare block ∙ rw (ap (λ t. list_any (same_block (own_of t block)) added) (sym mine) ∙ one) refl) added (all_member added) own
+fresh_wanted task added before now bare own =
+    all_with (λ block. list_any (same_block block) added ≡ true) (λ b. b.task ≡ task) (λ block. now block ≡ Wanted)
+    (λ block one mine. bare block ∙ rw (ap (λ t. list_any (same_block (own_of t block)) added) (sym mine) ∙ one) refl) added
+    (all_member added) own
 
 -- an event registers blocks of a task, and suspends or resumes nothing
 module _ (past new : Past) (task : ℕ) (added : List Block)
     (others : (t : ℕ) → (task == t) ≡ false → view new t ≡ view past t)
-    (bare : (block : Block) → (view new task).bare block ≡ (if list_any (same_block (own_of task block)) added then Wanted else (view past task).bare block))
+    (bare : (block : Block)
+    → (view new task).bare block ≡ (if list_any (same_block (own_of task block)) added then Wanted else (view past task).bare block))
     (still : (view new task).suspended ≡ (view past task).suspended)
-    (before : AreIndexed 0 (view past task).blocks) (after : AreIndexed (length (view past task).blocks) added) (own : AllByRecursion (λ b. b.task ≡ task) added) where
+    (before : AreIndexed 0 (view past task).blocks) (after : AreIndexed (length (view past task).blocks) added)
+    (own : AllByRecursion (λ b. b.task ≡ task) added) where
   pub old_bare : AllByRecursion (λ block. block.task ≡ task → (view new task).bare block ≡ (view past task).bare block) (registered past)
-  old_bare = all_weaker (λ block. list_any (same_block block) added ≡ false) (λ block. block.task ≡ task → (view new task).bare block ≡ (view past task).bare block)
-      (λ block none mine. bare block ∙ rw (ap (λ t. list_any (same_block (own_of t block)) added) (sym mine) ∙ none) refl) (registered past) (none_again past task added (rw (sym (seen past task).blocks) before) (rw (sym (seen past task).blocks) after) own)
+  old_bare = all_weaker (λ block. list_any (same_block block) added ≡ false)
+      (λ block. block.task ≡ task → (view new task).bare block ≡ (view past task).bare block)
+      (λ block none mine. bare block ∙ rw (ap (λ t. list_any (same_block (own_of t block)) added) (sym mine) ∙ none) refl) (registered past)
+      (none_again past task added (rw (sym (seen past task).blocks) before) (rw (sym (seen past task).blocks) after) own)
 
   pub registered-entries : (session : Session) (held now : List Entry) → session.suspended ≡ (view past task).suspended
-      → held ≡ map (entry_of past) (registered past) → now ≡ held ++ new_entries session added → now ≡ map (entry_of new) (registered past ++ added)
+      → held ≡ map (entry_of past) (registered past) → now ≡ held ++ new_entries session added
+      → now ≡ map (entry_of new) (registered past ++ added)
   registered-entries session held now says entries pushed =
-      let olds = map_same (entry_of past) (entry_of new) (registered past) (all_weaker (λ block. block.task ≡ task → (view new task).bare block ≡ (view past task).bare block)
+      let olds = map_same (entry_of past) (entry_of new) (registered past)
+      (all_weaker (λ block. block.task ≡ task → (view new task).bare block ≡ (view past task).bare block)
       (λ block. entry_of past block ≡ entry_of new block) old_entry (registered past) old_bare) in
-      let news = map_same (λ block. record { block = block; state = wanted_unless session.suspended }) (entry_of new) added (all_with (λ block. (view new task).bare block ≡ Wanted) (λ b. b.task ≡ task)
-      (λ block. ◌≡◌ {A = Entry} (record { block = block; state = wanted_unless session.suspended }) (entry_of new block)) new_entry added (fresh_wanted task added (view past task).bare (view new task).bare bare own) own) in
+      let news = map_same (λ block. record { block = block; state = wanted_unless session.suspended }) (entry_of new) added
+      (all_with (λ block. (view new task).bare block ≡ Wanted) (λ b. b.task ≡ task)
+      (λ block. ◌≡◌ {A = Entry} (record { block = block; state = wanted_unless session.suspended }) (entry_of new block)) new_entry added
+      (fresh_wanted task added (view past task).bare (view new task).bare bare own) own) in
       rw (pushed, entries, olds, map-append) (ap (λ es. map (entry_of new) (registered past) ++ es) news) where
-        old_entry : (block : Block) → (block.task ≡ task → (view new task).bare block ≡ (view past task).bare block) → entry_of past block ≡ entry_of new block
-        old_entry block same = one_or_other (λ t. (block.task ≡ t) → entry_in (view past t) block ≡ entry_in (view new t) block) task block.task
+        old_entry : (block : Block) → (block.task ≡ task → (view new task).bare block ≡ (view past task).bare block)
+            → entry_of past block ≡ entry_of new block
+        old_entry block same =
+            one_or_other (λ t. (block.task ≡ t) → entry_in (view past t) block ≡ entry_in (view new t) block) task block.task
             (λ mine. rw (same mine, still) refl) (λ other _. rw (others block.task other) refl) refl
 
-        new_entry : (block : Block) → (view new task).bare block ≡ Wanted → block.task ≡ task → ◌≡◌ {A = Entry} (record { block = block; state = wanted_unless session.suspended }) (entry_of new block)
-        new_entry block wanted mine = ap (λ s. record { block = block; state = s }) (rw (says, sym still) (subst (λ t. wanted_unless (view new task).suspended ≡ state_in (view new t) block) (sym mine) (rw wanted refl)))
+        new_entry : (block : Block) → (view new task).bare block ≡ Wanted → block.task ≡ task
+            → ◌≡◌ {A = Entry} (record { block = block; state = wanted_unless session.suspended }) (entry_of new block)
+        new_entry block wanted mine = ap (λ s. record { block = block; state = s }) (rw (says, sym still)
+            (subst (λ t. wanted_unless (view new task).suspended ≡ state_in (view new t) block) (sym mine) (rw wanted refl)))

@@ -10,7 +10,8 @@ use Rattle.fb_tasks.proofs.Words.{is_complete, is_segment_of, live_count, AreRow
 use Rattle.fb_tasks.proofs.Words.{AreReported, filter_none, found_for}
 use Rattle.fb_geometry.proofs.Turns.{range-append}
 
-pub range_pushed : (before now : List ℕ) (first lbn : ℕ) → first ≤ lbn → now ≡ before ++ range_with_len first (lbn - first) → now ++ lbn ∷ [] ≡ before ++ range_with_len first (lbn + 1 - first)
+pub range_pushed : (before now : List ℕ) (first lbn : ℕ) → first ≤ lbn → now ≡ before ++ range_with_len first (lbn - first)
+    → now ++ lbn ∷ [] ≡ before ++ range_with_len first (lbn + 1 - first)
 range_pushed before now first lbn from so_far =
     let more : lbn + 1 - first ≡ (lbn - first) + 1 = omega arith in
     let same : first + (lbn - first) ≡ lbn = omega arith in
@@ -18,18 +19,23 @@ range_pushed before now first lbn from so_far =
 
 -- one more run
 pub bad_more : (runs : List ContentRun) (i : ℕ) (run : ContentRun) → slice_get runs i ≡ Some run
-    → bad_sectors (take (i + 1) runs) ≡ bad_sectors (take i runs) ++ (if same_content run.content Unreadable then range_with_len run.first run.count else [])
-bad_more runs i run h = rw (take_more runs i run (slice_get_within runs i run h), get_or_from_slice_get runs i run run h, flat_map-append, append-nil) refl
+    → bad_sectors (take (i + 1) runs) ≡ bad_sectors (take i runs)
+    ++ (if same_content run.content Unreadable then range_with_len run.first run.count else [])
+bad_more runs i run h =
+    rw (take_more runs i run (slice_get_within runs i run h), get_or_from_slice_get runs i run run h, flat_map-append, append-nil) refl
 
-module _ (runs : List ContentRun) (i : ℕ) (run : ContentRun) (at : slice_get runs i ≡ Some run) (before now : List ℕ) (so_far : before ≡ bad_sectors (take i runs)) where
-  pub bad_pushed : same_content run.content Unreadable ≡ true → now ≡ before ++ range_with_len run.first run.count → now ≡ bad_sectors (take (i + 1) runs)
+module _ (runs : List ContentRun) (i : ℕ) (run : ContentRun) (at : slice_get runs i ≡ Some run) (before now : List ℕ)
+    (so_far : before ≡ bad_sectors (take i runs)) where
+  pub bad_pushed : same_content run.content Unreadable ≡ true → now ≡ before ++ range_with_len run.first run.count
+      → now ≡ bad_sectors (take (i + 1) runs)
   bad_pushed bad is = rw (is, so_far, bad_more runs i run at, bad) refl
 
   pub bad_passed : same_content run.content Unreadable ≡ false → now ≡ before → now ≡ bad_sectors (take (i + 1) runs)
   bad_passed good is = rw (is, so_far, bad_more runs i run at, good) (sym (append-nil (bad_sectors (take i runs))))
 
 -- a test of what lists are made of
-pub any_flat : {X Y : Type 0} (p : Y → Bool) (f : X → List Y) (xs : List X) → list_any p (flat_map f xs) ≡ list_any (λ x. list_any p (f x)) xs
+pub any_flat : {X Y : Type 0} (p : Y → Bool) (f : X → List Y) (xs : List X)
+    → list_any p (flat_map f xs) ≡ list_any (λ x. list_any p (f x)) xs
 any_flat p f [] = refl
 any_flat p f (x ∷ xs) = list_any-append p (f x) (flat_map f xs) ∙ ap (λ b. list_any p (f x) || b) (any_flat p f xs)
 
@@ -51,33 +57,50 @@ any_one g k a (suc n) from out = elim (cases_Bool (a == k)) [
 
 -- what one task alone can give
 module _ (past : Past) (p : BackRow → Bool) (f : ℕ → List BackRow) where
-  any_tasks : (g : ℕ → Bool) (task : ℕ) → ((t : ℕ) → list_any p (f t) ≡ ((t == task) && g t)) → (length (tasks past) ≤ task → g task ≡ false)
+  any_tasks : (g : ℕ → Bool) (task : ℕ) → ((t : ℕ) → list_any p (f t) ≡ ((t == task) && g t))
+      → (length (tasks past) ≤ task → g task ≡ false)
       → list_any p (flat_map f (task_numbers past)) ≡ g task
   any_tasks g task same out =
       any_flat p f (task_numbers past) ∙ (any_same (λ t. list_any p (f t)) (λ t. (t == task) && g t) (task_numbers past)
-      (all_any (λ t. list_any p (f t) ≡ ((t == task) && g t)) same (task_numbers past)) ∙ any_one g task 0 (length (tasks past)) (omega arith) (λ more. out (omega (arith, more))))
+      (all_any (λ t. list_any p (f t) ≡ ((t == task) && g t)) same (task_numbers past))
+      ∙ any_one g task 0 (length (tasks past)) (omega arith) (λ more. out (omega (arith, more))))
 
   no_tasks : ((t : ℕ) → list_any p (f t) ≡ false) → list_any p (flat_map f (task_numbers past)) ≡ false
-  no_tasks none = any_flat p f (task_numbers past) ∙ any_none (λ t. list_any p (f t)) (task_numbers past) (all_any (λ t. list_any p (f t) ≡ false) none (task_numbers past))
+  no_tasks none = any_flat p f (task_numbers past)
+      ∙ any_none (λ t. list_any p (f t)) (task_numbers past) (all_any (λ t. list_any p (f t) ≡ false) none (task_numbers past))
 
 module _ (past : Past) (now : ℕ) where
-  seals_by : (task t : ℕ) → list_any (is_seal_of task) (seal_rows_found past now t ++ complete_rows past now t) ≡ ((t == task) && (is_open_backup past t && is_complete past t))
+  seals_by : (task t : ℕ) → list_any (is_seal_of task) (seal_rows_found past now t ++ complete_rows past now t)
+      ≡ ((t == task) && (is_open_backup past t && is_complete past t))
   seals_by task t = grind arith
 
   no_seals : (task t : ℕ) → list_any (is_seal_of task) (segment_rows_found past now t) ≡ false
-  no_seals task t = any_mapped_none (is_seal_of task) (λ (choice : Choice). SegmentLine (record { task = t; segment = choice.segment.number; instant = now; live = live_count choice.segment; content = found_for (work past t) choice.blocks })) (λ choice. refl) (filter (is_newly_cleaned (work past t)) (choices past t))
+  no_seals task t = any_mapped_none (is_seal_of task) (λ (choice : Choice). SegmentLine (record {
+    task = t;
+    segment = choice.segment.number;
+    instant = now;
+    live = live_count choice.segment;
+    content = found_for (work past t) choice.blocks;
+  })) (λ choice. refl) (filter (is_newly_cleaned (work past t)) (choices past t))
 
   -- a test seals a backup that is complete
   pub seals_given : (task : ℕ) → list_any (is_seal_of task) (test_rows_found past now) ≡ (is_open_backup past task && is_complete past task)
   unfolding test_rows_found
   seals_given task =
       rw (list_any-append, no_tasks past (is_seal_of task) (segment_rows_found past now) (no_seals task))
-      (any_tasks past (is_seal_of task) (λ t. seal_rows_found past now t ++ complete_rows past now t) (λ t. is_open_backup past t && is_complete past t) task (seals_by task)
+      (any_tasks past (is_seal_of task) (λ t. seal_rows_found past now t ++ complete_rows past now t)
+      (λ t. is_open_backup past t && is_complete past t) task (seals_by task)
       (λ beyond. rw (get_or_past (tasks past) task (record { kind = Plain; weight = 1; block = 1 }) beyond) refl))
 
   -- segments
   segments_by : (task t number : ℕ) (p : Choice → Bool) (cs : List Choice)
-      → list_any (is_segment_of task number) (map (λ (choice : Choice). SegmentLine (record { task = t; segment = choice.segment.number; instant = now; live = live_count choice.segment; content = found_for (work past t) choice.blocks })) (filter p cs))
+      → list_any (is_segment_of task number) (map (λ (choice : Choice). SegmentLine (record {
+        task = t;
+        segment = choice.segment.number;
+        instant = now;
+        live = live_count choice.segment;
+        content = found_for (work past t) choice.blocks;
+      })) (filter p cs))
       ≡ ((t == task) && list_any (λ choice. (choice.segment.number == number) && p choice) cs)
   segments_by task t number p [] = sym (and-false (t == task))
   segments_by task t number p (c ∷ cs) = grind (arith, segments_by task t number p cs)
@@ -87,11 +110,17 @@ module _ (past : Past) (now : ℕ) where
 
   -- a test reports the segments that are newly cleaned
   pub segments_given : (task number : ℕ) → (length (tasks past) ≤ task → choices past task ≡ [])
-      → list_any (is_segment_of task number) (test_rows_found past now) ≡ list_any (λ choice. (choice.segment.number == number) && is_newly_cleaned (work past task) choice) (choices past task)
+      → list_any (is_segment_of task number) (test_rows_found past now)
+      ≡ list_any (λ choice. (choice.segment.number == number) && is_newly_cleaned (work past task) choice) (choices past task)
   unfolding test_rows_found
   segments_given task number unopened =
-      rw (list_any-append, no_tasks past (is_segment_of task number) (λ t. seal_rows_found past now t ++ complete_rows past now t) (no_segments task number), or-false)
-      (any_tasks past (is_segment_of task number) (segment_rows_found past now) (λ t. list_any (λ choice. (choice.segment.number == number) && is_newly_cleaned (work past t) choice) (choices past t)) task
+      rw (
+        list_any-append,
+        no_tasks past (is_segment_of task number) (λ t. seal_rows_found past now t ++ complete_rows past now t) (no_segments task number),
+        or-false,
+      )
+      (any_tasks past (is_segment_of task number) (segment_rows_found past now)
+      (λ t. list_any (λ choice. (choice.segment.number == number) && is_newly_cleaned (work past t) choice) (choices past t)) task
       (λ t. segments_by task t number (is_newly_cleaned (work past t)) (choices past t)) (λ beyond. rw (unopened beyond) refl))
 
 -- where each segment has its row none is given
@@ -110,15 +139,19 @@ nothing-mute = record { seals = λ task. refl; segments = λ task number. refl }
 
 pub findings-mute : (past : Past) (got : DeliveryRow) → AreMute (findings past got)
 findings-mute past got = for (is_scrub (terms_of past got.block.task).kind) where
-  for : (b : Bool) → AreMute (if b then map (λ lbn. BadLine (record { task = got.block.task; lbn = lbn })) (bad_sectors got.content) else [])
+  for : (b : Bool)
+      → AreMute (if b then map (λ lbn. BadLine (record { task = got.block.task; lbn = lbn })) (bad_sectors got.content) else [])
   for true = record {
-    seals = λ task. any_mapped_none (is_seal_of task) (λ lbn. BadLine (record { task = got.block.task; lbn = lbn })) (λ lbn. refl) (bad_sectors got.content);
-    segments = λ task number. any_mapped_none (is_segment_of task number) (λ lbn. BadLine (record { task = got.block.task; lbn = lbn })) (λ lbn. refl) (bad_sectors got.content);
+    seals = λ task. any_mapped_none (is_seal_of task) (λ lbn. BadLine (record { task = got.block.task; lbn = lbn })) (λ lbn. refl)
+        (bad_sectors got.content);
+    segments = λ task number. any_mapped_none (is_segment_of task number) (λ lbn. BadLine (record { task = got.block.task; lbn = lbn }))
+        (λ lbn. refl) (bad_sectors got.content);
   }
   for false = nothing-mute
 
 -- a test's rows are such as a test has to give
-pub rows-given : (past : Past) (now : ℕ) (before : List BackRow) → AreMute before → (task : ℕ) → (length (tasks past) ≤ task → (view past task).choices ≡ []) → AreRowsOf task (view past task) (before ++ test_rows_found past now)
+pub rows-given : (past : Past) (now : ℕ) (before : List BackRow) → AreMute before → (task : ℕ)
+    → (length (tasks past) ≤ task → (view past task).choices ≡ []) → AreRowsOf task (view past task) (before ++ test_rows_found past now)
 unfolding view is_complete
 rows-given past now before mute task unopened = record {
   seals = rw (list_any-append, mute.seals task) (seals_given past now task);

@@ -10,16 +10,20 @@ use Rattle.fb_model.specs.History.{blocks_of}
 abbrev pub shown : State → Bool → State
 shown bare held_back = if is_wanted bare && held_back then Suspended else bare
 
-pub show_suspended : (bare : State) (held_back : Bool) → (if is_wanted (shown bare held_back) then Suspended else shown bare held_back) ≡ shown bare true
+pub show_suspended : (bare : State) (held_back : Bool)
+    → (if is_wanted (shown bare held_back) then Suspended else shown bare held_back) ≡ shown bare true
 show_suspended bare held_back = grind arith
 
-pub show_resumed : (bare : State) (held_back : Bool) → is_suspended bare ≡ false → (if is_suspended (shown bare held_back) then Wanted else shown bare held_back) ≡ shown bare false
+pub show_resumed : (bare : State) (held_back : Bool) → is_suspended bare ≡ false
+    → (if is_suspended (shown bare held_back) then Wanted else shown bare held_back) ≡ shown bare false
 show_resumed bare held_back h = grind arith
 
-pub show_aborted : (bare : State) (held_back hit : Bool) → (if hit && is_open (shown bare held_back) then Aborted else shown bare held_back) ≡ shown (if hit && not (is_delivered bare) then Aborted else bare) held_back
+pub show_aborted : (bare : State) (held_back hit : Bool) → (if hit && is_open (shown bare held_back) then Aborted else shown bare held_back)
+    ≡ shown (if hit && not (is_delivered bare) then Aborted else bare) held_back
 show_aborted bare held_back hit = grind arith
 
-pub show_rewanted : (bare : State) (held_back hit : Bool) → (if hit && is_delivered (shown bare held_back) then wanted_unless held_back else shown bare held_back) ≡ shown (if hit && is_delivered bare then Wanted else bare) held_back
+pub show_rewanted : (bare : State) (held_back hit : Bool) → (if hit && is_delivered (shown bare held_back) then wanted_unless held_back
+    else shown bare held_back) ≡ shown (if hit && is_delivered bare then Wanted else bare) held_back
 show_rewanted bare held_back hit = grind arith
 
 -- a block is delivered or aborted, whether its task is held back or not
@@ -57,8 +61,11 @@ pub ended-done : (hit : Bool) (before : State) → is_delivered (ended hit befor
 ended-done hit before = grind arith
 
 -- where no more is delivered than before, what is held is as it was
-pub holds-fewer : (work : Work) (change : Block → State → State) → ((block : Block) (before : State) → is_delivered (change block before) ≡ true → is_delivered before ≡ true) → (held : ℕ → Option Content) (blocks : List Block)
-    → AllByRecursion (HoldsBlock work held) blocks → AllByRecursion (HoldsBlock (record work { bare = λ block. change block (work.bare block) }) held) blocks
+pub holds-fewer : (work : Work) (change : Block → State → State)
+    → ((block : Block) (before : State) → is_delivered (change block before) ≡ true → is_delivered before ≡ true)
+    → (held : ℕ → Option Content) (blocks : List Block)
+    → AllByRecursion (HoldsBlock work held) blocks
+    → AllByRecursion (HoldsBlock (record work { bare = λ block. change block (work.bare block) }) held) blocks
 holds-fewer work change fewer held blocks =
     all_weaker (HoldsBlock work held) (HoldsBlock (record work { bare = λ block. change block (work.bare block) }) held)
     (λ block holds done. holds (fewer block (work.bare block) done)) blocks
@@ -68,12 +75,16 @@ pub flagged-stands : (flag : Bool) (v : TaskView) (session : Session) → Stands
 flagged-stands flag v session h = assumption h
 
 -- the states of a session change that cleans no log, and no more is delivered than before
-pub states-told : (change : Block → State → State) → ((block : Block) (before : State) → is_delivered (change block before) ≡ true → is_delivered before ≡ true) → (v : TaskView) (session : Session) (flag : Bool) → (flag ≡ false → IsQuiet (with_states change v)) → is_clean session.kind ≡ false
+pub states-told : (change : Block → State → State)
+    → ((block : Block) (before : State) → is_delivered (change block before) ≡ true → is_delivered before ≡ true)
+    → (v : TaskView) (session : Session) (flag : Bool) → (flag ≡ false → IsQuiet (with_states change v)) → is_clean session.kind ≡ false
     → Told v session → Told (with_states change v) (record session { touched = flag })
 states-told change fewer v session flag quiet other h =
     let image : is_unsealed v ≡ true → HoldsImage (with_states change v).work (held_at session.image) = λ is_open.
-    let image = h.image is_open in record { each = holds-fewer v.work change fewer (held_at session.image) v.blocks image.each; only = image.only } in
-    let log : is_clean session.kind ≡ true → Cleans (with_states change v).work session.log = λ cleans. absurd (true≢false (sym cleans ∙ other)) in
+    let image = h.image is_open in
+    record { each = holds-fewer v.work change fewer (held_at session.image) v.blocks image.each; only = image.only } in
+    let log : is_clean session.kind ≡ true
+    → Cleans (with_states change v).work session.log = λ cleans. absurd (true≢false (sym cleans ∙ other)) in
     let at_work : IsAtWork (with_states change v).work session = λ cleans. absurd (true≢false (sym cleans ∙ other)) in
     let reported : AreReported (with_states change v).work = rw (h.unchosen other) tt in
     assumption (image, log, at_work, reported, quiet)

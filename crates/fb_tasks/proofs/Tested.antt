@@ -6,7 +6,8 @@ use Rattle.fb_tasks.proofs.Words.{[], Option, length, tested, Choice, is_done, i
 use Rattle.fb_tasks.proofs.Words.{false, append-nil, bare_state, content_of, registered, IsUntouched, HasNoChoice, HoldsBlocks, get_or_past}
 use Rattle.fb_tasks.proofs.Words.{slice_get, and-false, is_backup, is_cleaned, HoldsBlock, HoldsImage, HaveChosen, all_weaker, length-set}
 use Rattle.fb_tasks.proofs.Words.{or-true, BackRow, Content, held_at, TaskView, IsSealed, IsAtWork, CleansBy, each_set, is_clean, IsTested}
-use Rattle.fb_tasks.proofs.Words.{list_any, flat_map, SealLine, AreRowsOf, choice_in, HasChosen, IsUpToDate, flat_none, all_range, found_for}
+use Rattle.fb_tasks.proofs.Words.{list_any, flat_map, SealLine, AreRowsOf, choice_in, HasChosen, IsUpToDate, flat_none, all_range}
+use Rattle.fb_tasks.proofs.Words.{found_for}
 use Rattle.fb_tasks.proofs.Words.{list_any-append, test_rows_found, segment_rows_found, seal_rows_found, is_newly_cleaned, slice_get_within}
 use Rattle.fb_tasks.proofs.Words.{task_numbers, tested_view, is_unsealed, is_complete, number_same, tested-view, AreReported, is_delivered}
 use Rattle.fb_tasks.proofs.States.{seen}
@@ -20,11 +21,13 @@ pub once : (b : Bool) → (b && not b) ≡ false
 once b = grind arith
 
 -- a choice that passes is found by its number
-found_by_number : (f : Choice → Bool) (cs : List Choice) → AllByRecursion (λ choice. f choice ≡ true → list_any (λ other. (other.segment.number == choice.segment.number) && f other) cs ≡ true) cs
+found_by_number : (f : Choice → Bool) (cs : List Choice) → AllByRecursion
+    (λ choice. f choice ≡ true → list_any (λ other. (other.segment.number == choice.segment.number) && f other) cs ≡ true) cs
 found_by_number f [] = tt
 found_by_number f (c ∷ cs) = (
   (λ h. rw (number_same c.segment.number c.segment.number refl, h) refl),
-  all_weaker (λ (choice : Choice). f choice ≡ true → list_any (λ other. (other.segment.number == choice.segment.number) && f other) cs ≡ true)
+  all_weaker
+      (λ (choice : Choice). f choice ≡ true → list_any (λ other. (other.segment.number == choice.segment.number) && f other) cs ≡ true)
       (λ choice. f choice ≡ true → list_any (λ other. (other.segment.number == choice.segment.number) && f other) (c ∷ cs) ≡ true)
       (λ choice i h. rw (i h) (or-true ((c.segment.number == choice.segment.number) && f c))) cs (found_by_number f cs),
 )
@@ -33,9 +36,11 @@ found_by_number f (c ∷ cs) = (
 module _ (task : ℕ) (v : TaskView) (rows : List BackRow) (given : AreRowsOf task v rows) where
   pub reported-tested : AreReported (tested_view task rows v).work
   reported-tested =
-      all_weaker (λ choice. is_newly_cleaned v.work choice ≡ true → list_any (λ other. (other.segment.number == choice.segment.number) && is_newly_cleaned v.work other) v.choices ≡ true)
+      all_weaker (λ choice. is_newly_cleaned v.work choice ≡ true
+      → list_any (λ other. (other.segment.number == choice.segment.number) && is_newly_cleaned v.work other) v.choices ≡ true)
       (λ choice. is_newly_cleaned (tested_view task rows v).work choice ≡ false)
-      (λ choice found. grind (arith, given.segments choice.segment.number, found)) v.choices (found_by_number (is_newly_cleaned v.work) v.choices)
+      (λ choice found. grind (arith, given.segments choice.segment.number, found)) v.choices
+      (found_by_number (is_newly_cleaned v.work) v.choices)
 
   pub unsealed-tested : (is_unsealed (tested_view task rows v) && is_done v.work) ≡ false
   unsealed-tested = rw given.seals (grind arith)
@@ -49,7 +54,8 @@ module _ (task : ℕ) (v : TaskView) (rows : List BackRow) (given : AreRowsOf ta
     others_no now [] d = refl
     others_no now (c ∷ cs) d = rw d.0 (others_no now cs d.1)
 
-    one : (current : Option Choice) → CleansBy v.work log h.done current → AllByRecursion (λ now. (tested_view task rows v).reported now.segment.number ≡ false) (choice_in current)
+    one : (current : Option Choice) → CleansBy v.work log h.done current
+        → AllByRecursion (λ now. (tested_view task rows v).reported now.segment.number ≡ false) (choice_in current)
     one None by = tt
     one (Some now) by =
         let open_one : is_cleaned v.work now ≡ false = grind (arith, busy_by by, work, by.unfinished) in
@@ -57,25 +63,36 @@ module _ (task : ℕ) (v : TaskView) (rows : List BackRow) (given : AreRowsOf ta
         ∙ rw (by.chosen, list_any-append, others_no now h.done by.distinct.0, open_one, and-false) refl in
         (rw (unnamed, by.unreported.0) refl, tt)
 
-  reported-known : (log : clean.Cleaning) → Cleans v.work log → (number : ℕ) → (tested_view task rows v).reported number ≡ true → list_any (λ choice. choice.segment.number == number) (v.choices) ≡ true
+  reported-known : (log : clean.Cleaning) → Cleans v.work log → (number : ℕ) → (tested_view task rows v).reported number ≡ true
+      → list_any (λ choice. choice.segment.number == number) (v.choices) ≡ true
   reported-known log h number some = grind (arith, given.segments number, h.reported number, named v.choices) where
-    named : (cs : List Choice) → list_any (λ choice. (choice.segment.number == number) && is_newly_cleaned v.work choice) cs ≡ true → list_any (λ choice. choice.segment.number == number) cs ≡ true
+    named : (cs : List Choice) → list_any (λ choice. (choice.segment.number == number) && is_newly_cleaned v.work choice) cs ≡ true
+        → list_any (λ choice. choice.segment.number == number) cs ≡ true
     named [] h = h
     named (c ∷ cs) h = grind (arith, named cs)
 
-  cleans-tested : (log : clean.Cleaning) → is_none log.unfinished ≡ not (is_busy v.work) → Cleans v.work log → Cleans (tested_view task rows v).work log
+  cleans-tested : (log : clean.Cleaning) → is_none log.unfinished ≡ not (is_busy v.work) → Cleans v.work log
+      → Cleans (tested_view task rows v).work log
   cleans-tested log work h =
       let unreported = unfinished-unreported log h work in
       let reported = reported-known log h in
       record { done = h.done; current = h.current; by = assumption (unreported, reported, h.by) }
 
 -- all was tested
-no_others : (past : Past) (rows : List BackRow) (task : ℕ) → (is_unsealed (tested_view task rows (view past task)) && is_done (view past task).work) ≡ false → (now : ℕ) → (seal_rows_found (tested rows ∷ past) now task ++ complete_rows (tested rows ∷ past) now task) ≡ []
+no_others : (past : Past) (rows : List BackRow) (task : ℕ)
+    → (is_unsealed (tested_view task rows (view past task)) && is_done (view past task).work) ≡ false → (now : ℕ)
+    → (seal_rows_found (tested rows ∷ past) now task ++ complete_rows (tested rows ∷ past) now task) ≡ []
 unfolding view bare_state content_of is_complete
-no_others past rows task sealed now = ap₂ (λ a b. (if a then SealLine (record { task = task; instant = now; content = found_for (work (tested rows ∷ past) task) (filter (λ block. is_delivered ((work (tested rows ∷ past) task).bare block)) (work (tested rows ∷ past) task).blocks) }) ∷ [] else []) ++ (if b then CompleteLine (record { task = task; instant = now }) ∷ [] else []))
+no_others past rows task sealed now = ap₂ (λ a b. (if a then SealLine (record {
+  task = task;
+  instant = now;
+  content = found_for (work (tested rows ∷ past) task) (filter (λ block. is_delivered ((work (tested rows ∷ past) task).bare block))
+      (work (tested rows ∷ past) task).blocks);
+}) ∷ [] else []) ++ (if b then CompleteLine (record { task = task; instant = now }) ∷ [] else []))
     sealed (once (is_complete past task))
 
-pub up_to_date-tested : (past : Past) (rows : List BackRow) → ((task : ℕ) → task < length (tasks past) → AreRowsOf task (view past task) rows) → IsUpToDate (tested rows ∷ past)
+pub up_to_date-tested : (past : Past) (rows : List BackRow)
+    → ((task : ℕ) → task < length (tasks past) → AreRowsOf task (view past task) rows) → IsUpToDate (tested rows ∷ past)
 unfolding test_rows_found is_complete bare_state content_of
 up_to_date-tested past rows given = record {
   tested = λ task. refl;
@@ -85,26 +102,31 @@ up_to_date-tested past rows given = record {
         (λ task from less. reported_rows (tested rows ∷ past) now task (rw (tested-view past rows task)
         (reported-tested task (view past task) rows (given task (omega (arith, less))))))),
     flat_none (λ task. seal_rows_found (tested rows ∷ past) now task ++ complete_rows (tested rows ∷ past) now task) (task_numbers past)
-        (all_range (λ task. (seal_rows_found (tested rows ∷ past) now task ++ complete_rows (tested rows ∷ past) now task) ≡ []) 0 (length (tasks past))
+        (all_range (λ task. (seal_rows_found (tested rows ∷ past) now task ++ complete_rows (tested rows ∷ past) now task) ≡ []) 0
+        (length (tasks past))
         (λ task from less. no_others past rows task (unsealed-tested task (view past task) rows (given task (omega (arith, less)))) now)),
   ) refl;
 }
 
 -- a backup was sealed where the test had to, and its completion is noted
-module _ (task : ℕ) (v : TaskView) (rows : List BackRow) (given : AreRowsOf task v rows) (old mid : Session) (is : IsSealed (is_unsealed v && is_done v.work) old mid) where
+module _ (task : ℕ) (v : TaskView) (rows : List BackRow) (given : AreRowsOf task v rows) (old mid : Session)
+    (is : IsSealed (is_unsealed v && is_done v.work) old mid) where
   open_was : is_unsealed (tested_view task rows v) ≡ true → (is_unsealed v ≡ true) × ((is_unsealed v && is_done v.work) ≡ false)
   open_was h = by (is_backup v.terms.kind) v.sealed (is_done v.work) (rw (sym given.seals) h) where
-    by : (backup sealed complete : Bool) → (backup && not (((backup && not sealed) && complete) || sealed)) ≡ true → ((backup && not sealed) ≡ true) × (((backup && not sealed) && complete) ≡ false)
+    by : (backup sealed complete : Bool) → (backup && not (((backup && not sealed) && complete) || sealed)) ≡ true
+        → ((backup && not sealed) ≡ true) × (((backup && not sealed) && complete) ≡ false)
     by backup sealed complete h = grind arith
 
   holds_still : (held now : ℕ → Option Content) → ((lbn : ℕ) → now lbn ≡ held lbn) → HoldsImage v.work held → HoldsImage v.work now
   holds_still held now same h = record {
-    each = all_weaker (HoldsBlock v.work held) (HoldsBlock v.work now) (λ block one delivered. held_same now held block.lbn block.count (λ lbn from to. same lbn) ∙ one delivered) v.blocks h.each;
+    each = all_weaker (HoldsBlock v.work held) (HoldsBlock v.work now)
+        (λ block one delivered. held_same now held block.lbn block.count (λ lbn from to. same lbn) ∙ one delivered) v.blocks h.each;
     only = λ lbn none. same lbn ∙ h.only lbn none;
   }
 
   pub stands-tested : Stands v old → IsAtWork v.work old
-      → (Stands (tested_view task rows v) (record mid { complete = is_done v.work })) × (IsAtWork (tested_view task rows v).work (record mid { complete = is_done v.work }))
+      → (Stands (tested_view task rows v) (record mid { complete = is_done v.work }))
+      × (IsAtWork (tested_view task rows v).work (record mid { complete = is_done v.work }))
   stands-tested h work =
       let sealed : ((is_unsealed v && is_done v.work) || old.sealed) ≡ (tested_view task rows v).sealed = rw (given.seals, h.sealed) refl in
       let image : is_unsealed (tested_view task rows v) ≡ true → HoldsImage (tested_view task rows v).work (held_at mid.image) = λ is_open.
@@ -117,22 +139,29 @@ abbrev pub AreAllRows : Past → List BackRow → Type 0
 AreAllRows past rows = (task : ℕ) → AreRowsOf task (view past task) rows
 
 -- what has chosen before its test
-pub chosen_at : {disk : Shape} {past : Past} {old : List Session} {held : List Entry} → HaveChosen disk past old held → (k : ℕ) (session : Session) → slice_get old k ≡ Some session → HasChosen disk past k session held
+pub chosen_at : {disk : Shape} {past : Past} {old : List Session} {held : List Entry} → HaveChosen disk past old held
+    → (k : ℕ) (session : Session) → slice_get old k ≡ Some session → HasChosen disk past k session held
 chosen_at h k session at = record { blocks = h.blocks; stands = (h.each k session at).stands; at_work = (h.each k session at).at_work }
 
 -- a quiet task stands as it did after the test, and gives no row
-module _ (task : ℕ) (v : TaskView) (rows : List BackRow) (given : AreRowsOf task v rows) (session : Session) (none : (is_unsealed v && is_done v.work) ≡ false) (noted : session.complete ≡ is_done v.work) where
-  pub still-stands : Stands v session → IsAtWork v.work session → (Stands (tested_view task rows v) session) × (IsAtWork (tested_view task rows v).work session)
-  still-stands stands at_work = subst (λ b. (Stands (tested_view task rows v) (record session { complete = b })) × (IsAtWork (tested_view task rows v).work session)) (sym noted)
+module _ (task : ℕ) (v : TaskView) (rows : List BackRow) (given : AreRowsOf task v rows) (session : Session)
+    (none : (is_unsealed v && is_done v.work) ≡ false) (noted : session.complete ≡ is_done v.work) where
+  pub still-stands : Stands v session → IsAtWork v.work session
+      → (Stands (tested_view task rows v) session) × (IsAtWork (tested_view task rows v).work session)
+  still-stands stands at_work = subst (λ b. (Stands (tested_view task rows v) (record session { complete = b }))
+      × (IsAtWork (tested_view task rows v).work session)) (sym noted)
       (stands-tested task v rows given session session (record { same = rw none refl; image = λ _ lbn. refl }) stands at_work)
 
-pub no-ends : (past : Past) (now task : ℕ) → (is_unsealed (view past task) && is_done (view past task).work) ≡ false → (view past task).was_complete ≡ is_done (view past task).work
+pub no-ends : (past : Past) (now task : ℕ) → (is_unsealed (view past task) && is_done (view past task).work) ≡ false
+    → (view past task).was_complete ≡ is_done (view past task).work
     → (seal_rows_found past now task ++ complete_rows past now task) ≡ []
 unfolding view is_complete
 no-ends past now task none same = rw (none, same, once (is_done (work past task))) refl
 
-pub rows_more : {X : Type 0} (f : ℕ → List X) (before was is more : List X) (n : ℕ) → was ≡ before ++ flat_map f (range_with_len 0 n) → is ≡ was ++ more → more ≡ f n → is ≡ before ++ flat_map f (range_with_len 0 (n + 1))
-rows_more f before was is more n so_far pushed same = rw (pushed, so_far, same, range_next n, flat_map-append, append-nil, append_assoc) refl
+pub rows_more : {X : Type 0} (f : ℕ → List X) (before was is more : List X) (n : ℕ) → was ≡ before ++ flat_map f (range_with_len 0 n)
+    → is ≡ was ++ more → more ≡ f n → is ≡ before ++ flat_map f (range_with_len 0 (n + 1))
+rows_more f before was is more n so_far pushed same =
+    rw (pushed, so_far, same, range_next n, flat_map-append, append-nil, append_assoc) refl
 
 -- the first sessions are tested, and their rows stand; the others are as they were
 pub record AreTested (past : Past) (old now : List Session) (instant : ℕ) (before rows : List BackRow) (n : ℕ) : Type 0 where
@@ -144,7 +173,12 @@ pub record AreTested (past : Past) (old now : List Session) (instant : ℕ) (bef
 
 pub none_tested : {past : Past} {old : List Session} {instant : ℕ} {rows : List BackRow} → AreTested past old old instant rows rows 0
 none_tested {past} {old} {instant} {rows} =
-    record { as_many = refl; later = λ k more. refl; earlier = λ all given k session less at. absurd (omega (arith, less)); rows_are = sym (append-nil rows) }
+    record {
+      as_many = refl;
+      later = λ k more. refl;
+      earlier = λ all given k session less at. absurd (omega (arith, less));
+      rows_are = sym (append-nil rows);
+    }
 
 module _ {past : Past} {old now : List Session} {instant : ℕ} {before rows : List BackRow} where
   -- one more is tested, and no more touched
@@ -156,13 +190,15 @@ module _ {past : Past} {old now : List Session} {instant : ℕ} {before rows : L
     later = λ k more. get_other now n k cleared (λ e. absurd (omega arith)) ∙ is.later k (omega arith);
     earlier = λ all given k some less at. let own = test.session all (given n) in
         each_set (λ k s. k < n + 1 → (Stands (view (tested all ∷ past) k) s) × (IsAtWork (view (tested all ∷ past) k).work s)) now n cleared
-        (λ _. (flagged-stands false (view (tested all ∷ past) n) new own.0, own.1)) (λ k s differ at less. is.earlier all given k s (grind arith) at) k some at less;
+        (λ _. (flagged-stands false (view (tested all ∷ past) n) new own.0, own.1))
+        (λ k s differ at less. is.earlier all given k s (grind arith) at) k some at less;
     rows_are = rows_more (ends_of past instant) before rows more (ends_of past instant n) n is.rows_are test.rows refl;
   }
 
   -- what was not touched has no test to pass
   pub tested-to : {disk : Shape} {held : List Entry} (n m : ℕ) → n ≤ m → m ≤ length now
-      → ((k : ℕ) (session : Session) → n ≤ k → k < m → slice_get now k ≡ Some session → session.touched ≡ false) → HaveChosen disk past old held
+      → ((k : ℕ) (session : Session) → n ≤ k → k < m → slice_get now k ≡ Some session → session.touched ≡ false)
+      → HaveChosen disk past old held
       → AreTested past old now instant before rows n → AreTested past old now instant before rows m
   tested-to n m le within untouched chosen = step_to (AreTested past old now instant before rows) n m le (λ k from to is.
       let found = some_at now k (omega (arith, within)) in
@@ -179,19 +215,24 @@ module _ {past : Past} {old now : List Session} {instant : ℕ} {before rows : L
       (ap (λ b. set now k (record found.0 { touched = b })) (sym flag) ∙ set_same now k found.0 found.1)
       (one_tested is test))
 
-pub untouched-tested : (disk : Shape) (past : Past) (held : List Entry) (h : HoldsBlocks disk past held) (task : ℕ) → length (tasks past) ≤ task → (rows : List BackRow) → AreRowsOf task (view past task) rows → IsUntouched (tested_view task rows (view past task))
+pub untouched-tested : (disk : Shape) (past : Past) (held : List Entry) (h : HoldsBlocks disk past held) (task : ℕ)
+    → length (tasks past) ≤ task → (rows : List BackRow) → AreRowsOf task (view past task) rows
+    → IsUntouched (tested_view task rows (view past task))
 untouched-tested disk past held h task beyond rows given =
     let was = h.unopened task beyond in
     let plain : Terms = record { kind = Plain; weight = 1; block = 1 } in
     let terms : (view past task).terms ≡ plain = (seen past task).terms ∙ get_or_past (tasks past) task plain beyond in
     let never : is_done (view past task).work ≡ false = rw (terms, none-yet disk past task beyond h.on_disk) refl in
     let sealed : (tested_view task rows (view past task)).sealed ≡ false = rw (given.seals, terms) was.sealed in
-    let reported : (number : ℕ) → (tested_view task rows (view past task)).reported number ≡ false = λ number. rw (given.segments number, was.choices) (was.reported number) in
+    let reported : (number : ℕ) → (tested_view task rows (view past task)).reported number ≡ false =
+    λ number. rw (given.segments number, was.choices) (was.reported number) in
     assumption (never, sealed, reported, was)
 
 -- after a test of each task the sessions tell the history again
-pub tells-tested : {disk : Shape} {past : Past} {held : List Entry} (rows : List BackRow) (sessions : List Session) → HoldsBlocks disk past held → length sessions ≡ length (tasks past) → AreAllRows past rows
-    → ((task : ℕ) (session : Session) → slice_get sessions task ≡ Some session → (Stands (view (tested rows ∷ past) task) session) × (IsAtWork (view (tested rows ∷ past) task).work session))
+pub tells-tested : {disk : Shape} {past : Past} {held : List Entry} (rows : List BackRow) (sessions : List Session)
+    → HoldsBlocks disk past held → length sessions ≡ length (tasks past) → AreAllRows past rows
+    → ((task : ℕ) (session : Session) → slice_get sessions task ≡ Some session
+    → (Stands (view (tested rows ∷ past) task) session) × (IsAtWork (view (tested rows ∷ past) task).work session))
     → ((task : ℕ) (session : Session) → slice_get sessions task ≡ Some session → session.touched ≡ false → HasNoChoice (view past task))
     → Tells disk (tested rows ∷ past) sessions held
 tells-tested {disk} {past} {held} rows sessions h as_many given each chosen = record {
@@ -221,7 +262,8 @@ pub all-tested : {disk : Shape} {past : Past} {old now : List Session} {held : L
     × (rows ≡ before ++ flat_map (ends_of past instant) (task_numbers past))
 all-tested {disk} {past} {old} {now} {held} {instant} {before} chosen is =
     let all = test_rows_found past instant in
-    let given : AreAllRows past all = λ task. rows-given past instant [] nothing-mute task (λ more. (chosen.blocks.unopened task more).choices) in (
+    let given : AreAllRows past all =
+    λ task. rows-given past instant [] nothing-mute task (λ more. (chosen.blocks.unopened task more).choices) in (
       tells-tested all now chosen.blocks (is.as_many ∙ chosen.as_many) given
           (λ task session at. is.earlier all given task session (slice_get_within now task session at) at)
           (λ task session at untouched. let found = some_at old task (omega (arith, slice_get_within now task session at, is.as_many)) in

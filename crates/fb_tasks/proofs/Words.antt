@@ -18,7 +18,8 @@ pub use Rattle.std.proofs.lemmas.List.Elements.{filter-append}
 pub use Rattle.std.proofs.lemmas.List.Folds.{list_any-append}
 pub use Rattle.std.proofs.lemmas.List.FromFn.{length-map-range_with_len, map-range_with_len_more, take-map-range_with_len}
 pub use Rattle.std.proofs.lemmas.List.Sums.{length-filter, sum_by-append, sum_by-cons}
-pub use Rattle.std.proofs.lemmas.Option.{get_or_from_slice_get, none-some, slice_get-get_or, slice_get_past, slice_get_read, slice_get_within}
+pub use Rattle.std.proofs.lemmas.Option.{get_or_from_slice_get, none-some, slice_get-get_or, slice_get_past, slice_get_read}
+pub use Rattle.std.proofs.lemmas.Option.{slice_get_within}
 pub use Rattle.std.proofs.lemmas.Result.{IfOk-weaker, on_err_weaker, on_ok_weaker}
 pub use Rattle.fb_units.proofs.Numbers.{same_number as number_same}
 pub use Rattle.fb_units.proofs.Lists.{on_err, all_from_index as all_placed, any_of_none as any_none, filter_to, map_at}
@@ -46,7 +47,8 @@ pub use Rattle.fb_calls.specs.declared.call.Kind.TheVariants.{Backup, Clean, Pla
 pub use Rattle.fb_wanted.specs.Counting.{counts_of, of_task}
 pub use Rattle.fb_wanted.specs.Near.{SharesNone}
 pub use Rattle.fb_wanted.specs.Numbering.{blocks_of}
-pub use Rattle.fb_wanted.specs.States.{after, entry_after, is_aborted, is_block, is_delivered, is_open, is_suspended, is_wanted, shares, state_after}
+pub use Rattle.fb_wanted.specs.States.{after, entry_after, is_aborted, is_block, is_delivered, is_open, is_suspended, is_wanted, shares}
+pub use Rattle.fb_wanted.specs.States.{state_after}
 pub use Rattle.fb_wanted.specs.States.{wanted_unless}
 pub use Rattle.fb_wanted.specs.declared.block.Block.{Block}
 pub use Rattle.fb_wanted.specs.declared.block.Change.TheVariants.{Abort as AbortRange, Deliver, Resume as ResumeAll, Rewant}
@@ -84,9 +86,11 @@ pub use Rattle.fb_tasks.specs.Keeping.{new_entries, without_aborted}
 pub use Rattle.fb_tasks.specs.Leaving.{HasBegun, HasGrown, MayClean, OnlyRegisters, OnlyTouched, by_calls, entries_by}
 pub use Rattle.fb_tasks.specs.Listing.{AreListed, IsNoted}
 pub use Rattle.fb_tasks.specs.Script.{IsCalled}
-pub use Rattle.fb_tasks.specs.Standing.{AreIndexed, AreReported, AreRowsOf, Ascend, Cleans, CleansBy, HasChosen, HasNoChoice, HasTurned, HaveChosen}
+pub use Rattle.fb_tasks.specs.Standing.{AreIndexed, AreReported, AreRowsOf, Ascend, Cleans, CleansBy, HasChosen, HasNoChoice, HasTurned}
+pub use Rattle.fb_tasks.specs.Standing.{HaveChosen}
 pub use Rattle.fb_tasks.specs.Standing.{HoldsBlock, HoldsBlocks, HoldsChoice, HoldsImage, IsAtNumber, IsAtWork, IsBlockOf, IsCutFrom}
-pub use Rattle.fb_tasks.specs.Standing.{IsPlaced, IsQuiet, IsReady, IsSegmentOf, IsTested, IsUntouched, MayChoose, MayFinish, Stands, Told, choice_in}
+pub use Rattle.fb_tasks.specs.Standing.{IsPlaced, IsQuiet, IsReady, IsSegmentOf, IsTested, IsUntouched, MayChoose, MayFinish, Stands, Told}
+pub use Rattle.fb_tasks.specs.Standing.{choice_in}
 pub use Rattle.fb_tasks.specs.Standing.{choosable_by, ends_of, entry_by, entry_in, entry_of, kept_segment}
 pub use Rattle.fb_tasks.specs.Taken.{delivery_of, found_for, rows_after, seal_rows_found, segment_rows_found}
 unfoldable pub use Rattle.fb_tasks.specs.Taken.{test_rows_found}

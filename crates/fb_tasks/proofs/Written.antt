@@ -16,7 +16,8 @@ module _ (first count : ℕ) where
   state_outside None e outside = refl
   state_outside (Some session) e outside = rw (outside, and-false) refl
 
-  state_twice : (s : Option Session) (e : Entry) → state_left first count s (record { block = e.block; state = state_left first count s e }) ≡ state_left first count s e
+  state_twice : (s : Option Session) (e : Entry)
+      → state_left first count s (record { block = e.block; state = state_left first count s e }) ≡ state_left first count s e
   state_twice None e = refl
   state_twice (Some session) e = grind arith
 
@@ -38,7 +39,8 @@ module _ (first count : ℕ) where
     module _ {items : List Session} (task : ℕ) (session : Session) (same : items ≡ sessions) (there : task < length sessions)
         (is : session ≡ get_or items task session) where
       at : slice_get sessions task ≡ Some session
-      at = subst (λ xs. slice_get xs task ≡ Some session) same (slice_get-get_or items task session (subst (λ xs. task < length xs) (sym same) there) ∙ ap Some (sym is))
+      at = subst (λ xs. slice_get xs task ≡ Some session) same
+          (slice_get-get_or items task session (subst (λ xs. task < length xs) (sym same) there) ∙ ap Some (sym is))
 
       pub open_left : (is_backup session.kind && not session.sealed) ≡ true → (es : List Entry)
           → map (entry_after task (Rewant first count session.suspended)) es ≡ map (left_in task sessions first count) es
@@ -47,7 +49,8 @@ module _ (first count : ℕ) where
         | inr other ↦ rw other refl
       ]) es)
 
-      pub other_left : (is_backup session.kind && not session.sealed) ≡ false → (es : List Entry) → es ≡ map (left_in task sessions first count) es
+      pub other_left : (is_backup session.kind && not session.sealed) ≡ false → (es : List Entry)
+          → es ≡ map (left_in task sessions first count) es
       other_left no_backup es = map_still _ es (all_any {X = Entry} _ (λ e. elim (cases_Bool (e.block.task == task)) [
         | inl own ↦ rw (own, same_number e.block.task task own, at, no_backup) refl
         | inr other ↦ rw other refl
@@ -57,8 +60,10 @@ module _ (first count : ℕ) where
     abbrev pub AreRewanted : ℕ → List Entry → List Entry → Type 0
     AreRewanted task es now = (map left now ≡ map left es) × AllByRecursion (λ e. e.block.task < task → left e ≡ e) now
 
-    pub one_rewanted : (task : ℕ) (es now new : List Entry) → new ≡ map (left_in task sessions first count) now → AreRewanted task es now → AreRewanted (task + 1) es new
-    one_rewanted task es now new is h = subst (AreRewanted (task + 1) es) (sym is) (same now ∙ h.0, all_map _ _ now (all_weaker _ _ more now h.1)) where
+    pub one_rewanted : (task : ℕ) (es now new : List Entry) → new ≡ map (left_in task sessions first count) now → AreRewanted task es now
+        → AreRewanted (task + 1) es new
+    one_rewanted task es now new is h =
+        subst (AreRewanted (task + 1) es) (sym is) (same now ∙ h.0, all_map _ _ now (all_weaker _ _ more now h.1)) where
       same : (xs : List Entry) → map left (map (left_in task sessions first count) xs) ≡ map left xs
       same [] = refl
       same (x ∷ xs) = elim (cases_Bool (x.block.task == task)) [
@@ -73,10 +78,12 @@ module _ (first count : ℕ) where
         | inr other ↦ rw other (λ less. before (grind (arith, nat_tests)))
       ]
 
-    module _ {items : List Session} {touched rewantable : BTreeSet ℕ} (same : items ≡ sessions) (listed : AreListed items touched rewantable) where
+    module _ {items : List Session} {touched rewantable : BTreeSet ℕ} (same : items ≡ sessions)
+        (listed : AreListed items touched rewantable) where
       unlisted : (e : Entry) → contains nat_cmp rewantable e.block.task ≡ false → left e ≡ e
       unlisted e none = elim (cases_lt e.block.task (length sessions)) [
-        | inl there ↦ let found = some_at sessions e.block.task there in rw (found.1, no_backup_there (subst (λ xs. AreListed xs touched rewantable) same listed) e.block.task found.0 none found.1) refl
+        | inl there ↦ let found = some_at sessions e.block.task there in
+            rw (found.1, no_backup_there (subst (λ xs. AreListed xs touched rewantable) same listed) e.block.task found.0 none found.1) refl
         | inr past ↦ beyond e past
       ]
 
@@ -86,9 +93,11 @@ module _ (first count : ℕ) where
       passed from next task es now unnoted far h =
           let near = all_placed (λ e. next ≤ e.block.task → e.block.task < task → left e ≡ e) now
           (λ i e at low high. still e (state_outside (slice_get sessions e.block.task) e (far e.block.task low high i e at refl))) in
-          let rest : AllByRecursion (λ e. e.block.task < task → left e ≡ e) now = all_with _ _ _ (λ e none before less. elim (cases_lt e.block.task from) [
+          let rest : AllByRecursion (λ e. e.block.task < task → left e ≡ e) now =
+          all_with _ _ _ (λ e none before less. elim (cases_lt e.block.task from) [
             | inl earlier ↦ before earlier
-            | inr later ↦ elim (cases_lt e.block.task next) [ inl low ↦ unlisted e (unnoted e.block.task later low) | inr high ↦ none high less ]
+            | inr later ↦
+                elim (cases_lt e.block.task next) [ inl low ↦ unlisted e (unnoted e.block.task later low) | inr high ↦ none high less ]
           ]) now near h.1 in (h.0, rest)
 
     pub all_rewanted : (from : ℕ) (es now : List Entry) → length sessions ≤ from → AreRewanted from es now → now ≡ map left es
@@ -98,14 +107,22 @@ module _ (first count : ℕ) where
     ]) now h.1) ∙ h.0
 
 -- blocks of open backups are as the history has them after the write
-module _ (disk : Shape) (past : Past) (request : Request) (write : request.write ≡ true) (sessions : List Session) (held : List Entry) (h : Tells disk past sessions held) where
-  one_told : (b : Block) → IsBlockOf disk (length (tasks past)) b → left_by_write sessions request.lbn request.count (entry_of past b) ≡ entry_of (finished request ∷ past) b
+module _ (disk : Shape) (past : Past) (request : Request) (write : request.write ≡ true) (sessions : List Session) (held : List Entry)
+    (h : Tells disk past sessions held) where
+  one_told : (b : Block) → IsBlockOf disk (length (tasks past)) b
+      → left_by_write sessions request.lbn request.count (entry_of past b) ≡ entry_of (finished request ∷ past) b
   one_told b there =
       let found = some_at sessions b.task (omega (arith, there.task, h.as_many)) in
       let stands = (h.each b.task found.0 found.1).stands in
       elim (cases_Bool (is_backup found.0.kind && not found.0.sealed)) [
-        | inl is_open ↦ rw (found.1, is_open, stands.suspended, written-view past request b.task write (open_by (view past b.task) found.0 stands ∙ is_open))
-            (ap (λ s. let x : Entry = record { block = b; state = s } in x) (show_rewanted ((view past b.task).bare b) (view past b.task).suspended (shares request.lbn request.count b)))
+        | inl is_open ↦ rw (
+          found.1,
+          is_open,
+          stands.suspended,
+          written-view past request b.task write (open_by (view past b.task) found.0 stands ∙ is_open),
+        )
+            (ap (λ s. let x : Entry = record { block = b; state = s } in x)
+            (show_rewanted ((view past b.task).bare b) (view past b.task).suspended (shares request.lbn request.count b)))
         | inr other ↦ rw (found.1, other, written-silent past request b.task (open_by (view past b.task) found.0 stands ∙ other)) refl
       ]
 
@@ -114,7 +131,8 @@ module _ (disk : Shape) (past : Past) (request : Request) (write : request.write
   all_told [] on = refl
   all_told (b ∷ bs) on = rw (all_told bs on.1) (ap (λ x. x ∷ map (entry_of (finished request ∷ past)) bs) (one_told b on.0))
 
-  pub left-tells : (first count : ℕ) (now : List Entry) → request.lbn ≡ first → request.count ≡ count → now ≡ map (left_by_write sessions first count) held → Tells disk (finished request ∷ past) sessions now
+  pub left-tells : (first count : ℕ) (now : List Entry) → request.lbn ≡ first → request.count ≡ count
+      → now ≡ map (left_by_write sessions first count) held → Tells disk (finished request ∷ past) sessions now
   left-tells first count now lbn sectors is = written-tells disk past request write sessions held now
       (is ∙ (ap₂ (λ f n. map (left_by_write sessions f n) held) (sym lbn) (sym sectors)
       ∙ (ap (map (left_by_write sessions request.lbn request.count)) h.entries ∙ all_told (registered past) h.on_disk))) h

@@ -1,5 +1,6 @@
 -- What one session keeps. Contracts of inner functions cite it.
-use Rattle.std.specs.Prelude.{◌≡◌, ℕ, ◌+◌, List, length, map, Bool, true, false, ◌&&◌, ◌||◌, not, ◌==◌, nat_lt, if◌then◌else◌, Option, None, Some}
+use Rattle.std.specs.Prelude.{◌≡◌, ℕ, ◌+◌, List, length, map, Bool, true, false, ◌&&◌, ◌||◌, not, ◌==◌, nat_lt, if◌then◌else◌, Option, None}
+use Rattle.std.specs.Prelude.{Some}
 use Rattle.std.specs.List.{flat_map, list_any}
 use Rattle.fb_geometry.specs.Shape.{Shape}
 use Rattle.fb_calls.specs.declared.call.Kind.{Kind}
@@ -61,5 +62,7 @@ pub record IsSealed (seals : Bool) (old new : Session) : Type 0 where
 -- the content of a block was taken into the image of a backup, or for the chosen segment, and nothing else has changed
 pub record HasTaken (content_at : ℕ → Content) (block : Block) (old new : Session) : Type 0 where
   pub same : new ≡ record old { image = new.image; log = record old.log { taken = new.log.taken } }
-  pub image : is_backup old.kind ≡ true → (lbn : ℕ) → held_at new.image lbn ≡ after_take content_at block.lbn block.count lbn (held_at old.image lbn)
-  pub log : is_clean old.kind ≡ true → (number lbn : ℕ) → old.log.unfinished ≡ Some number → taken_for new.log number lbn ≡ after_take content_at block.lbn block.count lbn (taken_for old.log number lbn)
+  pub image : is_backup old.kind ≡ true → (lbn : ℕ)
+      → held_at new.image lbn ≡ after_take content_at block.lbn block.count lbn (held_at old.image lbn)
+  pub log : is_clean old.kind ≡ true → (number lbn : ℕ) → old.log.unfinished ≡ Some number
+      → taken_for new.log number lbn ≡ after_take content_at block.lbn block.count lbn (taken_for old.log number lbn)

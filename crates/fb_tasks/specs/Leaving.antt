@@ -47,4 +47,5 @@ by_calls session = (session.kind, session.weight, session.block, session.suspend
 -- nothing that calls make of a session has changed, and nothing at all of one that was not touched since the last test
 pub record OnlyTouched (old new : List Session) : Type 0 where
   pub calls : map by_calls new ≡ map by_calls old
-  pub untouched : (task : ℕ) (session : Session) → slice_get old task ≡ Some session → session.touched ≡ false → slice_get new task ≡ Some session
+  pub untouched : (task : ℕ) (session : Session) → slice_get old task ≡ Some session → session.touched ≡ false
+      → slice_get new task ≡ Some session

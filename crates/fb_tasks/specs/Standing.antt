@@ -1,5 +1,6 @@
 -- How a session and its blocks stand after a history. Contracts of inner functions cite it.
-use Rattle.std.specs.Prelude.{◌≡◌, ◌≤◌, ◌<◌, ◌+◌, ◌-◌, ◌*◌, ◌^◌, ℕ, List, [], ◌∷◌, ◌++◌, length, map, true, false, ◌&&◌, not, ◌==◌, Option, None, Some, option_map, slice_get}
+use Rattle.std.specs.Prelude.{◌≡◌, ◌≤◌, ◌<◌, ◌+◌, ◌-◌, ◌*◌, ◌^◌, ℕ, List, [], ◌∷◌, ◌++◌, length, map, true, false, ◌&&◌, not, ◌==◌, Option}
+use Rattle.std.specs.Prelude.{None, Some, option_map, slice_get}
 use Rattle.std.specs.List.{AllByRecursion, flat_map, range_with_len, list_any, sum_by}
 use Rattle.fb_geometry.specs.Shape.{Shape}
 use Rattle.fb_geometry.specs.Places.{places}
@@ -17,7 +18,8 @@ use Rattle.fb_clean.specs.Segments as clean
 use Rattle.fb_rows.specs.declared.back.BackRow.{BackRow}
 use Rattle.fb_model.specs.Blocks.{IsBlockOn}
 use Rattle.fb_model.specs.History.{Past, LogSegment, tasks, registered, tested, is_seal_of}
-use Rattle.fb_model.specs.Completion.{Choice, Work, work, TaskView, view, state_in, is_cleaned, is_over, is_done, is_segment_of, is_unsealed}
+use Rattle.fb_model.specs.Completion.{Choice, Work, work, TaskView, view, state_in, is_cleaned, is_over, is_done, is_segment_of}
+use Rattle.fb_model.specs.Completion.{is_unsealed}
 use Rattle.fb_model.specs.Segments.{is_chosen, is_busy, unchosen}
 use Rattle.fb_model.specs.Images.{is_newly_cleaned, complete_rows}
 use Rattle.fb_tasks.specs.declared.session.Session.{Session}
@@ -55,7 +57,8 @@ Ascend from (block ∷ blocks) = (from ≤ block.lbn) × Ascend (block.lbn + blo
 
 -- the sectors of a delivered block hold what its last delivery found
 abbrev pub HoldsBlock : Work → (ℕ → Option Content) → Block → Type 0
-HoldsBlock work held block = is_delivered (work.bare block) ≡ true → held_in held (range_with_len block.lbn block.count) ≡ sectors_of (work.found block)
+HoldsBlock work held block = is_delivered (work.bare block) ≡ true
+    → held_in held (range_with_len block.lbn block.count) ≡ sectors_of (work.found block)
 
 -- and nothing is held of sectors outside the blocks
 pub record HoldsImage (work : Work) (held : ℕ → Option Content) : Type 0 where
@@ -100,7 +103,8 @@ pub record CleansBy (work : Work) (log : clean.Cleaning) (done : List Choice) (c
   pub cut : AllByRecursion (IsCutFrom log.block) work.choices
   pub taken : AllByRecursion (HoldsChoice work log) (choice_in current)
   pub numbers : AllByRecursion (λ choice. choice.segment.number ≤ length work.segments) work.choices
-  pub distinct : AllByRecursion (λ now. AllByRecursion (λ choice. (choice.segment.number == now.segment.number) ≡ false) done) (choice_in current)
+  pub distinct : AllByRecursion (λ now. AllByRecursion (λ choice. (choice.segment.number == now.segment.number) ≡ false) done)
+      (choice_in current)
   pub ascend : AllByRecursion (λ choice. Ascend 0 choice.blocks) (choice_in current)
   pub known : AllByRecursion (IsAtNumber work.segments) (choice_in current)
   pub unreported : AllByRecursion (λ now. work.reported now.segment.number ≡ false) (choice_in current)
@@ -142,7 +146,8 @@ pub record IsUntouched (view : TaskView) : Type 0 where
 
 -- the segments of a task lie on the disk
 abbrev pub IsSegmentOf : Shape → ℕ → LogSegment → Type 0
-IsSegmentOf disk block segment = (segment.first + segment.blocks * block ≤ length (places disk)) × (length segment.live ≡ segment.blocks) × (segment.blocks ≤ 4096)
+IsSegmentOf disk block segment =
+    (segment.first + segment.blocks * block ≤ length (places disk)) × (length segment.live ≡ segment.blocks) × (segment.blocks ≤ 4096)
 
 -- the blocks and the segments of a task are in place
 pub record IsPlaced (disk : Shape) (work : Work) : Type 0 where
@@ -185,7 +190,8 @@ pub record Told (view : TaskView) (session : Session) : Type 0 where
 -- these rows seal the task, and report its segments, as a test has to
 pub record AreRowsOf (task : ℕ) (view : TaskView) (rows : List BackRow) : Type 0 where
   pub seals : list_any (is_seal_of task) rows ≡ (is_unsealed view && is_done view.work)
-  pub segments : (number : ℕ) → list_any (is_segment_of task number) rows ≡ list_any (λ choice. (choice.segment.number == number) && is_newly_cleaned view.work choice) view.choices
+  pub segments : (number : ℕ) → list_any (is_segment_of task number) rows
+      ≡ list_any (λ choice. (choice.segment.number == number) && is_newly_cleaned view.work choice) view.choices
 
 -- the rows of a task's seal and of its completion
 abbrev pub ends_of : Past → ℕ → ℕ → List BackRow
@@ -201,11 +207,13 @@ pub record IsTested (past : Past) (task now : ℕ) (new : Session) (old more : L
 pub record MayFinish (disk : Shape) (past : Past) (task : ℕ) (session : Session) (held : List Entry) : Type 0 where
   pub blocks : HoldsBlocks disk past held
   pub stands : Stands (view past task) session
-  pub reported : AllByRecursion (λ choice. (session.log.unfinished ≡ Some choice.segment.number → ⊥) → is_newly_cleaned (view past task).work choice ≡ false) (view past task).choices
+  pub reported : AllByRecursion (λ choice. (session.log.unfinished ≡ Some choice.segment.number → ⊥)
+      → is_newly_cleaned (view past task).work choice ≡ false) (view past task).choices
 
 -- how many blocks the choices of the segments that a task has not chosen can register
 abbrev pub choosable_by : Shape → Past → ℕ → ℕ
-choosable_by disk past task = sum_by (λ segment. length (live_cuts disk (view past task).terms.block segment.first segment.live)) (unchosen (view past task).work)
+choosable_by disk past task =
+    sum_by (λ segment. length (live_cuts disk (view past task).terms.block segment.first segment.live)) (unchosen (view past task).work)
 
 -- a session may choose
 pub record MayChoose (disk : Shape) (past : Past) (task : ℕ) (session : Session) (held : List Entry) : Type 0 where
@@ -215,7 +223,8 @@ pub record MayChoose (disk : Shape) (past : Past) (task : ℕ) (session : Sessio
   pub few : length (registered past) + choosable_by disk past task ≤ 16 * 10 ^ 6
 
 -- choices were made up to a later history: the session may choose on, and the rows of what they cleaned at once follow
-pub record HasTurned (disk : Shape) (past new : Past) (task now : ℕ) (session : Session) (held : List Entry) (old more : List BackRow) : Type 0 where
+pub record HasTurned (disk : Shape) (past new : Past) (task now : ℕ) (session : Session) (held : List Entry)
+    (old more : List BackRow) : Type 0 where
   pub may : MayChoose disk new task session held
   pub rows : (before : List BackRow) → old ≡ before ++ segment_rows_found past now task → more
       ≡ before ++ segment_rows_found new now task

@@ -63,7 +63,8 @@ pub record MayDeliver (disk : Shape) (past : Past) (sessions : List Session) (en
   pub content : Gives got.content content_at got.block.lbn got.block.count
 
 -- this is the session of the delivered block's task, and the wanted set has the block delivered
-pub record Delivers (disk : Shape) (past : Past) (sessions : List Session) (held : List Entry) (got : DeliveryRow) (session : Session) (now : List Entry) : Type 0 where
+pub record Delivers (disk : Shape) (past : Past) (sessions : List Session) (held : List Entry) (got : DeliveryRow) (session : Session)
+    (now : List Entry) : Type 0 where
   pub may : MayDeliver disk past sessions held got
   pub at : slice_get sessions got.block.task ≡ Some session
   pub is : now ≡ after got.block.task (Deliver got.block.number) held

@@ -28,7 +28,8 @@ impl Session {
         rows: &mut BackRows,
     ) -> Result<(), NoMemory>
         requires { (past : Past) × MayChoose map.now past stamp.task self.old wanted.old }
-        ensures chosen { OnOk result ((past : Past) → MayChoose map.now past stamp.task self.old wanted.old → HasTurned map.now past (choose_in map.now past stamp.task) stamp.task stamp.instant self.new wanted.new rows.old rows.new) }
+        ensures chosen { OnOk result ((past : Past) → MayChoose map.now past stamp.task self.old wanted.old
+            → HasTurned map.now past (choose_in map.now past stamp.task) stamp.task stamp.instant self.new wanted.new rows.old rows.new) }
         ensures same { (by_calls self.new ≡ by_calls self.old) × (self.new.touched ≡ self.old.touched) }
         ensures own { OnlyRegisters (λ other. other ≡ stamp.task) wanted.old wanted.new }
         ensures idle { (is_clean self.old.kind && not self.old.closed) ≡ false → wanted.new ≡ wanted.old }
@@ -67,11 +68,13 @@ impl Session {
     ) -> Result<bool, NoMemory>
         requires cleans { (is_clean self.old.kind ≡ true) × (self.old.closed ≡ false) }
         requires may { (past : Past) × MayChoose map.now past stamp.task self.old wanted.old }
-        ensures chosen { IfOk result (λ some. (past : Past) → MayChoose map.now past stamp.task self.old wanted.old → HasTurned map.now past (choose_once map.now stamp.task past) stamp.task stamp.instant self.new wanted.new rows.old rows.new) }
+        ensures chosen { IfOk result (λ some. (past : Past) → MayChoose map.now past stamp.task self.old wanted.old
+            → HasTurned map.now past (choose_once map.now stamp.task past) stamp.task stamp.instant self.new wanted.new rows.old rows.new) }
         ensures same { (by_calls self.new ≡ by_calls self.old) × (self.new.touched ≡ self.old.touched) }
         ensures own { OnlyRegisters (λ other. other ≡ stamp.task) wanted.old wanted.new }
         ensures grown { HasGrown rows.old rows.new }
-        ensures none { IfOk result (λ some. some ≡ false → (past : Past) → MayChoose map.now past stamp.task self.old wanted.old → choose_once map.now stamp.task past ≡ past) }
+        ensures none { IfOk result (λ some. some ≡ false → (past : Past) → MayChoose map.now past stamp.task self.old wanted.old
+            → choose_once map.now stamp.task past ≡ past) }
     {
         let _sectors = map.count();
         match self.log.choose() {

@@ -34,12 +34,15 @@ impl Session {
         got: DeliveryRow,
         rows: &mut BackRows,
     ) -> Result<(), NoMemory>
-        requires { (disk : Shape) × (past : Past) × (sessions : List Session) × (held : List Entry) × Delivers disk past sessions held got self.old wanted.now }
-        ensures delivered { OnOk result ((disk : Shape) (past : Past) (sessions : List Session) (held : List Entry) → Delivers disk past sessions held got self.old wanted.now
+        requires { (disk : Shape) × (past : Past) × (sessions : List Session) × (held : List Entry)
+            × Delivers disk past sessions held got self.old wanted.now }
+        ensures delivered { OnOk result ((disk : Shape) (past : Past) (sessions : List Session) (held : List Entry)
+            → Delivers disk past sessions held got self.old wanted.now
             → (Stands (view (tested (rows_after past got) ∷ delivered got ∷ past) got.block.task) self.new)
             × (IsAtWork (view (tested (rows_after past got) ∷ delivered got ∷ past) got.block.task).work self.new)
             × (rows.new ≡ rows.old ++ GotLine got ∷ rows_after past got)) }
-        ensures err_rows { OnErr result ((disk : Shape) (past : Past) (sessions : List Session) (held : List Entry) → Delivers disk past sessions held got self.old wanted.now
+        ensures err_rows { OnErr result ((disk : Shape) (past : Past) (sessions : List Session) (held : List Entry)
+            → Delivers disk past sessions held got self.old wanted.now
             → HasBegun rows.old (GotLine got ∷ rows_after past got) rows.new) }
     {
         let task = got.block.task;
@@ -56,7 +59,8 @@ impl Session {
     fn take(&mut self, block: Block, content: &Contents) -> Result<(), NoMemory>
         requires covers { (content_at : ℕ → Content) × Gives content.now content_at block.lbn block.count }
         requires chosen { is_clean self.old.kind ≡ true → self.old.log.unfinished ≢ None }
-        ensures { OnOk result ((content_at : ℕ → Content) → Gives content.now content_at block.lbn block.count → HasTaken content_at block self.old self.new) }
+        ensures { OnOk result ((content_at : ℕ → Content) → Gives content.now content_at block.lbn block.count
+            → HasTaken content_at block self.old self.new) }
     {
         match self.kind {
             Kind::Backup => self.image.take(block, content),

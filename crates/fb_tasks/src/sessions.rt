@@ -1,5 +1,6 @@
 // The sessions of a run, and what calls, deliveries and writes make of them.
-ghost use Rattle.std.specs.Prelude.{◌≡◌, ◌≤◌, ◌<◌, ◌^◌, ◌*◌, ◌-◌, ℕ, List, [], ◌∷◌, ◌++◌, Bool, true, false, length, map, set, slice_get, Some, OnOk, OnErr};
+ghost use Rattle.std.specs.Prelude.{◌≡◌, ◌≤◌, ◌<◌, ◌^◌, ◌*◌, ◌-◌, ℕ, List, [], ◌∷◌, ◌++◌, Bool, true, false, length, map, set, slice_get};
+ghost use Rattle.std.specs.Prelude.{Some, OnOk, OnErr};
 ghost use Rattle.std.specs.List.{flat_map};
 ghost use Rattle.fb_geometry.specs.Shape.{Shape};
 ghost use Rattle.fb_geometry.specs.Places.{places};
@@ -88,9 +89,11 @@ impl Sessions {
         call: &Call,
     ) -> Result<(), NoMemory>
         requires { (past : Past) × MayTake map.now past self.old wanted.old call.now }
-        ensures ok { OnOk result ((past : Past) → MayTake map.now past self.old wanted.old call.now → Tells map.now (take_call map.now past call.now) self.new wanted.new) }
+        ensures ok { OnOk result ((past : Past) → MayTake map.now past self.old wanted.old call.now
+            → Tells map.now (take_call map.now past call.now) self.new wanted.new) }
         ensures err_sessions { OnErr result (self.new ≡ self.old) }
-        ensures err_blocks { OnErr result ((past : Past) → MayTake map.now past self.old wanted.old call.now → HasBegun wanted.old (entries_by map.now past call.now) wanted.new) }
+        ensures err_blocks { OnErr result ((past : Past) → MayTake map.now past self.old wanted.old call.now
+            → HasBegun wanted.old (entries_by map.now past call.now) wanted.new) }
     {
         match &call.action {
             Action::Open {
@@ -140,9 +143,12 @@ impl Sessions {
         rows: &mut BackRows,
     ) -> Result<(), NoMemory>
         requires { (past : Past) × MayChooseAndTest map.now past self.old wanted.old }
-        ensures tells { OnOk result ((past : Past) → MayChooseAndTest map.now past self.old wanted.old → Tells map.now (tested_at map.now past now) self.new wanted.new) }
-        ensures up_to_date { OnOk result ((past : Past) → MayChooseAndTest map.now past self.old wanted.old → IsUpToDate (tested_at map.now past now)) }
-        ensures rows { OnOk result ((past : Past) → MayChooseAndTest map.now past self.old wanted.old → rows.new ≡ rows.old ++ test_rows_found (with_choices map.now past) now) }
+        ensures tells { OnOk result ((past : Past) → MayChooseAndTest map.now past self.old wanted.old
+            → Tells map.now (tested_at map.now past now) self.new wanted.new) }
+        ensures up_to_date { OnOk result
+            ((past : Past) → MayChooseAndTest map.now past self.old wanted.old → IsUpToDate (tested_at map.now past now)) }
+        ensures rows { OnOk result ((past : Past) → MayChooseAndTest map.now past self.old wanted.old
+            → rows.new ≡ rows.old ++ test_rows_found (with_choices map.now past) now) }
         ensures stay_sessions { OnlyTouched self.old self.new }
         ensures stay_blocks { OnlyRegisters (MayClean self.old) wanted.old wanted.new }
         ensures stay_rows { HasGrown rows.old rows.new }
@@ -162,12 +168,16 @@ impl Sessions {
         rows: &mut BackRows,
     ) -> Result<(), NoMemory>
         requires { (disk : Shape) × (past : Past) × MayDeliver disk past self.old wanted.old got }
-        ensures tells { OnOk result ((disk : Shape) (past : Past) → MayDeliver disk past self.old wanted.old got → Tells disk (with_delivery past (delivery_of past got)) self.new wanted.new) }
-        ensures up_to_date { OnOk result ((disk : Shape) (past : Past) → MayDeliver disk past self.old wanted.old got → IsUpToDate (with_delivery past (delivery_of past got))) }
-        ensures rows { OnOk result ((disk : Shape) (past : Past) → MayDeliver disk past self.old wanted.old got → rows.new ≡ rows.old ++ GotLine got ∷ rows_after past got) }
+        ensures tells { OnOk result ((disk : Shape) (past : Past) → MayDeliver disk past self.old wanted.old got
+            → Tells disk (with_delivery past (delivery_of past got)) self.new wanted.new) }
+        ensures up_to_date { OnOk result ((disk : Shape) (past : Past) → MayDeliver disk past self.old wanted.old got
+            → IsUpToDate (with_delivery past (delivery_of past got))) }
+        ensures rows { OnOk result ((disk : Shape) (past : Past) → MayDeliver disk past self.old wanted.old got
+            → rows.new ≡ rows.old ++ GotLine got ∷ rows_after past got) }
         ensures stay_sessions { (session : Session) × (self.new ≡ set self.old got.block.task session) }
         ensures blocks { wanted.new ≡ after got.block.task (Deliver got.block.number) wanted.old }
-        ensures err_rows { OnErr result ((disk : Shape) (past : Past) → MayDeliver disk past self.old wanted.old got → HasBegun rows.old (GotLine got ∷ rows_after past got) rows.new) }
+        ensures err_rows { OnErr result ((disk : Shape) (past : Past) → MayDeliver disk past self.old wanted.old got
+            → HasBegun rows.old (GotLine got ∷ rows_after past got) rows.new) }
     {
         let task = got.block.task;
         wanted.deliver(task, got.block.number);
@@ -200,8 +210,10 @@ impl Sessions {
     /// added.
     pub fn task_rows(&self, wanted: &Wanted, rows: &mut BackRows) -> Result<(), NoMemory>
         requires { (disk : Shape) × (past : Past) × Tells disk past self.now wanted.now }
-        ensures ok { OnOk result ((disk : Shape) (past : Past) → Tells disk past self.now wanted.now → rows.new ≡ rows.old ++ task_rows past) }
-        ensures err { OnErr result ((disk : Shape) (past : Past) → Tells disk past self.now wanted.now → HasBegun rows.old (task_rows past) rows.new) }
+        ensures ok { OnOk result ((disk : Shape) (past : Past) → Tells disk past self.now wanted.now
+            → rows.new ≡ rows.old ++ task_rows past) }
+        ensures err { OnErr result ((disk : Shape) (past : Past) → Tells disk past self.now wanted.now
+            → HasBegun rows.old (task_rows past) rows.new) }
     {
         for task in 0..self.sessions.len() {
             let session = &self.sessions[task];
@@ -223,7 +235,8 @@ impl Sessions {
     // Opens a session.
     fn open(&mut self, kind: Kind, weight: u32, block: u32) -> Result<(), NoMemory>
         requires { length self.old < 2 ^ 32 - 1 }
-        ensures ok { OnOk result ((disk : Shape) (past : Past) (call : Call) (held : List Entry) → call.action ≡ Open kind weight block → MayTake disk past self.old held call → Tells disk (called call [] ∷ past) self.new held) }
+        ensures ok { OnOk result ((disk : Shape) (past : Past) (call : Call) (held : List Entry) → call.action ≡ Open kind weight block
+            → MayTake disk past self.old held call → Tells disk (called call [] ∷ past) self.new held) }
         ensures err { OnErr result (self.new ≡ self.old) }
     {
         let task = self.sessions.len() as u32;
@@ -245,10 +258,13 @@ impl Sessions {
         count: u64,
     ) -> Result<(), NoMemory>
         requires opened { task < length self.old }
-        requires call { (past : Past) × (call : Call) × IsCall task (Want first count) call × MayTake map.now past self.old wanted.old call }
-        ensures ok { OnOk result ((past : Past) (call : Call) → IsCall task (Want first count) call → MayTake map.now past self.old wanted.old call → Tells map.now (take_call map.now past call) self.new wanted.new) }
+        requires call { (past : Past) × (call : Call) × IsCall task (Want first count) call
+            × MayTake map.now past self.old wanted.old call }
+        ensures ok { OnOk result ((past : Past) (call : Call) → IsCall task (Want first count) call
+            → MayTake map.now past self.old wanted.old call → Tells map.now (take_call map.now past call) self.new wanted.new) }
         ensures err { OnErr result (self.new ≡ self.old) }
-        ensures blocks { (past : Past) (call : Call) → IsCall task (Want first count) call → MayTake map.now past self.old wanted.old call → HasBegun wanted.old (entries_by map.now past call) wanted.new }
+        ensures blocks { (past : Past) (call : Call) → IsCall task (Want first count) call → MayTake map.now past self.old wanted.old call
+            → HasBegun wanted.old (entries_by map.now past call) wanted.new }
     {
         let _sectors = map.count();
         want_range(
@@ -265,7 +281,8 @@ impl Sessions {
     #[tactic(auto, using(crate::proofs::Listed::listed_kept))]
     fn suspend(&mut self, wanted: &mut Wanted, task: u32)
         requires { task < length self.old }
-        ensures { (disk : Shape) (past : Past) (call : Call) → IsCall task Suspend call → Tells disk past self.old wanted.old → Tells disk (called call [] ∷ past) self.new wanted.new }
+        ensures { (disk : Shape) (past : Past) (call : Call) → IsCall task Suspend call → Tells disk past self.old wanted.old
+            → Tells disk (called call [] ∷ past) self.new wanted.new }
     {
         self.sessions[task as usize].suspended = true;
         wanted.suspend(task);
@@ -274,7 +291,8 @@ impl Sessions {
     #[tactic(auto, using(crate::proofs::Listed::listed_kept))]
     fn resume(&mut self, wanted: &mut Wanted, task: u32)
         requires { task < length self.old }
-        ensures { (disk : Shape) (past : Past) (call : Call) → IsCall task Resume call → Tells disk past self.old wanted.old → Tells disk (called call [] ∷ past) self.new wanted.new }
+        ensures { (disk : Shape) (past : Past) (call : Call) → IsCall task Resume call → Tells disk past self.old wanted.old
+            → Tells disk (called call [] ∷ past) self.new wanted.new }
     {
         self.sessions[task as usize].suspended = false;
         wanted.resume(task);
@@ -284,7 +302,8 @@ impl Sessions {
     #[tactic(auto, using(crate::proofs::Listed::listed_more, crate::proofs::Listed::listed_noted))]
     fn close(&mut self, map: &SectorMap, wanted: &mut Wanted, task: u32) -> Result<(), NoMemory>
         requires { task < length self.old }
-        ensures ok { OnOk result ((past : Past) (call : Call) → IsCall task Close call → Tells map.now past self.old wanted.old → Tells map.now (called call [] ∷ past) self.new wanted.new) }
+        ensures ok { OnOk result ((past : Past) (call : Call) → IsCall task Close call → Tells map.now past self.old wanted.old
+            → Tells map.now (called call [] ∷ past) self.new wanted.new) }
         ensures err { OnErr result ((self.new ≡ self.old) × (wanted.new ≡ wanted.old)) }
     {
         note_touch(&mut self.touched, &mut self.rewantable, task)?;
@@ -307,8 +326,11 @@ impl Sessions {
         live: &Live,
     ) -> Result<(), NoMemory>
         requires opened { task < length self.old }
-        requires call { (disk : Shape) × (past : Past) × (call : Call) × (held : List Entry) × IsCall task (Segment first blocks age live.now) call × MayTake disk past self.old held call × (length (places disk) ≤ 10 ^ 12) }
-        ensures ok { OnOk result ((disk : Shape) (past : Past) (call : Call) (held : List Entry) → IsCall task (Segment first blocks age live.now) call → MayTake disk past self.old held call → Tells disk (called call [] ∷ past) self.new held) }
+        requires call { (disk : Shape) × (past : Past) × (call : Call)
+            × (held : List Entry) × IsCall task (Segment first blocks age live.now) call × MayTake disk past self.old held call
+            × (length (places disk) ≤ 10 ^ 12) }
+        ensures ok { OnOk result ((disk : Shape) (past : Past) (call : Call) (held : List Entry) → IsCall task (Segment first blocks age
+            live.now) call → MayTake disk past self.old held call → Tells disk (called call [] ∷ past) self.new held) }
         ensures err { OnErr result (self.new ≡ self.old) }
     {
         note_touch(&mut self.touched, &mut self.rewantable, task)?;
@@ -322,7 +344,8 @@ impl Sessions {
     #[tactic(auto, using(crate::proofs::Listed::listed_more, crate::proofs::Listed::listed_noted))]
     fn touch(&mut self, task: u32) -> Result<(), NoMemory>
         requires { task < length self.old }
-        ensures ok { OnOk result ((session : Session) → slice_get self.old task ≡ Some session → self.new ≡ set self.old task (record session { touched = true })) }
+        ensures ok { OnOk result ((session : Session) → slice_get self.old task ≡ Some session
+            → self.new ≡ set self.old task (record session { touched = true })) }
         ensures err { OnErr result (self.new ≡ self.old) }
     {
         note_touch(&mut self.touched, &mut self.rewantable, task)?;
@@ -368,8 +391,10 @@ impl Sessions {
         rows: &mut BackRows,
     ) -> Result<(), NoMemory>
         requires { (past : Past) × MayChooseAndTest map.now past self.old wanted.old }
-        ensures chosen { OnOk result ((past : Past) → MayChooseAndTest map.now past self.old wanted.old → HaveChosen map.now (with_choices map.now past) self.new wanted.new
-            × (rows.new ≡ rows.old ++ flat_map (segment_rows_found (with_choices map.now past) now) (task_numbers (with_choices map.now past)))) }
+        ensures chosen { OnOk result ((past : Past) → MayChooseAndTest map.now past self.old wanted.old
+            → HaveChosen map.now (with_choices map.now past) self.new wanted.new
+            × (rows.new ≡ rows.old
+            ++ flat_map (segment_rows_found (with_choices map.now past) now) (task_numbers (with_choices map.now past)))) }
         ensures stay_sessions { OnlyTouched self.old self.new }
         ensures stay_blocks { OnlyRegisters (MayClean self.old) wanted.old wanted.new }
         ensures stay_rows { HasGrown rows.old rows.new }
@@ -388,7 +413,8 @@ impl Sessions {
     fn test_all(&mut self, wanted: &Wanted, now: Ns, rows: &mut BackRows) -> Result<(), NoMemory>
         requires { (disk : Shape) × (past : Past) × HaveChosen disk past self.old wanted.now }
         ensures tested { OnOk result ((disk : Shape) (past : Past) → HaveChosen disk past self.old wanted.now
-            → Tells disk (tested (test_rows_found past now) ∷ past) self.new wanted.now × (rows.new ≡ rows.old ++ flat_map (ends_of past now) (task_numbers past))) }
+            → Tells disk (tested (test_rows_found past now) ∷ past) self.new wanted.now
+            × (rows.new ≡ rows.old ++ flat_map (ends_of past now) (task_numbers past))) }
         ensures stay_sessions { OnlyTouched self.old self.new }
         ensures stay_rows { HasGrown rows.old rows.new }
     {

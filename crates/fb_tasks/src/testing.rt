@@ -1,5 +1,6 @@
 // What a test of completion makes of a session, and the rows that it gives.
-ghost use Rattle.std.specs.Prelude.{◌≡◌, ℕ, List, [], ◌∷◌, ◌++◌, ◌+◌, ◌<◌, ◌≤◌, ◌^◌, ◌&&◌, not, if◌then◌else◌, true, None, Some, filter, length, slice_get, OnOk, OnErr, IfOk, IfSome};
+ghost use Rattle.std.specs.Prelude.{◌≡◌, ℕ, List, [], ◌∷◌, ◌++◌, ◌+◌, ◌<◌, ◌≤◌, ◌^◌, ◌&&◌, not, if◌then◌else◌, true, None, Some, filter};
+ghost use Rattle.std.specs.Prelude.{length, slice_get, OnOk, OnErr, IfOk, IfSome};
 ghost use Rattle.fb_geometry.specs.Shape.{Shape};
 ghost use Rattle.fb_calls.specs.Sessions.{is_backup, is_clean};
 ghost use Rattle.fb_store.specs.Index.{held_at};
@@ -35,7 +36,8 @@ impl Session {
         rows: &mut BackRows,
     ) -> Result<(), NoMemory>
         ensures ok { OnOk result ((disk : Shape) (past : Past) → MayFinish disk past task self.old wanted.now
-            → (Stands (view past task) self.new) × (IsAtWork (view past task).work self.new) × (rows.new ≡ rows.old ++ segment_rows_found past now task)) }
+            → (Stands (view past task) self.new) × (IsAtWork (view past task).work self.new)
+            × (rows.new ≡ rows.old ++ segment_rows_found past now task)) }
         ensures err { OnErr result (rows.new ≡ rows.old) }
     {
         let counts = wanted.counts(task);
@@ -74,7 +76,9 @@ impl Session {
         requires added { (0 < segment) × (segment ≤ length self.old.log.segments) }
         requires chosen { self.old.log.unfinished ≡ Some segment }
         ensures session { self.new ≡ record self.old { log = record self.old.log { unfinished = None } } }
-        ensures row { OnOk result (rows.new ≡ rows.old ++ SegmentLine (record { task = task; segment = segment; instant = now; live = length (live_of self.old.log segment); content = content }) ∷ []) }
+        ensures row { OnOk result (rows.new ≡ rows.old ++ SegmentLine
+            (record { task = task; segment = segment; instant = now; live = length (live_of self.old.log segment); content = content })
+            ∷ []) }
         ensures err { OnErr result (rows.new ≡ rows.old) }
     {
         let live = self.log.live_count(segment);
@@ -99,7 +103,8 @@ impl Session {
         rows: &mut BackRows,
     ) -> Result<(), NoMemory>
         requires { (disk : Shape) × (past : Past) × HasChosen disk past task self.old wanted.now }
-        ensures tested { OnOk result ((disk : Shape) (past : Past) → HasChosen disk past task self.old wanted.now → IsTested past task now self.new rows.old rows.new) }
+        ensures tested { OnOk result ((disk : Shape) (past : Past) → HasChosen disk past task self.old wanted.now
+            → IsTested past task now self.new rows.old rows.new) }
         ensures err_rows { OnErr result ((disk : Shape) (past : Past) → HasChosen disk past task self.old wanted.now
             → HasBegun rows.old (ends_of past now task) rows.new) }
         ensures grown { HasGrown rows.old rows.new }
@@ -122,7 +127,8 @@ impl Session {
     ) -> Result<(), NoMemory>
         requires { (disk : Shape) × (past : Past) × HoldsBlocks disk past wanted.now }
         ensures session { IsSealed (complete && (is_backup self.old.kind && not self.old.sealed)) self.old self.new }
-        ensures rows { OnOk result ((disk : Shape) (past : Past) → HoldsBlocks disk past wanted.now → Stands (view past stamp.task) self.old → complete ≡ is_complete past stamp.task
+        ensures rows { OnOk result ((disk : Shape) (past : Past) → HoldsBlocks disk past wanted.now → Stands (view past stamp.task) self.old
+            → complete ≡ is_complete past stamp.task
             → rows.new ≡ rows.old ++ seal_rows_found past stamp.instant stamp.task) }
         ensures grown { HasGrown rows.old rows.new }
         ensures err { OnErr result (rows.new ≡ rows.old) }
@@ -147,7 +153,8 @@ impl Session {
         rows: &mut BackRows,
     ) -> Result<(), NoMemory>
         ensures session { self.new ≡ record self.old { complete = complete } }
-        ensures rows { OnOk result (rows.new ≡ rows.old ++ (if complete && not self.old.complete then CompleteLine (record { task = stamp.task; instant = stamp.instant }) ∷ [] else [])) }
+        ensures rows { OnOk result (rows.new ≡ rows.old ++ (if complete && not self.old.complete
+            then CompleteLine (record { task = stamp.task; instant = stamp.instant }) ∷ [] else [])) }
         ensures grown { HasGrown rows.old rows.new }
         ensures err { OnErr result (rows.new ≡ rows.old) }
     {
@@ -173,8 +180,10 @@ impl Session {
         requires blocks { (disk : Shape) × (past : Past) × HoldsBlocks disk past wanted.now }
         requires registered { registered ≡ (counts_of task wanted.now).registered }
         ensures session { IsSealed true self.old self.new }
-        ensures content { IfOk result (λ content. (disk : Shape) (past : Past) → HoldsBlocks disk past wanted.now → Stands (view past task) self.old → is_open_backup past task ≡ true → is_complete past task ≡ true
-            → content ≡ found_for (view past task).work (filter (λ block. is_delivered ((view past task).bare block)) (view past task).blocks)) }
+        ensures content { IfOk result (λ content. (disk : Shape) (past : Past) → HoldsBlocks disk past wanted.now
+            → Stands (view past task) self.old → is_open_backup past task ≡ true → is_complete past task ≡ true
+            → content
+            ≡ found_for (view past task).work (filter (λ block. is_delivered ((view past task).bare block)) (view past task).blocks)) }
     {
         self.sealed = true;
         for number in 0..registered {
@@ -185,9 +194,11 @@ impl Session {
 
     // Takes an aborted block's sectors out of the image.
     fn drop_aborted(&mut self, wanted: &Wanted, task: u32, number: u32) -> Result<(), NoMemory>
-        requires { (e : Entry) × (i : ℕ) × (slice_get wanted.now i ≡ Some e) × (is_block task number e ≡ true) × (e.block.lbn + e.block.count ≤ 10 ^ 12) }
+        requires { (e : Entry) × (i : ℕ) × (slice_get wanted.now i ≡ Some e) × (is_block task number e ≡ true)
+            × (e.block.lbn + e.block.count ≤ 10 ^ 12) }
         ensures session { self.new ≡ record self.old { image = self.new.image } }
-        ensures image { OnOk result ((e : Entry) (i lbn : ℕ) → slice_get wanted.now i ≡ Some e → is_block task number e ≡ true → held_at self.new.image lbn ≡ without_aborted e lbn (held_at self.old.image lbn)) }
+        ensures image { OnOk result ((e : Entry) (i lbn : ℕ) → slice_get wanted.now i ≡ Some e → is_block task number e ≡ true
+            → held_at self.new.image lbn ≡ without_aborted e lbn (held_at self.old.image lbn)) }
     {
         let entry = wanted.entry(task, number);
         match entry.state {

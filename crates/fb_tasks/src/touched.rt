@@ -61,8 +61,10 @@ pub fn next_touched(listed: &BTreeSet<u32>, sessions: &[Session], from: u32) -> 
     ensures found { IfSome result (λ task. contains nat_cmp listed.now task ≡ true) }
     ensures touched { IfSome result (λ task. (session : Session) → slice_get sessions.now task ≡ Some session → session.touched ≡ true) }
     ensures from { IfSome result (λ task. from ≤ task) }
-    ensures first { IfSome result (λ task. (k : ℕ) (session : Session) → from ≤ k → k < task → slice_get sessions.now k ≡ Some session → session.touched ≡ false) }
-    ensures none { IfNone result ((k : ℕ) (session : Session) → from ≤ k → slice_get sessions.now k ≡ Some session → session.touched ≡ false) }
+    ensures first { IfSome result
+        (λ task. (k : ℕ) (session : Session) → from ≤ k → k < task → slice_get sessions.now k ≡ Some session → session.touched ≡ false) }
+    ensures none { IfNone result ((k : ℕ) (session : Session) → from ≤ k → slice_get sessions.now k ≡ Some session
+        → session.touched ≡ false) }
 {
     let mut from = from;
     while let Some(task) = next_noted(listed, from) {

@@ -28,8 +28,10 @@ pub fn want_range(
     requires weight { session.now.weight ≤ 1000 }
     requires on_disk { first + count ≤ length (places map.now) }
     requires few { length wanted.old + length (cutting map.now session.now.block first count) ≤ 16000000 }
-    ensures all { OnOk result (wanted.new ≡ wanted.old ++ new_entries session.now (numbered task session.now.weight (registered task (blocks_of wanted.old)) (cutting map.now session.now.block first count))) }
-    ensures begun { HasBegun wanted.old (new_entries session.now (numbered task session.now.weight (registered task (blocks_of wanted.old)) (cutting map.now session.now.block first count))) wanted.new }
+    ensures all { OnOk result (wanted.new ≡ wanted.old ++ new_entries session.now (numbered task session.now.weight
+        (registered task (blocks_of wanted.old)) (cutting map.now session.now.block first count))) }
+    ensures begun { HasBegun wanted.old (new_entries session.now (numbered task session.now.weight (registered task (blocks_of wanted.old))
+        (cutting map.now session.now.block first count))) wanted.new }
 {
     if count == 0 {
         return Ok(());
@@ -51,7 +53,8 @@ pub fn want_range(
 
 // The task's block of that number.
 fn block_of(session: &Session, task: u32, number: u32, cut: Cut) -> Block
-    ensures { result ≡ record { task = task; number = number; lbn = cut.lbn; count = cut.count; track = cut.track; weight = session.now.weight; sweep = cut.sweep } }
+    ensures { result ≡ record { task = task; number = number; lbn = cut.lbn; count = cut.count; track = cut.track;
+        weight = session.now.weight; sweep = cut.sweep } }
 {
     Block {
         task,
@@ -77,7 +80,8 @@ pub fn want_live(
     requires added { (0 < segment) × (segment ≤ length session.now.log.segments) }
     requires on_disk { AllByRecursion (λ lbn. lbn + session.now.block ≤ length (places map.now)) (live_of session.now.log segment) }
     requires few { length wanted.old + length (cuts_of map.now session.now.block (live_of session.now.log segment)) ≤ 16000000 }
-    ensures all { OnOk result (wanted.new ≡ wanted.old ++ new_entries session.now (numbered task session.now.weight (registered task (blocks_of wanted.old)) (cuts_of map.now session.now.block (live_of session.now.log segment)))) }
+    ensures all { OnOk result (wanted.new ≡ wanted.old ++ new_entries session.now (numbered task session.now.weight
+        (registered task (blocks_of wanted.old)) (cuts_of map.now session.now.block (live_of session.now.log segment)))) }
     ensures own { OnlyRegisters (λ other. other ≡ task) wanted.old wanted.new }
 {
     for i in 0..session.log.live_count(segment) {

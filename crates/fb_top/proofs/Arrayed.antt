@@ -15,7 +15,8 @@ use Rattle.fb_desk.specs.declared.desk.Output.TheVariants.{Fore, Back, Copied, N
 use Rattle.fb_words.specs.Command.{ArrayTerms, RebuildTerms}
 use Rattle.fb_top.specs.declared.outcome.Outcome.{Outcome}
 use Rattle.fb_top.specs.declared.outcome.Outcome.TheVariants as outcomes
-use Rattle.fb_top.specs.Array.{AreRunsOf, ArrayHasCause, IsArrayCut, IsArrayed, IsRunOfDevice, array_texts, rebuild_texts, replacement, sectors_of, survivor}
+use Rattle.fb_top.specs.Array.{AreRunsOf, ArrayHasCause, IsArrayCut, IsArrayed, IsRunOfDevice, array_texts, rebuild_texts, replacement}
+use Rattle.fb_top.specs.Array.{sectors_of, survivor}
 use Rattle.fb_top.specs.Causes.{RunsOut}
 use Rattle.fb_top.specs.Devices.{Array, StopsArray, is_rebuilt_from}
 use Rattle.fb_top.specs.Sources.{array_inputs}
@@ -24,43 +25,54 @@ use Rattle.fb_top.specs.Written.{KeepsReports, StopsTexts, Text, WritesAll, join
 use Rattle.fb_top.proofs.Texts.{stops_texts, writes_all}
 
 -- what holds of the outputs of a rebuild holds of the texts that it asks for
-all_rebuild : (P : Output → Type 0) (terms : ArrayTerms) (array : Array) (rebuild : Option RebuildTerms) (run : Option Run) → P Back → P Copied → AllByRecursion (λ text. P text.output) (rebuild_texts terms array rebuild run)
+all_rebuild : (P : Output → Type 0) (terms : ArrayTerms) (array : Array) (rebuild : Option RebuildTerms) (run : Option Run) → P Back
+    → P Copied → AllByRecursion (λ text. P text.output) (rebuild_texts terms array rebuild run)
 all_rebuild P terms array (Some rebuild) (Some run) back copied = (back, (copied, tt))
 all_rebuild P terms array (Some rebuild) None back copied = tt
 all_rebuild P terms array None (Some run) back copied = tt
 all_rebuild P terms array None None back copied = tt
 
-pub rebuild_apart : (terms : ArrayTerms) (array : Array) (runs : List Run) → AllByRecursion (λ text. Fore ≢ text.output) (rebuild_texts terms array terms.rebuild (survivor terms.rebuild runs))
-rebuild_apart terms array runs = all_rebuild (λ output. Fore ≢ output) terms array terms.rebuild (survivor terms.rebuild runs) (λ e. cc) (λ e. cc)
+pub rebuild_apart : (terms : ArrayTerms) (array : Array) (runs : List Run)
+    → AllByRecursion (λ text. Fore ≢ text.output) (rebuild_texts terms array terms.rebuild (survivor terms.rebuild runs))
+rebuild_apart terms array runs =
+    all_rebuild (λ output. Fore ≢ output) terms array terms.rebuild (survivor terms.rebuild runs) (λ e. cc) (λ e. cc)
 
 -- no text of an array is the note
-pub texts_no_note : (terms : ArrayTerms) (array : Array) (runs : List Run) → AllByRecursion (λ text. text.output ≢ Note) (array_texts terms array runs)
-texts_no_note terms array runs = (λ e. cc, all_rebuild (λ output. output ≢ Note) terms array terms.rebuild (survivor terms.rebuild runs) (λ e. cc) (λ e. cc))
+pub texts_no_note : (terms : ArrayTerms) (array : Array) (runs : List Run)
+    → AllByRecursion (λ text. text.output ≢ Note) (array_texts terms array runs)
+texts_no_note terms array runs =
+    (λ e. cc, all_rebuild (λ output. output ≢ Note) terms array terms.rebuild (survivor terms.rebuild runs) (λ e. cc) (λ e. cc))
 
 -- the first desk keeps the reports of one before it, and one after the second keeps those of the second
-module _ (terms : ArrayTerms) (old mid late new : DeskView) (runs : List Run) (are_runs : AreRunsOf old terms runs) (first : KeepsReports old mid) (last : KeepsReports late new) where
-  pub arrayed : (copy : Option Rebuilt) → copy ≡ option_map (replacement (sectors_of are_runs.array)) (survivor terms.rebuild runs) → WritesAll (array_texts terms are_runs.array runs) mid late → IsArrayed old new terms runs copy
+module _ (terms : ArrayTerms) (old mid late new : DeskView) (runs : List Run) (are_runs : AreRunsOf old terms runs)
+    (first : KeepsReports old mid) (last : KeepsReports late new) where
+  pub arrayed : (copy : Option Rebuilt) → copy ≡ option_map (replacement (sectors_of are_runs.array)) (survivor terms.rebuild runs)
+      → WritesAll (array_texts terms are_runs.array runs) mid late → IsArrayed old new terms runs copy
   arrayed copy copied wrote = record {
     are_runs = are_runs;
     copied = copied;
     texts = writes_all old mid late new first last (array_texts terms are_runs.array runs) (texts_no_note terms are_runs.array runs) wrote;
   }
 
-  pub array_cut : (outcome : Outcome) → StopsTexts (array_texts terms are_runs.array runs) mid late outcome → IsArrayCut old new terms outcome
+  pub array_cut : (outcome : Outcome) → StopsTexts (array_texts terms are_runs.array runs) mid late outcome
+      → IsArrayCut old new terms outcome
   array_cut outcome h = record {
     runs = runs;
     are_runs = are_runs;
-    stops = stops_texts old mid late new first last (array_texts terms are_runs.array runs) (texts_no_note terms are_runs.array runs) outcome h;
+    stops =
+        stops_texts old mid late new first last (array_texts terms are_runs.array runs) (texts_no_note terms are_runs.array runs) outcome h;
   }
 
   -- why the texts were not written
-  pub at_texts : (outcome : Outcome) → StopsTexts (array_texts terms are_runs.array runs) mid late outcome → ArrayHasCause terms old new outcome
+  pub at_texts : (outcome : Outcome) → StopsTexts (array_texts terms are_runs.array runs) mid late outcome
+      → ArrayHasCause terms old new outcome
   at_texts (outcomes.WriteFault output) h = array_cut (outcomes.WriteFault output) h
   at_texts outcomes.NoMemory h = inr (array_cut outcomes.NoMemory h)
   at_texts _ h = absurd h
 
 -- why the inputs were not accepted
-pub array_stopped : (terms : ArrayTerms) (old new : DeskView) (outcome : Outcome) → StopsArray terms old new outcome → ArrayHasCause terms old new outcome
+pub array_stopped : (terms : ArrayTerms) (old new : DeskView) (outcome : Outcome) → StopsArray terms old new outcome
+    → ArrayHasCause terms old new outcome
 array_stopped terms old new outcomes.NoMemory h = inl h
 array_stopped terms old new (outcomes.Arrayed runs copy) h = absurd h
 array_stopped terms old new (outcomes.WriteFault output) h = absurd h
@@ -80,7 +92,8 @@ ran_out {array = array} takes = record {
 
 -- the runs of files that were taken
 abbrev pub runs_taken : {terms : ArrayTerms} {array : Array} {old new : DeskView} → TakesArray terms array old new → (runs : List Run)
-    → length runs ≡ terms.devices → ((device : ℕ) (run : Run) → slice_get runs device ≡ Some run → IsRunOfDevice terms array device run) → AreRunsOf old terms runs
+    → length runs ≡ terms.devices → ((device : ℕ) (run : Run) → slice_get runs device ≡ Some run → IsRunOfDevice terms array device run)
+    → AreRunsOf old terms runs
 runs_taken {array = array} takes runs count each =
     record { array = array; accepts = takes.accepts; sound = takes.sound; count = count; each = each }
 
@@ -95,13 +108,23 @@ module _ (terms : ArrayTerms) (array : Array) (rebuild : RebuildTerms) (run : Ru
       ∷ record { output = Copied; name = rebuild.copy; text = joined (copy_lines copy sectors) }
       ∷ []
 
-  pub rebuild_told : (given : Option RebuildTerms) (there : Option Run) (copy : Rebuilt) → given ≡ Some rebuild → there ≡ Some run → Some copy ≡ option_map (replacement (sectors_of array)) there
+  pub rebuild_told : (given : Option RebuildTerms) (there : Option Run) (copy : Rebuilt) → given ≡ Some rebuild → there ≡ Some run
+      → Some copy ≡ option_map (replacement (sectors_of array)) there
       → told copy ≡ rebuild_texts terms array given there
   rebuild_told given there copy is at made =
       subst (λ (r : Option RebuildTerms). told copy ≡ rebuild_texts terms array r there) (sym is)
-      (subst (λ (o : Option Run). Some copy ≡ option_map (replacement (sectors_of array)) o → told copy ≡ rebuild_texts terms array (Some rebuild) o) (sym at) (λ same.
-      ap (λ n. record { output = Back; name = rebuild.back; text = back_text array.script.names array.disk.sector_bytes terms.bytes run } ∷ record { output = Copied; name = rebuild.copy; text = joined (copy_lines copy n) } ∷ []) are
-      ∙ ap (λ c. record { output = Back; name = rebuild.back; text = back_text array.script.names array.disk.sector_bytes terms.bytes run } ∷ record { output = Copied; name = rebuild.copy; text = joined (copy_lines c (sectors_of array)) } ∷ [])
+      (subst (λ (o : Option Run). Some copy ≡ option_map (replacement (sectors_of array)) o
+      → told copy ≡ rebuild_texts terms array (Some rebuild) o) (sym at) (λ same.
+      ap (λ n. record {
+        output = Back;
+        name = rebuild.back;
+        text = back_text array.script.names array.disk.sector_bytes terms.bytes run;
+      } ∷ record { output = Copied; name = rebuild.copy; text = joined (copy_lines copy n) } ∷ []) are
+      ∙ ap (λ c. record {
+        output = Back;
+        name = rebuild.back;
+        text = back_text array.script.names array.disk.sector_bytes terms.bytes run;
+      } ∷ record { output = Copied; name = rebuild.copy; text = joined (copy_lines c (sectors_of array)) } ∷ [])
       (one_copy copy (replacement (sectors_of array) run) same)) made)
 
 -- the rebuild is made from its device

@@ -13,7 +13,8 @@ use Rattle.fb_desk.specs.declared.desk.Output.TheVariants.{Fore}
 use Rattle.fb_words.specs.Command.{CheckTerms}
 use Rattle.fb_top.specs.declared.outcome.Outcome.{Outcome}
 use Rattle.fb_top.specs.declared.outcome.Outcome.TheVariants as outcomes
-use Rattle.fb_top.specs.Causes.{AcceptsBefore, AcceptsFiles, AcceptsFore, CheckHasCause, EndsAt, KeepsLater, RefusesReportInTurn, StopsInputs, StopsPrinted, StopsReport, input_of}
+use Rattle.fb_top.specs.Causes.{AcceptsBefore, AcceptsFiles, AcceptsFore, CheckHasCause, EndsAt, KeepsLater, RefusesReportInTurn}
+use Rattle.fb_top.specs.Causes.{StopsInputs, StopsPrinted, StopsReport, input_of}
 use Rattle.fb_top.specs.Checked.{ChangesPrinted, IsVerdictCut, IsVerdictOf, JudgesBy, verdict_line}
 use Rattle.fb_top.specs.Read.{Files, ReadsReport, RefusesReport}
 use Rattle.fb_top.specs.Sources.{check_inputs, check_sources, files_alone, name_of}
@@ -32,11 +33,13 @@ module _ (terms : CheckTerms) (old new : DeskView) where
   check_stopped _ h = h
 
   -- why the files were not read
-  pub check_files_stopped : (outcome : Outcome) → StopsInputs (files_alone (check_sources terms)) old new outcome → CheckHasCause terms old new outcome
+  pub check_files_stopped : (outcome : Outcome) → StopsInputs (files_alone (check_sources terms)) old new outcome
+      → CheckHasCause terms old new outcome
   check_files_stopped outcome h = check_stopped outcome (files_stopped (check_inputs terms) old new outcome h)
 
 -- the files were read, and then the reports
-module _ (terms : CheckTerms) (old mid new : DeskView) (held : (name : List ℕ) → mid.held name ≡ old.held name) (outputs : KeepsOutputs old mid) (only : ChangesPrinted mid new) where
+module _ (terms : CheckTerms) (old mid new : DeskView) (held : (name : List ℕ) → mid.held name ≡ old.held name)
+    (outputs : KeepsOutputs old mid) (only : ChangesPrinted mid new) where
   report_before : (name : List ℕ) (grammar : Grammar) (lines : List (List ℕ)) → ReadsReport mid name grammar lines
       → ReadsReport old name grammar lines
   report_before name grammar lines reads = record { reads = reads_before (held name) reads.reads; whole = reads.whole }
@@ -69,15 +72,18 @@ module _ (terms : CheckTerms) (old mid new : DeskView) (held : (name : List ℕ)
         record { files = files; name = terms.fore; given = refl; lines = lines; reads_fore = reads_fore }
 
     -- the report that is refused is this one
-    in_turn : (report here : Report) (line : ℕ) (name : List ℕ) → report ≡ here → AcceptsBefore old (check_inputs terms) (input_of here) → name_of (check_inputs terms) (input_of here) ≡ Some name
+    in_turn : (report here : Report) (line : ℕ) (name : List ℕ) → report ≡ here → AcceptsBefore old (check_inputs terms) (input_of here)
+        → name_of (check_inputs terms) (input_of here) ≡ Some name
         → RefusesReport old name (grammar_of here) line → EndsAt (input_of here) old new
         → RefusesReportInTurn old (check_inputs terms) (record { report = report; line = line }) × EndsAt (input_of report) old new
     in_turn report here line name is before given refuses ends =
-        subst (λ (r : Report). RefusesReportInTurn old (check_inputs terms) (record { report = r; line = line }) × EndsAt (input_of r) old new) (sym is)
+        subst (λ (r : Report). RefusesReportInTurn old (check_inputs terms) (record { report = r; line = line })
+        × EndsAt (input_of r) old new) (sym is)
         (record { before = before; name = name; given = given; refuses = refuses }, ends)
 
     -- why the foreground report was not read
-    fore_stopped : (outcome : Outcome) → StopsReport reports.Fore terms.fore mid new outcome → KeepsLater ForeReport mid new → CheckHasCause terms old new outcome
+    fore_stopped : (outcome : Outcome) → StopsReport reports.Fore terms.fore mid new outcome → KeepsLater ForeReport mid new
+        → CheckHasCause terms old new outcome
     fore_stopped (outcomes.Reports fault) h later =
         in_turn fault.report reports.Fore fault.line terms.fore h.0 files refl (reads_before (held terms.fore) h.1) (ends_fore later)
     fore_stopped outcome h later =
@@ -85,7 +91,8 @@ module _ (terms : CheckTerms) (old mid new : DeskView) (held : (name : List ℕ)
         (held terms.fore) untouched.0 (ends_fore later) outcome h)
 
     -- or the background report
-    back_stopped : (outcome : Outcome) → AcceptsFore old (check_inputs terms) → StopsReport reports.Back terms.back mid new outcome → CheckHasCause terms old new outcome
+    back_stopped : (outcome : Outcome) → AcceptsFore old (check_inputs terms) → StopsReport reports.Back terms.back mid new outcome
+        → CheckHasCause terms old new outcome
     back_stopped (outcomes.Reports fault) before h =
         in_turn fault.report reports.Back fault.line terms.back h.0 before refl (reads_before (held terms.back) h.1) ends_back
     back_stopped outcome before h =
@@ -109,7 +116,8 @@ verdict_taken {terms} {files} {old} {mid} takes late only verdict judges = recor
 }
 
 -- and then the line was written
-module _ (terms : CheckTerms) (old mid new : DeskView) (verdict : Verdict) (is_verdict : IsVerdictOf old terms verdict) (outputs : KeepsOutputs old mid) (only : ChangesOutput Fore mid new) where
+module _ (terms : CheckTerms) (old mid new : DeskView) (verdict : Verdict) (is_verdict : IsVerdictOf old terms verdict)
+    (outputs : KeepsOutputs old mid) (only : ChangesOutput Fore mid new) where
   pub but_fore : KeepsBut Fore old new
   but_fore = λ output no_fore no_note. only.outputs output no_fore ∙ outputs output
 
@@ -118,11 +126,13 @@ module _ (terms : CheckTerms) (old mid new : DeskView) (verdict : Verdict) (is_v
     verdict = verdict;
     is_verdict = is_verdict;
     others = but_fore;
-    stops = stops_text old mid new new (λ output no_note. outputs output) (λ output no_note. refl) Fore (codes "-") (verdict_line verdict) outcome fore_is_no_note stops;
+    stops = stops_text old mid new new (λ output no_note. outputs output) (λ output no_note. refl) Fore (codes "-")
+        (verdict_line verdict) outcome fore_is_no_note stops;
   }
 
   -- or not
-  pub line_stopped : (outcome : Outcome) → StopsText Fore (codes "-") (verdict_line verdict) mid new outcome → CheckHasCause terms old new outcome
+  pub line_stopped : (outcome : Outcome) → StopsText Fore (codes "-") (verdict_line verdict) mid new outcome
+      → CheckHasCause terms old new outcome
   line_stopped (outcomes.WriteFault output) h = cut (outcomes.WriteFault output) h
   line_stopped outcomes.NoMemory h = inr (cut outcomes.NoMemory h)
   line_stopped _ h = absurd h

@@ -1,5 +1,6 @@
 -- A replay that goes well is made.
-use Rattle.std.proofs.Common.{◌≡◌, ℕ, ◌<◌, ◌≤◌, ◌^◌, List, length, Option, Some, None, true, refl, sym, ap, subst, ◌∙◌, arith, Result, Ok, Err, inl, inr}
+use Rattle.std.proofs.Common.{◌≡◌, ℕ, ◌<◌, ◌≤◌, ◌^◌, List, length, Option, Some, None, true, refl, sym, ap, subst, ◌∙◌, arith, Result, Ok}
+use Rattle.std.proofs.Common.{Err, inl, inr}
 use Rattle.std.specs.Prelude.{IfSome, is_some}
 use Rattle.fb_geometry.specs.Shape.{Shape}
 use Rattle.fb_geometry.specs.Places.{places}
@@ -32,7 +33,8 @@ use Rattle.fb_top.specs.Read.{ReadsDisk, RefusesDisk, RefusesReport, ReadsCalls,
 use Rattle.fb_top.specs.Streams.{IsLonger}
 use Rattle.fb_top.specs.Done.{IsCutShort}
 use Rattle.fb_top.specs.Spilled.{IsSpillCut}
-use Rattle.fb_top.specs.Causes.{AcceptsDisk, AcceptsTrace, CheckHasCause, HasCause, IsCut, IsTooLong, RefusesTraceInTurn, RefusesCallsInTurn, RefusesPutsInTurn, RefusesReportInTurn, StopsInputs}
+use Rattle.fb_top.specs.Causes.{AcceptsDisk, AcceptsTrace, CheckHasCause, HasCause, IsCut, IsTooLong, RefusesTraceInTurn}
+use Rattle.fb_top.specs.Causes.{RefusesCallsInTurn, RefusesPutsInTurn, RefusesReportInTurn, StopsInputs}
 use Rattle.fb_top.specs.Answers.{AnswersWords}
 use Rattle.fb_top.specs.Make.{MakeHasCause, MakeGoesWell, MakesAll}
 use Rattle.fb_top.specs.Devices.{ReadsRebuild, RefusesDeviceInTurn, RefusesRebuild, RefusesRebuildInTurn}
@@ -43,7 +45,8 @@ use Rattle.fb_top.proofs.Texts.{cut_is_no_note}
 use Rattle.fb_top.proofs.Unnamed.{is_named}
 
 -- the bytes under a name are told once
-same_bytes : (told : Option (List ℕ)) (one two : List ℕ) → is_some told ≡ true → IfSome told (λ held. one ≡ held) → IfSome told (λ held. two ≡ held) → one ≡ two
+same_bytes : (told : Option (List ℕ)) (one two : List ℕ) → is_some told ≡ true → IfSome told (λ held. one ≡ held)
+    → IfSome told (λ held. two ≡ held) → one ≡ two
 same_bytes (Some held) one two is one_is two_is = one_is ∙ sym two_is
 same_bytes None one two is one_is two_is = cc
 
@@ -53,7 +56,8 @@ not_both verdict a e ok err = cc
 same_name : (one two : List ℕ) → ◌≡◌ {A = Option (List ℕ)} (Some one) (Some two) → one ≡ two
 same_name one two e = cc
 
-not_longer : (told : Option (List ℕ)) (bytes : List ℕ) (limit : ℕ) → is_some told ≡ true → IfSome told (λ held. bytes ≡ held) → length bytes ≤ limit → IfSome told (λ held. limit < length held) → ⊥
+not_longer : (told : Option (List ℕ)) (bytes : List ℕ) (limit : ℕ) → is_some told ≡ true → IfSome told (λ held. bytes ≡ held)
+    → length bytes ≤ limit → IfSome told (λ held. limit < length held) → ⊥
 not_longer (Some held) bytes limit is same within longer =
     let few : length held ≤ limit = subst (λ (x : List ℕ). length x ≤ limit) same within in absurd (omega arith)
 not_longer None bytes limit is same within longer = cc
@@ -62,7 +66,8 @@ pub same_ok : {A E : Type 0} (verdict : Result A E) (a b : A) → verdict ≡ Ok
 same_ok verdict a b e f = cc
 
 -- a disk that is accepted is not refused, and is read once
-module _ (desk : DeskView) (name : List ℕ) (disk : Disk) (latent : List ℕ) (told : is_some (desk.held name) ≡ true) (reads : ReadsDisk desk name disk latent) where
+module _ (desk : DeskView) (name : List ℕ) (disk : Disk) (latent : List ℕ) (told : is_some (desk.held name) ≡ true)
+    (reads : ReadsDisk desk name disk latent) where
   not_refused : (fault : ParamsFault) → RefusesDisk desk name fault → ⊥
   not_refused fault refuses =
       not_both (params_of reads.bytes) _ fault reads.spells
@@ -75,7 +80,8 @@ module _ (desk : DeskView) (name : List ℕ) (disk : Disk) (latent : List ℕ) (
       (ap params_of (same_bytes (desk.held name) reads.bytes again.bytes told reads.held again.held) ∙ again.spells))
 
 -- a script is read once for a disk and a number of requests
-one_script : (desk : DeskView) (given : Option (List ℕ)) (disk other : Disk) (traced others : ℕ) (script script' : Script) → IfSome given (λ name. is_some (desk.held name) ≡ true) → disk.map ≡ other.map → traced ≡ others
+one_script : (desk : DeskView) (given : Option (List ℕ)) (disk other : Disk) (traced others : ℕ) (script script' : Script)
+    → IfSome given (λ name. is_some (desk.held name) ≡ true) → disk.map ≡ other.map → traced ≡ others
     → ReadsScript desk given disk traced script → ReadsScript desk given other others script' → script ≡ script'
 one_script desk None disk other traced others script script' told same same_traced reads again = reads ∙ sym again
 one_script desk (Some name) disk other traced others script script' told same same_traced reads again =
@@ -88,22 +94,27 @@ one_script desk (Some name) disk other traced others script script' told same sa
 -- what is accepted is not refused
 module _ (old new : DeskView) (terms : InputTerms) (well : ReadsWell old new terms) where
   disk_once : (fault : ParamsFault) → RefusesDisk old terms.sources.params fault → ⊥
-  disk_once fault refuses = not_refused old terms.sources.params well.files.disk well.files.latent well.params_told well.accepts.disk fault refuses
+  disk_once fault refuses =
+      not_refused old terms.sources.params well.files.disk well.files.latent well.params_told well.accepts.disk fault refuses
 
   same_map : (other : AcceptsDisk old terms.sources.params) → well.files.disk.map ≡ other.disk.map
   same_map other = one_map old terms.sources.params well.files.disk well.files.latent well.params_told well.accepts.disk other
 
   -- bytes of a trace spell the same on the same disk
-  same_trace : (other : AcceptsDisk old terms.sources.params) (bytes : List ℕ) → IfSome (old.held terms.sources.trace) (λ held. bytes ≡ held)
-      → trace_of terms.sources.device (length (places well.files.disk.map)) well.accepts.trace.bytes ≡ trace_of terms.sources.device (length (places other.disk.map)) bytes
+  same_trace : (other : AcceptsDisk old terms.sources.params) (bytes : List ℕ)
+      → IfSome (old.held terms.sources.trace) (λ held. bytes ≡ held)
+      → trace_of terms.sources.device (length (places well.files.disk.map)) well.accepts.trace.bytes
+      ≡ trace_of terms.sources.device (length (places other.disk.map)) bytes
   same_trace other bytes held =
       let trace = well.accepts.trace in
       ap (λ map. trace_of terms.sources.device (length (places map)) trace.bytes) (same_map other)
-      ∙ ap (trace_of terms.sources.device (length (places other.disk.map))) (same_bytes (old.held terms.sources.trace) trace.bytes bytes well.trace_told trace.held held)
+      ∙ ap (trace_of terms.sources.device (length (places other.disk.map)))
+      (same_bytes (old.held terms.sources.trace) trace.bytes bytes well.trace_told trace.held held)
 
   trace_once : (fault : TraceFault) → RefusesTraceInTurn old terms.sources fault → ⊥
   trace_once fault turn =
-      not_both (trace_of terms.sources.device (length (places well.files.disk.map)) well.accepts.trace.bytes) _ fault well.accepts.trace.spells
+      not_both (trace_of terms.sources.device (length (places well.files.disk.map)) well.accepts.trace.bytes) _ fault
+      well.accepts.trace.spells
       (same_trace turn.before turn.refuses.bytes turn.refuses.held ∙ turn.refuses.spells)
 
   same_requests : (other : AcceptsTrace old terms.sources) → well.files.trace ≡ other.trace
@@ -112,9 +123,11 @@ module _ (old new : DeskView) (terms : InputTerms) (well : ReadsWell old new ter
       (same_trace other.params other.reads_trace.bytes other.reads_trace.held ∙ other.reads_trace.spells)
 
   -- the script under the name that is given
-  script_under : (name : List ℕ) → terms.sources.calls ≡ Some name → ReadsCalls old name well.files.disk (length well.files.trace.requests) well.files.script
+  script_under : (name : List ℕ) → terms.sources.calls ≡ Some name
+      → ReadsCalls old name well.files.disk (length well.files.trace.requests) well.files.script
   script_under name given =
-      subst (λ (told : Option (List ℕ)). ReadsScript old told well.files.disk (length well.files.trace.requests) well.files.script) given well.accepts.script
+      subst (λ (told : Option (List ℕ)). ReadsScript old told well.files.disk (length well.files.trace.requests) well.files.script) given
+      well.accepts.script
 
   told_under : (name : List ℕ) → terms.sources.calls ≡ Some name → is_some (old.held name) ≡ true
   told_under name given = subst (λ (told : Option (List ℕ)). IfSome told (λ n. is_some (old.held n) ≡ true)) given well.calls_told
@@ -139,13 +152,24 @@ module _ (old new : DeskView) (terms : InputTerms) (well : ReadsWell old new ter
       let again = turn.before.accepts in
       let disk : AcceptsDisk old terms.sources.params = record { disk = others.disk; latent = others.latent; reads_disk = again.disk } in
       let trace = same_requests (record { params = disk; trace = others.trace; reads_trace = again.trace }) in
-      let script = one_script old terms.sources.calls files.disk others.disk _ _ files.script others.script well.calls_told (same_map disk) (ap (λ t. length t.requests) trace) well.accepts.script again.script in
+      let script = one_script old terms.sources.calls files.disk others.disk _ _ files.script others.script well.calls_told (same_map disk)
+      (ap (λ t. length t.requests) trace) well.accepts.script again.script in
       let tells = puts_tells turn.name turn.given in
       not_both (puts_of (puts_terms files) tells.reads.bytes) tells.puts fault tells.reads.spells
-      (ap (λ map. puts_of (record { sectors = length (places map); asked = asked files.trace.requests files.script.calls }) tells.reads.bytes) (same_map disk)
-      ∙ ap (λ t. puts_of (record { sectors = length (places others.disk.map); asked = asked t.requests files.script.calls }) tells.reads.bytes) trace
-      ∙ ap (λ s. puts_of (record { sectors = length (places others.disk.map); asked = asked others.trace.requests s.calls }) tells.reads.bytes) script
-      ∙ ap (puts_of (puts_terms others)) (same_bytes (old.held turn.name) tells.reads.bytes turn.refuses.bytes tells.told tells.reads.held turn.refuses.held)
+      (ap (λ map. puts_of (record {
+        sectors = length (places map);
+        asked = asked files.trace.requests files.script.calls;
+      }) tells.reads.bytes) (same_map disk)
+      ∙ ap (λ t. puts_of (record {
+        sectors = length (places others.disk.map);
+        asked = asked t.requests files.script.calls;
+      }) tells.reads.bytes) trace
+      ∙ ap (λ s. puts_of (record {
+        sectors = length (places others.disk.map);
+        asked = asked others.trace.requests s.calls;
+      }) tells.reads.bytes) script
+      ∙ ap (puts_of (puts_terms others))
+      (same_bytes (old.held turn.name) tells.reads.bytes turn.refuses.bytes tells.told tells.reads.held turn.refuses.held)
       ∙ turn.refuses.spells)
 
   fore_tells : (name : List ℕ) → terms.fore ≡ Some name → TellsReport old fore_grammar name
@@ -157,7 +181,8 @@ module _ (old new : DeskView) (terms : InputTerms) (well : ReadsWell old new ter
   report_once : (grammar : Grammar) (name : List ℕ) (line : ℕ) → TellsReport old grammar name → RefusesReport old name grammar line → ⊥
   report_once grammar name line tells refuses =
       not_both (report_of grammar tells.reads.reads.bytes) tells.lines line tells.reads.reads.spells
-      (ap (report_of grammar) (same_bytes (old.held name) tells.reads.reads.bytes refuses.bytes tells.told tells.reads.reads.held refuses.held) ∙ refuses.spells)
+      (ap (report_of grammar) (same_bytes (old.held name) tells.reads.reads.bytes refuses.bytes tells.told tells.reads.reads.held
+      refuses.held) ∙ refuses.spells)
 
   reports_once : (report : Report) (line : ℕ) → RefusesReportInTurn old terms (record { report = report; line = line }) → ⊥
   reports_once reports.Fore line turn = report_once fore_grammar turn.name line (fore_tells turn.name turn.given) turn.refuses
@@ -165,16 +190,22 @@ module _ (old new : DeskView) (terms : InputTerms) (well : ReadsWell old new ter
 
   not_too_long : (input : Input) → IsTooLong old terms input → ⊥
   not_too_long Params long =
-      not_longer (old.held terms.sources.params) well.accepts.disk.bytes (2 ^ 20) well.params_told well.accepts.disk.held well.accepts.disk.within
+      not_longer (old.held terms.sources.params) well.accepts.disk.bytes
+      (2 ^ 20) well.params_told well.accepts.disk.held well.accepts.disk.within
       (subst (λ (name : List ℕ). IsLonger old name (2 ^ 20)) (sym (same_name terms.sources.params long.name long.given)) long.longer)
   not_too_long Trace long =
-      not_longer (old.held terms.sources.trace) well.accepts.trace.bytes (2 ^ 28) well.trace_told well.accepts.trace.held well.accepts.trace.within
+      not_longer (old.held terms.sources.trace) well.accepts.trace.bytes
+      (2 ^ 28) well.trace_told well.accepts.trace.held well.accepts.trace.within
       (subst (λ (name : List ℕ). IsLonger old name (2 ^ 28)) (sym (same_name terms.sources.trace long.name long.given)) long.longer)
   not_too_long Calls long =
-      let reads = script_under long.name long.given in not_longer (old.held long.name) reads.bytes (2 ^ 26) (told_under long.name long.given) reads.held reads.within long.longer
-  not_too_long Puts long = let tells = puts_tells long.name long.given in not_longer (old.held long.name) tells.reads.bytes (2 ^ 26) tells.told tells.reads.held tells.reads.within long.longer
-  not_too_long ForeReport long = let tells = fore_tells long.name long.given in not_longer (old.held long.name) tells.reads.reads.bytes (2 ^ 28) tells.told tells.reads.reads.held tells.reads.reads.within long.longer
-  not_too_long BackReport long = let tells = back_tells long.name long.given in not_longer (old.held long.name) tells.reads.reads.bytes (2 ^ 28) tells.told tells.reads.reads.held tells.reads.reads.within long.longer
+      let reads = script_under long.name long.given in
+      not_longer (old.held long.name) reads.bytes (2 ^ 26) (told_under long.name long.given) reads.held reads.within long.longer
+  not_too_long Puts long = let tells = puts_tells long.name long.given in
+      not_longer (old.held long.name) tells.reads.bytes (2 ^ 26) tells.told tells.reads.held tells.reads.within long.longer
+  not_too_long ForeReport long = let tells = fore_tells long.name long.given in not_longer (old.held long.name) tells.reads.reads.bytes
+      (2 ^ 28) tells.told tells.reads.reads.held tells.reads.reads.within long.longer
+  not_too_long BackReport long = let tells = back_tells long.name long.given in not_longer (old.held long.name) tells.reads.reads.bytes
+      (2 ^ 28) tells.told tells.reads.reads.held tells.reads.reads.within long.longer
 
   -- no input stops what goes well, but memory may
   pub goes_on : (outcome : Outcome) → StopsInputs terms old new outcome → outcome ≡ outcomes.NoMemory
@@ -227,11 +258,14 @@ module _ (old new : DeskView) (terms : CheckTerms) (well : CheckGoesWell old new
   judged outcomes.NoMemory cause = tt
   judged outcome cause = check_stopped outcome cause
 
-made_texts : (old new : DeskView) (terms : MakeTerms) (outcome : Outcome) → MakeHasCause terms old new outcome → MakeGoesWell old new terms → MakesAll terms outcome
+made_texts : (old new : DeskView) (terms : MakeTerms) (outcome : Outcome) → MakeHasCause terms old new outcome → MakeGoesWell old new terms
+    → MakesAll terms outcome
 made_texts old new terms (outcomes.Made n) cause well = cause.count
-made_texts old new terms (outcomes.Params fault) cause well = not_refused old terms.params well.makes.disk well.makes.latent well.params_told well.makes.reads_disk fault cause.0
+made_texts old new terms (outcomes.Params fault) cause well =
+    not_refused old terms.params well.makes.disk well.makes.latent well.params_told well.makes.reads_disk fault cause.0
 made_texts old new terms (outcomes.TooLong Params) cause well =
-    not_longer (old.held terms.params) well.makes.reads_disk.bytes (2 ^ 20) well.params_told well.makes.reads_disk.held well.makes.reads_disk.within cause.0
+    not_longer (old.held terms.params) well.makes.reads_disk.bytes
+    (2 ^ 20) well.params_told well.makes.reads_disk.held well.makes.reads_disk.within cause.0
 made_texts old new terms (outcomes.ReadFault Params) cause well = well.params cause.0
 made_texts old new terms (outcomes.WriteFault MadeTrace) cause well = absurd (well.trace cause.0)
 made_texts old new terms (outcomes.WriteFault MadeCalls) cause well = absurd (well.calls cause.0)
@@ -248,22 +282,27 @@ module _ (old new : DeskView) (terms : ArrayTerms) (well : ArrayGoesWell old new
       let reads = well.accepts.traces in
       not_both (traces_of terms.devices (length (places well.array.disk.map)) reads.bytes) _ fault reads.spells
       (ap (λ map. traces_of terms.devices (length (places map)) reads.bytes) (array_map turn.before)
-      ∙ ap (traces_of terms.devices (length (places turn.before.disk.map))) (same_bytes (old.held terms.trace) reads.bytes turn.refuses.bytes well.trace_told reads.held turn.refuses.held)
+      ∙ ap (traces_of terms.devices (length (places turn.before.disk.map)))
+      (same_bytes (old.held terms.trace) reads.bytes turn.refuses.bytes well.trace_told reads.held turn.refuses.held)
       ∙ turn.refuses.spells)
 
-  rebuild_once : (rebuild : Option RebuildTerms) (fault : CallsFault) → is_some rebuild ≡ true → ReadsRebuild rebuild well.array.disk.map well.array.script → RefusesRebuild well.array.disk.map fault → ⊥
-  rebuild_once (Some rebuild) fault given reads refuses = not_both (calls_of well.array.disk.map 0 (rebuild_text well.array.disk.map)) well.array.script fault (reads 0) (refuses.spells 0)
+  rebuild_once : (rebuild : Option RebuildTerms) (fault : CallsFault) → is_some rebuild ≡ true
+      → ReadsRebuild rebuild well.array.disk.map well.array.script → RefusesRebuild well.array.disk.map fault → ⊥
+  rebuild_once (Some rebuild) fault given reads refuses =
+      not_both (calls_of well.array.disk.map 0 (rebuild_text well.array.disk.map)) well.array.script fault (reads 0) (refuses.spells 0)
   rebuild_once None fault given reads refuses = cc
 
   rebuilds_once : (fault : CallsFault) → RefusesRebuildInTurn old terms fault → ⊥
-  rebuilds_once fault turn = rebuild_once terms.rebuild fault turn.given well.accepts.script (subst (λ (map : Shape). RefusesRebuild map fault) (sym (array_map turn.before)) turn.refuses)
+  rebuilds_once fault turn = rebuild_once terms.rebuild fault turn.given well.accepts.script
+      (subst (λ (map : Shape). RefusesRebuild map fault) (sym (array_map turn.before)) turn.refuses)
 
   array_not_too_long : (input : Input) → IsTooLong old (array_inputs terms) input → ⊥
   array_not_too_long Params long =
       not_longer (old.held terms.params) well.accepts.disk.bytes (2 ^ 20) well.params_told well.accepts.disk.held well.accepts.disk.within
       (subst (λ (name : List ℕ). IsLonger old name (2 ^ 20)) (sym (same_name terms.params long.name long.given)) long.longer)
   array_not_too_long Trace long =
-      not_longer (old.held terms.trace) well.accepts.traces.bytes (2 ^ 28) well.trace_told well.accepts.traces.held well.accepts.traces.within
+      not_longer (old.held terms.trace) well.accepts.traces.bytes
+      (2 ^ 28) well.trace_told well.accepts.traces.held well.accepts.traces.within
       (subst (λ (name : List ℕ). IsLonger old name (2 ^ 28)) (sym (same_name terms.trace long.name long.given)) long.longer)
   array_not_too_long Calls long = is_named long.name (sym long.given)
   array_not_too_long Puts long = is_named long.name (sym long.given)
@@ -277,19 +316,22 @@ module _ (old new : DeskView) (terms : ArrayTerms) (well : ArrayGoesWell old new
   replayed : (outcome : Outcome) → ArrayHasCause terms old new outcome → IsReplayed outcome
   replayed (outcomes.Arrayed runs copy) cause = tt
   replayed (outcomes.Puts fault) cause = absurd (is_named cause.0.name (sym cause.0.given))
-  replayed (outcomes.Params fault) cause = absurd (not_refused old terms.params well.array.disk well.array.latent well.params_told well.accepts.disk fault cause.0)
+  replayed (outcomes.Params fault) cause =
+      absurd (not_refused old terms.params well.array.disk well.array.latent well.params_told well.accepts.disk fault cause.0)
   replayed (outcomes.Trace fault) cause = absurd (devices_once fault cause.0)
   replayed (outcomes.Calls fault) cause = absurd (rebuilds_once fault cause.0)
   replayed (outcomes.Reports fault) cause = absurd (no_report fault.report fault.line cause.0)
   replayed (outcomes.TooLong input) cause = absurd (array_not_too_long input cause.0)
   replayed (outcomes.ReadFault input) cause = absurd (well.inputs input cause.0.rose)
   replayed (outcomes.WriteFault output) cause =
-      absurd (well.outputs output (cut_is_no_note output (array_texts terms cause.are_runs.array cause.runs) old new (texts_no_note terms cause.are_runs.array cause.runs) cause.stops.1) cause.stops.0)
+      absurd (well.outputs output (cut_is_no_note output (array_texts terms cause.are_runs.array cause.runs) old new
+      (texts_no_note terms cause.are_runs.array cause.runs) cause.stops.1) cause.stops.0)
   replayed outcomes.NoMemory cause = tt
   replayed _ cause = absurd cause
 
 -- an answer with its cause is complete
-pub complete : (reading : Result Terms UsageFault) (old new : DeskView) (outcome : Outcome) → AnswersWords reading old new outcome → IsComplete reading old new outcome
+pub complete : (reading : Result Terms UsageFault) (old new : DeskView) (outcome : Outcome) → AnswersWords reading old new outcome
+    → IsComplete reading old new outcome
 complete (Ok (replays terms)) old new outcome cause = λ well. made old new terms well outcome cause
 complete (Ok (makes terms)) old new outcome cause = made_texts old new terms outcome cause
 complete (Ok (checks terms)) old new outcome cause = λ well. judged old new terms well outcome cause

@@ -1,5 +1,6 @@
 -- Texts written line by line.
-use Rattle.std.proofs.Common.{◌≡◌, ℕ, ◌+◌, ◌≤◌, List, [], ◌∷◌, ◌++◌, length, take, drop, sym, ap, ◌∙◌, append_assoc, append-nil, Option, Some, None, subst}
+use Rattle.std.proofs.Common.{◌≡◌, ℕ, ◌+◌, ◌≤◌, List, [], ◌∷◌, ◌++◌, length, take, drop, sym, ap, ◌∙◌, append_assoc, append-nil, Option}
+use Rattle.std.proofs.Common.{Some, None, subst}
 use Rattle.std.specs.Prelude.{IfSome, slice_get}
 use Rattle.std.proofs.lemmas.List.{take_more, drop_more, take_all, take-append-drop}
 use Rattle.std.proofs.lemmas.List.Concat.{flat_map-append}
@@ -16,21 +17,26 @@ parted : (lines : List (List ℕ)) (k : ℕ) → joined (take k lines) ++ joined
 parted lines k = sym (flat_map-append (λ (line : List ℕ). line) (take k lines) (drop k lines)) ∙ ap joined (take-append-drop k lines)
 
 -- the lines so far are a front
-pub front_of : (written : Option (List ℕ)) (lines : List (List ℕ)) (k : ℕ) → HoldsLines written lines k → IfSome written (λ bytes. IsFront bytes (joined lines))
+pub front_of : (written : Option (List ℕ)) (lines : List (List ℕ)) (k : ℕ) → HoldsLines written lines k
+    → IfSome written (λ bytes. IsFront bytes (joined lines))
 front_of None lines k h = tt
 front_of (Some bytes) lines k h = (joined (drop k lines), ap (λ front. front ++ joined (drop k lines)) h ∙ parted lines k)
 
 next_line : (lines : List (List ℕ)) (k : ℕ) (line : List ℕ) → slice_get lines k ≡ Some line → drop k lines ≡ line ∷ drop (k + 1) lines
-next_line lines k line e = drop_more lines k line (slice_get_within lines k line e) ∙ ap (λ y. y ∷ drop (k + 1) lines) (get_or_from_slice_get lines k line line e)
+next_line lines k line e =
+    drop_more lines k line (slice_get_within lines k line e) ∙ ap (λ y. y ∷ drop (k + 1) lines) (get_or_from_slice_get lines k line line e)
 
-line_more : (lines : List (List ℕ)) (k : ℕ) (line : List ℕ) → slice_get lines k ≡ Some line → joined (take (k + 1) lines) ≡ joined (take k lines) ++ line
+line_more : (lines : List (List ℕ)) (k : ℕ) (line : List ℕ) → slice_get lines k ≡ Some line
+    → joined (take (k + 1) lines) ≡ joined (take k lines) ++ line
 line_more lines k line e =
-    ap joined (take_more lines k line (slice_get_within lines k line e) ∙ ap (λ y. take k lines ++ y ∷ []) (get_or_from_slice_get lines k line line e))
+    ap joined (take_more lines k line (slice_get_within lines k line e)
+    ∙ ap (λ y. take k lines ++ y ∷ []) (get_or_from_slice_get lines k line line e))
     ∙ flat_map-append (λ (l : List ℕ). l) (take k lines) (line ∷ [])
     ∙ ap (λ l. joined (take k lines) ++ l) (append-nil line)
 
 -- one more line
-pub holds_more : (old new : Option (List ℕ)) (lines : List (List ℕ)) (k : ℕ) (line : List ℕ) → HoldsLines old lines k → slice_get lines k ≡ Some line → new ≡ behind old line → HoldsLines new lines (k + 1)
+pub holds_more : (old new : Option (List ℕ)) (lines : List (List ℕ)) (k : ℕ) (line : List ℕ) → HoldsLines old lines k
+    → slice_get lines k ≡ Some line → new ≡ behind old line → HoldsLines new lines (k + 1)
 holds_more None new lines k line h e f = rw f tt
 holds_more (Some bytes) new lines k line h e f = rw f (ap (λ front. front ++ line) h ∙ sym (line_more lines k line e))
 
@@ -41,7 +47,8 @@ seam front line rest whole n h =
     ∙ h
 
 -- a line that was cut off
-pub front_more : (old new : Option (List ℕ)) (lines : List (List ℕ)) (k : ℕ) (line : List ℕ) → HoldsLines old lines k → slice_get lines k ≡ Some line → AppendsFront old new line
+pub front_more : (old new : Option (List ℕ)) (lines : List (List ℕ)) (k : ℕ) (line : List ℕ) → HoldsLines old lines k
+    → slice_get lines k ≡ Some line → AppendsFront old new line
     → IfSome new (λ bytes. IsFront bytes (joined lines))
 front_more None new lines k line h e f = rw f.2 tt
 front_more (Some bytes) new lines k line h e f =
@@ -53,7 +60,8 @@ front_more (Some bytes) new lines k line h e f =
     )
 
 -- all lines
-pub holds_all : (written : Option (List ℕ)) (lines : List (List ℕ)) (k : ℕ) → HoldsLines written lines k → length lines ≤ k → IfSome written (λ bytes. bytes ≡ joined lines)
+pub holds_all : (written : Option (List ℕ)) (lines : List (List ℕ)) (k : ℕ) → HoldsLines written lines k → length lines ≤ k
+    → IfSome written (λ bytes. bytes ≡ joined lines)
 holds_all None lines k h le = tt
 holds_all (Some bytes) lines k h le = h ∙ ap joined (take_all k lines le)
 
@@ -66,10 +74,13 @@ pub rose_since : (old now new : ℕ) → now ≡ old → Rose now new → Rose o
 rose_since old now new same rose = subst (λ (count : ℕ). Rose count new) same rose
 
 -- a name that stays
-pub same_name : (name : List ℕ) (old new : Option (List ℕ)) → new ≡ old → IfSome old (λ told. told ≡ name) → IfSome new (λ told. told ≡ name)
+pub same_name : (name : List ℕ) (old new : Option (List ℕ)) → new ≡ old → IfSome old (λ told. told ≡ name)
+    → IfSome new (λ told. told ≡ name)
 same_name name old new same h = subst (λ (told : Option (List ℕ)). IfSome told (λ it. it ≡ name)) (sym same) h
 
 -- a text of which a part was written
-pub cut_text : (old new : Option (List ℕ)) (text : List ℕ) → IfSome old (λ held. held ≡ []) → AppendsFront old new text → IfSome new (λ held. IsFront held text)
+pub cut_text : (old new : Option (List ℕ)) (text : List ℕ) → IfSome old (λ held. held ≡ []) → AppendsFront old new text
+    → IfSome new (λ held. IsFront held text)
 cut_text None new text empty front = rw front.2 tt
-cut_text (Some held) new text empty front = rw front.2 (drop front.0 text, ap (λ xs. (xs ++ take front.0 text) ++ drop front.0 text) empty ∙ take-append-drop front.0 text)
+cut_text (Some held) new text empty front =
+    rw front.2 (drop front.0 text, ap (λ xs. (xs ++ take front.0 text) ++ drop front.0 text) empty ∙ take-append-drop front.0 text)

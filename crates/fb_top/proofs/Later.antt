@@ -21,7 +21,8 @@ use Rattle.fb_top.specs.declared.outcome.Outcome.{Outcome}
 use Rattle.fb_top.specs.declared.outcome.Outcome.TheVariants as outcomes
 use Rattle.fb_top.specs.Read.{ReadsScript, Files, inputs_of}
 use Rattle.fb_top.specs.Streams.{ReadsAs}
-use Rattle.fb_top.specs.Causes.{AcceptsBefore, AcceptsDisk, AcceptsTrace, EndsAt, HasCause, IsTooLong, IsUnread, KeepsLater, StopsCalls, StopsDisk, StopsInputs, StopsPuts, StopsReading, StopsReport, StopsScript, StopsTrace, input_of}
+use Rattle.fb_top.specs.Causes.{AcceptsBefore, AcceptsDisk, AcceptsTrace, EndsAt, HasCause, IsTooLong, IsUnread, KeepsLater, StopsCalls}
+use Rattle.fb_top.specs.Causes.{StopsDisk, StopsInputs, StopsPuts, StopsReading, StopsReport, StopsScript, StopsTrace, input_of}
 use Rattle.fb_top.specs.Limits.{limit_of}
 
 -- the parameter file alone was read
@@ -44,7 +45,8 @@ ends_at_trace old mid new first second = record {
   reports = λ output no_note. second.outputs output ∙ first.outputs output;
 }
 
-ends_at_calls : (old mid late new : DeskView) → ChangesInput Params old mid → ChangesInput Trace mid late → ChangesInput Calls late new → EndsAt Calls old new
+ends_at_calls : (old mid late new : DeskView) → ChangesInput Params old mid → ChangesInput Trace mid late → ChangesInput Calls late new
+    → EndsAt Calls old new
 ends_at_calls old mid late new first second third = record {
   later = (
     third.inputs Puts (λ e. cc) ∙ second.inputs Puts (λ e. cc) ∙ first.inputs Puts (λ e. cc),
@@ -66,7 +68,8 @@ reads_before same reads = record {
 }
 
 -- the script is held before as it is held after the parameter file and the trace were read
-pub script_before : (old mid late : DeskView) (given : Option (List ℕ)) (disk : Disk) (traced : ℕ) (script : Script) → ChangesInput Params old mid → ChangesInput Trace mid late
+pub script_before : (old mid late : DeskView) (given : Option (List ℕ)) (disk : Disk) (traced : ℕ) (script : Script)
+    → ChangesInput Params old mid → ChangesInput Trace mid late
     → ReadsScript late given disk traced script → ReadsScript old given disk traced script
 script_before old mid late None disk traced script first second reads = reads
 script_before old mid late (Some name) disk traced script first second reads = reads_before (second.held name ∙ first.held name) reads
@@ -117,13 +120,15 @@ report_unread report name old new (outcomes.Reports fault) h = absurd h
 report_unread report name old new _ h = h
 
 -- why the parameter file was not read
-pub at_params : (words : SourceTerms) (old new : DeskView) (outcome : Outcome) → ChangesInput Params old new → StopsDisk words.params old new outcome → StopsInputs (files_alone words) old new outcome
+pub at_params : (words : SourceTerms) (old new : DeskView) (outcome : Outcome) → ChangesInput Params old new
+    → StopsDisk words.params old new outcome → StopsInputs (files_alone words) old new outcome
 at_params words old new (outcomes.Params fault) only h = (h, ends_at_params old new only)
 at_params words old new outcome only h =
     at_reading (files_alone words) old old new Params tt words.params refl refl refl (ends_at_params old new only) outcome h
 
 -- why the trace was not read
-pub at_trace : (words : SourceTerms) (old mid new : DeskView) (outcome : Outcome) (before : AcceptsDisk old words.params) → ChangesInput Params old mid → ChangesInput Trace mid new
+pub at_trace : (words : SourceTerms) (old mid new : DeskView) (outcome : Outcome) (before : AcceptsDisk old words.params)
+    → ChangesInput Params old mid → ChangesInput Trace mid new
     → StopsTrace words.trace words.device before.disk mid new outcome → StopsInputs (files_alone words) old new outcome
 at_trace words old mid new (outcomes.Trace fault) before first second h =
     (record { before = before; refuses = reads_before (first.held words.trace) h }, ends_at_trace old mid new first second)
@@ -132,7 +137,8 @@ at_trace words old mid new outcome before first second h =
     (ends_at_trace old mid new first second) outcome h
 
 -- why the script of this name was not read
-at_calls : (words : SourceTerms) (old mid late new : DeskView) (outcome : Outcome) (before : AcceptsTrace old words) (name : List ℕ) → words.calls ≡ Some name
+at_calls : (words : SourceTerms) (old mid late new : DeskView) (outcome : Outcome) (before : AcceptsTrace old words) (name : List ℕ)
+    → words.calls ≡ Some name
     → ChangesInput Params old mid → ChangesInput Trace mid late → ChangesInput Calls late new
     → StopsCalls name before.params.disk (length before.trace.requests) late new outcome → StopsInputs (files_alone words) old new outcome
 at_calls words old mid late new (outcomes.Calls fault) before name given first second third h = (
@@ -147,25 +153,33 @@ at_calls words old mid late new outcome before name given first second third h =
 -- why the script that is given was not read
 pub at_script : (words : SourceTerms) (old mid late new : DeskView) (outcome : Outcome) (before : AcceptsTrace old words)
     → ChangesInput Params old mid → ChangesInput Trace mid late → ChangesInput Calls late new
-    → StopsScript words.calls before.params.disk (length before.trace.requests) late new outcome → StopsInputs (files_alone words) old new outcome
-at_script words old mid late new outcome before first second third h = at_calls words old mid late new outcome before h.0 h.1 first second third h.2
+    → StopsScript words.calls before.params.disk (length before.trace.requests) late new outcome
+    → StopsInputs (files_alone words) old new outcome
+at_script words old mid late new outcome before first second third h =
+    at_calls words old mid late new outcome before h.0 h.1 first second third h.2
 
 -- why the files of a replay were not read
-pub replay_stopped : (terms : ReplayTerms) (old new : DeskView) (outcome : Outcome) → StopsInputs (replay_inputs terms) old new outcome → HasCause terms old new outcome
+pub replay_stopped : (terms : ReplayTerms) (old new : DeskView) (outcome : Outcome) → StopsInputs (replay_inputs terms) old new outcome
+    → HasCause terms old new outcome
 replay_stopped terms old new outcomes.NoMemory h = inl h
 replay_stopped terms old new (outcomes.Done run) h = absurd h
 replay_stopped terms old new (outcomes.Spilled run spill) h = absurd h
 replay_stopped terms old new (outcomes.WriteFault output) h = absurd h
 replay_stopped terms old new _ h = h
 
-all_requests : (disk : Disk) (requests : List Request) → AllByRecursion (IsServable (length (places disk.map))) requests → AllByRecursion (IsRequestOf disk.map) requests
+all_requests : (disk : Disk) (requests : List Request) → AllByRecursion (IsServable (length (places disk.map))) requests
+    → AllByRecursion (IsRequestOf disk.map) requests
 all_requests disk [] all = tt
 all_requests disk (request ∷ requests) all =
-    (record { range = record { some = all.0.some; inside = all.0.inside }; few = all.0.few; arrival = all.0.arrival }, all_requests disk requests all.1)
+    (
+      record { range = record { some = all.0.some; inside = all.0.inside }; few = all.0.few; arrival = all.0.arrival },
+      all_requests disk requests all.1,
+    )
 
 -- what was read can be replayed
 pub is_accepted : (files : Files) (key : Key) (until : ℕ) → AllByRecursion (λ lbn. lbn < length (places files.disk.map)) files.latent
-    → IsTraceOf (length (places files.disk.map)) files.trace.requests → IsScript files.disk.map (length files.trace.requests) files.script.calls → until ≤ 10 ^ 15
+    → IsTraceOf (length (places files.disk.map)) files.trace.requests
+    → IsScript files.disk.map (length files.trace.requests) files.script.calls → until ≤ 10 ^ 15
     → IsAccepted (inputs_of files key until)
 is_accepted files key until inside trace script late = record {
   latent = inside;

@@ -47,12 +47,17 @@ module _ (terms : MakeTerms) (old mid new : DeskView) (only : ChangesOutput Note
   same = λ output no_note. refl
 
   cuts_trace_still : CutsTrace old mid terms → CutsTrace old new terms
-  cuts_trace_still h = record { makes = h.makes; cut = cuts_off old old mid new same (keeps_reports mid new only) MadeTrace terms.trace (trace_text terms h.makes.disk) trace_is_no_note h.cut }
+  cuts_trace_still h = record {
+    makes = h.makes;
+    cut = cuts_off old old mid new same (keeps_reports mid new only) MadeTrace terms.trace
+        (trace_text terms h.makes.disk) trace_is_no_note h.cut;
+  }
 
   cuts_calls_still : CutsCalls old mid terms → CutsCalls old new terms
   cuts_calls_still h = record {
     makes = h.makes;
-    cut = cuts_second old old mid new same (keeps_reports mid new only) MadeTrace MadeCalls terms.trace (trace_text terms h.makes.disk) terms.calls (script_text h.makes.disk.map) trace_is_no_note calls_are_no_note h.cut;
+    cut = cuts_second old old mid new same (keeps_reports mid new only) MadeTrace MadeCalls terms.trace
+        (trace_text terms h.makes.disk) terms.calls (script_text h.makes.disk.map) trace_is_no_note calls_are_no_note h.cut;
   }
 
   -- an answer keeps its cause where nothing but the note changes
@@ -61,16 +66,21 @@ module _ (terms : MakeTerms) (old mid new : DeskView) (only : ChangesOutput Note
     count = h.count;
     others = keeps_but_both old old mid new same (keeps_reports mid new only) MadeTrace MadeCalls h.others;
     makes = h.makes;
-    trace = whole old old mid new same (keeps_reports mid new only) MadeTrace terms.trace (trace_text terms h.makes.disk) trace_is_no_note h.trace;
-    calls = whole old old mid new same (keeps_reports mid new only) MadeCalls terms.calls (script_text h.makes.disk.map) calls_are_no_note h.calls;
+    trace = whole old old mid new same (keeps_reports mid new only) MadeTrace terms.trace
+        (trace_text terms h.makes.disk) trace_is_no_note h.trace;
+    calls = whole old old mid new same (keeps_reports mid new only) MadeCalls terms.calls
+        (script_text h.makes.disk.map) calls_are_no_note h.calls;
     trace_read = h.trace_read;
     calls_read = h.calls_read;
   }
   make_cause_still (outcomes.Params fault) h = (h.0, keeps_still old mid new h.1 only)
   make_cause_still (outcomes.TooLong Params) h = (h.0, keeps_still old mid new h.1 only)
-  make_cause_still (outcomes.ReadFault Params) h = (subst (λ (v : InputView). Rose (old.inputs Params).faults v.faults) (sym (only.inputs Params)) h.0, keeps_still old mid new h.1 only)
-  make_cause_still (outcomes.WriteFault MadeTrace) h = (faults_rose old old mid new same (keeps_reports mid new only) MadeTrace trace_is_no_note h.0, cuts_trace_still h.1)
-  make_cause_still (outcomes.WriteFault MadeCalls) h = (faults_rose old old mid new same (keeps_reports mid new only) MadeCalls calls_are_no_note h.0, cuts_calls_still h.1)
+  make_cause_still (outcomes.ReadFault Params) h =
+      (subst (λ (v : InputView). Rose (old.inputs Params).faults v.faults) (sym (only.inputs Params)) h.0, keeps_still old mid new h.1 only)
+  make_cause_still (outcomes.WriteFault MadeTrace) h =
+      (faults_rose old old mid new same (keeps_reports mid new only) MadeTrace trace_is_no_note h.0, cuts_trace_still h.1)
+  make_cause_still (outcomes.WriteFault MadeCalls) h =
+      (faults_rose old old mid new same (keeps_reports mid new only) MadeCalls calls_are_no_note h.0, cuts_calls_still h.1)
   make_cause_still outcomes.NoMemory (inl keeps) = inl (keeps_still old mid new keeps only)
   make_cause_still outcomes.NoMemory (inr (inl cut)) = inr (inl (cuts_trace_still cut))
   make_cause_still outcomes.NoMemory (inr (inr cut)) = inr (inr (cuts_calls_still cut))
@@ -87,50 +97,76 @@ disk_stopped terms old new (outcomes.TooLong input) only h = absurd (let other =
 disk_stopped terms old new (outcomes.ReadFault input) only h = absurd (let other = h.0 in cc)
 disk_stopped terms old new _ only h = absurd h
 
-cuts_trace : (terms : MakeTerms) (old mid new : DeskView) (makes : AcceptsDisk old terms.params) → ChangesInput Params old mid → ChangesOutput MadeTrace mid new
+cuts_trace : (terms : MakeTerms) (old mid new : DeskView) (makes : AcceptsDisk old terms.params) → ChangesInput Params old mid
+    → ChangesOutput MadeTrace mid new
     → HoldsFront (new.outputs MadeTrace) terms.trace (trace_text terms makes.disk) → CutsTrace old new terms
 cuts_trace terms old mid new makes first second front =
-    record { makes = makes; cut = record { others = λ output no_trace no_note. second.outputs output no_trace ∙ first.outputs output; front = front } }
+    record {
+      makes = makes;
+      cut = record { others = λ output no_trace no_note. second.outputs output no_trace ∙ first.outputs output; front = front };
+    }
 
 -- why the trace was not written
-pub stopped_trace : (terms : MakeTerms) (old mid new : DeskView) (outcome : Outcome) (makes : AcceptsDisk old terms.params) → ChangesInput Params old mid → ChangesOutput MadeTrace mid new
+pub stopped_trace : (terms : MakeTerms) (old mid new : DeskView) (outcome : Outcome) (makes : AcceptsDisk old terms.params)
+    → ChangesInput Params old mid → ChangesOutput MadeTrace mid new
     → StopsText MadeTrace terms.trace (trace_text terms makes.disk) mid new outcome → MakeHasCause terms old new outcome
 stopped_trace terms old mid new (outcomes.WriteFault MadeTrace) makes first second h =
-    (subst (λ (v : OutputView). Rose v.faults (new.outputs MadeTrace).faults) (first.outputs MadeTrace) h.1, cuts_trace terms old mid new makes first second h.2)
+    (
+      subst (λ (v : OutputView). Rose v.faults (new.outputs MadeTrace).faults) (first.outputs MadeTrace) h.1,
+      cuts_trace terms old mid new makes first second h.2,
+    )
 stopped_trace terms old mid new outcomes.NoMemory makes first second h = inr (inl (cuts_trace terms old mid new makes first second h))
 stopped_trace terms old mid new (outcomes.WriteFault output) makes first second h = absurd (let other = h.0 in cc)
 stopped_trace terms old mid new _ makes first second h = absurd h
 
 -- no output but the trace and the script was written
-keeps_unmade : (old mid late new : DeskView) → ChangesInput Params old mid → ChangesOutput MadeTrace mid late → ChangesOutput MadeCalls late new → KeepsButBoth MadeTrace MadeCalls old new
-keeps_unmade old mid late new first second third = λ output no_trace no_calls no_note. third.outputs output no_calls ∙ second.outputs output no_trace ∙ first.outputs output
+keeps_unmade : (old mid late new : DeskView) → ChangesInput Params old mid → ChangesOutput MadeTrace mid late
+    → ChangesOutput MadeCalls late new → KeepsButBoth MadeTrace MadeCalls old new
+keeps_unmade old mid late new first second third =
+    λ output no_trace no_calls no_note. third.outputs output no_calls ∙ second.outputs output no_trace ∙ first.outputs output
 
 -- the trace stands as it was written
-trace_stands : (terms : MakeTerms) (disk : Disk) (late new : DeskView) → ChangesOutput MadeCalls late new → HoldsWhole (late.outputs MadeTrace) terms.trace (trace_text terms disk)
+trace_stands : (terms : MakeTerms) (disk : Disk) (late new : DeskView) → ChangesOutput MadeCalls late new
+    → HoldsWhole (late.outputs MadeTrace) terms.trace (trace_text terms disk)
     → HoldsWhole (new.outputs MadeTrace) terms.trace (trace_text terms disk)
-trace_stands terms disk late new only whole = subst (λ (v : OutputView). HoldsWhole v terms.trace (trace_text terms disk)) (sym (only.outputs MadeTrace trace_is_no_calls)) whole
+trace_stands terms disk late new only whole =
+    subst (λ (v : OutputView). HoldsWhole v terms.trace (trace_text terms disk)) (sym (only.outputs MadeTrace trace_is_no_calls)) whole
 
-cuts_calls : (terms : MakeTerms) (old mid late new : DeskView) (makes : AcceptsDisk old terms.params) → ChangesInput Params old mid → ChangesOutput MadeTrace mid late → ChangesOutput MadeCalls late new
-    → HoldsWhole (late.outputs MadeTrace) terms.trace (trace_text terms makes.disk) → HoldsFront (new.outputs MadeCalls) terms.calls (script_text makes.disk.map) → CutsCalls old new terms
+cuts_calls : (terms : MakeTerms) (old mid late new : DeskView) (makes : AcceptsDisk old terms.params) → ChangesInput Params old mid
+    → ChangesOutput MadeTrace mid late → ChangesOutput MadeCalls late new
+    → HoldsWhole (late.outputs MadeTrace) terms.trace (trace_text terms makes.disk)
+    → HoldsFront (new.outputs MadeCalls) terms.calls (script_text makes.disk.map) → CutsCalls old new terms
 cuts_calls terms old mid late new makes first second third trace front = record {
   makes = makes;
-  cut = record { others = keeps_unmade old mid late new first second third; whole = trace_stands terms makes.disk late new third trace; front = front };
+  cut = record {
+    others = keeps_unmade old mid late new first second third;
+    whole = trace_stands terms makes.disk late new third trace;
+    front = front;
+  };
 }
 
 -- why the script was not written
-pub stopped_calls : (terms : MakeTerms) (old mid late new : DeskView) (outcome : Outcome) (makes : AcceptsDisk old terms.params) → ChangesInput Params old mid → ChangesOutput MadeTrace mid late → ChangesOutput MadeCalls late new
-    → HoldsWhole (late.outputs MadeTrace) terms.trace (trace_text terms makes.disk) → StopsText MadeCalls terms.calls (script_text makes.disk.map) late new outcome → MakeHasCause terms old new outcome
+pub stopped_calls : (terms : MakeTerms) (old mid late new : DeskView) (outcome : Outcome) (makes : AcceptsDisk old terms.params)
+    → ChangesInput Params old mid → ChangesOutput MadeTrace mid late → ChangesOutput MadeCalls late new
+    → HoldsWhole (late.outputs MadeTrace) terms.trace (trace_text terms makes.disk)
+    → StopsText MadeCalls terms.calls (script_text makes.disk.map) late new outcome → MakeHasCause terms old new outcome
 stopped_calls terms old mid late new (outcomes.WriteFault MadeCalls) makes first second third trace h =
-    (subst (λ (v : OutputView). Rose v.faults (new.outputs MadeCalls).faults) (second.outputs MadeCalls calls_are_no_trace ∙ first.outputs MadeCalls) h.1, cuts_calls terms old mid late new makes first second third trace h.2)
-stopped_calls terms old mid late new outcomes.NoMemory makes first second third trace h = inr (inr (cuts_calls terms old mid late new makes first second third trace h))
+    (subst (λ (v : OutputView). Rose v.faults (new.outputs MadeCalls).faults) (second.outputs MadeCalls calls_are_no_trace
+    ∙ first.outputs MadeCalls) h.1, cuts_calls terms old mid late new makes first second third trace h.2)
+stopped_calls terms old mid late new outcomes.NoMemory makes first second third trace h =
+    inr (inr (cuts_calls terms old mid late new makes first second third trace h))
 stopped_calls terms old mid late new (outcomes.WriteFault output) makes first second third trace h = absurd (let other = h.0 in cc)
 stopped_calls terms old mid late new _ makes first second third trace h = absurd h
 
 -- both texts were written
-pub wrote_both : (terms : MakeTerms) (old mid late new : DeskView) (makes : AcceptsDisk old terms.params) (n : ℕ) → n ≡ terms.requests → ChangesInput Params old mid → ChangesOutput MadeTrace mid late → ChangesOutput MadeCalls late new
-    → HoldsWhole (late.outputs MadeTrace) terms.trace (trace_text terms makes.disk) → HoldsWhole (new.outputs MadeCalls) terms.calls (script_text makes.disk.map)
-    → (trace_of terms.device (sectors_of makes.disk) (trace_text terms makes.disk) ≡ Ok (record { requests = made_requests terms.number (sectors_of makes.disk) terms.requests; passed_over = 0 }))
-    → (calls_of makes.disk.map terms.requests (script_text makes.disk.map) ≡ Ok (record { names = codes "scrub" ∷ codes "backup" ∷ []; calls = script_calls makes.disk.map }))
+pub wrote_both : (terms : MakeTerms) (old mid late new : DeskView) (makes : AcceptsDisk old terms.params) (n : ℕ) → n ≡ terms.requests
+    → ChangesInput Params old mid → ChangesOutput MadeTrace mid late → ChangesOutput MadeCalls late new
+    → HoldsWhole (late.outputs MadeTrace) terms.trace (trace_text terms makes.disk)
+    → HoldsWhole (new.outputs MadeCalls) terms.calls (script_text makes.disk.map)
+    → (trace_of terms.device (sectors_of makes.disk) (trace_text terms makes.disk)
+    ≡ Ok (record { requests = made_requests terms.number (sectors_of makes.disk) terms.requests; passed_over = 0 }))
+    → (calls_of makes.disk.map terms.requests (script_text makes.disk.map)
+    ≡ Ok (record { names = codes "scrub" ∷ codes "backup" ∷ []; calls = script_calls makes.disk.map }))
     → WritesBoth old new terms n
 wrote_both terms old mid late new makes n count first second third trace calls read script = record {
   count = count;
@@ -143,21 +179,31 @@ wrote_both terms old mid late new makes n count first second third trace calls r
 }
 
 -- the i-th line of a made trace
-pub line_at : (number device sectors n i : ℕ) → i < n → slice_get (made_lines number device sectors n) i ≡ Some (line_of device (request_at number sectors i))
+pub line_at : (number device sectors n i : ℕ) → i < n
+    → slice_get (made_lines number device sectors n) i ≡ Some (line_of device (request_at number sectors i))
 line_at number device sectors n i inside =
     slice_get-map (line_of device) (made_requests number sectors n) i
-    ∙ ap (option_map (line_of device)) (slice_get-map (request_at number sectors) (range_with_len 0 n) i ∙ ap (option_map (request_at number sectors)) (counted n i inside))
+    ∙ ap (option_map (line_of device))
+    (slice_get-map (request_at number sectors) (range_with_len 0 n) i ∙ ap (option_map (request_at number sectors)) (counted n i inside))
 
 pub lines_counted : (number device sectors n : ℕ) → length (made_lines number device sectors n) ≡ n
-lines_counted number device sectors n = length-map (made_requests number sectors n) (line_of device) ∙ length-map-range_with_len (request_at number sectors) 0 n
+lines_counted number device sectors n =
+    length-map (made_requests number sectors n) (line_of device) ∙ length-map-range_with_len (request_at number sectors) 0 n
 
-first_sectors : (disk : Shape) (zones : List Zone) → 0 < length zones → ((zone : Zone) → slice_get zones 0 ≡ Some zone → 0 < length (zone_places disk zone)) → 1 ≤ length (flat_map (zone_places disk) zones)
+first_sectors : (disk : Shape) (zones : List Zone) → 0 < length zones
+    → ((zone : Zone) → slice_get zones 0 ≡ Some zone → 0 < length (zone_places disk zone)) → 1 ≤ length (flat_map (zone_places disk) zones)
 first_sectors disk [] some held = absurd (omega arith)
-first_sectors disk (zone ∷ zones) some held = omega (arith, length-append (zone_places disk zone) (flat_map (zone_places disk) zones), held zone refl)
+first_sectors disk (zone ∷ zones) some held =
+    omega (arith, length-append (zone_places disk zone) (flat_map (zone_places disk) zones), held zone refl)
 
 -- a disk has sectors
 pub some_sectors : (disk : Shape) → IsSound disk → 1 ≤ length (places disk)
 unfolding places
 some_sectors disk sound = first_sectors disk disk.zones sound.some_zones (λ zone is.
     let some = sound.some_cylinders 0 zone is in
-    omega (arith, first_data disk zone some, sound.equal 0 zone zone.first (record { zone_is = is; from = omega arith; upto = some }), sound.some_data 0 zone is))
+    omega (
+      arith,
+      first_data disk zone some,
+      sound.equal 0 zone zone.first (record { zone_is = is; from = omega arith; upto = some }),
+      sound.some_data 0 zone is,
+    ))

@@ -56,8 +56,12 @@ module _ (terms : InputTerms) (old new : DeskView) where
   files_stopped (outcomes.Calls fault) h = h
   files_stopped (outcomes.Puts fault) h = absurd (is_named h.0.name (sym h.0.given))
   files_stopped (outcomes.Reports fault) h = absurd (no_report terms.sources fault.report h.0.name h.0.given)
-  files_stopped (outcomes.TooLong input) h = (record { before = same_before input h.0.before; name = h.0.name; given = same_name input h.0.name h.0.given; longer = h.0.longer }, h.1)
-  files_stopped (outcomes.ReadFault input) h = (record { before = same_before input h.0.before; given = also_named input h.0.given; rose = h.0.rose }, h.1)
+  files_stopped (outcomes.TooLong input) h = (
+    record { before = same_before input h.0.before; name = h.0.name; given = same_name input h.0.name h.0.given; longer = h.0.longer },
+    h.1,
+  )
+  files_stopped (outcomes.ReadFault input) h =
+      (record { before = same_before input h.0.before; given = also_named input h.0.given; rose = h.0.rose }, h.1)
   files_stopped outcomes.NoMemory h = record { input = h.input; before = same_before h.input h.before; ends = h.ends }
   files_stopped _ h = absurd h
 
@@ -79,7 +83,8 @@ module _ (terms : InputTerms) (old new : DeskView) where
     files_opened unused opened BackReport name given = unopened BackReport name old new unused (unnamed BackReport refl)
 
 -- the files were read, and then the puts
-module _ (terms : InputTerms) (sources : SourceTerms) (same : sources ≡ terms.sources) (old mid new : DeskView) (held : (name : List ℕ) → mid.held name ≡ old.held name)
+module _ (terms : InputTerms) (sources : SourceTerms) (same : sources ≡ terms.sources) (old mid new : DeskView)
+    (held : (name : List ℕ) → mid.held name ≡ old.held name)
     (outputs : KeepsOutputs old mid) (keeps : KeepsUnnamed (files_alone sources) old mid) (only : ChangesInput Puts mid new) where
   unnamed : KeepsUnnamed (files_alone terms.sources) old mid
   unnamed = subst (λ (s : SourceTerms). KeepsUnnamed (files_alone s) old mid) same keeps
@@ -91,18 +96,21 @@ module _ (terms : InputTerms) (sources : SourceTerms) (same : sources ≡ terms.
   }
 
   -- why the puts of this name were not read
-  at_puts : (outcome : Outcome) (files : AcceptsFiles old terms.sources) (name : List ℕ) → terms.puts ≡ Some name → StopsPuts name files.files mid new outcome → StopsInputs terms old new outcome
+  at_puts : (outcome : Outcome) (files : AcceptsFiles old terms.sources) (name : List ℕ) → terms.puts ≡ Some name
+      → StopsPuts name files.files mid new outcome → StopsInputs terms old new outcome
   at_puts (outcomes.Puts fault) files name given h =
       (record { before = files; name = name; given = given; refuses = reads_before (held name) h }, ends_at_puts)
   at_puts outcome files name given h =
       at_reading terms old mid new Puts files name given (held name) (unnamed Puts refl) ends_at_puts outcome h
 
   -- why the puts that are given were not read
-  pub puts_stopped : (outcome : Outcome) (files : AcceptsFiles old terms.sources) → StopsGivenPuts terms.puts files.files mid new outcome → StopsInputs terms old new outcome
+  pub puts_stopped : (outcome : Outcome) (files : AcceptsFiles old terms.sources) → StopsGivenPuts terms.puts files.files mid new outcome
+      → StopsInputs terms old new outcome
   puts_stopped outcome files h = at_puts outcome files h.0 h.1 h.2
 
   -- and where they were
-  pub puts_before : (given : Option (List ℕ)) (files : Files) (puts : Option PutsRead) → AcceptsPuts mid given files puts → AcceptsPuts old given files puts
+  pub puts_before : (given : Option (List ℕ)) (files : Files) (puts : Option PutsRead) → AcceptsPuts mid given files puts
+      → AcceptsPuts old given files puts
   puts_before None files None accepts = tt
   puts_before (Some name) files (Some puts) accepts = reads_before (held name) accepts
   puts_before None files (Some puts) accepts = absurd accepts
@@ -116,19 +124,25 @@ module _ (terms : InputTerms) (sources : SourceTerms) (same : sources ≡ terms.
   puts_unnamed kept ForeReport e = only.inputs ForeReport (λ e. cc) ∙ unnamed ForeReport refl
   puts_unnamed kept BackReport e = only.inputs BackReport (λ e. cc) ∙ unnamed BackReport refl
 
-  still_opened : (input : Input) (name : List ℕ) → new.inputs input ≡ mid.inputs input → IsOpenedAs name old (mid.inputs input) → IsOpenedAs name old (new.inputs input)
+  still_opened : (input : Input) (name : List ℕ) → new.inputs input ≡ mid.inputs input → IsOpenedAs name old (mid.inputs input)
+      → IsOpenedAs name old (new.inputs input)
   still_opened input name same opened = subst (λ (v : InputView). IsOpenedAs name old v) (sym same) opened
 
-  pub puts_opened : IsUnused old → OpensAsNamed (files_alone terms.sources) old mid → IfSome terms.puts (λ given. IsOpenedAs given mid (new.inputs Puts)) → OpensAsNamed terms old new
+  pub puts_opened : IsUnused old → OpensAsNamed (files_alone terms.sources) old mid
+      → IfSome terms.puts (λ given. IsOpenedAs given mid (new.inputs Puts)) → OpensAsNamed terms old new
   puts_opened unused opened puts Params name given = still_opened Params name (only.inputs Params (λ e. cc)) (opened Params name given)
   puts_opened unused opened puts Trace name given = still_opened Trace name (only.inputs Trace (λ e. cc)) (opened Trace name given)
   puts_opened unused opened puts Calls name given = still_opened Calls name (only.inputs Calls (λ e. cc)) (opened Calls name given)
   puts_opened unused opened puts Puts name given =
-      told_before name name old mid (new.inputs Puts) (held name) refl (subst (λ (told : Option (List ℕ)). IfSome told (λ n. IsOpenedAs n mid (new.inputs Puts))) given puts)
-  puts_opened unused opened puts ForeReport name given = unopened ForeReport name old new unused (only.inputs ForeReport (λ e. cc) ∙ unnamed ForeReport refl)
-  puts_opened unused opened puts BackReport name given = unopened BackReport name old new unused (only.inputs BackReport (λ e. cc) ∙ unnamed BackReport refl)
+      told_before name name old mid (new.inputs Puts) (held name) refl
+      (subst (λ (told : Option (List ℕ)). IfSome told (λ n. IsOpenedAs n mid (new.inputs Puts))) given puts)
+  puts_opened unused opened puts ForeReport name given =
+      unopened ForeReport name old new unused (only.inputs ForeReport (λ e. cc) ∙ unnamed ForeReport refl)
+  puts_opened unused opened puts BackReport name given =
+      unopened BackReport name old new unused (only.inputs BackReport (λ e. cc) ∙ unnamed BackReport refl)
 
-  still_calm : AreInputsCalm old mid → (input : Input) → new.inputs input ≡ mid.inputs input → (new.inputs input).faults ≡ (old.inputs input).faults
+  still_calm : AreInputsCalm old mid → (input : Input) → new.inputs input ≡ mid.inputs input
+      → (new.inputs input).faults ≡ (old.inputs input).faults
   still_calm calm input same = ap (λ (v : InputView). v.faults) same ∙ calm input
 
   pub puts_calm : AreInputsCalm old mid → (new.inputs Puts).faults ≡ (mid.inputs Puts).faults → AreInputsCalm old new

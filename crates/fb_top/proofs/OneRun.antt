@@ -20,18 +20,24 @@ use Rattle.fb_top.proofs.Completeness.{same_ok}
 pub held_here : (told : Option (List ℕ)) (bytes here : List ℕ) → told ≡ Some here → IfSome told (λ held. bytes ≡ held) → bytes ≡ here
 held_here told bytes here e is = subst (λ (t : Option (List ℕ)). IfSome t (λ held. bytes ≡ held)) e is
 
-both_held : (one other : DeskView) (name : List ℕ) (bytes bytes' : List ℕ) → HoldAlike one other name → IfSome (one.held name) (λ held. bytes ≡ held) → IfSome (other.held name) (λ held. bytes' ≡ held) → bytes ≡ bytes'
-both_held one other name bytes bytes' alike held held' = held_here (one.held name) bytes alike.0 alike.1 held ∙ sym (held_here (other.held name) bytes' alike.0 alike.2 held')
+both_held : (one other : DeskView) (name : List ℕ) (bytes bytes' : List ℕ) → HoldAlike one other name
+    → IfSome (one.held name) (λ held. bytes ≡ held) → IfSome (other.held name) (λ held. bytes' ≡ held) → bytes ≡ bytes'
+both_held one other name bytes bytes' alike held held' =
+    held_here (one.held name) bytes alike.0 alike.1 held ∙ sym (held_here (other.held name) bytes' alike.0 alike.2 held')
 
-pub one_value : (one other : DeskView) (name : List ℕ) (disk disk' : Disk) (latent latent' : List ℕ) → HoldAlike one other name → ReadsDisk one name disk latent → ReadsDisk other name disk' latent'
-    → ◌≡◌ {A = ParamsValue} (record { outline = disk.map; mechanics = disk.mechanism; sector_bytes = disk.sector_bytes; latent = latent }) (record { outline = disk'.map; mechanics = disk'.mechanism; sector_bytes = disk'.sector_bytes; latent = latent' })
+pub one_value : (one other : DeskView) (name : List ℕ) (disk disk' : Disk) (latent latent' : List ℕ) → HoldAlike one other name
+    → ReadsDisk one name disk latent → ReadsDisk other name disk' latent'
+    → ◌≡◌ {A = ParamsValue} (record { outline = disk.map; mechanics = disk.mechanism; sector_bytes = disk.sector_bytes; latent = latent })
+    (record { outline = disk'.map; mechanics = disk'.mechanism; sector_bytes = disk'.sector_bytes; latent = latent' })
 one_value one other name disk disk' latent latent' alike reads reads' =
-    same_ok (params_of reads.bytes) _ _ reads.spells (ap params_of (both_held one other name reads.bytes reads'.bytes alike reads.held reads'.held) ∙ reads'.spells)
+    same_ok (params_of reads.bytes) _ _ reads.spells
+    (ap params_of (both_held one other name reads.bytes reads'.bytes alike reads.held reads'.held) ∙ reads'.spells)
 
 -- what every disk of a file keeps
 abbrev Keeps : ParamsValue → Type 0
 Keeps v =
-    (v.mechanics.cylinders ≡ cylinders_of v.outline.zones) × (0 < cylinders_of v.outline.zones) × (0 < v.outline.heads) × (0 < v.outline.rotation) × (v.outline.rotation ≤ 10 ^ 9)
+    (v.mechanics.cylinders ≡ cylinders_of v.outline.zones) × (0 < cylinders_of v.outline.zones) × (0 < v.outline.heads)
+    × (0 < v.outline.rotation) × (v.outline.rotation ≤ 10 ^ 9)
     × (length (places v.outline) ≤ 10 ^ 12) × (v.sector_bytes % 16 ≡ 0) × (16 ≤ v.sector_bytes) × (v.sector_bytes ≤ 4096)
 
 Keeps-prop : (v : ParamsValue) → IsProp (Keeps v)
@@ -53,18 +59,32 @@ disk_with v kept = record {
   few_bytes = kept.8;
 }
 
-abbrev kept_by : (disk : Disk) (latent : List ℕ) → Keeps (record { outline = disk.map; mechanics = disk.mechanism; sector_bytes = disk.sector_bytes; latent = latent })
+abbrev kept_by : (disk : Disk) (latent : List ℕ)
+    → Keeps (record { outline = disk.map; mechanics = disk.mechanism; sector_bytes = disk.sector_bytes; latent = latent })
 kept_by disk latent =
-    (disk.same_cylinders, disk.some_cylinders, disk.some_heads, disk.some_rotation, disk.short_rotation, disk.few_blocks, disk.whole_sectors, disk.some_bytes, disk.few_bytes)
+    (
+      disk.same_cylinders,
+      disk.some_cylinders,
+      disk.some_heads,
+      disk.some_rotation,
+      disk.short_rotation,
+      disk.few_blocks,
+      disk.whole_sectors,
+      disk.some_bytes,
+      disk.few_bytes,
+    )
 
 same_with : (v w : ParamsValue) → v ≡ w → (kept : Keeps v) (also : Keeps w) → disk_with v kept ≡ disk_with w also
-same_with v w e = subst (λ (x : ParamsValue). (kept : Keeps v) (also : Keeps x) → disk_with v kept ≡ disk_with x also) e (λ kept also. ap (disk_with v) (Keeps-prop v kept also))
+same_with v w e = subst (λ (x : ParamsValue). (kept : Keeps v) (also : Keeps x) → disk_with v kept ≡ disk_with x also) e
+    (λ kept also. ap (disk_with v) (Keeps-prop v kept also))
 
-pub one_disk : (one other : DeskView) (name : List ℕ) (disk disk' : Disk) (latent latent' : List ℕ) → HoldAlike one other name → ReadsDisk one name disk latent → ReadsDisk other name disk' latent' → disk ≡ disk'
+pub one_disk : (one other : DeskView) (name : List ℕ) (disk disk' : Disk) (latent latent' : List ℕ) → HoldAlike one other name
+    → ReadsDisk one name disk latent → ReadsDisk other name disk' latent' → disk ≡ disk'
 one_disk one other name disk disk' latent latent' alike reads reads' =
     same_with _ _ (one_value one other name disk disk' latent latent' alike reads reads') (kept_by disk latent) (kept_by disk' latent')
 
-pub one_trace : (one other : DeskView) (name : List ℕ) (device : ℕ) (disk disk' : Disk) (trace trace' : Accepted) → disk ≡ disk' → HoldAlike one other name
+pub one_trace : (one other : DeskView) (name : List ℕ) (device : ℕ) (disk disk' : Disk) (trace trace' : Accepted) → disk ≡ disk'
+    → HoldAlike one other name
     → ReadsTrace one name device disk trace → ReadsTrace other name device disk' trace' → trace ≡ trace'
 one_trace one other name device disk disk' trace trace' same alike reads reads' =
     same_ok (trace_of device (length (places disk.map)) reads.bytes) _ _ reads.spells
@@ -72,8 +92,10 @@ one_trace one other name device disk disk' trace trace' same alike reads reads' 
     ∙ ap (trace_of device (length (places disk'.map))) (both_held one other name reads.bytes reads'.bytes alike reads.held reads'.held)
     ∙ reads'.spells)
 
-one_script : (one other : DeskView) (given : Option (List ℕ)) (disk disk' : Disk) (trace trace' : Accepted) (script script' : Script) → disk ≡ disk' → trace ≡ trace' → IfSome given (HoldAlike one other)
-    → ReadsScript one given disk (length trace.requests) script → ReadsScript other given disk' (length trace'.requests) script' → script ≡ script'
+one_script : (one other : DeskView) (given : Option (List ℕ)) (disk disk' : Disk) (trace trace' : Accepted) (script script' : Script)
+    → disk ≡ disk' → trace ≡ trace' → IfSome given (HoldAlike one other)
+    → ReadsScript one given disk (length trace.requests) script → ReadsScript other given disk' (length trace'.requests) script'
+    → script ≡ script'
 one_script one other None disk disk' trace trace' script script' same same_trace alike reads reads' = reads ∙ sym reads'
 one_script one other (Some name) disk disk' trace trace' script script' same same_trace alike reads reads' =
     same_ok (calls_of disk.map (length trace.requests) reads.bytes) _ _ reads.spells
@@ -90,10 +112,12 @@ all_one a b disk latent trace script =
     ∙ ap (λ s. record { disk = b.disk; latent = b.latent; trace = b.trace; script = s }) script
 
 -- the files of a replay
-pub one_reading : (one other : DeskView) (terms : SourceTerms) (a b : Files) → HoldOneInput one other terms → Accepts one terms a → Accepts other terms b → a ≡ b
+pub one_reading : (one other : DeskView) (terms : SourceTerms) (a b : Files) → HoldOneInput one other terms → Accepts one terms a
+    → Accepts other terms b → a ≡ b
 one_reading one other terms a b alike reads reads' =
     let value = one_value one other terms.params a.disk b.disk a.latent b.latent alike.params reads.disk reads'.disk in
     let disk : a.disk ≡ b.disk = one_disk one other terms.params a.disk b.disk a.latent b.latent alike.params reads.disk reads'.disk in
-    let trace : a.trace ≡ b.trace = one_trace one other terms.trace terms.device a.disk b.disk a.trace b.trace disk alike.trace reads.trace reads'.trace in
+    let trace : a.trace ≡ b.trace =
+    one_trace one other terms.trace terms.device a.disk b.disk a.trace b.trace disk alike.trace reads.trace reads'.trace in
     all_one a b disk (ap (λ (v : ParamsValue). v.latent) value) trace
     (one_script one other terms.calls a.disk b.disk a.trace b.trace a.script b.script disk trace alike.calls reads.script reads'.script)

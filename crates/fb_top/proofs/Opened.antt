@@ -23,25 +23,30 @@ use Rattle.fb_top.proofs.Unnamed.{is_named}
 -- what was read and what is left are what is held
 pub left_here : (bytes : List ℕ) (left held : Option (List ℕ)) → before bytes left ≡ held → IsLeftOf held left
 left_here bytes None held e = tt
-left_here bytes (Some rest) held e = subst (λ (told : Option (List ℕ)). IfSome told (λ all. (taken : List ℕ) × (taken ++ rest ≡ all))) e (bytes, refl)
+left_here bytes (Some rest) held e =
+    subst (λ (told : Option (List ℕ)). IfSome told (λ all. (taken : List ℕ) × (taken ++ rest ≡ all))) e (bytes, refl)
 
 -- also where a read failed behind it
 pub left_kept : (bytes : List ℕ) (left now held : Option (List ℕ)) → now ≡ left → before bytes left ≡ held → IsLeftOf held now
 left_kept bytes left now held same e = left_here bytes now held (ap (before bytes) same ∙ e)
 
 -- an input that was not touched is not opened
-pub unopened : (which : Input) (name : List ℕ) (old new : DeskView) → IsUnused old → new.inputs which ≡ old.inputs which → IsOpenedAs name old (new.inputs which)
+pub unopened : (which : Input) (name : List ℕ) (old new : DeskView) → IsUnused old → new.inputs which ≡ old.inputs which
+    → IsOpenedAs name old (new.inputs which)
 unopened which name old new unused same = λ is. let was = ap (λ (v : InputView). v.opened) same ∙ unused.inputs which in cc
 
 -- the same name, told of the desk before
-pub told_before : (name named : List ℕ) (old mid : DeskView) (input : InputView) → mid.held name ≡ old.held name → ◌≡◌ {A = Option (List ℕ)} (Some name) (Some named) → IsOpenedAs name mid input → IsOpenedAs named old input
+pub told_before : (name named : List ℕ) (old mid : DeskView) (input : InputView) → mid.held name ≡ old.held name
+    → ◌≡◌ {A = Option (List ℕ)} (Some name) (Some named) → IsOpenedAs name mid input → IsOpenedAs named old input
 told_before name named old mid input held same opened =
     let one : name ≡ named = cc in
-    subst (λ (n : List ℕ). IsOpenedAs n old input) one (subst (λ (told : Option (List ℕ)). input.opened ≡ true → IsLeftOf told input.left) held opened)
+    subst (λ (n : List ℕ). IsOpenedAs n old input) one
+    (subst (λ (told : Option (List ℕ)). input.opened ≡ true → IsLeftOf told input.left) held opened)
 
 module _ (terms : SourceTerms) (old : DeskView) (unused : IsUnused old) where
   -- the parameter file was read
-  pub opened_at_params : (new : DeskView) → ChangesInput Params old new → IsOpenedAs terms.params old (new.inputs Params) → OpensAsNamed (files_alone terms) old new
+  pub opened_at_params : (new : DeskView) → ChangesInput Params old new → IsOpenedAs terms.params old (new.inputs Params)
+      → OpensAsNamed (files_alone terms) old new
   opened_at_params new only opened Params name given = told_before terms.params name old old (new.inputs Params) refl given opened
   opened_at_params new only opened Trace name given = unopened Trace name old new unused (only.inputs Trace (λ e. cc))
   opened_at_params new only opened Calls name given = unopened Calls name old new unused (only.inputs Calls (λ e. cc))
@@ -50,13 +55,17 @@ module _ (terms : SourceTerms) (old : DeskView) (unused : IsUnused old) where
   opened_at_params new only opened BackReport name given = absurd (is_named name (sym given))
 
   module _ (mid : DeskView) (first : ChangesInput Params old mid) (params : IsOpenedAs terms.params old (mid.inputs Params)) where
-    params_still : (new : DeskView) (name : List ℕ) → new.inputs Params ≡ mid.inputs Params → name_of (files_alone terms) Params ≡ Some name → IsOpenedAs name old (new.inputs Params)
-    params_still new name same given = subst (λ (v : InputView). IsOpenedAs name old v) (sym same) (told_before terms.params name old old (mid.inputs Params) refl given params)
+    params_still : (new : DeskView) (name : List ℕ) → new.inputs Params ≡ mid.inputs Params → name_of (files_alone terms) Params ≡ Some name
+        → IsOpenedAs name old (new.inputs Params)
+    params_still new name same given = subst (λ (v : InputView). IsOpenedAs name old v) (sym same) (told_before terms.params name old old
+        (mid.inputs Params) refl given params)
 
     -- and the trace
-    pub opened_at_trace : (new : DeskView) → ChangesInput Trace mid new → IsOpenedAs terms.trace mid (new.inputs Trace) → OpensAsNamed (files_alone terms) old new
+    pub opened_at_trace : (new : DeskView) → ChangesInput Trace mid new → IsOpenedAs terms.trace mid (new.inputs Trace)
+        → OpensAsNamed (files_alone terms) old new
     opened_at_trace new second trace Params name given = params_still new name (second.inputs Params (λ e. cc)) given
-    opened_at_trace new second trace Trace name given = told_before terms.trace name old mid (new.inputs Trace) (first.held terms.trace) given trace
+    opened_at_trace new second trace Trace name given =
+        told_before terms.trace name old mid (new.inputs Trace) (first.held terms.trace) given trace
     opened_at_trace new second trace Calls name given =
         unopened Calls name old new unused (second.inputs Calls (λ e. cc) ∙ first.inputs Calls (λ e. cc))
     opened_at_trace new second trace Puts name given = absurd (is_named name (sym given))
@@ -64,11 +73,14 @@ module _ (terms : SourceTerms) (old : DeskView) (unused : IsUnused old) where
     opened_at_trace new second trace BackReport name given = absurd (is_named name (sym given))
 
     -- and the script, if it has a name
-    pub opened_at_calls : (late new : DeskView) → ChangesInput Trace mid late → IsOpenedAs terms.trace mid (late.inputs Trace) → ChangesInput Calls late new
+    pub opened_at_calls : (late new : DeskView) → ChangesInput Trace mid late → IsOpenedAs terms.trace mid (late.inputs Trace)
+        → ChangesInput Calls late new
         → IfSome terms.calls (λ given. IsOpenedAs given late (new.inputs Calls)) → OpensAsNamed (files_alone terms) old new
-    opened_at_calls late new second trace third script Params name given = params_still new name (third.inputs Params (λ e. cc) ∙ second.inputs Params (λ e. cc)) given
+    opened_at_calls late new second trace third script Params name given =
+        params_still new name (third.inputs Params (λ e. cc) ∙ second.inputs Params (λ e. cc)) given
     opened_at_calls late new second trace third script Trace name given =
-        subst (λ (v : InputView). IsOpenedAs name old v) (sym (third.inputs Trace (λ e. cc))) (told_before terms.trace name old mid (late.inputs Trace) (first.held terms.trace) given trace)
+        subst (λ (v : InputView). IsOpenedAs name old v) (sym (third.inputs Trace (λ e. cc)))
+        (told_before terms.trace name old mid (late.inputs Trace) (first.held terms.trace) given trace)
     opened_at_calls late new second trace third script Calls name given =
         told_before name name old late (new.inputs Calls) (second.held name ∙ first.held name) refl
         (subst (λ (told : Option (List ℕ)). IfSome told (λ n. IsOpenedAs n late (new.inputs Calls))) given script)
@@ -77,19 +89,27 @@ module _ (terms : SourceTerms) (old : DeskView) (unused : IsUnused old) where
     opened_at_calls late new second trace third script BackReport name given = absurd (is_named name (sym given))
 
 -- outputs leave the inputs alone
-pub opened_written : (terms : InputTerms) (old mid new : DeskView) → OpensAsNamed terms old mid → KeepsInputs mid new → OpensAsNamed terms old new
-opened_written terms old mid new opened keeps input name given = subst (λ (v : InputView). IsOpenedAs name old v) (sym (keeps input)) (opened input name given)
+pub opened_written : (terms : InputTerms) (old mid new : DeskView) → OpensAsNamed terms old mid → KeepsInputs mid new
+    → OpensAsNamed terms old new
+opened_written terms old mid new opened keeps input name given =
+    subst (λ (v : InputView). IsOpenedAs name old v) (sym (keeps input)) (opened input name given)
 
-pub opened_after : (reading : Result Terms UsageFault) (which : Output) (old mid new : DeskView) → OpensNamed reading old mid → ChangesOutput which mid new → OpensNamed reading old new
-opened_after (Ok (replays terms)) which old mid new opened only = opened_written (replay_inputs terms) old mid new opened (λ input. only.inputs input)
-opened_after (Ok (makes terms)) which old mid new opened only = subst (λ (v : InputView). IsOpenedAs terms.params old v) (sym (only.inputs Params)) opened
-opened_after (Ok (checks terms)) which old mid new opened only = opened_written (check_inputs terms) old mid new opened (λ input. only.inputs input)
-opened_after (Ok (arrays terms)) which old mid new opened only = opened_written (array_inputs terms) old mid new opened (λ input. only.inputs input)
+pub opened_after : (reading : Result Terms UsageFault) (which : Output) (old mid new : DeskView) → OpensNamed reading old mid
+    → ChangesOutput which mid new → OpensNamed reading old new
+opened_after (Ok (replays terms)) which old mid new opened only =
+    opened_written (replay_inputs terms) old mid new opened (λ input. only.inputs input)
+opened_after (Ok (makes terms)) which old mid new opened only =
+    subst (λ (v : InputView). IsOpenedAs terms.params old v) (sym (only.inputs Params)) opened
+opened_after (Ok (checks terms)) which old mid new opened only =
+    opened_written (check_inputs terms) old mid new opened (λ input. only.inputs input)
+opened_after (Ok (arrays terms)) which old mid new opened only =
+    opened_written (array_inputs terms) old mid new opened (λ input. only.inputs input)
 opened_after (Err fault) which old mid new opened only = tt
 
 -- no call failed while the three inputs were read
 pub calm_inputs : (old mid late new : DeskView) → ChangesInput Params old mid → ChangesInput Trace mid late → ChangesInput Calls late new
-    → (mid.inputs Params).faults ≡ (old.inputs Params).faults → (late.inputs Trace).faults ≡ (mid.inputs Trace).faults → (new.inputs Calls).faults ≡ (late.inputs Calls).faults → AreInputsCalm old new
+    → (mid.inputs Params).faults ≡ (old.inputs Params).faults → (late.inputs Trace).faults ≡ (mid.inputs Trace).faults
+    → (new.inputs Calls).faults ≡ (late.inputs Calls).faults → AreInputsCalm old new
 calm_inputs old mid late new first second third params trace script Params =
     ap (λ (v : InputView). v.faults) (third.inputs Params (λ e. cc) ∙ second.inputs Params (λ e. cc)) ∙ params
 calm_inputs old mid late new first second third params trace script Trace =
@@ -100,19 +120,23 @@ calm_inputs old mid late new first second third params trace script Calls =
 calm_inputs old mid late new first second third params trace script Puts =
     ap (λ (v : InputView). v.faults) (third.inputs Puts (λ e. cc) ∙ second.inputs Puts (λ e. cc) ∙ first.inputs Puts (λ e. cc))
 calm_inputs old mid late new first second third params trace script ForeReport =
-    ap (λ (v : InputView). v.faults) (third.inputs ForeReport (λ e. cc) ∙ second.inputs ForeReport (λ e. cc) ∙ first.inputs ForeReport (λ e. cc))
+    ap (λ (v : InputView). v.faults)
+    (third.inputs ForeReport (λ e. cc) ∙ second.inputs ForeReport (λ e. cc) ∙ first.inputs ForeReport (λ e. cc))
 calm_inputs old mid late new first second third params trace script BackReport =
-    ap (λ (v : InputView). v.faults) (third.inputs BackReport (λ e. cc) ∙ second.inputs BackReport (λ e. cc) ∙ first.inputs BackReport (λ e. cc))
+    ap (λ (v : InputView). v.faults)
+    (third.inputs BackReport (λ e. cc) ∙ second.inputs BackReport (λ e. cc) ∙ first.inputs BackReport (λ e. cc))
 
 -- inputs were read, and then outputs written
-pub calm_both : (old mid new : DeskView) → AreInputsCalm old mid → KeepsOutputs old mid → KeepsInputs mid new → AreOutputsCalm mid new → IsCalm old new
+pub calm_both : (old mid new : DeskView) → AreInputsCalm old mid → KeepsOutputs old mid → KeepsInputs mid new → AreOutputsCalm mid new
+    → IsCalm old new
 calm_both old mid new read same keeps written = record {
   inputs = λ input. ap (λ (v : InputView). v.faults) (keeps input) ∙ read input;
   outputs = λ output. written output ∙ ap (λ (v : OutputView). v.faults) (same output);
 }
 
 -- the note was written, and no other output was touched
-calm_note : (old new : DeskView) → ChangesOutput Note old new → (new.outputs Note).faults ≡ (old.outputs Note).faults → AreOutputsCalm old new
+calm_note : (old new : DeskView) → ChangesOutput Note old new → (new.outputs Note).faults ≡ (old.outputs Note).faults
+    → AreOutputsCalm old new
 calm_note old new only calm Note = calm
 calm_note old new only calm Fore = ap (λ (v : OutputView). v.faults) (only.outputs Fore (λ e. cc))
 calm_note old new only calm Back = ap (λ (v : OutputView). v.faults) (only.outputs Back (λ e. cc))
@@ -124,17 +148,22 @@ calm_note old new only calm Copied = ap (λ (v : OutputView). v.faults) (only.ou
 pub calm_outputs : (old mid new : DeskView) → AreOutputsCalm old mid → AreOutputsCalm mid new → AreOutputsCalm old new
 calm_outputs old mid new first second = λ output. second output ∙ first output
 
-is_calm_after : (old mid new : DeskView) → IsCalm old mid → ChangesOutput Note mid new → (new.outputs Note).faults ≡ (mid.outputs Note).faults → IsCalm old new
+is_calm_after : (old mid new : DeskView) → IsCalm old mid → ChangesOutput Note mid new
+    → (new.outputs Note).faults ≡ (mid.outputs Note).faults → IsCalm old new
 is_calm_after old mid new calm only note = record {
   inputs = λ input. ap (λ (v : InputView). v.faults) (only.inputs input) ∙ calm.inputs input;
   outputs = calm_outputs old mid new calm.outputs (calm_note mid new only note);
 }
 
 -- the note is left as it is where something was done
-pub calm_after : (outcome : Outcome) (old mid new : DeskView) → MeetsNoFault outcome old mid → ChangesOutput Note mid new → LeavesNote outcome (mid.outputs Note) (new.outputs Note) → MeetsNoFault outcome old new
+pub calm_after : (outcome : Outcome) (old mid new : DeskView) → MeetsNoFault outcome old mid → ChangesOutput Note mid new
+    → LeavesNote outcome (mid.outputs Note) (new.outputs Note) → MeetsNoFault outcome old new
 calm_after (outcomes.Done run) old mid new calm only note = is_calm_after old mid new calm only (ap (λ (v : OutputView). v.faults) note)
 calm_after (outcomes.Made n) old mid new calm only note = is_calm_after old mid new calm only (ap (λ (v : OutputView). v.faults) note)
-calm_after (outcomes.Checked verdict) old mid new calm only note = is_calm_after old mid new calm only (ap (λ (v : OutputView). v.faults) note)
-calm_after (outcomes.Arrayed runs copy) old mid new calm only note = is_calm_after old mid new calm only (ap (λ (v : OutputView). v.faults) note)
-calm_after (outcomes.Spilled run spill) old mid new calm only note = is_calm_after old mid new calm only (ap (λ (v : OutputView). v.faults) note)
+calm_after (outcomes.Checked verdict) old mid new calm only note =
+    is_calm_after old mid new calm only (ap (λ (v : OutputView). v.faults) note)
+calm_after (outcomes.Arrayed runs copy) old mid new calm only note =
+    is_calm_after old mid new calm only (ap (λ (v : OutputView). v.faults) note)
+calm_after (outcomes.Spilled run spill) old mid new calm only note =
+    is_calm_after old mid new calm only (ap (λ (v : OutputView). v.faults) note)
 calm_after _ old mid new calm only note = tt

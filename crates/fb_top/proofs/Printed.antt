@@ -34,10 +34,12 @@ pub record Prints (old new : DeskView) (terms : ReplayTerms) (run : Run) : Type 
 
 pub prints : (old new : DeskView) (terms : ReplayTerms) (run : Run) → HasReplayed old new terms run → Prints old new terms run
 prints old new terms run (inl done) = record { is_run = done.is_run; fore = done.reports.fore; back = done.reports.back; read = done.read }
-prints old new terms run (inr h) = record { is_run = h.1.is_run; fore = h.1.texts.reports.fore; back = h.1.texts.reports.back; read = h.1.read }
+prints old new terms run (inr h) =
+    record { is_run = h.1.is_run; fore = h.1.texts.reports.fore; back = h.1.texts.reports.back; read = h.1.read }
 
 -- a text that is read back, that was written to an output and is held under a name
-module _ (output : OutputView) (desk : DeskView) (name under : List ℕ) (grammar : Grammar) (lines : List (List ℕ)) (holds : HoldsWritten output desk name) (whole : HoldsWhole output under (joined lines)) (read : IsReadBack grammar lines) where
+module _ (output : OutputView) (desk : DeskView) (name under : List ℕ) (grammar : Grammar) (lines : List (List ℕ))
+    (holds : HoldsWritten output desk name) (whole : HoldsWhole output under (joined lines)) (read : IsReadBack grammar lines) where
   one_text : holds.bytes ≡ joined lines
   one_text = subst (λ (told : Option (List ℕ)). IfSome told (λ bytes. bytes ≡ joined lines)) holds.written whole.written
 
@@ -60,7 +62,8 @@ module _ (output : OutputView) (desk : DeskView) (name under : List ℕ) (gramma
 -- files of the same bytes are accepted on both desks
 module _ (one other : DeskView) where
   held_there : (name bytes : List ℕ) → HoldAlike one other name → IsHeld one name bytes → IsHeld other name bytes
-  held_there name bytes alike held = subst (λ (told : Option (List ℕ)). IfSome told (λ here. bytes ≡ here)) (sym alike.2) (held_here (one.held name) bytes alike.0 alike.1 held)
+  held_there name bytes alike held = subst (λ (told : Option (List ℕ)). IfSome told (λ here. bytes ≡ here)) (sym alike.2)
+      (held_here (one.held name) bytes alike.0 alike.1 held)
 
   reads_there : {A : Type 0} {limit : ℕ} {read : List ℕ → A} {verdict : A} (name : List ℕ) → HoldAlike one other name
       → ReadsAs one name limit read verdict → ReadsAs other name limit read verdict
@@ -70,11 +73,13 @@ module _ (one other : DeskView) where
   pub told_there : (name : List ℕ) → HoldAlike one other name → is_some (other.held name) ≡ true
   told_there name alike = ap is_some alike.2
 
-  script_there : (given : Option (List ℕ)) (disk : Disk) (traced : ℕ) (script : Script) → IfSome given (HoldAlike one other) → ReadsScript one given disk traced script → ReadsScript other given disk traced script
+  script_there : (given : Option (List ℕ)) (disk : Disk) (traced : ℕ) (script : Script) → IfSome given (HoldAlike one other)
+      → ReadsScript one given disk traced script → ReadsScript other given disk traced script
   script_there None disk traced script alike reads = reads
   script_there (Some name) disk traced script alike reads = reads_there name alike reads
 
-  pub accepted_there : (terms : SourceTerms) (files : Files) → HoldOneInput one other terms → Accepts one terms files → Accepts other terms files
+  pub accepted_there : (terms : SourceTerms) (files : Files) → HoldOneInput one other terms → Accepts one terms files
+      → Accepts other terms files
   accepted_there terms files alike reads = record {
     disk = reads_there terms.params alike.params reads.disk;
     trace = reads_there terms.trace alike.trace reads.trace;
@@ -82,7 +87,8 @@ module _ (one other : DeskView) where
   }
 
 -- a judgement whose only verdict is yes
-pub answers_yes : (old new : DeskView) (terms : CheckTerms) (outcome : Outcome) → ((verdict : Verdict) → IsVerdictOf old terms verdict → verdict ≡ Yes) → CheckHasCause terms old new outcome → IsJudged outcome
+pub answers_yes : (old new : DeskView) (terms : CheckTerms) (outcome : Outcome)
+    → ((verdict : Verdict) → IsVerdictOf old terms verdict → verdict ≡ Yes) → CheckHasCause terms old new outcome → IsJudged outcome
     → (outcome ≡ outcomes.Checked Yes) ⊎ (outcome ≡ outcomes.NoMemory)
 answers_yes old new terms (outcomes.Checked verdict) right cause judged = inl (ap outcomes.Checked (right verdict cause.is_verdict))
 answers_yes old new terms outcomes.NoMemory right cause judged = inr refl

@@ -11,7 +11,8 @@ use Rattle.fb_words.specs.Command.{ReplayTerms}
 use Rattle.fb_top.specs.Read.{ReadsScript, inputs_of, key_of}
 use Rattle.fb_top.specs.Done.{CanBeRead, IsRunOf}
 
-named : (desk : DeskView) (given : Option (List ℕ)) (disk : Disk) (traced : ℕ) (script : Script) → ReadsScript desk given disk traced script → AreNames script.names
+named : (desk : DeskView) (given : Option (List ℕ)) (disk : Disk) (traced : ℕ) (script : Script) → ReadsScript desk given disk traced script
+    → AreNames script.names
 named desk None disk traced script reads = subst (λ (s : Script). AreNames s.names) (sym reads) tt
 named desk (Some name) disk traced script reads = scripts_name disk.map traced reads.bytes script reads.spells
 

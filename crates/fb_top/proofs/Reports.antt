@@ -19,43 +19,57 @@ back_is_no_fore : Back ≢ Fore
 back_is_no_fore e = cc
 
 module _ (terms : ReplayTerms) (files : Files) (run : Run) where
-  cuts_fore : (old new : DeskView) → ChangesOutput Fore old new → HoldsFront (new.outputs Fore) (codes "-") (fore_told terms files run) → CutsFore terms files run old new
+  cuts_fore : (old new : DeskView) → ChangesOutput Fore old new → HoldsFront (new.outputs Fore) (codes "-") (fore_told terms files run)
+      → CutsFore terms files run old new
   cuts_fore old new only front = record { others = λ output not_fore no_note. only.outputs output not_fore; front = front }
 
   -- why the foreground was not written
-  pub stopped_fore : (old new : DeskView) (outcome : Outcome) → ChangesOutput Fore old new → StopsText Fore (codes "-") (fore_told terms files run) old new outcome → StopsReports terms files run old new outcome
+  pub stopped_fore : (old new : DeskView) (outcome : Outcome) → ChangesOutput Fore old new
+      → StopsText Fore (codes "-") (fore_told terms files run) old new outcome → StopsReports terms files run old new outcome
   stopped_fore old new (outcomes.WriteFault Fore) only h = (h.1, cuts_fore old new only h.2)
   stopped_fore old new outcomes.NoMemory only h = inl (cuts_fore old new only h)
   stopped_fore old new (outcomes.WriteFault output) only h = absurd (let other = h.0 in cc)
   stopped_fore old new _ only h = absurd h
 
-  module _ (old mid new : DeskView) (first : ChangesOutput Fore old mid) (second : ChangesOutput Back mid new) (whole : HoldsWhole (mid.outputs Fore) (codes "-") (fore_told terms files run)) where
+  module _ (old mid new : DeskView) (first : ChangesOutput Fore old mid) (second : ChangesOutput Back mid new)
+      (whole : HoldsWhole (mid.outputs Fore) (codes "-") (fore_told terms files run)) where
     fore_stands : HoldsWhole (new.outputs Fore) (codes "-") (fore_told terms files run)
-    fore_stands = subst (λ (v : OutputView). HoldsWhole v (codes "-") (fore_told terms files run)) (sym (second.outputs Fore fore_is_no_back)) whole
+    fore_stands =
+        subst (λ (v : OutputView). HoldsWhole v (codes "-") (fore_told terms files run)) (sym (second.outputs Fore fore_is_no_back)) whole
 
-    cuts_back : (name : List ℕ) → terms.back ≡ Some name → HoldsFront (new.outputs Back) name (back_told terms files run) → CutsBack terms files run old new
+    cuts_back : (name : List ℕ) → terms.back ≡ Some name → HoldsFront (new.outputs Back) name (back_told terms files run)
+        → CutsBack terms files run old new
     cuts_back name given front =
-        (name, given, record { others = λ output not_fore not_back no_note. second.outputs output not_back ∙ first.outputs output not_fore; whole = fore_stands; front = front })
+        (name, given, record { others = λ output not_fore not_back no_note. second.outputs output not_back
+        ∙ first.outputs output not_fore; whole = fore_stands; front = front })
 
     -- why the background was not written
-    pub stopped_back : (outcome : Outcome) (name : List ℕ) → terms.back ≡ Some name → StopsText Back name (back_told terms files run) mid new outcome → StopsReports terms files run old new outcome
-    stopped_back (outcomes.WriteFault Back) name given h = (subst (λ (v : OutputView). Rose v.faults (new.outputs Back).faults) (first.outputs Back back_is_no_fore) h.1, cuts_back name given h.2)
+    pub stopped_back : (outcome : Outcome) (name : List ℕ) → terms.back ≡ Some name
+        → StopsText Back name (back_told terms files run) mid new outcome → StopsReports terms files run old new outcome
+    stopped_back (outcomes.WriteFault Back) name given h = (
+      subst (λ (v : OutputView). Rose v.faults (new.outputs Back).faults) (first.outputs Back back_is_no_fore) h.1,
+      cuts_back name given h.2,
+    )
     stopped_back outcomes.NoMemory name given h = inr (cuts_back name given h)
     stopped_back (outcomes.WriteFault output) name given h = absurd (let other = h.0 in cc)
     stopped_back _ name given h = absurd h
 
     -- both were written
-    pub wrote_both : (name : List ℕ) → terms.back ≡ Some name → HoldsWhole (new.outputs Back) name (back_told terms files run) → HoldsReports terms files run old new
+    pub wrote_both : (name : List ℕ) → terms.back ≡ Some name → HoldsWhole (new.outputs Back) name (back_told terms files run)
+        → HoldsReports terms files run old new
     wrote_both name given back = record {
       others = λ output not_fore not_back no_note. second.outputs output not_back ∙ first.outputs output not_fore;
       fore = fore_stands;
-      back = subst (λ (told : Option (List ℕ)). HoldsWanted told (back_told terms files run) (old.outputs Back) (new.outputs Back)) (sym given) back;
+      back = subst (λ (told : Option (List ℕ)). HoldsWanted told (back_told terms files run) (old.outputs Back) (new.outputs Back))
+          (sym given) back;
     }
 
   -- the foreground alone was wanted
-  pub wrote_fore : (old new : DeskView) → ChangesOutput Fore old new → HoldsWhole (new.outputs Fore) (codes "-") (fore_told terms files run) → terms.back ≡ None → HoldsReports terms files run old new
+  pub wrote_fore : (old new : DeskView) → ChangesOutput Fore old new → HoldsWhole (new.outputs Fore) (codes "-") (fore_told terms files run)
+      → terms.back ≡ None → HoldsReports terms files run old new
   wrote_fore old new only whole given = record {
     others = λ output not_fore not_back no_note. only.outputs output not_fore;
     fore = whole;
-    back = subst (λ (told : Option (List ℕ)). HoldsWanted told (back_told terms files run) (old.outputs Back) (new.outputs Back)) (sym given) (only.outputs Back back_is_no_fore);
+    back = subst (λ (told : Option (List ℕ)). HoldsWanted told (back_told terms files run) (old.outputs Back) (new.outputs Back))
+        (sym given) (only.outputs Back back_is_no_fore);
   }

@@ -25,7 +25,8 @@ one_of_two : (report : Report) → (report ≡ reports.Fore) ⊎ (report ≡ rep
 one_of_two reports.Fore = inl refl
 one_of_two reports.Back = inr refl
 
-module _ (one_run : OneFullRun) (inputs : Inputs) (printed : Reports) (run : Run) (accepted : IsAccepted inputs) (full : IsFull inputs run) (fore : HasForeLines inputs printed run) (back : HasBackLines inputs printed run) where
+module _ (one_run : OneFullRun) (inputs : Inputs) (printed : Reports) (run : Run) (accepted : IsAccepted inputs) (full : IsFull inputs run)
+    (fore : HasForeLines inputs printed run) (back : HasBackLines inputs printed run) where
   not_wrong : (mismatch : Mismatch) → IsWrong inputs printed mismatch → ⊥
   not_wrong mismatch wrong = elim (one_of_two mismatch.report) [
     | inl is ↦
@@ -33,7 +34,8 @@ module _ (one_run : OneFullRun) (inputs : Inputs) (printed : Reports) (run : Run
         there.lines.there (ap (λ lines. slice_get lines there.index) fore)
     | inr is ↦
         let here = wrong.1 is in
-        here.wrong.lines.there (ap (λ lines. slice_get lines here.wrong.index) (ap (λ (r : Run). back_lines printed.names inputs.disk.sector_bytes printed.bytes r) (one_run inputs here.run run accepted here.full full) ∙ back))
+        here.wrong.lines.there (ap (λ lines. slice_get lines here.wrong.index) (ap (λ (r : Run).
+        back_lines printed.names inputs.disk.sector_bytes printed.bytes r) (one_run inputs here.run run accepted here.full full) ∙ back))
   ]
 
   -- right reports are not refused
@@ -42,7 +44,9 @@ module _ (one_run : OneFullRun) (inputs : Inputs) (printed : Reports) (run : Run
   is_yes (No mismatch) h = absurd (not_wrong mismatch h)
 
 -- a report of these lines is read as these lines
-pub read_as : (desk : DeskView) (name : List ℕ) (grammar : Grammar) (lines found : List (List ℕ)) → HoldsLines desk name grammar lines → ReadsReport desk name grammar found → lines ≡ map ended found
+pub read_as : (desk : DeskView) (name : List ℕ) (grammar : Grammar) (lines found : List (List ℕ)) → HoldsLines desk name grammar lines
+    → ReadsReport desk name grammar found → lines ≡ map ended found
 read_as desk name grammar lines found holds reads =
     sym holds.read.are ∙ ap (map ended) (same_ok (report_of grammar reads.reads.bytes) holds.read.parts found
-    (ap (report_of grammar) (held_here (desk.held name) reads.reads.bytes (joined lines) holds.held reads.reads.held) ∙ holds.read.read) reads.reads.spells)
+    (ap (report_of grammar) (held_here (desk.held name) reads.reads.bytes (joined lines) holds.held reads.reads.held) ∙ holds.read.read)
+    reads.reads.spells)

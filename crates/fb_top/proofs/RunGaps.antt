@@ -21,7 +21,8 @@ use Rattle.fb_units.specs.declared.types.Request.{Request}
 use Rattle.fb_bgwrite.specs.Spilled.{AreGaps}
 
 -- rows that are no gaps stand before others
-quiet_before : (disk : Disk) (rows back : List BackRow) (fore : List ForeRow) → AllByRecursion IsQuiet rows → AreGaps disk back fore → AreGaps disk (rows ++ back) fore
+quiet_before : (disk : Disk) (rows back : List BackRow) (fore : List ForeRow) → AllByRecursion IsQuiet rows → AreGaps disk back fore
+    → AreGaps disk (rows ++ back) fore
 quiet_before disk [] back fore quiet are = are
 quiet_before disk (GapLine row ∷ rows) back fore quiet are = absurd quiet.0
 quiet_before disk (IdleLine dwell ∷ rows) back fore quiet are = absurd quiet.0

@@ -17,7 +17,8 @@ use Rattle.fb_top.specs.Causes.{HasCause, IsCut, RunsOut}
 use Rattle.fb_top.specs.Done.{AreReadBack, CanBeRead, HoldsReports, HoldsWanted, IsRunOf, back_told, fore_told}
 use Rattle.fb_top.specs.Read.{AcceptsPuts, Files, inputs_of, key_of}
 use Rattle.fb_top.specs.Sources.{replay_inputs}
-use Rattle.fb_top.specs.Spilled.{CutsSpill, HoldsBoth, HoldsReplay, HoldsSpill, IsSpillOf, StopsReplay, StopsSpill, WritesGiven, WritesPuts, spill_told}
+use Rattle.fb_top.specs.Spilled.{CutsSpill, HoldsBoth, HoldsReplay, HoldsSpill, IsSpillOf, StopsReplay, StopsSpill, WritesGiven, WritesPuts}
+use Rattle.fb_top.specs.Spilled.{spill_told}
 use Rattle.fb_top.specs.Written.{HoldsFront, HoldsWhole, KeepsReports, StopsText}
 use Rattle.fb_top.specs.Taken.{TakesReplay, done_as}
 use Rattle.fb_top.proofs.Readable.{run_can_be_read}
@@ -28,10 +29,12 @@ pub holds_of : {X : Type 0} (P : X → Type 0) (given : Option X) (x : X) → gi
 holds_of P given x is all = subst (λ o. IfSome o P) is all
 
 -- the first desk keeps the reports of one before it, and one after the second keeps those of the second
-module _ (old mid late new : DeskView) (first : KeepsReports old mid) (last : KeepsReports late new) (terms : ReplayTerms) (files : Files) (run : Run) where
+module _ (old mid late new : DeskView) (first : KeepsReports old mid) (last : KeepsReports late new) (terms : ReplayTerms) (files : Files)
+    (run : Run) where
   both_moved : HoldsBoth terms files run mid late → HoldsBoth terms files run old new
   both_moved holds = record {
-    others = λ output not_fore not_back not_spill no_note. last output no_note ∙ holds.others output not_fore not_back not_spill no_note ∙ first output no_note;
+    others = λ output not_fore not_back not_spill no_note. last output no_note ∙ holds.others output not_fore not_back not_spill no_note
+        ∙ first output no_note;
     fore = whole old mid late new first last Fore _ (fore_told terms files run) fore_is_no_note holds.fore;
     back = wanted old mid late new first last terms.back (back_told terms files run) holds.back;
   }
@@ -52,19 +55,24 @@ module _ (old mid late new : DeskView) (first : KeepsReports old mid) (last : Ke
     front = front old mid late new first last Spill cut.name (spill_told terms files spill) spill_is_no_note cut.front;
   }
 
-  pub stops_moved : (spill : SpillRun) (outcome : Outcome) → StopsSpill terms files run spill mid late outcome → StopsSpill terms files run spill old new outcome
-  stops_moved spill (outcomes.WriteFault Spill) h = (faults_rose old mid late new first last Spill spill_is_no_note h.0, cut_moved spill h.1)
+  pub stops_moved : (spill : SpillRun) (outcome : Outcome) → StopsSpill terms files run spill mid late outcome
+      → StopsSpill terms files run spill old new outcome
+  stops_moved spill (outcomes.WriteFault Spill) h =
+      (faults_rose old mid late new first last Spill spill_is_no_note h.0, cut_moved spill h.1)
   stops_moved spill outcomes.NoMemory h = cut_moved spill h
   stops_moved spill _ h = absurd h
 
 -- the reports were written, and behind them the text of what was written in free gaps
-module _ (terms : ReplayTerms) (files : Files) (run : Run) (spill : SpillRun) (old mid new : DeskView) (reports : HoldsReports terms files run old mid) (only : ChangesOutput Spill mid new)
+module _ (terms : ReplayTerms) (files : Files) (run : Run) (spill : SpillRun) (old mid new : DeskView)
+    (reports : HoldsReports terms files run old mid) (only : ChangesOutput Spill mid new)
     (name : List ℕ) (given : terms.spill ≡ Some name) where
   both_stand : HoldsBoth terms files run old new
   both_stand = record {
     others = λ output not_fore not_back not_spill no_note. only.outputs output not_spill ∙ reports.others output not_fore not_back no_note;
-    fore = subst (λ (v : OutputView). HoldsWhole v (codes "-") (fore_told terms files run)) (sym (only.outputs Fore (λ e. cc))) reports.fore;
-    back = subst (λ (v : OutputView). HoldsWanted terms.back (back_told terms files run) (old.outputs Back) v) (sym (only.outputs Back (λ e. cc))) reports.back;
+    fore =
+        subst (λ (v : OutputView). HoldsWhole v (codes "-") (fore_told terms files run)) (sym (only.outputs Fore (λ e. cc))) reports.fore;
+    back = subst (λ (v : OutputView). HoldsWanted terms.back (back_told terms files run) (old.outputs Back) v)
+        (sym (only.outputs Back (λ e. cc))) reports.back;
   }
 
   pub wrote_spill : HoldsWhole (new.outputs Spill) name (spill_told terms files spill) → HoldsSpill terms files run spill old new
@@ -74,15 +82,20 @@ module _ (terms : ReplayTerms) (files : Files) (run : Run) (spill : SpillRun) (o
   cut holds = record { reports = both_stand; name = name; given = given; front = holds }
 
   -- why that text was not written
-  pub stopped_spill : (outcome : Outcome) → StopsText Spill name (spill_told terms files spill) mid new outcome → StopsSpill terms files run spill old new outcome
+  pub stopped_spill : (outcome : Outcome) → StopsText Spill name (spill_told terms files spill) mid new outcome
+      → StopsSpill terms files run spill old new outcome
   stopped_spill (outcomes.WriteFault Spill) h =
-      (subst (λ (v : OutputView). Rose v.faults (new.outputs Spill).faults) (reports.others Spill (λ e. cc) (λ e. cc) (λ e. cc)) h.1, cut h.2)
+      (
+        subst (λ (v : OutputView). Rose v.faults (new.outputs Spill).faults) (reports.others Spill (λ e. cc) (λ e. cc) (λ e. cc)) h.1,
+        cut h.2,
+      )
   stopped_spill outcomes.NoMemory h = cut h
   stopped_spill (outcomes.WriteFault output) h = absurd (let other = h.0 in cc)
   stopped_spill _ h = absurd h
 
 -- where nothing is written in free gaps, the words name no puts
-no_puts : (desk : DeskView) (files : Files) (run : Run) (given : Option (List ℕ)) (puts : Option PutsRead) → AcceptsPuts desk given files puts → WritesGiven files.disk run puts None → given ≡ None
+no_puts : (desk : DeskView) (files : Files) (run : Run) (given : Option (List ℕ)) (puts : Option PutsRead)
+    → AcceptsPuts desk given files puts → WritesGiven files.disk run puts None → given ≡ None
 no_puts desk files run None None accepts writes = refl
 no_puts desk files run (Some name) None accepts writes = absurd accepts
 no_puts desk files run given (Some puts) accepts writes = absurd writes
@@ -122,7 +135,8 @@ module _ (terms : ReplayTerms) (files : Files) (puts : Option PutsRead) (old mid
     spill_of asked None spill is accepts writes = absurd cc
 
     -- all was written
-    pub all_written : (given : Option SpillRun) (new : DeskView) → WritesGiven files.disk run puts given → HoldsReplay terms files run given mid new
+    pub all_written : (given : Option SpillRun) (new : DeskView) → WritesGiven files.disk run puts given
+        → HoldsReplay terms files run given mid new
         → (CanBeRead files run → AreReadBack terms files run) → HasCause terms old new (done_as run given)
     all_written (Some spill) new writes holds read = record {
       is_run = is_run;

@@ -4,7 +4,8 @@ use Rattle.std.specs.Prelude.{not}
 use Rattle.fb_units.proofs.Lists.{same_Ok}
 use Rattle.fb_units.specs.Judging.{or_refuse, refuse, refused_as}
 use Rattle.fb_units.proofs.Judged.{both_ok, step_ok, test_ok}
-use Rattle.fb_words.specs.Command.{ReplayTerms, Terms, command_of, go_together, replay_of, replays, makes, checks, arrays, terms_of, make_of, check_of, array_of, with_verb}
+use Rattle.fb_words.specs.Command.{ReplayTerms, Terms, command_of, go_together, replay_of, replays, makes, checks, arrays, terms_of}
+use Rattle.fb_words.specs.Command.{make_of, check_of, array_of, with_verb}
 use Rattle.fb_words.specs.Names.{verb_of}
 use Rattle.fb_words.specs.Options.{Options, no_options}
 use Rattle.fb_words.specs.Reading.{fault_at, options_from, ready}
@@ -40,12 +41,14 @@ together_replay given terms e =
 
 together_terms : (verb : Verb) (given : Options) (terms : Terms) → terms_of verb given ≡ Ok terms → GoTogether terms
 unfolding terms_of
-together_terms Replay given terms e = let p = both_ok (replay_of given) _ terms e in subst GoTogether (same_Ok _ terms p.2) (together_replay given p.0 p.1)
+together_terms Replay given terms e = let p = both_ok (replay_of given) _ terms e in
+    subst GoTogether (same_Ok _ terms p.2) (together_replay given p.0 p.1)
 together_terms Make given terms e = let p = both_ok (make_of given) _ terms e in subst GoTogether (same_Ok _ terms p.2) tt
 together_terms Check given terms e = let p = both_ok (check_of given) _ terms e in subst GoTogether (same_Ok _ terms p.2) tt
 together_terms Array given terms e = let p = both_ok (array_of given) _ terms e in subst GoTogether (same_Ok _ terms p.2) tt
 
-together_verb : (count : ℕ) (name : List ℕ) (words : List (List ℕ)) (terms : Terms) → with_verb count name words ≡ Ok terms → GoTogether terms
+together_verb : (count : ℕ) (name : List ℕ) (words : List (List ℕ)) (terms : Terms) → with_verb count name words ≡ Ok terms
+    → GoTogether terms
 unfolding with_verb
 together_verb count name words terms e =
     let verb = both_ok (refused_as (fault_at 1) (or_refuse UnknownCommand (verb_of name))) _ terms e in
@@ -57,10 +60,12 @@ together_words [] terms e = cc
 together_words (program ∷ []) terms e = cc
 together_words (program ∷ name ∷ words) terms e = together_verb (length (program ∷ name ∷ words)) name words terms e
 
-pub puts_and_spill : (words : List (List ℕ)) (terms : ReplayTerms) → command_of words ≡ Ok (replays terms) → go_together terms.puts terms.spill ≡ true
+pub puts_and_spill : (words : List (List ℕ)) (terms : ReplayTerms) → command_of words ≡ Ok (replays terms)
+    → go_together terms.puts terms.spill ≡ true
 puts_and_spill words terms e = together_words words (replays terms) e
 
 -- a command that was read
-pub of_command : (words : List (List ℕ)) (command : Command) (replay : ReplayWords) → command_of words ≡ Ok (terms command) → command ≡ commands.Replay replay
+pub of_command : (words : List (List ℕ)) (command : Command) (replay : ReplayWords) → command_of words ≡ Ok (terms command)
+    → command ≡ commands.Replay replay
     → go_together (replay_terms replay).puts (replay_terms replay).spill ≡ true
 of_command words command replay answer is = puts_and_spill words (replay_terms replay) (answer ∙ ap (λ k. Ok (terms k)) is)

@@ -1,5 +1,6 @@
 -- What the replay of an array has written, and why.
-use Rattle.std.specs.Prelude.{◌≡◌, ◌≢◌, ◌⊎◌, ℕ, ◌+◌, ◌≤◌, ◌^◌, List, [], ◌∷◌, ◌++◌, length, decimal, codes, slice_get, Option, Some, option_and_then, true, is_some}
+use Rattle.std.specs.Prelude.{◌≡◌, ◌≢◌, ◌⊎◌, ℕ, ◌+◌, ◌≤◌, ◌^◌, List, [], ◌∷◌, ◌++◌, length, decimal, codes, slice_get, Option, Some}
+use Rattle.std.specs.Prelude.{option_and_then, true, is_some}
 use Rattle.std.specs.Option.{option_map}
 use Rattle.std.specs.String.{string_bytes}
 use Rattle.fb_geometry.specs.Places.{places}
@@ -83,7 +84,8 @@ sectors_of array = length (places array.disk.map)
 
 -- the replacement that a run makes on a disk of so many sectors
 abbrev pub replacement : ℕ → Run → Rebuilt
-replacement sectors run = record { sealed = sealed_in run.back; content = contents_after (events run) sectors; covered = covered_after (events run) sectors }
+replacement sectors run =
+    record { sealed = sealed_in run.back; content = contents_after (events run) sectors; covered = covered_after (events run) sectors }
 
 -- what is written of a rebuild: the background report of its run, and then the text of the replacement
 abbrev pub rebuild_texts : ArrayTerms → Array → Option RebuildTerms → Option Run → List Text
@@ -96,7 +98,11 @@ rebuild_texts terms array _ _ = []
 -- the same texts, by their lines
 abbrev pub copy_texts : RebuildWords → BackLines → CopyLines → List Text
 copy_texts words back copy =
-    record { output = Back; name = string_bytes words.back; text = joined (back_lines back.names.now back.sector_bytes back.bytes back.run.now) }
+    record {
+      output = Back;
+      name = string_bytes words.back;
+      text = joined (back_lines back.names.now back.sector_bytes back.bytes back.run.now);
+    }
     ∷ record { output = Copied; name = string_bytes words.copy; text = joined (copy_lines copy.copy.now copy.sectors) }
     ∷ []
 

@@ -20,7 +20,8 @@ use Rattle.fb_units.specs.declared.read_error.ReadError.TheVariants as errors
 use Rattle.fb_top.specs.declared.outcome.Outcome.{Outcome}
 use Rattle.fb_top.specs.declared.outcome.Outcome.TheVariants as outcomes
 use Rattle.fb_top.specs.Sources.{SourceTerms, InputTerms, name_of, replay_inputs, check_inputs}
-use Rattle.fb_top.specs.Read.{Files, Accepts, ReadsDisk, ReadsTrace, ReadsReport, RefusesDisk, RefusesTrace, RefusesCalls, RefusesPuts, RefusesReport}
+use Rattle.fb_top.specs.Read.{Files, Accepts, ReadsDisk, ReadsTrace, ReadsReport, RefusesDisk, RefusesTrace, RefusesCalls, RefusesPuts}
+use Rattle.fb_top.specs.Read.{RefusesReport}
 use Rattle.fb_top.specs.Limits.{limit_of}
 use Rattle.fb_top.specs.Streams.{IsLonger}
 use Rattle.fb_top.specs.Written.{KeepsReports}
@@ -68,10 +69,13 @@ AcceptsBefore desk terms BackReport = AcceptsFore desk terms
 
 -- no input that is read after this one was touched
 abbrev pub KeepsLater : Input → DeskView → DeskView → Type 0
-KeepsLater Params old new = (new.inputs Trace ≡ old.inputs Trace) × (new.inputs Calls ≡ old.inputs Calls) × (new.inputs Puts ≡ old.inputs Puts)
+KeepsLater Params old new =
+    (new.inputs Trace ≡ old.inputs Trace) × (new.inputs Calls ≡ old.inputs Calls) × (new.inputs Puts ≡ old.inputs Puts)
     × (new.inputs ForeReport ≡ old.inputs ForeReport) × (new.inputs BackReport ≡ old.inputs BackReport)
-KeepsLater Trace old new = (new.inputs Calls ≡ old.inputs Calls) × (new.inputs Puts ≡ old.inputs Puts) × (new.inputs ForeReport ≡ old.inputs ForeReport) × (new.inputs BackReport ≡ old.inputs BackReport)
-KeepsLater Calls old new = (new.inputs Puts ≡ old.inputs Puts) × (new.inputs ForeReport ≡ old.inputs ForeReport) × (new.inputs BackReport ≡ old.inputs BackReport)
+KeepsLater Trace old new = (new.inputs Calls ≡ old.inputs Calls) × (new.inputs Puts ≡ old.inputs Puts)
+    × (new.inputs ForeReport ≡ old.inputs ForeReport) × (new.inputs BackReport ≡ old.inputs BackReport)
+KeepsLater Calls old new =
+    (new.inputs Puts ≡ old.inputs Puts) × (new.inputs ForeReport ≡ old.inputs ForeReport) × (new.inputs BackReport ≡ old.inputs BackReport)
 KeepsLater Puts old new = (new.inputs ForeReport ≡ old.inputs ForeReport) × (new.inputs BackReport ≡ old.inputs BackReport)
 KeepsLater ForeReport old new = new.inputs BackReport ≡ old.inputs BackReport
 KeepsLater BackReport old new = Unit {0}

@@ -39,7 +39,8 @@ rule_word rules.End = codes "End"
 
 -- what is wrong first: the report, the line and the field in it, from 1, and the rule
 abbrev pub mismatch_text : Mismatch → List ℕ
-mismatch_text mismatch = report_word mismatch.report ++ 32 ∷ decimal mismatch.line ++ 32 ∷ decimal mismatch.field ++ 32 ∷ rule_word mismatch.rule
+mismatch_text mismatch =
+    report_word mismatch.report ++ 32 ∷ decimal mismatch.line ++ 32 ∷ decimal mismatch.field ++ 32 ∷ rule_word mismatch.rule
 
 abbrev pub verdict_text : Verdict → List ℕ
 verdict_text Yes = codes "yes"
@@ -64,7 +65,8 @@ pub record ArePrintedCalm (old new : DeskView) : Type 0 where
 pub record JudgesBack (desk : DeskView) (terms : CheckTerms) (files : Files) (fore : List (List ℕ)) (verdict : Verdict) : Type 0 where
   pub back : List (List ℕ)
   pub back_read : ReadsReport desk terms.back back_grammar back
-  pub verdict_is : IsVerdict (inputs_of files (key_of terms.policy) terms.until) (record { names = files.script.names; bytes = terms.bytes; fore = fore; back = back }) verdict
+  pub verdict_is : IsVerdict (inputs_of files (key_of terms.policy) terms.until)
+      (record { names = files.script.names; bytes = terms.bytes; fore = fore; back = back }) verdict
 
 -- the lines of both reports under the names that the words give, and the verdict on them by these files
 pub record JudgesBy (desk : DeskView) (terms : CheckTerms) (files : Files) (verdict : Verdict) : Type 0 where

@@ -71,7 +71,8 @@ CutsFore terms files run old new = CutsOff Fore (codes "-") (fore_told terms fil
 
 -- or the background was, under the name that the words give, after the whole foreground
 abbrev pub CutsBack : ReplayTerms → Files → Run → DeskView → DeskView → Type 0
-CutsBack terms files run old new = (name : List ℕ) × (terms.back ≡ Some name) × CutsSecond Fore Back (codes "-") (fore_told terms files run) name (back_told terms files run) old new
+CutsBack terms files run old new = (name : List ℕ) × (terms.back ≡ Some name)
+    × CutsSecond Fore Back (codes "-") (fore_told terms files run) name (back_told terms files run) old new
 
 -- why the reports of a run were not written whole
 abbrev pub StopsReports : ReplayTerms → Files → Run → DeskView → DeskView → Outcome → Type 0

@@ -34,7 +34,8 @@ pub record WritesBoth (old new : DeskView) (terms : MakeTerms) (n : ℕ) : Type 
   pub calls : HoldsWhole (new.outputs MadeCalls) terms.calls (script_text makes.disk.map)
   pub trace_read : trace_of terms.device (sectors_of makes.disk) (trace_text terms makes.disk)
       ≡ Ok (record { requests = made_requests terms.number (sectors_of makes.disk) terms.requests; passed_over = 0 })
-  pub calls_read : calls_of makes.disk.map terms.requests (script_text makes.disk.map) ≡ Ok (record { names = codes "scrub" ∷ codes "backup" ∷ []; calls = script_calls makes.disk.map })
+  pub calls_read : calls_of makes.disk.map terms.requests (script_text makes.disk.map)
+      ≡ Ok (record { names = codes "scrub" ∷ codes "backup" ∷ []; calls = script_calls makes.disk.map })
 
 -- the trace was cut off
 pub record CutsTrace (old new : DeskView) (terms : MakeTerms) : Type 0 where

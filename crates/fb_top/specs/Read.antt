@@ -41,7 +41,8 @@ ReadsTrace desk name device disk trace = ReadsAs desk name (limit_of inputs.Trac
 
 -- or refused, with this fault
 abbrev pub RefusesTrace : DeskView → List ℕ → ℕ → Disk → TraceFault → Type 0
-RefusesTrace desk name device disk fault = ReadsAs desk name (limit_of inputs.Trace) (trace_of device (length (places disk.map))) (Err fault)
+RefusesTrace desk name device disk fault =
+    ReadsAs desk name (limit_of inputs.Trace) (trace_of device (length (places disk.map))) (Err fault)
 
 -- the script under a name is accepted for the disk and a trace of this many requests, with these names and calls
 abbrev pub ReadsCalls : DeskView → List ℕ → Disk → ℕ → Script → Type 0

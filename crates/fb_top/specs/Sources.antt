@@ -21,7 +21,12 @@ pub record InputTerms : Type 0 where
   pub back : Option (List ℕ)
 
 abbrev pub sources_of : Sources → SourceTerms
-sources_of sources = record { params = sources.params.now; trace = sources.trace.now; calls = option_map (λ name. name.now) sources.calls; device = sources.device }
+sources_of sources = record {
+  params = sources.params.now;
+  trace = sources.trace.now;
+  calls = option_map (λ name. name.now) sources.calls;
+  device = sources.device;
+}
 
 -- the files of a run without puts and reports
 abbrev pub files_alone : SourceTerms → InputTerms

@@ -35,7 +35,8 @@ pub record IsRunOfFiles (files : Files) (run : Run) : Type 0 where
 
 -- what is written of puts in the free gaps of a run
 pub record WritesPuts (disk : Disk) (run : Run) (puts : PutsRead) (spill : SpillRun) : Type 0 where
-  -- each free gap has the best spill, its rows stand in order and no others, and the head can go the amended way, which keeps all foreground passages and all stays in which a block is delivered
+  -- each free gap has the best spill, its rows stand in order and no others, and the head can go the amended way, which keeps all
+  -- foreground passages and all stays in which a block is delivered
   pub spills : IsSpillRun disk run puts.puts spill.items
   -- no block is written twice, or before its instant
   pub once : AreOnce spill.items
@@ -84,7 +85,8 @@ pub record CutsSpill (terms : ReplayTerms) (files : Files) (run : Run) (spill : 
 
 -- why that text was not written whole
 abbrev pub StopsSpill : ReplayTerms → Files → Run → SpillRun → DeskView → DeskView → Outcome → Type 0
-StopsSpill terms files run spill old new (outcomes.WriteFault Spill) = OutputFaultsRose old new Spill × CutsSpill terms files run spill old new
+StopsSpill terms files run spill old new (outcomes.WriteFault Spill) =
+    OutputFaultsRose old new Spill × CutsSpill terms files run spill old new
 StopsSpill terms files run spill old new outcomes.NoMemory = CutsSpill terms files run spill old new
 StopsSpill terms files run spill old new _ = ⊥
 
@@ -96,9 +98,11 @@ HoldsReplay terms files run (Some spill) old new = HoldsSpill terms files run sp
 -- why that was not all written
 abbrev pub StopsReplay : ReplayTerms → Files → Run → Option SpillRun → DeskView → DeskView → Outcome → Type 0
 StopsReplay terms files run given old new outcome =
-    StopsReports terms files run old new outcome ⊎ ((spill : SpillRun) × (given ≡ Some spill) × StopsSpill terms files run spill old new outcome)
+    StopsReports terms files run old new outcome
+    ⊎ ((spill : SpillRun) × (given ≡ Some spill) × StopsSpill terms files run spill old new outcome)
 
--- the run is that of the files that were accepted, and the spills are those of the puts that were accepted too; all is written, and a reader accepts the reports
+-- the run is that of the files that were accepted, and the spills are those of the puts that were accepted too; all is written, and a
+-- reader accepts the reports
 pub record IsSpilled (old new : DeskView) (terms : ReplayTerms) (run : Run) (spill : SpillRun) : Type 0 where
   pub is_run : IsRunOf old terms run
   pub is_spill : IsSpillOf old terms is_run.files run spill

@@ -2,7 +2,8 @@
 use Rattle.std.specs.Prelude.{ℕ}
 use Rattle.fb_check.specs.declared.verdict.Verdict.TheVariants.{Yes, No}
 use Rattle.fb_top.specs.declared.outcome.Outcome.{Outcome}
-use Rattle.fb_top.specs.declared.outcome.Outcome.TheVariants.{Done, Made, Checked, Arrayed, Spilled, Usage, Params, Trace, Calls, Puts, Reports, TooLong, ReadFault, WriteFault, NoMemory}
+use Rattle.fb_top.specs.declared.outcome.Outcome.TheVariants.{Done, Made, Checked, Arrayed, Spilled, Usage, Params, Trace, Calls, Puts}
+use Rattle.fb_top.specs.declared.outcome.Outcome.TheVariants.{Reports, TooLong, ReadFault, WriteFault, NoMemory}
 
 abbrev pub status_of : Outcome → ℕ
 status_of (Done run) = 0

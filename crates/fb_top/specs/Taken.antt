@@ -25,7 +25,8 @@ KeepsOutputs old new = (output : Output) → new.outputs output ≡ old.outputs 
 
 -- what the files of a replay say, with a disk that was read before the others
 abbrev pub files_on : Disk → List ℕ → Workload → Files
-files_on disk latent workload = record { disk = disk; latent = latent; trace = accepted workload.trace; script = accepted_calls workload.calls }
+files_on disk latent workload =
+    record { disk = disk; latent = latent; trace = accepted workload.trace; script = accepted_calls workload.calls }
 
 -- the files and the puts of a replay were accepted, and nothing else was touched
 pub record TakesReplay (terms : ReplayTerms) (files : Files) (puts : Option PutsRead) (old new : DeskView) : Type 0 where

@@ -38,7 +38,8 @@ pub record AskForOneForeground (one other : Files) : Type 0 where
 
 -- two runs by one policy, whatever else their scripts ask for and whenever they end, have one foreground text
 abbrev pub ScriptsLeaveForeground : Type 0
-ScriptsLeaveForeground = (one other : DeskView) (terms others : ReplayTerms) (run run' : Run) (is_run : IsRunOf one terms run) (is_other : IsRunOf other others run') (bytes : Bytes)
+ScriptsLeaveForeground = (one other : DeskView) (terms others : ReplayTerms) (run run' : Run) (is_run : IsRunOf one terms run)
+    (is_other : IsRunOf other others run') (bytes : Bytes)
     → terms.policy ≡ others.policy → AskForOneForeground is_run.files is_other.files
     → fore_text is_run.files.disk.sector_bytes bytes run ≡ fore_text is_other.files.disk.sector_bytes bytes run'
 
@@ -52,7 +53,8 @@ pub record HoldOneInput (one other : DeskView) (terms : SourceTerms) : Type 0 wh
   pub trace : HoldAlike one other terms.trace
   pub calls : IfSome terms.calls (HoldAlike one other)
 
--- two replays ask for one run: the same files and device, the same policy and the same end; what they print, and what they write in gaps, may differ
+-- two replays ask for one run: the same files and device, the same policy and the same end; what they print, and what they write in gaps,
+-- may differ
 pub record AskForOneRun (terms others : ReplayTerms) : Type 0 where
   pub sources : replay_sources terms ≡ replay_sources others
   pub policy : terms.policy ≡ others.policy
@@ -60,13 +62,16 @@ pub record AskForOneRun (terms others : ReplayTerms) : Type 0 where
 
 -- such words over the same bytes have one run
 abbrev pub InputsHaveOneRun : Type 0
-InputsHaveOneRun = (one other : DeskView) (terms others : ReplayTerms) (run run' : Run) → AskForOneRun terms others → HoldOneInput one other (replay_sources terms)
+InputsHaveOneRun = (one other : DeskView) (terms others : ReplayTerms) (run run' : Run) → AskForOneRun terms others
+    → HoldOneInput one other (replay_sources terms)
     → IsRunOf one terms run → IsRunOf other others run' → run ≡ run'
 
 -- two runs of files that agree up to an instant before both ends are the same in what is known by then
 abbrev pub RunsLookNotAhead : Type 0
-RunsLookNotAhead = (one other : DeskView) (terms others : ReplayTerms) (run run' : Run) (is_run : IsRunOf one terms run) (is_other : IsRunOf other others run') (t : ℕ)
-    → t < run.end → t < run'.end → AgreeUpTo t (inputs_of is_run.files (key_of terms.policy) terms.until) (inputs_of is_other.files (key_of others.policy) others.until)
+RunsLookNotAhead = (one other : DeskView) (terms others : ReplayTerms) (run run' : Run) (is_run : IsRunOf one terms run)
+    (is_other : IsRunOf other others run') (t : ℕ)
+    → t < run.end → t < run'.end
+    → AgreeUpTo t (inputs_of is_run.files (key_of terms.policy) terms.until) (inputs_of is_other.files (key_of others.policy) others.until)
     → SameKnown t run run'
 
 -- a check asks for what a replay asked for: the same policy and end, and files of the same bytes
@@ -88,7 +93,8 @@ pub record HoldsOwnReports (desk : DeskView) (checks : CheckTerms) (files : File
 
 -- the verdict on a run's own reports is yes
 abbrev pub RightReportsAreRight : Type 0
-RightReportsAreRight = (one other : DeskView) (terms : ReplayTerms) (checks : CheckTerms) (run : Run) (verdict : Verdict) (is_run : IsRunOf one terms run)
+RightReportsAreRight =
+    (one other : DeskView) (terms : ReplayTerms) (checks : CheckTerms) (run : Run) (verdict : Verdict) (is_run : IsRunOf one terms run)
     → IsVerdictOf other checks verdict → ChecksRun one other terms checks → HoldsOwnReports other checks is_run.files run → verdict ≡ Yes
 
 -- what was written to an output is held under a name, and is no longer than a report may be
@@ -122,13 +128,16 @@ pub record AreRight (desk : DeskView) (checks : CheckTerms) : Type 0 where
   pub fore : TellsReport desk fore_grammar checks.fore
   pub back : TellsReport desk back_grammar checks.back
   pub yes : (verdict : Verdict) → IsVerdictOf desk checks verdict → verdict ≡ Yes
-  pub answer : (after : DeskView) (outcome : Outcome) → CheckHasCause checks desk after outcome → MeetsNoFailure desk after → (outcome ≡ Checked Yes) ⊎ (outcome ≡ NoMemory)
+  pub answer : (after : DeskView) (outcome : Outcome) → CheckHasCause checks desk after outcome → MeetsNoFailure desk after
+      → (outcome ≡ Checked Yes) ⊎ (outcome ≡ NoMemory)
 
 -- the reports that a replay printed are right
 abbrev pub PrintedReportsAreRight : Type 0
-PrintedReportsAreRight = (old new other : DeskView) (terms : ReplayTerms) (checks : CheckTerms) (run : Run) → HasReplayed old new terms run → ChecksPrinted old new other terms checks → AreRight other checks
+PrintedReportsAreRight = (old new other : DeskView) (terms : ReplayTerms) (checks : CheckTerms) (run : Run) → HasReplayed old new terms run
+    → ChecksPrinted old new other terms checks → AreRight other checks
 
--- a replay asks for one of the devices of an array: files of the same bytes, the same policy and the same form, without a script and without a summary
+-- a replay asks for one of the devices of an array: files of the same bytes, the same policy and the same form, without a script and
+-- without a summary
 pub record ReplaysDevice (one other : DeskView) (terms : ArrayTerms) (replay : ReplayTerms) : Type 0 where
   pub params : replay.params ≡ terms.params
   pub trace : replay.trace ≡ terms.trace
@@ -139,8 +148,11 @@ pub record ReplaysDevice (one other : DeskView) (terms : ArrayTerms) (replay : R
   pub params_alike : HoldAlike one other terms.params
   pub trace_alike : HoldAlike one other terms.trace
 
--- behind the line that names its device, each section of an array is the text that such a replay writes to its foreground, also where the device has the calls of a rebuild
+-- behind the line that names its device, each section of an array is the text that such a replay writes to its foreground, also where the
+-- device has the calls of a rebuild
 abbrev pub SectionsAreReplays : Type 0
-SectionsAreReplays = (one other : DeskView) (terms : ArrayTerms) (replay : ReplayTerms) (runs : List Run) (run run' : Run) (are_runs : AreRunsOf one terms runs) (is_run : IsRunOf other replay run')
+SectionsAreReplays = (one other : DeskView) (terms : ArrayTerms) (replay : ReplayTerms) (runs : List Run) (run run' : Run)
+    (are_runs : AreRunsOf one terms runs) (is_run : IsRunOf other replay run')
     → ReplaysDevice one other terms replay → slice_get runs replay.device ≡ Some run
-    → joined (section are_runs.array.disk.sector_bytes terms.bytes replay.device run) ≡ device_line replay.device ++ fore_told replay is_run.files run'
+    → joined (section are_runs.array.disk.sector_bytes terms.bytes replay.device run) ≡ device_line replay.device
+    ++ fore_told replay is_run.files run'

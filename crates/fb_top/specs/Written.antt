@@ -38,11 +38,13 @@ KeepsBut which old new = (output : Output) → output ≢ which → output ≢ N
 
 -- no output but these two and the note has changed
 abbrev pub KeepsButBoth : Output → Output → DeskView → DeskView → Type 0
-KeepsButBoth first second old new = (output : Output) → output ≢ first → output ≢ second → output ≢ Note → new.outputs output ≡ old.outputs output
+KeepsButBoth first second old new = (output : Output) → output ≢ first → output ≢ second → output ≢ Note
+    → new.outputs output ≡ old.outputs output
 
 -- no output but these three and the note has changed
 abbrev pub KeepsButThree : Output → Output → Output → DeskView → DeskView → Type 0
-KeepsButThree first second third old new = (output : Output) → output ≢ first → output ≢ second → output ≢ third → output ≢ Note → new.outputs output ≡ old.outputs output
+KeepsButThree first second third old new = (output : Output) → output ≢ first → output ≢ second → output ≢ third → output ≢ Note
+    → new.outputs output ≡ old.outputs output
 
 -- the text of an output was cut off, and nothing else was written
 pub record CutsOff (which : Output) (name text : List ℕ) (old new : DeskView) : Type 0 where
@@ -61,7 +63,8 @@ OutputFaultsRose old new output = Rose (old.outputs output).faults (new.outputs 
 
 -- why a text was not written whole
 abbrev pub StopsText : Output → List ℕ → List ℕ → DeskView → DeskView → Outcome → Type 0
-StopsText which name text old new (outcomes.WriteFault output) = (output ≡ which) × OutputFaultsRose old new which × HoldsFront (new.outputs which) name text
+StopsText which name text old new (outcomes.WriteFault output) =
+    (output ≡ which) × OutputFaultsRose old new which × HoldsFront (new.outputs which) name text
 StopsText which name text old new outcomes.NoMemory = HoldsFront (new.outputs which) name text
 StopsText which name text old new _ = ⊥
 
@@ -73,7 +76,8 @@ pub record Text : Type 0 where
 
 -- no output but those of these texts and the note has changed
 abbrev pub KeepsButTexts : List Text → DeskView → DeskView → Type 0
-KeepsButTexts texts old new = (output : Output) → AllByRecursion (λ text. output ≢ text.output) texts → output ≢ Note → new.outputs output ≡ old.outputs output
+KeepsButTexts texts old new = (output : Output) → AllByRecursion (λ text. output ≢ text.output) texts → output ≢ Note
+    → new.outputs output ≡ old.outputs output
 
 -- each of these texts stands whole in its output
 abbrev pub HoldsTexts : List Text → DeskView → Type 0

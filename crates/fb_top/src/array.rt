@@ -62,9 +62,11 @@ fn replay_array<D: Desk>(
     requires fresh { (output : Output) → ((D.seen desk.old).outputs output).begun ≡ false }
     requires limits { IsWithinLimits (arrays (array_terms words.now)) }
     requires count { length (array_of files.now).traces ≡ (array_terms words.now).devices }
-    requires fit { (device : ℕ) (trace : Accepted) → slice_get (array_of files.now).traces device ≡ Some trace → IsAccepted (device_inputs (array_terms words.now) (array_of files.now) device trace) }
+    requires fit { (device : ℕ) (trace : Accepted) → slice_get (array_of files.now).traces device ≡ Some trace
+        → IsAccepted (device_inputs (array_terms words.now) (array_of files.now) device trace) }
     requires names { length files.now.calls.names ≡ length (tasks files.now.calls.calls.items) }
-    ensures cause { (first : DeskView) → TakesArray (array_terms words.now) (array_of files.now) first (D.seen desk.old) → ArrayHasCause (array_terms words.now) first (D.seen desk.new) result }
+    ensures cause { (first : DeskView) → TakesArray (array_terms words.now) (array_of files.now) first (D.seen desk.old)
+        → ArrayHasCause (array_terms words.now) first (D.seen desk.new) result }
     ensures calm { MeetsNoFault result (D.seen desk.old) (D.seen desk.new) }
     ensures no_note { (D.seen desk.new).outputs Output.Note ≡ (D.seen desk.old).outputs Output.Note }
     ensures inputs { KeepsInputs (D.seen desk.old) (D.seen desk.new) }
@@ -85,12 +87,15 @@ fn replay_array<D: Desk>(
 
 // The full run of each device, by device. The only error is out of memory.
 fn replay_devices(alloc: Global, words: &ArrayWords, files: &ArrayFiles) -> Result<Runs, NoMemory>
-    requires fit { (device : ℕ) (trace : Accepted) → slice_get (array_of files.now).traces device ≡ Some trace → IsAccepted (device_inputs (array_terms words.now) (array_of files.now) device trace) }
+    requires fit { (device : ℕ) (trace : Accepted) → slice_get (array_of files.now).traces device ≡ Some trace
+        → IsAccepted (device_inputs (array_terms words.now) (array_of files.now) device trace) }
     requires names { length files.now.calls.names ≡ length (tasks files.now.calls.calls.items) }
     ensures count { IfOk result (λ runs. length runs ≡ length (array_of files.now).traces) }
-    ensures full { IfOk result (λ runs. (device : ℕ) (run : Run) → slice_get runs device ≡ Some run → IsRunOfDevice (array_terms words.now) (array_of files.now) device run) }
+    ensures full { IfOk result (λ runs. (device : ℕ) (run : Run) → slice_get runs device ≡ Some run
+        → IsRunOfDevice (array_terms words.now) (array_of files.now) device run) }
     ensures told { IfOk result (AllByRecursion CanTellFore) }
-    ensures back_told { IfOk result (λ runs. (device : ℕ) (run : Run) → slice_get runs device ≡ Some run → is_rebuilt_from (array_terms words.now).rebuild device ≡ true → CanBeTold files.now.calls.names run) }
+    ensures back_told { IfOk result (λ runs. (device : ℕ) (run : Run) → slice_get runs device ≡ Some run
+        → is_rebuilt_from (array_terms words.now).rebuild device ≡ true → CanBeTold files.now.calls.names run) }
 {
     let no_calls = no_calls(alloc);
     let mut runs = Runs::new(alloc);
@@ -133,8 +138,10 @@ fn copy_survivor(
     runs: &Runs,
 ) -> Result<Option<Rebuilt>, NoMemory>
     requires device { IfSome (array_terms words.now).rebuild (λ rebuild. rebuild.device < length runs.now) }
-    requires full { (device : ℕ) (run : Run) → slice_get runs.now device ≡ Some run → IsRunOfDevice (array_terms words.now) (array_of files.now) device run }
-    ensures copied { IfOk result (λ copy. copy ≡ option_map (replacement (sectors_of (array_of files.now))) (survivor (array_terms words.now).rebuild runs.now)) }
+    requires full { (device : ℕ) (run : Run) → slice_get runs.now device ≡ Some run
+        → IsRunOfDevice (array_terms words.now) (array_of files.now) device run }
+    ensures copied { IfOk result
+        (λ copy. copy ≡ option_map (replacement (sectors_of (array_of files.now))) (survivor (array_terms words.now).rebuild runs.now)) }
     ensures most { IfOk result (λ copy. IfSome copy (λ copy. copy.covered ≤ sectors_of (array_of files.now))) }
     ensures few { IfOk result (λ copy. IfSome copy (λ copy. length copy.content ≤ sectors_of (array_of files.now))) }
 {
@@ -163,11 +170,16 @@ fn write_array<D: Desk>(
     requires few { length runs.now ≤ 16 }
     requires told { AllByRecursion CanTellFore runs.now }
     requires device { IfSome (array_terms words.now).rebuild (λ rebuild. rebuild.device < length runs.now) }
-    requires back_told { (device : ℕ) (run : Run) → slice_get runs.now device ≡ Some run → is_rebuilt_from (array_terms words.now).rebuild device ≡ true → CanBeTold files.now.calls.names run }
-    requires copied { option_map (λ copy. copy.now) copy ≡ option_map (replacement (sectors_of (array_of files.now))) (survivor (array_terms words.now).rebuild runs.now) }
-    requires copy_told { IfSome copy (λ copy. (copy.now.covered ≤ sectors_of (array_of files.now)) × (length copy.now.content ≤ sectors_of (array_of files.now))) }
-    ensures whole { OnOk result (WritesAll (array_texts (array_terms words.now) (array_of files.now) runs.now) (D.seen desk.old) (D.seen desk.new)) }
-    ensures stops { IfErr result (StopsTexts (array_texts (array_terms words.now) (array_of files.now) runs.now) (D.seen desk.old) (D.seen desk.new)) }
+    requires back_told { (device : ℕ) (run : Run) → slice_get runs.now device ≡ Some run
+        → is_rebuilt_from (array_terms words.now).rebuild device ≡ true → CanBeTold files.now.calls.names run }
+    requires copied { option_map (λ copy. copy.now) copy
+        ≡ option_map (replacement (sectors_of (array_of files.now))) (survivor (array_terms words.now).rebuild runs.now) }
+    requires copy_told { IfSome copy
+        (λ copy. (copy.now.covered ≤ sectors_of (array_of files.now)) × (length copy.now.content ≤ sectors_of (array_of files.now))) }
+    ensures whole { OnOk result
+        (WritesAll (array_texts (array_terms words.now) (array_of files.now) runs.now) (D.seen desk.old) (D.seen desk.new)) }
+    ensures stops { IfErr result
+        (StopsTexts (array_texts (array_terms words.now) (array_of files.now) runs.now) (D.seen desk.old) (D.seen desk.new)) }
     ensures calm { OnOk result (AreOutputsCalm (D.seen desk.old) (D.seen desk.new)) }
     ensures no_note { (D.seen desk.new).outputs Output.Note ≡ (D.seen desk.old).outputs Output.Note }
     ensures inputs { KeepsInputs (D.seen desk.old) (D.seen desk.new) }

@@ -60,8 +60,10 @@ impl ArrayLines<'_> {
         requires size { self.now.sector_bytes % 16 ≡ 0 }
         requires told { AllByRecursion CanTellFore self.now.runs.now }
         requires device { device < length self.now.runs.now }
-        requires inside { (run : Run) → slice_get self.now.runs.now device ≡ Some run → place < length (section self.now.sector_bytes self.now.bytes device run) }
-        ensures { IfOk result (λ line. (run : Run) → slice_get self.now.runs.now device ≡ Some run → slice_get (section self.now.sector_bytes self.now.bytes device run) place ≡ Some line.items) }
+        requires inside { (run : Run) → slice_get self.now.runs.now device ≡ Some run
+            → place < length (section self.now.sector_bytes self.now.bytes device run) }
+        ensures { IfOk result (λ line. (run : Run) → slice_get self.now.runs.now device ≡ Some run
+            → slice_get (section self.now.sector_bytes self.now.bytes device run) place ≡ Some line.items) }
     {
         if place == 0 {
             return device_line(alloc, device);
@@ -94,8 +96,10 @@ fn section_lines(runs: &Runs) -> u64
 fn section_of(runs: &Runs, place: u64) -> Option<(usize, u64)>
     requires told { AllByRecursion CanTellFore runs.now }
     ensures device { IfSome result (λ at. at.0 < length runs.now) }
-    ensures inside { IfSome result (λ at. (size : ℕ) (bytes : Bytes) (run : Run) → slice_get runs.now at.0 ≡ Some run → at.1 < length (section size bytes at.0 run)) }
-    ensures same { IfSome result (λ at. (size : ℕ) (bytes : Bytes) (run : Run) → slice_get runs.now at.0 ≡ Some run → slice_get (sections size bytes 0 runs.now) place ≡ slice_get (section size bytes at.0 run) at.1) }
+    ensures inside { IfSome result
+        (λ at. (size : ℕ) (bytes : Bytes) (run : Run) → slice_get runs.now at.0 ≡ Some run → at.1 < length (section size bytes at.0 run)) }
+    ensures same { IfSome result (λ at. (size : ℕ) (bytes : Bytes) (run : Run) → slice_get runs.now at.0 ≡ Some run
+        → slice_get (sections size bytes 0 runs.now) place ≡ slice_get (section size bytes at.0 run) at.1) }
     ensures behind { IfNone result ((size : ℕ) (bytes : Bytes) → length (sections size bytes 0 runs.now) ≤ place) }
 {
     let mut rest = place;

@@ -58,8 +58,10 @@ fn check_read<D: Desk>(
     requires fresh { ((D.seen desk.old).outputs Output.Fore).begun ≡ false }
     requires fit { IsAccepted (inputs_of (files_of files.now) (key_of words.now.policy) words.now.until) }
     requires names { length files.now.calls.names ≡ length (tasks files.now.calls.calls.items) }
-    ensures cause { (first : DeskView) → TakesCheck (check_terms words.now) (files_of files.now) first (D.seen desk.old) → CheckHasCause (check_terms words.now) first (D.seen desk.new) result }
-    ensures others { (input : Input) → input ≢ Input.ForeReport → input ≢ Input.BackReport → (D.seen desk.new).inputs input ≡ (D.seen desk.old).inputs input }
+    ensures cause { (first : DeskView) → TakesCheck (check_terms words.now) (files_of files.now) first (D.seen desk.old)
+        → CheckHasCause (check_terms words.now) first (D.seen desk.new) result }
+    ensures others { (input : Input) → input ≢ Input.ForeReport → input ≢ Input.BackReport
+        → (D.seen desk.new).inputs input ≡ (D.seen desk.old).inputs input }
     ensures fore { IsOpenedAs (check_terms words.now).fore (D.seen desk.old) ((D.seen desk.new).inputs Input.ForeReport) }
     ensures back { IsOpenedAs (check_terms words.now).back (D.seen desk.old) ((D.seen desk.new).inputs Input.BackReport) }
     ensures calm { MeetsNoFault result (D.seen desk.old) (D.seen desk.new) }
@@ -131,7 +133,8 @@ fn judge_with<D: Desk>(
     requires fore { IsReport fore_grammar fore.now }
     ensures only { ChangesInput Input.BackReport (D.seen desk.old) (D.seen desk.new) }
     ensures opened { IsOpenedAs (check_terms words.now).back (D.seen desk.old) ((D.seen desk.new).inputs Input.BackReport) }
-    ensures calm { IfOk result (λ _. ((D.seen desk.new).inputs Input.BackReport).faults ≡ ((D.seen desk.old).inputs Input.BackReport).faults) }
+    ensures calm { IfOk result
+        (λ _. ((D.seen desk.new).inputs Input.BackReport).faults ≡ ((D.seen desk.old).inputs Input.BackReport).faults) }
     ensures judges { IfOk result (JudgesBack (D.seen desk.old) (check_terms words.now) (files_of files.now) fore.now) }
     ensures stops { IfErr result (StopsReport reports.Back (check_terms words.now).back (D.seen desk.old) (D.seen desk.new)) }
 {

@@ -16,7 +16,8 @@ ghost use Rattle.fb_words.specs.Command.{arrays};
 ghost use Rattle.fb_words.specs.Limits.{IsWithinLimits};
 ghost use Rattle.fb_words.specs.Verdict.{array_terms};
 ghost use Rattle.fb_top.specs.Calm.{AreInputsCalm};
-ghost use Rattle.fb_top.specs.Devices.{AcceptsArray, ReadsRebuild, ReadsTraces, StopsArray, StopsRebuild, StopsTraces, array_of, device_inputs, is_rebuilt_from};
+ghost use Rattle.fb_top.specs.Devices.{AcceptsArray, ReadsRebuild, ReadsTraces, StopsArray, StopsRebuild, StopsTraces, array_of};
+ghost use Rattle.fb_top.specs.Devices.{device_inputs, is_rebuilt_from};
 ghost use Rattle.fb_top.specs.Opened.{IsOpenedAs, OpensAsNamed};
 ghost use Rattle.fb_top.specs.Read.{ReadsDisk};
 ghost use Rattle.fb_top.specs.Sources.{array_inputs};
@@ -69,7 +70,8 @@ pub fn read_array<D: Desk>(
     requires limits { IsWithinLimits (arrays (array_terms words.now)) }
     ensures outputs { KeepsOutputs (D.seen desk.old) (D.seen desk.new) }
     ensures accepts { IfOk result (λ files. AcceptsArray (D.seen desk.old) (array_terms words.now) (array_of files)) }
-    ensures fit { IfOk result (λ files. (device : ℕ) (trace : Accepted) → slice_get (array_of files).traces device ≡ Some trace → IsAccepted (device_inputs (array_terms words.now) (array_of files) device trace)) }
+    ensures fit { IfOk result (λ files. (device : ℕ) (trace : Accepted) → slice_get (array_of files).traces device ≡ Some trace
+        → IsAccepted (device_inputs (array_terms words.now) (array_of files) device trace)) }
     ensures sound { IfOk result (λ files. IsSound files.params.disk.map) }
     ensures names { IfOk result (λ files. length files.calls.names ≡ length (tasks files.calls.calls.items)) }
     ensures cause { IfErr result (StopsArray (array_terms words.now) (D.seen desk.old) (D.seen desk.new)) }
@@ -107,12 +109,17 @@ fn read_workloads<D: Desk>(
     ensures only { ChangesInput Input.Trace (D.seen desk.old) (D.seen desk.new) }
     ensures opened { IsOpenedAs (array_terms words.now).trace (D.seen desk.old) ((D.seen desk.new).inputs Input.Trace) }
     ensures calm { IfOk result (λ _. ((D.seen desk.new).inputs Input.Trace).faults ≡ ((D.seen desk.old).inputs Input.Trace).faults) }
-    ensures traces { IfOk result (λ workloads. ReadsTraces (D.seen desk.old) (array_terms words.now).trace (array_terms words.now).devices disk.now (map accepted workloads.traces.items)) }
-    ensures servable { IfOk result (λ workloads. AllByRecursion (λ trace. IsTraceOf (length (places disk.now.map)) trace.requests.items) workloads.traces.items) }
+    ensures traces { IfOk result (λ workloads. ReadsTraces (D.seen desk.old) (array_terms words.now).trace
+        (array_terms words.now).devices disk.now (map accepted workloads.traces.items)) }
+    ensures servable { IfOk result
+        (λ workloads. AllByRecursion (λ trace. IsTraceOf (length (places disk.now.map)) trace.requests.items) workloads.traces.items) }
     ensures script { IfOk result (λ workloads. ReadsRebuild (array_terms words.now).rebuild disk.now.map (accepted_calls workloads.calls)) }
-    ensures fit { IfOk result (λ workloads. (device : ℕ) (trace : Trace) → slice_get workloads.traces.items device ≡ Some trace → is_rebuilt_from (array_terms words.now).rebuild device ≡ true → IsScript disk.now.map (length trace.requests.items) workloads.calls.calls.items) }
+    ensures fit { IfOk result (λ workloads. (device : ℕ) (trace : Trace)
+        → slice_get workloads.traces.items device ≡ Some trace → is_rebuilt_from (array_terms words.now).rebuild device ≡ true
+        → IsScript disk.now.map (length trace.requests.items) workloads.calls.calls.items) }
     ensures names { IfOk result (λ workloads. length workloads.calls.names ≡ length (tasks workloads.calls.calls.items)) }
-    ensures cause { IfErr result (λ outcome. (first : DeskView) (latent : List ℕ) → ReadsDisk first (array_terms words.now).params disk.now latent → ChangesInput Input.Params first (D.seen desk.old) → StopsArray (array_terms words.now) first (D.seen desk.new) outcome) }
+    ensures cause { IfErr result (λ outcome. (first : DeskView) (latent : List ℕ) → ReadsDisk first (array_terms words.now).params disk.now
+        latent → ChangesInput Input.Params first (D.seen desk.old) → StopsArray (array_terms words.now) first (D.seen desk.new) outcome) }
 {
     let traces = match read_devices(alloc, desk, words.trace.as_str(), words.devices, disk) {
         Ok(traces) => traces,
@@ -137,7 +144,8 @@ fn read_devices<D: Desk>(
     ensures opened { IsOpenedAs name.now (D.seen desk.old) ((D.seen desk.new).inputs Input.Trace) }
     ensures calm { IfOk result (λ _. ((D.seen desk.new).inputs Input.Trace).faults ≡ ((D.seen desk.old).inputs Input.Trace).faults) }
     ensures traces { IfOk result (λ traces. ReadsTraces (D.seen desk.old) name.now devices disk.now (map accepted traces.items)) }
-    ensures servable { IfOk result (λ traces. AllByRecursion (λ trace. IsTraceOf (length (places disk.now.map)) trace.requests.items) traces.items) }
+    ensures servable { IfOk result
+        (λ traces. AllByRecursion (λ trace. IsTraceOf (length (places disk.now.map)) trace.requests.items) traces.items) }
     ensures stops { IfErr result (StopsTraces name.now devices disk.now (D.seen desk.old) (D.seen desk.new)) }
 {
     let bytes = match read_input(alloc, desk, Input::Trace, name) {
@@ -162,7 +170,8 @@ fn read_rebuild(
 ) -> Result<Calls, Outcome>
     requires device { IfSome (array_terms words.now).rebuild (λ rebuild. rebuild.device < length traces.now) }
     ensures script { IfOk result (λ calls. ReadsRebuild (array_terms words.now).rebuild disk.now.map (accepted_calls calls)) }
-    ensures fit { IfOk result (λ calls. (device : ℕ) (trace : Trace) → slice_get traces.now device ≡ Some trace → is_rebuilt_from (array_terms words.now).rebuild device ≡ true → IsScript disk.now.map (length trace.requests.items) calls.calls.items) }
+    ensures fit { IfOk result (λ calls. (device : ℕ) (trace : Trace) → slice_get traces.now device ≡ Some trace → is_rebuilt_from
+        (array_terms words.now).rebuild device ≡ true → IsScript disk.now.map (length trace.requests.items) calls.calls.items) }
     ensures names { IfOk result (λ calls. length calls.names ≡ length (tasks calls.calls.items)) }
     ensures stops { IfErr result (StopsRebuild (array_terms words.now).rebuild disk.now.map) }
 {

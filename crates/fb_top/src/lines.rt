@@ -36,7 +36,8 @@ pub trait Lines {
         requires told { can_be_told self.now }
         requires inside { place < length (lines self.now) }
         ensures value { IfOk result (λ line. slice_get (lines self.now) place ≡ Some line.items) }
-        ensures form { IfOk result (λ line. can_be_read self.now → IsLine (is_in_place (grammar self.now) (length (lines self.now)) place) line.items) };
+        ensures form { IfOk result
+            (λ line. can_be_read self.now → IsLine (is_in_place (grammar self.now) (length (lines self.now)) place) line.items) };
 }
 
 /// The lines of the foreground report.

@@ -50,7 +50,8 @@ fn make_for<D: Desk>(alloc: Global, desk: &mut D, words: &MakeWords, disk: &Disk
     requires fresh_trace { ((D.seen desk.old).outputs Output.MadeTrace).begun ≡ false }
     requires fresh_calls { ((D.seen desk.old).outputs Output.MadeCalls).begun ≡ false }
     requires limits { IsWithinLimits (makes (make_terms words.now)) }
-    ensures cause { (first : DeskView) (latent : List ℕ) → ReadsDisk first (make_terms words.now).params disk.now latent → ChangesInput Input.Params first (D.seen desk.old) → MakeHasCause (make_terms words.now) first (D.seen desk.new) result }
+    ensures cause { (first : DeskView) (latent : List ℕ) → ReadsDisk first (make_terms words.now).params disk.now latent
+        → ChangesInput Input.Params first (D.seen desk.old) → MakeHasCause (make_terms words.now) first (D.seen desk.new) result }
     ensures calm { MeetsNoFault result (D.seen desk.old) (D.seen desk.new) }
     ensures no_note { (D.seen desk.new).outputs Output.Note ≡ (D.seen desk.old).outputs Output.Note }
     ensures inputs { KeepsInputs (D.seen desk.old) (D.seen desk.new) }
@@ -81,9 +82,11 @@ fn write_trace<D: Desk>(
     requires some { 1 ≤ sectors }
     requires few { sectors ≤ 10 ^ 12 }
     ensures only { ChangesOutput Output.MadeTrace (D.seen desk.old) (D.seen desk.new) }
-    ensures whole { OnOk result (HoldsWhole ((D.seen desk.new).outputs Output.MadeTrace) (string_bytes words.now.trace) (made_trace words.now.number words.now.device sectors words.now.requests)) }
+    ensures whole { OnOk result (HoldsWhole ((D.seen desk.new).outputs Output.MadeTrace) (string_bytes words.now.trace)
+        (made_trace words.now.number words.now.device sectors words.now.requests)) }
     ensures calm { OnOk result (((D.seen desk.new).outputs Output.MadeTrace).faults ≡ ((D.seen desk.old).outputs Output.MadeTrace).faults) }
-    ensures stops { IfErr result (StopsText Output.MadeTrace (string_bytes words.now.trace) (made_trace words.now.number words.now.device sectors words.now.requests) (D.seen desk.old) (D.seen desk.new)) }
+    ensures stops { IfErr result (StopsText Output.MadeTrace (string_bytes words.now.trace)
+        (made_trace words.now.number words.now.device sectors words.now.requests) (D.seen desk.old) (D.seen desk.new)) }
 {
     match desk.begin_output(Output::MadeTrace, words.trace.as_str()) {
         Ok(()) => {}

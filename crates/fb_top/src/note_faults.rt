@@ -1,6 +1,7 @@
 // The part of a note that names a fault.
 ghost use Rattle.std.specs.Prelude.{◌≡◌, ◌++◌, codes, OnOk};
-ghost use Rattle.fb_top.specs.Notes.{numbered, usage_reason, trace_reason, calls_reason, puts_reason, geometry_fault, seek_fault, params_fault};
+ghost use Rattle.fb_top.specs.Notes.{numbered, usage_reason, trace_reason, calls_reason, puts_reason, geometry_fault, seek_fault};
+ghost use Rattle.fb_top.specs.Notes.{params_fault};
 
 use crate::note_words::{
     push_numbered, push_with_key, push_with_number, push_with_place, push_with_track, push_words,
@@ -16,7 +17,8 @@ use fb_words::{UsageFault, UsageReason};
 
 /// Adds which word of the command line is refused, and why. The only error is out of memory.
 pub fn push_usage_fault(text: &mut Vec<u8>, fault: &UsageFault) -> Result<(), NoMemory>
-    ensures { OnOk result (text.new.items ≡ text.old.items ++ (numbered (codes "usage: word ") fault.now.place ++ usage_reason fault.now.reason)) }
+    ensures { OnOk result
+        (text.new.items ≡ text.old.items ++ (numbered (codes "usage: word ") fault.now.place ++ usage_reason fault.now.reason)) }
 {
     push_numbered(text, "usage: word ", u64::from(fault.place))?;
     push_usage_reason(text, fault.reason)
@@ -45,7 +47,8 @@ fn push_usage_reason(text: &mut Vec<u8>, reason: UsageReason) -> Result<(), NoMe
 
 /// Adds which line of a trace is refused, and why. The only error is out of memory.
 pub fn push_trace_fault(text: &mut Vec<u8>, fault: &TraceFault) -> Result<(), NoMemory>
-    ensures { OnOk result (text.new.items ≡ text.old.items ++ (numbered (codes "trace: line ") fault.now.line ++ trace_reason fault.now.reason)) }
+    ensures { OnOk result
+        (text.new.items ≡ text.old.items ++ (numbered (codes "trace: line ") fault.now.line ++ trace_reason fault.now.reason)) }
 {
     push_numbered(text, "trace: line ", fault.line)?;
     push_trace_reason(text, fault.reason)
@@ -69,7 +72,8 @@ fn push_trace_reason(text: &mut Vec<u8>, reason: TraceReason) -> Result<(), NoMe
 
 /// Adds which line of a call script is refused, and why. The only error is out of memory.
 pub fn push_calls_fault(text: &mut Vec<u8>, fault: &CallsFault) -> Result<(), NoMemory>
-    ensures { OnOk result (text.new.items ≡ text.old.items ++ (numbered (codes "calls: line ") fault.now.line ++ calls_reason fault.now.reason)) }
+    ensures { OnOk result
+        (text.new.items ≡ text.old.items ++ (numbered (codes "calls: line ") fault.now.line ++ calls_reason fault.now.reason)) }
 {
     push_numbered(text, "calls: line ", fault.line)?;
     push_calls_reason(text, fault.reason)
@@ -103,7 +107,8 @@ fn push_calls_reason(text: &mut Vec<u8>, reason: CallsReason) -> Result<(), NoMe
 
 /// Adds which line of a puts file is refused, and why. The only error is out of memory.
 pub fn push_puts_fault(text: &mut Vec<u8>, fault: &PutsFault) -> Result<(), NoMemory>
-    ensures { OnOk result (text.new.items ≡ text.old.items ++ (numbered (codes "puts: line ") fault.now.line ++ puts_reason fault.now.reason)) }
+    ensures { OnOk result
+        (text.new.items ≡ text.old.items ++ (numbered (codes "puts: line ") fault.now.line ++ puts_reason fault.now.reason)) }
 {
     push_numbered(text, "puts: line ", fault.line)?;
     push_puts_reason(text, fault.reason)

@@ -46,7 +46,8 @@ pub fn read_replay_inputs<D: Desk>(
     requires until { words.now.until ≤ 10 ^ 15 }
     ensures outputs { KeepsOutputs (D.seen desk.old) (D.seen desk.new) }
     ensures accepts { IfOk result (λ inputs. Accepts (D.seen desk.old) (replay_sources (replay_terms words.now)) (files_of inputs.files)) }
-    ensures puts { IfOk result (λ inputs. AcceptsPuts (D.seen desk.old) (replay_terms words.now).puts (files_of inputs.files) (option_map accepted inputs.puts)) }
+    ensures puts { IfOk result
+        (λ inputs. AcceptsPuts (D.seen desk.old) (replay_terms words.now).puts (files_of inputs.files) (option_map accepted inputs.puts)) }
     ensures fit { IfOk result (λ inputs. IsAccepted (inputs_of (files_of inputs.files) (key_of words.now.policy) words.now.until)) }
     ensures fit_puts { IfOk result (λ inputs. IfSome inputs.puts (λ puts. CanBeSpilled (files_of inputs.files) (accepted puts))) }
     ensures sound { IfOk result (λ inputs. IsSound inputs.files.params.disk.map) }
@@ -94,12 +95,16 @@ fn read_given_puts<D: Desk>(
 ) -> Result<Option<Puts>, Outcome>
     requires { ((D.seen desk.old).inputs Input.Puts).opened ≡ false }
     ensures only { ChangesInput Input.Puts (D.seen desk.old) (D.seen desk.new) }
-    ensures opened { IfSome (option_map (λ given. given.now) name.entry) (λ given. IsOpenedAs given (D.seen desk.old) ((D.seen desk.new).inputs Input.Puts)) }
+    ensures opened { IfSome (option_map (λ given. given.now) name.entry)
+        (λ given. IsOpenedAs given (D.seen desk.old) ((D.seen desk.new).inputs Input.Puts)) }
     ensures calm { IfOk result (λ _. ((D.seen desk.new).inputs Input.Puts).faults ≡ ((D.seen desk.old).inputs Input.Puts).faults) }
-    ensures unnamed { option_map (λ given. given.now) name.entry ≡ None → (D.seen desk.new).inputs Input.Puts ≡ (D.seen desk.old).inputs Input.Puts }
-    ensures puts { IfOk result (λ puts. AcceptsPuts (D.seen desk.old) (option_map (λ given. given.now) name.entry) (files_of files.now) (option_map accepted puts)) }
+    ensures unnamed { option_map (λ given. given.now) name.entry ≡ None
+        → (D.seen desk.new).inputs Input.Puts ≡ (D.seen desk.old).inputs Input.Puts }
+    ensures puts { IfOk result (λ puts.
+        AcceptsPuts (D.seen desk.old) (option_map (λ given. given.now) name.entry) (files_of files.now) (option_map accepted puts)) }
     ensures fit { IfOk result (λ puts. IfSome puts (λ puts. CanBeSpilled (files_of files.now) (accepted puts))) }
-    ensures stops { IfErr result (StopsGivenPuts (option_map (λ given. given.now) name.entry) (files_of files.now) (D.seen desk.old) (D.seen desk.new)) }
+    ensures stops { IfErr result
+        (StopsGivenPuts (option_map (λ given. given.now) name.entry) (files_of files.now) (D.seen desk.old) (D.seen desk.new)) }
 {
     match name {
         Some(name) => match read_named_puts(alloc, desk, name, files) {

@@ -136,14 +136,22 @@ fn read_workload<D: Desk>(
     requires fresh_calls { ((D.seen desk.old).inputs Input.Calls).opened ≡ false }
     ensures held { (name : List ℕ) → (D.seen desk.new).held name ≡ (D.seen desk.old).held name }
     ensures outputs { KeepsOutputs (D.seen desk.old) (D.seen desk.new) }
-    ensures accepts { IfOk result (λ workload. (first : DeskView) (latent : List ℕ) → ReadsDisk first (sources_of sources.now).params disk.now latent → ChangesInput Input.Params first (D.seen desk.old) → Accepts first (sources_of sources.now) (files_on disk.now latent workload)) }
+    ensures accepts { IfOk result
+        (λ workload. (first : DeskView) (latent : List ℕ) → ReadsDisk first (sources_of sources.now).params disk.now latent
+        → ChangesInput Input.Params first (D.seen desk.old) → Accepts first (sources_of sources.now) (files_on disk.now latent workload)) }
     ensures servable { IfOk result (λ workload. IsTraceOf (length (places disk.now.map)) workload.trace.requests.items) }
     ensures fit { IfOk result (λ workload. IsScript disk.now.map (length workload.trace.requests.items) workload.calls.calls.items) }
     ensures names { IfOk result (λ workload. length workload.calls.names ≡ length (tasks workload.calls.calls.items)) }
-    ensures cause { IfErr result (λ outcome. (first : DeskView) (latent : List ℕ) → ReadsDisk first (sources_of sources.now).params disk.now latent → ChangesInput Input.Params first (D.seen desk.old) → StopsInputs (files_alone (sources_of sources.now)) first (D.seen desk.new) outcome) }
-    ensures unnamed { (first : DeskView) → ChangesInput Input.Params first (D.seen desk.old) → KeepsUnnamed (files_alone (sources_of sources.now)) first (D.seen desk.new) }
-    ensures opened { (first : DeskView) → IsUnused first → ChangesInput Input.Params first (D.seen desk.old) → IsOpenedAs (sources_of sources.now).params first ((D.seen desk.old).inputs Input.Params) → OpensAsNamed (files_alone (sources_of sources.now)) first (D.seen desk.new) }
-    ensures calm { IfOk result (λ _. (first : DeskView) → ChangesInput Input.Params first (D.seen desk.old) → ((D.seen desk.old).inputs Input.Params).faults ≡ (first.inputs Input.Params).faults → AreInputsCalm first (D.seen desk.new)) }
+    ensures cause { IfErr result (λ outcome. (first : DeskView) (latent : List ℕ)
+        → ReadsDisk first (sources_of sources.now).params disk.now latent → ChangesInput Input.Params first (D.seen desk.old)
+        → StopsInputs (files_alone (sources_of sources.now)) first (D.seen desk.new) outcome) }
+    ensures unnamed { (first : DeskView) → ChangesInput Input.Params first (D.seen desk.old)
+        → KeepsUnnamed (files_alone (sources_of sources.now)) first (D.seen desk.new) }
+    ensures opened { (first : DeskView) → IsUnused first → ChangesInput Input.Params first (D.seen desk.old)
+        → IsOpenedAs (sources_of sources.now).params first ((D.seen desk.old).inputs Input.Params)
+        → OpensAsNamed (files_alone (sources_of sources.now)) first (D.seen desk.new) }
+    ensures calm { IfOk result (λ _. (first : DeskView) → ChangesInput Input.Params first (D.seen desk.old)
+        → ((D.seen desk.old).inputs Input.Params).faults ≡ (first.inputs Input.Params).faults → AreInputsCalm first (D.seen desk.new)) }
 {
     let trace = match read_requests(alloc, desk, sources.trace, sources.device, disk) {
         Ok(trace) => trace,
@@ -257,13 +265,17 @@ fn read_script<D: Desk>(
 ) -> Result<Calls, Outcome>
     requires { ((D.seen desk.old).inputs Input.Calls).opened ≡ false }
     ensures only { ChangesInput Input.Calls (D.seen desk.old) (D.seen desk.new) }
-    ensures opened { IfSome (option_map (λ given. given.now) name.entry) (λ given. IsOpenedAs given (D.seen desk.old) ((D.seen desk.new).inputs Input.Calls)) }
+    ensures opened { IfSome (option_map (λ given. given.now) name.entry)
+        (λ given. IsOpenedAs given (D.seen desk.old) ((D.seen desk.new).inputs Input.Calls)) }
     ensures calm { IfOk result (λ _. ((D.seen desk.new).inputs Input.Calls).faults ≡ ((D.seen desk.old).inputs Input.Calls).faults) }
-    ensures unnamed { option_map (λ given. given.now) name.entry ≡ None → (D.seen desk.new).inputs Input.Calls ≡ (D.seen desk.old).inputs Input.Calls }
-    ensures script { IfOk result (λ calls. ReadsScript (D.seen desk.old) (option_map (λ given. given.now) name.entry) disk.now traced (accepted_calls calls)) }
+    ensures unnamed { option_map (λ given. given.now) name.entry ≡ None
+        → (D.seen desk.new).inputs Input.Calls ≡ (D.seen desk.old).inputs Input.Calls }
+    ensures script { IfOk result
+        (λ calls. ReadsScript (D.seen desk.old) (option_map (λ given. given.now) name.entry) disk.now traced (accepted_calls calls)) }
     ensures fit { IfOk result (λ calls. IsScript disk.now.map traced calls.calls.items) }
     ensures names { IfOk result (λ calls. length calls.names ≡ length (tasks calls.calls.items)) }
-    ensures stops { IfErr result (StopsScript (option_map (λ given. given.now) name.entry) disk.now traced (D.seen desk.old) (D.seen desk.new)) }
+    ensures stops { IfErr result
+        (StopsScript (option_map (λ given. given.now) name.entry) disk.now traced (D.seen desk.old) (D.seen desk.new)) }
 {
     match name {
         Some(name) => read_named_script(alloc, desk, name, disk, traced),
@@ -322,7 +334,8 @@ pub fn read_printed<D: Desk>(
     requires { ((D.seen desk.old).inputs (input_of report)).opened ≡ false }
     ensures only { ChangesInput (input_of report) (D.seen desk.old) (D.seen desk.new) }
     ensures opened { IsOpenedAs name.now (D.seen desk.old) ((D.seen desk.new).inputs (input_of report)) }
-    ensures calm { IfOk result (λ _. ((D.seen desk.new).inputs (input_of report)).faults ≡ ((D.seen desk.old).inputs (input_of report)).faults) }
+    ensures calm { IfOk result
+        (λ _. ((D.seen desk.new).inputs (input_of report)).faults ≡ ((D.seen desk.old).inputs (input_of report)).faults) }
     ensures whole { IfOk result (λ bytes. IsHeld (D.seen desk.old) name.now bytes.items) }
     ensures few { IfOk result (λ bytes. length bytes.items ≤ limit_of (input_of report)) }
     ensures stops { IfErr result (StopsReport report name.now (D.seen desk.old) (D.seen desk.new)) }

@@ -64,7 +64,9 @@ fn replay_and_write<D: Desk>(
     requires fit_puts { IfSome inputs.now.puts (λ puts. CanBeSpilled (files_of inputs.now.files) (accepted puts)) }
     requires names { length inputs.now.files.calls.names ≡ length (tasks inputs.now.files.calls.calls.items) }
     requires named { is_some inputs.now.puts ≡ is_some (replay_terms words.now).spill }
-    ensures cause { (first : DeskView) → TakesReplay (replay_terms words.now) (files_of inputs.now.files) (option_map accepted inputs.now.puts) first (D.seen desk.old) → HasCause (replay_terms words.now) first (D.seen desk.new) result }
+    ensures cause { (first : DeskView)
+        → TakesReplay (replay_terms words.now) (files_of inputs.now.files) (option_map accepted inputs.now.puts) first (D.seen desk.old)
+        → HasCause (replay_terms words.now) first (D.seen desk.new) result }
     ensures calm { MeetsNoFault result (D.seen desk.old) (D.seen desk.new) }
     ensures no_note { (D.seen desk.new).outputs Output.Note ≡ (D.seen desk.old).outputs Output.Note }
     ensures inputs { KeepsInputs (D.seen desk.old) (D.seen desk.new) }
@@ -128,10 +130,13 @@ fn write_replay<D: Desk>(
     requires told { CanBeTold files.now.calls.names run.now }
     requires named { is_some spill ≡ is_some (replay_terms words.now).spill }
     requires spill_told { IfSome spill (λ spill. AllByRecursion HasRange spill.now.items) }
-    ensures whole { OnOk result (HoldsReplay (replay_terms words.now) (files_of files.now) run.now (option_map (λ spill. spill.now) spill.entry) (D.seen desk.old) (D.seen desk.new)) }
-    ensures stops { IfErr result (StopsReplay (replay_terms words.now) (files_of files.now) run.now (option_map (λ spill. spill.now) spill.entry) (D.seen desk.old) (D.seen desk.new)) }
+    ensures whole { OnOk result (HoldsReplay (replay_terms words.now) (files_of files.now) run.now
+        (option_map (λ spill. spill.now) spill.entry) (D.seen desk.old) (D.seen desk.new)) }
+    ensures stops { IfErr result (StopsReplay (replay_terms words.now) (files_of files.now) run.now
+        (option_map (λ spill. spill.now) spill.entry) (D.seen desk.old) (D.seen desk.new)) }
     ensures calm { OnOk result (AreOutputsCalm (D.seen desk.old) (D.seen desk.new)) }
-    ensures read { OnOk result (CanBeRead (files_of files.now) run.now → AreReadBack (replay_terms words.now) (files_of files.now) run.now) }
+    ensures read { OnOk result (CanBeRead (files_of files.now) run.now
+        → AreReadBack (replay_terms words.now) (files_of files.now) run.now) }
     ensures no_note { (D.seen desk.new).outputs Output.Note ≡ (D.seen desk.old).outputs Output.Note }
     ensures inputs { KeepsInputs (D.seen desk.old) (D.seen desk.new) }
 {

@@ -40,7 +40,8 @@ pub fn write_reports<D: Desk>(
     ensures whole { OnOk result (HoldsReports (replay_terms words.now) (files_of files.now) run.now (D.seen desk.old) (D.seen desk.new)) }
     ensures stops { IfErr result (StopsReports (replay_terms words.now) (files_of files.now) run.now (D.seen desk.old) (D.seen desk.new)) }
     ensures calm { OnOk result (AreOutputsCalm (D.seen desk.old) (D.seen desk.new)) }
-    ensures read { OnOk result (CanBeRead (files_of files.now) run.now → AreReadBack (replay_terms words.now) (files_of files.now) run.now) }
+    ensures read { OnOk result (CanBeRead (files_of files.now) run.now
+        → AreReadBack (replay_terms words.now) (files_of files.now) run.now) }
     ensures no_note { (D.seen desk.new).outputs Output.Note ≡ (D.seen desk.old).outputs Output.Note }
     ensures inputs { KeepsInputs (D.seen desk.old) (D.seen desk.new) }
 {
@@ -65,10 +66,13 @@ fn write_fore<D: Desk>(
     requires fresh { ((D.seen desk.old).outputs Output.Fore).begun ≡ false }
     requires told { CanBeTold files.now.calls.names run.now }
     ensures only { ChangesOutput Output.Fore (D.seen desk.old) (D.seen desk.new) }
-    ensures whole { OnOk result (HoldsWhole ((D.seen desk.new).outputs Output.Fore) (codes "-") (fore_told (replay_terms words.now) (files_of files.now) run.now)) }
+    ensures whole { OnOk result
+        (HoldsWhole ((D.seen desk.new).outputs Output.Fore) (codes "-") (fore_told (replay_terms words.now) (files_of files.now) run.now)) }
     ensures calm { OnOk result (((D.seen desk.new).outputs Output.Fore).faults ≡ ((D.seen desk.old).outputs Output.Fore).faults) }
-    ensures read { OnOk result (CanBeRead (files_of files.now) run.now → (replay_terms words.now).summary ≡ false → IsReadBack fore_grammar (fore_lines files.now.params.disk.sector_bytes words.now.bytes run.now)) }
-    ensures stops { IfErr result (StopsText Output.Fore (codes "-") (fore_told (replay_terms words.now) (files_of files.now) run.now) (D.seen desk.old) (D.seen desk.new)) }
+    ensures read { OnOk result (CanBeRead (files_of files.now) run.now → (replay_terms words.now).summary ≡ false
+        → IsReadBack fore_grammar (fore_lines files.now.params.disk.sector_bytes words.now.bytes run.now)) }
+    ensures stops { IfErr result (StopsText Output.Fore (codes "-") (fore_told (replay_terms words.now) (files_of files.now) run.now)
+        (D.seen desk.old) (D.seen desk.new)) }
 {
     if words.summary {
         return write_summary(alloc, desk, run);
@@ -104,10 +108,13 @@ fn write_back<D: Desk>(
     requires fresh { ((D.seen desk.old).outputs Output.Back).begun ≡ false }
     requires told { CanBeTold files.now.calls.names run.now }
     ensures only { ChangesOutput Output.Back (D.seen desk.old) (D.seen desk.new) }
-    ensures whole { OnOk result (HoldsWhole ((D.seen desk.new).outputs Output.Back) name.now (back_text files.now.calls.names files.now.params.disk.sector_bytes bytes run.now)) }
+    ensures whole { OnOk result (HoldsWhole ((D.seen desk.new).outputs Output.Back) name.now
+        (back_text files.now.calls.names files.now.params.disk.sector_bytes bytes run.now)) }
     ensures calm { OnOk result (((D.seen desk.new).outputs Output.Back).faults ≡ ((D.seen desk.old).outputs Output.Back).faults) }
-    ensures read { OnOk result (CanBeRead (files_of files.now) run.now → IsReadBack back_grammar (back_lines files.now.calls.names files.now.params.disk.sector_bytes bytes run.now)) }
-    ensures stops { IfErr result (StopsText Output.Back name.now (back_text files.now.calls.names files.now.params.disk.sector_bytes bytes run.now) (D.seen desk.old) (D.seen desk.new)) }
+    ensures read { OnOk result (CanBeRead (files_of files.now) run.now
+        → IsReadBack back_grammar (back_lines files.now.calls.names files.now.params.disk.sector_bytes bytes run.now)) }
+    ensures stops { IfErr result (StopsText Output.Back name.now
+        (back_text files.now.calls.names files.now.params.disk.sector_bytes bytes run.now) (D.seen desk.old) (D.seen desk.new)) }
 {
     let lines = BackLines {
         run,

@@ -62,7 +62,8 @@ pub fn read_whole<D: Desk>(
     ensures opened { IsOpenedAs name.now (D.seen desk.old) ((D.seen desk.new).inputs which) }
     ensures whole { IfOk result (λ bytes. IsHeld (D.seen desk.old) name.now bytes.items) }
     ensures few { IfOk result (λ bytes. length bytes.items ≤ limit) }
-    ensures failed { IsErrOf result InputError.Failed → Rose ((D.seen desk.old).inputs which).faults ((D.seen desk.new).inputs which).faults }
+    ensures failed { IsErrOf result InputError.Failed
+        → Rose ((D.seen desk.old).inputs which).faults ((D.seen desk.new).inputs which).faults }
     ensures long { IsErrOf result InputError.TooLong → IsLonger (D.seen desk.old) name.now limit }
 {
     desk.open_input(which, name)?;
@@ -88,7 +89,8 @@ pub fn write_whole<D: Desk>(desk: &mut D, which: Output, text: &[u8]) -> Result<
     ensures begun { ((D.seen desk.new).outputs which).begun ≡ true }
     ensures name { ((D.seen desk.new).outputs which).name ≡ ((D.seen desk.old).outputs which).name }
     ensures whole { OnOk result (((D.seen desk.new).outputs which).written ≡ behind ((D.seen desk.old).outputs which).written text.now) }
-    ensures front { OnErr result (AppendsFront ((D.seen desk.old).outputs which).written ((D.seen desk.new).outputs which).written text.now) }
+    ensures front { OnErr result
+        (AppendsFront ((D.seen desk.old).outputs which).written ((D.seen desk.new).outputs which).written text.now) }
 {
     let mut done = 0;
     while done < text.len() {

@@ -1,6 +1,7 @@
 // Laws of the runs that `run_command` returns.
 ghost use Rattle.fb_top.specs.Copied.{CopiesAreTheSurvivors};
-ghost use Rattle.fb_top.specs.Untouched.{InputsHaveOneRun, PrintedReportsAreRight, RightReportsAreRight, RunsLookNotAhead, ScriptsLeaveForeground, SectionsAreReplays};
+ghost use Rattle.fb_top.specs.Untouched.{InputsHaveOneRun, PrintedReportsAreRight, RightReportsAreRight, RunsLookNotAhead};
+ghost use Rattle.fb_top.specs.Untouched.{ScriptsLeaveForeground, SectionsAreReplays};
 
 use fb_mirror::{covered_sectors_are_the_survivors, sealed_rebuilds_are_whole};
 use fb_model::{foreground_is_untouched, no_look_ahead, one_full_run};

@@ -26,9 +26,11 @@ pub fn write_made<D: Desk>(
 ) -> Result<(), Outcome>
     requires fresh { ((D.seen desk.old).outputs which).begun ≡ false }
     ensures only { ChangesOutput which (D.seen desk.old) (D.seen desk.new) }
-    ensures whole { (text : List ℕ) → IfOk made (λ bytes. bytes.items ≡ text) → OnOk result (HoldsWhole ((D.seen desk.new).outputs which) name.now text) }
+    ensures whole { (text : List ℕ) → IfOk made (λ bytes. bytes.items ≡ text)
+        → OnOk result (HoldsWhole ((D.seen desk.new).outputs which) name.now text) }
     ensures calm { OnOk result (((D.seen desk.new).outputs which).faults ≡ ((D.seen desk.old).outputs which).faults) }
-    ensures stops { (text : List ℕ) → IfOk made (λ bytes. bytes.items ≡ text) → IfErr result (StopsText which name.now text (D.seen desk.old) (D.seen desk.new)) }
+    ensures stops { (text : List ℕ) → IfOk made (λ bytes. bytes.items ≡ text)
+        → IfErr result (StopsText which name.now text (D.seen desk.old) (D.seen desk.new)) }
     ensures memory { OnOk made (result ≢ Err Outcome.NoMemory) }
     ensures unmade { OnErr made ((result ≡ Err Outcome.NoMemory) × (D.seen desk.new ≡ D.seen desk.old)) }
 {

@@ -1,5 +1,6 @@
 -- Facts of each element of a list.
-use Rattle.std.proofs.Common.{◌≡◌, ℕ, zero, suc, ◌+◌, ◌<◌, List, [], ◌∷◌, ◌++◌, length, get_or, take, drop, set, map, refl, sym, ap, ◌∙◌, arith, subst, length-drop}
+use Rattle.std.proofs.Common.{◌≡◌, ℕ, zero, suc, ◌+◌, ◌<◌, List, [], ◌∷◌, ◌++◌, length, get_or, take, drop, set, map, refl, sym, ap, ◌∙◌}
+use Rattle.std.proofs.Common.{arith, subst, length-drop}
 use Rattle.std.proofs.lemmas.List.{drop_more}
 use Rattle.std.specs.Prelude.{replicate}
 use Rattle.std.specs.List.{AllByRecursion}
@@ -50,7 +51,8 @@ same_at zero (z ∷ xs) x y inside ix iy = ix ∙ sym iy
 same_at (suc k) (z ∷ xs) x y inside ix iy = same_at k xs x y (omega arith) ix iy
 
 -- two lists that go on alike from an index on have the same element there, and go on alike behind it
-pub alike_from : {X : Type 0} (i : ℕ) (xs ys : List X) (x : X) → drop i xs ≡ drop i ys → i < length xs → (get_or xs i x ≡ get_or ys i x) × (drop (i + 1) xs ≡ drop (i + 1) ys) × (i < length ys)
+pub alike_from : {X : Type 0} (i : ℕ) (xs ys : List X) (x : X) → drop i xs ≡ drop i ys → i < length xs
+    → (get_or xs i x ≡ get_or ys i x) × (drop (i + 1) xs ≡ drop (i + 1) ys) × (i < length ys)
 alike_from i xs ys x alike inside =
     let also : i < length ys = omega (arith, ap length alike, length-drop i xs, length-drop i ys) in
     let front = drop_more xs i x inside in
@@ -58,7 +60,8 @@ alike_from i xs ys x alike inside =
     (cc, cc, also)
 
 -- one more element is written so that f of it is g of the other list's element
-pub written_next : {X Y Z : Type 0} (f : X → Z) (g : Y → Z) (i : ℕ) (xs : List X) (ys : List Y) (x : X) (y : Y) → i < length xs → i < length ys → y ≡ get_or ys i y → f x ≡ g y
+pub written_next : {X Y Z : Type 0} (f : X → Z) (g : Y → Z) (i : ℕ) (xs : List X) (ys : List Y) (x : X) (y : Y) → i < length xs
+    → i < length ys → y ≡ get_or ys i y → f x ≡ g y
     → map f (take i xs) ≡ map g (take i ys) → map f (take (suc i) (set xs i x)) ≡ map g (take (suc i) ys)
 written_next f g i [] ys x y inside also is same so_far = absurd (omega arith)
 written_next f g i (a ∷ xs) [] x y inside also is same so_far = absurd (omega arith)
@@ -66,4 +69,5 @@ written_next f g zero (a ∷ xs) (b ∷ ys) x y inside also is same so_far = ap 
 written_next f g (suc i) (a ∷ xs) (b ∷ ys) x y inside also is same so_far =
     let first : f a ≡ g b = cc in
     let others : map f (take i xs) ≡ map g (take i ys) = cc in
-    ap (λ z. z ∷ map f (take (suc i) (set xs i x))) first ∙ ap (λ zs. g b ∷ zs) (written_next f g i xs ys x y (omega arith) (omega arith) is same others)
+    ap (λ z. z ∷ map f (take (suc i) (set xs i x))) first
+    ∙ ap (λ zs. g b ∷ zs) (written_next f g i xs ys x y (omega arith) (omega arith) is same others)

@@ -13,6 +13,7 @@ all_of (result ∷ results) = do
   values ← all_of results
   Ok (value ∷ values)
 
--- the traces that a text has for the devices 0, 1, .. below a number, on disks of this many sectors; or the fault of the least device that is refused
+-- the traces that a text has for the devices 0, 1, .. below a number, on disks of this many sectors; or the fault of the least device that
+-- is refused
 abbrev pub traces_of : ℕ → ℕ → List ℕ → Result (List Accepted) TraceFault
 traces_of devices sectors text = all_of (map (λ device. trace_of device sectors text) (range_with_len 0 devices))

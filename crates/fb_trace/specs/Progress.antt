@@ -28,7 +28,8 @@ own_trace reader own = record { requests = own; passed_over = reader.requests - 
 
 -- what the lines from this number on give for this device, behind those so far
 abbrev pub rest_for : DevicesReader → ℕ → List (List ℕ) → ℕ → List Request → Result Accepted TraceFault
-rest_for reader number lines device own = lines_from device reader.sectors number (record { instant = reader.instant; trace = own_trace reader own }) lines
+rest_for reader number lines device own =
+    lines_from device reader.sectors number (record { instant = reader.instant; trace = own_trace reader own }) lines
 
 -- f of each device and what it has, where the first of these is what this device has
 abbrev pub by_device : {X Y : Type 0} → (ℕ → X → Y) → ℕ → List X → List Y

@@ -26,8 +26,12 @@ at_start = record { instant = 0; trace = record { requests = []; passed_over = 0
 -- the lines so far and one more
 abbrev pub with_line : Progress → Line → Progress
 with_line so_far Blank = so_far
-with_line so_far (PassedOver arrival) = record { instant = arrival; trace = record { requests = so_far.trace.requests; passed_over = so_far.trace.passed_over + 1 } }
-with_line so_far (Asked request) = record { instant = request.arrival; trace = record { requests = so_far.trace.requests ++ request ∷ []; passed_over = so_far.trace.passed_over } }
+with_line so_far (PassedOver arrival) =
+    record { instant = arrival; trace = record { requests = so_far.trace.requests; passed_over = so_far.trace.passed_over + 1 } }
+with_line so_far (Asked request) = record {
+  instant = request.arrival;
+  trace = record { requests = so_far.trace.requests ++ request ∷ []; passed_over = so_far.trace.passed_over };
+}
 
 -- a fault of the line with this number
 abbrev pub fault_at : ℕ → TraceReason → TraceFault

@@ -1,5 +1,6 @@
 // Reading a trace for several devices, line by line.
-ghost use Rattle.std.specs.Prelude.{◌≡◌, ℕ, ◌+◌, ◌<◌, ◌≤◌, ◌^◌, nat_lt, List, ◌∷◌, [], length, map, take, replicate, IfOk, OnOk, Ok, Some, None, if◌then◌else◌};
+ghost use Rattle.std.specs.Prelude.{◌≡◌, ℕ, ◌+◌, ◌<◌, ◌≤◌, ◌^◌, nat_lt, List, ◌∷◌, [], length, map, take, replicate, IfOk, OnOk, Ok, Some};
+ghost use Rattle.std.specs.Prelude.{None, if◌then◌else◌};
 ghost use Rattle.std.specs.List.{AllByRecursion};
 ghost use Rattle.fb_units.specs.Lines.{fields_of};
 ghost use Rattle.fb_trace.specs.Devices.{traces_of};
@@ -57,7 +58,8 @@ impl DevicesReader {
     // Before the first line.
     fn new(alloc: Global, devices: u32, sectors: u64) -> Result<DevicesReader, NoMemory>
         ensures requests { IfOk result (λ reader. requests_of reader ≡ replicate devices []) }
-        ensures others { IfOk result (λ reader. (reader.sectors ≡ sectors) × (reader.instant ≡ 0) × (reader.requests ≡ 0) × (reader.fault ≡ None)) }
+        ensures others { IfOk result
+            (λ reader. (reader.sectors ≡ sectors) × (reader.instant ≡ 0) × (reader.requests ≡ 0) × (reader.fault ≡ None)) }
     {
         let mut traces = Vec::new(alloc);
         for _ in 0..devices {
@@ -79,7 +81,8 @@ impl DevicesReader {
     fn read_line(&mut self, number: u64, line: &[u8]) -> Result<(), NoMemory>
         requires few { self.old.requests < number }
         requires counted { AreCounted self.old }
-        ensures rest { OnOk result ((lines : List (List ℕ)) → rest_of_text self.old number (line.now ∷ lines) ≡ rest_of_text self.new (number + 1) lines) }
+        ensures rest { OnOk result ((lines : List (List ℕ))
+            → rest_of_text self.old number (line.now ∷ lines) ≡ rest_of_text self.new (number + 1) lines) }
         ensures few { OnOk result (self.new.requests ≤ number) }
         ensures counted { OnOk result (AreCounted self.new) }
     {
@@ -104,7 +107,8 @@ impl DevicesReader {
         requires few { self.old.requests < number }
         requires counted { AreCounted self.old }
         requires first { entry.first ≤ 10 ^ 15 }
-        ensures rest { OnOk result ((line : List ℕ) (lines : List (List ℕ)) → entry_after self.old.instant (fields_of line) ≡ Ok (Some entry)
+        ensures rest { OnOk result ((line : List ℕ) (lines : List (List ℕ))
+            → entry_after self.old.instant (fields_of line) ≡ Ok (Some entry)
             → rest_of_text self.old number (line ∷ lines) ≡ rest_of_text self.new (number + 1) lines) }
         ensures few { OnOk result (self.new.requests ≤ number) }
         ensures counted { OnOk result (AreCounted self.new) }
@@ -133,7 +137,8 @@ impl DevicesReader {
     fn refuse_from(&mut self, device: usize, fault: TraceFault)
         ensures traces { self.new.traces.items ≡ take device self.old.traces.items }
         ensures fault { self.new.fault ≡ (if nat_lt device (length self.old.traces.items) then Some fault else self.old.fault) }
-        ensures others { (self.new.sectors ≡ self.old.sectors) × (self.new.instant ≡ self.old.instant) × (self.new.requests ≡ self.old.requests) }
+        ensures others { (self.new.sectors ≡ self.old.sectors) × (self.new.instant ≡ self.old.instant)
+            × (self.new.requests ≡ self.old.requests) }
     {
         if device < self.traces.len() {
             self.traces.truncate(device);
@@ -144,7 +149,8 @@ impl DevicesReader {
     // The traces at the end of the text, or the fault of the least device that was refused.
     fn into_traces(self) -> Result<Vec<Trace>, TraceError>
         requires { AreCounted self }
-        ensures { Answers (λ traces. map accepted traces.items) result (unless_refused self.fault (map (own_trace self) (requests_of self))) }
+        ensures { Answers (λ traces. map accepted traces.items) result
+            (unless_refused self.fault (map (own_trace self) (requests_of self))) }
     {
         if let Some(fault) = self.fault {
             return Err(TraceError::Fault(fault));

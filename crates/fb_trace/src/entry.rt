@@ -91,7 +91,8 @@ fn read_entry(line: &[u8]) -> Result<Entry, TraceReason>
 
 // The first field of a line and the rest of the line; `TooFewFields` if it has no field left.
 fn field(line: &[u8]) -> Result<(&[u8], &[u8]), TraceReason>
-    ensures { MatchResult result (λ found. fields_of line.now ≡ found.0.now ∷ fields_of found.1.now) (λ reason. (fields_of line.now ≡ []) × (reason ≡ TooFewFields)) }
+    ensures { MatchResult result (λ found. fields_of line.now ≡ found.0.now ∷ fields_of found.1.now)
+        (λ reason. (fields_of line.now ≡ []) × (reason ≡ TooFewFields)) }
 {
     match next_field(line) {
         Some(found) => Ok(found),

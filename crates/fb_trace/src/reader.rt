@@ -64,7 +64,8 @@ impl Reader {
     // Reads the next line, which has this number.
     fn read_line(&mut self, number: u64, line: &[u8]) -> Result<(), TraceError>
         requires few { self.old.trace.passed_over < number }
-        ensures answer { Answers (λ _. progress self.new) result (next_progress self.old.device self.old.sectors number (progress self.old) line.now) }
+        ensures answer { Answers (λ _. progress self.new) result
+            (next_progress self.old.device self.old.sectors number (progress self.old) line.now) }
         ensures device { self.new.device ≡ self.old.device }
         ensures sectors { self.new.sectors ≡ self.old.sectors }
         ensures few { OnOk result (self.new.trace.passed_over ≤ number) }
@@ -102,7 +103,8 @@ impl Reader {
     // What a line adds.
     #[tactic(auto, unfolding(crate::specs::Line::line_of, crate::specs::Line::added_by))]
     fn line(&self, text: &[u8]) -> Result<Line, TraceReason>
-        ensures { result ≡ line_of self.now.device self.now.sectors self.now.instant (length self.now.trace.requests.items + 1) (fields_of text.now) }
+        ensures { result
+            ≡ line_of self.now.device self.now.sectors self.now.instant (length self.now.trace.requests.items + 1) (fields_of text.now) }
     {
         match entry_after(self.instant, text)? {
             None => Ok(Line::Blank),

@@ -1,5 +1,6 @@
 -- The first line of a text, and the first field of a line.
-use Rattle.std.proofs.Common.{◌≡◌, ℕ, suc, ◌+◌, ◌<◌, ◌≤◌, List, [], ◌∷◌, length, get_or, take, drop, Bool, true, false, refl, sym, ◌∙◌, ap, subst, inl, inr, arith}
+use Rattle.std.proofs.Common.{◌≡◌, ℕ, suc, ◌+◌, ◌<◌, ◌≤◌, List, [], ◌∷◌, length, get_or, take, drop, Bool, true, false, refl, sym, ◌∙◌, ap}
+use Rattle.std.proofs.Common.{subst, inl, inr, arith}
 use Rattle.std.specs.Prelude.{◌==◌, nat_lt, map, filter}
 use Rattle.std.specs.List.{slice_split, All, before_first, after_first, position_or_len, prefix_len}
 use Rattle.std.specs.Str.Lines.{strip_carriage_return}
@@ -11,7 +12,8 @@ use Rattle.std.proofs.lemmas.Bool.Decides.{nat_tests}
 use Rattle.fb_units.specs.Lines.{is_blank, but_empty_last, lines_of, fields_of}
 
 -- a first part is not left out if others follow it
-pub but_empty_last-cons : (part : List ℕ) (parts : List (List ℕ)) → 0 < length parts → but_empty_last (part ∷ parts) ≡ part ∷ but_empty_last parts
+pub but_empty_last-cons : (part : List ℕ) (parts : List (List ℕ)) → 0 < length parts
+    → but_empty_last (part ∷ parts) ≡ part ∷ but_empty_last parts
 but_empty_last-cons part [] some = absurd (omega arith)
 but_empty_last-cons part (next ∷ parts) some = refl
 
@@ -36,12 +38,14 @@ lines_first text some =
     elim (cases_lt (position_or_len p text) (length text)) [
       | inl inside ↦
           ap (λ parts. map strip_carriage_return (but_empty_last parts)) (slice_split_first p text 0 inside)
-          ∙ ap (map strip_carriage_return) (but_empty_last-cons (before_first p text) (slice_split p (after_first p text)) (omega (arith, length-slice_split p (after_first p text))))
+          ∙ ap (map strip_carriage_return) (but_empty_last-cons (before_first p text) (slice_split p (after_first p text))
+          (omega (arith, length-slice_split p (after_first p text))))
       | inr past ↦
           ap (λ parts. map strip_carriage_return (but_empty_last parts)) (slice_split_none p text (none_before p text past))
           ∙ ap (map strip_carriage_return) (but_empty_last-one text some)
           ∙ ap (λ front. strip_carriage_return front ∷ []) (sym (take_all (position_or_len p text) text past))
-          ∙ ap (λ back. strip_carriage_return (before_first p text) ∷ map strip_carriage_return (but_empty_last (slice_split p back))) (sym (drop_all (position_or_len p text + 1) text (omega arith)))
+          ∙ ap (λ back. strip_carriage_return (before_first p text) ∷ map strip_carriage_return (but_empty_last (slice_split p back)))
+          (sym (drop_all (position_or_len p text + 1) text (omega arith)))
     ]
 
 fields_none : fields_of [] ≡ []
@@ -57,7 +61,8 @@ drop_first : (n b : ℕ) (line : List ℕ) → drop (1 + n) (b ∷ line) ≡ dro
 drop_first n b line = let one : 1 + n ≡ suc n = omega arith in rw one refl
 
 -- a blank at the front is passed over, and any other byte isn't
-behind_one : (b : ℕ) (line : List ℕ) → is_blank b ≡ true → drop (prefix_len is_blank (b ∷ line)) (b ∷ line) ≡ drop (prefix_len is_blank line) line
+behind_one : (b : ℕ) (line : List ℕ) → is_blank b ≡ true
+    → drop (prefix_len is_blank (b ∷ line)) (b ∷ line) ≡ drop (prefix_len is_blank line) line
 behind_one b line blank = rw blank (drop_first (prefix_len is_blank line) b line)
 
 behind_none : (b : ℕ) (line : List ℕ) → is_blank b ≡ false → drop (prefix_len is_blank (b ∷ line)) (b ∷ line) ≡ b ∷ line
@@ -82,7 +87,8 @@ fields_of_parts text field parts split some =
     let kept : nat_lt 0 (length field) ≡ true = grind (arith, nat_tests) in
     rw split (rw kept refl)
 
-fields_of_rest : (text rest : List ℕ) (b : ℕ) → text ≡ b ∷ rest → is_blank b ≡ true → filter (λ f. nat_lt 0 (length f)) (slice_split is_blank rest) ≡ fields_of text
+fields_of_rest : (text rest : List ℕ) (b : ℕ) → text ≡ b ∷ rest → is_blank b ≡ true
+    → filter (λ f. nat_lt 0 (length f)) (slice_split is_blank rest) ≡ fields_of text
 unfolding fields_of
 fields_of_rest text rest b e blank = sym (ap fields_of e ∙ fields_blank b rest blank)
 
@@ -91,14 +97,17 @@ fields_first : (text : List ℕ) → 0 < length text → 0 < position_or_len is_
 fields_first text some starts =
     elim (cases_lt (position_or_len is_blank text) (length text)) [
       | inl inside ↦
-          fields_of_parts text (before_first is_blank text) (slice_split is_blank (after_first is_blank text)) (slice_split_first is_blank text 0 inside) (omega (arith, length-take-le (position_or_len is_blank text) text (omega arith)))
+          fields_of_parts text (before_first is_blank text) (slice_split is_blank (after_first is_blank text))
+          (slice_split_first is_blank text 0 inside) (omega (arith, length-take-le (position_or_len is_blank text) text (omega arith)))
           ∙ ap (λ more. before_first is_blank text ∷ more)
-          (fields_of_rest (drop (position_or_len is_blank text) text) (after_first is_blank text) (get_or text (position_or_len is_blank text) 0)
+          (fields_of_rest (drop (position_or_len is_blank text) text) (after_first is_blank text)
+          (get_or text (position_or_len is_blank text) 0)
           (drop_more text (position_or_len is_blank text) 0 inside) (passes_at_first is_blank text 0 inside))
       | inr past ↦
           fields_of_parts text text [] (slice_split_none is_blank text (none_before is_blank text past)) some
           ∙ ap (λ front. front ∷ []) (sym (take_all (position_or_len is_blank text) text past))
-          ∙ ap (λ more. before_first is_blank text ∷ more) (sym (ap fields_of (drop_all (position_or_len is_blank text) text past) ∙ fields_none))
+          ∙ ap (λ more. before_first is_blank text ∷ more)
+          (sym (ap fields_of (drop_all (position_or_len is_blank text) text past) ∙ fields_none))
     ]
 
 -- what follows the blanks doesn't begin with a blank, so the first field isn't empty
@@ -116,8 +125,10 @@ starts_field (b ∷ line) = elim (cases_Bool (is_blank b)) [
 ]
 
 -- the first field of a line, and the rest of the line
-pub fields_next : (line text field rest : List ℕ) (place : ℕ) → text ≡ drop (prefix_len is_blank line) line → 0 < length text → place ≡ position_or_len is_blank text
+pub fields_next : (line text field rest : List ℕ) (place : ℕ) → text ≡ drop (prefix_len is_blank line) line → 0 < length text
+    → place ≡ position_or_len is_blank text
     → field ≡ take place text → rest ≡ drop place text → fields_of line ≡ field ∷ fields_of rest
 fields_next line text field rest place e some at front back =
     sym (fields_behind line) ∙ ap fields_of (sym e) ∙ fields_first text some (subst StartsField (sym e) (starts_field line) some)
-    ∙ ap (λ p. take p text ∷ fields_of (drop p text)) (sym at) ∙ ap (λ f. f ∷ fields_of (drop place text)) (sym front) ∙ ap (λ r. field ∷ fields_of r) (sym back)
+    ∙ ap (λ p. take p text ∷ fields_of (drop p text)) (sym at) ∙ ap (λ f. f ∷ fields_of (drop place text)) (sym front)
+    ∙ ap (λ r. field ∷ fields_of r) (sym back)

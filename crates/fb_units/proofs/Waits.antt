@@ -38,14 +38,17 @@ pub reaches_ahead : (r now angle : ℕ) → angle < r → now % r ≤ angle → 
 reaches_ahead r now angle h le = rest_is r (now / r) angle (now + (angle - now % r)) h (omega (arith, div-add-mod' now r))
 
 pub reaches_over : (r now angle : ℕ) → angle < r → angle < now % r → (now + (r - now % r + angle)) % r ≡ angle
-reaches_over r now angle h lt = rest_is r (now / r + 1) angle (now + (r - now % r + angle)) h (grind (arith, div-add-mod' now r, below now r (omega arith)))
+reaches_over r now angle h lt =
+    rest_is r (now / r + 1) angle (now + (r - now % r + angle)) h (grind (arith, div-add-mod' now r, below now r (omega arith)))
 
 -- the wait by its definition is the least
 pub wait_least : (r angle now : ℕ) → angle < r → IsLeastWait r angle now (wait r angle now)
 wait_least r angle now h = elim (cases_lt angle (now % r)) [
-  | inl k ↦ let w : wait r angle now ≡ r - now % r + angle = rest_is r 0 (r - now % r + angle) (angle + (r - now % r)) (omega (arith, below now r (omega arith))) (omega (arith, below now r (omega arith))) in
+  | inl k ↦ let w : wait r angle now ≡ r - now % r + angle = rest_is r 0 (r - now % r + angle) (angle
+      + (r - now % r)) (omega (arith, below now r (omega arith))) (omega (arith, below now r (omega arith))) in
       rw w (least_of r angle now (r - now % r + angle) (omega (arith, below now r (omega arith))) (reaches_over r now angle h k))
-  | inr k ↦ let w : wait r angle now ≡ angle - now % r = rest_is r 1 (angle - now % r) (angle + (r - now % r)) (omega arith) (omega (arith, below now r (omega arith))) in
+  | inr k ↦ let w : wait r angle now ≡ angle - now % r =
+      rest_is r 1 (angle - now % r) (angle + (r - now % r)) (omega arith) (omega (arith, below now r (omega arith))) in
       rw w (least_of r angle now (angle - now % r) (omega arith) (reaches_ahead r now angle h k))
 ]
 

@@ -1,5 +1,6 @@
 -- A time that is written in milliseconds reads back as the same time.
-use Rattle.std.proofs.Common.{◌≡◌, ℕ, ◌+◌, ◌-◌, ◌*◌, ◌/◌, ◌%◌, ◌<◌, ◌≤◌, ◌^◌, List, [], ◌∷◌, ◌++◌, length, drop, Bool, true, false, refl, arith, Some, ◌∙◌, sym, ap, append_assoc}
+use Rattle.std.proofs.Common.{◌≡◌, ℕ, ◌+◌, ◌-◌, ◌*◌, ◌/◌, ◌%◌, ◌<◌, ◌≤◌, ◌^◌, List, [], ◌∷◌, ◌++◌, length, drop, Bool, true, false, refl}
+use Rattle.std.proofs.Common.{arith, Some, ◌∙◌, sym, ap, append_assoc}
 use Rattle.std.specs.Prelude.{◌&&◌, ◌==◌, decimal}
 use Rattle.std.specs.List.{list_all, before_first, after_first, position_or_len}
 use Rattle.std.specs.Char.{is_ascii_digit}
@@ -50,14 +51,24 @@ some_digits [] some h = absurd (omega arith)
 some_digits (c ∷ ds) some h = h
 
 pub last_are_digits : (n : ℕ) → list_all is_ascii_digit (last_six n) ≡ true
-last_are_digits n = rw (digit (n / 100000 % 10) (omega arith), digit (n / 10000 % 10) (omega arith), digit (n / 1000 % 10) (omega arith), digit (n / 100 % 10) (omega arith), digit (n / 10 % 10) (omega arith), digit (n / 1 % 10) (omega arith)) refl
+last_are_digits n = rw (
+  digit (n / 100000 % 10) (omega arith),
+  digit (n / 10000 % 10) (omega arith),
+  digit (n / 1000 % 10) (omega arith),
+  digit (n / 100 % 10) (omega arith),
+  digit (n / 10 % 10) (omega arith),
+  digit (n / 1 % 10) (omega arith),
+) refl
 
 -- the last six digits of a number write its remainder by a million
 last_value : (n : ℕ) → digits_after 0 (six_of (last_six n)) ≡ n % 1000000
 last_value n = omega arith
 
 pub whole_number : (n : ℕ) → n ≤ limit → number_of (decimal n) ≡ Some n
-whole_number n h = rw (some_digits (decimal n) (decimal_nonempty n (omega arith)) (all_digits n (omega arith)), value_of n (omega arith)) (sym (within_limit n h))
+whole_number n h = rw (
+  some_digits (decimal n) (decimal_nonempty n (omega arith)) (all_digits n (omega arith)),
+  value_of n (omega arith),
+) (sym (within_limit n h))
 
 whole_and_rest : (n : ℕ) → n ≤ limit → within (10 ^ 6 * (n / 1000000) + n % 1000000) ≡ Some n
 whole_and_rest n h = let same : 10 ^ 6 * (n / 1000000) + n % 1000000 ≡ n = omega arith in ap within same ∙ sym (within_limit n h)
@@ -68,7 +79,8 @@ unfolding millis_text
 read_back ns h =
     let whole = decimal (ns / 1000000) in
     let digits = all_digits (ns / 1000000) (omega arith) in
-    sym (parts_are (millis_text ns) whole (last_six ns) (sym (before_point whole (last_six ns) digits)) (sym (after_point whole (last_six ns) digits)))
+    sym (parts_are (millis_text ns) whole (last_six ns) (sym (before_point whole (last_six ns) digits))
+    (sym (after_point whole (last_six ns) digits)))
     ∙ from_whole whole (last_six ns) (ns / 1000000) (whole_number (ns / 1000000) (omega arith)) (last_are_digits ns)
     ∙ ap (λ x. within (10 ^ 6 * (ns / 1000000) + x)) (last_value ns)
     ∙ whole_and_rest ns h
@@ -77,6 +89,8 @@ pub short_whole : (ns : ℕ) → ns < 2 ^ 64 → length (decimal (ns / 1000000))
 short_whole ns h = length-decimal-le 14 (ns / 1000000) (omega arith) (omega arith) (omega arith)
 
 -- the text in three parts, one behind the other
-pub three_parts : (ns : ℕ) (front whole point : List ℕ) → front ≡ [] → whole ≡ front ++ decimal (ns / 1000000) → point ≡ whole ++ 46 ∷ [] → point ++ last_six ns ≡ millis_text ns
+pub three_parts : (ns : ℕ) (front whole point : List ℕ) → front ≡ [] → whole ≡ front ++ decimal (ns / 1000000) → point ≡ whole ++ 46 ∷ []
+    → point ++ last_six ns ≡ millis_text ns
 unfolding millis_text
-three_parts ns front whole point e f g = ap (λ x. x ++ last_six ns) (g ∙ ap (λ x. x ++ 46 ∷ []) (f ∙ ap (λ x. x ++ decimal (ns / 1000000)) e)) ∙ append_assoc (decimal (ns / 1000000)) (46 ∷ []) (last_six ns)
+three_parts ns front whole point e f g = ap (λ x. x ++ last_six ns) (g
+    ∙ ap (λ x. x ++ 46 ∷ []) (f ∙ ap (λ x. x ++ decimal (ns / 1000000)) e)) ∙ append_assoc (decimal (ns / 1000000)) (46 ∷ []) (last_six ns)

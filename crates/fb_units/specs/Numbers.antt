@@ -1,5 +1,6 @@
 -- Numbers and times as text.
-use Rattle.std.specs.Prelude.{ℕ, ◌+◌, ◌-◌, ◌*◌, ◌/◌, ◌%◌, ◌^◌, List, [], ◌∷◌, Bool, ◌&&◌, ◌||◌, Option, Some, None, nat_eq, nat_le, nat_lt, if◌then◌else◌, false, ◌++◌, take, drop, replicate, length, map, ◌==◌, codes, decimal}
+use Rattle.std.specs.Prelude.{ℕ, ◌+◌, ◌-◌, ◌*◌, ◌/◌, ◌%◌, ◌^◌, List, [], ◌∷◌, Bool, ◌&&◌, ◌||◌, Option, Some, None, nat_eq, nat_le, nat_lt}
+use Rattle.std.specs.Prelude.{if◌then◌else◌, false, ◌++◌, take, drop, replicate, length, map, ◌==◌, codes, decimal}
 use Rattle.std.specs.Char.{digit_value, is_ascii_digit, is_digit}
 use Rattle.std.specs.List.{list_all, before_first, after_first, starts_with}
 

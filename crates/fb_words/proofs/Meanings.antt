@@ -13,9 +13,11 @@ bytes_differ a b differ = elim (cases_Bool (bytes_eq a b)) [
 ]
 
 -- a word that isn't the first of the list stands for what it stands for by the others
-pub other_meaning : {A : Type 0} (name : List ℕ × A) (names : List (List ℕ × A)) (word : List ℕ) → (word ≡ name.0 → ⊥) → meaning names word ≡ meaning (name ∷ names) word
+pub other_meaning : {A : Type 0} (name : List ℕ × A) (names : List (List ℕ × A)) (word : List ℕ) → (word ≡ name.0 → ⊥)
+    → meaning names word ≡ meaning (name ∷ names) word
 other_meaning name names word differs = rw (bytes_differ name.0 word differs) refl
 
-pub no_meaning : {A : Type 0} (names : List (List ℕ × A)) (word : List ℕ) → AllByRecursion (λ name. word ≡ name.0 → ⊥) names → None ≡ meaning names word
+pub no_meaning : {A : Type 0} (names : List (List ℕ × A)) (word : List ℕ) → AllByRecursion (λ name. word ≡ name.0 → ⊥) names
+    → None ≡ meaning names word
 no_meaning [] word none = refl
 no_meaning (name ∷ names) word none = rw (bytes_differ name.0 word none.0) (no_meaning names word none.1)

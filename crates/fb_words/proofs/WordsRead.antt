@@ -11,12 +11,15 @@ module _ {X : Type 0} (bytes : X → List ℕ) (verb : Verb) where
   split : (words : List X) (i : ℕ) (x : X) (word : List ℕ) → i < length words → x ≡ get_or words i x → word ≡ bytes x
       → map bytes (drop i words) ≡ word ∷ map bytes (drop (i + 1) words)
   split words i x word inside is at =
-      ap (map bytes) (drop_more words i x inside) ∙ ap (λ y. bytes y ∷ map bytes (drop (i + 1) words)) (sym is) ∙ ap (λ w. w ∷ map bytes (drop (i + 1) words)) (sym at)
+      ap (map bytes) (drop_more words i x inside) ∙ ap (λ y. bytes y ∷ map bytes (drop (i + 1) words)) (sym is)
+      ∙ ap (λ w. w ∷ map bytes (drop (i + 1) words)) (sym at)
 
   -- after one more word, the rest of the words gives the same result
-  pub read_more : (place next_place : ℕ) (so_far next : Progress) (words : List X) (i : ℕ) (x : X) (word : List ℕ) (whole : Result Options UsageFault) → next_place ≡ place + 1
+  pub read_more : (place next_place : ℕ) (so_far next : Progress) (words : List X) (i : ℕ) (x : X) (word : List ℕ)
+      (whole : Result Options UsageFault) → next_place ≡ place + 1
       → i < length words → x ≡ get_or words i x → word ≡ bytes x → with_word verb place so_far word ≡ Ok next
-      → options_from verb place so_far (map bytes (drop i words)) ≡ whole → options_from verb next_place next (map bytes (drop (i + 1) words)) ≡ whole
+      → options_from verb place so_far (map bytes (drop i words)) ≡ whole
+      → options_from verb next_place next (map bytes (drop (i + 1) words)) ≡ whole
   unfolding options_from
   read_more place next_place so_far next words i x word whole step inside is at taken read =
       ap (λ p. options_from verb p next (map bytes (drop (i + 1) words))) step
@@ -24,7 +27,8 @@ module _ {X : Type 0} (bytes : X → List ℕ) (verb : Verb) where
       ∙ ap (options_from verb place so_far) (sym (split words i x word inside is at)) ∙ read
 
   -- the fault of a word is the result of all words
-  pub read_fault : (place : ℕ) (so_far : Progress) (words : List X) (i : ℕ) (x : X) (word : List ℕ) (whole : Result Options UsageFault) (fault : UsageFault)
+  pub read_fault : (place : ℕ) (so_far : Progress) (words : List X) (i : ℕ) (x : X) (word : List ℕ) (whole : Result Options UsageFault)
+      (fault : UsageFault)
       → i < length words → x ≡ get_or words i x → word ≡ bytes x → with_word verb place so_far word ≡ Err fault
       → options_from verb place so_far (map bytes (drop i words)) ≡ whole → whole ≡ Err fault
   unfolding options_from
@@ -36,4 +40,5 @@ module _ {X : Type 0} (bytes : X → List ℕ) (verb : Verb) where
   pub read_end : (place : ℕ) (so_far : Progress) (words : List X) (i : ℕ) (whole : Result Options UsageFault) → length words ≤ i
       → options_from verb place so_far (map bytes (drop i words)) ≡ whole → at_end so_far ≡ whole
   unfolding options_from
-  read_end place so_far words i whole past read = sym (ap (λ rest. options_from verb place so_far (map bytes rest)) (drop_all i words past)) ∙ read
+  read_end place so_far words i whole past read =
+      sym (ap (λ rest. options_from verb place so_far (map bytes rest)) (drop_all i words past)) ∙ read

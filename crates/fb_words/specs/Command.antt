@@ -1,5 +1,6 @@
 -- The command that the words of a command line give.
-use Rattle.std.specs.Prelude.{ℕ, List, [], ◌∷◌, length, Bool, not, ◌&&◌, ◌||◌, nat_le, false, Option, Some, None, Result, Ok, Err, is_some, unwrap_or, option_and_then}
+use Rattle.std.specs.Prelude.{ℕ, List, [], ◌∷◌, length, Bool, not, ◌&&◌, ◌||◌, nat_le, false, Option, Some, None, Result, Ok, Err, is_some}
+use Rattle.std.specs.Prelude.{unwrap_or, option_and_then}
 use Rattle.std.specs.Option.{option_map}
 use Rattle.fb_report.specs.declared.bytes.Bytes.{Bytes}
 use Rattle.fb_report.specs.declared.bytes.Bytes.TheVariants.{Nothing}
@@ -7,7 +8,8 @@ use Rattle.fb_units.specs.Judging.{◌>>=◌, ◌>>◌, or_refuse, refuse, refus
 use Rattle.fb_words.specs.declared.command.Policy.{Policy}
 use Rattle.fb_words.specs.declared.fault.UsageFault.{UsageFault}
 use Rattle.fb_words.specs.declared.fault.UsageReason.{UsageReason}
-use Rattle.fb_words.specs.declared.fault.UsageReason.TheVariants.{NoCommand, UnknownCommand, MissingOption, CallsAndBack, PutsAndSpill, RebuildIncomplete, RebuildBeyond}
+use Rattle.fb_words.specs.declared.fault.UsageReason.TheVariants.{NoCommand, UnknownCommand, MissingOption, CallsAndBack, PutsAndSpill}
+use Rattle.fb_words.specs.declared.fault.UsageReason.TheVariants.{RebuildIncomplete, RebuildBeyond}
 use Rattle.fb_words.specs.declared.names.Verb.{Verb}
 use Rattle.fb_words.specs.declared.names.Verb.TheVariants.{Replay, Make, Check, Array}
 use Rattle.fb_words.specs.Names.{verb_of}
@@ -49,7 +51,8 @@ pub record CheckTerms : Type 0 where
   pub device : ℕ
   pub bytes : Bytes
 
--- the options for rebuilding the replacement of a lost disk: the device to rebuild from, its background report, and the text of the replacement
+-- the options for rebuilding the replacement of a lost disk: the device to rebuild from, its background report, and the text of the
+-- replacement
 pub record RebuildTerms : Type 0 where
   pub device : ℕ
   pub back : List ℕ
@@ -131,7 +134,8 @@ check_of given = do
 
 -- some of the three options of a rebuild are given, but not all
 abbrev pub rebuild_incomplete : Options → Bool
-rebuild_incomplete given = (is_some given.rebuild || is_some given.back || is_some given.copy) && not (is_some given.rebuild && is_some given.back && is_some given.copy)
+rebuild_incomplete given = (is_some given.rebuild || is_some given.back || is_some given.copy)
+    && not (is_some given.rebuild && is_some given.back && is_some given.copy)
 
 -- a device to rebuild from is given, and isn't below the number of devices
 abbrev pub rebuild_beyond : ℕ → Option ℕ → Bool
@@ -140,7 +144,8 @@ rebuild_beyond devices (Some device) = nat_le devices device
 
 -- the rebuild of a device with a background report and a copy, if all three are given
 abbrev pub rebuild_with : Option ℕ → Option (List ℕ) → Option (List ℕ) → Option RebuildTerms
-rebuild_with device back copy = option_and_then (λ d. option_and_then (λ b. option_map (λ c. record { device = d; back = b; copy = c }) copy) back) device
+rebuild_with device back copy =
+    option_and_then (λ d. option_and_then (λ b. option_map (λ c. record { device = d; back = b; copy = c }) copy) back) device
 
 -- the rebuild of an array of so many devices, if its options are given
 unfoldable pub rebuild_of : ℕ → Options → Result (Option RebuildTerms) UsageReason

@@ -7,4 +7,5 @@ abbrev pub IsWithinLimits : Terms → Type 0
 IsWithinLimits (replays terms) = (terms.until ≤ 10 ^ 15) × (terms.device ≤ 10 ^ 15)
 IsWithinLimits (makes terms) = (terms.number ≤ 10 ^ 15) × (terms.requests ≤ 10 ^ 6) × (terms.device ≤ 10 ^ 15)
 IsWithinLimits (checks terms) = (terms.until ≤ 10 ^ 15) × (terms.device ≤ 10 ^ 15)
-IsWithinLimits (arrays terms) = (0 < terms.devices) × (terms.devices ≤ 16) × IfSome terms.rebuild (λ rebuild. rebuild.device < terms.devices) × (terms.until ≤ 10 ^ 15)
+IsWithinLimits (arrays terms) =
+    (0 < terms.devices) × (terms.devices ≤ 16) × IfSome terms.rebuild (λ rebuild. rebuild.device < terms.devices) × (terms.until ≤ 10 ^ 15)

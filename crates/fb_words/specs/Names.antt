@@ -9,7 +9,8 @@ use Rattle.fb_words.specs.declared.command.Policy.TheVariants.{Fcfs, Sstf, Clook
 use Rattle.fb_words.specs.declared.names.Verb.{Verb}
 use Rattle.fb_words.specs.declared.names.Verb.TheVariants.{Replay, Make, Check, Array}
 use Rattle.fb_words.specs.declared.names.OptionName.{OptionName}
-use Rattle.fb_words.specs.declared.names.OptionName.TheVariants.{Params, Trace, Policy, Calls, Fore, Back, Puts, Spill, Until, Device, Bytes, Number, Requests, Devices, Rebuild, Copy}
+use Rattle.fb_words.specs.declared.names.OptionName.TheVariants.{Params, Trace, Policy, Calls, Fore, Back, Puts, Spill, Until, Device}
+use Rattle.fb_words.specs.declared.names.OptionName.TheVariants.{Bytes, Number, Requests, Devices, Rebuild, Copy}
 
 -- what a word stands for according to this list of words, if it is in it
 abbrev pub meaning : {A : Type 0} → List (List ℕ × A) → List ℕ → Option A
@@ -30,7 +31,8 @@ options_of Make = (codes "--params", Params) ∷ (codes "--trace", Trace) ∷ (c
     ∷ (codes "--requests", Requests) ∷ (codes "--device", Device) ∷ []
 options_of Check = (codes "--fore", Fore) ∷ run_options
 options_of Array = (codes "--params", Params) ∷ (codes "--trace", Trace) ∷ (codes "--policy", Policy) ∷ (codes "--devices", Devices)
-    ∷ (codes "--rebuild", Rebuild) ∷ (codes "--back", Back) ∷ (codes "--copy", Copy) ∷ (codes "--until", Until) ∷ (codes "--bytes", Bytes) ∷ []
+    ∷ (codes "--rebuild", Rebuild) ∷ (codes "--back", Back) ∷ (codes "--copy", Copy) ∷ (codes "--until", Until) ∷ (codes "--bytes", Bytes)
+    ∷ []
 
 unfoldable pub option_of : Verb → List ℕ → Option OptionName
 option_of verb = meaning (options_of verb)

@@ -24,4 +24,22 @@ pub record Options : Type 0 where
   pub summary : Bool
 
 abbrev pub no_options : Options
-no_options = record { params = None; trace = None; policy = None; calls = None; fore = None; back = None; puts = None; spill = None; until = None; device = None; bytes = None; number = None; requests = None; devices = None; rebuild = None; copy = None; summary = false }
+no_options = record {
+  params = None;
+  trace = None;
+  policy = None;
+  calls = None;
+  fore = None;
+  back = None;
+  puts = None;
+  spill = None;
+  until = None;
+  device = None;
+  bytes = None;
+  number = None;
+  requests = None;
+  devices = None;
+  rebuild = None;
+  copy = None;
+  summary = false;
+}

@@ -1,5 +1,6 @@
 -- Reading the words after the command, from left to right.
-use Rattle.std.specs.Prelude.{ℕ, ◌+◌, List, [], ◌∷◌, length, Bool, true, false, ◌==◌, nat_lt, min, Option, Some, None, Result, Ok, Err, codes, if◌then◌else◌}
+use Rattle.std.specs.Prelude.{ℕ, ◌+◌, List, [], ◌∷◌, length, Bool, true, false, ◌==◌, nat_lt, min, Option, Some, None, Result, Ok, Err}
+use Rattle.std.specs.Prelude.{codes, if◌then◌else◌}
 use Rattle.std.specs.List.{before_first, after_first, position_or_len}
 use Rattle.std.specs.Str.{bytes_eq}
 use Rattle.fb_units.specs.Judging.{◌>>=◌, ◌>>◌, or_refuse, refuse, refused_as}

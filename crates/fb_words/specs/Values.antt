@@ -5,7 +5,8 @@ use Rattle.fb_units.specs.Numbers.{millis_of, number_of}
 use Rattle.fb_words.specs.declared.fault.UsageReason.{UsageReason}
 use Rattle.fb_words.specs.declared.fault.UsageReason.TheVariants.{NoValue, BadValue}
 use Rattle.fb_words.specs.declared.names.OptionName.{OptionName}
-use Rattle.fb_words.specs.declared.names.OptionName.TheVariants.{Params, Trace, Policy, Calls, Fore, Back, Puts, Spill, Until, Device, Bytes, Number, Requests, Devices, Rebuild, Copy}
+use Rattle.fb_words.specs.declared.names.OptionName.TheVariants.{Params, Trace, Policy, Calls, Fore, Back, Puts, Spill, Until, Device}
+use Rattle.fb_words.specs.declared.names.OptionName.TheVariants.{Bytes, Number, Requests, Devices, Rebuild, Copy}
 use Rattle.fb_words.specs.Names.{policy_of, bytes_of}
 use Rattle.fb_words.specs.Options.{Options}
 

@@ -178,7 +178,8 @@ fn rebuild(
     devices: u32,
     given: &Given<'_>,
 ) -> Result<Option<RebuildWords>, WordsError>
-    ensures { Answers (λ words. option_map rebuild_terms words) result (refused_as (fault_at count) (rebuild_of devices (options given.now))) }
+    ensures { Answers (λ words. option_map rebuild_terms words) result
+        (refused_as (fault_at count) (rebuild_of devices (options given.now))) }
 {
     let (device, back, copy) = match (given.rebuild, given.back, given.copy) {
         (None, None, None) => return Ok(None),
@@ -212,7 +213,8 @@ fn together(
     count: usize,
     reason: UsageReason,
 ) -> Result<(), UsageFault>
-    ensures { result ≡ refused_as (fault_at count) (refuse reason (not (go_together (option_copied one.entry) (option_copied other.entry)))) }
+    ensures { result
+        ≡ refused_as (fault_at count) (refuse reason (not (go_together (option_copied one.entry) (option_copied other.entry)))) }
 {
     if one.is_some() != other.is_some() {
         return Err(fault_at(count, reason));

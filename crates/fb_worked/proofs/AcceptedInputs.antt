@@ -46,7 +46,11 @@ segments_are_accepted = record {
     (
       lit≤ tt,
       (record { opened = lit< tt; not_closed = refl }, refl, record { some = lit< tt; inside = lit≤ tt }, lit≤ tt, lit≤ tt, refl),
-      (lit≤ tt, (record { opened = lit< tt; not_closed = refl }, refl, record { some = lit< tt; inside = lit≤ tt }, lit≤ tt, lit≤ tt, refl), tt),
+      (
+        lit≤ tt,
+        (record { opened = lit< tt; not_closed = refl }, refl, record { some = lit< tt; inside = lit≤ tt }, lit≤ tt, lit≤ tt, refl),
+        tt,
+      ),
     ),
   );
   few_calls = lit< tt;

@@ -22,7 +22,8 @@ steps_of_overwritten_backup = steps_at (decisions overwritten_backup.inputs) (
     ∷ serve [] (Direct 250) []
     ∷ rest [] (
     with_rows (got (block 0 1 2 2 (at 0 0) 1) 1400 1600 ByIdle 0 (untouched 2 2 ∷ [])) []
-    ∷ with_rows (got (block 0 0 0 2 (at 0 0) 1) 2400 2600 ByIdle 0 (written 1 0 1 ∷ untouched 1 1 ∷ [])) (seal_line 0 2600 (written 1 0 1 ∷ untouched 1 3 ∷ []) ∷ done_line 0 2600 ∷ [])
+    ∷ with_rows (got (block 0 0 0 2 (at 0 0) 1) 2400 2600 ByIdle 0 (written 1 0 1 ∷ untouched 1 1 ∷ []))
+    (seal_line 0 2600 (written 1 0 1 ∷ untouched 1 3 ∷ []) ∷ done_line 0 2600 ∷ [])
     ∷ [])
     ∷ [])
 
@@ -57,15 +58,27 @@ all_overwritten_backup = (refl, (refl, (refl, tt)))
 
 best_overwritten_backup : Throughout IsBestPlanned overwritten_backup.inputs steps_of_overwritten_backup
 unfolding on_small_disks
-best_overwritten_backup = (tt, (none_in_time small_disk (gap (at 0 0) (at 0 0) 250 1200 true) (block 0 1 2 2 (at 0 0) 1 ∷ []) (lit< tt, tt) (lit≤ tt, lit≤ tt), (tt, tt)))
+best_overwritten_backup = (
+  tt,
+  (
+    none_in_time small_disk (gap (at 0 0) (at 0 0) 250 1200 true) (block 0 1 2 2 (at 0 0) 1 ∷ []) (lit< tt, tt) (lit≤ tt, lit≤ tt),
+    (tt, tt),
+  ),
+)
 
 pub overwritten_backup_is_full : IsFull overwritten_backup.inputs overwritten_backup.run
-overwritten_backup_is_full = record { steps = steps_of_overwritten_backup; sound = sound_overwritten_backup; best = best_overwritten_backup; all = all_overwritten_backup }
+overwritten_backup_is_full = record {
+  steps = steps_of_overwritten_backup;
+  sound = sound_overwritten_backup;
+  best = best_overwritten_backup;
+  all = all_overwritten_backup;
+}
 
 abbrev steps_of_backup_without_aborted : List Step
 steps_of_backup_without_aborted = steps_at (decisions backup_without_aborted.inputs) (
     rest [] (
-    with_rows (got (block 0 0 0 2 (at 0 0) 1) 0 200 ByIdle 0 (untouched 0 2 ∷ [])) (seal_line 0 200 (untouched 0 2 ∷ []) ∷ done_line 0 200 ∷ [])
+    with_rows (got (block 0 0 0 2 (at 0 0) 1) 0 200 ByIdle 0 (untouched 0 2 ∷ []))
+    (seal_line 0 200 (untouched 0 2 ∷ []) ∷ done_line 0 200 ∷ [])
     ∷ [])
     ∷ serve [] (Direct 250) []
     ∷ rest [] []
@@ -105,4 +118,9 @@ unfolding on_small_disks
 best_backup_without_aborted = (tt, (none_in_time small_disk (gap (at 0 0) (at 0 0) 250 1200 true) [] tt (lit≤ tt, lit≤ tt), (tt, tt)))
 
 pub backup_without_aborted_is_full : IsFull backup_without_aborted.inputs backup_without_aborted.run
-backup_without_aborted_is_full = record { steps = steps_of_backup_without_aborted; sound = sound_backup_without_aborted; best = best_backup_without_aborted; all = all_backup_without_aborted }
+backup_without_aborted_is_full = record {
+  steps = steps_of_backup_without_aborted;
+  sound = sound_backup_without_aborted;
+  best = best_backup_without_aborted;
+  all = all_backup_without_aborted;
+}

@@ -1,5 +1,6 @@
 -- The best plan of a gap in which no block can be caught, or all at once.
-use Rattle.std.proofs.Common.{◌≡◌, ℕ, List, [], ◌∷◌, Bool, true, false, ◌≤◌, ◌<◌, ◌+◌, ◌*◌, ◌-◌, ◌%◌, ◌==◌, nat_le, filter, cond, refl, lit≤, arith, inl, inr, ap, ap₂, sym, subst, ◌∙◌, true≢false}
+use Rattle.std.proofs.Common.{◌≡◌, ℕ, List, [], ◌∷◌, Bool, true, false, ◌≤◌, ◌<◌, ◌+◌, ◌*◌, ◌-◌, ◌%◌, ◌==◌, nat_le, filter, cond, refl}
+use Rattle.std.proofs.Common.{lit≤, arith, inl, inr, ap, ap₂, sym, subst, ◌∙◌, true≢false}
 use Rattle.std.specs.List.{sum_by, AllByRecursion}
 use Rattle.std.proofs.Math.Nat.{mod-add-mod, mod-lt}
 use Rattle.std.proofs.lemmas.Bool.{and_parts, and_left, or_from, false_from_ne_true, cases_Bool}
@@ -47,7 +48,8 @@ module _ (f : Block → ℕ) (test : Block → Bool) where
       let more = sum_by-cons f block blocks in
       (λ some. absurd (omega (arith, same, few, more)), rest (omega (arith, same, few, more)))
 
-  sum-all : (blocks : List Block) → sum_by f (filter test blocks) ≡ sum_by f blocks → AllByRecursion (λ block. 0 < f block → test block ≡ true) blocks
+  sum-all : (blocks : List Block) → sum_by f (filter test blocks) ≡ sum_by f blocks
+      → AllByRecursion (λ block. 0 < f block → test block ≡ true) blocks
   sum-all [] same = tt
   sum-all (block ∷ blocks) same = all_and_one (test block) block blocks refl (sum-all blocks) same
 
@@ -61,18 +63,21 @@ of_all P all here = all.0
 of_all P all (there among) = of_all P all.1 among
 
 module _ (disk : Disk) (gap : Gap) where
-  early_inside : (plan : Plan) → IsPlan disk gap plan → (gap.now ≤ (early_dwell disk gap plan).begin) × ((early_dwell disk gap plan).end ≤ gap.deadline)
+  early_inside : (plan : Plan) → IsPlan disk gap plan
+      → (gap.now ≤ (early_dwell disk gap plan).begin) × ((early_dwell disk gap plan).end ≤ gap.deadline)
   early_inside (Direct leave) plan = (omega arith, omega (arith, plan.1))
   early_inside (Detour track leave) plan = (omega arith, omega (arith, plan.in_time))
 
-  late_inside : (plan : Plan) → IsPlan disk gap plan → (gap.now ≤ (late_dwell disk gap plan).begin) × ((late_dwell disk gap plan).end ≤ gap.deadline)
+  late_inside : (plan : Plan) → IsPlan disk gap plan
+      → (gap.now ≤ (late_dwell disk gap plan).begin) × ((late_dwell disk gap plan).end ≤ gap.deadline)
   late_inside (Direct leave) plan = (omega (arith, plan.0), omega arith)
   late_inside (Detour track leave) plan = (omega (arith, plan.after_arrival), omega arith)
 
   abbrev NeverCaught : Block → Type 0
   NeverCaught block = (plan : Plan) → IsPlan disk gap plan → is_caught disk gap plan block ≡ false
 
-  missed_in : (dwell : Dwell) (block : Block) → gap.deadline < block_end disk.map block gap.now → gap.now ≤ dwell.begin → dwell.end ≤ gap.deadline → catches disk dwell block ≡ false
+  missed_in : (dwell : Dwell) (block : Block) → gap.deadline < block_end disk.map block gap.now → gap.now ≤ dwell.begin
+      → dwell.end ≤ gap.deadline → catches disk dwell block ≡ false
   missed_in dwell block late from until = false_from_ne_true (catches disk dwell block) (λ caught.
       let ends = (and_parts (same_track dwell.track block.track) (nat_le (block_end disk.map block dwell.begin) dwell.end) caught).1 in
       let before : block_end disk.map block dwell.begin ≤ dwell.end = grind (arith, nat_tests) in
@@ -88,31 +93,38 @@ module _ (disk : Disk) (gap : Gap) where
 
   -- on the way over its track the head is too late
   too_far : (block : Block) → same_track gap.source block.track ≡ false → same_track gap.target block.track ≡ false
-      → gap.deadline < block_end disk.map block (gap.now + pos disk.mechanism gap.source block.track false) + pos disk.mechanism block.track gap.target gap.write → NeverCaught block
+      → gap.deadline < block_end disk.map block (gap.now + pos disk.mechanism gap.source block.track false)
+      + pos disk.mechanism block.track gap.target gap.write → NeverCaught block
   too_far block off_source off_target late (Direct leave) plan =
       or_from (catches disk (early_dwell disk gap (Direct leave)) block) (catches disk (late_dwell disk gap (Direct leave)) block)
       (and_left (same_track gap.source block.track) _ off_source) (and_left (same_track gap.target block.track) _ off_target)
   too_far block off_source off_target late (Detour track leave) plan =
-      or_from (catches disk (early_dwell disk gap (Detour track leave)) block) (catches disk (late_dwell disk gap (Detour track leave)) block)
+      or_from (catches disk (early_dwell disk gap (Detour track leave)) block)
+      (catches disk (late_dwell disk gap (Detour track leave)) block)
       (false_from_ne_true (catches disk (early_dwell disk gap (Detour track leave)) block) (λ caught.
-      let parts = and_parts (same_track track block.track) (nat_le (block_end disk.map block (gap.now + pos disk.mechanism gap.source track false)) leave) caught in
+      let parts = and_parts (same_track track block.track)
+      (nat_le (block_end disk.map block (gap.now + pos disk.mechanism gap.source track false)) leave) caught in
       let before : block_end disk.map block (gap.now + pos disk.mechanism gap.source track false) ≤ leave = grind (arith, nat_tests) in
       let same = same_tracks track block.track parts.0 in
       let in_time : leave + pos disk.mechanism track gap.target gap.write ≤ gap.deadline = plan.in_time in
-      let sum : block_end disk.map block (gap.now + pos disk.mechanism gap.source track false) + pos disk.mechanism track gap.target gap.write ≤ gap.deadline = omega arith in
-      let there = subst (λ at. block_end disk.map block (gap.now + pos disk.mechanism gap.source at false) + pos disk.mechanism at gap.target gap.write ≤ gap.deadline) same sum in
+      let sum : block_end disk.map block (gap.now + pos disk.mechanism gap.source track false)
+      + pos disk.mechanism track gap.target gap.write ≤ gap.deadline = omega arith in
+      let there = subst (λ at. block_end disk.map block (gap.now + pos disk.mechanism gap.source at false)
+      + pos disk.mechanism at gap.target gap.write ≤ gap.deadline) same sum in
       omega arith))
       (and_left (same_track gap.target block.track) _ off_target)
 
   abbrev pub worth : Block → ℕ
   worth block = block.weight * block.count
 
-  no_value : (wanted : List Block) → AllByRecursion NeverCaught wanted → (plan : Plan) → IsPlan disk gap plan → AllByRecursion (λ block. is_caught disk gap plan block ≡ false) wanted
+  no_value : (wanted : List Block) → AllByRecursion NeverCaught wanted → (plan : Plan) → IsPlan disk gap plan
+      → AllByRecursion (λ block. is_caught disk gap plan block ≡ false) wanted
   no_value [] never plan is_plan = tt
   no_value (block ∷ blocks) never plan is_plan = (never.0 plan is_plan, no_value blocks never.1 plan is_plan)
 
   -- where no block can be caught the best plan is to leave at once
-  none_caught : (wanted : List Block) → AllByRecursion NeverCaught wanted → IsPlan disk gap (Direct gap.now) → IsBest disk gap wanted (Direct gap.now)
+  none_caught : (wanted : List Block) → AllByRecursion NeverCaught wanted → IsPlan disk gap (Direct gap.now)
+      → IsBest disk gap wanted (Direct gap.now)
   unfolding value
   none_caught wanted never is_plan = record {
     is_plan = is_plan;
@@ -120,24 +132,29 @@ module _ (disk : Disk) (gap : Gap) where
     first = at_once;
   }
     where
-      at_once : (other : Plan) → IsPlan disk gap other → value disk gap wanted other ≡ value disk gap wanted (Direct gap.now) → IsNoLater (Direct gap.now) other
+      at_once : (other : Plan) → IsPlan disk gap other → value disk gap wanted other ≡ value disk gap wanted (Direct gap.now)
+          → IsNoLater (Direct gap.now) other
       at_once (Direct leave) plan same = plan.0
       at_once (Detour track leave) plan same = tt
 
   -- none of them passes before the deadline
-  pub none_in_time : (wanted : List Block) → AllByRecursion (λ block. gap.deadline < block_end disk.map block gap.now) wanted → IsPlan disk gap (Direct gap.now) → IsBest disk gap wanted (Direct gap.now)
+  pub none_in_time : (wanted : List Block) → AllByRecursion (λ block. gap.deadline < block_end disk.map block gap.now) wanted
+      → IsPlan disk gap (Direct gap.now) → IsBest disk gap wanted (Direct gap.now)
   none_in_time wanted late is_plan = none_caught wanted (never wanted late) is_plan
     where
-      never : (blocks : List Block) → AllByRecursion (λ block. gap.deadline < block_end disk.map block gap.now) blocks → AllByRecursion NeverCaught blocks
+      never : (blocks : List Block) → AllByRecursion (λ block. gap.deadline < block_end disk.map block gap.now) blocks
+          → AllByRecursion NeverCaught blocks
       never [] late = tt
       never (block ∷ blocks) late = (too_late block late.0, never blocks late.1)
 
   -- a block on neither track, from whose passage the head comes too late to the target
   abbrev IsTooFar : Block → Type 0
   IsTooFar block = (same_track gap.source block.track ≡ false) × ((same_track gap.target block.track ≡ false)
-      × (gap.deadline < block_end disk.map block (gap.now + pos disk.mechanism gap.source block.track false) + pos disk.mechanism block.track gap.target gap.write))
+      × (gap.deadline < block_end disk.map block (gap.now + pos disk.mechanism gap.source block.track false)
+      + pos disk.mechanism block.track gap.target gap.write))
 
-  pub none_on_the_way : (wanted : List Block) → AllByRecursion IsTooFar wanted → IsPlan disk gap (Direct gap.now) → IsBest disk gap wanted (Direct gap.now)
+  pub none_on_the_way : (wanted : List Block) → AllByRecursion IsTooFar wanted → IsPlan disk gap (Direct gap.now)
+      → IsBest disk gap wanted (Direct gap.now)
   none_on_the_way wanted far is_plan = none_caught wanted (never wanted far) is_plan
     where
       never : (blocks : List Block) → AllByRecursion IsTooFar blocks → AllByRecursion NeverCaught blocks
@@ -149,32 +166,38 @@ module _ (disk : Disk) (gap : Gap) where
   unfolding value
   at_most_all wanted plan = sum-some worth (is_caught disk gap plan) wanted
 
-  pub all_caught : (wanted : List Block) (plan : Plan) → value disk gap wanted plan ≡ sum_by worth wanted → AllByRecursion (λ block. 0 < worth block → is_caught disk gap plan block ≡ true) wanted
+  pub all_caught : (wanted : List Block) (plan : Plan) → value disk gap wanted plan ≡ sum_by worth wanted
+      → AllByRecursion (λ block. 0 < worth block → is_caught disk gap plan block ≡ true) wanted
   unfolding value
   all_caught wanted plan same = sum-all worth (is_caught disk gap plan) wanted same
 
   -- all are caught by leaving at once
-  pub all_at_once : (wanted : List Block) → value disk gap wanted (Direct gap.now) ≡ sum_by worth wanted → IsPlan disk gap (Direct gap.now) → IsBest disk gap wanted (Direct gap.now)
+  pub all_at_once : (wanted : List Block) → value disk gap wanted (Direct gap.now) ≡ sum_by worth wanted → IsPlan disk gap (Direct gap.now)
+      → IsBest disk gap wanted (Direct gap.now)
   all_at_once wanted all is_plan = record {
     is_plan = is_plan;
     greatest = λ other plan. omega (arith, at_most_all wanted other, all);
     first = at_once;
   }
     where
-      at_once : (other : Plan) → IsPlan disk gap other → value disk gap wanted other ≡ value disk gap wanted (Direct gap.now) → IsNoLater (Direct gap.now) other
+      at_once : (other : Plan) → IsPlan disk gap other → value disk gap wanted other ≡ value disk gap wanted (Direct gap.now)
+          → IsNoLater (Direct gap.now) other
       at_once (Direct leave) plan same = plan.0
       at_once (Detour track leave) plan same = tt
 
   -- what a plan catches on another track than the target it catches in its first dwell
   caught_early : (plan : Plan) (block : Block) → same_track gap.target block.track ≡ false → is_caught disk gap plan block ≡ true
-      → (same_track (early_dwell disk gap plan).track block.track ≡ true) × (block_end disk.map block (early_dwell disk gap plan).begin ≤ (early_dwell disk gap plan).end)
+      → (same_track (early_dwell disk gap plan).track block.track ≡ true)
+      × (block_end disk.map block (early_dwell disk gap plan).begin ≤ (early_dwell disk gap plan).end)
   caught_early plan block off_target caught =
       let late : catches disk (late_dwell disk gap plan) block ≡ false = off plan in
       elim (cases_Bool (catches disk (early_dwell disk gap plan) block)) [
         | inl early ↦
-            let parts = and_parts (same_track (early_dwell disk gap plan).track block.track) (nat_le (block_end disk.map block (early_dwell disk gap plan).begin) (early_dwell disk gap plan).end) early in
+            let parts = and_parts (same_track (early_dwell disk gap plan).track block.track)
+            (nat_le (block_end disk.map block (early_dwell disk gap plan).begin) (early_dwell disk gap plan).end) early in
             (parts.0, grind (arith, nat_tests))
-        | inr missed ↦ absurd (true≢false (sym caught ∙ or_from (catches disk (early_dwell disk gap plan) block) (catches disk (late_dwell disk gap plan) block) missed late))
+        | inr missed ↦ absurd (true≢false (sym caught
+            ∙ or_from (catches disk (early_dwell disk gap plan) block) (catches disk (late_dwell disk gap plan) block) missed late))
       ]
     where
       off : (plan : Plan) → catches disk (late_dwell disk gap plan) block ≡ false
@@ -182,37 +205,48 @@ module _ (disk : Disk) (gap : Gap) where
       off (Detour track leave) = and_left (same_track gap.target block.track) _ off_target
 
   -- all are caught, and one of them passes on the source until the head leaves
-  pub all_then_leave : (wanted : List Block) (leave : ℕ) (block : Block) → Among block wanted → 0 < worth block → same_track gap.target block.track ≡ false
-      → leave ≤ block_end disk.map block gap.now → value disk gap wanted (Direct leave) ≡ sum_by worth wanted → IsPlan disk gap (Direct leave) → IsBest disk gap wanted (Direct leave)
+  pub all_then_leave : (wanted : List Block) (leave : ℕ) (block : Block) → Among block wanted → 0 < worth block
+      → same_track gap.target block.track ≡ false
+      → leave ≤ block_end disk.map block gap.now → value disk gap wanted (Direct leave) ≡ sum_by worth wanted
+      → IsPlan disk gap (Direct leave) → IsBest disk gap wanted (Direct leave)
   all_then_leave wanted leave block among some off_target ends all is_plan = record {
     is_plan = is_plan;
     greatest = λ other plan. omega (arith, at_most_all wanted other, all);
     first = no_sooner;
   }
     where
-      no_sooner : (other : Plan) → IsPlan disk gap other → value disk gap wanted other ≡ value disk gap wanted (Direct leave) → IsNoLater (Direct leave) other
+      no_sooner : (other : Plan) → IsPlan disk gap other → value disk gap wanted other ≡ value disk gap wanted (Direct leave)
+          → IsNoLater (Direct leave) other
       no_sooner (Direct other) plan same =
-          let caught = of_all (λ block. 0 < worth block → is_caught disk gap (Direct other) block ≡ true) (all_caught wanted (Direct other) (same ∙ all)) among some in
+          let caught = of_all (λ block. 0 < worth block → is_caught disk gap (Direct other) block ≡ true) (all_caught wanted (Direct other)
+          (same ∙ all)) among some in
           omega (arith, ends, (caught_early (Direct other) block off_target caught).1)
       no_sooner (Detour track other) plan same = tt
 
   -- all are caught, and one of them on the way, where it passes until the head leaves
-  pub all_by_detour : (wanted : List Block) (track : Track) (leave : ℕ) (block : Block) → Among block wanted → 0 < worth block → same_track gap.source block.track ≡ false
-      → same_track gap.target block.track ≡ false → block.track ≡ track → leave ≤ block_end disk.map block (gap.now + pos disk.mechanism gap.source track false)
-      → value disk gap wanted (Detour track leave) ≡ sum_by worth wanted → IsPlan disk gap (Detour track leave) → IsBest disk gap wanted (Detour track leave)
+  pub all_by_detour : (wanted : List Block) (track : Track) (leave : ℕ) (block : Block) → Among block wanted → 0 < worth block
+      → same_track gap.source block.track ≡ false
+      → same_track gap.target block.track ≡ false → block.track ≡ track
+      → leave ≤ block_end disk.map block (gap.now + pos disk.mechanism gap.source track false)
+      → value disk gap wanted (Detour track leave) ≡ sum_by worth wanted → IsPlan disk gap (Detour track leave)
+      → IsBest disk gap wanted (Detour track leave)
   all_by_detour wanted track leave block among some off_source off_target lies ends all is_plan = record {
     is_plan = is_plan;
     greatest = λ other plan. omega (arith, at_most_all wanted other, all);
     first = no_sooner;
   }
     where
-      no_sooner : (other : Plan) → IsPlan disk gap other → value disk gap wanted other ≡ value disk gap wanted (Detour track leave) → IsNoLater (Detour track leave) other
+      no_sooner : (other : Plan) → IsPlan disk gap other → value disk gap wanted other ≡ value disk gap wanted (Detour track leave)
+          → IsNoLater (Detour track leave) other
       no_sooner (Direct other) plan same =
-          let caught = of_all (λ block. 0 < worth block → is_caught disk gap (Direct other) block ≡ true) (all_caught wanted (Direct other) (same ∙ all)) among some in
+          let caught = of_all (λ block. 0 < worth block → is_caught disk gap (Direct other) block ≡ true) (all_caught wanted (Direct other)
+          (same ∙ all)) among some in
           true≢false (sym (caught_early (Direct other) block off_target caught).0 ∙ off_source)
       no_sooner (Detour way other) plan same =
-          let caught = of_all (λ block. 0 < worth block → is_caught disk gap (Detour way other) block ≡ true) (all_caught wanted (Detour way other) (same ∙ all)) among some in
+          let caught = of_all (λ block. 0 < worth block → is_caught disk gap (Detour way other) block ≡ true) (all_caught wanted
+          (Detour way other) (same ∙ all)) among some in
           let early = caught_early (Detour way other) block off_target caught in
           let there = sym (same_tracks way block.track early.0 ∙ lies) in
-          let passes = subst (λ at. block_end disk.map block (gap.now + pos disk.mechanism gap.source at false) ≤ other) (sym there) early.1 in
+          let passes =
+          subst (λ at. block_end disk.map block (gap.now + pos disk.mechanism gap.source at false) ≤ other) (sym there) early.1 in
           inr (there, omega (arith, ends, passes))

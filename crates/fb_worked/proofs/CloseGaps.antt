@@ -1,5 +1,6 @@
 -- The best plan of two gaps in which the order of passages decides.
-use Rattle.std.proofs.Common.{◌≡◌, ℕ, zero, suc, List, [], ◌∷◌, Bool, true, false, ◌≤◌, ◌<◌, ◌+◌, ◌*◌, nat_le, ◌||◌, filter, refl, lit≤, lit<, arith, inl, inr, true≢false}
+use Rattle.std.proofs.Common.{◌≡◌, ℕ, zero, suc, List, [], ◌∷◌, Bool, true, false, ◌≤◌, ◌<◌, ◌+◌, ◌*◌, nat_le, ◌||◌, filter, refl, lit≤}
+use Rattle.std.proofs.Common.{lit<, arith, inl, inr, true≢false}
 use Rattle.std.specs.List.{sum_by}
 use Rattle.std.proofs.lemmas.Bool.{cases_Bool, cases_lt, and_left, or_from}
 use Rattle.std.proofs.lemmas.Bool.Decides.{nat_tests}
@@ -49,7 +50,8 @@ alone (Direct leave) plan caught =
     let ends : block_end small_disk.map block_33 (leave + 300) ≤ 1200 = grind (arith, nat_tests) in
     elim (cases_lt 600 leave) [
       | inl later ↦
-          let more : 2200 ≤ block_end small_disk.map block_33 (leave + 300) = end-le small_disk.map block_33 901 (leave + 300) small_disk.some_rotation (omega arith) in
+          let more : 2200 ≤ block_end small_disk.map block_33 (leave + 300) =
+          end-le small_disk.map block_33 901 (leave + 300) small_disk.some_rotation (omega arith) in
           absurd (omega arith)
       | inr sooner ↦
           let six : nat_le 700 leave ≡ false = grind (arith, nat_tests) in
@@ -57,24 +59,33 @@ alone (Direct leave) plan caught =
           (or_from (nat_le 700 leave) false six refl, or_from (nat_le 800 leave) false seven refl)
     ]
 alone (Detour track leave) plan caught = (
-  or_from (catches small_disk (early_dwell small_disk weighed_gap (Detour track leave)) block_6) false (and_left (same_track track (at 0 0)) _ plan.not_source) refl,
-  or_from (catches small_disk (early_dwell small_disk weighed_gap (Detour track leave)) block_7) false (and_left (same_track track (at 0 0)) _ plan.not_source) refl,
+  or_from (catches small_disk (early_dwell small_disk weighed_gap (Detour track leave)) block_6) false
+      (and_left (same_track track (at 0 0)) _ plan.not_source) refl,
+  or_from (catches small_disk (early_dwell small_disk weighed_gap (Detour track leave)) block_7) false
+      (and_left (same_track track (at 0 0)) _ plan.not_source) refl,
 )
 
-at_most_five : (test : Block → Bool) → (test block_33 ≡ true → (test block_6 ≡ false) × (test block_7 ≡ false)) → sum_by worth (filter test weighed) ≤ 5
+at_most_five : (test : Block → Bool) → (test block_33 ≡ true → (test block_6 ≡ false) × (test block_7 ≡ false))
+    → sum_by worth (filter test weighed) ≤ 5
 at_most_five test alone = elim (cases_Bool (test block_33)) [
   | inl heavy ↦ rw ((alone heavy).0, (alone heavy).1, heavy) (lit≤ tt)
   | inr light ↦ elim (cases_Bool (test block_6)) [
-    | inl six ↦ elim (cases_Bool (test block_7)) [ inl seven ↦ rw (six, seven, light) (lit≤ tt) | inr none ↦ rw (six, none, light) (lit≤ tt) ]
-    | inr none ↦ elim (cases_Bool (test block_7)) [ inl seven ↦ rw (none, seven, light) (lit≤ tt) | inr neither ↦ rw (none, neither, light) (lit≤ tt) ]
+    | inl six ↦
+        elim (cases_Bool (test block_7)) [ inl seven ↦ rw (six, seven, light) (lit≤ tt) | inr none ↦ rw (six, none, light) (lit≤ tt) ]
+    | inr none ↦ elim (cases_Bool (test block_7)) [
+      | inl seven ↦ rw (none, seven, light) (lit≤ tt)
+      | inr neither ↦ rw (none, neither, light) (lit≤ tt)
+    ]
   ]
 ]
 
-weighed_greatest : (other : Plan) → IsPlan small_disk weighed_gap other → value small_disk weighed_gap weighed other ≤ value small_disk weighed_gap weighed (Direct 600)
+weighed_greatest : (other : Plan) → IsPlan small_disk weighed_gap other
+    → value small_disk weighed_gap weighed other ≤ value small_disk weighed_gap weighed (Direct 600)
 unfolding on_small_disks
 weighed_greatest other plan = at_most_five (is_caught small_disk weighed_gap other) (alone other plan)
 
-weighed_first : (other : Plan) → IsPlan small_disk weighed_gap other → value small_disk weighed_gap weighed other ≡ value small_disk weighed_gap weighed (Direct 600) → IsNoLater (Direct 600) other
+weighed_first : (other : Plan) → IsPlan small_disk weighed_gap other
+    → value small_disk weighed_gap weighed other ≡ value small_disk weighed_gap weighed (Direct 600) → IsNoLater (Direct 600) other
 weighed_first (Direct leave) plan same = plan.0
 weighed_first (Detour track leave) plan same = tt
 
@@ -90,7 +101,8 @@ abbrev block_51 : Block
 block_51 = block 0 0 51 1 (at 2 0) 1
 
 -- of the ways that come before the block passes, none is over a lesser track
-first_over : (cylinder head leave : ℕ) → IsPlan quick_disk quick_gap (Detour (at cylinder head) leave) → leave + pos quick_arm (at cylinder head) (at 2 0) false ≤ 300
+first_over : (cylinder head leave : ℕ) → IsPlan quick_disk quick_gap (Detour (at cylinder head) leave)
+    → leave + pos quick_arm (at cylinder head) (at 2 0) false ≤ 300
     → IsNoLater (Detour (at 1 0) 100) (Detour (at cylinder head) leave)
 unfolding on_small_disks
 first_over zero zero leave plan soon = absurd (true≢false plan.not_source)
@@ -100,23 +112,30 @@ first_over (suc zero) (suc zero) leave plan soon = inl (inr (refl, lit< tt))
 first_over cylinder (suc (suc head)) leave plan soon = let below : suc (suc head) < 2 = plan.on_disk.head in absurd (omega arith)
 first_over (suc (suc cylinder)) head leave plan soon = inl (inl (omega arith))
 
-over_first : (other : Plan) → IsPlan quick_disk quick_gap other → value quick_disk quick_gap (block_51 ∷ []) other ≡ value quick_disk quick_gap (block_51 ∷ []) (Detour (at 1 0) 100)
+over_first : (other : Plan) → IsPlan quick_disk quick_gap other
+    → value quick_disk quick_gap (block_51 ∷ []) other ≡ value quick_disk quick_gap (block_51 ∷ []) (Detour (at 1 0) 100)
     → IsNoLater (Detour (at 1 0) 100) other
 unfolding on_small_disks
 over_first (Direct leave) plan same =
-    let in_time : nat_le (block_end quick_disk.map block_51 (leave + 400)) 1500 ≡ true = (all_caught quick_disk quick_gap (block_51 ∷ []) (Direct leave) same).0 (lit< tt) in
+    let in_time : nat_le (block_end quick_disk.map block_51 (leave + 400)) 1500 ≡ true =
+    (all_caught quick_disk quick_gap (block_51 ∷ []) (Direct leave) same).0 (lit< tt) in
     let ends : block_end quick_disk.map block_51 (leave + 400) ≤ 1500 = grind (arith, nat_tests) in
-    let more : 1600 ≤ block_end quick_disk.map block_51 (leave + 400) = end-le quick_disk.map block_51 400 (leave + 400) quick_disk.some_rotation (omega arith) in
+    let more : 1600 ≤ block_end quick_disk.map block_51 (leave + 400) =
+    end-le quick_disk.map block_51 400 (leave + 400) quick_disk.some_rotation (omega arith) in
     omega arith
 over_first (Detour track leave) plan same =
-    let caught : is_caught quick_disk quick_gap (Detour track leave) block_51 ≡ true = (all_caught quick_disk quick_gap (block_51 ∷ []) (Detour track leave) same).0 (lit< tt) in
-    let missed = and_left (same_track track (at 2 0)) (nat_le (block_end quick_disk.map block_51 (0 + pos quick_arm (at 0 0) track false)) leave) plan.not_target in
+    let caught : is_caught quick_disk quick_gap (Detour track leave) block_51 ≡ true =
+    (all_caught quick_disk quick_gap (block_51 ∷ []) (Detour track leave) same).0 (lit< tt) in
+    let missed = and_left (same_track track
+    (at 2 0)) (nat_le (block_end quick_disk.map block_51 (0 + pos quick_arm (at 0 0) track false)) leave) plan.not_target in
     let arrived = leave + pos quick_arm track (at 2 0) false in
-    let in_time = second (catches quick_disk (early_dwell quick_disk quick_gap (Detour track leave)) block_51) (nat_le (block_end quick_disk.map block_51 arrived) 1500) missed caught in
+    let in_time = second (catches quick_disk (early_dwell quick_disk quick_gap (Detour track leave)) block_51)
+    (nat_le (block_end quick_disk.map block_51 arrived) 1500) missed caught in
     let ends : block_end quick_disk.map block_51 arrived ≤ 1500 = grind (arith, nat_tests) in
     elim (cases_lt 300 arrived) [
       | inl later ↦
-          let more : 1600 ≤ block_end quick_disk.map block_51 arrived = end-le quick_disk.map block_51 301 arrived quick_disk.some_rotation (omega arith) in
+          let more : 1600 ≤ block_end quick_disk.map block_51 arrived =
+          end-le quick_disk.map block_51 301 arrived quick_disk.some_rotation (omega arith) in
           absurd (omega arith)
       | inr soon ↦ first_over track.cylinder track.head leave plan soon
     ]
@@ -124,7 +143,13 @@ over_first (Detour track leave) plan same =
 pub sooner_over : IsBest quick_disk quick_gap (block_51 ∷ []) (Detour (at 1 0) 100)
 unfolding on_small_disks
 sooner_over = record {
-  is_plan = record { on_disk = record { cylinder = lit< tt; head = lit< tt }; not_source = refl; not_target = refl; after_arrival = lit≤ tt; in_time = lit≤ tt };
+  is_plan = record {
+    on_disk = record { cylinder = lit< tt; head = lit< tt };
+    not_source = refl;
+    not_target = refl;
+    after_arrival = lit≤ tt;
+    in_time = lit≤ tt;
+  };
   greatest = λ other plan. at_most_all quick_disk quick_gap (block_51 ∷ []) other;
   first = over_first;
 }

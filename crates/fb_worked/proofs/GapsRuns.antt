@@ -10,7 +10,8 @@ use Rattle.fb_model.specs.Decisions.{decisions}
 use Rattle.fb_model.specs.Steps.{Step}
 use Rattle.fb_model.specs.SoundRun.{none, taken, IsSoundBy, Throughout}
 use Rattle.fb_model.specs.FullRun.{IsAllDelivered, IsBestPlanned, IsFull}
-use Rattle.fb_worked.specs.Gaps.{both_dwells, detour, no_time_to_settle, detour_on_the_way, detour_over_nothing, weight_decides, block_over_the_turn, last_and_first}
+use Rattle.fb_worked.specs.Gaps.{both_dwells, detour, no_time_to_settle, detour_on_the_way, detour_over_nothing, weight_decides}
+use Rattle.fb_worked.specs.Gaps.{block_over_the_turn, last_and_first}
 use Rattle.fb_worked.proofs.OnSmallDisks.{on_small_disks, serve, rest, steps_at, with_rows}
 use Rattle.fb_worked.proofs.BestPlans.{here, there, none_in_time, none_on_the_way, all_at_once, all_then_leave, all_by_detour}
 use Rattle.fb_worked.proofs.CloseGaps.{by_weight, sooner_over}
@@ -57,7 +58,15 @@ all_both_dwells = (refl, (refl, (refl, tt)))
 
 best_both_dwells : Throughout IsBestPlanned both_dwells.inputs steps_of_both_dwells
 unfolding on_small_disks
-best_both_dwells = (none_in_time small_disk (gap (at 0 0) (at 0 0) 0 500 false) (block 0 0 6 1 (at 0 0) 1 ∷ block 0 1 7 1 (at 0 0) 1 ∷ block 0 2 35 1 (at 1 0) 1 ∷ []) (lit< tt, (lit< tt, (lit< tt, tt))) (lit≤ tt, lit≤ tt), (all_then_leave small_disk (gap (at 0 0) (at 1 0) 600 1200 false) (block 0 0 6 1 (at 0 0) 1 ∷ block 0 1 7 1 (at 0 0) 1 ∷ block 0 2 35 1 (at 1 0) 1 ∷ []) 800 (block 0 1 7 1 (at 0 0) 1) (there here) (lit< tt) refl (lit≤ tt) refl (lit≤ tt, lit≤ tt), (tt, tt)))
+best_both_dwells = (
+  none_in_time small_disk (gap (at 0 0) (at 0 0) 0 500 false) (block 0 0 6 1 (at 0 0) 1 ∷ block 0 1 7 1 (at 0 0) 1
+      ∷ block 0 2 35 1 (at 1 0) 1 ∷ []) (lit< tt, (lit< tt, (lit< tt, tt))) (lit≤ tt, lit≤ tt),
+  (
+    all_then_leave small_disk (gap (at 0 0) (at 1 0) 600 1200 false) (block 0 0 6 1 (at 0 0) 1 ∷ block 0 1 7 1 (at 0 0) 1
+        ∷ block 0 2 35 1 (at 1 0) 1 ∷ []) 800 (block 0 1 7 1 (at 0 0) 1) (there here) (lit< tt) refl (lit≤ tt) refl (lit≤ tt, lit≤ tt),
+    (tt, tt),
+  ),
+)
 
 pub both_dwells_is_full : IsFull both_dwells.inputs both_dwells.run
 both_dwells_is_full = record { steps = steps_of_both_dwells; sound = sound_both_dwells; best = best_both_dwells; all = all_both_dwells }
@@ -84,7 +93,19 @@ sound_detour = record {
   decided = refl;
   tasks = tasks_of_detour;
   back = refl;
-  planned = ((lit≤ tt, lit≤ tt), (record { on_disk = record { cylinder = lit< tt; head = lit< tt }; not_source = refl; not_target = refl; after_arrival = lit≤ tt; in_time = lit≤ tt }, (tt, tt)));
+  planned = (
+    (lit≤ tt, lit≤ tt),
+    (
+      record {
+        on_disk = record { cylinder = lit< tt; head = lit< tt };
+        not_source = refl;
+        not_target = refl;
+        after_arrival = lit≤ tt;
+        in_time = lit≤ tt;
+      },
+      (tt, tt),
+    ),
+  );
   deliveries = (none, (taken none, (none, tt)));
   tested = (
     record { test = refl; followed = tt },
@@ -102,7 +123,15 @@ all_detour = (refl, (refl, (refl, tt)))
 
 best_detour : Throughout IsBestPlanned detour.inputs steps_of_detour
 unfolding on_small_disks
-best_detour = (none_in_time small_disk (gap (at 0 0) (at 0 0) 0 500 false) (block 0 0 20 1 (at 0 1) 1 ∷ []) (lit< tt, tt) (lit≤ tt, lit≤ tt), (all_by_detour small_disk (gap (at 0 0) (at 1 0) 600 1200 false) (block 0 0 20 1 (at 0 1) 1 ∷ []) (at 0 1) 900 (block 0 0 20 1 (at 0 1) 1) here (lit< tt) refl refl refl (lit≤ tt) refl (record { on_disk = record { cylinder = lit< tt; head = lit< tt }; not_source = refl; not_target = refl; after_arrival = lit≤ tt; in_time = lit≤ tt }), (tt, tt)))
+best_detour = (
+  none_in_time small_disk (gap (at 0 0) (at 0 0) 0 500 false) (block 0 0 20 1 (at 0 1) 1 ∷ []) (lit< tt, tt) (lit≤ tt, lit≤ tt),
+  (
+    all_by_detour small_disk (gap (at 0 0) (at 1 0) 600 1200 false) (block 0 0 20 1 (at 0 1) 1 ∷ [])
+        (at 0 1) 900 (block 0 0 20 1 (at 0 1) 1) here (lit< tt) refl refl refl (lit≤ tt) refl (record { on_disk = record { cylinder = lit<
+        tt; head = lit< tt }; not_source = refl; not_target = refl; after_arrival = lit≤ tt; in_time = lit≤ tt }),
+    (tt, tt),
+  ),
+)
 
 pub detour_is_full : IsFull detour.inputs detour.run
 detour_is_full = record { steps = steps_of_detour; sound = sound_detour; best = best_detour; all = all_detour }
@@ -145,10 +174,19 @@ all_no_time_to_settle = (refl, (refl, (refl, tt)))
 
 best_no_time_to_settle : Throughout IsBestPlanned no_time_to_settle.inputs steps_of_no_time_to_settle
 unfolding on_small_disks
-best_no_time_to_settle = (none_in_time small_disk (gap (at 0 0) (at 0 0) 0 500 false) (block 0 0 20 1 (at 0 1) 1 ∷ []) (lit< tt, tt) (lit≤ tt, lit≤ tt), (none_on_the_way small_disk (gap (at 0 0) (at 1 0) 600 1200 true) (block 0 0 20 1 (at 0 1) 1 ∷ []) ((refl, (refl, lit< tt)), tt) (lit≤ tt, lit≤ tt), (tt, tt)))
+best_no_time_to_settle = (
+  none_in_time small_disk (gap (at 0 0) (at 0 0) 0 500 false) (block 0 0 20 1 (at 0 1) 1 ∷ []) (lit< tt, tt) (lit≤ tt, lit≤ tt),
+  (none_on_the_way small_disk (gap (at 0 0) (at 1 0) 600 1200 true) (block 0 0 20 1 (at 0 1) 1
+      ∷ []) ((refl, (refl, lit< tt)), tt) (lit≤ tt, lit≤ tt), (tt, tt)),
+)
 
 pub no_time_to_settle_is_full : IsFull no_time_to_settle.inputs no_time_to_settle.run
-no_time_to_settle_is_full = record { steps = steps_of_no_time_to_settle; sound = sound_no_time_to_settle; best = best_no_time_to_settle; all = all_no_time_to_settle }
+no_time_to_settle_is_full = record {
+  steps = steps_of_no_time_to_settle;
+  sound = sound_no_time_to_settle;
+  best = best_no_time_to_settle;
+  all = all_no_time_to_settle;
+}
 
 abbrev steps_of_detour_on_the_way : List Step
 steps_of_detour_on_the_way = steps_at (decisions detour_on_the_way.inputs) (
@@ -171,7 +209,16 @@ sound_detour_on_the_way = record {
   decided = refl;
   tasks = tasks_of_detour_on_the_way;
   back = refl;
-  planned = (record { on_disk = record { cylinder = lit< tt; head = lit< tt }; not_source = refl; not_target = refl; after_arrival = lit≤ tt; in_time = lit≤ tt }, (tt, tt));
+  planned = (
+    record {
+      on_disk = record { cylinder = lit< tt; head = lit< tt };
+      not_source = refl;
+      not_target = refl;
+      after_arrival = lit≤ tt;
+      in_time = lit≤ tt;
+    },
+    (tt, tt),
+  );
   deliveries = (taken none, (none, tt));
   tested = (
     record { test = refl; followed = (refl, tt) },
@@ -186,10 +233,20 @@ all_detour_on_the_way = (refl, (refl, tt))
 
 best_detour_on_the_way : Throughout IsBestPlanned detour_on_the_way.inputs steps_of_detour_on_the_way
 unfolding on_small_disks
-best_detour_on_the_way = (all_by_detour quick_disk (gap (at 0 0) (at 2 0) 0 1500 false) (block 0 0 25 1 (at 1 0) 1 ∷ []) (at 1 0) 200 (block 0 0 25 1 (at 1 0) 1) here (lit< tt) refl refl refl (lit≤ tt) refl (record { on_disk = record { cylinder = lit< tt; head = lit< tt }; not_source = refl; not_target = refl; after_arrival = lit≤ tt; in_time = lit≤ tt }), (tt, tt))
+best_detour_on_the_way = (
+  all_by_detour quick_disk (gap (at 0 0) (at 2 0) 0 1500 false) (block 0 0 25 1 (at 1 0) 1 ∷ []) (at 1 0) 200
+      (block 0 0 25 1 (at 1 0) 1) here (lit< tt) refl refl refl (lit≤ tt) refl (record { on_disk = record { cylinder = lit< tt; head = lit<
+      tt }; not_source = refl; not_target = refl; after_arrival = lit≤ tt; in_time = lit≤ tt }),
+  (tt, tt),
+)
 
 pub detour_on_the_way_is_full : IsFull detour_on_the_way.inputs detour_on_the_way.run
-detour_on_the_way_is_full = record { steps = steps_of_detour_on_the_way; sound = sound_detour_on_the_way; best = best_detour_on_the_way; all = all_detour_on_the_way }
+detour_on_the_way_is_full = record {
+  steps = steps_of_detour_on_the_way;
+  sound = sound_detour_on_the_way;
+  best = best_detour_on_the_way;
+  all = all_detour_on_the_way;
+}
 
 abbrev steps_of_detour_over_nothing : List Step
 steps_of_detour_over_nothing = steps_at (decisions detour_over_nothing.inputs) (
@@ -212,7 +269,16 @@ sound_detour_over_nothing = record {
   decided = refl;
   tasks = tasks_of_detour_over_nothing;
   back = refl;
-  planned = (record { on_disk = record { cylinder = lit< tt; head = lit< tt }; not_source = refl; not_target = refl; after_arrival = lit≤ tt; in_time = lit≤ tt }, (tt, tt));
+  planned = (
+    record {
+      on_disk = record { cylinder = lit< tt; head = lit< tt };
+      not_source = refl;
+      not_target = refl;
+      after_arrival = lit≤ tt;
+      in_time = lit≤ tt;
+    },
+    (tt, tt),
+  );
   deliveries = (taken none, (none, tt));
   tested = (
     record { test = refl; followed = (refl, tt) },
@@ -230,7 +296,12 @@ unfolding on_small_disks
 best_detour_over_nothing = (sooner_over, (tt, tt))
 
 pub detour_over_nothing_is_full : IsFull detour_over_nothing.inputs detour_over_nothing.run
-detour_over_nothing_is_full = record { steps = steps_of_detour_over_nothing; sound = sound_detour_over_nothing; best = best_detour_over_nothing; all = all_detour_over_nothing }
+detour_over_nothing_is_full = record {
+  steps = steps_of_detour_over_nothing;
+  sound = sound_detour_over_nothing;
+  best = best_detour_over_nothing;
+  all = all_detour_over_nothing;
+}
 
 abbrev steps_of_weight_decides : List Step
 steps_of_weight_decides = steps_at (decisions weight_decides.inputs) (
@@ -272,10 +343,15 @@ all_weight_decides = (refl, (refl, (refl, tt)))
 
 best_weight_decides : Throughout IsBestPlanned weight_decides.inputs steps_of_weight_decides
 unfolding on_small_disks
-best_weight_decides = (none_in_time small_disk (gap (at 0 0) (at 0 0) 0 500 false) (block 0 0 6 1 (at 0 0) 1 ∷ block 0 1 7 1 (at 0 0) 1 ∷ block 1 0 33 1 (at 1 0) 5 ∷ []) (lit< tt, (lit< tt, (lit< tt, tt))) (lit≤ tt, lit≤ tt), (by_weight, (tt, tt)))
+best_weight_decides = (
+  none_in_time small_disk (gap (at 0 0) (at 0 0) 0 500 false) (block 0 0 6 1 (at 0 0) 1 ∷ block 0 1 7 1 (at 0 0) 1
+      ∷ block 1 0 33 1 (at 1 0) 5 ∷ []) (lit< tt, (lit< tt, (lit< tt, tt))) (lit≤ tt, lit≤ tt),
+  (by_weight, (tt, tt)),
+)
 
 pub weight_decides_is_full : IsFull weight_decides.inputs weight_decides.run
-weight_decides_is_full = record { steps = steps_of_weight_decides; sound = sound_weight_decides; best = best_weight_decides; all = all_weight_decides }
+weight_decides_is_full =
+    record { steps = steps_of_weight_decides; sound = sound_weight_decides; best = best_weight_decides; all = all_weight_decides }
 
 abbrev steps_of_block_over_the_turn : List Step
 steps_of_block_over_the_turn = steps_at (decisions block_over_the_turn.inputs) (
@@ -313,7 +389,13 @@ all_block_over_the_turn = (refl, (refl, tt))
 
 best_block_over_the_turn : Throughout IsBestPlanned block_over_the_turn.inputs steps_of_block_over_the_turn
 unfolding on_small_disks
-best_block_over_the_turn = (all_at_once turned_disk (gap (at 0 0) (at 0 1) 0 1300 false) (last_and_first ∷ []) refl (lit≤ tt, lit≤ tt), (tt, tt))
+best_block_over_the_turn =
+    (all_at_once turned_disk (gap (at 0 0) (at 0 1) 0 1300 false) (last_and_first ∷ []) refl (lit≤ tt, lit≤ tt), (tt, tt))
 
 pub block_over_the_turn_is_full : IsFull block_over_the_turn.inputs block_over_the_turn.run
-block_over_the_turn_is_full = record { steps = steps_of_block_over_the_turn; sound = sound_block_over_the_turn; best = best_block_over_the_turn; all = all_block_over_the_turn }
+block_over_the_turn_is_full = record {
+  steps = steps_of_block_over_the_turn;
+  sound = sound_block_over_the_turn;
+  best = best_block_over_the_turn;
+  all = all_block_over_the_turn;
+}

@@ -57,7 +57,8 @@ unfolding on_small_disks
 best_idle_to_the_end = (tt, (none_in_time small_disk (gap (at 0 0) (at 1 0) 600 1200 false) [] tt (lit≤ tt, lit≤ tt), (tt, tt)))
 
 pub idle_to_the_end_is_full : IsFull idle_to_the_end.inputs idle_to_the_end.run
-idle_to_the_end_is_full = record { steps = steps_of_idle_to_the_end; sound = sound_idle_to_the_end; best = best_idle_to_the_end; all = all_idle_to_the_end }
+idle_to_the_end_is_full =
+    record { steps = steps_of_idle_to_the_end; sound = sound_idle_to_the_end; best = best_idle_to_the_end; all = all_idle_to_the_end }
 
 abbrev steps_of_idle_too_short : List Step
 steps_of_idle_too_short = steps_at (decisions idle_too_short.inputs) (
@@ -97,10 +98,17 @@ all_idle_too_short = (refl, (refl, (refl, tt)))
 
 best_idle_too_short : Throughout IsBestPlanned idle_too_short.inputs steps_of_idle_too_short
 unfolding on_small_disks
-best_idle_too_short = (tt, (none_in_time small_disk (gap (at 0 0) (at 1 0) 599 1200 false) (block 0 0 5 1 (at 0 0) 1 ∷ []) (lit< tt, tt) (lit≤ tt, lit≤ tt), (tt, tt)))
+best_idle_too_short = (
+  tt,
+  (
+    none_in_time small_disk (gap (at 0 0) (at 1 0) 599 1200 false) (block 0 0 5 1 (at 0 0) 1 ∷ []) (lit< tt, tt) (lit≤ tt, lit≤ tt),
+    (tt, tt),
+  ),
+)
 
 pub idle_too_short_is_full : IsFull idle_too_short.inputs idle_too_short.run
-idle_too_short_is_full = record { steps = steps_of_idle_too_short; sound = sound_idle_too_short; best = best_idle_too_short; all = all_idle_too_short }
+idle_too_short_is_full =
+    record { steps = steps_of_idle_too_short; sound = sound_idle_too_short; best = best_idle_too_short; all = all_idle_too_short }
 
 abbrev steps_of_grown_defect_cuts : List Step
 steps_of_grown_defect_cuts = steps_at (decisions grown_defect_cuts.inputs) (
@@ -139,7 +147,12 @@ unfolding on_small_disks
 best_grown_defect_cuts = (tt, tt)
 
 pub grown_defect_cuts_is_full : IsFull grown_defect_cuts.inputs grown_defect_cuts.run
-grown_defect_cuts_is_full = record { steps = steps_of_grown_defect_cuts; sound = sound_grown_defect_cuts; best = best_grown_defect_cuts; all = all_grown_defect_cuts }
+grown_defect_cuts_is_full = record {
+  steps = steps_of_grown_defect_cuts;
+  sound = sound_grown_defect_cuts;
+  best = best_grown_defect_cuts;
+  all = all_grown_defect_cuts;
+}
 
 abbrev steps_of_promoted_read_carries : List Step
 steps_of_promoted_read_carries = steps_at (decisions promoted_read_carries.inputs) (
@@ -185,10 +198,19 @@ all_promoted_read_carries = (refl, (refl, (refl, tt)))
 
 best_promoted_read_carries : Throughout IsBestPlanned promoted_read_carries.inputs steps_of_promoted_read_carries
 unfolding on_small_disks
-best_promoted_read_carries = (tt, (none_in_time small_disk (gap (at 0 0) (at 0 0) 1700 1700 false) (block 0 2 7 1 (at 0 0) 1 ∷ block 0 3 8 1 (at 0 0) 1 ∷ []) (lit< tt, (lit< tt, tt)) (lit≤ tt, lit≤ tt), (tt, tt)))
+best_promoted_read_carries = (
+  tt,
+  (none_in_time small_disk (gap (at 0 0) (at 0 0) 1700 1700 false) (block 0 2 7 1 (at 0 0) 1 ∷ block 0 3 8 1 (at 0 0) 1
+      ∷ []) (lit< tt, (lit< tt, tt)) (lit≤ tt, lit≤ tt), (tt, tt)),
+)
 
 pub promoted_read_carries_is_full : IsFull promoted_read_carries.inputs promoted_read_carries.run
-promoted_read_carries_is_full = record { steps = steps_of_promoted_read_carries; sound = sound_promoted_read_carries; best = best_promoted_read_carries; all = all_promoted_read_carries }
+promoted_read_carries_is_full = record {
+  steps = steps_of_promoted_read_carries;
+  sound = sound_promoted_read_carries;
+  best = best_promoted_read_carries;
+  all = all_promoted_read_carries;
+}
 
 abbrev steps_of_caught_not_carried : List Step
 steps_of_caught_not_carried = steps_at (decisions caught_not_carried.inputs) (
@@ -230,7 +252,13 @@ all_caught_not_carried = (refl, (refl, (refl, tt)))
 
 best_caught_not_carried : Throughout IsBestPlanned caught_not_carried.inputs steps_of_caught_not_carried
 unfolding on_small_disks
-best_caught_not_carried = (tt, (all_at_once small_disk (gap (at 0 0) (at 0 0) 100 1200 false) (block 0 0 6 1 (at 0 0) 1 ∷ []) refl (lit≤ tt, lit≤ tt), (tt, tt)))
+best_caught_not_carried =
+    (tt, (all_at_once small_disk (gap (at 0 0) (at 0 0) 100 1200 false) (block 0 0 6 1 (at 0 0) 1 ∷ []) refl (lit≤ tt, lit≤ tt), (tt, tt)))
 
 pub caught_not_carried_is_full : IsFull caught_not_carried.inputs caught_not_carried.run
-caught_not_carried_is_full = record { steps = steps_of_caught_not_carried; sound = sound_caught_not_carried; best = best_caught_not_carried; all = all_caught_not_carried }
+caught_not_carried_is_full = record {
+  steps = steps_of_caught_not_carried;
+  sound = sound_caught_not_carried;
+  best = best_caught_not_carried;
+  all = all_caught_not_carried;
+}

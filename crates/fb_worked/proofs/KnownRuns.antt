@@ -57,10 +57,23 @@ all_run_without_third = (refl, (refl, (refl, tt)))
 
 best_run_without_third : Throughout IsBestPlanned run_without_third.inputs steps_of_run_without_third
 unfolding on_small_disks
-best_run_without_third = (none_in_time small_disk (gap (at 0 0) (at 0 0) 0 500 false) (block 0 0 6 1 (at 0 0) 1 ∷ block 0 1 7 1 (at 0 0) 1 ∷ block 0 2 35 1 (at 1 0) 1 ∷ []) (lit< tt, (lit< tt, (lit< tt, tt))) (lit≤ tt, lit≤ tt), (all_then_leave small_disk (gap (at 0 0) (at 1 0) 600 1200 false) (block 0 0 6 1 (at 0 0) 1 ∷ block 0 1 7 1 (at 0 0) 1 ∷ block 0 2 35 1 (at 1 0) 1 ∷ []) 800 (block 0 1 7 1 (at 0 0) 1) (there here) (lit< tt) refl (lit≤ tt) refl (lit≤ tt, lit≤ tt), (tt, tt)))
+best_run_without_third = (
+  none_in_time small_disk (gap (at 0 0) (at 0 0) 0 500 false) (block 0 0 6 1 (at 0 0) 1 ∷ block 0 1 7 1 (at 0 0) 1
+      ∷ block 0 2 35 1 (at 1 0) 1 ∷ []) (lit< tt, (lit< tt, (lit< tt, tt))) (lit≤ tt, lit≤ tt),
+  (
+    all_then_leave small_disk (gap (at 0 0) (at 1 0) 600 1200 false) (block 0 0 6 1 (at 0 0) 1 ∷ block 0 1 7 1 (at 0 0) 1
+        ∷ block 0 2 35 1 (at 1 0) 1 ∷ []) 800 (block 0 1 7 1 (at 0 0) 1) (there here) (lit< tt) refl (lit≤ tt) refl (lit≤ tt, lit≤ tt),
+    (tt, tt),
+  ),
+)
 
 pub run_without_third_is_full : IsFull run_without_third.inputs run_without_third.run
-run_without_third_is_full = record { steps = steps_of_run_without_third; sound = sound_run_without_third; best = best_run_without_third; all = all_run_without_third }
+run_without_third_is_full = record {
+  steps = steps_of_run_without_third;
+  sound = sound_run_without_third;
+  best = best_run_without_third;
+  all = all_run_without_third;
+}
 
 abbrev steps_of_run_with_third : List Step
 steps_of_run_with_third = steps_at (decisions run_with_third.inputs) (
@@ -108,10 +121,19 @@ all_run_with_third = (refl, (refl, (refl, (refl, tt))))
 
 best_run_with_third : Throughout IsBestPlanned run_with_third.inputs steps_of_run_with_third
 unfolding on_small_disks
-best_run_with_third = (none_in_time small_disk (gap (at 0 0) (at 0 0) 0 500 false) (block 0 0 6 1 (at 0 0) 1 ∷ block 0 1 7 1 (at 0 0) 1 ∷ block 0 2 35 1 (at 1 0) 1 ∷ []) (lit< tt, (lit< tt, (lit< tt, tt))) (lit≤ tt, lit≤ tt), (all_then_leave small_disk (gap (at 0 0) (at 1 0) 600 1200 false) (block 0 0 6 1 (at 0 0) 1 ∷ block 0 1 7 1 (at 0 0) 1 ∷ block 0 2 35 1 (at 1 0) 1 ∷ []) 800 (block 0 1 7 1 (at 0 0) 1) (there here) (lit< tt) refl (lit≤ tt) refl (lit≤ tt, lit≤ tt), (none_in_time small_disk (gap (at 1 0) (at 3 0) 1300 2400 false) [] tt (lit≤ tt, lit≤ tt), (tt, tt))))
+best_run_with_third = (
+  none_in_time small_disk (gap (at 0 0) (at 0 0) 0 500 false) (block 0 0 6 1 (at 0 0) 1 ∷ block 0 1 7 1 (at 0 0) 1
+      ∷ block 0 2 35 1 (at 1 0) 1 ∷ []) (lit< tt, (lit< tt, (lit< tt, tt))) (lit≤ tt, lit≤ tt),
+  (
+    all_then_leave small_disk (gap (at 0 0) (at 1 0) 600 1200 false) (block 0 0 6 1 (at 0 0) 1 ∷ block 0 1 7 1 (at 0 0) 1
+        ∷ block 0 2 35 1 (at 1 0) 1 ∷ []) 800 (block 0 1 7 1 (at 0 0) 1) (there here) (lit< tt) refl (lit≤ tt) refl (lit≤ tt, lit≤ tt),
+    (none_in_time small_disk (gap (at 1 0) (at 3 0) 1300 2400 false) [] tt (lit≤ tt, lit≤ tt), (tt, tt)),
+  ),
+)
 
 pub run_with_third_is_full : IsFull run_with_third.inputs run_with_third.run
-run_with_third_is_full = record { steps = steps_of_run_with_third; sound = sound_run_with_third; best = best_run_with_third; all = all_run_with_third }
+run_with_third_is_full =
+    record { steps = steps_of_run_with_third; sound = sound_run_with_third; best = best_run_with_third; all = all_run_with_third }
 
 pub inputs_agree : AgreeUpTo 1250 run_without_third.inputs run_with_third.inputs
 inputs_agree = record { disk = refl; latent = refl; key = refl; requests = refl; calls = refl }

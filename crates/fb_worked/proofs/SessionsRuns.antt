@@ -55,10 +55,20 @@ all_abort_while_waiting = (refl, (refl, (refl, tt)))
 
 best_abort_while_waiting : Throughout IsBestPlanned abort_while_waiting.inputs steps_of_abort_while_waiting
 unfolding on_small_disks
-best_abort_while_waiting = (none_in_time small_disk (gap (at 0 0) (at 0 0) 0 500 false) (block 0 0 6 1 (at 0 0) 1 ∷ block 0 1 7 1 (at 0 0) 1 ∷ block 0 2 35 1 (at 1 0) 1 ∷ []) (lit< tt, (lit< tt, (lit< tt, tt))) (lit≤ tt, lit≤ tt), (all_then_leave small_disk (gap (at 0 0) (at 1 0) 600 1200 false) (block 0 0 6 1 (at 0 0) 1 ∷ block 0 2 35 1 (at 1 0) 1 ∷ []) 700 (block 0 0 6 1 (at 0 0) 1) here (lit< tt) refl (lit≤ tt) refl (lit≤ tt, lit≤ tt), (tt, tt)))
+best_abort_while_waiting = (
+  none_in_time small_disk (gap (at 0 0) (at 0 0) 0 500 false) (block 0 0 6 1 (at 0 0) 1 ∷ block 0 1 7 1 (at 0 0) 1
+      ∷ block 0 2 35 1 (at 1 0) 1 ∷ []) (lit< tt, (lit< tt, (lit< tt, tt))) (lit≤ tt, lit≤ tt),
+  (all_then_leave small_disk (gap (at 0 0) (at 1 0) 600 1200 false) (block 0 0 6 1 (at 0 0) 1 ∷ block 0 2 35 1 (at 1 0) 1
+      ∷ []) 700 (block 0 0 6 1 (at 0 0) 1) here (lit< tt) refl (lit≤ tt) refl (lit≤ tt, lit≤ tt), (tt, tt)),
+)
 
 pub abort_while_waiting_is_full : IsFull abort_while_waiting.inputs abort_while_waiting.run
-abort_while_waiting_is_full = record { steps = steps_of_abort_while_waiting; sound = sound_abort_while_waiting; best = best_abort_while_waiting; all = all_abort_while_waiting }
+abort_while_waiting_is_full = record {
+  steps = steps_of_abort_while_waiting;
+  sound = sound_abort_while_waiting;
+  best = best_abort_while_waiting;
+  all = all_abort_while_waiting;
+}
 
 abbrev steps_of_abort_too_late : List Step
 steps_of_abort_too_late = steps_at (decisions abort_too_late.inputs) (
@@ -102,10 +112,19 @@ all_abort_too_late = (refl, (refl, (refl, tt)))
 
 best_abort_too_late : Throughout IsBestPlanned abort_too_late.inputs steps_of_abort_too_late
 unfolding on_small_disks
-best_abort_too_late = (none_in_time small_disk (gap (at 0 0) (at 0 0) 0 500 false) (block 0 0 6 1 (at 0 0) 1 ∷ block 0 1 7 1 (at 0 0) 1 ∷ block 0 2 35 1 (at 1 0) 1 ∷ []) (lit< tt, (lit< tt, (lit< tt, tt))) (lit≤ tt, lit≤ tt), (all_then_leave small_disk (gap (at 0 0) (at 1 0) 600 1200 false) (block 0 0 6 1 (at 0 0) 1 ∷ block 0 1 7 1 (at 0 0) 1 ∷ block 0 2 35 1 (at 1 0) 1 ∷ []) 800 (block 0 1 7 1 (at 0 0) 1) (there here) (lit< tt) refl (lit≤ tt) refl (lit≤ tt, lit≤ tt), (tt, tt)))
+best_abort_too_late = (
+  none_in_time small_disk (gap (at 0 0) (at 0 0) 0 500 false) (block 0 0 6 1 (at 0 0) 1 ∷ block 0 1 7 1 (at 0 0) 1
+      ∷ block 0 2 35 1 (at 1 0) 1 ∷ []) (lit< tt, (lit< tt, (lit< tt, tt))) (lit≤ tt, lit≤ tt),
+  (
+    all_then_leave small_disk (gap (at 0 0) (at 1 0) 600 1200 false) (block 0 0 6 1 (at 0 0) 1 ∷ block 0 1 7 1 (at 0 0) 1
+        ∷ block 0 2 35 1 (at 1 0) 1 ∷ []) 800 (block 0 1 7 1 (at 0 0) 1) (there here) (lit< tt) refl (lit≤ tt) refl (lit≤ tt, lit≤ tt),
+    (tt, tt),
+  ),
+)
 
 pub abort_too_late_is_full : IsFull abort_too_late.inputs abort_too_late.run
-abort_too_late_is_full = record { steps = steps_of_abort_too_late; sound = sound_abort_too_late; best = best_abort_too_late; all = all_abort_too_late }
+abort_too_late_is_full =
+    record { steps = steps_of_abort_too_late; sound = sound_abort_too_late; best = best_abort_too_late; all = all_abort_too_late }
 
 abbrev steps_of_suspended : List Step
 steps_of_suspended = steps_at (decisions suspended.inputs) (
@@ -145,7 +164,11 @@ all_suspended = (refl, (refl, (refl, tt)))
 
 best_suspended : Throughout IsBestPlanned suspended.inputs steps_of_suspended
 unfolding on_small_disks
-best_suspended = (none_in_time small_disk (gap (at 0 0) (at 0 0) 0 500 false) (block 0 0 6 1 (at 0 0) 1 ∷ block 0 1 7 1 (at 0 0) 1 ∷ block 0 2 35 1 (at 1 0) 1 ∷ []) (lit< tt, (lit< tt, (lit< tt, tt))) (lit≤ tt, lit≤ tt), (none_in_time small_disk (gap (at 0 0) (at 1 0) 600 1200 false) [] tt (lit≤ tt, lit≤ tt), (tt, tt)))
+best_suspended = (
+  none_in_time small_disk (gap (at 0 0) (at 0 0) 0 500 false) (block 0 0 6 1 (at 0 0) 1 ∷ block 0 1 7 1 (at 0 0) 1
+      ∷ block 0 2 35 1 (at 1 0) 1 ∷ []) (lit< tt, (lit< tt, (lit< tt, tt))) (lit≤ tt, lit≤ tt),
+  (none_in_time small_disk (gap (at 0 0) (at 1 0) 600 1200 false) [] tt (lit≤ tt, lit≤ tt), (tt, tt)),
+)
 
 pub suspended_is_full : IsFull suspended.inputs suspended.run
 suspended_is_full = record { steps = steps_of_suspended; sound = sound_suspended; best = best_suspended; all = all_suspended }
@@ -188,7 +211,11 @@ all_closed = (refl, (refl, (refl, tt)))
 
 best_closed : Throughout IsBestPlanned closed.inputs steps_of_closed
 unfolding on_small_disks
-best_closed = (none_in_time small_disk (gap (at 0 0) (at 0 0) 0 500 false) (block 0 0 6 1 (at 0 0) 1 ∷ block 0 1 7 1 (at 0 0) 1 ∷ block 0 2 35 1 (at 1 0) 1 ∷ []) (lit< tt, (lit< tt, (lit< tt, tt))) (lit≤ tt, lit≤ tt), (none_in_time small_disk (gap (at 0 0) (at 1 0) 600 1200 false) [] tt (lit≤ tt, lit≤ tt), (tt, tt)))
+best_closed = (
+  none_in_time small_disk (gap (at 0 0) (at 0 0) 0 500 false) (block 0 0 6 1 (at 0 0) 1 ∷ block 0 1 7 1 (at 0 0) 1
+      ∷ block 0 2 35 1 (at 1 0) 1 ∷ []) (lit< tt, (lit< tt, (lit< tt, tt))) (lit≤ tt, lit≤ tt),
+  (none_in_time small_disk (gap (at 0 0) (at 1 0) 600 1200 false) [] tt (lit≤ tt, lit≤ tt), (tt, tt)),
+)
 
 pub closed_is_full : IsFull closed.inputs closed.run
 closed_is_full = record { steps = steps_of_closed; sound = sound_closed; best = best_closed; all = all_closed }

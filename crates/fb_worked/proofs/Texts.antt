@@ -13,7 +13,8 @@ use Rattle.fb_model.specs.Inputs.{served}
 use Rattle.fb_model.specs.Content.{medium_of, fore_rows}
 use Rattle.fb_report.specs.Fore.{fore_lines}
 use Rattle.fb_worked.specs.SmallDisk.{small_disk, uneven_disk, skewed_disk, slipped_disk, remapped_disk}
-use Rattle.fb_worked.specs.Foreground.{FirstRead, ReadInTime, ReadTooLate, ReadOverTracks, ReadOverSkewedTracks, ReadOverSlip, ReadOverMoved, ReadOfUnevenSlots, ReadOfNothing}
+use Rattle.fb_worked.specs.Foreground.{FirstRead, ReadInTime, ReadTooLate, ReadOverTracks, ReadOverSkewedTracks, ReadOverSlip}
+use Rattle.fb_worked.specs.Foreground.{ReadOverMoved, ReadOfUnevenSlots, ReadOfNothing}
 
 pub first_read : FirstRead
 unfolding digits encode_with places place_at pos begin_from passages mark fill plain served medium_of fore_rows fore_lines small_disk

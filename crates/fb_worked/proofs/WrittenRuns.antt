@@ -63,7 +63,12 @@ unfolding on_small_disks
 best_overwritten_between = (tt, (none_in_time small_disk (gap (at 0 0) (at 0 0) 700 1800 true) [] tt (lit≤ tt, lit≤ tt), (tt, (tt, tt))))
 
 pub overwritten_between_is_full : IsFull overwritten_between.inputs overwritten_between.run
-overwritten_between_is_full = record { steps = steps_of_overwritten_between; sound = sound_overwritten_between; best = best_overwritten_between; all = all_overwritten_between }
+overwritten_between_is_full = record {
+  steps = steps_of_overwritten_between;
+  sound = sound_overwritten_between;
+  best = best_overwritten_between;
+  all = all_overwritten_between;
+}
 
 abbrev steps_of_latent_until_written : List Step
 steps_of_latent_until_written = steps_at (decisions latent_until_written.inputs) (
@@ -114,7 +119,12 @@ unfolding on_small_disks
 best_latent_until_written = (tt, (none_in_time small_disk (gap (at 0 0) (at 0 0) 700 1800 true) [] tt (lit≤ tt, lit≤ tt), (tt, (tt, tt))))
 
 pub latent_until_written_is_full : IsFull latent_until_written.inputs latent_until_written.run
-latent_until_written_is_full = record { steps = steps_of_latent_until_written; sound = sound_latent_until_written; best = best_latent_until_written; all = all_latent_until_written }
+latent_until_written_is_full = record {
+  steps = steps_of_latent_until_written;
+  sound = sound_latent_until_written;
+  best = best_latent_until_written;
+  all = all_latent_until_written;
+}
 
 abbrev steps_of_read_as_the_write_ends : List Step
 steps_of_read_as_the_write_ends = steps_at (decisions read_as_the_write_ends.inputs) (
@@ -155,12 +165,18 @@ unfolding on_small_disks
 best_read_as_the_write_ends = (none_in_time one_sector_disk (gap (at 0 0) (at 0 0) 0 0 true) [] tt (lit≤ tt, lit≤ tt), (tt, tt))
 
 pub read_as_the_write_ends_is_full : IsFull read_as_the_write_ends.inputs read_as_the_write_ends.run
-read_as_the_write_ends_is_full = record { steps = steps_of_read_as_the_write_ends; sound = sound_read_as_the_write_ends; best = best_read_as_the_write_ends; all = all_read_as_the_write_ends }
+read_as_the_write_ends_is_full = record {
+  steps = steps_of_read_as_the_write_ends;
+  sound = sound_read_as_the_write_ends;
+  best = best_read_as_the_write_ends;
+  all = all_read_as_the_write_ends;
+}
 
 abbrev steps_of_scrub_finds_latent : List Step
 steps_of_scrub_finds_latent = steps_at (decisions scrub_finds_latent.inputs) (
     rest [] (
-    with_rows (got (block 0 0 4 4 (at 0 0) 1) 400 800 ByIdle 1 (untouched 4 2 ∷ unreadable 6 1 ∷ untouched 7 1 ∷ [])) (bad_line 0 6 ∷ done_line 0 800 ∷ [])
+    with_rows (got (block 0 0 4 4 (at 0 0) 1) 400 800 ByIdle 1 (untouched 4 2 ∷ unreadable 6 1 ∷ untouched 7 1 ∷ []))
+    (bad_line 0 6 ∷ done_line 0 800 ∷ [])
     ∷ [])
     ∷ [])
 
@@ -193,4 +209,9 @@ unfolding on_small_disks
 best_scrub_finds_latent = (tt, tt)
 
 pub scrub_finds_latent_is_full : IsFull scrub_finds_latent.inputs scrub_finds_latent.run
-scrub_finds_latent_is_full = record { steps = steps_of_scrub_finds_latent; sound = sound_scrub_finds_latent; best = best_scrub_finds_latent; all = all_scrub_finds_latent }
+scrub_finds_latent_is_full = record {
+  steps = steps_of_scrub_finds_latent;
+  sound = sound_scrub_finds_latent;
+  best = best_scrub_finds_latent;
+  all = all_scrub_finds_latent;
+}

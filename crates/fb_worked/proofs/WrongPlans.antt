@@ -18,13 +18,25 @@ soon_refuted best = let less : 3 ≤ 2 = best.greatest (Direct 800) (lit≤ tt, 
 pub direct_refuted : IsBest quick_disk gap_with_one block_on_target (Direct 0) → ⊥
 unfolding on_small_disks
 direct_refuted best =
-    let less : 1 ≤ 0 = best.greatest (Detour (at 1 0) 100) (record { on_disk = record { cylinder = lit< tt; head = lit< tt }; not_source = refl; not_target = refl; after_arrival = lit≤ tt; in_time = lit≤ tt }) in
+    let less : 1 ≤ 0 = best.greatest (Detour (at 1 0) 100) (record {
+      on_disk = record { cylinder = lit< tt; head = lit< tt };
+      not_source = refl;
+      not_target = refl;
+      after_arrival = lit≤ tt;
+      in_time = lit≤ tt;
+    }) in
     omega arith
 
 pub equal_refuted : IsBest quick_disk gap_with_one block_on_the_way (Detour (at 1 0) 201) → ⊥
 unfolding on_small_disks
 equal_refuted best =
-    elim (best.first (Detour (at 1 0) 200) (record { on_disk = record { cylinder = lit< tt; head = lit< tt }; not_source = refl; not_target = refl; after_arrival = lit≤ tt; in_time = lit≤ tt }) refl) [
+    elim (best.first (Detour (at 1 0) 200) (record {
+      on_disk = record { cylinder = lit< tt; head = lit< tt };
+      not_source = refl;
+      not_target = refl;
+      after_arrival = lit≤ tt;
+      in_time = lit≤ tt;
+    }) refl) [
       | inl before ↦ elim before [
         | inl lesser ↦ let less : 1 < 1 = lesser in omega arith
         | inr same ↦ let less : 0 < 0 = same.1 in omega arith

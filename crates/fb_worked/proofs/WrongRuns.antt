@@ -1,5 +1,6 @@
 -- Wrong runs, refuted.
-use Rattle.std.proofs.Common.{◌++◌, length-append, ◌≡◌, ℕ, List, [], ◌∷◌, refl, lit≤, false, map, length, ◌≤◌, ap, true≢false, arith, suc, subst, sym}
+use Rattle.std.proofs.Common.{◌++◌, length-append, ◌≡◌, ℕ, List, [], ◌∷◌, refl, lit≤, false, map, length, ◌≤◌, ap, true≢false, arith, suc}
+use Rattle.std.proofs.Common.{subst, sym}
 use Rattle.std.specs.Option.{is_none}
 use Rattle.fb_calls.specs.declared.call.Kind.TheVariants.{Plain}
 use Rattle.fb_store.specs.declared.content.Content.{Content}
@@ -19,7 +20,8 @@ use Rattle.fb_model.specs.SoundRun.{IsSublist, none, left_out, taken, IsSoundBy,
 use Rattle.fb_model.specs.FullRun.{IsFull, IsAllDelivered}
 use Rattle.fb_worked.specs.Rows.{at, untouched, block, got, done_line, task_line}
 use Rattle.fb_worked.specs.SmallDisk.{small_disk}
-use Rattle.fb_worked.specs.Wrong.{delivered_too_late, delivered_twice, delivered_after_abort, completion_left_out, delivery_left_out, contents_of_later, settling_gap, detour_without_settle, served_sooner}
+use Rattle.fb_worked.specs.Wrong.{delivered_too_late, delivered_twice, delivered_after_abort, completion_left_out, delivery_left_out}
+use Rattle.fb_worked.specs.Wrong.{contents_of_later, settling_gap, detour_without_settle, served_sooner}
 use Rattle.fb_worked.proofs.OnSmallDisks.{on_small_disks, with_rows}
 use Rattle.fb_model.proofs.Lists.{same_first, same_rest, not_none}
 use Rattle.fb_model.proofs.Steps.{is_dwelt}
@@ -35,11 +37,13 @@ pub data AtMost (row : DeliveryRow) : List Delivery → Type 0 where
   nothing : AtMost row []
   just : (after : List BackRow) → AtMost row (with_rows row after ∷ [])
 
-at_most : {row : DeliveryRow} (deliveries : List Delivery) → IsSublist (map (λ delivery. delivery.got) deliveries) (row ∷ []) → AtMost row deliveries
+at_most : {row : DeliveryRow} (deliveries : List Delivery) → IsSublist (map (λ delivery. delivery.got) deliveries) (row ∷ [])
+    → AtMost row deliveries
 at_most [] p = nothing
 at_most (delivery ∷ []) (taken none) = just delivery.after
 at_most (delivery ∷ []) (left_out p) = let few : 1 ≤ 0 = no_longer p in absurd (omega arith)
-at_most (delivery ∷ other ∷ deliveries) p = let few : suc (suc (length (map (λ delivery. delivery.got) deliveries))) ≤ 1 = no_longer p in absurd (omega arith)
+at_most (delivery ∷ other ∷ deliveries) p = let few : suc (suc (length (map (λ delivery. delivery.got) deliveries))) ≤ 1 = no_longer p in
+    absurd (omega arith)
 
 -- the first track, from the beginning until an instant
 abbrev first_dwell : ℕ → Dwell
@@ -56,11 +60,13 @@ pub data OneIdle (until : ℕ) : List Step → Type 0 where
 find_one : (until : ℕ) (steps : List Step) → decisions_in steps ≡ idles (first_dwell until) ∷ [] → OneIdle until steps
 find_one until [] same = absurd (not_none _ _ (sym same))
 find_one until (one ∷ []) same =
-    subst (λ step. OneIdle until (step ∷ [])) (sym (is_dwelt one (first_dwell until) (same_first _ _ _ _ same))) (one_idle one.test one.deliveries)
+    subst (λ step. OneIdle until (step ∷ [])) (sym (is_dwelt one (first_dwell until) (same_first _ _ _ _ same)))
+    (one_idle one.test one.deliveries)
 find_one until (one ∷ other ∷ steps) same = absurd (not_none _ _ (same_rest _ _ _ _ same))
 
 -- the dwell catches nothing
-late_alone : (test : List BackRow) (deliveries : List Delivery) → IsSoundBy delivered_too_late.inputs (idle 599 test deliveries ∷ []) delivered_too_late.run → ⊥
+late_alone : (test : List BackRow) (deliveries : List Delivery)
+    → IsSoundBy delivered_too_late.inputs (idle 599 test deliveries ∷ []) delivered_too_late.run → ⊥
 unfolding on_small_disks
 late_alone [] [] s =
     let rows : ◌≡◌ {A = ℕ} 4 (suc (length s.tasks)) = ap length s.back in
@@ -84,21 +90,24 @@ delivered_too_late_refuted p = late p.steps (find_one 599 p.steps p.sound.decide
 abbrev row_of_twice : DeliveryRow
 row_of_twice = got (block 0 0 6 1 (at 0 0) 1) 600 700 ByIdle 0 (untouched 6 1 ∷ [])
 
-twice_known : IsSoundBy delivered_twice.inputs (idle 2400 [] (with_rows row_of_twice (done_line 0 700 ∷ []) ∷ []) ∷ []) delivered_twice.run → ⊥
+twice_known : IsSoundBy delivered_twice.inputs (idle 2400 [] (with_rows row_of_twice (done_line 0 700 ∷ []) ∷ []) ∷ []) delivered_twice.run
+    → ⊥
 unfolding on_small_disks
 twice_known s =
     let rows : ◌≡◌ {A = ℕ} 5 (suc (suc (suc (length s.tasks)))) = ap length s.back in
     let one : ◌≡◌ {A = ℕ} (length s.tasks) 1 = ap length s.counted in
     omega arith
 
-twice_alone : (test : List BackRow) (deliveries : List Delivery) → AtMost row_of_twice deliveries → IsSoundBy delivered_twice.inputs (idle 2400 test deliveries ∷ []) delivered_twice.run → ⊥
+twice_alone : (test : List BackRow) (deliveries : List Delivery) → AtMost row_of_twice deliveries
+    → IsSoundBy delivered_twice.inputs (idle 2400 test deliveries ∷ []) delivered_twice.run → ⊥
 unfolding on_small_disks
 twice_alone [] deliveries nothing s =
     let rows : ◌≡◌ {A = ℕ} 5 (suc (length s.tasks)) = ap length s.back in
     let one : ◌≡◌ {A = ℕ} (length s.tasks) 1 = ap length s.counted in
     omega arith
 twice_alone [] deliveries (just after) s =
-    twice_known (subst (λ rows. IsSoundBy delivered_twice.inputs (idle 2400 [] (with_rows row_of_twice rows ∷ []) ∷ []) delivered_twice.run) s.tested.0.followed.0 s)
+    twice_known (subst (λ rows. IsSoundBy delivered_twice.inputs (idle 2400 [] (with_rows row_of_twice rows ∷ []) ∷ []) delivered_twice.run)
+    s.tested.0.followed.0 s)
 twice_alone (row ∷ rows) deliveries few s =
     let no : ◌≡◌ {A = ℕ} (suc (length rows)) 0 = ap length s.tested.0.test in
     omega arith
@@ -115,21 +124,24 @@ delivered_twice_refuted p = twice p.steps (find_one 2400 p.steps p.sound.decided
 abbrev row_of_aborted : DeliveryRow
 row_of_aborted = got (block 0 0 6 1 (at 0 0) 1) 600 700 ByIdle 0 (untouched 6 1 ∷ [])
 
-aborted_known : IsSoundBy delivered_after_abort.inputs (idle 1200 [] (with_rows row_of_aborted (done_line 0 700 ∷ []) ∷ []) ∷ []) delivered_after_abort.run → ⊥
+aborted_known : IsSoundBy delivered_after_abort.inputs (idle 1200 [] (with_rows row_of_aborted (done_line 0 700 ∷ []) ∷ [])
+    ∷ []) delivered_after_abort.run → ⊥
 unfolding on_small_disks
 aborted_known s =
     let rows : ◌≡◌ {A = ℕ} 5 (suc (suc (suc (length s.tasks)))) = ap length s.back in
     let one : ◌≡◌ {A = ℕ} (length s.tasks) 1 = ap length s.counted in
     omega arith
 
-aborted_alone : (test : List BackRow) (deliveries : List Delivery) → AtMost row_of_aborted deliveries → IsSoundBy delivered_after_abort.inputs (idle 1200 test deliveries ∷ []) delivered_after_abort.run → ⊥
+aborted_alone : (test : List BackRow) (deliveries : List Delivery) → AtMost row_of_aborted deliveries
+    → IsSoundBy delivered_after_abort.inputs (idle 1200 test deliveries ∷ []) delivered_after_abort.run → ⊥
 unfolding on_small_disks
 aborted_alone [] deliveries nothing s =
     let rows : ◌≡◌ {A = ℕ} 5 (suc (length s.tasks)) = ap length s.back in
     let one : ◌≡◌ {A = ℕ} (length s.tasks) 1 = ap length s.counted in
     omega arith
 aborted_alone [] deliveries (just after) s =
-    aborted_known (subst (λ rows. IsSoundBy delivered_after_abort.inputs (idle 1200 [] (with_rows row_of_aborted rows ∷ []) ∷ []) delivered_after_abort.run) s.tested.0.followed.0 s)
+    aborted_known (subst (λ rows. IsSoundBy delivered_after_abort.inputs
+    (idle 1200 [] (with_rows row_of_aborted rows ∷ []) ∷ []) delivered_after_abort.run) s.tested.0.followed.0 s)
 aborted_alone (row ∷ rows) deliveries few s =
     let no : ◌≡◌ {A = ℕ} (suc (length rows)) 0 = ap length s.tested.0.test in
     omega arith
@@ -146,21 +158,25 @@ delivered_after_abort_refuted p = aborted p.steps (find_one 1200 p.steps p.sound
 abbrev row_of_silent : DeliveryRow
 row_of_silent = got (block 0 0 6 1 (at 0 0) 1) 600 700 ByIdle 0 (untouched 6 1 ∷ [])
 
-silent_known : IsSoundBy completion_left_out.inputs (idle 1200 [] (with_rows row_of_silent (done_line 0 700 ∷ []) ∷ []) ∷ []) completion_left_out.run → ⊥
+silent_known : IsSoundBy completion_left_out.inputs (idle 1200 [] (with_rows row_of_silent (done_line 0 700 ∷ []) ∷ [])
+    ∷ []) completion_left_out.run → ⊥
 unfolding on_small_disks
 silent_known s =
     let rows : ◌≡◌ {A = ℕ} 3 (suc (suc (suc (length s.tasks)))) = ap length s.back in
     let one : ◌≡◌ {A = ℕ} (length s.tasks) 1 = ap length s.counted in
     omega arith
 
-silent_alone : (test : List BackRow) (deliveries : List Delivery) → AtMost row_of_silent deliveries → IsSoundBy completion_left_out.inputs (idle 1200 test deliveries ∷ []) completion_left_out.run → ⊥
+silent_alone : (test : List BackRow) (deliveries : List Delivery) → AtMost row_of_silent deliveries
+    → IsSoundBy completion_left_out.inputs (idle 1200 test deliveries ∷ []) completion_left_out.run → ⊥
 unfolding on_small_disks
 silent_alone [] deliveries nothing s =
     let rows : ◌≡◌ {A = ℕ} 3 (suc (length s.tasks)) = ap length s.back in
     let one : ◌≡◌ {A = ℕ} (length s.tasks) 1 = ap length s.counted in
     omega arith
 silent_alone [] deliveries (just after) s =
-    silent_known (subst (λ rows. IsSoundBy completion_left_out.inputs (idle 1200 [] (with_rows row_of_silent rows ∷ []) ∷ []) completion_left_out.run) s.tested.0.followed.0 s)
+    silent_known
+    (subst (λ rows. IsSoundBy completion_left_out.inputs (idle 1200 [] (with_rows row_of_silent rows ∷ []) ∷ []) completion_left_out.run)
+    s.tested.0.followed.0 s)
 silent_alone (row ∷ rows) deliveries few s =
     let no : ◌≡◌ {A = ℕ} (suc (length rows)) 0 = ap length s.tested.0.test in
     omega arith
@@ -200,7 +216,8 @@ second_serves (first ∷ serves served ∷ decisions) = 1
 second_serves _ = 0
 
 stale_next : (test : List BackRow) (act : Act) (deliveries : List Delivery) (steps : List Step)
-    → IsSoundBy contents_of_later.inputs (idle 700 [] [] ∷ record { test = test; act = act; deliveries = deliveries } ∷ steps) contents_of_later.run → ⊥
+    → IsSoundBy contents_of_later.inputs (idle 700 [] [] ∷ record { test = test; act = act; deliveries = deliveries }
+    ∷ steps) contents_of_later.run → ⊥
 unfolding on_small_disks
 stale_next [] (serving served plan) deliveries steps s = let no : ◌≡◌ {A = ℕ} 2 0 = ap second_writer s.back in omega arith
 stale_next [] (idling dwell) deliveries steps s = let no : ◌≡◌ {A = ℕ} 0 1 = ap second_serves s.decided in omega arith
@@ -224,7 +241,8 @@ unfolding on_small_disks
 stale [] s = let no : ◌≡◌ {A = ℕ} 0 3 = ap length s.decided in omega arith
 stale (first ∷ []) s = let no : ◌≡◌ {A = ℕ} 1 3 = ap length s.decided in omega arith
 stale (first ∷ next ∷ steps) s = stale_idle first.test first.deliveries next steps
-    (subst (λ first. IsSoundBy contents_of_later.inputs (first ∷ next ∷ steps) contents_of_later.run) (is_dwelt first (first_dwell 700) (same_first _ _ _ _ s.decided)) s)
+    (subst (λ first. IsSoundBy contents_of_later.inputs (first ∷ next ∷ steps) contents_of_later.run)
+    (is_dwelt first (first_dwell 700) (same_first _ _ _ _ s.decided)) s)
 
 pub contents_of_later_refuted : IsSound contents_of_later.inputs contents_of_later.run → ⊥
 contents_of_later_refuted p = stale p.steps p.sound
@@ -277,10 +295,12 @@ left_alone [] (delivery ∷ []) some s =
     let rows : ◌≡◌ {A = ℕ} 2 (suc (suc (length (((delivery.after ++ []) ++ []) ++ s.tasks)))) = ap length s.back in
     let more = length-append ((delivery.after ++ []) ++ []) s.tasks in
     omega arith
-left_alone [] (delivery ∷ other ∷ deliveries) some s = let no : ◌≡◌ {A = ℕ} (suc (suc (length (map (λ delivery. delivery.got) deliveries)))) 1 = some in omega arith
+left_alone [] (delivery ∷ other ∷ deliveries) some s =
+    let no : ◌≡◌ {A = ℕ} (suc (suc (length (map (λ delivery. delivery.got) deliveries)))) 1 = some in omega arith
 left_alone (row ∷ rows) deliveries some s = let no : ◌≡◌ {A = ℕ} (suc (length rows)) 0 = ap length s.tested.0.test in omega arith
 
-left : (steps : List Step) → OneIdle 1200 steps → IsSoundBy delivery_left_out.inputs steps delivery_left_out.run → Throughout IsAllDelivered delivery_left_out.inputs steps → ⊥
+left : (steps : List Step) → OneIdle 1200 steps → IsSoundBy delivery_left_out.inputs steps delivery_left_out.run
+    → Throughout IsAllDelivered delivery_left_out.inputs steps → ⊥
 unfolding on_small_disks
 left steps (one_idle test deliveries) s all = left_alone test deliveries (ap length all.0) s
 

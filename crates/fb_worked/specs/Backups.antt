@@ -7,7 +7,8 @@ use Rattle.fb_rows.specs.declared.gap.Plan.TheVariants.{Direct}
 use Rattle.fb_rows.specs.declared.gap.How.TheVariants.{Idle as ByIdle}
 use Rattle.fb_model.specs.PlainReplay.{fcfs}
 use Rattle.fb_worked.specs.SmallDisk.{small_disk}
-use Rattle.fb_worked.specs.Rows.{Worked, at, writing, untouched, written, row, call, block, got, got_line, gap_line, idle_line, done_line, seal_line, task_line}
+use Rattle.fb_worked.specs.Rows.{Worked, at, writing, untouched, written, row, call, block, got, got_line, gap_line, idle_line, done_line}
+use Rattle.fb_worked.specs.Rows.{seal_line, task_line}
 
 -- a backup whose block is overwritten after its delivery, and delivered again
 abbrev pub overwritten_backup : Worked

@@ -7,7 +7,8 @@ use Rattle.fb_rows.specs.declared.gap.Plan.TheVariants.{Direct}
 use Rattle.fb_rows.specs.declared.gap.How.TheVariants.{Gap as ByGap, Idle as ByIdle}
 use Rattle.fb_model.specs.PlainReplay.{fcfs}
 use Rattle.fb_worked.specs.SmallDisk.{small_disk}
-use Rattle.fb_worked.specs.Rows.{Worked, at, reading, writing, untouched, row, call, block, got, got_line, gap_line, idle_line, done_line, segment_line, task_line}
+use Rattle.fb_worked.specs.Rows.{Worked, at, reading, writing, untouched, row, call, block, got, got_line, gap_line, idle_line, done_line}
+use Rattle.fb_worked.specs.Rows.{segment_line, task_line}
 
 -- two segments, the later one with the greater ratio of benefit to cost
 abbrev pub segments_by_benefit : Worked
@@ -74,7 +75,8 @@ segment_keeps_its_passages = record {
     passed_over = 0;
     calls =
         call 1 0 0 (Open Clean 1 1)
-        ∷ call 2 0 0 (Segment 0 13 10 (true ∷ false ∷ false ∷ false ∷ false ∷ false ∷ false ∷ false ∷ false ∷ false ∷ false ∷ false ∷ true ∷ []))
+        ∷ call 2 0 0
+        (Segment 0 13 10 (true ∷ false ∷ false ∷ false ∷ false ∷ false ∷ false ∷ false ∷ false ∷ false ∷ false ∷ false ∷ true ∷ []))
         ∷ [];
     key = fcfs;
     until = 0;
@@ -110,7 +112,8 @@ closed_with_chosen_segment = record {
     passed_over = 0;
     calls =
         call 1 0 0 (Open Clean 1 1)
-        ∷ call 2 0 0 (Segment 0 13 10 (false ∷ false ∷ false ∷ false ∷ false ∷ false ∷ false ∷ false ∷ false ∷ false ∷ false ∷ false ∷ true ∷ []))
+        ∷ call 2 0 0
+        (Segment 0 13 10 (false ∷ false ∷ false ∷ false ∷ false ∷ false ∷ false ∷ false ∷ false ∷ false ∷ false ∷ false ∷ true ∷ []))
         ∷ call 3 100 0 Close
         ∷ [];
     key = fcfs;

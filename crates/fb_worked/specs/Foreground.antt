@@ -27,13 +27,16 @@ abbrev pub text_of : Disk → List Request → List ℕ
 text_of disk trace = fore_text 16 Dump (run_of disk trace)
 
 abbrev pub FirstRead : Type 0
-FirstRead = text_of small_disk (read 0 5 1 ∷ []) ≡ codes "freeblock fore 1\n1 R 5 1 0 0 500 600 0 00000000000000000000000000000005\nend 1 0\n"
+FirstRead =
+    text_of small_disk (read 0 5 1 ∷ []) ≡ codes "freeblock fore 1\n1 R 5 1 0 0 500 600 0 00000000000000000000000000000005\nend 1 0\n"
 
 abbrev pub ReadInTime : Type 0
-ReadInTime = text_of small_disk (read 500 5 1 ∷ []) ≡ codes "freeblock fore 1\n1 R 5 1 500 500 500 600 0 00000000000000000000000000000005\nend 1 0\n"
+ReadInTime =
+    text_of small_disk (read 500 5 1 ∷ []) ≡ codes "freeblock fore 1\n1 R 5 1 500 500 500 600 0 00000000000000000000000000000005\nend 1 0\n"
 
 abbrev pub ReadTooLate : Type 0
-ReadTooLate = text_of small_disk (read 501 5 1 ∷ []) ≡ codes "freeblock fore 1\n1 R 5 1 501 501 1700 1800 0 00000000000000000000000000000005\nend 1 0\n"
+ReadTooLate = text_of small_disk (read 501 5 1 ∷ [])
+    ≡ codes "freeblock fore 1\n1 R 5 1 501 501 1700 1800 0 00000000000000000000000000000005\nend 1 0\n"
 
 abbrev pub ReadOverTracks : Type 0
 ReadOverTracks = text_of small_disk (read 0 11 2 ∷ [])
@@ -52,7 +55,8 @@ ReadOverMoved = text_of remapped_disk (read 0 2 3 ∷ [])
     ≡ codes "freeblock fore 1\n1 R 2 3 0 0 200 1700 0 000000000000000000000000000000020000000000000000000000000000000300000000000000000000000000000004\nend 1 0\n"
 
 abbrev pub ReadOfUnevenSlots : Type 0
-ReadOfUnevenSlots = text_of uneven_disk (read 0 3 1 ∷ []) ≡ codes "freeblock fore 1\n1 R 3 1 0 0 514 685 0 00000000000000000000000000000003\nend 1 0\n"
+ReadOfUnevenSlots =
+    text_of uneven_disk (read 0 3 1 ∷ []) ≡ codes "freeblock fore 1\n1 R 3 1 0 0 514 685 0 00000000000000000000000000000003\nend 1 0\n"
 
 abbrev pub ReadOfNothing : Type 0
 ReadOfNothing = text_of small_disk [] ≡ codes "freeblock fore 1\nend 0 0\n"

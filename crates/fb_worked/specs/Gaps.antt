@@ -8,7 +8,8 @@ use Rattle.fb_rows.specs.declared.gap.Plan.TheVariants.{Direct, Detour}
 use Rattle.fb_rows.specs.declared.gap.How.TheVariants.{Gap as ByGap}
 use Rattle.fb_model.specs.PlainReplay.{fcfs}
 use Rattle.fb_worked.specs.SmallDisk.{small_disk, quick_disk, turned_disk}
-use Rattle.fb_worked.specs.Rows.{Worked, at, reading, writing, untouched, row, call, block, swept_block, got, got_line, gap_line, done_line, task_line}
+use Rattle.fb_worked.specs.Rows.{Worked, at, reading, writing, untouched, row, call, block, swept_block, got, got_line, gap_line, done_line}
+use Rattle.fb_worked.specs.Rows.{task_line}
 
 -- three blocks that the two dwells of a gap catch
 abbrev pub both_dwells : Worked

@@ -20,20 +20,24 @@ passage lbn begin end = record { lbn = lbn; begin = begin; end = end }
 
 -- sectors of one track, each of which takes 100 ns to pass: the first and how many, cylinder and head, and the angle of the first
 abbrev pub cut : ℕ → ℕ → ℕ → ℕ → ℕ → Cut
-cut lbn count cylinder head angle = record { lbn = lbn; count = count; track = at cylinder head; sweep = record { begin = angle; length = count * 100 } }
+cut lbn count cylinder head angle =
+    record { lbn = lbn; count = count; track = at cylinder head; sweep = record { begin = angle; length = count * 100 } }
 
 -- the second track begins with its slot 2, or with its last
 abbrev pub SkewedTracks : Type 0
-SkewedTracks = IsAt small_disk.map 12 (place 0 1 0) × IsAt skewed_disk.map 12 (place 0 1 2) × IsAt turned_disk.map 12 (place 0 1 11) × IsAt turned_disk.map 13 (place 0 1 0)
+SkewedTracks = IsAt small_disk.map 12 (place 0 1 0) × IsAt skewed_disk.map 12 (place 0 1 2) × IsAt turned_disk.map 12 (place 0 1 11)
+    × IsAt turned_disk.map 13 (place 0 1 0)
 
 -- the sectors behind a bad slot slip by one, to the end of its track
 abbrev pub SlippedTrack : Type 0
-SlippedTrack = IsAt slipped_disk.map 2 (place 0 0 2) × IsAt slipped_disk.map 3 (place 0 0 4) × IsAt slipped_disk.map 9 (place 0 0 10) × IsAt slipped_disk.map 10 (place 0 1 0)
+SlippedTrack = IsAt slipped_disk.map 2 (place 0 0 2) × IsAt slipped_disk.map 3 (place 0 0 4) × IsAt slipped_disk.map 9 (place 0 0 10)
+    × IsAt slipped_disk.map 10 (place 0 1 0)
 
 -- the first spare of the cylinder stands in for a slot that went bad, and the others stay
 abbrev pub MovedSector : Type 0
 MovedSector = (length (places remapped_disk.map) ≡ 88)
-    × IsAt remapped_disk.map 2 (place 0 0 2) × IsAt remapped_disk.map 3 (place 0 1 10) × IsAt remapped_disk.map 4 (place 0 0 4) × IsAt remapped_disk.map 22 (place 1 0 0)
+    × IsAt remapped_disk.map 2 (place 0 0 2) × IsAt remapped_disk.map 3 (place 0 1 10) × IsAt remapped_disk.map 4 (place 0 0 4)
+    × IsAt remapped_disk.map 22 (place 1 0 0)
 
 -- a read of two sectors on two tracks, and the same where the second track is skewed
 abbrev pub PassagesOverTracks : Type 0

@@ -16,7 +16,9 @@ use Rattle.fb_rows.specs.declared.gap.Plan.{Plan}
 use Rattle.fb_rows.specs.declared.gap.How.{How}
 use Rattle.fb_rows.specs.declared.back.DeliveryRow.{DeliveryRow}
 use Rattle.fb_rows.specs.declared.back.BackRow.{BackRow}
-use Rattle.fb_rows.specs.declared.back.BackRow.TheVariants.{Gap as GapLine, Idle as IdleLine, Got as GotLine, Bad as BadLine, Seal as SealLine, Segment as SegmentLine, Complete as CompleteLine, Task as TaskLine}
+use Rattle.fb_rows.specs.declared.back.BackRow.TheVariants.{Gap as GapLine, Idle as IdleLine, Got as GotLine, Bad as BadLine}
+use Rattle.fb_rows.specs.declared.back.BackRow.TheVariants.{Seal as SealLine, Segment as SegmentLine, Complete as CompleteLine}
+use Rattle.fb_rows.specs.declared.back.BackRow.TheVariants.{Task as TaskLine}
 use Rattle.fb_rows.specs.declared.run.Run.{Run}
 use Rattle.fb_model.specs.Inputs.{Inputs}
 
@@ -49,7 +51,8 @@ unreadable first count = record { first = first; count = count; content = Unread
 
 -- start, media time, finish, unreadable sectors, contents
 abbrev pub row : Request → ℕ → ℕ → ℕ → ℕ → List ContentRun → ForeRow
-row request start media finish bad content = record { request = request; start = start; media = media; finish = finish; bad = bad; content = content }
+row request start media finish bad content =
+    record { request = request; start = start; media = media; finish = finish; bad = bad; content = content }
 
 -- line, instant, task
 abbrev pub call : ℕ → ℕ → ℕ → Action → Call
@@ -57,11 +60,13 @@ call line instant task action = record { line = line; instant = instant; task = 
 
 -- task, number, first sector, number of sectors, track, weight, and how it passes
 abbrev pub swept_block : ℕ → ℕ → ℕ → ℕ → Track → ℕ → Sweep → Block
-swept_block task number lbn count track weight sweep = record { task = task; number = number; lbn = lbn; count = count; track = track; weight = weight; sweep = sweep }
+swept_block task number lbn count track weight sweep =
+    record { task = task; number = number; lbn = lbn; count = count; track = track; weight = weight; sweep = sweep }
 
 -- the same where each track has twelve sectors, each of which takes 100 ns to pass
 abbrev pub block : ℕ → ℕ → ℕ → ℕ → Track → ℕ → Block
-block task number lbn count track weight = swept_block task number lbn count track weight (record { begin = lbn % 12 * 100; length = count * 100 })
+block task number lbn count track weight =
+    swept_block task number lbn count track weight (record { begin = lbn % 12 * 100; length = count * 100 })
 
 -- begin, end, how, unreadable sectors, contents
 abbrev pub got : Block → ℕ → ℕ → How → ℕ → List ContentRun → DeliveryRow
@@ -76,7 +81,8 @@ gap source target now deadline write = record { source = source; target = target
 
 -- and the gap's plan
 abbrev pub gap_line : Name → Track → Track → ℕ → ℕ → Bool → Plan → BackRow
-gap_line name source target now deadline write plan = GapLine (record { name = name; gap = gap source target now deadline write; plan = plan })
+gap_line name source target now deadline write plan =
+    GapLine (record { name = name; gap = gap source target now deadline write; plan = plan })
 
 abbrev pub idle_line : Track → ℕ → ℕ → BackRow
 idle_line track begin end = IdleLine (record { track = track; begin = begin; end = end })
@@ -94,7 +100,8 @@ seal_line task instant content = SealLine (record { task = task; instant = insta
 
 -- task, segment, instant, live blocks, contents
 abbrev pub segment_line : ℕ → ℕ → ℕ → ℕ → List ContentRun → BackRow
-segment_line task segment instant live content = SegmentLine (record { task = task; segment = segment; instant = instant; live = live; content = content })
+segment_line task segment instant live content =
+    SegmentLine (record { task = task; segment = segment; instant = instant; live = live; content = content })
 
 -- blocks registered, delivered and aborted, and whether the task is complete
 abbrev pub task_line : ℕ → Kind → ℕ → ℕ → ℕ → Bool → BackRow

@@ -14,10 +14,19 @@ use Rattle.fb_worked.specs.Rows.{at}
 
 -- one zone of all cylinders: slots on each track, skew from track to track, spares of a track and of a cylinder
 abbrev pub zone : ℕ → ℕ → ℕ → ℕ → Zone
-zone sectors skew spares cylinder_spares = record { first = 0; last = 3; sectors = sectors; track_skew = skew; cylinder_skew = 0; spares = spares; cylinder_spares = cylinder_spares }
+zone sectors skew spares cylinder_spares = record {
+  first = 0;
+  last = 3;
+  sectors = sectors;
+  track_skew = skew;
+  cylinder_skew = 0;
+  spares = spares;
+  cylinder_spares = cylinder_spares;
+}
 
 abbrev pub outline : Layout → Zone → List Place → List Place → Shape
-outline layout zone defects grown = record { layout = layout; rotation = 1200; heads = 2; zones = zone ∷ []; defects = defects; grown = grown }
+outline layout zone defects grown =
+    record { layout = layout; rotation = 1200; heads = 2; zones = zone ∷ []; defects = defects; grown = grown }
 
 abbrev pub arm : List SeekPoint → Mechanics
 arm points = record { points = points; cylinders = 4; head_switch = 200; write_settle = 50 }

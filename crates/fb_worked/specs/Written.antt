@@ -8,7 +8,8 @@ use Rattle.fb_rows.specs.declared.gap.Plan.TheVariants.{Direct}
 use Rattle.fb_rows.specs.declared.gap.How.TheVariants.{Idle as ByIdle}
 use Rattle.fb_model.specs.PlainReplay.{fcfs}
 use Rattle.fb_worked.specs.SmallDisk.{small_disk, one_sector_disk}
-use Rattle.fb_worked.specs.Rows.{Worked, at, writing, untouched, written, unreadable, row, call, block, swept_block, got, got_line, gap_line, idle_line, done_line, bad_line, task_line}
+use Rattle.fb_worked.specs.Rows.{Worked, at, writing, untouched, written, unreadable, row, call, block, swept_block, got, got_line}
+use Rattle.fb_worked.specs.Rows.{gap_line, idle_line, done_line, bad_line, task_line}
 
 -- a sector that is read before it is written and after it
 abbrev pub overwritten_between : Worked

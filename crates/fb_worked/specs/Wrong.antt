@@ -12,7 +12,8 @@ use Rattle.fb_rows.specs.declared.back.BackRow.{BackRow}
 use Rattle.fb_model.specs.PlainReplay.{fcfs}
 use Rattle.fb_model.specs.Inputs.{Inputs}
 use Rattle.fb_worked.specs.SmallDisk.{small_disk, quick_disk}
-use Rattle.fb_worked.specs.Rows.{Worked, at, gap, reading, writing, untouched, written, row, call, block, got, got_line, gap_line, idle_line, done_line, task_line}
+use Rattle.fb_worked.specs.Rows.{Worked, at, gap, reading, writing, untouched, written, row, call, block, got, got_line, gap_line}
+use Rattle.fb_worked.specs.Rows.{idle_line, done_line, task_line}
 
 -- calls alone, and the head idle from the beginning
 abbrev pub idle_inputs : List Call → ℕ → Inputs

@@ -1,6 +1,7 @@
 // Cleaning of segments.
 ghost use Rattle.fb_model.specs.FullRun.{IsFull};
-ghost use Rattle.fb_worked.specs.Cleaning.{segments_by_benefit, segment_without_live_blocks, segment_keeps_its_passages, closed_with_chosen_segment, suspended_session_chooses};
+ghost use Rattle.fb_worked.specs.Cleaning.{segments_by_benefit, segment_without_live_blocks, segment_keeps_its_passages};
+ghost use Rattle.fb_worked.specs.Cleaning.{closed_with_chosen_segment, suspended_session_chooses};
 
 /// Full runs that show how segments are chosen and cleaned.
 ///

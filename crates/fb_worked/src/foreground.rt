@@ -1,5 +1,6 @@
 // Foreground reports of small traces.
-ghost use Rattle.fb_worked.specs.Foreground.{FirstRead, ReadInTime, ReadTooLate, ReadOverTracks, ReadOverSkewedTracks, ReadOverSlip, ReadOverMoved, ReadOfUnevenSlots, ReadOfNothing};
+ghost use Rattle.fb_worked.specs.Foreground.{FirstRead, ReadInTime, ReadTooLate, ReadOverTracks, ReadOverSkewedTracks, ReadOverSlip};
+ghost use Rattle.fb_worked.specs.Foreground.{ReadOverMoved, ReadOfUnevenSlots, ReadOfNothing};
 
 /// What the foreground report of some small traces is.
 ///

@@ -1,6 +1,7 @@
 // Plans of gaps.
 ghost use Rattle.fb_model.specs.FullRun.{IsFull};
-ghost use Rattle.fb_worked.specs.Gaps.{both_dwells, detour, no_time_to_settle, detour_on_the_way, detour_over_nothing, weight_decides, block_over_the_turn};
+ghost use Rattle.fb_worked.specs.Gaps.{both_dwells, detour, no_time_to_settle, detour_on_the_way, detour_over_nothing, weight_decides};
+ghost use Rattle.fb_worked.specs.Gaps.{block_over_the_turn};
 
 /// Full runs that show what the best plan of a gap delivers.
 ///

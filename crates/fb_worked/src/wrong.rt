@@ -5,7 +5,9 @@ ghost use Rattle.fb_model.specs.SoundRun.{IsSound};
 ghost use Rattle.fb_model.specs.FullRun.{IsFull};
 ghost use Rattle.fb_worked.specs.Rows.{at};
 ghost use Rattle.fb_worked.specs.SmallDisk.{small_disk, quick_disk};
-ghost use Rattle.fb_worked.specs.Wrong.{delivered_too_late, delivered_twice, delivered_after_abort, completion_left_out, delivery_left_out, contents_of_later, settling_gap, detour_without_settle, served_sooner, gap_with_three, three_blocks, gap_with_one, block_on_target, block_on_the_way};
+ghost use Rattle.fb_worked.specs.Wrong.{delivered_too_late, delivered_twice, delivered_after_abort, completion_left_out, delivery_left_out};
+ghost use Rattle.fb_worked.specs.Wrong.{contents_of_later, settling_gap, detour_without_settle, served_sooner, gap_with_three};
+ghost use Rattle.fb_worked.specs.Wrong.{three_blocks, gap_with_one, block_on_target, block_on_the_way};
 
 /// Runs that are wrong in one way each, and that the definitions refuse.
 ///

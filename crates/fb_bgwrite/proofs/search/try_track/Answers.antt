@@ -18,7 +18,8 @@ returns-then-is_enough-clause-tried c = λ leave is.
       weight,
       c.min.ensures,
     ) in
-    enough_beats disk gap (wanted_of entries) c.args.start c.min.result c.args.track.cylinder spill (c.is_enough.ensures c.if-is_enough.true) few (omega arith)
+    enough_beats disk gap (wanted_of entries) c.args.start c.min.result c.args.track.cylinder spill
+    (c.is_enough.ensures c.if-is_enough.true) few (omega arith)
 
 pub returns-then-most-least_on-clause-tried : goal.returns-then-most-least_on-clause-tried
 returns-then-most-least_on-clause-tried c = λ leave is.

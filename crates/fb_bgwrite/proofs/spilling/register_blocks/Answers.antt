@@ -8,7 +8,8 @@ pub loop-left-init : goal.loop-left-init
 loop-left-init c = record { all = refl; next = sym c.requires.none; within = refl; span = c.span-span.ensures.span; few = c.requires.room }
 
 pub overflow_add-block_number : goal.overflow_add-block_number
-overflow_add-block_number c = omega (arith, c.loop-left.invariant.next, c.loop-left.invariant.few, registered_few c.args.number c.loop-left.pending)
+overflow_add-block_number c =
+    omega (arith, c.loop-left.invariant.next, c.loop-left.invariant.few, registered_few c.args.number c.loop-left.pending)
 
 pub loop-left-preserved : goal.loop-left-preserved
 loop-left-preserved c =
@@ -40,4 +41,5 @@ loop-left-preserved c =
     }
 
 pub returns : goal.returns
-returns c = none_left c.args.sectors.now c.args.number c.loop-left.block_number c.loop-left.lbn c.loop-left.left c.loop-left.pending (omega (arith, c.loop-left-test.false)) ∙ c.loop-left.invariant.all
+returns c = none_left c.args.sectors.now c.args.number c.loop-left.block_number c.loop-left.lbn c.loop-left.left c.loop-left.pending
+    (omega (arith, c.loop-left-test.false)) ∙ c.loop-left.invariant.all

@@ -7,7 +7,8 @@ use Rattle.fb_bgwrite.proofs.spills.spill.Goals as goal
 pub loop-i-init : goal.loop-i-init
 loop-i-init c =
     let new = c.new-spilling.ensures in
-    going_first c.args.disk.now c.args.puts.now.puts.items c.args.run.now c.new-spilling.result (subst IsSound c.geometry.ensures c.sound.ensures)
+    going_first c.args.disk.now c.args.puts.now.puts.items c.args.run.now c.new-spilling.result
+    (subst IsSound c.geometry.ensures c.sound.ensures)
     c.requires.possible c.requires.early c.requires.gaps new.spilling new.disk (new.puts ∙ c.deref.ensures.value) new.instant new.items
 
 pub spill_in-requires-clause-puts : goal.spill_in-requires-clause-puts
@@ -38,7 +39,8 @@ overflow_sub-left c =
 
 pub returns-clause-spills : goal.returns-clause-spills
 returns-clause-spills c =
-    all_gone c.args.disk.now c.args.puts.now.puts.items c.args.run.now c.loop-i.i c.loop-i.spilling (subst IsSound c.geometry.ensures c.sound.ensures)
+    all_gone c.args.disk.now c.args.puts.now.puts.items c.args.run.now c.loop-i.i c.loop-i.spilling
+    (subst IsSound c.geometry.ensures c.sound.ensures)
     c.requires.possible c.requires.gaps (omega (arith, c.loop-i-test.false, c.len-i-end.ensures.value)) c.loop-i.invariant
 
 pub returns-clause-in_time : goal.returns-clause-in_time

@@ -12,8 +12,10 @@ loop-i-preserved c =
       room = room_after live c.loop-i.i lbn c.args.block (10 ^ 12) c.get.result.now c.get.ensures c.loop-i.invariant.room;
       so_far = blocks_more live c.loop-i.i lbn c.args.block c.get.result.now lbns c.if-get.lbns.items _ c.get.ensures
           (elim c.if-get.branch [
-            | then-get+in_ok-push w ↦ ap (λ v. v.items) w.lbns-is ∙ (w.in_ok-push.ensures.items ∙ ap (λ b. lbns ++ cond b (lbn ∷ []) []) (sym w.if-get.true))
-            | else-get w ↦ ap (λ v. v.items) w.lbns-is ∙ (sym (append-nil lbns) ∙ ap (λ b. lbns ++ cond b (lbn ∷ []) []) (sym w.if-get.false))
+            | then-get+in_ok-push w ↦ ap (λ v. v.items) w.lbns-is
+                ∙ (w.in_ok-push.ensures.items ∙ ap (λ b. lbns ++ cond b (lbn ∷ []) []) (sym w.if-get.true))
+            | else-get w ↦ ap (λ v. v.items) w.lbns-is
+                ∙ (sym (append-nil lbns) ∙ ap (λ b. lbns ++ cond b (lbn ∷ []) []) (sym w.if-get.false))
           ])
           c.loop-i.invariant.so_far;
     }

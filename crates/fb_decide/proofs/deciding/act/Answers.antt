@@ -9,7 +9,8 @@ use Rattle.fb_decide.proofs.deciding.act.Goals as goal
 pub serve_next-requires-clause-on_disk : goal.serve_next-requires-clause-on_disk
 serve_next-requires-clause-on_disk g c =
     let disk = c.args.inputs.disk.now.map in
-    all_left (IsRequestOf disk) (g.Q.Queue.pending c.args.queue.now) (drop c.args.course.now.joined c.args.requests.now) c.requires.waiting.on_disk
+    all_left (IsRequestOf disk) (g.Q.Queue.pending c.args.queue.now)
+    (drop c.args.course.now.joined c.args.requests.now) c.requires.waiting.on_disk
 
 pub returns-then-not-is_empty-clause-acted : goal.returns-then-not-is_empty-clause-acted
 returns-then-not-is_empty-clause-acted g c =

@@ -14,7 +14,12 @@ push_arrived-requires-clause-come c = placed_come _ _ _ _ _ _ _ _ c.loop-read-te
 pub loop-read-preserved : goal.loop-read-preserved
 loop-read-preserved c =
     let next = c.in_ok-next.ensures in
-    (_, placed_next _ _ _ _ _ _ _ _ _ _ _ c.loop-read-test.true c.loop-read.invariant.1 next.same next.within next.come next.ahead c.in_ok-push.ensures.items)
+    (
+      _,
+      placed_next _ _ _ _ _ _ _ _ _ _ _ c.loop-read-test.true c.loop-read.invariant.1 next.same next.within next.come next.ahead
+          c.in_ok-push.ensures.items,
+    )
 
 pub returns : goal.returns
-returns c = c.in_ok-extend_from_slice.ensures.items ∙ placed_slice c.loop-read.requests.items c.args.trace.now c.loop-read.next ∙ placed_whole _ _ _ _ _ _ _ c.loop-read-test.false c.loop-read.invariant.1
+returns c = c.in_ok-extend_from_slice.ensures.items ∙ placed_slice c.loop-read.requests.items c.args.trace.now c.loop-read.next
+    ∙ placed_whole _ _ _ _ _ _ _ c.loop-read-test.false c.loop-read.invariant.1

@@ -22,7 +22,8 @@ loop-place-preserved c =
       }
       | else-eq w ↦ record {
         value = ap (option_and_then (bytes_at entries)) w.found-is
-            ∙ last_before entries name c.loop-place.place entry c.loop-place.found c.loop-place-test.true c.index-entries-place.is (sym same ∙ w.if-eq.false) c.loop-place.invariant.value;
+            ∙ last_before entries name c.loop-place.place entry c.loop-place.found c.loop-place-test.true c.index-entries-place.is
+            (sym same ∙ w.if-eq.false) c.loop-place.invariant.value;
         within = rw w.found-is c.loop-place.invariant.within;
       }
     ]

@@ -9,7 +9,8 @@ pub loop-goes_on-preserved : goal.loop-goes_on-preserved
 loop-goes_on-preserved g c =
     let gone = gone_on c.loop-goes_on-test.true c.loop-goes_on.invariant.gone in
     record {
-      gone = one_on c.decisions_make_a_run.ensures gone c.in_ok-goes_on.ensures.requests (c.in_ok-goes_on.ensures.decided gone.steps gone.made);
+      gone = one_on c.decisions_make_a_run.ensures gone c.in_ok-goes_on.ensures.requests
+          (c.in_ok-goes_on.ensures.decided gone.steps gone.made);
       serves = c.in_ok-goes_on.ensures.serves;
     }
 

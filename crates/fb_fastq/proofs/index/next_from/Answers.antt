@@ -14,5 +14,6 @@ returns-in-Some-clause-least c = λ k has from.
 pub returns-in-None-clause-none : goal.returns-in-None-clause-none
 returns-in-None-clause-none c = λ k has. elim (cases_lt k.0 c.args.spot) [
   | inl below ↦ below
-  | inr from ↦ absurd (true≢false (sym (subst IsSome ((c.range.ensures.in_range tt).5 c.in-None.ensures.steps.0 k (at_spot c.args.spot k.0 k.1 from, tt)) has)))
+  | inr from ↦ absurd (true≢false
+      (sym (subst IsSome ((c.range.ensures.in_range tt).5 c.in-None.ensures.steps.0 k (at_spot c.args.spot k.0 k.1 from, tt)) has)))
 ]

@@ -4,7 +4,8 @@ use Rattle.fb_fastq.proofs.rows.leave_if_empty.Goals.{After-remove}
 use Rattle.fb_fastq.proofs.rows.leave_if_empty.Goals as goal
 
 -- the row is as empty as a new one
-none_left : (c : After-remove) → slice_get c.args.rows.now.items c.args.number ≡ Some c.index_mut.result.now × (c.new.result.items ≡ c.index_mut.result.now.items)
+none_left : (c : After-remove)
+    → slice_get c.args.rows.now.items c.args.number ≡ Some c.index_mut.result.now × (c.new.result.items ≡ c.index_mut.result.now.items)
 none_left c =
     let rows = c.args.rows.now.items in
     let there = slice_get_read rows (length rows) c.args.number c.index_mut.result.now refl c.requires.there c.index_mut.ensures.value in
@@ -27,4 +28,5 @@ returns-then-is_empty-clause-rows c =
     same_rows c.args.rows.now.items c.args.number c.index_mut.result.now c.new.result none.0 none.1
 
 pub returns-then-is_empty-clause-occupied : goal.returns-then-is_empty-clause-occupied
-returns-then-is_empty-clause-occupied c = λ are. occupied_less c.args.occupied.now c.remove.new.self c.args.rows.now.items c.args.number c.new.result c.new.ensures.items c.remove.ensures.updates.2 are
+returns-then-is_empty-clause-occupied c = λ are. occupied_less c.args.occupied.now c.remove.new.self c.args.rows.now.items c.args.number
+    c.new.result c.new.ensures.items c.remove.ensures.updates.2 are

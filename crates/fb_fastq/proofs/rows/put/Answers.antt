@@ -4,7 +4,8 @@ use Rattle.fb_fastq.proofs.rows.put.Goals as goal
 
 pub returns-clause-more : goal.returns-clause-more
 returns-clause-more c =
-    subst (λ ws. OnOk c.add_to.result (IsMore c.args.waiting ws (all_of_rows c.add_to.new.rows.items))) c.in_ok-reach.ensures.same c.add_to.ensures.more
+    subst (λ ws. OnOk c.add_to.result (IsMore c.args.waiting ws (all_of_rows c.add_to.new.rows.items))) c.in_ok-reach.ensures.same
+    c.add_to.ensures.more
 
 pub returns-clause-err : goal.returns-clause-err
 returns-clause-err c =

@@ -8,5 +8,6 @@ loop-alloc-preserved c =
     let is = c.in_ok-push.ensures.items in record {
       same = ap all_of_rows is ∙ (no_more rows c.new.result c.new.ensures.items ∙ c.loop-alloc.invariant.same);
       rows = λ old. subst (AreRows 0) (sym is) (no_more_rows 0 rows c.new.result c.new.ensures.items (c.loop-alloc.invariant.rows old));
-      occupied = λ occupied old. subst (AreOccupied occupied) (sym is) (occupied_end occupied rows c.new.result c.new.ensures.items (c.loop-alloc.invariant.occupied occupied old));
+      occupied = λ occupied old. subst (AreOccupied occupied) (sym is)
+          (occupied_end occupied rows c.new.result c.new.ensures.items (c.loop-alloc.invariant.occupied occupied old));
     }

@@ -20,31 +20,39 @@ pub least_wait-requires-clause-along : goal.least_wait-requires-clause-along
 least_wait-requires-clause-along c =
     let rows = c.args.rows.now in
     let ws = c.as_slice-row.result.now in
-    let there = slice_get_read rows (length rows) c.args.arrival.now.cylinder c.index-rows-number.result refl (omega (arith, c.if-rows-number.false)) c.index-rows-number.is in
-    held_in_row (λ w. IsAlong c.args.disk.now w.1 w.0.0) rows c.args.arrival.now.cylinder c.index-rows-number.result ws c.loop-index.index _ c.requires.spots there c.as_slice-row.ensures.value (slice_get-get_or ws c.loop-index.index _ c.loop-index-test.true)
+    let there = slice_get_read rows (length rows) c.args.arrival.now.cylinder c.index-rows-number.result refl
+    (omega (arith, c.if-rows-number.false)) c.index-rows-number.is in
+    held_in_row (λ w. IsAlong c.args.disk.now w.1 w.0.0) rows c.args.arrival.now.cylinder c.index-rows-number.result ws c.loop-index.index _
+    c.requires.spots there c.as_slice-row.ensures.value (slice_get-get_or ws c.loop-index.index _ c.loop-index-test.true)
 
 pub least_wait-requires-clause-on : goal.least_wait-requires-clause-on
 least_wait-requires-clause-on c =
     let rows = c.args.rows.now in
     let ws = c.as_slice-row.result.now in
-    let there = slice_get_read rows (length rows) c.args.arrival.now.cylinder c.index-rows-number.result refl (omega (arith, c.if-rows-number.false)) c.index-rows-number.is in
+    let there = slice_get_read rows (length rows) c.args.arrival.now.cylinder c.index-rows-number.result refl
+    (omega (arith, c.if-rows-number.false)) c.index-rows-number.is in
     let w = get_or ws c.loop-index.index blank in
-    (held_on rows c.args.arrival.now.cylinder c.index-rows-number.result ws c.loop-index.index w c.requires.rows there c.as_slice-row.ensures.value (slice_get-get_or ws c.loop-index.index blank c.loop-index-test.true))
+    (held_on rows c.args.arrival.now.cylinder c.index-rows-number.result ws c.loop-index.index w c.requires.rows there
+    c.as_slice-row.ensures.value (slice_get-get_or ws c.loop-index.index blank c.loop-index-test.true))
 
 pub wait-wait-requires-clause-along : goal.wait-wait-requires-clause-along
 wait-wait-requires-clause-along c =
     let rows = c.args.rows.now in
     let ws = c.as_slice-row.result.now in
-    let there = slice_get_read rows (length rows) c.args.arrival.now.cylinder c.index-rows-number.result refl (omega (arith, c.if-rows-number.false)) c.index-rows-number.is in
-    held_in_row (λ w. IsAlong c.args.disk.now w.1 w.0.0) rows c.args.arrival.now.cylinder c.index-rows-number.result ws c.loop-index.index _ c.requires.spots there c.as_slice-row.ensures.value (slice_get-get_or ws c.loop-index.index _ c.loop-index-test.true)
+    let there = slice_get_read rows (length rows) c.args.arrival.now.cylinder c.index-rows-number.result refl
+    (omega (arith, c.if-rows-number.false)) c.index-rows-number.is in
+    held_in_row (λ w. IsAlong c.args.disk.now w.1 w.0.0) rows c.args.arrival.now.cylinder c.index-rows-number.result ws c.loop-index.index _
+    c.requires.spots there c.as_slice-row.ensures.value (slice_get-get_or ws c.loop-index.index _ c.loop-index-test.true)
 
 pub wait-wait-requires-clause-on : goal.wait-wait-requires-clause-on
 wait-wait-requires-clause-on c =
     let rows = c.args.rows.now in
     let ws = c.as_slice-row.result.now in
-    let there = slice_get_read rows (length rows) c.args.arrival.now.cylinder c.index-rows-number.result refl (omega (arith, c.if-rows-number.false)) c.index-rows-number.is in
+    let there = slice_get_read rows (length rows) c.args.arrival.now.cylinder c.index-rows-number.result refl
+    (omega (arith, c.if-rows-number.false)) c.index-rows-number.is in
     let w = get_or ws c.loop-index.index blank in
-    (held_on rows c.args.arrival.now.cylinder c.index-rows-number.result ws c.loop-index.index w c.requires.rows there c.as_slice-row.ensures.value (slice_get-get_or ws c.loop-index.index blank c.loop-index-test.true))
+    (held_on rows c.args.arrival.now.cylinder c.index-rows-number.result ws c.loop-index.index w c.requires.rows there
+    c.as_slice-row.ensures.value (slice_get-get_or ws c.loop-index.index blank c.loop-index-test.true))
 
 pub loop-index-preserved-then-pick-least_wait : goal.loop-index-preserved-then-pick-least_wait
 loop-index-preserved-then-pick-least_wait c =
@@ -85,17 +93,22 @@ loop-index-preserved c =
     let w = get_or ws index blank in
     let next : Candidate = record { key = w.0; wait = c.wait-wait.result } in
     let place : Place = record { row = c.args.arrival.now.cylinder; index = index } in
-    let there = slice_get_read rows (length rows) c.args.arrival.now.cylinder row refl (omega (arith, c.if-rows-number.false)) c.index-rows-number.is in
+    let there =
+    slice_get_read rows (length rows) c.args.arrival.now.cylinder row refl (omega (arith, c.if-rows-number.false)) c.index-rows-number.is in
     let at = slice_get-get_or ws index blank c.loop-index-test.true in
-    let stands = in_row disk head now rows place row w there (subst (λ xs. slice_get xs index ≡ Some w) c.as_slice-row.ensures.value at) in record {
-      pick = λ limit was. picks_one disk head now rows limit old new next place w (c.loop-index.invariant.pick limit was) stands refl c.wait-wait.ensures.value is.one is.first;
-      before = no_later_trans new.best.wait new.best.key.1 old.best.wait old.best.key.1 c.args.pick.best.wait c.args.pick.best.key.1 is.first c.loop-index.invariant.before;
+    let stands = in_row disk head now rows place row w there (subst (λ xs. slice_get xs index ≡ Some w) c.as_slice-row.ensures.value at) in
+    record {
+      pick = λ limit was. picks_one disk head now rows limit old new next place w
+          (c.loop-index.invariant.pick limit was) stands refl c.wait-wait.ensures.value is.one is.first;
+      before = no_later_trans new.best.wait new.best.key.1 old.best.wait old.best.key.1 c.args.pick.best.wait c.args.pick.best.key.1
+          is.first c.loop-index.invariant.before;
       seen = λ k x lt e. elim (cases_lt k index) [
         | inl less ↦ still_ruled_out disk head now new.best old.best x is.first (c.loop-index.invariant.seen k x less e)
         | inr ge ↦
             let same : k ≡ index = omega (arith, lt, ge) in
             let one : w ≡ x = some_injective w x (sym at ∙ (ap (slice_get ws) (sym same) ∙ e)) in
-            subst (RulesOut disk head now new.best) one (rules_out_own disk head now new.best next w is.second refl c.wait-wait.ensures.value c.wait-wait.ensures.soon)
+            subst (RulesOut disk head now new.best) one
+            (rules_out_own disk head now new.best next w is.second refl c.wait-wait.ensures.value c.wait-wait.ensures.soon)
       ];
     }
 
@@ -107,8 +120,10 @@ returns-clause-least c = λ row e.
     let rows = c.args.rows.now in
     let ws = c.as_slice-row.result.now in
     let best = c.loop-index.pick.best in
-    let there = slice_get_read rows (length rows) c.args.arrival.now.cylinder c.index-rows-number.result refl (omega (arith, c.if-rows-number.false)) c.index-rows-number.is in
+    let there = slice_get_read rows (length rows) c.args.arrival.now.cylinder c.index-rows-number.result refl
+    (omega (arith, c.if-rows-number.false)) c.index-rows-number.is in
     let one = same_row_of rows c.args.arrival.now.cylinder c.index-rows-number.result row there e in
     subst (λ (r : Row). RulesOutAll disk head now best r.items) one
     (subst (RulesOutAll disk head now best) c.as_slice-row.ensures.value
-    (all_at (RulesOut disk head now best) ws (λ k w at. c.loop-index.invariant.seen k w (let within = slice_get_within ws k w at in omega (arith, within, c.loop-index-test.false)) at)))
+    (all_at (RulesOut disk head now best) ws (λ k w at.
+    c.loop-index.invariant.seen k w (let within = slice_get_within ws k w at in omega (arith, within, c.loop-index-test.false)) at)))

@@ -18,7 +18,8 @@ returns-clause-rows c =
     less_rows c.args.rows.now.items c.args.place.row c.index_mut.result.now c.remove.new.self taken.there taken.w taken.less
 
 pub returns-clause-there : goal.returns-clause-there
-returns-clause-there c = subst (λ n. c.args.place.row < n) (sym (length-set c.args.rows.now.items c.args.place.row c.remove.new.self)) (place_within c.args.rows.now.items c.args.place c.requires.there)
+returns-clause-there c = subst (λ n. c.args.place.row < n) (sym (length-set c.args.rows.now.items c.args.place.row c.remove.new.self))
+    (place_within c.args.rows.now.items c.args.place c.requires.there)
 
 pub returns-clause-occupied : goal.returns-clause-occupied
 returns-clause-occupied c = λ occupied are.

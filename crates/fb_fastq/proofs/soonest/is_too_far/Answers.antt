@@ -9,6 +9,7 @@ returns c = λ far now r farther.
     let visit = c.args.visit.now in
     let longer : c.args.wait < visit.seek = grind (arith, nat_tests) in
     let value : visit.seek ≡ seek arm (distance_of head visit.lane.track.cylinder) = c.requires.visit.seek_is in
-    let rise = c.seeks_rise.ensures (distance_of head visit.lane.track.cylinder) (distance_of head (track_at c.args.disk.now.map r.lbn).cylinder) farther in
+    let rise = c.seeks_rise.ensures (distance_of head visit.lane.track.cylinder) (distance_of head
+    (track_at c.args.disk.now.map r.lbn).cylinder) farther in
     let waits = waits_for_arm c.args.disk.now c.args.from.track now r in
     omega (arith, longer, value, rise, waits)

@@ -8,7 +8,8 @@ returns-clause-found c = λ some.
     let waiting = c.args.waiting.now in
     let from = c.departure_from-from.result in
     subst (λ (track : Track). IsCandidate disk track c.args.now waiting c.soonest_on.result) c.departure_from-from.ensures.track
-    (subst (λ (now : ℕ). IsCandidate disk from.track now waiting c.soonest_on.result) c.departure_from-from.ensures.instant c.soonest_on.ensures.found)
+    (subst (λ (now : ℕ). IsCandidate disk from.track now waiting c.soonest_on.result) c.departure_from-from.ensures.instant
+    c.soonest_on.ensures.found)
 
 pub returns-clause-first : goal.returns-clause-first
 returns-clause-first c = λ some.
@@ -22,4 +23,5 @@ returns-clause-first c = λ some.
     c.soonest_on.ensures.found c.soonest_on.ensures.first c.soonest_on-first.ensures.least c.soonest_on.ensures.least))
 
 pub visit_to-visit-requires-clause-spot : goal.visit_to-visit-requires-clause-spot
-visit_to-visit-requires-clause-spot c = (c.requires.spots c.next_or_first.result.0 c.next_or_first.result.1 c.next_or_first.ensures.found).on_disk
+visit_to-visit-requires-clause-spot c =
+    (c.requires.spots c.next_or_first.result.0 c.next_or_first.result.1 c.next_or_first.ensures.found).on_disk

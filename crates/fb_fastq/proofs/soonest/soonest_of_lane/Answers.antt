@@ -14,5 +14,7 @@ returns-in-Some-clause-least c = λ from is k s e at below.
     let along = c.requires.spots key request c.in-Some.ensures.found in
     let wait = c.wait-wait.ensures.value from request is along in
     still_no_later disk from.track from.instant waiting c.requires.spots c.sooner.result next k s c.sooner.ensures.second
-    (no_later_than_lane disk from.track from.instant waiting c.requires.spots visit.lane is.lane c.rotation-rotation.result whole visit.angle (key, request) next
-    is.angle_is c.in-Some.ensures.found c.in-Some.ensures.inside.0 c.in-Some.ensures.inside.1 c.in-Some.ensures.first refl wait k s e at below)
+    (no_later_than_lane disk from.track from.instant waiting c.requires.spots visit.lane is.lane c.rotation-rotation.result whole
+    visit.angle (key, request) next
+    is.angle_is c.in-Some.ensures.found c.in-Some.ensures.inside.0 c.in-Some.ensures.inside.1 c.in-Some.ensures.first refl wait k s e at
+    below)

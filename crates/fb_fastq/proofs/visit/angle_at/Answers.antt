@@ -19,7 +19,8 @@ returns-then-turned-rotation-2-clause-value c =
     let once : rotation ≤ turned = omega (arith, c.if-turned-rotation.false, whole) in
     let short : turned - rotation < rotation = omega (arith, c.if-turned-rotation-2.true, whole) in
     let sum : rotation + (turned - rotation) ≡ turned = omega (arith, once) in
-    ap (λ r. turned - r) whole ∙ (sym (mod-eq_of_lt short) ∙ (sym (add-mod_left rotation (turned - rotation)) ∙ (ap (λ t. t % rotation) sum ∙ turns_on rotation from.instant from.angle c.args.time c.requires.from.angle)))
+    ap (λ r. turned - r) whole ∙ (sym (mod-eq_of_lt short) ∙ (sym (add-mod_left rotation (turned - rotation))
+    ∙ (ap (λ t. t % rotation) sum ∙ turns_on rotation from.instant from.angle c.args.time c.requires.from.angle)))
 
 pub returns-else-turned-rotation-2-clause-value : goal.returns-else-turned-rotation-2-clause-value
 returns-else-turned-rotation-2-clause-value c =

@@ -20,7 +20,8 @@ sectors-requires c =
     let lbns = range_with_len 0 c.args.count in
     let held = held_after (events c.args.run.now) in
     let are = c.in_ok-covered.ensures c.args.count (c.in_ok-contents.ensures.within c.args.count c.requires.ranges) in
-    let sum = held_sum (λ lbn. after_taking (sectors_of c.in_ok-contents.contents) lbn None) held c.in_ok-covered.covered lbns are c.in_ok-contents.ensures.held in
+    let sum = held_sum (λ lbn. after_taking (sectors_of c.in_ok-contents.contents) lbn None) held c.in_ok-covered.covered lbns are
+    c.in_ok-contents.ensures.held in
     let few = kept_few (λ lbn. is_some (held lbn)) 0 c.args.count in
     omega (arith, sum, few, c.requires.disk)
 
@@ -28,7 +29,8 @@ pub returns-clause-covered : goal.returns-clause-covered
 returns-clause-covered c =
     let are = c.in_ok-covered.ensures c.args.count (c.in_ok-contents.ensures.within c.args.count c.requires.ranges) in
     c.sectors.ensures
-    ∙ held_sum (λ lbn. after_taking (sectors_of c.in_ok-contents.contents) lbn None) (held_after (events c.args.run.now)) c.in_ok-covered.covered (range_with_len 0 c.args.count) are c.in_ok-contents.ensures.held
+    ∙ held_sum (λ lbn. after_taking (sectors_of c.in_ok-contents.contents) lbn None)
+    (held_after (events c.args.run.now)) c.in_ok-covered.covered (range_with_len 0 c.args.count) are c.in_ok-contents.ensures.held
 
 pub returns-clause-most : goal.returns-clause-most
 returns-clause-most c =
@@ -38,4 +40,5 @@ returns-clause-most c =
 
 pub returns-clause-few : goal.returns-clause-few
 returns-clause-few c =
-    whole_few (λ lbn. (lbn, unwrap_or (after_taking (sectors_of c.in_ok-contents.contents) lbn None) Unreadable)) c.in_ok-content.content c.args.count c.in_ok-content.ensures
+    whole_few (λ lbn. (lbn, unwrap_or (after_taking (sectors_of c.in_ok-contents.contents) lbn None) Unreadable)) c.in_ok-content.content
+    c.args.count c.in_ok-content.ensures

@@ -7,5 +7,6 @@ pub loop-value-preserved : goal.loop-value-preserved
 loop-value-preserved c = record {
   inside = grind (arith, common_steps);
   kept = grind (arith, common_steps);
-  below = rw c.in_ok-insert.ensures.keys (all-insert_key (λ lbn. lbn < c.args.count) c.loop-value.latent.keys c.number-lbn.result c.if-lbn-count.false c.loop-value.invariant.below);
+  below = rw c.in_ok-insert.ensures.keys (all-insert_key (λ lbn. lbn < c.args.count) c.loop-value.latent.keys c.number-lbn.result
+      c.if-lbn-count.false c.loop-value.invariant.below);
 }

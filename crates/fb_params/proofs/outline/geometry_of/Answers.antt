@@ -13,5 +13,6 @@ places-requires c = rw c.elements_at-2.ensures (defects-within c.args.layout (ta
 
 pub new-requires : goal.new-requires
 new-requires c = record {
-  fits = fits_layout c.args.layout _ (filter_map as_table (map view c.elements_at.result.now)) (table_view c.args.table.now) c.in_ok-zones.ensures c.in_ok-grown.ensures;
+  fits = fits_layout c.args.layout _ (filter_map as_table (map view c.elements_at.result.now))
+      (table_view c.args.table.now) c.in_ok-zones.ensures c.in_ok-grown.ensures;
 }

@@ -21,4 +21,5 @@ pub small_number_at-requires : goal.small_number_at-requires
 small_number_at-requires c = omega (arith, spares-within c.args.layout (table_view c.args.table.now) c.requires c.in-PerTrack.is)
 
 pub small_number_at-requires-in-PerCylinder : goal.small_number_at-requires-in-PerCylinder
-small_number_at-requires-in-PerCylinder c = omega (arith, cylinder_spares-within c.args.layout (table_view c.args.table.now) c.requires c.in-PerCylinder.is)
+small_number_at-requires-in-PerCylinder c =
+    omega (arith, cylinder_spares-within c.args.layout (table_view c.args.table.now) c.requires c.in-PerCylinder.is)

@@ -7,7 +7,8 @@ mechanism_of-requires c = seek-within c.args.layout (table_view c.args.table.now
 
 pub small_number_at-sector_bytes-requires : goal.small_number_at-sector_bytes-requires
 small_number_at-sector_bytes-requires c =
-    let number = sector_bytes-number c.args.layout (table_view c.args.table.now) c.requires.present c.requires.kind c.requires.range in omega (arith, number.few)
+    let number = sector_bytes-number c.args.layout (table_view c.args.table.now) c.requires.present c.requires.kind c.requires.range in
+    omega (arith, number.few)
 
 pub invariant_of-result-clause-whole_sectors : goal.invariant_of-result-clause-whole_sectors
 invariant_of-result-clause-whole_sectors c =
@@ -16,14 +17,17 @@ invariant_of-result-clause-whole_sectors c =
 
 pub invariant_of-result-clause-some_bytes : goal.invariant_of-result-clause-some_bytes
 invariant_of-result-clause-some_bytes c =
-    let number = sector_bytes-number c.args.layout (table_view c.args.table.now) c.requires.present c.requires.kind c.requires.range in omega (arith, number.some, c.small_number_at-sector_bytes.ensures)
+    let number = sector_bytes-number c.args.layout (table_view c.args.table.now) c.requires.present c.requires.kind c.requires.range in
+    omega (arith, number.some, c.small_number_at-sector_bytes.ensures)
 
 pub invariant_of-result-clause-few_bytes : goal.invariant_of-result-clause-few_bytes
 invariant_of-result-clause-few_bytes c =
-    let number = sector_bytes-number c.args.layout (table_view c.args.table.now) c.requires.present c.requires.kind c.requires.range in omega (arith, number.few, c.small_number_at-sector_bytes.ensures)
+    let number = sector_bytes-number c.args.layout (table_view c.args.table.now) c.requires.present c.requires.kind c.requires.range in
+    omega (arith, number.few, c.small_number_at-sector_bytes.ensures)
 
 pub invariant_of-result-clause-same_cylinders : goal.invariant_of-result-clause-same_cylinders
-invariant_of-result-clause-same_cylinders c = c.in_ok-mechanism.ensures.cylinders ∙ c.cylinders.ensures.value ∙ ap (λ map. cylinders_of map.zones) c.geometry-geometry.ensures
+invariant_of-result-clause-same_cylinders c =
+    c.in_ok-mechanism.ensures.cylinders ∙ c.cylinders.ensures.value ∙ ap (λ map. cylinders_of map.zones) c.geometry-geometry.ensures
 
 pub invariant_of-result-clause-some_cylinders : goal.invariant_of-result-clause-some_cylinders
 invariant_of-result-clause-some_cylinders c =
@@ -33,10 +37,12 @@ pub invariant_of-result-clause-some_heads : goal.invariant_of-result-clause-some
 invariant_of-result-clause-some_heads c = omega (arith, c.sound.ensures.some_heads, ap (λ map. map.heads) c.geometry-geometry.ensures)
 
 pub invariant_of-result-clause-some_rotation : goal.invariant_of-result-clause-some_rotation
-invariant_of-result-clause-some_rotation c = omega (arith, c.sound.ensures.some_rotation, ap (λ map. map.rotation) c.geometry-geometry.ensures)
+invariant_of-result-clause-some_rotation c =
+    omega (arith, c.sound.ensures.some_rotation, ap (λ map. map.rotation) c.geometry-geometry.ensures)
 
 pub invariant_of-result-clause-short_rotation : goal.invariant_of-result-clause-short_rotation
-invariant_of-result-clause-short_rotation c = omega (arith, c.sound.ensures.short_rotation, ap (λ map. map.rotation) c.geometry-geometry.ensures)
+invariant_of-result-clause-short_rotation c =
+    omega (arith, c.sound.ensures.short_rotation, ap (λ map. map.rotation) c.geometry-geometry.ensures)
 
 pub invariant_of-result-clause-few_blocks : goal.invariant_of-result-clause-few_blocks
 invariant_of-result-clause-few_blocks c = omega (arith, c.count.ensures.bound, c.count.ensures.value)

@@ -4,4 +4,5 @@ use Rattle.fb_params.proofs.rule.are_rows.Goals as goal
 pub returns : goal.returns
 returns c =
     rw list_all-map
-    (all_from_yields_List (λ value. is_row c.args.width (view value)) _ _ _ c.all.ensures.ran (YieldsList-from_slice c.args.values.now cc) (λ x b q k. search (rules, tests)))
+    (all_from_yields_List (λ value. is_row c.args.width (view value)) _ _ _ c.all.ensures.ran (YieldsList-from_slice c.args.values.now cc)
+    (λ x b q k. search (rules, tests)))

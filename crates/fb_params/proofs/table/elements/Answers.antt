@@ -5,4 +5,5 @@ use Rattle.fb_params.proofs.table.elements.Goals as goal
 pub returns-in-Some : goal.returns-in-Some
 returns-in-Some c =
     let items = c.in-Some.items.now in
-    ap (map view) c.as_slice.ensures.value ∙ (sym (listed-items_of (map view items.items)) ∙ elements-array (view c.args.value.now) (array_view items) c.in-Some.ensures)
+    ap (map view) c.as_slice.ensures.value
+    ∙ (sym (listed-items_of (map view items.items)) ∙ elements-array (view c.args.value.now) (array_view items) c.in-Some.ensures)

@@ -17,7 +17,8 @@ pub loop-i-preserved : goal.loop-i-preserved
 loop-i-preserved g c =
     let l = c.loop-i in
     let key = g.P.Policy.key c.args.disk.now c.args.head c.args.now in
-    goes_on key c.args.waiting.now l.i l.best l.least c.if-next-least.best c.if-next-least.least c.key_of-next.result l.invariant c.loop-i-test.true
+    goes_on key c.args.waiting.now l.i l.best l.least c.if-next-least.best c.if-next-least.least c.key_of-next.result l.invariant
+    c.loop-i-test.true
     (λ r e. c.key_of-next.ensures ∙ ap key (get_or_from_slice_get c.args.waiting.now l.i r _ e))
     (elim c.if-next-least.branch [
       | then-next-least w ↦ inl (w.if-next-least.true, w.best-is, w.least-is)
@@ -25,4 +26,5 @@ loop-i-preserved g c =
     ])
 
 pub returns : goal.returns
-returns g c = subst (λ n. IsFirstLeastAt (g.P.Policy.key c.args.disk.now c.args.head c.args.now) c.args.waiting.now n c.loop-i.best) (omega arith) c.loop-i.invariant.best
+returns g c = subst (λ n. IsFirstLeastAt (g.P.Policy.key c.args.disk.now c.args.head c.args.now) c.args.waiting.now n c.loop-i.best)
+    (omega arith) c.loop-i.invariant.best

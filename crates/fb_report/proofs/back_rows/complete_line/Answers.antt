@@ -7,7 +7,9 @@ pub returns-clause-form : goal.returns-clause-form
 returns-clause-form c =
     let row = c.args.row.now in
     let fields = task_text c.args.names.now row.task ∷ decimal row.instant ∷ [] in
-    ended_as (λ line. AreNames c.args.names.now → IsLine (is_row back_grammar) line) c.end.result c.number.new.self (codes "done") fields c.end.ensures
+    ended_as (λ line. AreNames c.args.names.now → IsLine (is_row back_grammar) line) c.end.result c.number.new.self
+    (codes "done") fields c.end.ensures
     (rw (c.in_ok-number.ensures.value, c.in_ok-task.ensures, c.in_ok-line.ensures) refl)
     (λ named. in_row back_grammar (codes "done") fields
-    (inr (inr (inr (inr (inr (inr (inr (inl (word_is (codes "done") refl & named_is c.args.names.now row.task named c.requires.named & c.in_ok-number.ensures.form & tt))))))))))
+    (inr (inr (inr (inr (inr (inr (inr (inl
+    (word_is (codes "done") refl & named_is c.args.names.now row.task named c.requires.named & c.in_ok-number.ensures.form & tt))))))))))

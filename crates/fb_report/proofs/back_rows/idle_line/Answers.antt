@@ -10,4 +10,5 @@ returns-clause-form c =
     ended_as (IsLine (is_row back_grammar)) c.end.result c.number-2.new.self (codes "idle") fields c.end.ensures
     (rw (c.in_ok-number-2.ensures.value, c.in_ok-number.ensures.value, c.in_ok-track.ensures.value, c.in_ok-line.ensures) refl)
     (in_row back_grammar (codes "idle") fields
-    (inr (inr (inl (word_is (codes "idle") refl & c.in_ok-track.ensures.form & c.in_ok-number.ensures.form & c.in_ok-number-2.ensures.form & tt)))))
+    (inr (inr
+    (inl (word_is (codes "idle") refl & c.in_ok-track.ensures.form & c.in_ok-number.ensures.form & c.in_ok-number-2.ensures.form & tt)))))

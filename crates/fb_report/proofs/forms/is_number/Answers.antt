@@ -4,9 +4,11 @@ use Rattle.fb_report.proofs.forms.is_number.Goals as goal
 
 pub returns-in-None : goal.returns-in-None
 returns-in-None c =
-    sym (stays_below-not c.loop-byte.value (get_or c.args.text.now c.loop-byte.byte-index 0) (drop (c.loop-byte.byte-index + 1) c.args.text.now) c.in-None.ensures.none)
+    sym (stays_below-not c.loop-byte.value (get_or c.args.text.now c.loop-byte.byte-index 0)
+    (drop (c.loop-byte.byte-index + 1) c.args.text.now) c.in-None.ensures.none)
     ∙ sym (at_drop_more (stays_below c.loop-byte.value) c.args.text.now c.loop-byte.byte-index 0 c.loop-byte-test.true)
     ∙ c.loop-byte.invariant.rest
 
 pub returns : goal.returns
-returns c = sym (stays_below-end c.loop-byte.value c.args.text.now c.loop-byte.byte-index c.loop-byte.invariant.small (omega arith)) ∙ c.loop-byte.invariant.rest
+returns c = sym (stays_below-end c.loop-byte.value c.args.text.now c.loop-byte.byte-index c.loop-byte.invariant.small (omega arith))
+    ∙ c.loop-byte.invariant.rest

@@ -9,8 +9,10 @@ loop-line-preserved c =
     let lines = texts c.loop-line.lines.items in
     let line = c.in-Some.line.now in
     let parts = slice_split (λ byte. byte == 10) c.in-Some.behind.now in
-    let follows : may_follow grammar lines line ≡ true = tested (λ grammar lines. may_follow grammar lines line) _ grammar _ c.loop-line.lines.items _ true c.may_follow.ensures c.if-may_follow.true c.table_of-table.ensures c.as_slice.ensures.value in
-    ap (λ lines. lines_behind grammar lines parts) (texts_more c.loop-line.lines.items c.push.new.self.items c.in-Some.line c.in_ok-push.ensures.items)
+    let follows : may_follow grammar lines line ≡ true = tested (λ grammar lines. may_follow grammar lines line) _ grammar _
+    c.loop-line.lines.items _ true c.may_follow.ensures c.if-may_follow.true c.table_of-table.ensures c.as_slice.ensures.value in
+    ap (λ lines. lines_behind grammar lines parts)
+    (texts_more c.loop-line.lines.items c.push.new.self.items c.in-Some.line c.in_ok-push.ensures.items)
     ∙ sym (row_read grammar lines line parts (some_part (λ byte. byte == 10) c.in-Some.behind.now) follows)
     ∙ sym (ap (lines_behind grammar lines) c.in-Some.ensures.split)
     ∙ c.loop-line.invariant
@@ -21,8 +23,10 @@ returns-then-may_end c =
     let lines = texts c.loop-line.lines.items in
     let line = c.in-Some.line.now in
     let parts = slice_split (λ byte. byte == 10) c.in-Some.behind.now in
-    let other : may_follow grammar lines line ≡ false = tested (λ grammar lines. may_follow grammar lines line) _ grammar _ c.loop-line.lines.items _ false c.may_follow.ensures c.if-may_follow.false c.table_of-table.ensures c.as_slice.ensures.value in
-    let ends : may_end grammar lines line ≡ true = tested (λ grammar lines. may_end grammar lines line) _ grammar _ c.loop-line.lines.items _ true c.may_end.ensures c.if-may_end.true c.table_of-table.ensures c.as_slice-else-may_follow.ensures.value in
+    let other : may_follow grammar lines line ≡ false = tested (λ grammar lines. may_follow grammar lines line) _ grammar _
+    c.loop-line.lines.items _ false c.may_follow.ensures c.if-may_follow.false c.table_of-table.ensures c.as_slice.ensures.value in
+    let ends : may_end grammar lines line ≡ true = tested (λ grammar lines. may_end grammar lines line) _ grammar _ c.loop-line.lines.items
+    _ true c.may_end.ensures c.if-may_end.true c.table_of-table.ensures c.as_slice-else-may_follow.ensures.value in
     let P : Result (List (List ℕ)) ℕ → Type 0 = λ verdict. AnswersReport c.args.report c.end.result verdict in
     subst P
     (sym (end_read grammar lines line parts (some_part (λ byte. byte == 10) c.in-Some.behind.now) other ends)
@@ -36,8 +40,11 @@ returns-else-may_end c =
     let lines = texts c.loop-line.lines.items in
     let line = c.in-Some.line.now in
     let parts = slice_split (λ byte. byte == 10) c.in-Some.behind.now in
-    let other : may_follow grammar lines line ≡ false = tested (λ grammar lines. may_follow grammar lines line) _ grammar _ c.loop-line.lines.items _ false c.may_follow.ensures c.if-may_follow.false c.table_of-table.ensures c.as_slice.ensures.value in
-    let unended : may_end grammar lines line ≡ false = tested (λ grammar lines. may_end grammar lines line) _ grammar _ c.loop-line.lines.items _ false c.may_end.ensures c.if-may_end.false c.table_of-table.ensures c.as_slice-else-may_follow.ensures.value in
+    let other : may_follow grammar lines line ≡ false = tested (λ grammar lines. may_follow grammar lines line) _ grammar _
+    c.loop-line.lines.items _ false c.may_follow.ensures c.if-may_follow.false c.table_of-table.ensures c.as_slice.ensures.value in
+    let unended : may_end grammar lines line ≡ false =
+    tested (λ grammar lines. may_end grammar lines line) _ grammar _ c.loop-line.lines.items _ false c.may_end.ensures c.if-may_end.false
+    c.table_of-table.ensures c.as_slice-else-may_follow.ensures.value in
     names_fault c.args.report c.fault.result c.loop-line.lines.items c.len.result _ c.fault.ensures (c.len.ensures ∙ c.loop-line.lines.ok.0)
     (sym c.loop-line.invariant
     ∙ ap (lines_behind grammar lines) c.in-Some.ensures.split
@@ -47,7 +54,8 @@ pub returns : goal.returns
 returns c =
     let grammar = grammar_of c.args.report in
     let lines = texts c.loop-line.lines.items in
-    names_fault c.args.report c.fault-2.result c.loop-line.lines.items c.len-2.result _ c.fault-2.ensures (c.len-2.ensures ∙ c.loop-line.lines.ok.0)
+    names_fault c.args.report c.fault-2.result c.loop-line.lines.items c.len-2.result _ c.fault-2.ensures
+    (c.len-2.ensures ∙ c.loop-line.lines.ok.0)
     (sym c.loop-line.invariant
     ∙ ap (lines_behind grammar lines) c.in_default.ensures.split
     ∙ rest_read grammar lines c.loop-line.rest.now)

@@ -8,7 +8,8 @@ loop-place-preserved g c =
     record {
       took = λ before h.
           subst (λ bytes. g.S.Sink.took c.pour_run.new.sink bytes)
-          (taken (run_bytes c.args.sector_bytes) before _ c.args.contents.now k c.get.result c.get.ensures.value (ap (λ n. run_bytes n c.get.result) c.loop-place.invariant.size))
+          (taken (run_bytes c.args.sector_bytes) before _ c.args.contents.now k c.get.result c.get.ensures.value
+          (ap (λ n. run_bytes n c.get.result) c.loop-place.invariant.size))
           (c.in_ok-pour_run.ensures _ (c.loop-place.invariant.took before h));
       size = let same = c.pour_run.auto.sector in omega (arith, c.loop-place.invariant.size);
     }

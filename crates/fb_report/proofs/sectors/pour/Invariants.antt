@@ -3,6 +3,7 @@ use Rattle.fb_report.proofs.sectors.pour.Given as goal
 
 abbrev pub invariant-loop-place : goal.invariant-loop-place
 invariant-loop-place g l = record {
-  took : (before : List ℕ) → g.S.Sink.took l.fn.sink before → g.S.Sink.took l.sink (before ++ contents_bytes l.sector_bytes (take l.place l.contents));
+  took : (before : List ℕ) → g.S.Sink.took l.fn.sink before
+      → g.S.Sink.took l.sink (before ++ contents_bytes l.sector_bytes (take l.place l.contents));
   size : length l.sector ≡ l.sector_bytes;
 }

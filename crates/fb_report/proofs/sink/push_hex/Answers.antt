@@ -4,7 +4,8 @@ use Rattle.fb_report.proofs.sink.push_hex.Goals as goal
 
 pub loop-byte-preserved : goal.loop-byte-preserved
 loop-byte-preserved c =
-    digits_more c.args.bytes.now c.loop-byte.text.items c.push_digits.new.text.items c.loop-byte.byte-index _ 0 _ c.loop-byte-test.true refl c.loop-byte.invariant c.in_ok-push_digits.ensures
+    digits_more c.args.bytes.now c.loop-byte.text.items c.push_digits.new.text.items c.loop-byte.byte-index _ 0 _ c.loop-byte-test.true refl
+    c.loop-byte.invariant c.in_ok-push_digits.ensures
 
 pub returns : goal.returns
 returns c =

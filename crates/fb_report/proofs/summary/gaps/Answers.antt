@@ -11,7 +11,8 @@ loop-i-preserved c =
           let found = found_at gap_in c.args.rows.now c.loop-i.i c.get.result.now w.in-Gap.field-0 c.get.ensures (ap gap_in w.in-Gap.is) in
           record { gaps = omega (arith, w.gaps-is, so_far.gaps, ap length found); few = omega (arith, w.gaps-is, so_far.few) }
       | in_default w ↦
-          let other = nothing_at gap_in c.args.rows.now c.loop-i.i c.get.result.now c.get.ensures (no_gap c.get.result.now w.in_default.not-Gap) in
+          let other =
+          nothing_at gap_in c.args.rows.now c.loop-i.i c.get.result.now c.get.ensures (no_gap c.get.result.now w.in_default.not-Gap) in
           record { gaps = omega (arith, w.gaps-is, so_far.gaps, ap length other); few = omega (arith, w.gaps-is, so_far.few) }
     ]
 

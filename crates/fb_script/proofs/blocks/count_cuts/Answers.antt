@@ -3,4 +3,5 @@ use Rattle.fb_script.proofs.Cuttings.{at_least}
 use Rattle.fb_script.proofs.blocks.count_cuts.Goals as goal
 
 pub returns-then-count-block : goal.returns-then-count-block
-returns-then-count-block c = omega (arith, c.if-count-block.true, at_least c.args.map.now c.args.block c.requires.block c.args.first c.args.count)
+returns-then-count-block c =
+    omega (arith, c.if-count-block.true, at_least c.args.map.now c.args.block c.requires.block c.args.first c.args.count)

@@ -5,7 +5,8 @@ use Rattle.fb_script.proofs.blocks.count_live_cuts.Given as goal
 
 abbrev pub invariant-loop-i : goal.invariant-loop-i
 invariant-loop-i l = record {
-  cuts : l.cuts + length (live_cuts l.map l.block (l.first + l.i * l.block) (drop l.i (take l.blocks (bits l.live)))) ≡ length (live_cuts l.map l.block l.first (take l.blocks (bits l.live)));
+  cuts : l.cuts + length (live_cuts l.map l.block (l.first + l.i * l.block) (drop l.i (take l.blocks (bits l.live))))
+      ≡ length (live_cuts l.map l.block l.first (take l.blocks (bits l.live)));
   few : l.cuts ≤ l.most;
 }
 

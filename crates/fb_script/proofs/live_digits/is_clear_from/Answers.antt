@@ -6,4 +6,5 @@ use Rattle.fb_script.proofs.Bits.{length-bits}
 use Rattle.fb_script.proofs.live_digits.is_clear_from.Goals as goal
 
 pub returns : goal.returns
-returns c = sym (c.loop-later.invariant ∙ ap (list_all not) (drop_all c.loop-later.later (bits c.args.digits.now) (omega (arith, length-bits c.args.digits.now))))
+returns c = sym (c.loop-later.invariant
+    ∙ ap (list_all not) (drop_all c.loop-later.later (bits c.args.digits.now) (omega (arith, length-bits c.args.digits.now))))

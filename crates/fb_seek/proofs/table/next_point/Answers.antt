@@ -10,7 +10,8 @@ pub returns : goal.returns
 returns c =
     let points = c.args.points.now in
     let rising = IsNonDecreasingBy-from_all_adjacent (λ (y : SeekPoint). y.distance) points (λ k d l. omega (arith, c.requires k d l)) in
-    let point = c.partition_point.ensures.partitioned (λ y. nat_lt y.distance c.args.distance) (always_returns_same _ _ _ (λ a r f k. search (rules, of_calls)))
+    let point = c.partition_point.ensures.partitioned (λ y. nat_lt y.distance c.args.distance) (always_returns_same _ _ _
+    (λ a r f k. search (rules, of_calls)))
     (IsPartitionedBy-ltb (λ (y : SeekPoint). y.distance) points c.args.distance rising) in
     record {
       bound = c.partition_point.ensures.bound;

@@ -13,4 +13,5 @@ returns-clause-value c =
     c.next_begin.ensures.value
     ∙ ap (λ (d : Shape). begin_from d place (c.args.now + c.pos.result)) seen
     ∙ ap (λ m. begin_from disk.map place (c.args.now + m)) c.pos.ensures.value
-    ∙ ap (λ (p : Place). begin_from disk.map p (c.args.now + pos disk.mechanism c.args.source p.track c.args.write)) c.place-place.ensures.value
+    ∙ ap (λ (p : Place). begin_from disk.map p (c.args.now + pos disk.mechanism c.args.source p.track c.args.write))
+    c.place-place.ensures.value

@@ -9,7 +9,8 @@ use Rattle.fb_service.proofs.service.serve.Given as goal
 
 abbrev pub invariant-loop-served : goal.invariant-loop-served
 invariant-loop-served l = record {
-  so_far : (all_passages_of l.disk.map l.extents.items ++ passages_of l.disk.map l.last) ++ passages l.disk l.last.track l.last.end l.write (l.lbn + l.served) (l.count - l.served)
+  so_far : (all_passages_of l.disk.map l.extents.items ++ passages_of l.disk.map l.last)
+      ++ passages l.disk l.last.track l.last.end l.write (l.lbn + l.served) (l.count - l.served)
       ≡ passages l.disk l.fn.source l.now l.write l.lbn l.count;
   extents : AllByRecursion (IsUnbroken l.disk.map) l.extents.items;
   unbroken : IsUnbroken l.disk.map l.last;

@@ -14,7 +14,8 @@ returns-clause-inside c lbn from to =
     (λ begin a b some. at.changed begin (omega arith) (omega arith) some)
 
 pub returns-clause-before : goal.returns-clause-before
-returns-clause-before c lbn less = assigned_before (get nat_cmp c.args.ranges.now) (get nat_cmp c.loop-begin.ranges) c.args.first lbn less c.loop-begin.invariant.below
+returns-clause-before c lbn less =
+    assigned_before (get nat_cmp c.args.ranges.now) (get nat_cmp c.loop-begin.ranges) c.args.first lbn less c.loop-begin.invariant.below
 
 pub returns-clause-after : goal.returns-clause-after
 returns-clause-after c lbn more =

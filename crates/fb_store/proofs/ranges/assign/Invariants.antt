@@ -7,7 +7,8 @@ abbrev pub invariant-loop-begin : goal.invariant-loop-begin
 invariant-loop-begin l = record {
   from : l.first ≤ l.begin;
   within : l.begin ≤ max l.first l.end;
-  changed : (begin : ℕ) → l.first ≤ begin → begin < l.begin → ContainsKey nat_cmp l.ranges begin → get nat_cmp l.ranges begin ≡ Some (Some l.content);
+  changed : (begin : ℕ) → l.first ≤ begin → begin < l.begin → ContainsKey nat_cmp l.ranges begin
+      → get nat_cmp l.ranges begin ≡ Some (Some l.content);
   below : (begin : ℕ) → begin < l.first → get nat_cmp l.ranges begin ≡ get nat_cmp l.fn.ranges begin;
   above : (begin : ℕ) → l.begin ≤ begin → get nat_cmp l.ranges begin ≡ get nat_cmp l.fn.ranges begin;
   keeps : (begin : ℕ) → ContainsKey nat_cmp l.fn.ranges begin → ContainsKey nat_cmp l.ranges begin;

@@ -13,8 +13,12 @@ loop-i-preserved c = record {
   past = λ ends lbn le.
       let range = c.get-run.ensures.range in
       c.assign.ensures.after lbn (omega arith) ∙ c.loop-i.invariant.past ends lbn le;
-  begins = λ i run at. let before = c.loop-i.invariant.begins i run at in (c.assign.ensures.keeps run.first before.0, c.assign.ensures.keeps (run.first + run.count) before.1);
-  so_far = λ lbn. taken_more c.args.contents.now c.loop-i.i c.get-run.result lbn (held_of (get nat_cmp c.args.ranges.now) lbn) (held_of (get nat_cmp c.loop-i.ranges) lbn) (held_of (get nat_cmp c.assign.new.ranges) lbn)
+  begins = λ i run at. let before = c.loop-i.invariant.begins i run at in (
+    c.assign.ensures.keeps run.first before.0,
+    c.assign.ensures.keeps (run.first + run.count) before.1,
+  );
+  so_far = λ lbn. taken_more c.args.contents.now c.loop-i.i c.get-run.result lbn (held_of (get nat_cmp c.args.ranges.now) lbn)
+      (held_of (get nat_cmp c.loop-i.ranges) lbn) (held_of (get nat_cmp c.assign.new.ranges) lbn)
       (take_one c.args.contents.now c.loop-i.i c.get-run.result c.get-run.ensures.value) (c.loop-i.invariant.so_far lbn)
       (c.assign.ensures.inside lbn) (c.assign.ensures.before lbn) (c.assign.ensures.after lbn);
 }

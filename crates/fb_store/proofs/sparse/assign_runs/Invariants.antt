@@ -10,5 +10,6 @@ abbrev pub invariant-loop-i : goal.invariant-loop-i
 invariant-loop-i l = record {
   past : EndsBy (held_of (get nat_cmp l.fn.ranges)) (10 ^ 12) → EndsBy (held_of (get nat_cmp l.ranges)) (10 ^ 12);
   begins : AreCut (get nat_cmp l.ranges) l.contents;
-  so_far : (lbn : ℕ) → held_of (get nat_cmp l.ranges) lbn ≡ after_taking (sectors_of (take l.i l.contents)) lbn (held_of (get nat_cmp l.fn.ranges) lbn);
+  so_far : (lbn : ℕ)
+      → held_of (get nat_cmp l.ranges) lbn ≡ after_taking (sectors_of (take l.i l.contents)) lbn (held_of (get nat_cmp l.fn.ranges) lbn);
 }

@@ -6,18 +6,22 @@ use Rattle.fb_wanted.specs.Numbering.{registered}
 use Rattle.fb_tasks.proofs.wanting.want_range.Goals as goal
 
 -- a range without sectors gives nothing
-none-new : (disk : Shape) (session : Session) (task number lbn left : ℕ) (wanted : List Entry) → left ≡ 0 → wanted ≡ wanted ++ new_entries session (numbered task session.weight number (cutting disk session.block lbn left))
+none-new : (disk : Shape) (session : Session) (task number lbn left : ℕ) (wanted : List Entry) → left ≡ 0
+    → wanted ≡ wanted ++ new_entries session (numbered task session.weight number (cutting disk session.block lbn left))
 unfolding cutting
-none-new disk session task number lbn left wanted none = sym (append-nil wanted) ∙ ap (λ n. wanted ++ new_entries session (numbered task session.weight number (cutting disk session.block lbn n))) (sym none)
+none-new disk session task number lbn left wanted none = sym (append-nil wanted)
+    ∙ ap (λ n. wanted ++ new_entries session (numbered task session.weight number (cutting disk session.block lbn n))) (sym none)
 
 pub returns-then-count-eq0-clause-all : goal.returns-then-count-eq0-clause-all
-returns-then-count-eq0-clause-all c = none-new c.args.map.now c.args.session.now c.args.task (registered c.args.task (blocks_of c.args.wanted.now)) c.args.first c.args.count c.args.wanted.now (omega arith)
+returns-then-count-eq0-clause-all c = none-new c.args.map.now c.args.session.now c.args.task (registered c.args.task
+    (blocks_of c.args.wanted.now)) c.args.first c.args.count c.args.wanted.now (omega arith)
 
 pub loop-left-init : goal.loop-left-init
 loop-left-init c =
     let first = ap (λ n. n.registered) c.counts-number.ensures ∙ registered_count c.args.task c.args.wanted.now in
     record {
-      all = ap (λ n. c.args.wanted.now ++ new_entries c.args.session.now (numbered c.args.task c.args.session.now.weight n (cutting c.args.map.now c.args.session.now.block c.args.first c.args.count))) first;
+      all = ap (λ n. c.args.wanted.now ++ new_entries c.args.session.now (numbered c.args.task c.args.session.now.weight n
+          (cutting c.args.map.now c.args.session.now.block c.args.first c.args.count))) first;
       next = first;
       within = refl;
       span = c.span-span.ensures.span;
@@ -29,10 +33,12 @@ pub overflow_add-number : goal.overflow_add-number
 overflow_add-number c = omega (arith, c.loop-left.invariant.next, c.loop-left.invariant.few, registered_few c.args.task c.loop-left.wanted)
 
 pub returns-clause-all : goal.returns-clause-all
-returns-clause-all c = none-new c.args.map.now c.args.session.now c.args.task c.loop-left.number c.loop-left.lbn c.loop-left.left c.loop-left.wanted (omega (arith, c.loop-left-test.false)) ∙ c.loop-left.invariant.all
+returns-clause-all c = none-new c.args.map.now c.args.session.now c.args.task c.loop-left.number c.loop-left.lbn c.loop-left.left
+    c.loop-left.wanted (omega (arith, c.loop-left-test.false)) ∙ c.loop-left.invariant.all
 
 pub returns-in_err-register-clause-begun : goal.returns-in_err-register-clause-begun
-returns-in_err-register-clause-begun c = subst (HasBegun c.args.wanted.now _) (sym c.in_err-register.ensures.err) (begun_by _ c.loop-left.invariant.grown c.loop-left.invariant.all)
+returns-in_err-register-clause-begun c = subst (HasBegun c.args.wanted.now _) (sym c.in_err-register.ensures.err)
+    (begun_by _ c.loop-left.invariant.grown c.loop-left.invariant.all)
 
 pub loop-left-preserved : goal.loop-left-preserved
 loop-left-preserved c =
@@ -45,11 +51,13 @@ loop-left-preserved c =
     let entry : Entry = record { block = block; state = wanted_unless session.suspended } in
     let is : now ≡ before ++ entry ∷ [] = c.in_ok-register.ensures.ok in
     record {
-      all = cut_registered c.args.task c.loop-left.number session before now cut (cutting c.args.map.now session.block c.loop-left.lbn c.loop-left.left) rest block c.next_cut-cut.ensures.first c.block_of.ensures is ∙ c.loop-left.invariant.all;
+      all = cut_registered c.args.task c.loop-left.number session before now cut (cutting c.args.map.now session.block c.loop-left.lbn
+          c.loop-left.left) rest block c.next_cut-cut.ensures.first c.block_of.ensures is ∙ c.loop-left.invariant.all;
       next = one_counted c.args.task c.loop-left.number before now entry is (ap (λ b. b.task) c.block_of.ensures)
           c.loop-left.invariant.next;
       within = omega (arith, c.next_cut-cut.ensures.within, c.loop-left.invariant.within);
       span = c.next_cut-cut.ensures.span;
-      few = omega (arith, c.loop-left.invariant.few, ap length is, length-append before (entry ∷ []), ap length c.next_cut-cut.ensures.first);
+      few =
+          omega (arith, c.loop-left.invariant.few, ap length is, length-append before (entry ∷ []), ap length c.next_cut-cut.ensures.first);
       grown = grown_more c.args.wanted.now before now c.loop-left.invariant.grown (record { added = entry ∷ []; is = is });
     }

@@ -7,7 +7,8 @@ use Rattle.fb_tasks.proofs.wanting.want_range.Given as goal
 abbrev pub invariant-loop-left : goal.invariant-loop-left
 invariant-loop-left l = record {
   all : l.wanted ++ new_entries l.session (numbered l.task l.session.weight l.number (cutting l.map l.session.block l.lbn l.left))
-      ≡ l.initial.wanted ++ new_entries l.session (numbered l.task l.session.weight (registered l.task (blocks_of l.initial.wanted)) (cutting l.map l.session.block l.first l.count));
+      ≡ l.initial.wanted ++ new_entries l.session (numbered l.task l.session.weight (registered l.task (blocks_of l.initial.wanted))
+      (cutting l.map l.session.block l.first l.count));
   next : l.number ≡ registered l.task (blocks_of l.wanted);
   within : l.lbn + l.left ≡ l.first + l.count;
   span : IsSpan l.map l.span;

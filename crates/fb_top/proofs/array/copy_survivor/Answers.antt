@@ -11,4 +11,5 @@ rebuild-requires-clause-ranges c =
     let device = c.in-Some.words.device in
     let mine = c.requires.full device run c.get.ensures in
     subst (λ (sectors : ℕ). AllByRecursion (IsWithin sectors) (events run)) (sym c.count-sectors.ensures.value)
-    (c.runs_lie_on_the_disk.ensures (device_inputs (array_terms c.args.words.now) (array_of c.args.files.now) device mine.trace) run mine.accepted mine.full)
+    (c.runs_lie_on_the_disk.ensures (device_inputs (array_terms c.args.words.now) (array_of c.args.files.now) device mine.trace) run
+    mine.accepted mine.full)

@@ -24,12 +24,16 @@ replay_by-requires c =
     let trace = c.trace-item.result in
     let calls = c.calls_of.result.now in
     let same = handed_inputs terms array device (accepted trace) c.as_slice.result.now calls.calls.items c.as_slice.ensures.value
-    (handed_calls terms.rebuild array device (accepted trace) calls.calls.items files.calls.calls.items c.no_calls-no_calls.result.calls.items
-    (λ is. ap (λ (k : Calls). k.calls.items) (c.calls_of.ensures.rebuilt is)) (λ is. ap (λ (k : Calls). k.calls.items) (c.calls_of.ensures.other is)) refl c.no_calls-no_calls.ensures.calls) in
+    (handed_calls terms.rebuild array device
+    (accepted trace) calls.calls.items files.calls.calls.items c.no_calls-no_calls.result.calls.items
+    (λ is. ap (λ (k : Calls). k.calls.items) (c.calls_of.ensures.rebuilt is))
+    (λ is. ap (λ (k : Calls). k.calls.items) (c.calls_of.ensures.other is)) refl c.no_calls-no_calls.ensures.calls) in
     record {
       fit = subst IsAccepted (sym same) (c.requires.fit device (accepted trace)
-          (trace_at files.traces.items c.deref-trace-items.result.now c.loop-trace.trace-index device trace c.deref-trace-items.ensures.value (c.len.ensures.value ∙ c.loop-trace.invariant.count) c.loop-trace-test.true c.trace-item.is));
-      names = handed_names terms.rebuild device calls files.calls c.no_calls-no_calls.result c.calls_of.ensures.rebuilt c.calls_of.ensures.other c.requires.names c.no_calls-no_calls.ensures.names c.no_calls-no_calls.ensures.calls;
+          (trace_at files.traces.items c.deref-trace-items.result.now c.loop-trace.trace-index device trace
+          c.deref-trace-items.ensures.value (c.len.ensures.value ∙ c.loop-trace.invariant.count) c.loop-trace-test.true c.trace-item.is));
+      names = handed_names terms.rebuild device calls files.calls c.no_calls-no_calls.result c.calls_of.ensures.rebuilt
+          c.calls_of.ensures.other c.requires.names c.no_calls-no_calls.ensures.names c.no_calls-no_calls.ensures.calls;
     }
 
 pub loop-trace-preserved : goal.loop-trace-preserved
@@ -44,10 +48,13 @@ loop-trace-preserved c =
     let run = c.in_ok-replay_by.field-0 in
     let told = c.in_ok-replay_by.ensures.told in
     let more = c.in_ok-push.ensures.ok in
-    let at = trace_at files.traces.items c.deref-trace-items.result.now loop.trace-index device trace c.deref-trace-items.ensures.value (c.len.ensures.value ∙ loop.invariant.count) c.loop-trace-test.true c.trace-item.is in
+    let at = trace_at files.traces.items c.deref-trace-items.result.now loop.trace-index device trace c.deref-trace-items.ensures.value
+    (c.len.ensures.value ∙ loop.invariant.count) c.loop-trace-test.true c.trace-item.is in
     let same = handed_inputs terms array device (accepted trace) c.as_slice.result.now calls.calls.items c.as_slice.ensures.value
-    (handed_calls terms.rebuild array device (accepted trace) calls.calls.items files.calls.calls.items c.no_calls-no_calls.result.calls.items
-    (λ is. ap (λ (k : Calls). k.calls.items) (c.calls_of.ensures.rebuilt is)) (λ is. ap (λ (k : Calls). k.calls.items) (c.calls_of.ensures.other is)) refl c.no_calls-no_calls.ensures.calls) in
+    (handed_calls terms.rebuild array device
+    (accepted trace) calls.calls.items files.calls.calls.items c.no_calls-no_calls.result.calls.items
+    (λ is. ap (λ (k : Calls). k.calls.items) (c.calls_of.ensures.rebuilt is))
+    (λ is. ap (λ (k : Calls). k.calls.items) (c.calls_of.ensures.other is)) refl c.no_calls-no_calls.ensures.calls) in
     let mine : IsRunOfDevice terms array device run = record {
       trace = accepted trace;
       here = at;
@@ -56,8 +63,11 @@ loop-trace-preserved c =
     } in
     record {
       count = omega (arith, ap length more, length-append loop.runs (run ∷ []), loop.invariant.count);
-      full = each_more (IsRunOfDevice terms array) loop.runs c.push.new.self run more loop.invariant.full (subst (λ (d : ℕ). IsRunOfDevice terms array d run) c.len.ensures.value mine);
+      full = each_more (IsRunOfDevice terms array) loop.runs c.push.new.self run more loop.invariant.full
+          (subst (λ (d : ℕ). IsRunOfDevice terms array d run) c.len.ensures.value mine);
       told = subst (AllByRecursion CanTellFore) (sym more) (all_push CanTellFore loop.runs run loop.invariant.told told.few);
-      back_told = each_more (λ d r. is_rebuilt_from terms.rebuild d ≡ true → CanBeTold files.calls.names r) loop.runs c.push.new.self run more loop.invariant.back_told
-          (λ rebuilt. subst (λ (k : Calls). CanBeTold k.names run) (c.calls_of.ensures.rebuilt (subst (λ (d : ℕ). is_rebuilt_from terms.rebuild d ≡ true) (sym c.len.ensures.value) rebuilt)) told);
+      back_told = each_more (λ d r. is_rebuilt_from terms.rebuild d ≡ true → CanBeTold files.calls.names r) loop.runs c.push.new.self run
+          more loop.invariant.back_told
+          (λ rebuilt. subst (λ (k : Calls). CanBeTold k.names run)
+          (c.calls_of.ensures.rebuilt (subst (λ (d : ℕ). is_rebuilt_from terms.rebuild d ≡ true) (sym c.len.ensures.value) rebuilt)) told);
     }

@@ -15,5 +15,6 @@ invariant-loop-trace l =
       count : length l.runs ≡ l.trace-index;
       full : (device : ℕ) (run : Run) → slice_get l.runs device ≡ Some run → IsRunOfDevice terms (array_of l.files) device run;
       told : AllByRecursion CanTellFore l.runs;
-      back_told : (device : ℕ) (run : Run) → slice_get l.runs device ≡ Some run → is_rebuilt_from terms.rebuild device ≡ true → CanBeTold l.files.calls.names run;
+      back_told : (device : ℕ) (run : Run) → slice_get l.runs device ≡ Some run → is_rebuilt_from terms.rebuild device ≡ true
+          → CanBeTold l.files.calls.names run;
     }

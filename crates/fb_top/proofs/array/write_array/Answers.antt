@@ -18,12 +18,17 @@ returns-in-Err-clause-stops g c =
     let new = g.D.Desk.seen c.write_lines.new.desk in
     let terms = array_terms c.args.words.now in
     let array = array_of c.args.files.now in
-    stopped_first (record { output = Fore; name = codes "-"; text = joined (array_lines array.disk.sector_bytes terms.bytes c.args.runs.now) }) _ old new c.in-Err.ensures.only c.in-Err.outcome c.in-Err.ensures.stops
+    stopped_first (record {
+      output = Fore;
+      name = codes "-";
+      text = joined (array_lines array.disk.sector_bytes terms.bytes c.args.runs.now);
+    }) _ old new c.in-Err.ensures.only c.in-Err.outcome c.in-Err.ensures.stops
 
 pub write_rebuild-requires-clause-back_told : goal.write_rebuild-requires-clause-back_told
 write_rebuild-requires-clause-back_told g c =
     let rebuild = c.in-Some-Some.rebuild in
-    c.requires.back_told rebuild.device c.get.result.now c.get.ensures (is_from (array_terms c.args.words.now).rebuild (rebuild_terms rebuild) (ap (option_map rebuild_terms) c.in-Some-Some.is-0))
+    c.requires.back_told rebuild.device c.get.result.now c.get.ensures
+    (is_from (array_terms c.args.words.now).rebuild (rebuild_terms rebuild) (ap (option_map rebuild_terms) c.in-Some-Some.is-0))
 
 pub returns-in-Some-Some-clause-stops : goal.returns-in-Some-Some-clause-stops
 returns-in-Some-Some-clause-stops g c =
@@ -38,8 +43,10 @@ returns-in-Some-Some-clause-stops g c =
     let given = ap (option_map rebuild_terms) c.in-Some-Some.is-0 in
     let there = ap (option_and_then (λ (r : RebuildTerms). slice_get runs r.device)) given ∙ c.get.ensures in
     let made = sym (ap (option_map (λ copy. copy.now)) c.in-Some-Some.is-1) ∙ c.requires.copied in
-    let told = rebuild_told terms array rebuild run c.count-sectors.result c.count-sectors.ensures.value terms.rebuild (survivor terms.rebuild runs) c.in-Some-Some.copy.now given there made in
+    let told = rebuild_told terms array rebuild run c.count-sectors.result c.count-sectors.ensures.value terms.rebuild
+    (survivor terms.rebuild runs) c.in-Some-Some.copy.now given there made in
     IfErr-weaker c.write_rebuild.result _ _ (λ outcome stops.
-    stopped_behind (record { output = Fore; name = codes "-"; text = joined (array_lines array.disk.sector_bytes terms.bytes runs) }) (rebuild_texts terms array terms.rebuild (survivor terms.rebuild runs))
+    stopped_behind (record { output = Fore; name = codes "-"; text = joined (array_lines array.disk.sector_bytes terms.bytes runs) })
+    (rebuild_texts terms array terms.rebuild (survivor terms.rebuild runs))
     old mid new c.in-Ok.ensures.only c.in-Ok.ensures.whole (rebuild_apart terms array runs) (λ e. cc) outcome
     (subst (λ (texts : List Text). StopsTexts texts mid new outcome) told stops)) c.write_rebuild.ensures.stops

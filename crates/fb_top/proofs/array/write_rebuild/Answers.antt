@@ -14,7 +14,8 @@ returns-in-Err-clause-stops g c =
     let new = g.D.Desk.seen c.write_lines.new.desk in
     let lines = c.args.back.now in
     let text = joined (back_lines lines.names.now lines.sector_bytes lines.bytes lines.run.now) in
-    stopped_first (record { output = Back; name = string_bytes c.args.words.now.back; text = text }) _ old new c.in-Err.ensures.only c.in-Err.outcome
+    stopped_first (record { output = Back; name = string_bytes c.args.words.now.back; text = text }) _ old new c.in-Err.ensures.only
+    c.in-Err.outcome
     (subst (λ (name : List ℕ). StopsText Back name text old new c.in-Err.outcome) c.as_str.ensures.value c.in-Err.ensures.stops)
 
 pub returns-clause-stops : goal.returns-clause-stops
@@ -29,6 +30,9 @@ returns-clause-stops g c =
     let first : Text = record { output = Back; name = string_bytes c.args.words.now.back; text = back_text } in
     let second : Text = record { output = Copied; name = string_bytes c.args.words.now.copy; text = copy_text } in
     IfErr-weaker c.write_lines-2.result _ _ (λ outcome stops.
-    stopped_behind first (second ∷ []) old mid new c.in-Ok.ensures.only (subst (λ (name : List ℕ). HoldsWhole (mid.outputs Back) name back_text) c.as_str.ensures.value c.in-Ok.ensures.whole)
+    stopped_behind first (second ∷ []) old mid new c.in-Ok.ensures.only
+    (subst (λ (name : List ℕ). HoldsWhole (mid.outputs Back) name back_text) c.as_str.ensures.value c.in-Ok.ensures.whole)
     ((λ e. cc), tt) (λ e. cc) outcome
-    (stopped_first second [] mid new c.write_lines-2.ensures.only outcome (subst (λ (name : List ℕ). StopsText Copied name copy_text mid new outcome) c.as_str-2.ensures.value stops))) c.write_lines-2.ensures.stops
+    (stopped_first second [] mid new c.write_lines-2.ensures.only outcome
+    (subst (λ (name : List ℕ). StopsText Copied name copy_text mid new outcome) c.as_str-2.ensures.value stops)))
+    c.write_lines-2.ensures.stops

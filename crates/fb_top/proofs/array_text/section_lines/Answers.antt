@@ -11,5 +11,10 @@ loop-device-preserved c =
     let told = all_get CanTellFore c.args.runs.now loop.device run c.requires.told c.get.ensures in
     record {
       few = omega (arith, loop.invariant.few, c.fore_pieces.ensures.value, told);
-      counted = λ size bytes. omega (arith, c.fore_pieces.ensures.value, one_counted size bytes c.args.runs.now loop.device run c.get.ensures, loop.invariant.counted size bytes);
+      counted = λ size bytes. omega (
+        arith,
+        c.fore_pieces.ensures.value,
+        one_counted size bytes c.args.runs.now loop.device run c.get.ensures,
+        loop.invariant.counted size bytes,
+      );
     }

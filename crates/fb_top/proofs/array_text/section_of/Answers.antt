@@ -10,8 +10,10 @@ pub returns-then-rest-lines-clause-same : goal.returns-then-rest-lines-clause-sa
 returns-then-rest-lines-clause-same c = λ size bytes run at.
     let runs = c.args.runs.now in
     let loop = c.loop-device in
-    subst (λ (r : Run). slice_get (sections size bytes 0 runs) c.args.place ≡ slice_get (section size bytes loop.device r) loop.rest) (one_element (slice_get runs loop.device) c.get.result.now run c.get.ensures at)
-    (line_here size bytes runs loop.device c.get.result.now c.args.place loop.rest c.get.ensures (omega (arith, c.fore_pieces-lines.ensures.value, c.if-rest-lines.true)) (loop.invariant.same size bytes))
+    subst (λ (r : Run). slice_get (sections size bytes 0 runs) c.args.place ≡ slice_get (section size bytes loop.device r) loop.rest)
+    (one_element (slice_get runs loop.device) c.get.result.now run c.get.ensures at)
+    (line_here size bytes runs loop.device c.get.result.now c.args.place loop.rest c.get.ensures
+    (omega (arith, c.fore_pieces-lines.ensures.value, c.if-rest-lines.true)) (loop.invariant.same size bytes))
 
 pub loop-device-preserved : goal.loop-device-preserved
 loop-device-preserved c =
@@ -20,6 +22,13 @@ loop-device-preserved c =
     let run = c.get.result.now in
     let lines = c.fore_pieces-lines.ensures.value in
     record {
-      same = λ size bytes. line_later size bytes runs loop.device run c.args.place loop.rest _ c.get.ensures (omega (arith, lines, c.if-rest-lines.false)) (loop.invariant.same size bytes);
-      counted = λ size bytes. omega (arith, lines, c.if-rest-lines.false, one_counted size bytes runs loop.device run c.get.ensures, loop.invariant.counted size bytes);
+      same = λ size bytes. line_later size bytes runs loop.device run c.args.place loop.rest _ c.get.ensures
+          (omega (arith, lines, c.if-rest-lines.false)) (loop.invariant.same size bytes);
+      counted = λ size bytes. omega (
+        arith,
+        lines,
+        c.if-rest-lines.false,
+        one_counted size bytes runs loop.device run c.get.ensures,
+        loop.invariant.counted size bytes,
+      );
     }

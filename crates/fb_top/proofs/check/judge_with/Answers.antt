@@ -16,7 +16,17 @@ returns-in-Ok-judge_by-clause-judges g c =
     record {
       back = c.in-Ok-read_back.lines;
       back_read = search rules;
-      verdict_is = subst (λ (inputs : Inputs). IsVerdict inputs (record { names = c.args.files.now.calls.names; bytes = words.bytes; fore = c.args.fore.now; back = c.in-Ok-read_back.lines }) c.in-Ok-judge_by.verdict)
+      verdict_is = subst (λ (inputs : Inputs). IsVerdict inputs (record {
+        names = c.args.files.now.calls.names;
+        bytes = words.bytes;
+        fore = c.args.fore.now;
+        back = c.in-Ok-read_back.lines;
+      }) c.in-Ok-judge_by.verdict)
           (c.inputs.ensures.inputs (key_of words.policy))
-          (subst (λ (calls : Calls). IsVerdict (run_inputs_of c.inputs.result (key_of words.policy)) (record { names = calls.names; bytes = words.bytes; fore = c.args.fore.now; back = c.in-Ok-read_back.lines }) c.in-Ok-judge_by.verdict) c.inputs.ensures.calls c.in-Ok-judge_by.ensures);
+          (subst (λ (calls : Calls). IsVerdict (run_inputs_of c.inputs.result (key_of words.policy)) (record {
+            names = calls.names;
+            bytes = words.bytes;
+            fore = c.args.fore.now;
+            back = c.in-Ok-read_back.lines;
+          }) c.in-Ok-judge_by.verdict) c.inputs.ensures.calls c.in-Ok-judge_by.ensures);
     }

@@ -10,24 +10,29 @@ use Rattle.fb_top.proofs.command.run_command.Goals as goal
 
 pub returns-clause-answers : goal.returns-clause-answers
 returns-clause-answers g c =
-    answer_still (command_of (map (string_bytes {Z = Global}) c.args.words.now)) (g.D.Desk.seen c.args.desk.now) (g.D.Desk.seen c.answer_words-outcome.new.desk) (g.D.Desk.seen c.write_note.new.desk) c.answer_words-outcome.result
+    answer_still (command_of (map (string_bytes {Z = Global}) c.args.words.now)) (g.D.Desk.seen c.args.desk.now)
+    (g.D.Desk.seen c.answer_words-outcome.new.desk) (g.D.Desk.seen c.write_note.new.desk) c.answer_words-outcome.result
     c.write_note.ensures.only c.answer_words-outcome.ensures.answers
 
 pub returns-clause-complete : goal.returns-clause-complete
 returns-clause-complete g c =
-    complete (command_of (map (string_bytes {Z = Global}) c.args.words.now)) (g.D.Desk.seen c.args.desk.now) (g.D.Desk.seen c.write_note.new.desk) c.answer_words-outcome.result (returns-clause-answers g c)
+    complete (command_of (map (string_bytes {Z = Global}) c.args.words.now)) (g.D.Desk.seen c.args.desk.now)
+    (g.D.Desk.seen c.write_note.new.desk) c.answer_words-outcome.result (returns-clause-answers g c)
 
 pub returns-clause-unnamed : goal.returns-clause-unnamed
 returns-clause-unnamed g c =
-    unnamed_after (command_of (map (string_bytes {Z = Global}) c.args.words.now)) Note (g.D.Desk.seen c.args.desk.now) (g.D.Desk.seen c.answer_words-outcome.new.desk) (g.D.Desk.seen c.write_note.new.desk)
+    unnamed_after (command_of (map (string_bytes {Z = Global}) c.args.words.now)) Note (g.D.Desk.seen c.args.desk.now)
+    (g.D.Desk.seen c.answer_words-outcome.new.desk) (g.D.Desk.seen c.write_note.new.desk)
     c.answer_words-outcome.ensures.unnamed c.write_note.ensures.only
 
 pub returns-clause-opened : goal.returns-clause-opened
 returns-clause-opened g c =
-    opened_after (command_of (map (string_bytes {Z = Global}) c.args.words.now)) Note (g.D.Desk.seen c.args.desk.now) (g.D.Desk.seen c.answer_words-outcome.new.desk) (g.D.Desk.seen c.write_note.new.desk)
+    opened_after (command_of (map (string_bytes {Z = Global}) c.args.words.now)) Note (g.D.Desk.seen c.args.desk.now)
+    (g.D.Desk.seen c.answer_words-outcome.new.desk) (g.D.Desk.seen c.write_note.new.desk)
     c.answer_words-outcome.ensures.opened c.write_note.ensures.only
 
 pub returns-clause-calm : goal.returns-clause-calm
 returns-clause-calm g c =
-    calm_after c.answer_words-outcome.result (g.D.Desk.seen c.args.desk.now) (g.D.Desk.seen c.answer_words-outcome.new.desk) (g.D.Desk.seen c.write_note.new.desk)
+    calm_after c.answer_words-outcome.result (g.D.Desk.seen c.args.desk.now) (g.D.Desk.seen c.answer_words-outcome.new.desk)
+    (g.D.Desk.seen c.write_note.new.desk)
     c.answer_words-outcome.ensures.calm c.write_note.ensures.only c.write_note.ensures.note

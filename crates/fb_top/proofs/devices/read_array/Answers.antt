@@ -43,7 +43,8 @@ returns-in-Err-clause-cause g c =
 
 pub returns-in-Err-clause-unnamed : goal.returns-in-Err-clause-unnamed
 returns-in-Err-clause-unnamed g c =
-    unnamed_at_params (sources (array_terms c.args.words.now)) (g.D.Desk.seen c.args.desk.now) (g.D.Desk.seen c.read_disk.new.desk) c.in-Err.ensures.only
+    unnamed_at_params (sources (array_terms c.args.words.now)) (g.D.Desk.seen c.args.desk.now)
+    (g.D.Desk.seen c.read_disk.new.desk) c.in-Err.ensures.only
 
 pub returns-in-Err-clause-opened : goal.returns-in-Err-clause-opened
 returns-in-Err-clause-opened g c =
@@ -66,14 +67,16 @@ returns-in-Ok-read_workloads-clause-accepts g c =
 pub returns-in-Ok-read_workloads-clause-fit : goal.returns-in-Ok-read_workloads-clause-fit
 returns-in-Ok-read_workloads-clause-fit g c =
     let workloads = c.in-Ok-read_workloads.workloads in
-    each_fits (array_terms c.args.words.now) (array_of (record { params = c.in-Ok.params; traces = workloads.traces; calls = workloads.calls })) workloads.traces.items refl
+    each_fits (array_terms c.args.words.now)
+    (array_of (record { params = c.in-Ok.params; traces = workloads.traces; calls = workloads.calls })) workloads.traces.items refl
     c.in-Ok.ensures.latent c.in-Ok-read_workloads.ensures.servable c.in-Ok-read_workloads.ensures.fit c.requires.limits.3
 
 pub returns-in-Ok-read_workloads-clause-sound : goal.returns-in-Ok-read_workloads-clause-sound
 returns-in-Ok-read_workloads-clause-sound g c = subst IsSound c.geometry.ensures c.sound.ensures
 
 pub returns-in-Ok-read_workloads-clause-unnamed : goal.returns-in-Ok-read_workloads-clause-unnamed
-returns-in-Ok-read_workloads-clause-unnamed g c = unnamed_then g (goal.at.returns-in-Ok-read_workloads-clause-unnamed g c).After-read_workloads
+returns-in-Ok-read_workloads-clause-unnamed g c =
+    unnamed_then g (goal.at.returns-in-Ok-read_workloads-clause-unnamed g c).After-read_workloads
 
 pub returns-in-Ok-read_workloads-clause-opened : goal.returns-in-Ok-read_workloads-clause-opened
 returns-in-Ok-read_workloads-clause-opened g c = opened_then g (goal.at.returns-in-Ok-read_workloads-clause-opened g c).After-read_workloads
@@ -81,7 +84,8 @@ returns-in-Ok-read_workloads-clause-opened g c = opened_then g (goal.at.returns-
 pub returns-in-Ok-read_workloads-clause-calm : goal.returns-in-Ok-read_workloads-clause-calm
 returns-in-Ok-read_workloads-clause-calm g c =
     let new = g.D.Desk.seen c.read_workloads.new.desk in
-    calm_inputs (g.D.Desk.seen c.args.desk.now) (g.D.Desk.seen c.read_disk.new.desk) new new c.in-Ok.ensures.only c.in-Ok-read_workloads.ensures.only (input_same Calls new)
+    calm_inputs (g.D.Desk.seen c.args.desk.now)
+    (g.D.Desk.seen c.read_disk.new.desk) new new c.in-Ok.ensures.only c.in-Ok-read_workloads.ensures.only (input_same Calls new)
     c.in-Ok.ensures.calm c.in-Ok-read_workloads.ensures.calm refl
 
 pub returns-in-Err-read_workloads-clause-cause : goal.returns-in-Err-read_workloads-clause-cause
@@ -89,10 +93,13 @@ returns-in-Err-read_workloads-clause-cause g c =
     let old = g.D.Desk.seen c.args.desk.now in
     let latent = c.in-Ok.params.latent.items in
     c.in-Err-read_workloads.ensures.cause old latent
-    (subst (λ (name : List ℕ). ReadsDisk old name c.in-Ok.params.disk latent) c.as_str.ensures.value c.in-Ok.ensures.disk) c.in-Ok.ensures.only
+    (subst (λ (name : List ℕ). ReadsDisk old name c.in-Ok.params.disk latent) c.as_str.ensures.value c.in-Ok.ensures.disk)
+    c.in-Ok.ensures.only
 
 pub returns-in-Err-read_workloads-clause-unnamed : goal.returns-in-Err-read_workloads-clause-unnamed
-returns-in-Err-read_workloads-clause-unnamed g c = unnamed_then g (goal.at.returns-in-Err-read_workloads-clause-unnamed g c).After-read_workloads
+returns-in-Err-read_workloads-clause-unnamed g c =
+    unnamed_then g (goal.at.returns-in-Err-read_workloads-clause-unnamed g c).After-read_workloads
 
 pub returns-in-Err-read_workloads-clause-opened : goal.returns-in-Err-read_workloads-clause-opened
-returns-in-Err-read_workloads-clause-opened g c = opened_then g (goal.at.returns-in-Err-read_workloads-clause-opened g c).After-read_workloads
+returns-in-Err-read_workloads-clause-opened g c =
+    opened_then g (goal.at.returns-in-Err-read_workloads-clause-opened g c).After-read_workloads

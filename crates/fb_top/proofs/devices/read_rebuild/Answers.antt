@@ -10,5 +10,8 @@ returns-in-Err-Fault-clause-stops c =
     let text = c.as_slice.ensures.value ∙ c.in-Ok.ensures in
     let refused = rw c.in-Err-Fault.field-0-is at c.in-Err-Fault.ensures.answer in (
       rw c.in-Some.is refl,
-      record { spells = read_alike disk law _ c.as_slice.result.now text (Err c.in-Err-Fault.fault) refused; reason = too_many disk law _ c.as_slice.result.now text c.in-Err-Fault.fault refused },
+      record {
+        spells = read_alike disk law _ c.as_slice.result.now text (Err c.in-Err-Fault.fault) refused;
+        reason = too_many disk law _ c.as_slice.result.now text c.in-Err-Fault.fault refused;
+      },
     )

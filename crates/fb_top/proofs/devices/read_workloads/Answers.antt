@@ -17,28 +17,34 @@ returns-in-Err-clause-cause g c = λ first latent reads only.
     let new = g.D.Desk.seen c.read_devices.new.desk in
     let terms = array_terms c.args.words.now in
     let disk = c.args.disk.now in
-    array_at_trace terms first mid new c.in-Err.outcome (record { disk = disk; latent = latent; reads_disk = reads }) only c.in-Err.ensures.only
+    array_at_trace terms first mid new c.in-Err.outcome
+    (record { disk = disk; latent = latent; reads_disk = reads }) only c.in-Err.ensures.only
     (subst (λ (name : List ℕ). StopsTraces name terms.devices disk mid new c.in-Err.outcome) c.as_str.ensures.value c.in-Err.ensures.stops)
 
 pub read_rebuild-requires : goal.read_rebuild-requires
 read_rebuild-requires g c =
     let terms = array_terms c.args.words.now in
     let traces = c.in-Ok.traces.items in
-    let counted : length traces ≡ terms.devices = omega (arith, each_counted _ terms.devices (map accepted traces) c.in-Ok.ensures.traces.spells, length-map traces accepted) in
+    let counted : length traces ≡ terms.devices =
+    omega (arith, each_counted _ terms.devices (map accepted traces) c.in-Ok.ensures.traces.spells, length-map traces accepted) in
     record {
-      device = subst (λ (given : List Trace). IfSome terms.rebuild (λ rebuild. rebuild.device < length given)) (sym c.as_slice.ensures.value)
+      device =
+          subst (λ (given : List Trace). IfSome terms.rebuild (λ rebuild. rebuild.device < length given)) (sym c.as_slice.ensures.value)
           (subst (λ (n : ℕ). IfSome terms.rebuild (λ rebuild. rebuild.device < n)) (sym counted) c.requires.limits.2);
     }
 
 pub returns-in-Ok-read_rebuild-clause-traces : goal.returns-in-Ok-read_rebuild-clause-traces
 returns-in-Ok-read_rebuild-clause-traces g c =
-    subst (λ (name : List ℕ). ReadsTraces (g.D.Desk.seen c.args.desk.now) name c.args.words.now.devices c.args.disk.now (map accepted c.in-Ok.traces.items))
+    subst (λ (name : List ℕ). ReadsTraces (g.D.Desk.seen c.args.desk.now) name c.args.words.now.devices c.args.disk.now
+    (map accepted c.in-Ok.traces.items))
     c.as_str.ensures.value c.in-Ok.ensures.traces
 
 pub returns-in-Ok-read_rebuild-clause-fit : goal.returns-in-Ok-read_rebuild-clause-fit
 returns-in-Ok-read_rebuild-clause-fit g c =
-    subst (λ (given : List Trace). (device : ℕ) (trace : Trace) → slice_get given device ≡ Some trace → is_rebuilt_from (array_terms c.args.words.now).rebuild device ≡ true
-    → IsScript c.args.disk.now.map (length trace.requests.items) c.in-Ok-read_rebuild.calls.calls.items) c.as_slice.ensures.value c.in-Ok-read_rebuild.ensures.fit
+    subst (λ (given : List Trace). (device : ℕ) (trace : Trace) → slice_get given device ≡ Some trace
+    → is_rebuilt_from (array_terms c.args.words.now).rebuild device ≡ true
+    → IsScript c.args.disk.now.map (length trace.requests.items) c.in-Ok-read_rebuild.calls.calls.items) c.as_slice.ensures.value
+    c.in-Ok-read_rebuild.ensures.fit
 
 pub returns-in-Err-read_rebuild-clause-cause : goal.returns-in-Err-read_rebuild-clause-cause
 returns-in-Err-read_rebuild-clause-cause g c = λ first latent reads only.
@@ -46,7 +52,8 @@ returns-in-Err-read_rebuild-clause-cause g c = λ first latent reads only.
     let terms = array_terms c.args.words.now in
     let disk = c.args.disk.now in
     let traces = map accepted c.in-Ok.traces.items in
-    array_at_rebuild terms first mid (g.D.Desk.seen c.read_devices.new.desk) c.in-Err-read_rebuild.outcome (record { disk = disk; latent = latent; reads_disk = reads }) traces
+    array_at_rebuild terms first mid (g.D.Desk.seen c.read_devices.new.desk) c.in-Err-read_rebuild.outcome
+    (record { disk = disk; latent = latent; reads_disk = reads }) traces
     (reads_before (only.held terms.trace) (subst (λ (name : List ℕ). ReadsTraces mid name terms.devices disk traces)
     c.as_str.ensures.value c.in-Ok.ensures.traces))
     only c.in-Ok.ensures.only c.in-Err-read_rebuild.ensures.stops

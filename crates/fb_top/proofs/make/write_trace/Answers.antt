@@ -24,7 +24,8 @@ pub returns-in-Err-next_line-clause-stops : goal.returns-in-Err-next_line-clause
 returns-in-Err-next_line-clause-stops g c =
     let words = c.args.words.now in
     let lines = made_lines words.number words.device c.args.sectors words.requests in
-    λ begun. record { named = c.loop-place.invariant.name; written = front_of ((g.D.Desk.seen c.loop-place.desk).outputs MadeTrace).written lines c.loop-place.place c.loop-place.invariant.lines }
+    λ begun. record { named = c.loop-place.invariant.name; written = front_of ((g.D.Desk.seen c.loop-place.desk).outputs
+    MadeTrace).written lines c.loop-place.place c.loop-place.invariant.lines }
 
 pub returns-in-Err-write_whole-clause-stops : goal.returns-in-Err-write_whole-clause-stops
 returns-in-Err-write_whole-clause-stops g c =
@@ -36,10 +37,13 @@ returns-in-Err-write_whole-clause-stops g c =
     let new = g.D.Desk.seen c.write_whole.new.desk in
     let line = next_line g (goal.at.returns-in-Err-write_whole-clause-stops g c).After-write_whole in (
       refl,
-      rose_since (old.outputs MadeTrace).faults (now.outputs MadeTrace).faults (new.outputs MadeTrace).faults c.loop-place.invariant.calm c.in-Err-write_whole.ensures.cause.failed,
+      rose_since (old.outputs MadeTrace).faults (now.outputs MadeTrace).faults
+          (new.outputs MadeTrace).faults c.loop-place.invariant.calm c.in-Err-write_whole.ensures.cause.failed,
       λ begun. record {
-        named = same_name (string_bytes words.trace) (now.outputs MadeTrace).name (new.outputs MadeTrace).name c.in-Err-write_whole.ensures.name c.loop-place.invariant.name;
-        written = front_more (now.outputs MadeTrace).written (new.outputs MadeTrace).written lines place c.as_slice.result.now c.loop-place.invariant.lines line c.in-Err-write_whole.ensures.front;
+        named = same_name (string_bytes words.trace) (now.outputs MadeTrace).name
+            (new.outputs MadeTrace).name c.in-Err-write_whole.ensures.name c.loop-place.invariant.name;
+        written = front_more (now.outputs MadeTrace).written (new.outputs MadeTrace).written lines place c.as_slice.result.now
+            c.loop-place.invariant.lines line c.in-Err-write_whole.ensures.front;
       },
     )
 
@@ -57,9 +61,12 @@ loop-place-preserved g c =
       only = output_on MadeTrace old now new c.loop-place.invariant.only told.only;
       calm = told.cause.calm ∙ c.loop-place.invariant.calm;
       begun = told.begun;
-      name = same_name (string_bytes words.trace) (now.outputs MadeTrace).name (new.outputs MadeTrace).name told.name c.loop-place.invariant.name;
-      lines = holds_more (now.outputs MadeTrace).written (new.outputs MadeTrace).written lines place c.as_slice.result.now c.loop-place.invariant.lines line told.whole;
-      maker = c.in-Ok-next_line.ensures.ok ∙ ap (λ (making : Making). record making { made = making.made + 1 }) c.loop-place.invariant.maker;
+      name = same_name (string_bytes words.trace) (now.outputs MadeTrace).name
+          (new.outputs MadeTrace).name told.name c.loop-place.invariant.name;
+      lines = holds_more (now.outputs MadeTrace).written
+          (new.outputs MadeTrace).written lines place c.as_slice.result.now c.loop-place.invariant.lines line told.whole;
+      maker =
+          c.in-Ok-next_line.ensures.ok ∙ ap (λ (making : Making). record making { made = making.made + 1 }) c.loop-place.invariant.maker;
     }
 
 pub returns-clause-whole : goal.returns-clause-whole
@@ -69,6 +76,7 @@ returns-clause-whole g c =
     record {
       begun = c.loop-place.invariant.begun;
       named = c.loop-place.invariant.name;
-      written = holds_all ((g.D.Desk.seen c.loop-place.desk).outputs MadeTrace).written lines c.loop-place.place c.loop-place.invariant.lines
+      written =
+          holds_all ((g.D.Desk.seen c.loop-place.desk).outputs MadeTrace).written lines c.loop-place.place c.loop-place.invariant.lines
           (omega (arith, lines_counted words.number words.device c.args.sectors words.requests, c.loop-place-test.false));
     }

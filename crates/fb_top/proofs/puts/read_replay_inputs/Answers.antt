@@ -9,7 +9,8 @@ use Rattle.fb_top.specs.Opened.{IsOpenedAs, OpensAsNamed}
 use Rattle.fb_top.specs.Read.{Accepts, AcceptsPuts, files_of, key_of}
 use Rattle.fb_top.specs.Sources.{SourceTerms, files_alone, replay_inputs}
 use Rattle.fb_top.specs.Unnamed.{KeepsUnnamed}
-use Rattle.fb_top.proofs.MoreInputs.{files_opened, files_stopped, files_unnamed, puts_before, puts_calm, puts_opened, puts_stopped, puts_unnamed}
+use Rattle.fb_top.proofs.MoreInputs.{files_opened, files_stopped, files_unnamed, puts_before, puts_calm, puts_opened, puts_stopped}
+use Rattle.fb_top.proofs.MoreInputs.{puts_unnamed}
 use Rattle.fb_top.proofs.puts.read_replay_inputs.Given as given
 use Rattle.fb_top.proofs.puts.read_replay_inputs.Goals as goal
 use Rattle.fb_top.proofs.puts.read_replay_inputs.Goals.{After-read_given_puts}
@@ -42,24 +43,28 @@ pub returns-in-Err-clause-cause : goal.returns-in-Err-clause-cause
 returns-in-Err-clause-cause g c =
     let old = g.D.Desk.seen c.args.desk.now in
     let new = g.D.Desk.seen c.read_inputs.new.desk in
-    files_stopped (replay_inputs (replay_terms c.args.words.now)) old new c.in-Err.outcome (subst (λ (s : SourceTerms). StopsInputs (files_alone s) old new c.in-Err.outcome) c.sources.ensures c.in-Err.ensures.cause)
+    files_stopped (replay_inputs (replay_terms c.args.words.now)) old new c.in-Err.outcome
+    (subst (λ (s : SourceTerms). StopsInputs (files_alone s) old new c.in-Err.outcome) c.sources.ensures c.in-Err.ensures.cause)
 
 pub returns-in-Err-clause-unnamed : goal.returns-in-Err-clause-unnamed
 returns-in-Err-clause-unnamed g c =
     let old = g.D.Desk.seen c.args.desk.now in
     let new = g.D.Desk.seen c.read_inputs.new.desk in
-    files_unnamed (replay_inputs (replay_terms c.args.words.now)) old new (subst (λ (s : SourceTerms). KeepsUnnamed (files_alone s) old new) c.sources.ensures c.in-Err.ensures.unnamed)
+    files_unnamed (replay_inputs (replay_terms c.args.words.now)) old new
+    (subst (λ (s : SourceTerms). KeepsUnnamed (files_alone s) old new) c.sources.ensures c.in-Err.ensures.unnamed)
 
 pub returns-in-Err-clause-opened : goal.returns-in-Err-clause-opened
 returns-in-Err-clause-opened g c =
     let old = g.D.Desk.seen c.args.desk.now in
     let new = g.D.Desk.seen c.read_inputs.new.desk in
-    files_opened (replay_inputs (replay_terms c.args.words.now)) old new (subst (λ (s : SourceTerms). KeepsUnnamed (files_alone s) old new) c.sources.ensures c.in-Err.ensures.unnamed)
+    files_opened (replay_inputs (replay_terms c.args.words.now)) old new
+    (subst (λ (s : SourceTerms). KeepsUnnamed (files_alone s) old new) c.sources.ensures c.in-Err.ensures.unnamed)
     c.requires.unused (subst (λ (s : SourceTerms). OpensAsNamed (files_alone s) old new) c.sources.ensures c.in-Err.ensures.opened)
 
 pub returns-in-Ok-read_given_puts-clause-accepts : goal.returns-in-Ok-read_given_puts-clause-accepts
 returns-in-Ok-read_given_puts-clause-accepts g c =
-    subst (λ (s : SourceTerms). Accepts (g.D.Desk.seen c.args.desk.now) s (files_of c.in-Ok.files)) c.sources.ensures c.in-Ok.ensures.accepts
+    subst (λ (s : SourceTerms). Accepts (g.D.Desk.seen c.args.desk.now) s (files_of c.in-Ok.files)) c.sources.ensures
+    c.in-Ok.ensures.accepts
 
 pub returns-in-Ok-read_given_puts-clause-puts : goal.returns-in-Ok-read_given_puts-clause-puts
 returns-in-Ok-read_given_puts-clause-puts g c =
@@ -70,7 +75,8 @@ returns-in-Ok-read_given_puts-clause-puts g c =
     let files = files_of c.in-Ok.files in
     let puts = option_map accepted c.in-Ok-read_given_puts.puts in
     puts_before terms _ c.sources.ensures old mid new c.in-Ok.ensures.held c.in-Ok.ensures.outputs c.in-Ok.ensures.unnamed
-    c.in-Ok-read_given_puts.ensures.only terms.puts files puts (subst (λ (given : Option (List ℕ)). AcceptsPuts mid given files puts) c.puts_name.ensures c.in-Ok-read_given_puts.ensures.puts)
+    c.in-Ok-read_given_puts.ensures.only terms.puts files puts
+    (subst (λ (given : Option (List ℕ)). AcceptsPuts mid given files puts) c.puts_name.ensures c.in-Ok-read_given_puts.ensures.puts)
 
 pub returns-in-Ok-read_given_puts-clause-fit : goal.returns-in-Ok-read_given_puts-clause-fit
 returns-in-Ok-read_given_puts-clause-fit g c = c.in-Ok.ensures.fit (key_of c.args.words.now.policy) c.args.words.now.until c.requires.until
@@ -87,7 +93,8 @@ pub returns-in-Ok-read_given_puts-clause-calm : goal.returns-in-Ok-read_given_pu
 returns-in-Ok-read_given_puts-clause-calm g c =
     puts_calm (replay_inputs (replay_terms c.args.words.now)) _ c.sources.ensures
     (g.D.Desk.seen c.args.desk.now) (g.D.Desk.seen c.read_inputs.new.desk) (g.D.Desk.seen c.read_given_puts.new.desk)
-    c.in-Ok.ensures.held c.in-Ok.ensures.outputs c.in-Ok.ensures.unnamed c.in-Ok-read_given_puts.ensures.only c.in-Ok.ensures.calm c.in-Ok-read_given_puts.ensures.calm
+    c.in-Ok.ensures.held c.in-Ok.ensures.outputs c.in-Ok.ensures.unnamed c.in-Ok-read_given_puts.ensures.only c.in-Ok.ensures.calm
+    c.in-Ok-read_given_puts.ensures.calm
 
 pub returns-in-Err-read_given_puts-clause-cause : goal.returns-in-Err-read_given_puts-clause-cause
 returns-in-Err-read_given_puts-clause-cause g c =
@@ -96,9 +103,14 @@ returns-in-Err-read_given_puts-clause-cause g c =
     let new = g.D.Desk.seen c.read_given_puts.new.desk in
     let terms = replay_inputs (replay_terms c.args.words.now) in
     let outcome = c.in-Err-read_given_puts.outcome in
-    let files : AcceptsFiles old terms.sources = record { files = files_of c.in-Ok.files; accepts = subst (λ (s : SourceTerms). Accepts old s (files_of c.in-Ok.files)) c.sources.ensures c.in-Ok.ensures.accepts } in
+    let files : AcceptsFiles old terms.sources = record {
+      files = files_of c.in-Ok.files;
+      accepts = subst (λ (s : SourceTerms). Accepts old s (files_of c.in-Ok.files)) c.sources.ensures c.in-Ok.ensures.accepts;
+    } in
     puts_stopped terms _ c.sources.ensures old mid new c.in-Ok.ensures.held c.in-Ok.ensures.outputs c.in-Ok.ensures.unnamed
-    c.in-Err-read_given_puts.ensures.only outcome files (subst (λ (given : Option (List ℕ)). StopsGivenPuts given files.files mid new outcome) c.puts_name.ensures c.in-Err-read_given_puts.ensures.stops)
+    c.in-Err-read_given_puts.ensures.only outcome files
+    (subst (λ (given : Option (List ℕ)). StopsGivenPuts given files.files mid new outcome) c.puts_name.ensures
+    c.in-Err-read_given_puts.ensures.stops)
 
 pub returns-in-Err-read_given_puts-clause-unnamed : goal.returns-in-Err-read_given_puts-clause-unnamed
 returns-in-Err-read_given_puts-clause-unnamed g c =

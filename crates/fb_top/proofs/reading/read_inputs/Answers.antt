@@ -15,15 +15,18 @@ returns-in-Err-clause-cause g c =
     c.in-Err.ensures.stops
 
 pub returns-in-Err-clause-unnamed : goal.returns-in-Err-clause-unnamed
-returns-in-Err-clause-unnamed g c = unnamed_at_params (sources_of c.args.sources.now) (g.D.Desk.seen c.args.desk.now) (g.D.Desk.seen c.read_disk.new.desk) c.in-Err.ensures.only
+returns-in-Err-clause-unnamed g c = unnamed_at_params (sources_of c.args.sources.now) (g.D.Desk.seen c.args.desk.now)
+    (g.D.Desk.seen c.read_disk.new.desk) c.in-Err.ensures.only
 
 pub returns-in-Err-clause-opened : goal.returns-in-Err-clause-opened
 returns-in-Err-clause-opened g c =
-    opened_at_params (sources_of c.args.sources.now) (g.D.Desk.seen c.args.desk.now) c.requires (g.D.Desk.seen c.read_disk.new.desk) c.in-Err.ensures.only
+    opened_at_params (sources_of c.args.sources.now) (g.D.Desk.seen c.args.desk.now) c.requires
+    (g.D.Desk.seen c.read_disk.new.desk) c.in-Err.ensures.only
     c.in-Err.ensures.opened
 
 pub returns-in-Ok-read_workload-clause-accepts : goal.returns-in-Ok-read_workload-clause-accepts
-returns-in-Ok-read_workload-clause-accepts g c = c.in-Ok-read_workload.ensures.accepts (g.D.Desk.seen c.args.desk.now) c.in-Ok.params.latent.items c.in-Ok.ensures.disk c.in-Ok.ensures.only
+returns-in-Ok-read_workload-clause-accepts g c = c.in-Ok-read_workload.ensures.accepts
+    (g.D.Desk.seen c.args.desk.now) c.in-Ok.params.latent.items c.in-Ok.ensures.disk c.in-Ok.ensures.only
 
 pub returns-in-Ok-read_workload-clause-fit : goal.returns-in-Ok-read_workload-clause-fit
 returns-in-Ok-read_workload-clause-fit g c = λ key until late.
@@ -37,16 +40,21 @@ pub returns-in-Ok-read_workload-clause-unnamed : goal.returns-in-Ok-read_workloa
 returns-in-Ok-read_workload-clause-unnamed g c = c.in-Ok-read_workload.ensures.unnamed (g.D.Desk.seen c.args.desk.now) c.in-Ok.ensures.only
 
 pub returns-in-Ok-read_workload-clause-opened : goal.returns-in-Ok-read_workload-clause-opened
-returns-in-Ok-read_workload-clause-opened g c = c.in-Ok-read_workload.ensures.opened (g.D.Desk.seen c.args.desk.now) c.requires c.in-Ok.ensures.only c.in-Ok.ensures.opened
+returns-in-Ok-read_workload-clause-opened g c =
+    c.in-Ok-read_workload.ensures.opened (g.D.Desk.seen c.args.desk.now) c.requires c.in-Ok.ensures.only c.in-Ok.ensures.opened
 
 pub returns-in-Ok-read_workload-clause-calm : goal.returns-in-Ok-read_workload-clause-calm
-returns-in-Ok-read_workload-clause-calm g c = c.in-Ok-read_workload.ensures.calm (g.D.Desk.seen c.args.desk.now) c.in-Ok.ensures.only c.in-Ok.ensures.calm
+returns-in-Ok-read_workload-clause-calm g c =
+    c.in-Ok-read_workload.ensures.calm (g.D.Desk.seen c.args.desk.now) c.in-Ok.ensures.only c.in-Ok.ensures.calm
 
 pub returns-in-Err-read_workload-clause-cause : goal.returns-in-Err-read_workload-clause-cause
-returns-in-Err-read_workload-clause-cause g c = c.in-Err-read_workload.ensures.cause (g.D.Desk.seen c.args.desk.now) c.in-Ok.params.latent.items c.in-Ok.ensures.disk c.in-Ok.ensures.only
+returns-in-Err-read_workload-clause-cause g c = c.in-Err-read_workload.ensures.cause
+    (g.D.Desk.seen c.args.desk.now) c.in-Ok.params.latent.items c.in-Ok.ensures.disk c.in-Ok.ensures.only
 
 pub returns-in-Err-read_workload-clause-unnamed : goal.returns-in-Err-read_workload-clause-unnamed
-returns-in-Err-read_workload-clause-unnamed g c = c.in-Err-read_workload.ensures.unnamed (g.D.Desk.seen c.args.desk.now) c.in-Ok.ensures.only
+returns-in-Err-read_workload-clause-unnamed g c =
+    c.in-Err-read_workload.ensures.unnamed (g.D.Desk.seen c.args.desk.now) c.in-Ok.ensures.only
 
 pub returns-in-Err-read_workload-clause-opened : goal.returns-in-Err-read_workload-clause-opened
-returns-in-Err-read_workload-clause-opened g c = c.in-Err-read_workload.ensures.opened (g.D.Desk.seen c.args.desk.now) c.requires c.in-Ok.ensures.only c.in-Ok.ensures.opened
+returns-in-Err-read_workload-clause-opened g c =
+    c.in-Err-read_workload.ensures.opened (g.D.Desk.seen c.args.desk.now) c.requires c.in-Ok.ensures.only c.in-Ok.ensures.opened

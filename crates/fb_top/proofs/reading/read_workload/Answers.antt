@@ -42,11 +42,13 @@ returns-in-Err-clause-cause g c = λ first latent reads only.
 
 pub returns-in-Err-clause-unnamed : goal.returns-in-Err-clause-unnamed
 returns-in-Err-clause-unnamed g c = λ first only.
-    unnamed_at_trace (sources_of c.args.sources.now) first (g.D.Desk.seen c.args.desk.now) (g.D.Desk.seen c.read_requests.new.desk) only c.in-Err.ensures.only
+    unnamed_at_trace (sources_of c.args.sources.now) first (g.D.Desk.seen c.args.desk.now)
+    (g.D.Desk.seen c.read_requests.new.desk) only c.in-Err.ensures.only
 
 pub returns-in-Err-clause-opened : goal.returns-in-Err-clause-opened
 returns-in-Err-clause-opened g c = λ first unused only opened.
-    opened_at_trace (sources_of c.args.sources.now) first unused (g.D.Desk.seen c.args.desk.now) only opened (g.D.Desk.seen c.read_requests.new.desk)
+    opened_at_trace (sources_of c.args.sources.now) first unused (g.D.Desk.seen c.args.desk.now) only opened
+    (g.D.Desk.seen c.read_requests.new.desk)
     c.in-Err.ensures.only c.in-Err.ensures.opened
 
 pub returns-in-Ok-read_script-clause-accepts : goal.returns-in-Ok-read_script-clause-accepts
@@ -61,12 +63,14 @@ returns-in-Ok-read_script-clause-accepts g c = λ first latent reads only.
       disk = reads;
       trace = reads_before (only.held words.trace) c.in-Ok.ensures.trace;
       script = script_before first mid late words.calls disk (length trace.requests) script only c.in-Ok.ensures.only
-          (subst (λ (traced : ℕ). ReadsScript late words.calls disk traced script) (ap length c.as_slice-requests.ensures.value) c.in-Ok-read_script.ensures.script);
+          (subst (λ (traced : ℕ). ReadsScript late words.calls disk traced script)
+          (ap length c.as_slice-requests.ensures.value) c.in-Ok-read_script.ensures.script);
     }
 
 pub returns-in-Ok-read_script-clause-fit : goal.returns-in-Ok-read_script-clause-fit
 returns-in-Ok-read_script-clause-fit g c =
-    subst (λ (traced : ℕ). IsScript c.args.disk.now.map traced c.in-Ok-read_script.calls.calls.items) (ap length c.as_slice-requests.ensures.value) c.in-Ok-read_script.ensures.fit
+    subst (λ (traced : ℕ). IsScript c.args.disk.now.map traced c.in-Ok-read_script.calls.calls.items)
+    (ap length c.as_slice-requests.ensures.value) c.in-Ok-read_script.ensures.fit
 
 pub returns-in-Ok-read_script-clause-unnamed : goal.returns-in-Ok-read_script-clause-unnamed
 returns-in-Ok-read_script-clause-unnamed g c = unnamed_then g (goal.at.returns-in-Ok-read_script-clause-unnamed g c).After-read_script
@@ -93,7 +97,8 @@ returns-in-Err-read_script-clause-cause g c = λ first latent reads only.
       reads_trace = reads_before (only.held words.trace) c.in-Ok.ensures.trace;
     } in
     at_script words first mid late new c.in-Err-read_script.outcome before only c.in-Ok.ensures.only c.in-Err-read_script.ensures.only
-    (subst (λ (traced : ℕ). StopsScript words.calls disk traced late new c.in-Err-read_script.outcome) (ap length c.as_slice-requests.ensures.value) c.in-Err-read_script.ensures.stops)
+    (subst (λ (traced : ℕ). StopsScript words.calls disk traced late new c.in-Err-read_script.outcome)
+    (ap length c.as_slice-requests.ensures.value) c.in-Err-read_script.ensures.stops)
 
 pub returns-in-Err-read_script-clause-unnamed : goal.returns-in-Err-read_script-clause-unnamed
 returns-in-Err-read_script-clause-unnamed g c = unnamed_then g (goal.at.returns-in-Err-read_script-clause-unnamed g c).After-read_script

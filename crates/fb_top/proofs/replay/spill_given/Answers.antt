@@ -11,7 +11,8 @@ spill-requires c =
     let run = c.args.run.now in
     let full = c.requires.full.full in
     let inputs = inputs_of (files_of c.args.inputs.now.files) c.requires.full.key c.requires.full.until in
-    let fit : CanBeSpilled (files_of c.args.inputs.now.files) (accepted c.in-Some.puts) = holds_of _ c.args.inputs.now.puts c.in-Some.puts c.in-Some.is c.requires.fit in
+    let fit : CanBeSpilled (files_of c.args.inputs.now.files) (accepted c.in-Some.puts) =
+    holds_of _ c.args.inputs.now.puts c.in-Some.puts c.in-Some.is c.requires.fit in
     record {
       possible = full.sound.possible;
       early = c.requires.early;

@@ -18,9 +18,12 @@ returns-in-Some-Some-clause-whole g c =
     let files = files_of c.args.files.now in
     let spill = c.in-Some-Some.spill.now in
     on_ok_weaker c.write_lines.result (λ holds.
-    subst (λ (given : Option SpillRun). HoldsReplay terms files c.args.run.now given (g.D.Desk.seen c.args.desk.now) new) (sym (ap (option_map (λ s. s.now)) c.in-Some-Some.is-0))
-    (wrote_spill terms files _ spill _ _ new c.in-Ok.ensures.whole c.write_lines.ensures.only _ (ap (option_map string_bytes) c.in-Some-Some.is-1)
-    (subst (λ (name : List ℕ). HoldsWhole (new.outputs Spill) name (spill_told terms files spill)) c.as_str.ensures.value holds))) c.write_lines.ensures.whole
+    subst (λ (given : Option SpillRun). HoldsReplay terms files c.args.run.now given (g.D.Desk.seen c.args.desk.now) new)
+    (sym (ap (option_map (λ s. s.now)) c.in-Some-Some.is-0))
+    (wrote_spill terms files _ spill _ _ new c.in-Ok.ensures.whole c.write_lines.ensures.only _
+    (ap (option_map string_bytes) c.in-Some-Some.is-1)
+    (subst (λ (name : List ℕ). HoldsWhole (new.outputs Spill) name (spill_told terms files spill)) c.as_str.ensures.value holds)))
+    c.write_lines.ensures.whole
 
 pub returns-in-Some-Some-clause-stops : goal.returns-in-Some-Some-clause-stops
 returns-in-Some-Some-clause-stops g c =
@@ -31,7 +34,9 @@ returns-in-Some-Some-clause-stops g c =
     inr (
       spill,
       ap (option_map (λ s. s.now)) c.in-Some-Some.is-0,
-      stopped_spill terms files _ spill _ _ _ c.in-Ok.ensures.whole c.write_lines.ensures.only _ (ap (option_map string_bytes) c.in-Some-Some.is-1) outcome
-          (subst (λ (name : List ℕ). StopsText Spill name (spill_told terms files spill) (g.D.Desk.seen c.write_reports.new.desk) (g.D.Desk.seen c.write_lines.new.desk) outcome)
+      stopped_spill terms files _ spill _ _ _ c.in-Ok.ensures.whole c.write_lines.ensures.only _
+          (ap (option_map string_bytes) c.in-Some-Some.is-1) outcome
+          (subst (λ (name : List ℕ). StopsText Spill name (spill_told terms files spill) (g.D.Desk.seen c.write_reports.new.desk)
+          (g.D.Desk.seen c.write_lines.new.desk) outcome)
           c.as_str.ensures.value stops),
     )) c.write_lines.ensures.stops

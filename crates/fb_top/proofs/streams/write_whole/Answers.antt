@@ -17,6 +17,8 @@ loop-done-preserved g c =
       calm = told.cause.calm ∙ kept.calm;
       begun = told.begun;
       name = told.named ∙ kept.name;
-      written = written_more (old.outputs c.args.which).written (now.outputs c.args.which).written (next.outputs c.args.which).written c.args.text.now c.loop-done.done c.in_ok-done.field-0 kept.written
-          (told.written ∙ ap (λ r. behind (now.outputs c.args.which).written (take c.in_ok-done.field-0 r)) (take_rest c.args.text.now c.loop-done.done));
+      written = written_more (old.outputs c.args.which).written (now.outputs c.args.which).written
+          (next.outputs c.args.which).written c.args.text.now c.loop-done.done c.in_ok-done.field-0 kept.written
+          (told.written
+          ∙ ap (λ r. behind (now.outputs c.args.which).written (take c.in_ok-done.field-0 r)) (take_rest c.args.text.now c.loop-done.done));
     }

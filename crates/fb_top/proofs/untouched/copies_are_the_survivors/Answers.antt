@@ -23,10 +23,13 @@ returns c = λ old new terms rebuild runs run copy arrayed given at.
       contents = ap (λ (one : Rebuilt). one.content) made;
       count = ap (λ (one : Rebuilt). one.covered) made;
       covered = λ lbn held. c.covered_sectors_are_the_survivors.ensures.at_end inputs run lbn held sound mine.accepted mine.full;
-      covered_at_rest = λ t lbn held rests. c.covered_sectors_are_the_survivors.ensures.at_rest inputs run t lbn held sound mine.accepted mine.full rests;
+      covered_at_rest =
+          λ t lbn held rests. c.covered_sectors_are_the_survivors.ensures.at_rest inputs run t lbn held sound mine.accepted mine.full rests;
       whole = λ instant sealed.
-          let whole = c.sealed_rebuilds_are_whole.ensures.at_end inputs run instant sound mine.accepted mine.full calls (ap (λ (one : Rebuilt). one.sealed) (sym made) ∙ sealed) in
+          let whole = c.sealed_rebuilds_are_whole.ensures.at_end inputs run instant sound mine.accepted mine.full calls
+          (ap (λ (one : Rebuilt). one.sealed) (sym made) ∙ sealed) in
           (ap (λ (one : Rebuilt). one.covered) made ∙ whole.covered, ap (λ (one : Rebuilt). one.content) made ∙ whole.content);
       stays_whole = λ instant t lbn sealed from rests inside.
-          c.sealed_rebuilds_are_whole.ensures.at_rest inputs run instant t sound mine.accepted mine.full calls (ap (λ (one : Rebuilt). one.sealed) (sym made) ∙ sealed) from rests lbn inside;
+          c.sealed_rebuilds_are_whole.ensures.at_rest inputs run instant t sound mine.accepted mine.full calls
+          (ap (λ (one : Rebuilt). one.sealed) (sym made) ∙ sealed) from rests lbn inside;
     }

@@ -25,27 +25,34 @@ returns c = λ old new other terms asked run replayed asks.
     let fore = fore_lines size terms.bytes run in
     let back = back_lines files.script.names size terms.bytes run in
     let fore_whole : HoldsWhole (new.outputs Fore) (codes "-") (fore_text size terms.bytes run) =
-    subst (λ (summary : Bool). HoldsWhole (new.outputs Fore) (codes "-") (if summary then summary_text run else fore_text size terms.bytes run)) asks.no_summary done.fore in
+    subst (λ (summary : Bool). HoldsWhole (new.outputs Fore) (codes "-")
+    (if summary then summary_text run else fore_text size terms.bytes run)) asks.no_summary done.fore in
     let back_whole : HoldsWhole (new.outputs Back) asks.back_name (back_told terms files run) =
-    subst (λ (given : Option (List ℕ)). HoldsWanted given (back_told terms files run) (old.outputs Back) (new.outputs Back)) asks.back_given done.back in
+    subst (λ (given : Option (List ℕ)). HoldsWanted given (back_told terms files run) (old.outputs Back) (new.outputs Back)) asks.back_given
+    done.back in
     let fore_read = done.read.fore asks.no_summary in
-    let back_read : IsReadBack back_grammar back = subst (λ (given : Option (List ℕ)). IfSome given (λ name. IsReadBack back_grammar back)) asks.back_given done.read.back in
+    let back_read : IsReadBack back_grammar back =
+    subst (λ (given : Option (List ℕ)). IfSome given (λ name. IsReadBack back_grammar back)) asks.back_given done.read.back in
     let fore_told = told_lines (new.outputs Fore) other asked.fore (codes "-") fore_grammar fore asks.fore fore_whole fore_read in
     let back_told = told_lines (new.outputs Back) other asked.back asks.back_name back_grammar back asks.back back_whole back_read in
     let own : HoldsOwnReports other asked files run = record {
       fore = subst (λ (bytes : Bytes). HoldsLines other asked.fore fore_grammar (fore_lines size bytes run)) (sym asks.bytes)
           (held_lines (new.outputs Fore) other asked.fore (codes "-") fore_grammar fore asks.fore fore_whole fore_read);
-      back = subst (λ (bytes : Bytes). HoldsLines other asked.back back_grammar (back_lines files.script.names size bytes run)) (sym asks.bytes)
+      back = subst (λ (bytes : Bytes). HoldsLines other asked.back back_grammar (back_lines files.script.names size bytes run))
+          (sym asks.bytes)
           (held_lines (new.outputs Back) other asked.back asks.back_name back_grammar back asks.back back_whole back_read);
     } in
-    let alike : HoldOneInput old other (check_sources asked) = subst (HoldOneInput old other) (sym asks.checks_run.sources) asks.checks_run.alike in
-    let accepts : Accepts old (check_sources asked) files = subst (λ (s : SourceTerms). Accepts old s files) (sym asks.checks_run.sources) done.is_run.accepts in
+    let alike : HoldOneInput old other (check_sources asked) =
+    subst (HoldOneInput old other) (sym asks.checks_run.sources) asks.checks_run.alike in
+    let accepts : Accepts old (check_sources asked) files =
+    subst (λ (s : SourceTerms). Accepts old s files) (sym asks.checks_run.sources) done.is_run.accepts in
     record {
       fore = fore_told;
       back = back_told;
       yes = λ verdict is. c.right_reports_are_right.ensures old other terms asked run verdict done.is_run is asks.checks_run own;
       answer = λ after outcome cause calm.
-          answers_yes other after asked outcome (λ verdict is. c.right_reports_are_right.ensures old other terms asked run verdict done.is_run is asks.checks_run own) cause
+          answers_yes other after asked outcome
+          (λ verdict is. c.right_reports_are_right.ensures old other terms asked run verdict done.is_run is asks.checks_run own) cause
           (complete (Ok (checks asked)) other after outcome cause (record {
             inputs = record {
               files = files;

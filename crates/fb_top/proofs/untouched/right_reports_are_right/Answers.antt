@@ -14,14 +14,19 @@ use Rattle.fb_top.proofs.untouched.right_reports_are_right.Goals as goal
 
 pub returns : goal.returns
 returns c = λ one other terms checks run verdict is_run is_verdict asks own.
-    let read : Accepts other (replay_sources terms) is_verdict.files = subst (λ (s : SourceTerms). Accepts other s is_verdict.files) asks.sources is_verdict.accepts in
-    let same : is_run.files ≡ is_verdict.files = one_reading one other (replay_sources terms) is_run.files is_verdict.files asks.alike is_run.accepts read in
+    let read : Accepts other (replay_sources terms) is_verdict.files =
+    subst (λ (s : SourceTerms). Accepts other s is_verdict.files) asks.sources is_verdict.accepts in
+    let same : is_run.files ≡ is_verdict.files =
+    one_reading one other (replay_sources terms) is_run.files is_verdict.files asks.alike is_run.accepts read in
     let judges = is_verdict.judges in
-    let printed : Reports = record { names = is_verdict.files.script.names; bytes = checks.bytes; fore = judges.fore; back = judges.judges_back.back } in
+    let printed : Reports =
+    record { names = is_verdict.files.script.names; bytes = checks.bytes; fore = judges.fore; back = judges.judges_back.back } in
     is_yes c.one_full_run.ensures (inputs_of is_verdict.files (key_of checks.policy) checks.until) printed run is_verdict.accepted
     (subst (λ (files : Files). IsFull (inputs_of files (key_of checks.policy) checks.until) run) same
     (subst (λ (policy : Policy). IsFull (inputs_of is_run.files (key_of policy) checks.until) run) (sym asks.policy)
     (subst (λ (until : ℕ). IsFull (inputs_of is_run.files (key_of terms.policy) until) run) (sym asks.until) is_run.full)))
-    (subst (λ (files : Files). fore_lines files.disk.sector_bytes checks.bytes run ≡ map ended judges.fore) same (read_as other checks.fore fore_grammar _ judges.fore own.fore judges.fore_read))
-    (subst (λ (files : Files). back_lines files.script.names files.disk.sector_bytes checks.bytes run ≡ map ended judges.judges_back.back) same (read_as other checks.back back_grammar _ judges.judges_back.back own.back judges.judges_back.back_read))
+    (subst (λ (files : Files). fore_lines files.disk.sector_bytes checks.bytes run ≡ map ended judges.fore) same
+    (read_as other checks.fore fore_grammar _ judges.fore own.fore judges.fore_read))
+    (subst (λ (files : Files). back_lines files.script.names files.disk.sector_bytes checks.bytes run ≡ map ended judges.judges_back.back)
+    same (read_as other checks.back back_grammar _ judges.judges_back.back own.back judges.judges_back.back_read))
     verdict judges.judges_back.verdict_is

@@ -15,6 +15,7 @@ returns-clause-note g c =
     record {
       begun = inl told.begun;
       name = λ begun. same_name (codes "-") now.name new.name told.name c.in-Ok.ensures.named;
-      written = λ begun. note_written c.write_whole.result old now new c.as_slice.result.now (note_of c.args.outcome.now) c.in-Ok.ensures.empty (c.as_slice.ensures.value ∙ c.in-Ok-note_text.ensures) told.whole told.front
+      written = λ begun. note_written c.write_whole.result old now new c.as_slice.result.now
+          (note_of c.args.outcome.now) c.in-Ok.ensures.empty (c.as_slice.ensures.value ∙ c.in-Ok-note_text.ensures) told.whole told.front
           (rose_on c.write_whole.result old.faults now.faults new.faults c.in-Ok.ensures.cause.calm told.cause.failed);
     }

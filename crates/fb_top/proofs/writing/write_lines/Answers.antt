@@ -12,7 +12,8 @@ loop-place-init g c = record {
   calm = c.in-Ok.ensures.cause.calm;
   begun = c.in-Ok.ensures.begun;
   name = c.in-Ok.ensures.named;
-  lines = holds_none ((g.D.Desk.seen c.begin_output.new.self).outputs c.args.which).written (g.L.Lines.lines c.args.lines.now) c.in-Ok.ensures.empty;
+  lines = holds_none ((g.D.Desk.seen c.begin_output.new.self).outputs c.args.which).written
+      (g.L.Lines.lines c.args.lines.now) c.in-Ok.ensures.empty;
   in_place = λ can place line inside got. absurd (omega arith);
 }
 
@@ -24,7 +25,8 @@ returns-in-Err-line g c = record {
   read = tt;
   stops = λ begun. record {
     named = c.loop-place.invariant.name;
-    written = front_of ((g.D.Desk.seen c.loop-place.desk).outputs c.args.which).written (g.L.Lines.lines c.args.lines.now) c.loop-place.place c.loop-place.invariant.lines;
+    written = front_of ((g.D.Desk.seen c.loop-place.desk).outputs c.args.which).written
+        (g.L.Lines.lines c.args.lines.now) c.loop-place.place c.loop-place.invariant.lines;
   };
 }
 
@@ -35,7 +37,8 @@ returns-in-Err-write_whole g c =
     let old = g.D.Desk.seen c.args.desk.now in
     let now = g.D.Desk.seen c.loop-place.desk in
     let new = g.D.Desk.seen c.write_whole.new.desk in
-    let line : slice_get lines c.loop-place.place ≡ Some c.as_slice.result.now = c.in-Ok-line.ensures.value ∙ ap Some (sym c.as_slice.ensures.value) in
+    let line : slice_get lines c.loop-place.place ≡ Some c.as_slice.result.now = c.in-Ok-line.ensures.value
+    ∙ ap Some (sym c.as_slice.ensures.value) in
     record {
       only = output_on which old now new c.loop-place.invariant.only c.in-Err-write_whole.ensures.only;
       whole = tt;
@@ -43,10 +46,13 @@ returns-in-Err-write_whole g c =
       read = tt;
       stops = (
         refl,
-        rose_since (old.outputs which).faults (now.outputs which).faults (new.outputs which).faults c.loop-place.invariant.calm c.in-Err-write_whole.ensures.cause.failed,
+        rose_since (old.outputs which).faults (now.outputs which).faults
+            (new.outputs which).faults c.loop-place.invariant.calm c.in-Err-write_whole.ensures.cause.failed,
         λ begun. record {
-          named = same_name c.args.name.now (now.outputs which).name (new.outputs which).name c.in-Err-write_whole.ensures.name c.loop-place.invariant.name;
-          written = front_more (now.outputs which).written (new.outputs which).written lines c.loop-place.place c.as_slice.result.now c.loop-place.invariant.lines line c.in-Err-write_whole.ensures.front;
+          named = same_name c.args.name.now (now.outputs which).name
+              (new.outputs which).name c.in-Err-write_whole.ensures.name c.loop-place.invariant.name;
+          written = front_more (now.outputs which).written (new.outputs which).written lines c.loop-place.place c.as_slice.result.now
+              c.loop-place.invariant.lines line c.in-Err-write_whole.ensures.front;
         },
       );
     }
@@ -59,14 +65,17 @@ loop-place-preserved g c =
     let now = g.D.Desk.seen c.loop-place.desk in
     let new = g.D.Desk.seen c.write_whole.new.desk in
     let told = c.in-Ok-write_whole.ensures in
-    let line : slice_get lines c.loop-place.place ≡ Some c.as_slice.result.now = c.in-Ok-line.ensures.value ∙ ap Some (sym c.as_slice.ensures.value) in
+    let line : slice_get lines c.loop-place.place ≡ Some c.as_slice.result.now = c.in-Ok-line.ensures.value
+    ∙ ap Some (sym c.as_slice.ensures.value) in
     record {
       only = output_on which old now new c.loop-place.invariant.only told.only;
       calm = told.cause.calm ∙ c.loop-place.invariant.calm;
       begun = told.begun;
       name = same_name c.args.name.now (now.outputs which).name (new.outputs which).name told.name c.loop-place.invariant.name;
-      lines = holds_more (now.outputs which).written (new.outputs which).written lines c.loop-place.place c.as_slice.result.now c.loop-place.invariant.lines line told.whole;
-      in_place = λ can. one_place_more (λ place line. IsLine (is_in_place (g.L.Lines.grammar c.args.lines.now) (length lines) place) line) lines c.loop-place.place c.in-Ok-line.line.items c.in-Ok-line.ensures.value
+      lines = holds_more (now.outputs which).written
+          (new.outputs which).written lines c.loop-place.place c.as_slice.result.now c.loop-place.invariant.lines line told.whole;
+      in_place = λ can. one_place_more (λ place line. IsLine (is_in_place (g.L.Lines.grammar c.args.lines.now) (length lines) place) line)
+          lines c.loop-place.place c.in-Ok-line.line.items c.in-Ok-line.ensures.value
           (c.loop-place.invariant.in_place can) (c.in-Ok-line.ensures.form can);
     }
 
@@ -78,10 +87,15 @@ returns g c =
       whole = record {
         begun = c.loop-place.invariant.begun;
         named = c.loop-place.invariant.name;
-        written = holds_all ((g.D.Desk.seen c.loop-place.desk).outputs c.args.which).written lines c.loop-place.place c.loop-place.invariant.lines (omega (arith, c.count-place-end.ensures.value, c.loop-place-test.false));
+        written = holds_all ((g.D.Desk.seen c.loop-place.desk).outputs c.args.which).written lines c.loop-place.place
+            c.loop-place.invariant.lines (omega (arith, c.count-place-end.ensures.value, c.loop-place-test.false));
       };
       calm = c.loop-place.invariant.calm;
-      read = λ can. all_in_place (g.L.Lines.grammar c.args.lines.now) lines c.loop-place.place (length lines) refl (omega (arith, c.count-place-end.ensures.value, c.count-place-end.ensures.ends))
+      read = λ can. all_in_place (g.L.Lines.grammar c.args.lines.now) lines c.loop-place.place (length lines) refl (omega (
+        arith,
+        c.count-place-end.ensures.value,
+        c.count-place-end.ensures.ends,
+      ))
           (omega (arith, c.count-place-end.ensures.value, c.loop-place-test.false)) (c.loop-place.invariant.in_place can);
       stops = tt;
     }

@@ -15,6 +15,7 @@ invariant-loop-place g l =
       begun : (new.outputs l.which).begun ≡ true;
       name : IfSome (new.outputs l.which).name (λ told. told ≡ l.name);
       lines : HoldsLines (new.outputs l.which).written (g.L.Lines.lines l.lines) l.place;
-      in_place : g.L.Lines.can_be_read l.lines → (place : ℕ) (line : List ℕ) → place < l.place → slice_get (g.L.Lines.lines l.lines) place ≡ Some line
+      in_place : g.L.Lines.can_be_read l.lines → (place : ℕ) (line : List ℕ) → place < l.place
+          → slice_get (g.L.Lines.lines l.lines) place ≡ Some line
           → IsLine (is_in_place (g.L.Lines.grammar l.lines) (length (g.L.Lines.lines l.lines)) place) line;
     }

@@ -12,8 +12,10 @@ pub returns-in_err-read_line-clause-answer : goal.returns-in_err-read_line-claus
 returns-in_err-read_line-clause-answer c =
     let l = c.loop-line in
     let p = err_from_is_err_and c.from_residual.result c.from_residual.ensures.1 in
-    rw (p.1, p.2) (read_error l.reader.device l.reader.sectors (l.number + 1) (progress l.reader) (progress c.read_line.new.self) c.in-Some.line.now (lines_of l.rest.now) (lines_of c.in-Some.others.now)
-    (trace_of c.args.device c.args.sectors c.args.bytes.now) c.in_err-read_line.field-0.0 c.in-Some.ensures.line c.in_err-read_line.ensures.answer l.invariant.read)
+    rw (p.1, p.2) (read_error l.reader.device l.reader.sectors (l.number + 1) (progress l.reader)
+    (progress c.read_line.new.self) c.in-Some.line.now (lines_of l.rest.now) (lines_of c.in-Some.others.now)
+    (trace_of c.args.device c.args.sectors c.args.bytes.now) c.in_err-read_line.field-0.0 c.in-Some.ensures.line
+    c.in_err-read_line.ensures.answer l.invariant.read)
 
 pub loop-line-preserved : goal.loop-line-preserved
 loop-line-preserved c =
@@ -24,8 +26,10 @@ loop-line-preserved c =
       sectors = c.read_line.ensures.sectors ∙ l.invariant.sectors;
       read =
           ap (λ x. lines_from x new.sectors (l.number + 1 + 1) (progress new) (lines_of c.in-Some.others.now)) c.read_line.ensures.device
-          ∙ ap (λ x. lines_from l.reader.device x (l.number + 1 + 1) (progress new) (lines_of c.in-Some.others.now)) c.read_line.ensures.sectors
-          ∙ read_more l.reader.device l.reader.sectors (l.number + 1) (progress l.reader) (progress new) c.in-Some.line.now (lines_of l.rest.now) (lines_of c.in-Some.others.now)
+          ∙ ap (λ x. lines_from l.reader.device x (l.number + 1 + 1) (progress new) (lines_of c.in-Some.others.now))
+          c.read_line.ensures.sectors
+          ∙ read_more l.reader.device l.reader.sectors (l.number + 1) (progress l.reader) (progress new) c.in-Some.line.now
+          (lines_of l.rest.now) (lines_of c.in-Some.others.now)
           (trace_of c.args.device c.args.sectors c.args.bytes.now) c.in-Some.ensures.line c.in_ok-read_line.ensures.answer l.invariant.read;
       number = omega (arith, c.in-Some.ensures.shorter);
       passed_over = omega (arith, c.in_ok-read_line.ensures.few);
@@ -34,10 +38,12 @@ loop-line-preserved c =
 pub returns-clause-answer : goal.returns-clause-answer
 returns-clause-answer c =
     let l = c.loop-line in
-    read_end l.reader.device l.reader.sectors (l.number + 1) (progress l.reader) (lines_of l.rest.now) (trace_of c.args.device c.args.sectors c.args.bytes.now) c.in_default.ensures.line l.invariant.read
+    read_end l.reader.device l.reader.sectors (l.number + 1) (progress l.reader) (lines_of l.rest.now)
+    (trace_of c.args.device c.args.sectors c.args.bytes.now) c.in_default.ensures.line l.invariant.read
 
 pub returns-clause-trace : goal.returns-clause-trace
 returns-clause-trace c =
     let l = c.loop-line in
     fit_trace c.args.device c.args.sectors c.args.bytes.now (accepted l.reader.trace)
-    (read_end l.reader.device l.reader.sectors (l.number + 1) (progress l.reader) (lines_of l.rest.now) (trace_of c.args.device c.args.sectors c.args.bytes.now) c.in_default.ensures.line l.invariant.read)
+    (read_end l.reader.device l.reader.sectors (l.number + 1) (progress l.reader) (lines_of l.rest.now)
+    (trace_of c.args.device c.args.sectors c.args.bytes.now) c.in_default.ensures.line l.invariant.read)

@@ -8,7 +8,8 @@ abbrev pub invariant-loop-line : goal.invariant-loop-line
 invariant-loop-line l = record {
   device : l.reader.device ≡ l.fn.device;
   sectors : l.reader.sectors ≡ l.fn.sectors;
-  read : lines_from l.reader.device l.reader.sectors (l.number + 1) (progress l.reader) (lines_of l.rest) ≡ trace_of l.device l.sectors l.bytes;
+  read : lines_from l.reader.device l.reader.sectors (l.number + 1) (progress l.reader) (lines_of l.rest)
+      ≡ trace_of l.device l.sectors l.bytes;
   number : l.number + length l.rest ≤ length l.bytes;
   passed_over : l.reader.trace.passed_over ≤ l.number;
 }

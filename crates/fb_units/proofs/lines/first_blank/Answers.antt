@@ -5,8 +5,10 @@ use Rattle.fb_units.proofs.lines.first_blank.Goals as goal
 
 pub returns-then-is_blank-clause-place : goal.returns-then-is_blank-clause-place
 returns-then-is_blank-clause-place c =
-    sym (position_or_len_is is_blank c.args.text.now c.loop-place.place 0 (omega arith) c.loop-place.invariant (λ h. sym c.if-is_blank.ensures))
+    sym
+    (position_or_len_is is_blank c.args.text.now c.loop-place.place 0 (omega arith) c.loop-place.invariant (λ h. sym c.if-is_blank.ensures))
 
 pub returns-clause-place : goal.returns-clause-place
 returns-clause-place c =
-    sym (position_or_len_is is_blank c.args.text.now (length c.args.text.now) 0 (omega arith) (λ k h. c.loop-place.invariant k (omega arith)) (λ h. absurd (omega arith)))
+    sym (position_or_len_is is_blank c.args.text.now (length c.args.text.now) 0 (omega arith)
+    (λ k h. c.loop-place.invariant k (omega arith)) (λ h. absurd (omega arith)))

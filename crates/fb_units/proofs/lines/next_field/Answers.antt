@@ -4,7 +4,8 @@ use Rattle.fb_units.proofs.Splitting.{fields_end, fields_next}
 use Rattle.fb_units.proofs.lines.next_field.Goals as goal
 
 pub returns-then-is_empty : goal.returns-then-is_empty
-returns-then-is_empty c = record { field = fields_end c.args.line.now c.behind_blanks-text.result.now c.behind_blanks-text.ensures (grind (arith, nat_tests)) }
+returns-then-is_empty c =
+    record { field = fields_end c.args.line.now c.behind_blanks-text.result.now c.behind_blanks-text.ensures (grind (arith, nat_tests)) }
 
 pub returns : goal.returns
 returns c = record {

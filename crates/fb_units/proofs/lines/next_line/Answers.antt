@@ -13,5 +13,6 @@ returns-then-is_empty-clause-line c = lines_none c.args.text.now (grind (arith, 
 pub returns-clause-line : goal.returns-clause-line
 returns-clause-line c =
     lines_first c.args.text.now (grind (arith, nat_tests))
-    ∙ ap (λ line. line ∷ lines_of (after_first (λ b. b == 10) c.args.text.now)) (sym (c.without_return.ensures ∙ ap strip_carriage_return c.around_first.ensures.front))
+    ∙ ap (λ line. line ∷ lines_of (after_first (λ b. b == 10) c.args.text.now))
+    (sym (c.without_return.ensures ∙ ap strip_carriage_return c.around_first.ensures.front))
     ∙ ap (λ rest. c.without_return.result.now ∷ lines_of rest) (sym c.around_first.ensures.back)

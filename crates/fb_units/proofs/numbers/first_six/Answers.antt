@@ -13,7 +13,8 @@ loop-place-preserved c =
     record {
       small = omega (arith, pow-add 10 i 1);
       rest =
-          ap (λ x. digits_after (10 * v + x) (drop (i + 1) (six_of ds))) (c.digit_at.ensures.value ∙ ap (λ x. x - 48) (sym (get_or-six_of ds i 0 (omega arith))))
+          ap (λ x. digits_after (10 * v + x) (drop (i + 1) (six_of ds)))
+          (c.digit_at.ensures.value ∙ ap (λ x. x - 48) (sym (get_or-six_of ds i 0 (omega arith))))
           ∙ sym (at_drop_more (digits_after v) (six_of ds) i 0 (omega (arith, length-six_of ds)))
           ∙ c.loop-place.invariant.rest;
     }

@@ -11,4 +11,5 @@ pub overflow_mul-value : goal.overflow_mul-value
 overflow_mul-value c = let i = c.loop-byte.byte-index in omega (arith, pow-add 16 i 1, most c.loop-byte.byte-index (omega arith))
 
 pub overflow_add-value : goal.overflow_add-value
-overflow_add-value c = let i = c.loop-byte.byte-index in omega (arith, pow-add 16 i 1, most c.loop-byte.byte-index (omega arith), c.in_ok-digit.ensures)
+overflow_add-value c = let i = c.loop-byte.byte-index in
+    omega (arith, pow-add 16 i 1, most c.loop-byte.byte-index (omega arith), c.in_ok-digit.ensures)

@@ -2,4 +2,11 @@ use Rattle.fb_worked.proofs.Placing.{skewed_tracks, slipped_track, moved_sector,
 use Rattle.fb_worked.proofs.passages.worked_passages.Goals as goal
 
 pub returns : goal.returns
-returns c = record { skewed = skewed_tracks; slipped = slipped_track; moved = moved_sector; over_tracks = passages_over_tracks; over_defects = passages_over_defects; cut = cuttings }
+returns c = record {
+  skewed = skewed_tracks;
+  slipped = slipped_track;
+  moved = moved_sector;
+  over_tracks = passages_over_tracks;
+  over_defects = passages_over_defects;
+  cut = cuttings;
+}

@@ -1,4 +1,7 @@
-use Rattle.fb_worked.proofs.WrongRuns.{delivered_too_late_refuted, delivered_twice_refuted, delivered_after_abort_refuted, contents_of_later_refuted, completion_left_out_refuted, no_plan_refuted, detour_without_settle_refuted, served_sooner_refuted, delivery_left_out_is_sound, delivery_left_out_is_not_full}
+use Rattle.fb_worked.proofs.WrongRuns.{delivered_too_late_refuted, delivered_twice_refuted, delivered_after_abort_refuted}
+use Rattle.fb_worked.proofs.WrongRuns.{contents_of_later_refuted, completion_left_out_refuted, no_plan_refuted}
+use Rattle.fb_worked.proofs.WrongRuns.{detour_without_settle_refuted, served_sooner_refuted, delivery_left_out_is_sound}
+use Rattle.fb_worked.proofs.WrongRuns.{delivery_left_out_is_not_full}
 use Rattle.fb_worked.proofs.wrong.wrong_runs.Goals as goal
 
 pub returns : goal.returns

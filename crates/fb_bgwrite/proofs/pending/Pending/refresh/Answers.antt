@@ -11,7 +11,8 @@ loop-head-preserved c = λ head i e less at wanted. elim (cases_lt head c.loop-h
   | inl earlier ↦ omega (arith, c.loop-head.invariant head i e earlier at wanted, c.least_on-least.ensures.start)
   | inr here ↦
       let same : head ≡ c.loop-head.head = omega (arith, here, less) in
-      let own = subst (λ h. slice_get (on_track (let t : Track = record { cylinder = c.args.cylinder; head = h } in t) c.self.inside.wanted) i ≡ Some e) same at in
+      let own = subst (λ h. slice_get (on_track (let t : Track = record { cylinder = c.args.cylinder; head = h } in t) c.self.inside.wanted)
+      i ≡ Some e) same at in
       c.least_on-least.ensures.each i e (ap (λ xs. slice_get xs i) c.on.ensures ∙ own) wanted
 ]
 

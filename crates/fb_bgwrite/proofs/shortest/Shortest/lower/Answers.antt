@@ -9,6 +9,8 @@ invariant_of-self-2 c =
     let regions = c.lower.new.bounds.items in
     let bands = c.lower-2.new.bounds.items in
     let sectors = c.args.sectors in (
-      either_lowered c.lower-3.result old.bands.items bands old.cylinders.items c.lower-3.new.bounds.items c.args.cylinder sectors c.self.invariant.0 c.in_ok-lower-2.ensures.ok c.lower-3.ensures.ok c.lower-3.ensures.err,
-      both_lowered old.regions.items regions old.bands.items bands band sectors c.self.invariant.1 c.in_ok-lower.ensures.ok c.in_ok-lower-2.ensures.ok,
+      either_lowered c.lower-3.result old.bands.items bands old.cylinders.items c.lower-3.new.bounds.items c.args.cylinder sectors
+          c.self.invariant.0 c.in_ok-lower-2.ensures.ok c.lower-3.ensures.ok c.lower-3.ensures.err,
+      both_lowered old.regions.items regions old.bands.items bands band sectors c.self.invariant.1 c.in_ok-lower.ensures.ok
+          c.in_ok-lower-2.ensures.ok,
     )

@@ -8,7 +8,9 @@ register_blocks-requires-clause-room c = room_for_next c.args.self.now c.args.pu
 pub register_blocks-requires-clause-none : goal.register_blocks-requires-clause-none
 register_blocks-requires-clause-none c =
     let self = c.args.self.now in
-    ap (λ es. registered (self.admitted + 1) (blocks_of es)) c.requires.spilling.registered ∙ none_yet_registered self.disk.now self.puts.now self.items self.admitted c.requires.puts
+    ap (λ es. registered (self.admitted + 1) (blocks_of es)) c.requires.spilling.registered
+    ∙ none_yet_registered self.disk.now self.puts.now self.items self.admitted c.requires.puts
 
 pub returns-clause-spilling : goal.returns-clause-spilling
-returns-clause-spilling c = put_admitted c.args.self.now c.args.put c.register_blocks.new.pending c.requires.spilling c.requires.puts c.requires.next c.requires.come c.in_ok-register_blocks.ensures
+returns-clause-spilling c = put_admitted c.args.self.now c.args.put c.register_blocks.new.pending c.requires.spilling c.requires.puts
+    c.requires.next c.requires.come c.in_ok-register_blocks.ensures

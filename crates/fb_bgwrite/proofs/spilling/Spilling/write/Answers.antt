@@ -18,13 +18,17 @@ write_block-requires-clause-pending c =
     let empty : Block = record { task = 0; number = 0; lbn = 0; count = 0; track = start; weight = 0; sweep = still } in
     let none : Catch = record { block = empty; begin = 0; end = 0 } in
     let catch = slice_index_or items l.catch-index none in
-    let are : items ≡ caught_of old.disk.now stay.result (wanted_of old.pending) = c.deref-catch-items.ensures.value ∙ c.in_ok-found.ensures.all in
+    let are : items ≡ caught_of old.disk.now stay.result (wanted_of old.pending) = c.deref-catch-items.ensures.value
+    ∙ c.in_ok-found.ensures.all in
     let at = ap (λ xs. slice_get xs l.catch-index) (sym are) ∙ slice_get-get_or items l.catch-index none c.loop-catch-test.true in
     let begin : old.instant ≤ stay.result.begin = omega (arith, c.requires.come, ap (λ (d : Dwell). d.begin) stay.ensures.stay) in
-    to_write old l.self stay.result (spill_row old.disk.now row c.args.spill) l.catch-index catch c.requires.spilling c.requires.puts begin l.invariant.kept l.invariant.admitted at
-    (l.invariant.items ∙ ap (λ xs. old.items ++ SpillLine (spill_row old.disk.now row c.args.spill) ∷ wrote_rows (take l.catch-index xs)) are)
+    to_write old l.self stay.result (spill_row old.disk.now row c.args.spill) l.catch-index catch c.requires.spilling c.requires.puts begin
+    l.invariant.kept l.invariant.admitted at
+    (l.invariant.items
+    ∙ ap (λ xs. old.items ++ SpillLine (spill_row old.disk.now row c.args.spill) ∷ wrote_rows (take l.catch-index xs)) are)
 
 pub refresh-requires : goal.refresh-requires
 refresh-requires c =
     let l = c.loop-catch in
-    record { blocks = (are_pending l.self l.invariant.spilling (puts_kept c.args.self.now l.self l.invariant.kept c.requires.puts)).on_disk }
+    record { blocks = (are_pending l.self l.invariant.spilling
+    (puts_kept c.args.self.now l.self l.invariant.kept c.requires.puts)).on_disk }

@@ -8,5 +8,6 @@ invariant-loop-catch l = record {
   kept : HasKept l.fn.self l.self;
   admitted : l.self.admitted ≡ l.fn.self.admitted;
   instant : l.self.instant ≡ l.fn.self.instant;
-  items : l.self.items ≡ l.fn.self.items ++ SpillLine (spill_row l.fn.self.disk.now l.row l.fn.spill) ∷ wrote_rows (take l.catch-index l.catch-items);
+  items : l.self.items ≡ l.fn.self.items ++ SpillLine (spill_row l.fn.self.disk.now l.row l.fn.spill)
+      ∷ wrote_rows (take l.catch-index l.catch-items);
 }

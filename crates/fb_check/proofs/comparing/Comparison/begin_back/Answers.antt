@@ -10,4 +10,5 @@ compare_line-requires-clause-whole c =
     (line.0, c.as_slice.ensures.value ∙ c.in_ok-due.ensures.value ∙ line.1)
 
 pub returns-clause-compared : goal.returns-clause-compared
-returns-clause-compared c = λ names size bytes. begun _ _ _ _ _ c.args.lines c.compare_line.new.self c.as_slice.result.now (c.as_slice.ensures.value ∙ c.in_ok-due.ensures.value) c.compare_line.ensures.one
+returns-clause-compared c = λ names size bytes. begun _ _ _ _ _ c.args.lines c.compare_line.new.self c.as_slice.result.now
+    (c.as_slice.ensures.value ∙ c.in_ok-due.ensures.value) c.compare_line.ensures.one

@@ -11,4 +11,5 @@ compare_line-requires-clause-whole c =
     (line.0, c.as_slice.ensures.value ∙ c.in_ok-due.ensures.value ∙ line.1)
 
 pub returns : goal.returns
-returns c = subst (λ due. HasComparedOne (λ field. Foreground) due c.args.self.now c.compare_line.new.self) (c.as_slice.ensures.value ∙ c.in_ok-due.ensures.value) c.compare_line.ensures.one
+returns c = subst (λ due. HasComparedOne (λ field. Foreground) due c.args.self.now c.compare_line.new.self) (c.as_slice.ensures.value
+    ∙ c.in_ok-due.ensures.value) c.compare_line.ensures.one

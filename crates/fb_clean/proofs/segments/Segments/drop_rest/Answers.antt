@@ -6,6 +6,8 @@ use Rattle.fb_clean.proofs.segments.Segments.drop_rest.Goals as goal
 
 pub invariant_of-self : goal.invariant_of-self
 invariant_of-self c =
-    sound_left c.self.inside.block c.self.inside.segments.items _ c.self.inside.unfinished (length c.self.inside.taken.items) c.self.invariant
-    (take_at c.leave_all.new.segments _ c.self.inside.segments.len (ap length c.leave_all.ensures ∙ (length-map c.deref_mut.result.now left_out ∙ c.deref_mut.ensures.len))
+    sound_left c.self.inside.block c.self.inside.segments.items _ c.self.inside.unfinished
+    (length c.self.inside.taken.items) c.self.invariant
+    (take_at c.leave_all.new.segments _ c.self.inside.segments.len
+    (ap length c.leave_all.ensures ∙ (length-map c.deref_mut.result.now left_out ∙ c.deref_mut.ensures.len))
     ∙ (c.leave_all.ensures ∙ ap (map left_out) c.deref_mut.ensures.value))

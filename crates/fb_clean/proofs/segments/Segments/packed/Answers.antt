@@ -11,5 +11,11 @@ returns c =
     let as_many = c.self.invariant.as_many in
     subst (λ v. IfOk c.pack.result (λ runs. runs ≡ runs_of (packed_sectors v c.args.segment))) c.self.view_is
     (runs_same c.pack.result _ _
-    (packed_at (record { block = c.self.inside.block; segments = c.self.inside.segments.items; unfinished = c.self.inside.unfinished; taken = c.self.inside.taken.items }) c.args.segment c.index.result.now c.index-2.result.now c.live.result.now (omega (arith, added.0, added.1)) (omega (arith, added.0, added.1)) c.index.ensures c.index-2.ensures c.live.ensures.value)
+    (packed_at (record {
+      block = c.self.inside.block;
+      segments = c.self.inside.segments.items;
+      unfinished = c.self.inside.unfinished;
+      taken = c.self.inside.taken.items;
+    }) c.args.segment c.index.result.now c.index-2.result.now c.live.result.now (omega (arith, added.0, added.1))
+        (omega (arith, added.0, added.1)) c.index.ensures c.index-2.ensures c.live.ensures.value)
     c.pack.ensures)

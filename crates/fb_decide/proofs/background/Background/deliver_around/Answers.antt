@@ -8,20 +8,24 @@ use Rattle.fb_decide.proofs.Served.{gap_from, is-gap, extents-begin, gap-is, has
 use Rattle.fb_decide.proofs.background.Background.deliver_around.Goals as goal
 
 pub best-plan-requires-clause-gap : goal.best-plan-requires-clause-gap
-best-plan-requires-clause-gap g c = is-gap c.args.disk.now c.args.start.head c.args.start.instant c.args.start.request c.place.result.track c.in_ok-service.service.media c.requires.start.head c.place.ensures.track c.requires.start.request.range.some
+best-plan-requires-clause-gap g c = is-gap c.args.disk.now c.args.start.head c.args.start.instant c.args.start.request c.place.result.track
+    c.in_ok-service.service.media c.requires.start.head c.place.ensures.track c.requires.start.request.range.some
     (ap (λ p. p.track) c.place.ensures.value) c.in_ok-service.ensures.media
     (omega (arith, c.requires.start.instant, c.requires.start.request.few, c.in_ok-service.ensures.soon, c.in_ok-service.ensures.later))
 
 pub best-plan-requires-clause-blocks : goal.best-plan-requires-clause-blocks
-best-plan-requires-clause-blocks g c = fits-told c.args.disk.now c.requires.current.0 c.args.self.now.sessions c.args.self.now.wanted c.requires.current.1.tells
+best-plan-requires-clause-blocks g c =
+    fits-told c.args.disk.now c.requires.current.0 c.args.self.now.sessions c.args.self.now.wanted c.requires.current.1.tells
 
 pub pass-requires-clause-gap : goal.pass-requires-clause-gap
-pass-requires-clause-gap g c = is-gap c.args.disk.now c.args.start.head c.args.start.instant c.args.start.request c.place.result.track c.in_ok-service.service.media c.requires.start.head c.place.ensures.track c.requires.start.request.range.some
+pass-requires-clause-gap g c = is-gap c.args.disk.now c.args.start.head c.args.start.instant c.args.start.request c.place.result.track
+    c.in_ok-service.service.media c.requires.start.head c.place.ensures.track c.requires.start.request.range.some
     (ap (λ p. p.track) c.place.ensures.value) c.in_ok-service.ensures.media
     (omega (arith, c.requires.start.instant, c.requires.start.request.few, c.in_ok-service.ensures.soon, c.in_ok-service.ensures.later))
 
 pub ride-requires-clause-early : goal.ride-requires-clause-early
-ride-requires-clause-early g c = extents-begin c.args.disk.now c.args.start.head c.args.start.instant c.args.start.request.write c.args.start.request.lbn c.args.start.request.count c.as_slice.result.now c.in_ok-service.service.finish (10 ^ 19)
+ride-requires-clause-early g c = extents-begin c.args.disk.now c.args.start.head c.args.start.instant c.args.start.request.write
+    c.args.start.request.lbn c.args.start.request.count c.as_slice.result.now c.in_ok-service.service.finish (10 ^ 19)
     (subst (AllByRecursion (IsUnbroken c.args.disk.now.map)) (sym c.as_slice.ensures) c.in_ok-service.ensures.unbroken)
     (ap (all_passages_of c.args.disk.now.map) c.as_slice.ensures ∙ c.in_ok-service.ensures.passages)
     c.in_ok-service.ensures.finish (omega (arith, c.requires.start.instant, c.requires.start.request.few, c.in_ok-service.ensures.soon))
@@ -30,7 +34,8 @@ pub returns-clause-delivered : goal.returns-clause-delivered
 returns-clause-delivered g c = λ past current.
     let disk = c.args.disk.now in
     let served = service disk c.args.start.head c.args.start.instant c.args.start.request in
-    let gap = gap_from c.args.start.head c.args.start.instant c.args.start.request.write c.place.result.track c.in_ok-service.service.media in
+    let gap =
+    gap_from c.args.start.head c.args.start.instant c.args.start.request.write c.place.result.track c.in_ok-service.service.media in
     has-passed disk c.args.store.now served c.best-plan.result past gap c.args.self.now.rows c.pass.new.self c.ride.new.self
     (gap-is disk c.args.start.head c.args.start.instant c.args.start.request c.place.result.track c.in_ok-service.service.media
     (ap (λ p. p.track) c.place.ensures.value) c.in_ok-service.ensures.media)

@@ -5,4 +5,5 @@ pub returns-then-request-clause-tells : goal.returns-then-request-clause-tells
 returns-then-request-clause-tells c = λ disk past tells. c.after_write.ensures disk past c.args.request c.if-request.true refl refl tells
 
 pub returns-else-request-clause-tells : goal.returns-else-request-clause-tells
-returns-else-request-clause-tells c = λ disk past tells. c.reads_change_nothing.ensures disk past c.args.request c.args.self.now.sessions c.args.self.now.wanted c.if-request.false tells
+returns-else-request-clause-tells c = λ disk past tells.
+    c.reads_change_nothing.ensures disk past c.args.request c.args.self.now.sessions c.args.self.now.wanted c.if-request.false tells

@@ -11,20 +11,32 @@ pub returns-clause-delivered : goal.returns-clause-delivered
 returns-clause-delivered c = on_ok_weaker c.stay-2.result (λ next past current.
     let disk = c.args.disk.now in
     let holding = c.args.store.now in
-    let pushed : IsCurrent disk.map past (record { sessions = c.args.self.now.sessions; wanted = c.args.self.now.wanted; rows = c.push.new.self }) = record { tells = current.tells; test = current.up_to_date } in
+    let pushed : IsCurrent disk.map past (record {
+      sessions = c.args.self.now.sessions;
+      wanted = c.args.self.now.wanted;
+      rows = c.push.new.self;
+    }) = record { tells = current.tells; test = current.up_to_date } in
     subst (λ rows. HasDelivered disk.map past
     (caught_in_gap disk (held_now holding) c.args.row.gap c.args.row.plan (wanted past)) rows c.stay-2.new.self) c.in_ok-push.ensures.ok
-    (subst₂ (λ early late. HasDelivered disk.map past (caught disk (held_now holding) ByGap early (wanted past) ++ caught disk (held_now holding) ByGap late (missed disk early (wanted past))) c.push.new.self c.stay-2.new.self)
+    (subst₂ (λ early late. HasDelivered disk.map past (caught disk (held_now holding) ByGap early (wanted past)
+    ++ caught disk (held_now holding) ByGap late (missed disk early (wanted past))) c.push.new.self c.stay-2.new.self)
     c.dwells-pair.ensures.early c.dwells-pair.ensures.late
-    (delivered-both disk holding ByGap c.dwells-pair.result.early c.dwells-pair.result.late past c.push.new.self c.stay.new.self c.stay-2.new.self
+    (delivered-both disk holding ByGap c.dwells-pair.result.early c.dwells-pair.result.late past c.push.new.self c.stay.new.self
+    c.stay-2.new.self
     (c.in_ok-stay.ensures.left past pushed) (c.in_ok-stay.ensures.delivered past pushed) next))) c.stay-2.ensures.delivered
 
 pub returns-clause-left : goal.returns-clause-left
 returns-clause-left c = on_ok_weaker c.stay-2.result (λ next past current.
     let disk = c.args.disk.now in
     let holding = c.args.store.now in
-    let pushed : IsCurrent disk.map past (record { sessions = c.args.self.now.sessions; wanted = c.args.self.now.wanted; rows = c.push.new.self }) = record { tells = current.tells; test = current.up_to_date } in
+    let pushed : IsCurrent disk.map past (record {
+      sessions = c.args.self.now.sessions;
+      wanted = c.args.self.now.wanted;
+      rows = c.push.new.self;
+    }) = record { tells = current.tells; test = current.up_to_date } in
     let first = c.in_ok-stay.ensures.delivered past pushed in
-    subst₂ (λ early late. wanted (past_with past (caught disk (held_now holding) ByGap early (wanted past) ++ caught disk (held_now holding) ByGap late (missed disk early (wanted past)))) ≡ missed disk late (missed disk early (wanted past)))
+    subst₂ (λ early late. wanted (past_with past (caught disk (held_now holding) ByGap early (wanted past)
+    ++ caught disk (held_now holding) ByGap late (missed disk early (wanted past)))) ≡ missed disk late (missed disk early (wanted past)))
     c.dwells-pair.ensures.early c.dwells-pair.ensures.late
-    (left-both disk holding ByGap c.dwells-pair.result.early c.dwells-pair.result.late past (c.in_ok-stay.ensures.left past pushed) (next _ first.current))) c.stay-2.ensures.left
+    (left-both disk holding ByGap c.dwells-pair.result.early c.dwells-pair.result.late past (c.in_ok-stay.ensures.left past pushed)
+    (next _ first.current))) c.stay-2.ensures.left

@@ -18,18 +18,22 @@ carried-requires-clause-extents c =
     let disk = c.args.disk.now in
     let request = c.args.start.request in
     all-extents disk c.args.extents.now
-    (laid_within c.args.extents.now request.lbn request.count _ (laid disk c.args.extents.now c.args.start.head c.args.start.instant request.write request.lbn request.count c.requires.passages c.requires.unbroken) c.requires.start.request.range.inside)
+    (laid_within c.args.extents.now request.lbn request.count _ (laid disk c.args.extents.now c.args.start.head c.args.start.instant
+    request.write request.lbn request.count c.requires.passages c.requires.unbroken) c.requires.start.request.range.inside)
     c.requires.unbroken c.requires.early disk.few_blocks
 
 pub carried-requires-clause-covers : goal.carried-requires-clause-covers
 carried-requires-clause-covers c =
-    laid c.args.disk.now c.args.extents.now c.args.start.head c.args.start.instant c.args.start.request.write c.args.start.request.lbn c.args.start.request.count c.requires.passages c.requires.unbroken
+    laid c.args.disk.now c.args.extents.now c.args.start.head c.args.start.instant c.args.start.request.write c.args.start.request.lbn
+    c.args.start.request.count c.requires.passages c.requires.unbroken
 
 pub carried-requires-clause-registered : goal.carried-requires-clause-registered
-carried-requires-clause-registered c = fits-told c.args.disk.now c.requires.current.0 c.args.self.now.sessions c.args.self.now.wanted c.requires.current.1.tells
+carried-requires-clause-registered c =
+    fits-told c.args.disk.now c.requires.current.0 c.args.self.now.sessions c.args.self.now.wanted c.requires.current.1.tells
 
 pub carried-requires-clause-distinct : goal.carried-requires-clause-distinct
-carried-requires-clause-distinct c = subst AreDistinct (sym (wanted-told c.requires.current.1.tells)) (wanted-distinct c.requires.current.1.tells)
+carried-requires-clause-distinct c =
+    subst AreDistinct (sym (wanted-told c.requires.current.1.tells)) (wanted-distinct c.requires.current.1.tells)
 
 pub deliver_all-requires : goal.deliver_all-requires
 deliver_all-requires c =
@@ -37,18 +41,26 @@ deliver_all-requires c =
     let current = c.requires.current.1 in
     let served = served_in c.args.disk.now c.args.start in
     let rows : map (row_in c.args.store.now ByRide) c.as_slice.result.now ≡ rides (held_now c.args.store.now) served (wanted past) =
-    ap (map (row_in c.args.store.now ByRide)) (c.as_slice.ensures.value ∙ c.in_ok-catches.ensures ∙ ap (λ ps. carried_of ps c.args.start.request (wanted_of c.args.self.now.wanted)) c.requires.passages
+    ap (map (row_in c.args.store.now ByRide)) (c.as_slice.ensures.value ∙ c.in_ok-catches.ensures
+    ∙ ap (λ ps. carried_of ps c.args.start.request (wanted_of c.args.self.now.wanted)) c.requires.passages
     ∙ ap (carried_of served.passages c.args.start.request) (wanted-told current.tells))
     ∙ rows-carried c.args.store.now served (wanted past) c.if-start.false in
-    (c.args.disk.now.map, past, current, subst (AreDue past) (sym rows) (due-carried c.args.store.now served past c.if-start.false (wanted-distinct current.tells)))
+    (
+      c.args.disk.now.map,
+      past,
+      current,
+      subst (AreDue past) (sym rows) (due-carried c.args.store.now served past c.if-start.false (wanted-distinct current.tells)),
+    )
 
 pub returns : goal.returns
 returns c = on_ok_weaker c.deliver_all.result (λ all past current.
     let served = served_in c.args.disk.now c.args.start in
     let rows : map (row_in c.args.store.now ByRide) c.as_slice.result.now ≡ rides (held_now c.args.store.now) served (wanted past) =
-    ap (map (row_in c.args.store.now ByRide)) (c.as_slice.ensures.value ∙ c.in_ok-catches.ensures ∙ ap (λ ps. carried_of ps c.args.start.request (wanted_of c.args.self.now.wanted)) c.requires.passages
+    ap (map (row_in c.args.store.now ByRide)) (c.as_slice.ensures.value ∙ c.in_ok-catches.ensures
+    ∙ ap (λ ps. carried_of ps c.args.start.request (wanted_of c.args.self.now.wanted)) c.requires.passages
     ∙ ap (carried_of served.passages c.args.start.request) (wanted-told current.tells))
     ∙ rows-carried c.args.store.now served (wanted past) c.if-start.false in
     subst (λ gots. HasDelivered c.args.disk.now.map past gots c.args.self.now.rows c.deliver_all.new.self) rows
-    (all c.args.disk.now.map past current (subst (AreDue past) (sym rows) (due-carried c.args.store.now served past c.if-start.false (wanted-distinct current.tells)))))
+    (all c.args.disk.now.map past current
+    (subst (AreDue past) (sym rows) (due-carried c.args.store.now served past c.if-start.false (wanted-distinct current.tells)))))
     c.deliver_all.ensures

@@ -7,7 +7,8 @@ pub task_rows-requires : goal.task_rows-requires
 task_rows-requires g c = (c.requires.0.disk.map, history c.requires.0 c.requires.1, c.requires.2.come_to.run.tells)
 
 pub returns-clause-rows : goal.returns-clause-rows
-returns-clause-rows g c = on_ok_weaker c.task_rows.result (λ rows inputs steps made. rows inputs.disk.map (history inputs steps) made.come_to.run.tells) c.task_rows.ensures.ok
+returns-clause-rows g c = on_ok_weaker c.task_rows.result
+    (λ rows inputs steps made. rows inputs.disk.map (history inputs steps) made.come_to.run.tells) c.task_rows.ensures.ok
 
 pub returns-clause-fits : goal.returns-clause-fits
 returns-clause-fits g c = λ inputs steps made. ended_fits inputs steps _ _ _ _ made

@@ -11,4 +11,5 @@ advance-requires g c = record {
 
 pub returns-clause-decided : goal.returns-clause-decided
 returns-clause-decided g c = if_ok_with _ _ _ c.advance.result
-    (λ goes_on decided waits steps made. made_one _ steps _ _ _ _ made _ c.as_slice.ensures.value goes_on _ _ _ decided waits) c.advance.ensures.decided c.advance.ensures.waiting
+    (λ goes_on decided waits steps made. made_one _ steps _ _ _ _ made _ c.as_slice.ensures.value goes_on _ _ _ decided waits)
+    c.advance.ensures.decided c.advance.ensures.waiting

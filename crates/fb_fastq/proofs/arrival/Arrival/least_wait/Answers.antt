@@ -20,12 +20,14 @@ ahead c =
 pub returns-then-ahead-self-clause-least : goal.returns-then-ahead-self-clause-least
 returns-then-ahead-self-clause-least c =
     let w = c.args.waiting.now in
-    least_round c.args.disk.now c.args.from.now c.args.self.now c.requires.arrival w.1 w.0.0 c.requires.along c.requires.on (round ((goal.at.returns-then-ahead-self-clause-least c).Then-ahead-self))
+    least_round c.args.disk.now c.args.from.now c.args.self.now c.requires.arrival w.1 w.0.0 c.requires.along c.requires.on
+    (round ((goal.at.returns-then-ahead-self-clause-least c).Then-ahead-self))
 
 pub returns-then-ahead-self-clause-value : goal.returns-then-ahead-self-clause-value
 returns-then-ahead-self-clause-value c =
     let w = c.args.waiting.now in
-    value_round c.args.disk.now c.args.from.now c.args.self.now c.requires.arrival w.1 w.0.0 c.requires.along c.requires.on (round ((goal.at.returns-then-ahead-self-clause-value c).Then-ahead-self))
+    value_round c.args.disk.now c.args.from.now c.args.self.now c.requires.arrival w.1 w.0.0 c.requires.along c.requires.on
+    (round ((goal.at.returns-then-ahead-self-clause-value c).Then-ahead-self))
 
 pub returns-else-ahead-self-clause-least : goal.returns-else-ahead-self-clause-least
 returns-else-ahead-self-clause-least c =
@@ -33,7 +35,8 @@ returns-else-ahead-self-clause-least c =
     let le = ahead ((goal.at.returns-else-ahead-self-clause-least c).Else-ahead-self) in
     let turned = c.requires.arrival.turned in
     let whole = c.requires.arrival.rotation_is in
-    let least = least_ahead c.args.disk.now c.args.from.now c.args.self.now c.requires.arrival w.1 w.0.0 c.requires.along c.requires.on le in omega (arith, le, turned, whole, least)
+    let least = least_ahead c.args.disk.now c.args.from.now c.args.self.now c.requires.arrival w.1 w.0.0 c.requires.along c.requires.on
+    le in omega (arith, le, turned, whole, least)
 
 pub returns-else-ahead-self-clause-value : goal.returns-else-ahead-self-clause-value
 returns-else-ahead-self-clause-value c =
@@ -41,4 +44,5 @@ returns-else-ahead-self-clause-value c =
     let le = ahead ((goal.at.returns-else-ahead-self-clause-value c).Else-ahead-self) in
     let turned = c.requires.arrival.turned in
     let whole = c.requires.arrival.rotation_is in
-    let value = value_ahead c.args.disk.now c.args.from.now c.args.self.now c.requires.arrival w.1 w.0.0 c.requires.along c.requires.on le in omega (arith, le, turned, whole, value)
+    let value = value_ahead c.args.disk.now c.args.from.now c.args.self.now c.requires.arrival w.1 w.0.0 c.requires.along c.requires.on
+    le in omega (arith, le, turned, whole, value)

@@ -6,6 +6,7 @@ use Rattle.fb_fastq.proofs.indexed.IndexedQueue.add.Goals as goal
 pub returns-clause-serves : goal.returns-clause-serves
 returns-clause-serves g c =
     let stands = λ (w : Waiting). IsCylinderOf c.args.disk.now w.1 w.0.0 in
-    let more = insert_more c.cylinder_of-cylinder.result c.self.inside.joined c.args.request c.self.inside.waiting.entries c.self.invariant.given in
+    let more =
+    insert_more c.cylinder_of-cylinder.result c.self.inside.joined c.args.request c.self.inside.waiting.entries c.self.invariant.given in
     subst (AllByRecursion stands) (sym c.in_ok-add.ensures.entries) (all_more _ _ _ more stands c.cylinder_of-cylinder.ensures
     (subst (AllByRecursion stands) (sym (ap (λ v. v.waiting) c.self.view_is)) c.requires.serves))

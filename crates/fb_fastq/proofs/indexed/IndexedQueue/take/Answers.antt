@@ -13,7 +13,8 @@ choose-key-requires-clause-on_disk g c =
 pub choose-key-requires-clause-spots : goal.choose-key-requires-clause-spots
 choose-key-requires-clause-spots g c =
     all_held (λ key r. IsCylinderOf c.args.disk.now r key.0) c.self.inside.waiting
-    (subst (AllByRecursion (λ (w : Waiting). IsCylinderOf c.args.disk.now w.1 w.0.0)) (sym (ap (λ v. v.waiting) c.self.view_is)) c.requires.serves)
+    (subst (AllByRecursion (λ (w : Waiting). IsCylinderOf c.args.disk.now w.1 w.0.0))
+    (sym (ap (λ v. v.waiting) c.self.view_is)) c.requires.serves)
 
 pub invariant_of-self : goal.invariant_of-self
 invariant_of-self g c = c.take_out.ensures.index c.self.inside.joined c.self.invariant
@@ -21,7 +22,8 @@ invariant_of-self g c = c.take_out.ensures.index c.self.inside.joined c.self.inv
 pub returns-clause-least : goal.returns-clause-least
 returns-clause-least g c =
     let rank = g.C.Choice.key c.args.disk.now c.args.head c.args.now in
-    subst (λ es. first_least rank (pending_of es) ≡ Some (c.take_out.result, pending_of c.take_out.new.waiting.entries)) (ap (λ v. v.waiting) c.self.view_is)
+    subst (λ es. first_least rank (pending_of es) ≡ Some (c.take_out.result, pending_of c.take_out.new.waiting.entries))
+    (ap (λ v. v.waiting) c.self.view_is)
     (c.take_out.ensures.least c.self.inside.joined rank c.self.invariant c.choose-key.ensures.first)
 
 pub returns-clause-serves : goal.returns-clause-serves

@@ -1,4 +1,5 @@
-use Rattle.fb_fastq.proofs.Words.{◌≡◌, ◌++◌, ◌∷◌, [], ℕ, List, ap, sym, subst, AllByRecursion, Waiting, order, insert_entry, pending_of, IsAlong}
+use Rattle.fb_fastq.proofs.Words.{◌≡◌, ◌++◌, ◌∷◌, [], ℕ, List, ap, sym, subst, AllByRecursion, Waiting, order, insert_entry, pending_of}
+use Rattle.fb_fastq.proofs.Words.{IsAlong}
 use Rattle.fb_fastq.proofs.Words.{IsMore, all_of_rows}
 use Rattle.fb_fastq.proofs.OneMore.{insert_more, more_left, more_right, pending_more, all_more}
 use Rattle.fb_fastq.proofs.Divided.{index_left, map_joined, rows_joined}

@@ -19,10 +19,14 @@ returns-clause-first c = λ r e k s f.
     let key = c.in-Some.key in
     let own = c.requires.spots key r e in
     let its = c.requires.spots k s f in
-    let whole : cylinders ≡ cylinders_of map.zones = c.cylinders-cylinders.ensures.value ∙ ap (λ m. cylinders_of m.zones) c.geometry.ensures in
+    let whole : cylinders ≡ cylinders_of map.zones = c.cylinders-cylinders.ensures.value
+    ∙ ap (λ m. cylinders_of m.zones) c.geometry.ensures in
     let at : key.0 - 0 ≡ (track_at map r.lbn).cylinder = (let value = own.value in omega (arith, value)) in
     let other : k.0 - 0 ≡ (track_at map s.lbn).cylinder = (let value = its.value in omega (arith, value)) in
-    let turned : (n spot : ℕ) → n ≡ spot → turn cylinders head n ≡ turn (cylinders_of map.zones) head spot = λ n spot same. ap (turn cylinders head) same ∙ ap (λ m. turn m head spot) whole in
-    let first = c.in-Some.ensures.first k (waits_there c.args.waiting.now k s f) (omega arith) (let on_disk = its.on_disk in omega (arith, on_disk, whole)) in
-    subst (λ n. IsNoLater n key.1 (turn (cylinders_of map.zones) head (track_at map s.lbn).cylinder) k.1) (turned (key.0 - 0) (track_at map r.lbn).cylinder at)
+    let turned : (n spot : ℕ) → n ≡ spot → turn cylinders head n ≡ turn (cylinders_of map.zones) head spot =
+    λ n spot same. ap (turn cylinders head) same ∙ ap (λ m. turn m head spot) whole in
+    let first = c.in-Some.ensures.first k (waits_there c.args.waiting.now k s f) (omega arith) (let on_disk = its.on_disk in
+    omega (arith, on_disk, whole)) in
+    subst (λ n. IsNoLater n key.1 (turn (cylinders_of map.zones) head (track_at map s.lbn).cylinder) k.1)
+    (turned (key.0 - 0) (track_at map r.lbn).cylinder at)
     (subst (λ n. IsNoLater (turn cylinders head (key.0 - 0)) key.1 n k.1) (turned (k.0 - 0) (track_at map s.lbn).cylinder other) first)

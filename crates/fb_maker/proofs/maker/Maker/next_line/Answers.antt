@@ -12,7 +12,8 @@ invariant_of-self c =
       some_sectors = kept.some_sectors;
       few_sectors = kept.few_sectors;
       few_lines = omega (arith, c.requires, ap (λ (making : Making). making.made) c.self.view_is);
-      drawn = c.draw-self-inside.ensures.request number kept.left (arrival_of number c.self.inside.sectors c.self.inside.made c.self.inside.next kept.drawn);
+      drawn = c.draw-self-inside.ensures.request number kept.left
+          (arrival_of number c.self.inside.sectors c.self.inside.made c.self.inside.next kept.drawn);
       left = c.draw-self-inside.ensures.words number kept.left;
       early = c.draw-self-inside.ensures.early;
     }

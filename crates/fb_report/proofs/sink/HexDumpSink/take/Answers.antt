@@ -3,4 +3,5 @@ use Rattle.fb_report.proofs.Digits.{lower-append}
 use Rattle.fb_report.proofs.sink.HexDumpSink.take.Goals as goal
 
 pub returns : goal.returns
-returns c = λ before h. c.in_ok-push_hex.ensures ∙ ap (λ text. text ++ encode_lower c.args.bytes.now) h ∙ sym (lower-append before c.args.bytes.now)
+returns c =
+    λ before h. c.in_ok-push_hex.ensures ∙ ap (λ text. text ++ encode_lower c.args.bytes.now) h ∙ sym (lower-append before c.args.bytes.now)

@@ -8,7 +8,8 @@ loop-i-preserved c =
     let so_far = c.loop-i.invariant in
     elim c.match-get.branch [
       | in-Got w ↦
-          let found = found_at delivery_in c.args.rows.now c.loop-i.i c.get.result.now w.in-Got.row c.get.ensures (ap delivery_in w.in-Got.is) in
+          let found =
+          found_at delivery_in c.args.rows.now c.loop-i.i c.get.result.now w.in-Got.row c.get.ensures (ap delivery_in w.in-Got.is) in
           record {
             blocks = omega (arith, w.blocks-is, so_far.blocks, ap length found);
             sectors = goes_on _ _ _ _ _ _ so_far.sectors w.in-Got.row found w.sectors-is;
@@ -18,7 +19,8 @@ loop-i-preserved c =
             few_bad = omega (arith, w.bad-is, so_far.few_bad);
           }
       | in_default w ↦
-          let other = nothing_at delivery_in c.args.rows.now c.loop-i.i c.get.result.now c.get.ensures (no_delivery c.get.result.now w.in_default.not-Got) in
+          let other = nothing_at delivery_in c.args.rows.now c.loop-i.i c.get.result.now c.get.ensures (no_delivery c.get.result.now
+          w.in_default.not-Got) in
           record {
             blocks = omega (arith, w.blocks-is, so_far.blocks, ap length other);
             sectors = stays _ _ _ _ _ _ so_far.sectors other w.sectors-is;
@@ -30,7 +32,8 @@ loop-i-preserved c =
     ]
 
 pub returns-clause-blocks : goal.returns-clause-blocks
-returns-clause-blocks c = omega (arith, c.loop-i.invariant.blocks, ap length (none_left delivery_in c.args.rows.now c.loop-i.i (omega arith)))
+returns-clause-blocks c =
+    omega (arith, c.loop-i.invariant.blocks, ap length (none_left delivery_in c.args.rows.now c.loop-i.i (omega arith)))
 
 pub returns-clause-sectors : goal.returns-clause-sectors
 returns-clause-sectors c = ends _ _ _ _ c.loop-i.invariant.sectors (none_left delivery_in c.args.rows.now c.loop-i.i (omega arith))

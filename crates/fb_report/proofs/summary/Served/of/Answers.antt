@@ -10,7 +10,8 @@ loop-i-preserved c =
     let split = drop_at c.args.rows.now c.loop-i.i row c.get-row.ensures in
     record {
       sectors = goes_on _ _ _ _ _ _ so_far.sectors row split refl;
-      finish = goes_on _ _ _ _ _ _ so_far.finish row.finish (ap (map (λ row. row.finish)) split) (c.max-finish.ensures ∙ greater c.loop-i.finish row.finish);
+      finish = goes_on _ _ _ _ _ _ so_far.finish row.finish (ap (map (λ row. row.finish)) split) (c.max-finish.ensures
+          ∙ greater c.loop-i.finish row.finish);
       response = goes_on _ _ _ _ _ _ so_far.response row split (ap (λ x. c.loop-i.response + x) c.saturating_sub.ensures);
       few_sectors = omega (arith, so_far.few_sectors);
       short = omega (arith, so_far.short);
@@ -20,7 +21,8 @@ pub returns-clause-sectors : goal.returns-clause-sectors
 returns-clause-sectors c = ends _ _ _ _ c.loop-i.invariant.sectors (drop_all c.loop-i.i c.args.rows.now (omega arith))
 
 pub returns-clause-finish : goal.returns-clause-finish
-returns-clause-finish c = ends _ _ _ _ c.loop-i.invariant.finish (ap (map (λ row. row.finish)) (drop_all c.loop-i.i c.args.rows.now (omega arith)))
+returns-clause-finish c =
+    ends _ _ _ _ c.loop-i.invariant.finish (ap (map (λ row. row.finish)) (drop_all c.loop-i.i c.args.rows.now (omega arith)))
 
 pub returns-clause-response : goal.returns-clause-response
 returns-clause-response c = ends _ _ _ _ c.loop-i.invariant.response (drop_all c.loop-i.i c.args.rows.now (omega arith))

@@ -4,4 +4,5 @@ use Rattle.fb_script.proofs.Positions.{position-map}
 use Rattle.fb_script.proofs.reader.Reader.task_of.Goals as goal
 
 pub returns-clause-value : goal.returns-clause-value
-returns-clause-value c = c.get_index_of.ensures.index ∙ sym (position-map (bytes_eq c.args.name.now) (λ name. name.items) c.args.self.now.names.keys)
+returns-clause-value c =
+    c.get_index_of.ensures.index ∙ sym (position-map (bytes_eq c.args.name.now) (λ name. name.items) c.args.self.now.names.keys)

@@ -18,8 +18,10 @@ loop-distance-preserved c =
     let long = c.loop-distance.invariant.1 in
     let kept : is_ok c.push.result ≡ true = c.is_err.ensures.negation ∙ ap not c.if-is_err.false in
     let pushed : c.push.new.self.items ≡ times ++ c.time_of-time.result ∷ [] = rw kept at c.push.ensures.items in
-    let next : c.time_of-time.result ≡ seek c.args.self.now (length times) = c.time_of-time.ensures.value ∙ ap (seek c.args.self.now) (sym long) in
+    let next : c.time_of-time.result ≡ seek c.args.self.now (length times) = c.time_of-time.ensures.value
+    ∙ ap (seek c.args.self.now) (sym long) in
     let more : c.push.new.self.items ≡ times ++ seek c.args.self.now (length times) ∷ [] = rw next at pushed in (
-      subst (AreTimes c.args.self.now) (sym more) (one_more c.args.self.now times c.loop-distance.invariant.0 (rw next at c.time_of-time.ensures.bound)),
+      subst (AreTimes c.args.self.now) (sym more)
+          (one_more c.args.self.now times c.loop-distance.invariant.0 (rw next at c.time_of-time.ensures.bound)),
       omega (arith, ap length more, length-append times (seek c.args.self.now (length times) ∷ []), long),
     )

@@ -15,13 +15,21 @@ bad_within first count Unreadable = omega arith
 bad-le : (run : ContentRun) → bad_in run ≤ run.count
 bad-le run = bad_within run.first run.count run.content
 
-one_more : (runs : List ContentRun) (i : ℕ) (run : ContentRun) → slice_get runs i ≡ Some run → sum_by bad_in (take i runs) + bad_in run ≤ sum_by (λ run. run.count) runs
+one_more : (runs : List ContentRun) (i : ℕ) (run : ContentRun) → slice_get runs i ≡ Some run
+    → sum_by bad_in (take i runs) + bad_in run ≤ sum_by (λ run. run.count) runs
 one_more runs i run there =
     let this = ap bad_in (get_or_from_slice_get runs i run run there) in
-    omega (arith, this, sum_by_more_le bad_in runs i run (slice_get_within runs i run there), sum_by-le-sum_by bad_in (λ (run : ContentRun). run.count) runs bad-le)
+    omega (
+      arith,
+      this,
+      sum_by_more_le bad_in runs i run (slice_get_within runs i run there),
+      sum_by-le-sum_by bad_in (λ (run : ContentRun). run.count) runs bad-le,
+    )
 
-next : (runs : List ContentRun) (i : ℕ) (run : ContentRun) → slice_get runs i ≡ Some run → sum_by bad_in (take (i + 1) runs) ≡ sum_by bad_in (take i runs) + bad_in run
-next runs i run there = sum_by_more bad_in runs i run (slice_get_within runs i run there) ∙ ap (λ r. sum_by bad_in (take i runs) + bad_in r) (get_or_from_slice_get runs i run run there)
+next : (runs : List ContentRun) (i : ℕ) (run : ContentRun) → slice_get runs i ≡ Some run
+    → sum_by bad_in (take (i + 1) runs) ≡ sum_by bad_in (take i runs) + bad_in run
+next runs i run there = sum_by_more bad_in runs i run (slice_get_within runs i run there)
+    ∙ ap (λ r. sum_by bad_in (take i runs) + bad_in r) (get_or_from_slice_get runs i run run there)
 
 pub overflow_add-bad : goal.overflow_add-bad
 overflow_add-bad c =
@@ -38,4 +46,9 @@ loop-i-preserved c =
 pub returns-clause-most : goal.returns-clause-most
 returns-clause-most c =
     let so_far : c.loop-i.bad ≡ sum_by bad_in (take c.loop-i.i c.args.self.now) = c.loop-i.invariant in
-    omega (arith, so_far, sum_by-take-le bad_in c.args.self.now c.loop-i.i, sum_by-le-sum_by bad_in (λ (run : ContentRun). run.count) c.args.self.now bad-le)
+    omega (
+      arith,
+      so_far,
+      sum_by-take-le bad_in c.args.self.now c.loop-i.i,
+      sum_by-le-sum_by bad_in (λ (run : ContentRun). run.count) c.args.self.now bad-le,
+    )

@@ -26,12 +26,15 @@ pub returns-clause-ok : goal.returns-clause-ok
 returns-clause-ok c =
     let goes_on = sym c.goes_on.ensures ∙ c.if-not-goes_on.false in
     let size = some_run c.args.self.now c.args.run goes_on in
-    let last = get_or_from_slice_get c.args.self.now (c.len-last.result - 1) c.get-longer.result c.get-longer.result c.get-longer.ensures.value in
+    let last =
+    get_or_from_slice_get c.args.self.now (c.len-last.result - 1) c.get-longer.result c.get-longer.result c.get-longer.ensures.value in
     on_ok_weaker c.set.result
     (λ set_to. set_to ∙ (ap (λ run. set c.args.self.now (c.len-last.result - 1) (longer run c.args.run)) (sym last)
-    ∙ joined_last c.args.self.now (c.len-last.result - 1) c.get-longer.result c.args.run (omega arith) c.requires.some c.requires.fewest goes_on))
+    ∙ joined_last c.args.self.now (c.len-last.result - 1) c.get-longer.result c.args.run
+    (omega arith) c.requires.some c.requires.fewest goes_on))
     c.set.ensures.ok
 
 pub returns-then-not-goes_on-clause-ok : goal.returns-then-not-goes_on-clause-ok
 returns-then-not-goes_on-clause-ok c =
-    on_ok_weaker c.push.result (λ pushed. pushed ∙ pushed_last c.args.self.now c.args.run c.requires.some c.requires.fewest (sym c.goes_on.ensures ∙ c.if-not-goes_on.true)) c.push.ensures.ok
+    on_ok_weaker c.push.result (λ pushed. pushed ∙ pushed_last c.args.self.now c.args.run c.requires.some c.requires.fewest
+    (sym c.goes_on.ensures ∙ c.if-not-goes_on.true)) c.push.ensures.ok

@@ -9,7 +9,8 @@ use Rattle.fb_store.proofs.sparse.SparseContents.add_runs.Goals as goal
 
 pub add_range-requires-clause-fewest : goal.add_range-requires-clause-fewest
 add_range-requires-clause-fewest c =
-    (fewest-again (sectors_of c.args.runs.now ++ held_in (held_at c.args.self.now) (range_with_len c.args.first (c.loop-lbn.lbn - c.args.first))) c.loop-lbn.runs c.loop-lbn.invariant.so_far).1
+    (fewest-again (sectors_of c.args.runs.now ++ held_in (held_at c.args.self.now) (range_with_len c.args.first
+    (c.loop-lbn.lbn - c.args.first))) c.loop-lbn.runs c.loop-lbn.invariant.so_far).1
 
 pub loop-lbn-preserved : goal.loop-lbn-preserved
 loop-lbn-preserved c =
@@ -19,7 +20,8 @@ loop-lbn-preserved c =
       bounds = next.1;
       from = omega (arith, next.0);
       stop = c.loop-lbn.invariant.stop;
-      so_far = added_more (held_at c.args.self.now) (sectors_of c.args.runs.now) c.loop-lbn.runs c.add_range.new.runs c.args.first c.loop-lbn.lbn c.in_ok-lbn.lbn from (omega (arith, next.0))
+      so_far = added_more (held_at c.args.self.now) (sectors_of c.args.runs.now) c.loop-lbn.runs c.add_range.new.runs c.args.first
+          c.loop-lbn.lbn c.in_ok-lbn.lbn from (omega (arith, next.0))
           c.loop-lbn.invariant.so_far c.in_ok-lbn.ensures.more;
     }
 
@@ -30,7 +32,8 @@ loop-lbn-init c =
       bounds = omega arith;
       from = omega arith;
       stop = refl;
-      so_far = none_added c.args.runs.now (held_in (held_at c.args.self.now) (range_with_len c.args.first (c.args.first - c.args.first))) (ap (λ n. held_in (held_at c.args.self.now) (range_with_len c.args.first n)) none)
+      so_far = none_added c.args.runs.now (held_in (held_at c.args.self.now) (range_with_len c.args.first (c.args.first - c.args.first)))
+          (ap (λ n. held_in (held_at c.args.self.now) (range_with_len c.args.first n)) none)
           (fewest-again c.requires.fewest.0 c.args.runs.now c.requires.fewest.1).1;
     }
 
@@ -40,4 +43,5 @@ returns c sectors e =
     let bounds = c.loop-lbn.invariant.bounds in
     let all : c.loop-lbn.lbn - c.args.first ≡ c.args.count = omega arith in
     c.loop-lbn.invariant.so_far
-    ∙ ap₂ (λ before n. runs_of (before ++ held_in (held_at c.args.self.now) (range_with_len c.args.first n))) (fewest-again sectors c.args.runs.now e).0 all
+    ∙ ap₂ (λ before n. runs_of (before ++ held_in (held_at c.args.self.now) (range_with_len c.args.first n)))
+    (fewest-again sectors c.args.runs.now e).0 all

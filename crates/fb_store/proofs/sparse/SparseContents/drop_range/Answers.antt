@@ -14,7 +14,8 @@ returns-clause-ok c lbn =
     ∙ ap (λ ranges. after_dropping c.args.first c.args.count lbn (held_at ranges lbn)) c.self.view_is
 
 pub returns-in_err-write-clause-err : goal.returns-in_err-write-clause-err
-returns-in_err-write-clause-err c = on_err c.from_residual.result (λ lbn. c.in_err-write.ensures.err lbn ∙ ap (λ ranges. held_at ranges lbn) c.self.view_is)
+returns-in_err-write-clause-err c =
+    on_err c.from_residual.result (λ lbn. c.in_err-write.ensures.err lbn ∙ ap (λ ranges. held_at ranges lbn) c.self.view_is)
 
 pub invariant_of-self : goal.invariant_of-self
 invariant_of-self c lbn past = c.in_err-write.ensures.err lbn ∙ c.self.invariant lbn past

@@ -13,9 +13,11 @@ loop-lbn-preserved c =
       bounds = omega arith;
       from = let before = c.loop-lbn.invariant.from in omega arith;
       stop = c.loop-lbn.invariant.stop;
-      so_far = one_more (content_in c.args.self.now) c.loop-lbn.lbn (c.args.first + c.args.count) c.run_at-run.result c.loop-lbn.runs c.push.new.self c.run_at-run.ensures c.in_ok-push.ensures.ok ∙ c.loop-lbn.invariant.so_far;
+      so_far = one_more (content_in c.args.self.now) c.loop-lbn.lbn (c.args.first + c.args.count) c.run_at-run.result c.loop-lbn.runs
+          c.push.new.self c.run_at-run.ensures c.in_ok-push.ensures.ok ∙ c.loop-lbn.invariant.so_far;
     }
 
 pub returns-clause-whole : goal.returns-clause-whole
-returns-clause-whole c = ap (sum_by (λ (run : ContentRun). run.count)) (all_runs (content_in c.args.self.now) c.loop-lbn.lbn (c.args.first + c.args.count) c.loop-lbn.runs (c.loop-lbn-test.false) ∙ c.loop-lbn.invariant.so_far)
+returns-clause-whole c = ap (sum_by (λ (run : ContentRun). run.count)) (all_runs (content_in c.args.self.now) c.loop-lbn.lbn (c.args.first
+    + c.args.count) c.loop-lbn.runs (c.loop-lbn-test.false) ∙ c.loop-lbn.invariant.so_far)
     ∙ sum_by-runs_of-held (content_in c.args.self.now) c.args.first c.args.count

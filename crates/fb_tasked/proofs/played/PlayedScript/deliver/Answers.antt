@@ -4,23 +4,45 @@ use Rattle.fb_tasked.proofs.Script.{within-at, follows-may-deliver, follows-deli
 use Rattle.fb_tasked.proofs.played.PlayedScript.deliver.Goals as goal
 
 pub runs-requires : goal.runs-requires
-runs-requires c = within-at c.requires.follows.tells c.requires.wanted.0 (record { block = c.args.block; state = Wanted }) c.requires.wanted.1
+runs-requires c =
+    within-at c.requires.follows.tells c.requires.wanted.0 (record { block = c.args.block; state = Wanted }) c.requires.wanted.1
 
 pub deliver-requires : goal.deliver-requires
 deliver-requires c =
     let block = c.args.block in
     let now = content_in c.args.self.now.store in
-    let gives = ap sectors_of c.in_ok-content.ensures.fewest ∙ (c.runs_are_fewest.ensures (map (λ lbn. (lbn, now lbn)) (range_with_len block.lbn block.count))).contents in
-    let got : DeliveryRow = record { block = block; begin = c.args.begin; end = c.args.end; how = c.args.how; bad = c.bad.result; content = c.in_ok-content.content } in
-    (c.args.self.now.map, c.requires.follows.past, follows-may-deliver c.requires.follows got c.requires.wanted.0 now c.requires.wanted.1 gives)
+    let gives = ap sectors_of c.in_ok-content.ensures.fewest
+    ∙ (c.runs_are_fewest.ensures (map (λ lbn. (lbn, now lbn)) (range_with_len block.lbn block.count))).contents in
+    let got : DeliveryRow = record {
+      block = block;
+      begin = c.args.begin;
+      end = c.args.end;
+      how = c.args.how;
+      bad = c.bad.result;
+      content = c.in_ok-content.content;
+    } in
+    (
+      c.args.self.now.map,
+      c.requires.follows.past,
+      follows-may-deliver c.requires.follows got c.requires.wanted.0 now c.requires.wanted.1 gives,
+    )
 
 pub returns : goal.returns
 returns c =
     let block = c.args.block in
     let now = content_in c.args.self.now.store in
-    let gives = ap sectors_of c.in_ok-content.ensures.fewest ∙ (c.runs_are_fewest.ensures (map (λ lbn. (lbn, now lbn)) (range_with_len block.lbn block.count))).contents in
-    let got : DeliveryRow = record { block = block; begin = c.args.begin; end = c.args.end; how = c.args.how; bad = c.bad.result; content = c.in_ok-content.content } in
+    let gives = ap sectors_of c.in_ok-content.ensures.fewest
+    ∙ (c.runs_are_fewest.ensures (map (λ lbn. (lbn, now lbn)) (range_with_len block.lbn block.count))).contents in
+    let got : DeliveryRow = record {
+      block = block;
+      begin = c.args.begin;
+      end = c.args.end;
+      how = c.args.how;
+      bad = c.bad.result;
+      content = c.in_ok-content.content;
+    } in
     let may = follows-may-deliver c.requires.follows got c.requires.wanted.0 now c.requires.wanted.1 gives in
     on_ok_weaker c.deliver.result (λ all. follows-delivered c.requires.follows got c.deliver.new.self c.deliver.new.wanted
-    (all.0 c.args.self.now.map c.requires.follows.past may) (all.1 c.args.self.now.map c.requires.follows.past may) c.args.self.now.up_to_date)
+    (all.0 c.args.self.now.map c.requires.follows.past may)
+    (all.1 c.args.self.now.map c.requires.follows.past may) c.args.self.now.up_to_date)
     (on_ok_both _ _ c.deliver.result c.deliver.ensures.tells c.deliver.ensures.up_to_date)

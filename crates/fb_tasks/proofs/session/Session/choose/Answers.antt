@@ -7,11 +7,15 @@ pub returns-then-not-may_choose-clause-chosen : goal.returns-then-not-may_choose
 returns-then-not-may_choose-clause-chosen c = λ past may. idle-turned (sym c.may_choose.ensures ∙ c.if-not-may_choose.true) may
 
 pub choose_one-requires-clause-may : goal.choose_one-requires-clause-may
-choose_one-requires-clause-may c = (choose_up_to c.loop-turn._turn c.args.map.now c.args.stamp.task c.requires.0, (c.loop-turn.invariant.turned c.requires.0 c.requires.1).may)
+choose_one-requires-clause-may c = (
+  choose_up_to c.loop-turn._turn c.args.map.now c.args.stamp.task c.requires.0,
+  (c.loop-turn.invariant.turned c.requires.0 c.requires.1).may,
+)
 
 pub loop-turn-init : goal.loop-turn-init
 loop-turn-init c =
-    let may_be = and_parts (is_clean c.args.self.now.kind) (not c.args.self.now.closed) (sym c.may_choose.ensures ∙ c.if-not-may_choose.false) in
+    let may_be =
+    and_parts (is_clean c.args.self.now.kind) (not c.args.self.now.closed) (sym c.may_choose.ensures ∙ c.if-not-may_choose.false) in
     record {
       cleans = (may_be.0, not-true c.args.self.now.closed may_be.1);
       same = (refl, refl);
@@ -24,9 +28,11 @@ pub loop-turn-preserved : goal.loop-turn-preserved
 loop-turn-preserved c =
     let inv = c.loop-turn.invariant in
     record {
-      cleans = (ap (λ t. is_clean t.0) c.choose_one.ensures.same.0 ∙ inv.cleans.0, ap (λ t. t.4) c.choose_one.ensures.same.0 ∙ inv.cleans.1);
+      cleans =
+          (ap (λ t. is_clean t.0) c.choose_one.ensures.same.0 ∙ inv.cleans.0, ap (λ t. t.4) c.choose_one.ensures.same.0 ∙ inv.cleans.1);
       same = (c.choose_one.ensures.same.0 ∙ inv.same.0, c.choose_one.ensures.same.1 ∙ inv.same.1);
-      own = registers_more (λ other. other ≡ c.args.stamp.task) c.args.wanted.now c.loop-turn.wanted c.choose_one.new.wanted inv.own c.choose_one.ensures.own;
+      own = registers_more (λ other. other ≡ c.args.stamp.task) c.args.wanted.now c.loop-turn.wanted c.choose_one.new.wanted inv.own
+          c.choose_one.ensures.own;
       grown = grown_more c.args.rows.now c.loop-turn.rows c.choose_one.new.rows inv.grown c.choose_one.ensures.grown;
       turned = λ past may. rw (up_to_split c.loop-turn._turn 1 c.args.map.now c.args.stamp.task past)
           (turned-on (inv.turned past may) (c.in_ok-choose_one.ensures.chosen _ (inv.turned past may).may));
@@ -49,8 +55,10 @@ returns-clause-chosen c = λ past may.
 
 pub returns-in_err-choose_one-clause-own : goal.returns-in_err-choose_one-clause-own
 returns-in_err-choose_one-clause-own c =
-    registers_more (λ other. other ≡ c.args.stamp.task) c.args.wanted.now c.loop-turn.wanted c.choose_one.new.wanted c.loop-turn.invariant.own c.choose_one.ensures.own
+    registers_more (λ other. other ≡ c.args.stamp.task) c.args.wanted.now c.loop-turn.wanted c.choose_one.new.wanted
+    c.loop-turn.invariant.own c.choose_one.ensures.own
 
 pub returns-then-not-branch-clause-own : goal.returns-then-not-branch-clause-own
 returns-then-not-branch-clause-own c =
-    registers_more (λ other. other ≡ c.args.stamp.task) c.args.wanted.now c.loop-turn.wanted c.choose_one.new.wanted c.loop-turn.invariant.own c.choose_one.ensures.own
+    registers_more (λ other. other ≡ c.args.stamp.task) c.args.wanted.now c.loop-turn.wanted c.choose_one.new.wanted
+    c.loop-turn.invariant.own c.choose_one.ensures.own

@@ -9,5 +9,6 @@ invariant-loop-turn l = record {
   own : OnlyRegisters (λ other. other ≡ l.stamp.task) l.initial.wanted l.wanted;
   grown : HasGrown l.initial.rows l.rows;
   turned : (past : Past) → MayChoose l.map past l.stamp.task l.initial.self l.initial.wanted
-      → HasTurned l.map past (choose_up_to l._turn l.map l.stamp.task past) l.stamp.task l.stamp.instant l.self l.wanted l.initial.rows l.rows;
+      → HasTurned l.map past (choose_up_to l._turn l.map l.stamp.task past) l.stamp.task l.stamp.instant l.self l.wanted l.initial.rows
+      l.rows;
 }

@@ -25,7 +25,8 @@ returns-clause-err_rows c = on_err_weaker c.test.result (λ begins disk past ses
 
 pub returns-in_err-push_findings-clause-err_rows : goal.returns-in_err-push_findings-clause-err_rows
 returns-in_err-push_findings-clause-err_rows c = on_err c.from_residual-in_err-push_findings.result (λ disk past sessions held t.
-    begun-findings t c.in_ok-take.ensures c.args.rows.now (c.deref.ensures.value ∙ c.in_ok-findings.ensures) c.in_ok-push.ensures.ok c.in_err-push_findings.ensures.err)
+    begun-findings t c.in_ok-take.ensures c.args.rows.now
+    (c.deref.ensures.value ∙ c.in_ok-findings.ensures) c.in_ok-push.ensures.ok c.in_err-push_findings.ensures.err)
 
 pub returns-in_err-test_segment-clause-err_rows : goal.returns-in_err-test_segment-clause-err_rows
 returns-in_err-test_segment-clause-err_rows c = on_err c.from_residual-in_err-test_segment.result (λ disk past sessions held t.

@@ -9,7 +9,9 @@ returns-then-counts-clause-ok c = λ disk past may.
 
 pub returns-in_ok-content-in-Some-clause-ok : goal.returns-in_ok-content-in-Some-clause-ok
 returns-in_ok-content-in-Some-clause-ok c = on_ok_weaker c.finish.result (λ pushed disk past may.
-    let is = chosen_tested c.args.self.now may c.args.now c.counts-counts.result c.counts-counts.ensures c.if-counts.false c.finish.new.self c.in-Some.segment c.in_ok-content-in-Some.content c.finish.ensures.session (sym c.in-Some.ensures.value) c.in_ok-content-in-Some.ensures in
+    let is = chosen_tested c.args.self.now may c.args.now c.counts-counts.result
+    c.counts-counts.ensures c.if-counts.false c.finish.new.self c.in-Some.segment c.in_ok-content-in-Some.content c.finish.ensures.session
+    (sym c.in-Some.ensures.value) c.in_ok-content-in-Some.ensures in
     (is.stands, is.at_work, pushed ∙ ap (λ rows. c.args.rows.now ++ rows) is.rows)) c.finish.ensures.row
 
 pub returns-in-None-clause-ok : goal.returns-in-None-clause-ok

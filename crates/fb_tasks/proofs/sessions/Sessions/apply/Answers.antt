@@ -7,41 +7,62 @@ open-requires c = room_for_one c.args.map.now c.requires.0 c.args.self.now c.arg
 
 pub add_segment-requires-clause-call : goal.add_segment-requires-clause-call
 add_segment-requires-clause-call c =
-    (c.args.map.now, c.requires.0, c.args.call.now, c.args.wanted.now, record { task = refl; action = c.in-Segment.is }, c.requires.1, omega (arith, c.count-sectors.ensures.value, c.count-sectors.ensures.bound))
+    (
+      c.args.map.now,
+      c.requires.0,
+      c.args.call.now,
+      c.args.wanted.now,
+      record { task = refl; action = c.in-Segment.is },
+      c.requires.1,
+      omega (arith, c.count-sectors.ensures.value, c.count-sectors.ensures.bound),
+    )
 
 pub returns-in-Open-clause-ok : goal.returns-in-Open-clause-ok
-returns-in-Open-clause-ok c = on_ok_weaker c.open.result (λ says past h. takes_none c.args.map.now past c.args.call.now c.open.new.self c.args.wanted.now (ap (blocks_by c.args.map.now past c.args.call.now.task) c.in-Open.is) (says c.args.map.now past c.args.call.now c.args.wanted.now c.in-Open.is h)) c.open.ensures.ok
+returns-in-Open-clause-ok c = on_ok_weaker c.open.result (λ says past h. takes_none c.args.map.now
+    past c.args.call.now c.open.new.self c.args.wanted.now (ap (blocks_by c.args.map.now past c.args.call.now.task) c.in-Open.is)
+    (says c.args.map.now past c.args.call.now c.args.wanted.now c.in-Open.is h)) c.open.ensures.ok
 
 pub returns-in-Want-clause-ok : goal.returns-in-Want-clause-ok
-returns-in-Want-clause-ok c = on_ok_weaker c.want.result (λ says past h. says past c.args.call.now (record { task = refl; action = c.in-Want.is }) h) c.want.ensures.ok
+returns-in-Want-clause-ok c = on_ok_weaker c.want.result
+    (λ says past h. says past c.args.call.now (record { task = refl; action = c.in-Want.is }) h) c.want.ensures.ok
 
 pub returns-in-Want-clause-err_blocks : goal.returns-in-Want-clause-err_blocks
-returns-in-Want-clause-err_blocks c = on_err_weaker c.want.result (λ _ past may. c.want.ensures.blocks past c.args.call.now (record { task = refl; action = c.in-Want.is }) may) c.want.ensures.err
+returns-in-Want-clause-err_blocks c = on_err_weaker c.want.result
+    (λ _ past may. c.want.ensures.blocks past c.args.call.now (record { task = refl; action = c.in-Want.is }) may) c.want.ensures.err
 
 pub returns-in_ok-touch-in-Abort-clause-ok : goal.returns-in_ok-touch-in-Abort-clause-ok
-returns-in_ok-touch-in-Abort-clause-ok c = λ past h. takes_none c.args.map.now past c.args.call.now c.touch.new.self c.abort.new.self (ap (blocks_by c.args.map.now past c.args.call.now.task) c.in-Abort.is)
-    (call-aborts c.args.map.now past c.args.call.now c.in-Abort.first c.in-Abort.count c.args.self.now c.touch.new.self c.args.wanted.now c.abort.new.self c.in-Abort.is c.abort.ensures.states c.in_ok-touch-in-Abort.ensures.ok h)
+returns-in_ok-touch-in-Abort-clause-ok c = λ past h. takes_none c.args.map.now past c.args.call.now c.touch.new.self c.abort.new.self
+    (ap (blocks_by c.args.map.now past c.args.call.now.task) c.in-Abort.is)
+    (call-aborts c.args.map.now past c.args.call.now c.in-Abort.first c.in-Abort.count c.args.self.now c.touch.new.self c.args.wanted.now
+    c.abort.new.self c.in-Abort.is c.abort.ensures.states c.in_ok-touch-in-Abort.ensures.ok h)
 
 pub returns-in-Promote-clause-ok : goal.returns-in-Promote-clause-ok
-returns-in-Promote-clause-ok c = λ past h. takes_none c.args.map.now past c.args.call.now c.args.self.now c.args.wanted.now (ap (blocks_by c.args.map.now past c.args.call.now.task) c.in-Promote.is)
-    (promoted-tells c.args.map.now past c.args.call.now c.in-Promote.first c.in-Promote.count c.args.self.now c.args.wanted.now c.in-Promote.is h.tells)
+returns-in-Promote-clause-ok c = λ past h. takes_none c.args.map.now past c.args.call.now c.args.self.now c.args.wanted.now
+    (ap (blocks_by c.args.map.now past c.args.call.now.task) c.in-Promote.is)
+    (promoted-tells c.args.map.now past c.args.call.now c.in-Promote.first c.in-Promote.count c.args.self.now c.args.wanted.now
+    c.in-Promote.is h.tells)
 
 pub returns-in-Suspend-clause-ok : goal.returns-in-Suspend-clause-ok
-returns-in-Suspend-clause-ok c = λ past h. takes_none c.args.map.now past c.args.call.now c.suspend.new.self c.suspend.new.wanted (ap (blocks_by c.args.map.now past c.args.call.now.task) c.in-Suspend.is)
+returns-in-Suspend-clause-ok c = λ past h. takes_none c.args.map.now past c.args.call.now c.suspend.new.self c.suspend.new.wanted
+    (ap (blocks_by c.args.map.now past c.args.call.now.task) c.in-Suspend.is)
     (c.suspend.ensures c.args.map.now past c.args.call.now (record { task = refl; action = c.in-Suspend.is }) h.tells)
 
 pub returns-in-Resume-clause-ok : goal.returns-in-Resume-clause-ok
-returns-in-Resume-clause-ok c = λ past h. takes_none c.args.map.now past c.args.call.now c.resume.new.self c.resume.new.wanted (ap (blocks_by c.args.map.now past c.args.call.now.task) c.in-Resume.is)
+returns-in-Resume-clause-ok c = λ past h. takes_none c.args.map.now past c.args.call.now c.resume.new.self c.resume.new.wanted
+    (ap (blocks_by c.args.map.now past c.args.call.now.task) c.in-Resume.is)
     (c.resume.ensures c.args.map.now past c.args.call.now (record { task = refl; action = c.in-Resume.is }) h.tells)
 
 pub returns-in-Close : goal.returns-in-Close
 returns-in-Close c = record {
-  ok = on_ok_weaker c.close.result (λ says past h. takes_none c.args.map.now past c.args.call.now c.close.new.self c.close.new.wanted (ap (blocks_by c.args.map.now past c.args.call.now.task) c.in-Close.is)
+  ok = on_ok_weaker c.close.result (λ says past h. takes_none c.args.map.now past c.args.call.now c.close.new.self c.close.new.wanted
+      (ap (blocks_by c.args.map.now past c.args.call.now.task) c.in-Close.is)
       (says past c.args.call.now (record { task = refl; action = c.in-Close.is }) h.tells)) c.close.ensures.ok;
   err_sessions = on_err_weaker c.close.result (λ same. same.0) c.close.ensures.err;
   err_blocks = on_err_weaker c.close.result (λ same past may. begun_same same.1) c.close.ensures.err;
 }
 
 pub returns-in-Segment-clause-ok : goal.returns-in-Segment-clause-ok
-returns-in-Segment-clause-ok c = on_ok_weaker c.add_segment.result (λ says past h. takes_none c.args.map.now past c.args.call.now c.add_segment.new.self c.args.wanted.now (ap (blocks_by c.args.map.now past c.args.call.now.task) c.in-Segment.is)
-    (says c.args.map.now past c.args.call.now c.args.wanted.now (record { task = refl; action = c.in-Segment.is }) h)) c.add_segment.ensures.ok
+returns-in-Segment-clause-ok c = on_ok_weaker c.add_segment.result (λ says past h. takes_none c.args.map.now past c.args.call.now
+    c.add_segment.new.self c.args.wanted.now (ap (blocks_by c.args.map.now past c.args.call.now.task) c.in-Segment.is)
+    (says c.args.map.now past c.args.call.now c.args.wanted.now (record { task = refl; action = c.in-Segment.is }) h))
+    c.add_segment.ensures.ok

@@ -45,7 +45,8 @@ loop-task-preserved c =
           (rw c.deref.ensures.value at c.in-Some.ensures.first) (inv.partly past h) in
           partly-more there c.choose.ensures.same.1 to (c.in_ok-choose.ensures.chosen _ (partly-may there to));
       stay = touched_set c.args.self.now items n session c.choose.new.self there touched c.choose.ensures.same.0 inv.stay;
-      own = chosen_own c.args.self.now items n session c.args.wanted.now c.loop-task.wanted c.choose.new.wanted there touched inv.stay inv.own c.choose.ensures.own c.choose.ensures.idle;
+      own = chosen_own c.args.self.now items n session c.args.wanted.now c.loop-task.wanted c.choose.new.wanted there touched inv.stay
+          inv.own c.choose.ensures.own c.choose.ensures.idle;
       grown = grown_more c.args.rows.now c.loop-task.rows c.choose.new.rows inv.grown c.choose.ensures.grown;
     }
 
@@ -59,8 +60,10 @@ pub returns-in_err-choose-clause-stay_blocks : goal.returns-in_err-choose-clause
 returns-in_err-choose-clause-stay_blocks c =
     let inv = c.loop-task.invariant in
     let there = listed_there inv.kept c.in-Some.task c.index_mut.result.now c.in-Some.ensures.found c.index_mut.ensures.value in
-    chosen_own c.args.self.now c.loop-task.self-inside.sessions.items c.in-Some.task c.index_mut.result.now c.args.wanted.now c.loop-task.wanted c.choose.new.wanted there
-    ((rw c.deref.ensures.value at c.in-Some.ensures.touched) c.index_mut.result.now there) inv.stay inv.own c.choose.ensures.own c.choose.ensures.idle
+    chosen_own c.args.self.now c.loop-task.self-inside.sessions.items c.in-Some.task c.index_mut.result.now c.args.wanted.now
+    c.loop-task.wanted c.choose.new.wanted there
+    ((rw c.deref.ensures.value at c.in-Some.ensures.touched) c.index_mut.result.now there) inv.stay inv.own c.choose.ensures.own
+    c.choose.ensures.idle
 
 pub returns-in_err-choose-clause-stay_sessions : goal.returns-in_err-choose-clause-stay_sessions
 returns-in_err-choose-clause-stay_sessions c =

@@ -39,7 +39,8 @@ loop-task-preserved c =
     let touched = (rw c.deref.ensures.value at c.in-Some.ensures.touched) session there in
     let cleared = record c.test.new.self { touched = false } in
     record {
-      kept = listed_less inv.kept n cleared c.forget.new.list c.forget-in-Some.new.list c.is_open_backup-is_open_backup.result c.in-Some.ensures.found refl
+      kept = listed_less inv.kept n cleared c.forget.new.list c.forget-in-Some.new.list c.is_open_backup-is_open_backup.result
+          c.in-Some.ensures.found refl
           c.is_open_backup-is_open_backup.ensures c.forget.ensures.others c.forget.ensures.only (c.forget.ensures.gone refl)
           c.forget-in-Some.ensures.others c.forget-in-Some.ensures.only
           (λ stays is. ap (λ list. contains nat_cmp list n) (c.forget-in-Some.ensures.kept stays) ∙ is);

@@ -8,7 +8,8 @@ use Rattle.fb_top.proofs.array_text.ArrayLinesLines.line.Goals as goal
 pub returns-then-place-eq0-clause-value : goal.returns-then-place-eq0-clause-value
 returns-then-place-eq0-clause-value c =
     let lines = c.args.self.now in
-    IfOk-weaker c.first_line.result _ _ (λ line is. rw c.if-place-eq0.true (first_of_array lines.sector_bytes lines.bytes lines.runs.now ∙ ap Some (sym is))) c.first_line.ensures
+    IfOk-weaker c.first_line.result _ _ (λ line is.
+    rw c.if-place-eq0.true (first_of_array lines.sector_bytes lines.bytes lines.runs.now ∙ ap Some (sym is))) c.first_line.ensures
 
 pub returns-in-Some-clause-value : goal.returns-in-Some-clause-value
 returns-in-Some-clause-value c =
@@ -23,5 +24,6 @@ pub returns-in-None-clause-value : goal.returns-in-None-clause-value
 returns-in-None-clause-value c =
     let lines = c.args.self.now in
     IfOk-weaker c.last_line.result _ _ (λ line is.
-    last_of_array lines.sector_bytes lines.bytes lines.runs.now c.args.place _ (omega (arith, c.if-place-eq0.false)) c.requires.inside (c.in-None.ensures.behind lines.sector_bytes lines.bytes)
+    last_of_array lines.sector_bytes lines.bytes lines.runs.now c.args.place _ (omega (arith, c.if-place-eq0.false)) c.requires.inside
+    (c.in-None.ensures.behind lines.sector_bytes lines.bytes)
     ∙ ap Some (sym (is ∙ ap array_last c.len.ensures.value))) c.last_line.ensures

@@ -6,10 +6,12 @@ use Rattle.fb_top.proofs.Counted.{back_counted}
 use Rattle.fb_top.proofs.lines.BackLinesLines.line.Goals as goal
 
 pub back_piece-requires-clause-piece : goal.back_piece-requires-clause-piece
-back_piece-requires-clause-piece c = let lines = c.args.self.now in omega (arith, c.requires.inside, back_counted lines.names.now lines.sector_bytes lines.bytes lines.run.now)
+back_piece-requires-clause-piece c = let lines = c.args.self.now in
+    omega (arith, c.requires.inside, back_counted lines.names.now lines.sector_bytes lines.bytes lines.run.now)
 
 pub returns-clause-form : goal.returns-clause-form
 returns-clause-form c =
     let lines = c.args.self.now in
     IfOk-weaker c.back_piece.result _ _
-    (λ line form can. subst (λ n. IsLine (is_in_place back_grammar n c.args.place) line.items) (sym (back_counted lines.names.now lines.sector_bytes lines.bytes lines.run.now)) (form can.0 can.1 can.2)) c.back_piece.ensures.form
+    (λ line form can. subst (λ n. IsLine (is_in_place back_grammar n c.args.place) line.items)
+    (sym (back_counted lines.names.now lines.sector_bytes lines.bytes lines.run.now)) (form can.0 can.1 can.2)) c.back_piece.ensures.form

@@ -6,10 +6,12 @@ use Rattle.fb_top.proofs.Counted.{fore_counted}
 use Rattle.fb_top.proofs.lines.ForeLinesLines.line.Goals as goal
 
 pub fore_piece-requires-clause-piece : goal.fore_piece-requires-clause-piece
-fore_piece-requires-clause-piece c = let lines = c.args.self.now in omega (arith, c.requires.inside, fore_counted lines.sector_bytes lines.bytes lines.run.now)
+fore_piece-requires-clause-piece c = let lines = c.args.self.now in
+    omega (arith, c.requires.inside, fore_counted lines.sector_bytes lines.bytes lines.run.now)
 
 pub returns-clause-form : goal.returns-clause-form
 returns-clause-form c =
     let lines = c.args.self.now in
     IfOk-weaker c.fore_piece.result _ _
-    (λ line form can. subst (λ n. IsLine (is_in_place fore_grammar n c.args.place) line.items) (sym (fore_counted lines.sector_bytes lines.bytes lines.run.now)) (form can.0 can.1)) c.fore_piece.ensures.form
+    (λ line form can. subst (λ n. IsLine (is_in_place fore_grammar n c.args.place) line.items)
+    (sym (fore_counted lines.sector_bytes lines.bytes lines.run.now)) (form can.0 can.1)) c.fore_piece.ensures.form

@@ -3,4 +3,5 @@ use Rattle.fb_top.proofs.Counted.{spill_counted}
 use Rattle.fb_top.proofs.spill_text.SpillLinesLines.line.Goals as goal
 
 pub spill_piece-requires-clause-piece : goal.spill_piece-requires-clause-piece
-spill_piece-requires-clause-piece c = let lines = c.args.self.now in omega (arith, c.requires.inside, spill_counted lines.sector_bytes lines.bytes lines.spill.now)
+spill_piece-requires-clause-piece c = let lines = c.args.self.now in
+    omega (arith, c.requires.inside, spill_counted lines.sector_bytes lines.bytes lines.spill.now)

@@ -17,7 +17,8 @@ overflow_sub-trace c =
     let l = c.loop-trace in
     let own = own_of c.trace-item.result in
     let here = alike_from l.trace-index l.trace-items c.args.self.traces.items c.trace-item.result l.invariant.left (omega arith) in
-    let few = one_of_all (λ (own : List Request). length own ≤ c.args.self.requests) l.trace-index (requests_of c.args.self) own (omega (arith, length-map c.args.self.traces.items own_of, here.2))
+    let few = one_of_all (λ (own : List Request). length own ≤ c.args.self.requests) l.trace-index (requests_of c.args.self) own
+    (omega (arith, length-map c.args.self.traces.items own_of, here.2))
     (get_or-mapped own_of l.trace-index c.args.self.traces.items c.trace-item.result (c.trace-item.is ∙ here.0)) c.requires in
     let count = c.len.ensures ∙ ap (λ (trace : Trace). vec_len trace.requests) (sym c.trace-item.is) in
     omega (arith, few, count, c.trace-item.result.requests.ok.0)
@@ -30,13 +31,19 @@ loop-trace-preserved c =
     let item = c.trace-item.result in
     let inside : l.trace-index < length items = omega arith in
     let here = alike_from l.trace-index items before item l.invariant.left inside in
-    let written : Trace = record { requests = (get_or items l.trace-index item).requests; passed_over = c.args.self.requests - c.len.result } in
-    let count : c.len.result ≡ length (own_of item) = omega (arith, c.len.ensures ∙ ap (λ (trace : Trace). vec_len trace.requests) (sym c.trace-item.is), item.requests.ok.0) in
+    let written : Trace = record {
+      requests = (get_or items l.trace-index item).requests;
+      passed_over = c.args.self.requests - c.len.result;
+    } in
+    let count : c.len.result ≡ length (own_of item) =
+    omega (arith, c.len.ensures ∙ ap (λ (trace : Trace). vec_len trace.requests) (sym c.trace-item.is), item.requests.ok.0) in
     let same : accepted written ≡ own_trace c.args.self (own_of item) =
-    ap (λ (trace : Trace). let t : Accepted = record { requests = own_of trace; passed_over = c.args.self.requests - c.len.result } in t) (sym c.trace-item.is)
+    ap (λ (trace : Trace). let t : Accepted = record { requests = own_of trace; passed_over = c.args.self.requests - c.len.result } in t)
+    (sym c.trace-item.is)
     ∙ ap (λ n. let t : Accepted = record { requests = own_of item; passed_over = c.args.self.requests - n } in t) count in
     record {
-      done = rw add-one (written_next accepted (own_trace c.args.self) l.trace-index items (requests_of c.args.self) written (own_of item) inside (omega (arith, length-map before own_of, here.2))
+      done = rw add-one (written_next accepted (own_trace c.args.self) l.trace-index items (requests_of c.args.self) written
+          (own_of item) inside (omega (arith, length-map before own_of, here.2))
           (get_or-mapped own_of l.trace-index before item (c.trace-item.is ∙ here.0)) same l.invariant.done);
       left = drop-set-lt (l.trace-index + 1) items l.trace-index written (omega arith) ∙ here.1;
     }
