@@ -104,8 +104,7 @@ wanted_there old catch is to =
     let task : (to.put.block.task == catch.block.task) ≡ true = ap (λ (b : Block). to.put.block.task == b.task) to.block
     ∙ itself to.put.block.task in
     let number : (to.put.block.number == catch.block.number) ≡ true = ap (λ (b : Block). to.put.block.number == b.number) to.block
-    ∙ itself to.put.block.number in
-    (
+    ∙ itself to.put.block.number in (
       entry,
       to.index,
       at,

@@ -22,7 +22,7 @@ pub cut_more : (number block_number : ℕ) (before now : List Entry) (cut : Cut)
 cut_more number block_number before now cut cuts rest split added =
     ap (λ es. es ++ map wanted_entry (numbered number 1 (block_number + 1) rest)) added
     ∙ append_assoc before (map wanted_entry (numbered number 1 block_number (cut ∷ [])))
-        (map wanted_entry (numbered number 1 (block_number + 1) rest))
+    (map wanted_entry (numbered number 1 (block_number + 1) rest))
     ∙ ap (λ cs. before ++ map wanted_entry (numbered number 1 block_number cs)) (sym split)
 
 pub one_counted : (number : ℕ) (before : List Entry) (entry : Entry) → entry.block.task ≡ number

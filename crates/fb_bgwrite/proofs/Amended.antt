@@ -135,8 +135,7 @@ module _ (disk : Disk) (sound : IsSound disk.map) where
   right_fits blocks so_far [] spills each right = tt
   right_fits blocks so_far (gap ∷ gs) [] each right = absurd (omega (arith, each))
   right_fits blocks so_far (gap ∷ gs) (spill ∷ spills) each right =
-      let step = step_of blocks so_far gap spill in
-      (
+      let step = step_of blocks so_far gap spill in (
         chosen_fits gap.free gap step.pending spill refl right.0,
         right_fits blocks (so_far ++ rows_in disk step) gs spills (omega (arith, each)) right.1,
       )

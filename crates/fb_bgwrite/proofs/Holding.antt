@@ -134,11 +134,10 @@ of_puts : (disk : Disk) (puts : List Put) → AreInOrder (put_blocks disk.map pu
     → AllByRecursion (λ (g : Fill). is_in g.range lbn ≡ true → g.writer ≡ 2 ^ 32 + row.put) (flat_map put_fills items)
 of_puts disk puts order row is lbn inside [] all = tt
 of_puts disk puts order row is lbn inside (SpillLine stay ∷ items) all = of_puts disk puts order row is lbn inside items all.1
-of_puts disk puts order row is lbn inside (WroteLine other ∷ items) all =
-    (
-      λ there. ap (λ n. 2 ^ 32 + n) (one_put disk puts order row other is all.0 lbn inside there),
-      of_puts disk puts order row is lbn inside items all.1,
-    )
+of_puts disk puts order row is lbn inside (WroteLine other ∷ items) all = (
+  λ there. ap (λ n. 2 ^ 32 + n) (one_put disk puts order row other is all.0 lbn inside there),
+  of_puts disk puts order row is lbn inside items all.1,
+)
 
 none_told : (lbn : ℕ) (items : List SpillItem) → AllByRecursion (λ item. is_told lbn item ≡ false) items
     → AllByRecursion (λ (g : Fill). is_in g.range lbn ≡ false) (flat_map put_fills items)

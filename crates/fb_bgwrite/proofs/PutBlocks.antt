@@ -118,17 +118,16 @@ all_mapped : (disk : Disk) (number : ℕ) (put : Put) (puts : List Put) (blocks 
     → AllByRecursion (IsOf disk number 0 put.first (put.first + put.count)) blocks
     → AllByRecursion (IsOfPuts disk number (put ∷ puts)) (map (put_block put.instant) blocks)
 all_mapped disk number put puts [] all = tt
-all_mapped disk number put puts (b ∷ bs) all =
-    (
-      record {
-        i = 0;
-        own = put;
-        stands = refl;
-        instant = refl;
-        is = subst (λ n. IsOf disk n 0 put.first (put.first + put.count) b) (let same : number ≡ number + 0 = omega arith in same) all.0;
-      },
-      all_mapped disk number put puts bs all.1,
-    )
+all_mapped disk number put puts (b ∷ bs) all = (
+  record {
+    i = 0;
+    own = put;
+    stands = refl;
+    instant = refl;
+    is = subst (λ n. IsOf disk n 0 put.first (put.first + put.count) b) (let same : number ≡ number + 0 = omega arith in same) all.0;
+  },
+  all_mapped disk number put puts bs all.1,
+)
 
 of_later : (disk : Disk) (number : ℕ) (put : Put) (puts : List Put) (block : PutBlock) → IsOfPuts disk (number + 1) puts block
     → IsOfPuts disk number (put ∷ puts) block

@@ -161,9 +161,11 @@ module _ {X : Type 0} (report : Report) (first : List ℕ) (first_rule : Rule) (
         report_is = h.report_is;
         lines_are = h.lines_are;
         so_far = subst (λ w. SoFar w (first ∷ map line (rows ++ more))
-            ((λ field. first_rule) ∷ map rule (rows ++ more)) comparison.report comparison.lines.now comparison.same) (sym wrong)
-            (simp map-append (still_wrong (first ∷ map line rows) (map line more) ((λ field. first_rule) ∷ map rule rows)
-            (map rule more) comparison.lines.now mismatch so_far.0), so_far.1);
+            ((λ field. first_rule) ∷ map rule (rows ++ more)) comparison.report comparison.lines.now comparison.same) (sym wrong) (
+              simp map-append (still_wrong (first ∷ map line rows) (map line more) ((λ field. first_rule) ∷ map rule rows)
+                  (map rule more) comparison.lines.now mismatch so_far.0),
+              so_far.1,
+            );
       }
 
   pub more_rows : (comparison : Comparison) (rows more : List X) (i : ℕ)

@@ -348,8 +348,7 @@ module _ (inputs : Inputs) (printed : Reports) (list : List Request) (course : C
       -- a background line is wrong
       pub back_wrong : (mismatch : Mismatch) → ended_back.wrong ≡ Some mismatch → IsVerdict inputs printed (No mismatch)
       back_wrong mismatch wrong =
-          let both = back_mismatch mismatch wrong in
-          (
+          let both = back_mismatch mismatch wrong in (
             λ is_fore. absurd (apart mismatch.report is_fore both.1),
             λ is_back. record { run = full_run; full = is_full; fore = fore_right end_right; wrong = both.0 },
           )

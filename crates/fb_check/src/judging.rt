@@ -17,7 +17,7 @@ ghost use Rattle.fb_check.specs.Verdict.{IsVerdict};
 
 use crate::Verdict;
 use crate::comparing::Comparison;
-use fb_decide::{RunInputs, Decider, Rows, decisions_make_a_run};
+use fb_decide::{Decider, Rows, RunInputs, decisions_make_a_run};
 use fb_plan::Planner;
 use fb_queue::Queue;
 use fb_report::{Bytes, ReportLines, reports_end_once};

@@ -105,8 +105,7 @@ pub taken : (P : Request → Type 0) (key : Request → ℕ) (ps : List Request)
     → P r × (AllByRecursion P rest × (length rest + 1 ≡ length ps))
 taken P key ps r rest all e =
     let m : IsFirstLeast key ps r rest = subst (IsPickOf key ps) e (pick_of-first_least key ps) in
-    let both = all_without P m.front m.back r (subst (AllByRecursion P) m.whole all) in
-    (
+    let both = all_without P m.front m.back r (subst (AllByRecursion P) m.whole all) in (
       both.0,
       (
         subst (AllByRecursion P) (sym m.rest) both.1,

@@ -66,9 +66,12 @@ laid_on disk [] first zero unbroken e = refl
 laid_on disk [] first (suc count) unbroken e =
     absurd (let wrong : 0 ≡ suc (length (range_with_len (first + 1) count)) = ap length e in omega (arith, wrong))
 laid_on disk (extent ∷ extents) first count unbroken e =
-    let cut = cut_off extent.first first extent.count count (flat_map (λ extent. range_with_len extent.first extent.count) extents) e in
-    (same_first extent.first first extent.count count (flat_map (λ extent. range_with_len extent.first extent.count)
-    extents) unbroken.0.some e, cut.0, laid_on disk extents (first + extent.count) (count - extent.count) unbroken.1 cut.1)
+    let cut = cut_off extent.first first extent.count count (flat_map (λ extent. range_with_len extent.first extent.count) extents) e in (
+      same_first extent.first first extent.count count (flat_map (λ extent. range_with_len extent.first extent.count)
+          extents) unbroken.0.some e,
+      cut.0,
+      laid_on disk extents (first + extent.count) (count - extent.count) unbroken.1 cut.1,
+    )
 
 -- the extents whose passages are a service's
 pub laid : (disk : Disk) (extents : List Extent) (source : Track) (now : ℕ) (write : Bool) (lbn n : ℕ)

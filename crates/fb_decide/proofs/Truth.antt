@@ -286,10 +286,10 @@ module _ (medium : Medium) (holding left : Holding) (past : Past) (request : Req
   left_in block (inr none) lbn from before =
       sym (leaves lbn ∙ either request.write (ap (λ b. if b then Filled (number_of request.name) else content_in holding lbn)
       (apart lbn request.lbn request.count block none from before))) where
-    either : (write : Bool) {c : Content} → c ≡ content_in holding lbn
-        → (if write then c else content_in holding lbn) ≡ content_in holding lbn
-    either true e = e
-    either false e = refl
+        either : (write : Bool) {c : Content} → c ≡ content_in holding lbn
+            → (if write then c else content_in holding lbn) ≡ content_in holding lbn
+        either true e = e
+        either false e = refl
 
   finished_content : (block : Block) → content_of (finished request ∷ past) block ≡ content_of past block
   unfolding content_of

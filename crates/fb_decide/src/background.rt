@@ -52,8 +52,7 @@ impl Background {
             bad: content.bad() as u32,
             content,
         };
-        self.sessions
-            .deliver(&mut self.wanted, got, &mut self.rows)
+        self.sessions.deliver(&mut self.wanted, got, &mut self.rows)
     }
 
     /// Delivers these blocks one after another.

@@ -18,14 +18,14 @@ ghost use Rattle.fb_decide.specs.Deliveries.{IsCurrent};
 ghost use Rattle.fb_decide.specs.Deciding.{IsAtStart, IsReady, next_of, HasServedNext, HasStayed, HasActed, HasDecided};
 ghost use Rattle.fb_decide.specs.Making.{HasMade, HasMadeOne, RowFits};
 
-use crate::run_inputs::RunInputs;
 use crate::background::Background;
 use crate::foreground::foreground;
 use crate::joining::join_arrived;
 use crate::requests::Requests;
+use crate::run_inputs::RunInputs;
 use crate::serving::serve_request;
-use crate::timing::disk_is_sound;
 use crate::start::Start;
+use crate::timing::disk_is_sound;
 use fb_calls::Calls;
 use fb_model::foreground_lists_ascend;
 use fb_plan::Planner;

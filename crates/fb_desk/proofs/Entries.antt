@@ -92,8 +92,7 @@ pub IsWithin-push : (entries : List NamedBytes) (e : NamedBytes) (reading : Read
     → IsWithin (entries ++ e ∷ []) reading
 IsWithin-push entries e Unopened within = tt
 IsWithin-push entries e Empty within = tt
-IsWithin-push entries e (At place done) within =
-    (
-      omega (arith, length-append entries (e ∷ []), within.0),
-      subst (λ bytes. IfSome bytes (λ b. done ≤ length b)) (sym (bytes_at-push entries e place within.0)) within.1,
-    )
+IsWithin-push entries e (At place done) within = (
+  omega (arith, length-append entries (e ∷ []), within.0),
+  subst (λ bytes. IfSome bytes (λ b. done ≤ length b)) (sym (bytes_at-push entries e place within.0)) within.1,
+)

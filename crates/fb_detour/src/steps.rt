@@ -145,7 +145,11 @@ fn part_from(late: &LateParts, instant: Ns) -> usize
     ensures before { (result ≡ 0) ⊎ (get_or late.now.limits result 0 ≤ back) }
 {
     let part = (instant.saturating_sub(late.begin) / late.step).min(GAP_PARTS as u64 - 1) as usize;
-    if late.limits[part] <= instant { part } else { 0 }
+    if late.limits[part] <= instant {
+        part
+    } else {
+        0
+    }
 }
 
 // An upper bound on the value of detours over a track of this reach and this weight; 0 where it is

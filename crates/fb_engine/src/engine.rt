@@ -8,7 +8,7 @@ ghost use Rattle.fb_model.specs.FullRun.{IsFull};
 ghost use Rattle.fb_decide.specs.RunInputs.{inputs_of};
 ghost use Rattle.fb_engine.specs.Gone.{HasGone, IsWhole};
 
-use fb_decide::{RunInputs, Decider, decisions_make_a_run};
+use fb_decide::{Decider, RunInputs, decisions_make_a_run};
 use fb_plan::Planner;
 use fb_queue::Queue;
 use fb_rows::Run;

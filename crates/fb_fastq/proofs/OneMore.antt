@@ -41,12 +41,11 @@ numbered_put w [] behind h apart = (
       (λ x under e. omega (arith, under, e)) behind h,
   apart,
 )
-numbered_put w (x ∷ before) behind h apart =
-    (
-      all_put (λ y. number_of y ≢ number_of x) w before behind
-          (λ e. let under : number_of x < number_of w = h.0 in omega (arith, under, e)) apart.0,
-      numbered_put w before behind h.1 apart.1,
-    )
+numbered_put w (x ∷ before) behind h apart = (
+  all_put (λ y. number_of y ≢ number_of x) w before behind
+      (λ e. let under : number_of x < number_of w = h.0 in omega (arith, under, e)) apart.0,
+  numbered_put w before behind h.1 apart.1,
+)
 
 numbered_drawn : (w : Waiting) (before behind : List Waiting) → AreNumbered (before ++ w ∷ behind) → AreNumbered (before ++ behind)
 numbered_drawn w [] behind h = h.1

@@ -49,8 +49,14 @@ impl Model for Outline {
 
     ghost Value = { Shape };
 
-    ghost view = { λ o. record { layout = o.layout; rotation = o.rotation; heads = o.heads; zones = o.zones.items;
-        defects = o.defects.items; grown = o.grown.items } };
+    ghost view = { λ o. record {
+      layout = o.layout;
+      rotation = o.rotation;
+      heads = o.heads;
+      zones = o.zones.items;
+      defects = o.defects.items;
+      grown = o.grown.items;
+    } };
 }
 
 impl Outline {

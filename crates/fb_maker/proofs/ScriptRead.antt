@@ -175,8 +175,11 @@ first_data disk zone some =
     let more : zone.last + 1 - zone.first ≡ suc (zone.last - zone.first) = omega arith in
     subst (λ (n : ℕ). length (data_list disk zone zone.first) ≤ length (flat_map (data_list disk zone) (range_with_len zone.first n)))
     (sym more)
-    (omega (arith, length-append (data_list disk zone zone.first) (flat_map (data_list disk zone)
-    (range_with_len (zone.first + 1) (zone.last - zone.first)))))
+    (omega (
+      arith,
+      length-append (data_list disk zone zone.first) (flat_map (data_list disk zone)
+          (range_with_len (zone.first + 1) (zone.last - zone.first))),
+    ))
 
 first_is_some : (disk : Shape) (zones : List Zone) → 0 < length zones
     → ((zone : Zone) → slice_get zones 0 ≡ Some zone → 0 < length (zone_places disk zone))

@@ -49,8 +49,7 @@ finishes_from : (disk : Disk) (now : ℕ) (replay : List Served) → AreServed d
     → AllByRecursion (λ (s : Served). now ≤ finish s) replay
 finishes_from disk now [] are = tt
 finishes_from disk now (served ∷ replay) are =
-    let order = (served_between disk served are.1).0 in
-    (
+    let order = (served_between disk served are.1).0 in (
       omega (arith, are.0, order),
       all_weaker (λ (s : Served). finish served ≤ finish s) (λ (s : Served). now ≤ finish s) (λ s h. omega (arith, h, are.0, order)) replay
           (finishes_from disk (finish served) replay are.3),

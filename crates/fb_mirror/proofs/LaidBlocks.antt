@@ -174,9 +174,11 @@ module _ (disk : Shape) (past : Past) (asker : ℕ) (before : List Call) (same_t
       ap (λ (tasks : List Terms). (slice_index_or tasks asker (record { kind = Plain; weight = 1; block = 1 })).block) same_tasks in
       let lives = ap (λ n. n * block) may.5 in
       let range = may.2.inside in
-      all_append (SegmentLies disk (terms_of past asker).block) now (_ ∷ []) lie
-      (subst (λ b. first + length live * b ≤ length (places disk)) (sym same) (subst (λ n. first + n ≤ length (places disk))
-      (sym lives) range), tt)
+      all_append (SegmentLies disk (terms_of past asker).block) now (_ ∷ []) lie (
+        subst (λ b. first + length live * b ≤ length (places disk)) (sym same) (subst (λ n. first + n ≤ length (places disk))
+            (sym lives) range),
+        tt,
+      )
   mine_lie (Open kind weight block) now may none lie =
       opened_lie disk (tasks past) (record { kind = kind; weight = weight; block = block }) asker now none lie
   mine_lie (Want first count) now may none lie = lie

@@ -81,8 +81,7 @@ decisions_in_turn disk instants until head now [] are = idle_in_turn head now in
 decisions_in_turn disk instants until head now (served ∷ later) are =
     let front = filter (λ instant. nat_le instant served.start) instants in
     let within = free_within disk served are.1 are.2 in
-    idle_in_turn head now front (serves served ∷ decisions_from disk instants until (last_track disk served) (finish served) later)
-    (
+    idle_in_turn head now front (serves served ∷ decisions_from disk instants until (last_track disk served) (finish served) later) (
       greatest_by now served.start front are.0 (kept_by served.start instants),
       within.0,
       within.1,

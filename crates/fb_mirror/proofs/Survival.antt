@@ -152,8 +152,7 @@ finishes_from : (disk : Disk) (now : ℕ) (replay : List Served) → AreServed d
     → AllByRecursion (λ (s : Served). s.request.write ≡ true → now ≤ finish s) replay
 finishes_from disk now [] are = tt
 finishes_from disk now (served ∷ replay) are =
-    let order = (served_between disk served are.1).0 in
-    (
+    let order = (served_between disk served are.1).0 in (
       λ is. omega (arith, are.0, order),
       all_weaker (λ (s : Served). s.request.write ≡ true → finish served ≤ finish s) (λ (s : Served). s.request.write ≡ true
           → now ≤ finish s) (λ s h is. omega (arith, h is, are.0, order)) replay (finishes_from disk (finish served) replay are.3),

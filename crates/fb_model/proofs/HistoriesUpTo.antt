@@ -110,9 +110,11 @@ module _ (P : DeliveryRow → Type 0) where
   best_fine disk task past [] all = all
   best_fine disk task past (segment ∷ segments) all =
       let best = best_of is_better segment segments in
-      let cuts = live_cuts disk (terms_of past task).block best.first best.live in
-      (numbered_sectors task (terms_of past task).weight (length (blocks_of past task)) cuts (live_sectors disk
-      (terms_of past task).block best.first best.live), all)
+      let cuts = live_cuts disk (terms_of past task).block best.first best.live in (
+        numbered_sectors task (terms_of past task).weight (length (blocks_of past task)) cuts (live_sectors disk
+            (terms_of past task).block best.first best.live),
+        all,
+      )
 
   once_fine : (disk : Shape) (task : ℕ) (past : Past) → AreFine P past → AreFine P (choose_once disk task past)
   once_fine disk task past all = elim (cases_Bool (is_busy (work past task))) [

@@ -53,8 +53,7 @@ passed_between disk source now write lbn zero = (omega arith, tt)
 passed_between disk source now write lbn (suc n) =
     let begins = from_on disk lbn (now + pos disk.mechanism source (track_at disk.map lbn) write) in
     let rest = passed_between disk (track_at disk.map lbn) (passage_from disk.map lbn
-    (now + pos disk.mechanism source (track_at disk.map lbn) write)).end write (lbn + 1) n in
-    (
+    (now + pos disk.mechanism source (track_at disk.map lbn) write)).end write (lbn + 1) n in (
       omega (arith, begins, rest.0),
       ((omega (arith, begins), omega arith, rest.0), all_weaker _ _ (λ p h. (omega (arith, begins, h.0), h.1, h.2)) _ rest.1),
     )

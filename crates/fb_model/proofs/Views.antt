@@ -101,8 +101,8 @@ no_own : (block : Block) (task : ℕ) (bs : List Block) → (task == block.task)
 no_own block task [] other h = refl
 no_own block task (b ∷ bs) other h = let differ : (block.task == b.task) ≡ false = other_task block.task task b.task other h.0 in
     rw differ (no_own block task bs other h.1) where
-  other_task : (a t b : ℕ) → (t == a) ≡ false → b ≡ t → (a == b) ≡ false
-  other_task a t b other e = grind (arith, nat_tests)
+      other_task : (a t b : ℕ) → (t == a) ≡ false → b ≡ t → (a == b) ≡ false
+      other_task a t b other e = grind (arith, nat_tests)
 
 no_filtered : (task own : ℕ) (bs : List Block) → (own == task) ≡ false → AllByRecursion (λ b. b.task ≡ own) bs
     → filter (λ block. block.task == task) bs ≡ []

@@ -29,8 +29,7 @@ unfolding passages
 begun_after disk source now write lbn zero = tt
 begun_after disk source now write lbn (suc n) =
     let first = passage_from disk.map lbn (now + pos disk.mechanism source (track_at disk.map lbn) write) in
-    let rest = passed_between disk (track_at disk.map lbn) first.end write (lbn + 1) n in
-    (
+    let rest = passed_between disk (track_at disk.map lbn) first.end write (lbn + 1) n in (
       (let h : first.begin ≤ first.begin = omega arith in h),
       all_weaker _ _ (λ (p : Passage) h. (let le : first.begin ≤ p.begin = omega (arith, h.0) in le)) _ rest.1,
     )

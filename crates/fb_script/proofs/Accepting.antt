@@ -87,8 +87,7 @@ module _ (disk : Shape) (so_far : Progress) (few : so_far.blocks ≤ 16 * 10 ^ 6
   allowed_passed (Promote first count) u given =
       let range = both_ok (some_on_disk disk first count) _ u given in
       let large = passed TooLarge (nat_lt 2048 count) _ u range.2 in
-      let many = test_ok TooMany (nat_lt (10 ^ 6) (so_far.reads + 1)) u large.1 in
-      (
+      let many = test_ok TooMany (nat_lt (10 ^ 6) (so_far.reads + 1)) u large.1 in (
         (range_passed disk first count range.0 range.1, grind (arith, nat_tests)),
         record { blocks = omega arith; reads = grind (arith, nat_tests) },
       )
@@ -100,8 +99,7 @@ module _ (disk : Shape) (so_far : Progress) (few : so_far.blocks ≤ 16 * 10 ^ 6
       let inside = passed BeyondDisk (is_beyond disk first (blocks * session.block)) _ u kind.1 in
       let large = passed TooLarge (nat_lt 4096 blocks) _ u inside.1 in
       let room =
-      test_ok TooManyBlocks (are_too_many so_far.blocks (blocks_in disk session.block (Segment first blocks age live))) u large.1 in
-      (
+      test_ok TooManyBlocks (are_too_many so_far.blocks (blocks_in disk session.block (Segment first blocks age live))) u large.1 in (
         (grind (arith, nat_tests), grind (arith, nat_tests), grind (arith, nat_tests)),
         record { blocks = grind (arith, nat_tests); reads = omega arith },
       )
@@ -164,9 +162,13 @@ module _ (disk : Shape) (traced : ℕ) (so_far : Progress) (knows : Knows disk t
     may_ask : (action : Action) → IsOnSession action → IsSpelled action → MayAskOn disk so_far (session_of so_far.sessions task) action
         → MayAsk disk so_far.calls task action
     may_ask (Open kind weight block) on spelled may = absurd on
-    may_ask (Want first count) on spelled may =
-        (is_open, ap is_clean (sym (same_kind task)) ∙ may.0, ap (λ kind. is_backup kind && has_want so_far.calls task) (sym
-        (same_kind task)) ∙ (ap (λ w. is_backup (session_of so_far.sessions task).kind && w) (sym (knows.wanted task)) ∙ may.1), may.2)
+    may_ask (Want first count) on spelled may = (
+      is_open,
+      ap is_clean (sym (same_kind task)) ∙ may.0,
+      ap (λ kind. is_backup kind && has_want so_far.calls task) (sym
+          (same_kind task)) ∙ (ap (λ w. is_backup (session_of so_far.sessions task).kind && w) (sym (knows.wanted task)) ∙ may.1),
+      may.2,
+    )
     may_ask (Abort first count) on spelled may = (is_open, ap is_clean (sym (same_kind task)) ∙ may.0, may.1)
     may_ask (Promote first count) on spelled may = (is_open, may.0, may.1)
     may_ask Suspend on spelled may = is_open

@@ -43,13 +43,12 @@ pub allowed_push : (disk : Shape) (before calls : List Call) (call : Call) → A
     → AreAllowed disk before (calls ++ call ∷ [])
 allowed_push disk before [] call allowed early may =
     (early, subst (λ front. MayAsk disk front call.task call.action) (append-nil before) may, tt)
-allowed_push disk before (first ∷ calls) call allowed early may =
-    (
-      allowed.0,
-      allowed.1,
-      allowed_push disk (before ++ first ∷ []) calls call allowed.2 early
-          (subst (λ front. MayAsk disk front call.task call.action) (sym (append_assoc before (first ∷ []) calls)) may),
-    )
+allowed_push disk before (first ∷ calls) call allowed early may = (
+  allowed.0,
+  allowed.1,
+  allowed_push disk (before ++ first ∷ []) calls call allowed.2 early
+      (subst (λ front. MayAsk disk front call.task call.action) (sym (append_assoc before (first ∷ []) calls)) may),
+)
 
 pub blocks_from-push : (disk : Shape) (before calls : List Call) (call : Call)
     → blocks_from disk before (calls ++ call ∷ [])

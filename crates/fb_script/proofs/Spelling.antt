@@ -24,8 +24,7 @@ use Rattle.fb_script.proofs.Bits.{length-bits, live_some, live_length}
 live_spelled : (blocks : ℕ) (digits : List ℕ) (live : List Bool) → live_of blocks digits ≡ Some live → (1 ≤ blocks) × (length live ≡ blocks)
 live_spelled blocks digits live given = elim (cases_Bool (is_live blocks digits)) [
   | inl form ↦
-      let same : take blocks (bits digits) ≡ live = cc in
-      (
+      let same : take blocks (bits digits) ≡ live = cc in (
         live_some blocks digits form,
         sym (ap length same) ∙ omega (arith, length-take blocks (bits digits), length-bits digits, live_length blocks digits form),
       )

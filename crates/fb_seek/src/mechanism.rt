@@ -30,11 +30,19 @@ impl Model for Mechanism {
 
     ghost Value = { Mechanics };
 
-    ghost view = { λ m. record { points = m.points.items; cylinders = m.cylinders; head_switch = m.head_switch;
-        write_settle = m.write_settle } };
+    ghost view = { λ m. record {
+      points = m.points.items;
+      cylinders = m.cylinders;
+      head_switch = m.head_switch;
+      write_settle = m.write_settle;
+    } };
 
-    ghost invariant = { λ m. IsArm (record { points = m.points.items; cylinders = m.cylinders; head_switch = m.head_switch;
-        write_settle = m.write_settle }) m.times.items };
+    ghost invariant = { λ m. IsArm (record {
+      points = m.points.items;
+      cylinders = m.cylinders;
+      head_switch = m.head_switch;
+      write_settle = m.write_settle;
+    }) m.times.items };
 }
 
 impl Mechanism {

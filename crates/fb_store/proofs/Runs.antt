@@ -60,12 +60,11 @@ few_joined : (b : Bool) (lbn : ℕ) (content : Content) (run : ContentRun) (runs
     → AreFewest (joined b lbn content run runs)
 few_joined false lbn content run runs e p q few = (e, few)
 few_joined true lbn content run [] e p q few = tt
-few_joined true lbn content run (next ∷ runs) e p q few =
-    (
-      ap₂ (λ at c. (next.first == at) && same_content c next.content)
-          (let place : lbn + (run.count + 1) ≡ run.first + run.count = let first = p refl in omega arith in place) (q refl) ∙ few.0,
-      few.1,
-    )
+few_joined true lbn content run (next ∷ runs) e p q few = (
+  ap₂ (λ at c. (next.first == at) && same_content c next.content)
+      (let place : lbn + (run.count + 1) ≡ run.first + run.count = let first = p refl in omega arith in place) (q refl) ∙ few.0,
+  few.1,
+)
 
 few_with : (lbn : ℕ) (content : Content) (runs : List ContentRun) → AreFewest runs → AreFewest (with_content lbn content runs)
 few_with lbn content [] few = tt

@@ -206,8 +206,7 @@ impl PlayedScript {
             bad: content.bad() as u32,
             content,
         };
-        self.sessions
-            .deliver(&mut self.wanted, got, &mut self.rows)
+        self.sessions.deliver(&mut self.wanted, got, &mut self.rows)
     }
 
     // A write passes.

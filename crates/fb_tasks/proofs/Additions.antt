@@ -225,8 +225,15 @@ added-tells disk past call task first blocks age live seen session log held is w
     (rw own_now (record {
       indexed = placed.indexed;
       segments = all_append (IsSegmentOf disk (view past task).terms.block) (view past task).segments
-          (next_segment (view past task) first blocks age live ∷ []) placed.segments ((subst (λ b. first + blocks * b
-          ≤ length (places disk)) (ap (λ t. t.block) (sym told.terms)) may.on_disk, may.size, may.few), tt);
+          (next_segment (view past task) first blocks age live ∷ []) placed.segments (
+            (
+              subst (λ b. first + blocks * b
+                  ≤ length (places disk)) (ap (λ t. t.block) (sym told.terms)) may.on_disk,
+              may.size,
+              may.few,
+            ),
+            tt,
+          );
     }))
     (rw own_now (added-told (view past task) first blocks age live may.not_closed session told)) h.tells)
 

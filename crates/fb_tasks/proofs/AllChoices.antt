@@ -124,11 +124,11 @@ module _ (disk : Shape) (task : ℕ) where
       → HasNoChoice (view (choose_in disk past task) task)
   no-choice-left past on_disk = subst (λ p. HasNoChoice (view p task)) (sym (in_is disk past task))
       (by (is_clean (view past task).terms.kind && not (view past task).closed) refl) where
-    by : (b : Bool) → (is_clean (view past task).terms.kind && not (view past task).closed) ≡ b
-        → HasNoChoice (view (if b then choose_up_to (length (view past task).segments) disk task past else past) task)
-    by true chooses = λ _. (none_after (length (view past task).segments) past on_disk
-        (filter-le (λ s. not (is_chosen (view past task).choices s)) (view past task).segments))
-    by false other = λ chooses free. absurd (true≢false (sym chooses ∙ other))
+        by : (b : Bool) → (is_clean (view past task).terms.kind && not (view past task).closed) ≡ b
+            → HasNoChoice (view (if b then choose_up_to (length (view past task).segments) disk task past else past) task)
+        by true chooses = λ _. (none_after (length (view past task).segments) past on_disk
+            (filter-le (λ s. not (is_chosen (view past task).choices s)) (view past task).segments))
+        by false other = λ chooses free. absurd (true≢false (sym chooses ∙ other))
 
 -- what holds of a history, and still after each choice of a task, holds after all of its choices
 module _ (P : Past → Type 0) (disk : Shape) (task : ℕ)
@@ -186,8 +186,7 @@ pub in_fewer : (disk : Shape) (task : ℕ) (past : Past)
     ≤ length (registered past) + choosable_by disk past task
 in_fewer disk task past on_disk = (by_in (λ p. AllByRecursion (IsSegmentOf disk (view p task).terms.block) (view p task).segments
     × (length (registered p) + choosable_by disk p task ≤ length (registered past) + choosable_by disk past task)) disk task
-    (λ p h s ss are. let best = best_of is_better s ss in
-    (
+    (λ p h s ss are. let best = best_of is_better s ss in (
       rw (next_view disk p task best) h.0,
       omega (
         arith,

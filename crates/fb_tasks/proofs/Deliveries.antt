@@ -32,17 +32,15 @@ pub only_one : (n : ℕ) (bs : List Block) (i : ℕ) (x : Block) → AreIndexed 
     → AllByRecursion (λ b. b.number ≡ x.number → b ≡ x) bs
 only_one n [] i x h at = tt
 only_one n (b ∷ bs) zero x h at =
-    let e = some_same b x at in
-    (
+    let e = some_same b x at in (
       (λ same. e),
       all_weaker (λ c. n + 1 ≤ c.number) (λ c. c.number ≡ x.number → c ≡ x)
           (λ c le same. absurd (omega (arith, le, same, h.0, ap (λ (z : Block). z.number) e))) bs (indexed_from (n + 1) bs h.1),
     )
-only_one n (b ∷ bs) (suc i) x h at =
-    (
-      (λ same. absurd (omega (arith, same, h.0, all_at (λ c. n + 1 ≤ c.number) bs i x (indexed_from (n + 1) bs h.1) at))),
-      only_one (n + 1) bs i x h.1 at,
-    )
+only_one n (b ∷ bs) (suc i) x h at = (
+  (λ same. absurd (omega (arith, same, h.0, all_at (λ c. n + 1 ≤ c.number) bs i x (indexed_from (n + 1) bs h.1) at))),
+  only_one (n + 1) bs i x h.1 at,
+)
 
 -- and lie apart
 abbrev pub AreApart : Block → Block → Type 0
@@ -52,17 +50,15 @@ apart : (low : ℕ) (bs : List Block) (i : ℕ) (x : Block) → Ascend low bs �
     → AllByRecursion (λ b. (b ≡ x) ⊎ AreApart b x) bs
 apart low [] i x h at = tt
 apart low (b ∷ bs) zero x h at =
-    let e = some_same b x at in
-    (
+    let e = some_same b x at in (
       inl e,
       all_weaker (λ c. b.lbn + b.count ≤ c.lbn) (λ c. (c ≡ x) ⊎ AreApart c x)
           (λ c le. inr (inr (subst (λ z. z.lbn + z.count ≤ c.lbn) e le))) bs (ascend_from (b.lbn + b.count) bs h.1),
     )
-apart low (b ∷ bs) (suc i) x h at =
-    (
-      inr (inl (all_at (λ c. b.lbn + b.count ≤ c.lbn) bs i x (ascend_from (b.lbn + b.count) bs h.1) at)),
-      apart (b.lbn + b.count) bs i x h.1 at,
-    )
+apart low (b ∷ bs) (suc i) x h at = (
+  inr (inl (all_at (λ c. b.lbn + b.count ≤ c.lbn) bs i x (ascend_from (b.lbn + b.count) bs h.1) at)),
+  apart (b.lbn + b.count) bs i x h.1 at,
+)
 
 module _ (v : TaskView) (got : DeliveryRow) where
   -- a delivered block stays delivered
@@ -188,10 +184,10 @@ module _ (v : TaskView) (got : DeliveryRow) (place : ℕ) (there : slice_get v.b
       → AllByRecursion (λ choice. is_cleaned (delivered_view got v).work choice ≡ true) cs
   cleaned_still cs all = all_weaker (λ choice. is_cleaned v.work choice ≡ true)
       (λ choice. is_cleaned (delivered_view got v).work choice ≡ true) (λ choice done. each choice.blocks done) cs all where
-    each : (bs : List Block) → list_all (λ b. is_delivered (v.bare b)) bs ≡ true
-        → list_all (λ b. is_delivered ((delivered_view got v).bare b)) bs ≡ true
-    each [] done = refl
-    each (b ∷ bs) done = grind (arith, each bs, still_done v got b)
+        each : (bs : List Block) → list_all (λ b. is_delivered (v.bare b)) bs ≡ true
+            → list_all (λ b. is_delivered ((delivered_view got v).bare b)) bs ≡ true
+        each [] done = refl
+        each (b ∷ bs) done = grind (arith, each bs, still_done v got b)
 
   -- a segment is at work while one of its blocks is wanted
   pub at_work_now : (log : clean.Cleaning) → Cleans v.work log → log.unfinished ≡ None → ⊥

@@ -64,19 +64,19 @@ module _ (first count : ℕ) where
         → AreRewanted (task + 1) es new
     one_rewanted task es now new is h =
         subst (AreRewanted (task + 1) es) (sym is) (same now ∙ h.0, all_map _ _ now (all_weaker _ _ more now h.1)) where
-      same : (xs : List Entry) → map left (map (left_in task sessions first count) xs) ≡ map left xs
-      same [] = refl
-      same (x ∷ xs) = elim (cases_Bool (x.block.task == task)) [
-        | inl own ↦ rw (own, same xs) (ap (λ y. y ∷ map left xs) (twice x))
-        | inr other ↦ rw (other, same xs) refl
-      ]
+          same : (xs : List Entry) → map left (map (left_in task sessions first count) xs) ≡ map left xs
+          same [] = refl
+          same (x ∷ xs) = elim (cases_Bool (x.block.task == task)) [
+            | inl own ↦ rw (own, same xs) (ap (λ y. y ∷ map left xs) (twice x))
+            | inr other ↦ rw (other, same xs) refl
+          ]
 
-      more : (e : Entry) → (e.block.task < task → left e ≡ e) → (left_in task sessions first count e).block.task < task + 1
-          → left (left_in task sessions first count e) ≡ left_in task sessions first count e
-      more e before = elim (cases_Bool (e.block.task == task)) [
-        | inl own ↦ rw own (λ less. twice e)
-        | inr other ↦ rw other (λ less. before (grind (arith, nat_tests)))
-      ]
+          more : (e : Entry) → (e.block.task < task → left e ≡ e) → (left_in task sessions first count e).block.task < task + 1
+              → left (left_in task sessions first count e) ≡ left_in task sessions first count e
+          more e before = elim (cases_Bool (e.block.task == task)) [
+            | inl own ↦ rw own (λ less. twice e)
+            | inr other ↦ rw other (λ less. before (grind (arith, nat_tests)))
+          ]
 
     module _ {items : List Session} {touched rewantable : BTreeSet ℕ} (same : items ≡ sessions)
         (listed : AreListed items touched rewantable) where

@@ -53,8 +53,15 @@ pub fn want_range(
 
 // The task's block of that number.
 fn block_of(session: &Session, task: u32, number: u32, cut: Cut) -> Block
-    ensures { result ≡ record { task = task; number = number; lbn = cut.lbn; count = cut.count; track = cut.track;
-        weight = session.now.weight; sweep = cut.sweep } }
+    ensures { result ≡ record {
+      task = task;
+      number = number;
+      lbn = cut.lbn;
+      count = cut.count;
+      track = cut.track;
+      weight = session.now.weight;
+      sweep = cut.sweep;
+    } }
 {
     Block {
         task,

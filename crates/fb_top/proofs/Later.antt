@@ -170,11 +170,10 @@ replay_stopped terms old new _ h = h
 all_requests : (disk : Disk) (requests : List Request) → AllByRecursion (IsServable (length (places disk.map))) requests
     → AllByRecursion (IsRequestOf disk.map) requests
 all_requests disk [] all = tt
-all_requests disk (request ∷ requests) all =
-    (
-      record { range = record { some = all.0.some; inside = all.0.inside }; few = all.0.few; arrival = all.0.arrival },
-      all_requests disk requests all.1,
-    )
+all_requests disk (request ∷ requests) all = (
+  record { range = record { some = all.0.some; inside = all.0.inside }; few = all.0.few; arrival = all.0.arrival },
+  all_requests disk requests all.1,
+)
 
 -- what was read can be replayed
 pub is_accepted : (files : Files) (key : Key) (until : ℕ) → AllByRecursion (λ lbn. lbn < length (places files.disk.map)) files.latent

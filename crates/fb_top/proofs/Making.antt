@@ -110,11 +110,10 @@ cuts_trace terms old mid new makes first second front =
 pub stopped_trace : (terms : MakeTerms) (old mid new : DeskView) (outcome : Outcome) (makes : AcceptsDisk old terms.params)
     → ChangesInput Params old mid → ChangesOutput MadeTrace mid new
     → StopsText MadeTrace terms.trace (trace_text terms makes.disk) mid new outcome → MakeHasCause terms old new outcome
-stopped_trace terms old mid new (outcomes.WriteFault MadeTrace) makes first second h =
-    (
-      subst (λ (v : OutputView). Rose v.faults (new.outputs MadeTrace).faults) (first.outputs MadeTrace) h.1,
-      cuts_trace terms old mid new makes first second h.2,
-    )
+stopped_trace terms old mid new (outcomes.WriteFault MadeTrace) makes first second h = (
+  subst (λ (v : OutputView). Rose v.faults (new.outputs MadeTrace).faults) (first.outputs MadeTrace) h.1,
+  cuts_trace terms old mid new makes first second h.2,
+)
 stopped_trace terms old mid new outcomes.NoMemory makes first second h = inr (inl (cuts_trace terms old mid new makes first second h))
 stopped_trace terms old mid new (outcomes.WriteFault output) makes first second h = absurd (let other = h.0 in cc)
 stopped_trace terms old mid new _ makes first second h = absurd h
@@ -150,9 +149,11 @@ pub stopped_calls : (terms : MakeTerms) (old mid late new : DeskView) (outcome :
     → ChangesInput Params old mid → ChangesOutput MadeTrace mid late → ChangesOutput MadeCalls late new
     → HoldsWhole (late.outputs MadeTrace) terms.trace (trace_text terms makes.disk)
     → StopsText MadeCalls terms.calls (script_text makes.disk.map) late new outcome → MakeHasCause terms old new outcome
-stopped_calls terms old mid late new (outcomes.WriteFault MadeCalls) makes first second third trace h =
-    (subst (λ (v : OutputView). Rose v.faults (new.outputs MadeCalls).faults) (second.outputs MadeCalls calls_are_no_trace
-    ∙ first.outputs MadeCalls) h.1, cuts_calls terms old mid late new makes first second third trace h.2)
+stopped_calls terms old mid late new (outcomes.WriteFault MadeCalls) makes first second third trace h = (
+  subst (λ (v : OutputView). Rose v.faults (new.outputs MadeCalls).faults) (second.outputs MadeCalls calls_are_no_trace
+      ∙ first.outputs MadeCalls) h.1,
+  cuts_calls terms old mid late new makes first second third trace h.2,
+)
 stopped_calls terms old mid late new outcomes.NoMemory makes first second third trace h =
     inr (inr (cuts_calls terms old mid late new makes first second third trace h))
 stopped_calls terms old mid late new (outcomes.WriteFault output) makes first second third trace h = absurd (let other = h.0 in cc)

@@ -61,18 +61,17 @@ disk_with v kept = record {
 
 abbrev kept_by : (disk : Disk) (latent : List ℕ)
     → Keeps (record { outline = disk.map; mechanics = disk.mechanism; sector_bytes = disk.sector_bytes; latent = latent })
-kept_by disk latent =
-    (
-      disk.same_cylinders,
-      disk.some_cylinders,
-      disk.some_heads,
-      disk.some_rotation,
-      disk.short_rotation,
-      disk.few_blocks,
-      disk.whole_sectors,
-      disk.some_bytes,
-      disk.few_bytes,
-    )
+kept_by disk latent = (
+  disk.same_cylinders,
+  disk.some_cylinders,
+  disk.some_heads,
+  disk.some_rotation,
+  disk.short_rotation,
+  disk.few_blocks,
+  disk.whole_sectors,
+  disk.some_bytes,
+  disk.few_bytes,
+)
 
 same_with : (v w : ParamsValue) → v ≡ w → (kept : Keeps v) (also : Keeps w) → disk_with v kept ≡ disk_with w also
 same_with v w e = subst (λ (x : ParamsValue). (kept : Keeps v) (also : Keeps x) → disk_with v kept ≡ disk_with x also) e

@@ -39,9 +39,16 @@ module _ (terms : ReplayTerms) (files : Files) (run : Run) where
 
     cuts_back : (name : List ℕ) → terms.back ≡ Some name → HoldsFront (new.outputs Back) name (back_told terms files run)
         → CutsBack terms files run old new
-    cuts_back name given front =
-        (name, given, record { others = λ output not_fore not_back no_note. second.outputs output not_back
-        ∙ first.outputs output not_fore; whole = fore_stands; front = front })
+    cuts_back name given front = (
+      name,
+      given,
+      record {
+        others = λ output not_fore not_back no_note. second.outputs output not_back
+            ∙ first.outputs output not_fore;
+        whole = fore_stands;
+        front = front;
+      },
+    )
 
     -- why the background was not written
     pub stopped_back : (outcome : Outcome) (name : List ℕ) → terms.back ≡ Some name

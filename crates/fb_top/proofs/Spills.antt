@@ -84,11 +84,10 @@ module _ (terms : ReplayTerms) (files : Files) (run : Run) (spill : SpillRun) (o
   -- why that text was not written
   pub stopped_spill : (outcome : Outcome) → StopsText Spill name (spill_told terms files spill) mid new outcome
       → StopsSpill terms files run spill old new outcome
-  stopped_spill (outcomes.WriteFault Spill) h =
-      (
-        subst (λ (v : OutputView). Rose v.faults (new.outputs Spill).faults) (reports.others Spill (λ e. cc) (λ e. cc) (λ e. cc)) h.1,
-        cut h.2,
-      )
+  stopped_spill (outcomes.WriteFault Spill) h = (
+    subst (λ (v : OutputView). Rose v.faults (new.outputs Spill).faults) (reports.others Spill (λ e. cc) (λ e. cc) (λ e. cc)) h.1,
+    cut h.2,
+  )
   stopped_spill outcomes.NoMemory h = cut h
   stopped_spill (outcomes.WriteFault output) h = absurd (let other = h.0 in cc)
   stopped_spill _ h = absurd h

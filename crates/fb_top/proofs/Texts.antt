@@ -98,11 +98,10 @@ module _ (old mid late new : DeskView) (first : KeepsReports old mid) (last : Ke
 
   stay_whole : (texts : List Text) → AllByRecursion (λ text. text.output ≢ Note) texts → HoldsTexts texts late → HoldsTexts texts new
   stay_whole [] no_note whole = tt
-  stay_whole (text ∷ texts) no_note whole =
-      (
-        subst (λ (v : OutputView). HoldsWhole v text.name text.text) (sym (last text.output no_note.0)) whole.0,
-        stay_whole texts no_note.1 whole.1,
-      )
+  stay_whole (text ∷ texts) no_note whole = (
+    subst (λ (v : OutputView). HoldsWhole v text.name text.text) (sym (last text.output no_note.0)) whole.0,
+    stay_whole texts no_note.1 whole.1,
+  )
 
   pub writes_all : (texts : List Text) → AllByRecursion (λ text. text.output ≢ Note) texts → WritesAll texts mid late
       → WritesAll texts old new

@@ -118,8 +118,7 @@ follows instant (field ∷ fields) entry e =
     let read = both_ok (entry_of (field ∷ fields)) _ (Some entry) e in
     let ordered = both_ok (refuse OutOfOrder (nat_lt read.0.arrival instant)) _ (Some entry) read.2 in
     let same : read.0 ≡ entry = cc in
-    subst (λ (x : Entry). (instant ≤ x.arrival) × (x.arrival ≤ 10 ^ 15)) same
-    (
+    subst (λ (x : Entry). (instant ≤ x.arrival) × (x.arrival ≤ 10 ^ 15)) same (
       not_early read.0.arrival instant (test_ok OutOfOrder (nat_lt read.0.arrival instant) ordered.0 ordered.1),
       arrival_small (field ∷ fields) read.0 read.1,
     )

@@ -61,8 +61,11 @@ best_segments_by_benefit : Throughout IsBestPlanned segments_by_benefit.inputs s
 unfolding on_small_disks
 best_segments_by_benefit = (
   tt,
-  (none_in_time small_disk (gap (at 0 0) (at 0 0) 700 1100 false) (block 0 1 0 1 (at 0 0) 1 ∷ block 0 2 2 1 (at 0 0) 1
-      ∷ []) (lit< tt, (lit< tt, tt)) (lit≤ tt, lit≤ tt), (tt, tt)),
+  (
+    none_in_time small_disk (gap (at 0 0) (at 0 0) 700 1100 false) (block 0 1 0 1 (at 0 0) 1 ∷ block 0 2 2 1 (at 0 0) 1
+        ∷ []) (lit< tt, (lit< tt, tt)) (lit≤ tt, lit≤ tt),
+    (tt, tt),
+  ),
 )
 
 pub segments_by_benefit_is_full : IsFull segments_by_benefit.inputs segments_by_benefit.run

@@ -127,8 +127,17 @@ best_detour = (
   none_in_time small_disk (gap (at 0 0) (at 0 0) 0 500 false) (block 0 0 20 1 (at 0 1) 1 ∷ []) (lit< tt, tt) (lit≤ tt, lit≤ tt),
   (
     all_by_detour small_disk (gap (at 0 0) (at 1 0) 600 1200 false) (block 0 0 20 1 (at 0 1) 1 ∷ [])
-        (at 0 1) 900 (block 0 0 20 1 (at 0 1) 1) here (lit< tt) refl refl refl (lit≤ tt) refl (record { on_disk = record { cylinder = lit<
-        tt; head = lit< tt }; not_source = refl; not_target = refl; after_arrival = lit≤ tt; in_time = lit≤ tt }),
+        (at 0 1) 900 (block 0 0 20 1 (at 0 1) 1) here (lit< tt) refl refl refl (lit≤ tt) refl (record {
+          on_disk = record {
+            cylinder = lit<
+                tt;
+            head = lit< tt;
+          };
+          not_source = refl;
+          not_target = refl;
+          after_arrival = lit≤ tt;
+          in_time = lit≤ tt;
+        }),
     (tt, tt),
   ),
 )
@@ -176,8 +185,11 @@ best_no_time_to_settle : Throughout IsBestPlanned no_time_to_settle.inputs steps
 unfolding on_small_disks
 best_no_time_to_settle = (
   none_in_time small_disk (gap (at 0 0) (at 0 0) 0 500 false) (block 0 0 20 1 (at 0 1) 1 ∷ []) (lit< tt, tt) (lit≤ tt, lit≤ tt),
-  (none_on_the_way small_disk (gap (at 0 0) (at 1 0) 600 1200 true) (block 0 0 20 1 (at 0 1) 1
-      ∷ []) ((refl, (refl, lit< tt)), tt) (lit≤ tt, lit≤ tt), (tt, tt)),
+  (
+    none_on_the_way small_disk (gap (at 0 0) (at 1 0) 600 1200 true) (block 0 0 20 1 (at 0 1) 1
+        ∷ []) ((refl, (refl, lit< tt)), tt) (lit≤ tt, lit≤ tt),
+    (tt, tt),
+  ),
 )
 
 pub no_time_to_settle_is_full : IsFull no_time_to_settle.inputs no_time_to_settle.run
@@ -235,8 +247,17 @@ best_detour_on_the_way : Throughout IsBestPlanned detour_on_the_way.inputs steps
 unfolding on_small_disks
 best_detour_on_the_way = (
   all_by_detour quick_disk (gap (at 0 0) (at 2 0) 0 1500 false) (block 0 0 25 1 (at 1 0) 1 ∷ []) (at 1 0) 200
-      (block 0 0 25 1 (at 1 0) 1) here (lit< tt) refl refl refl (lit≤ tt) refl (record { on_disk = record { cylinder = lit< tt; head = lit<
-      tt }; not_source = refl; not_target = refl; after_arrival = lit≤ tt; in_time = lit≤ tt }),
+      (block 0 0 25 1 (at 1 0) 1) here (lit< tt) refl refl refl (lit≤ tt) refl (record {
+        on_disk = record {
+          cylinder = lit< tt;
+          head = lit<
+              tt;
+        };
+        not_source = refl;
+        not_target = refl;
+        after_arrival = lit≤ tt;
+        in_time = lit≤ tt;
+      }),
   (tt, tt),
 )
 

@@ -200,8 +200,11 @@ best_promoted_read_carries : Throughout IsBestPlanned promoted_read_carries.inpu
 unfolding on_small_disks
 best_promoted_read_carries = (
   tt,
-  (none_in_time small_disk (gap (at 0 0) (at 0 0) 1700 1700 false) (block 0 2 7 1 (at 0 0) 1 ∷ block 0 3 8 1 (at 0 0) 1
-      ∷ []) (lit< tt, (lit< tt, tt)) (lit≤ tt, lit≤ tt), (tt, tt)),
+  (
+    none_in_time small_disk (gap (at 0 0) (at 0 0) 1700 1700 false) (block 0 2 7 1 (at 0 0) 1 ∷ block 0 3 8 1 (at 0 0) 1
+        ∷ []) (lit< tt, (lit< tt, tt)) (lit≤ tt, lit≤ tt),
+    (tt, tt),
+  ),
 )
 
 pub promoted_read_carries_is_full : IsFull promoted_read_carries.inputs promoted_read_carries.run

@@ -58,8 +58,11 @@ unfolding on_small_disks
 best_abort_while_waiting = (
   none_in_time small_disk (gap (at 0 0) (at 0 0) 0 500 false) (block 0 0 6 1 (at 0 0) 1 ∷ block 0 1 7 1 (at 0 0) 1
       ∷ block 0 2 35 1 (at 1 0) 1 ∷ []) (lit< tt, (lit< tt, (lit< tt, tt))) (lit≤ tt, lit≤ tt),
-  (all_then_leave small_disk (gap (at 0 0) (at 1 0) 600 1200 false) (block 0 0 6 1 (at 0 0) 1 ∷ block 0 2 35 1 (at 1 0) 1
-      ∷ []) 700 (block 0 0 6 1 (at 0 0) 1) here (lit< tt) refl (lit≤ tt) refl (lit≤ tt, lit≤ tt), (tt, tt)),
+  (
+    all_then_leave small_disk (gap (at 0 0) (at 1 0) 600 1200 false) (block 0 0 6 1 (at 0 0) 1 ∷ block 0 2 35 1 (at 1 0) 1
+        ∷ []) 700 (block 0 0 6 1 (at 0 0) 1) here (lit< tt) refl (lit≤ tt) refl (lit≤ tt, lit≤ tt),
+    (tt, tt),
+  ),
 )
 
 pub abort_while_waiting_is_full : IsFull abort_while_waiting.inputs abort_while_waiting.run

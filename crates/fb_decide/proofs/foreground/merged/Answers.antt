@@ -13,8 +13,7 @@ push_arrived-requires-clause-come c = placed_come _ _ _ _ _ _ _ _ c.loop-read-te
 
 pub loop-read-preserved : goal.loop-read-preserved
 loop-read-preserved c =
-    let next = c.in_ok-next.ensures in
-    (
+    let next = c.in_ok-next.ensures in (
       _,
       placed_next _ _ _ _ _ _ _ _ _ _ _ c.loop-read-test.true c.loop-read.invariant.1 next.same next.within next.come next.ahead
           c.in_ok-push.ensures.items,

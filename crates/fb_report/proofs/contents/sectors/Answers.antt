@@ -4,8 +4,7 @@ use Rattle.fb_report.proofs.contents.sectors.Goals as goal
 
 pub loop-place-preserved : goal.loop-place-preserved
 loop-place-preserved c =
-    let range = c.get.ensures.range in
-    (
+    let range = c.get.ensures.range in (
       omega (
         arith,
         c.loop-place.invariant.0,

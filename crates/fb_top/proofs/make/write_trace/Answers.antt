@@ -24,8 +24,11 @@ pub returns-in-Err-next_line-clause-stops : goal.returns-in-Err-next_line-clause
 returns-in-Err-next_line-clause-stops g c =
     let words = c.args.words.now in
     let lines = made_lines words.number words.device c.args.sectors words.requests in
-    λ begun. record { named = c.loop-place.invariant.name; written = front_of ((g.D.Desk.seen c.loop-place.desk).outputs
-    MadeTrace).written lines c.loop-place.place c.loop-place.invariant.lines }
+    λ begun. record {
+      named = c.loop-place.invariant.name;
+      written = front_of ((g.D.Desk.seen c.loop-place.desk).outputs
+          MadeTrace).written lines c.loop-place.place c.loop-place.invariant.lines;
+    }
 
 pub returns-in-Err-write_whole-clause-stops : goal.returns-in-Err-write_whole-clause-stops
 returns-in-Err-write_whole-clause-stops g c =

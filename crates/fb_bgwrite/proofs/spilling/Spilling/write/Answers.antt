@@ -30,5 +30,7 @@ write_block-requires-clause-pending c =
 pub refresh-requires : goal.refresh-requires
 refresh-requires c =
     let l = c.loop-catch in
-    record { blocks = (are_pending l.self l.invariant.spilling
-    (puts_kept c.args.self.now l.self l.invariant.kept c.requires.puts)).on_disk }
+    record {
+      blocks = (are_pending l.self l.invariant.spilling
+          (puts_kept c.args.self.now l.self l.invariant.kept c.requires.puts)).on_disk;
+    }

@@ -5,8 +5,7 @@ use Rattle.fb_clean.proofs.segment.Segment.new.Goals as goal
 
 pub invariant_of-result : goal.invariant_of-result
 invariant_of-result c =
-    let few = live_blocks-few c.args.block c.args.first c.args.live.now in
-    (
+    let few = live_blocks-few c.args.block c.args.first c.args.live.now in (
       subst (λ lbns. length lbns ≤ c.len.result) (sym c.in_ok-live_lbns.ensures) (omega (arith, c.len.ensures)),
       omega (arith, c.len.ensures, c.requires.few),
     )

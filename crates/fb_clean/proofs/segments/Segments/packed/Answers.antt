@@ -17,5 +17,5 @@ returns c =
       unfinished = c.self.inside.unfinished;
       taken = c.self.inside.taken.items;
     }) c.args.segment c.index.result.now c.index-2.result.now c.live.result.now (omega (arith, added.0, added.1))
-        (omega (arith, added.0, added.1)) c.index.ensures c.index-2.ensures c.live.ensures.value)
+    (omega (arith, added.0, added.1)) c.index.ensures c.index-2.ensures c.live.ensures.value)
     c.pack.ensures)

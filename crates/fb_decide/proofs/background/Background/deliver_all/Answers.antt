@@ -15,13 +15,15 @@ deliver-requires c =
     let due = c.requires.3 in
     let k = c.loop-catch.catch-index in
     let next = next-catch c.args.store.now c.args.how past c.args.catches.now due k _ c.loop-catch-test.true in
-    record { wanted = (
-      disk,
-      past_with past (take k (map (row_in c.args.store.now c.args.how) c.args.catches.now)),
-      next.0,
-      (c.loop-catch.invariant disk past current due).current,
-      next.1,
-    ) }
+    record {
+      wanted = (
+        disk,
+        past_with past (take k (map (row_in c.args.store.now c.args.how) c.args.catches.now)),
+        next.0,
+        (c.loop-catch.invariant disk past current due).current,
+        next.1,
+      );
+    }
 
 pub loop-catch-preserved : goal.loop-catch-preserved
 loop-catch-preserved c = λ disk past current due.

@@ -44,8 +44,7 @@ deliver_all-requires c =
     ap (map (row_in c.args.store.now ByRide)) (c.as_slice.ensures.value ∙ c.in_ok-catches.ensures
     ∙ ap (λ ps. carried_of ps c.args.start.request (wanted_of c.args.self.now.wanted)) c.requires.passages
     ∙ ap (carried_of served.passages c.args.start.request) (wanted-told current.tells))
-    ∙ rows-carried c.args.store.now served (wanted past) c.if-start.false in
-    (
+    ∙ rows-carried c.args.store.now served (wanted past) c.if-start.false in (
       c.args.disk.now.map,
       past,
       current,

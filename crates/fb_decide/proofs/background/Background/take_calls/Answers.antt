@@ -16,8 +16,7 @@ pub apply-requires : goal.apply-requires
 apply-requires c =
     let at = slice_get_read c.args.calls.now.calls.items c.len.result c.loop-next.next c.index-in-loop-next.result.now (c.len.ensures
     ∙ c.args.calls.now.calls.ok.0) c.loop-next-test.true c.index-in-loop-next.ensures in
-    let taken = c.loop-next.invariant.taken c.requires.called.0 c.requires.called.1 c.requires.called.2 in
-    (
+    let taken = c.loop-next.invariant.taken c.requires.called.0 c.requires.called.1 c.requires.called.2 in (
       taken.taken,
       taken-may c.args.disk.now.map c.args.calls.now.calls.items c.requires.script c.requires.called.0 c.args.now c.loop-next.next
           c.loop-next.self.sessions c.loop-next.self.wanted taken c.index-in-loop-next.result.now at,

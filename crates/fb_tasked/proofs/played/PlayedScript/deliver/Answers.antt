@@ -20,8 +20,7 @@ deliver-requires c =
       how = c.args.how;
       bad = c.bad.result;
       content = c.in_ok-content.content;
-    } in
-    (
+    } in (
       c.args.self.now.map,
       c.requires.follows.past,
       follows-may-deliver c.requires.follows got c.requires.wanted.0 now c.requires.wanted.1 gives,

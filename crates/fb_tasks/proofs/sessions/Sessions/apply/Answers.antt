@@ -6,16 +6,15 @@ pub open-requires : goal.open-requires
 open-requires c = room_for_one c.args.map.now c.requires.0 c.args.self.now c.args.wanted.now c.args.call.now c.requires.1
 
 pub add_segment-requires-clause-call : goal.add_segment-requires-clause-call
-add_segment-requires-clause-call c =
-    (
-      c.args.map.now,
-      c.requires.0,
-      c.args.call.now,
-      c.args.wanted.now,
-      record { task = refl; action = c.in-Segment.is },
-      c.requires.1,
-      omega (arith, c.count-sectors.ensures.value, c.count-sectors.ensures.bound),
-    )
+add_segment-requires-clause-call c = (
+  c.args.map.now,
+  c.requires.0,
+  c.args.call.now,
+  c.args.wanted.now,
+  record { task = refl; action = c.in-Segment.is },
+  c.requires.1,
+  omega (arith, c.count-sectors.ensures.value, c.count-sectors.ensures.bound),
+)
 
 pub returns-in-Open-clause-ok : goal.returns-in-Open-clause-ok
 returns-in-Open-clause-ok c = on_ok_weaker c.open.result (λ says past h. takes_none c.args.map.now
