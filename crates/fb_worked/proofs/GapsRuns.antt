@@ -129,8 +129,7 @@ best_detour = (
     all_by_detour small_disk (gap (at 0 0) (at 1 0) 600 1200 false) (block 0 0 20 1 (at 0 1) 1 ∷ [])
         (at 0 1) 900 (block 0 0 20 1 (at 0 1) 1) here (lit< tt) refl refl refl (lit≤ tt) refl (record {
           on_disk = record {
-            cylinder = lit<
-                tt;
+            cylinder = lit< tt;
             head = lit< tt;
           };
           not_source = refl;
@@ -250,8 +249,7 @@ best_detour_on_the_way = (
       (block 0 0 25 1 (at 1 0) 1) here (lit< tt) refl refl refl (lit≤ tt) refl (record {
         on_disk = record {
           cylinder = lit< tt;
-          head = lit<
-              tt;
+          head = lit< tt;
         };
         not_source = refl;
         not_target = refl;
