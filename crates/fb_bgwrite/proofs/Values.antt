@@ -1,5 +1,5 @@
 -- The value of a spill is what its stay catches of the registered blocks.
-use Rattle.fb_units.proofs.Numbers.{if_le}
+use Rattle.fb_units.proofs.Comparing.{if_le}
 use Rattle.fb_detour.proofs.Ceilings.{stay-all}
 use Rattle.fb_bgwrite.proofs.Words.{all_get, ◌≡◌, ℕ, ◌+◌, ◌*◌, ◌<◌, ◌≤◌, ◌⊎◌, List, [], ◌∷◌, Bool, true, false, Some, slice_get}
 use Rattle.fb_bgwrite.proofs.Words.{inl, inr, refl, ap, ◌∙◌, arith, if◌then◌else◌, filter, sum_by}

@@ -8,7 +8,7 @@ use Rattle.std.proofs.lemmas.Bool.{cases_Bool, cases_lt, true≢false, and_parts
 use Rattle.std.proofs.lemmas.List.Elements.{filter-append}
 use Rattle.std.proofs.lemmas.List.Folds.{list_any-append}
 use Rattle.fb_tasks.proofs.ChoiceSteps.{no_backup}
-use Rattle.fb_units.proofs.Numbers.{same_number as number_same}
+use Rattle.fb_units.proofs.Comparing.{same_number as number_same}
 use Rattle.fb_geometry.specs.Shape.{Shape}
 use Rattle.fb_geometry.specs.Places.{places}
 use Rattle.fb_sectormap.specs.declared.cut.Cut.{Cut}

@@ -7,7 +7,7 @@ use Rattle.std.specs.List.{AllByRecursion, flat_map, range_with_len}
 use Rattle.std.proofs.lemmas.Bool.Decides.{nat_tests}
 use Rattle.std.proofs.lemmas.List.{length_push, length-map, get_or_default, get_or-map}
 use Rattle.std.proofs.lemmas.Option.{same_Some}
-use Rattle.fb_units.proofs.Numbers.{less_differs, same_number as own_number, more_differs}
+use Rattle.fb_units.proofs.Comparing.{less_differs, same_number as own_number, more_differs}
 use Rattle.fb_store.specs.declared.content.Content.{Content}
 use Rattle.fb_store.specs.declared.content.ContentRun.{ContentRun}
 use Rattle.fb_store.specs.Index.{held_at}

@@ -3,7 +3,7 @@ use Rattle.std.proofs.Common.{◌≡◌, ◌⊎◌, ℕ, zero, suc, ◌+◌, ◌
 use Rattle.std.proofs.Common.{length-append, slice_get, append-nil, refl, ap, sym, ◌∙◌, arith, subst}
 use Rattle.std.specs.List.{AllByRecursion, list_any}
 use Rattle.std.proofs.lemmas.Bool.{cases_Bool, cases_lt, true≢false, and_parts}
-use Rattle.fb_units.proofs.Numbers.{same_number as number_same}
+use Rattle.fb_units.proofs.Comparing.{same_number as number_same}
 use Rattle.fb_units.proofs.Lists.{filter_to}
 use Rattle.fb_geometry.specs.Shape.{Shape}
 use Rattle.fb_wanted.specs.declared.block.Block.{Block}

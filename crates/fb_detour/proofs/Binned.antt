@@ -1,5 +1,5 @@
 -- The time on a track in bins.
-use Rattle.fb_units.proofs.Numbers.{if_le}
+use Rattle.fb_units.proofs.Comparing.{if_le}
 use Rattle.fb_detour.proofs.Words.{Bool, List, arith, get_or, if◌then◌else◌, length, nat_lt, refl, replicate, suc, take, true, zero, ℕ}
 use Rattle.fb_detour.proofs.Words.{◌*◌, ◌+◌, ◌-◌, ◌/◌, ◌<◌, ◌≡◌, ◌≤◌, div-mul-le_self, nat_tests, le-div, sum_by, Sweep, Offer, added}
 use Rattle.fb_detour.proofs.Words.{IsReady, bin_at, sum_of_first, Stop}

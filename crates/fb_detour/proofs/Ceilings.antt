@@ -1,5 +1,5 @@
 -- No plan is worth more than its two stays.
-use Rattle.fb_units.proofs.Numbers.{and_false, if_le}
+use Rattle.fb_units.proofs.Comparing.{and_false, if_le}
 use Rattle.fb_detour.proofs.Words.{Bool, List, [], ap, arith, false, if◌then◌else◌, inl, inr, refl, true, ℕ, ◌&&◌, ◌*◌, ◌+◌, ◌<◌, ◌||◌, ◌∙◌}
 use Rattle.fb_detour.proofs.Words.{◌∷◌, ◌≡◌, ◌≤◌, cases_Bool, nat_tests, sum_by-cons, sum_by-le-sum_by, sum_by, same_track, Disk, is_wanted}
 use Rattle.fb_detour.proofs.Words.{on_track, wanted_of, wanted_weight, Block, Entry, Dwell, Gap, Plan, block_end, catches, early_dwell}

@@ -142,7 +142,7 @@ fn worth_by_step(late: &LateParts, k: usize, reach: Reach, weight: u64) -> u64
 fn part_from(late: &LateParts, instant: Ns) -> usize
     requires step { 0 < late.now.step }
     ensures part { result < 32 }
-    ensures before { (result ≡ 0) ⊎ (get_or late.now.limits result 0 ≤ back) }
+    ensures before { (result ≡ 0) ⊎ (get_or late.now.limits result 0 ≤ instant) }
 {
     let part = (instant.saturating_sub(late.begin) / late.step).min(GAP_PARTS as u64 - 1) as usize;
     if late.limits[part] <= instant {

@@ -1,5 +1,5 @@
 -- Where the sectors of a cylinder are.
-use Rattle.fb_units.proofs.Numbers.{zero_add}
+use Rattle.fb_units.proofs.Comparing.{zero_add}
 use Rattle.fb_units.proofs.Lists.{element_at, get_left, get_right, all_filter, all_map_any}
 use Rattle.fb_geometry.proofs.Words.{AllByRecursion, Bool, HoldsNone, HoldsSector, IfNone, IfSome, IsAscending}
 use Rattle.fb_geometry.proofs.Words.{IsGoodOf, IsZone, IsZoneAt, Layout, LiesOn, List, MatchOption, None, Option}

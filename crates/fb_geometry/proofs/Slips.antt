@@ -1,5 +1,5 @@
 -- Ascending numbers, and what is left of a list when the elements that pass a test are dropped.
-use Rattle.fb_units.proofs.Numbers.{zero_add}
+use Rattle.fb_units.proofs.Comparing.{zero_add}
 use Rattle.fb_units.proofs.Lists.{all_weaker, all_get, element_at}
 use Rattle.fb_geometry.proofs.Words.{AllByRecursion, Bool, HoldsSector, IsAscending, List, Some, [], ap, arith}
 use Rattle.fb_geometry.proofs.Words.{cases_Bool, cases_lt, cases_order, cond, count_by-le-length, entry_of_sector}

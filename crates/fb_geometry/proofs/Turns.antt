@@ -1,5 +1,5 @@
 -- The slots of a cylinder in the order of their turns, as one list.
-use Rattle.fb_units.proofs.Numbers.{zero_add}
+use Rattle.fb_units.proofs.Comparing.{zero_add}
 use Rattle.fb_units.proofs.Lists.{flat_map_same}
 use Rattle.fb_geometry.proofs.Words.{Bool, List, Place, Shape, Some, Track, Zone, [], add-mod_left, ap, arith}
 use Rattle.fb_geometry.proofs.Words.{by_head, cases_lt, cylinder_slots, div-add-mod', div-mul-add, filter}

@@ -6,7 +6,7 @@ use Rattle.std.specs.List.{AllByRecursion, fold, list_any}
 use Rattle.std.proofs.lemmas.Bool.{cases_Bool, cases_lt}
 use Rattle.std.proofs.lemmas.Bool.Decides.{nat_tests}
 use Rattle.std.proofs.lemmas.List.Sums.{fold-append}
-use Rattle.fb_units.proofs.Numbers.{is_after}
+use Rattle.fb_units.proofs.Comparing.{is_after}
 use Rattle.fb_units.proofs.Lists.{all_weaker, all_dropped}
 use Rattle.fb_units.specs.declared.types.Track.{Track}
 use Rattle.fb_units.specs.declared.types.Request.{Request}

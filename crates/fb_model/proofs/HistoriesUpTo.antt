@@ -5,7 +5,7 @@ use Rattle.std.specs.Prelude.{filter, drop, ◌&&◌, not, if◌then◌else◌}
 use Rattle.std.specs.List.{AllByRecursion, fold, best_of}
 use Rattle.std.proofs.lemmas.Bool.{cases_Bool}
 use Rattle.std.proofs.lemmas.List.{drop_all}
-use Rattle.fb_units.proofs.Numbers.{is_after}
+use Rattle.fb_units.proofs.Comparing.{is_after}
 use Rattle.fb_units.proofs.Lists.{all_weaker, all_append, all_filter}
 use Rattle.fb_geometry.specs.Shape.{Shape}
 use Rattle.fb_sectormap.specs.declared.cut.Cut.{Cut}

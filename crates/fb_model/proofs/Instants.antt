@@ -5,7 +5,7 @@ use Rattle.std.specs.Prelude.{filter}
 use Rattle.std.specs.List.{AllByRecursion, fold}
 use Rattle.std.proofs.lemmas.Bool.{cases_Bool}
 use Rattle.std.proofs.lemmas.Bool.Decides.{nat_tests}
-use Rattle.fb_units.proofs.Numbers.{is_after}
+use Rattle.fb_units.proofs.Comparing.{is_after}
 use Rattle.fb_units.proofs.Lists.{all_weaker}
 use Rattle.fb_units.specs.declared.types.Request.{Request}
 use Rattle.fb_units.specs.Rising.{IsRising}

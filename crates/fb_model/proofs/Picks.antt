@@ -5,7 +5,7 @@ use Rattle.std.specs.Prelude.{if◌then◌else◌}
 use Rattle.std.specs.List.{AllByRecursion}
 use Rattle.std.proofs.lemmas.Bool.{cases_Bool}
 use Rattle.std.proofs.lemmas.Bool.Decides.{nat_tests}
-use Rattle.fb_units.proofs.Numbers.{is_after}
+use Rattle.fb_units.proofs.Comparing.{is_after}
 use Rattle.fb_units.specs.declared.types.Request.{Request}
 use Rattle.fb_store.proofs.Runs.{so}
 use Rattle.fb_model.specs.PlainReplay.{better, first_least, kept, pick_with, first_ready, has_arrived}

@@ -5,7 +5,7 @@ use Rattle.std.proofs.Common.{false, inl, inr, nat_le}
 use Rattle.std.specs.Prelude.{filter, ◌&&◌, not, if◌then◌else◌}
 use Rattle.std.specs.List.{AllByRecursion, flat_map}
 use Rattle.std.proofs.lemmas.Bool.{cases_Bool}
-use Rattle.fb_units.proofs.Numbers.{is_after}
+use Rattle.fb_units.proofs.Comparing.{is_after}
 use Rattle.fb_units.proofs.Lists.{all_append, all_dropped, flat_map_same}
 use Rattle.fb_store.specs.Runs.{runs_of}
 use Rattle.fb_wanted.specs.declared.block.Block.{Block}

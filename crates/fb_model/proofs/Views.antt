@@ -8,7 +8,7 @@ use Rattle.std.proofs.lemmas.Bool.Decides.{nat_tests}
 use Rattle.std.proofs.Common.{arith}
 use Rattle.std.proofs.lemmas.List.Elements.{filter-append}
 use Rattle.std.proofs.lemmas.List.Folds.{list_any-append}
-use Rattle.fb_units.proofs.Numbers.{same_number}
+use Rattle.fb_units.proofs.Comparing.{same_number}
 use Rattle.fb_units.specs.declared.types.Request.{Request}
 use Rattle.fb_calls.specs.declared.call.Action.TheVariants.{Open, Want, Abort, Promote, Suspend, Resume, Close, Segment}
 use Rattle.fb_calls.specs.declared.call.Call.{Call}

@@ -6,7 +6,7 @@ use Rattle.std.proofs.lemmas.Bool.{cases_Bool, true≢false}
 use Rattle.std.proofs.lemmas.Bool.Decides.{nat_tests}
 use Rattle.std.proofs.lemmas.List.Sums.{sum_by-cons}
 use Rattle.std.proofs.lemmas.Option.{same_Some}
-use Rattle.fb_units.proofs.Numbers.{and_false}
+use Rattle.fb_units.proofs.Comparing.{and_false}
 use Rattle.fb_units.specs.declared.types.Track.{Track}
 use Rattle.fb_units.specs.Tracks.{same_track}
 use Rattle.fb_service.specs.declared.disk.Disk.{Disk}

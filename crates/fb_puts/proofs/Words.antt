@@ -13,7 +13,7 @@ pub use Rattle.std.proofs.lemmas.List.{drop_all, length_push, map_push}
 pub use Rattle.std.proofs.lemmas.List.Sums.{sum_by-cons}
 pub use Rattle.std.proofs.lemmas.Option.{slice_get_within}
 pub use Rattle.std.proofs.lemmas.Result.{err_from_is_err_and}
-pub use Rattle.fb_units.proofs.Numbers.{rising_push}
+pub use Rattle.fb_units.proofs.Comparing.{rising_push}
 pub use Rattle.fb_units.proofs.Lists.{all_get, get_left, get_right, all_push, all_weaker}
 pub use Rattle.fb_units.specs.Lines.{fields_of, lines_of}
 pub use Rattle.fb_units.specs.Rising.{IsRising}

@@ -1,5 +1,5 @@
 -- Going over a list or a range part by part.
-use Rattle.fb_units.proofs.Numbers.{zero_add}
+use Rattle.fb_units.proofs.Comparing.{zero_add}
 use Rattle.fb_units.proofs.Lists.{take_at}
 use Rattle.fb_report.proofs.Words.{◌≡◌, ℕ, zero, suc, ◌+◌, ◌<◌, List, [], ◌∷◌, ◌++◌, length, refl, sym, ap, ◌∙◌, arith, append_assoc}
 use Rattle.fb_report.proofs.Words.{append-nil, drop, take, subst, get_or, Some, slice_get, drop_more, slice_get_within}

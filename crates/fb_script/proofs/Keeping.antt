@@ -6,7 +6,7 @@ use Rattle.std.proofs.Math.Bool.{or-false, and-false, and-true}
 use Rattle.std.proofs.lemmas.Grind.{flat_map-append}
 use Rattle.std.proofs.lemmas.List.{map_push}
 use Rattle.std.proofs.lemmas.List.Folds.{list_any-append}
-use Rattle.fb_units.proofs.Numbers.{rising_push}
+use Rattle.fb_units.proofs.Comparing.{rising_push}
 use Rattle.fb_units.proofs.Lists.{all_push, all_weaker}
 use Rattle.fb_units.specs.Rising.{IsRising}
 use Rattle.fb_geometry.specs.Shape.{Shape}

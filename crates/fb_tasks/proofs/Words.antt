@@ -21,7 +21,7 @@ pub use Rattle.std.proofs.lemmas.List.Sums.{length-filter, sum_by-append, sum_by
 pub use Rattle.std.proofs.lemmas.Option.{get_or_from_slice_get, none-some, slice_get-get_or, slice_get_past, slice_get_read}
 pub use Rattle.std.proofs.lemmas.Option.{slice_get_within}
 pub use Rattle.std.proofs.lemmas.Result.{IfOk-weaker, on_err_weaker, on_ok_weaker}
-pub use Rattle.fb_units.proofs.Numbers.{same_number as number_same}
+pub use Rattle.fb_units.proofs.Comparing.{same_number as number_same}
 pub use Rattle.fb_units.proofs.Lists.{on_err, all_from_index as all_placed, any_of_none as any_none, filter_to, map_at}
 pub use Rattle.fb_units.specs.declared.types.Request.{Request}
 pub use Rattle.fb_geometry.specs.Places.{places}
