@@ -1,5 +1,5 @@
 -- One more row: which blocks are pending after it, and how many sectors are left.
-use Rattle.std.proofs.lemmas.List.Folds.{or-false}
+use Rattle.std.proofs.Math.Bool.{or-false}
 use Rattle.fb_bgwrite.proofs.Words.{◌≢◌, ◌⊎◌, append-nil, all_weaker, none_kept, all_get, ◌≡◌, ℕ, zero, suc, ◌+◌, ◌<◌, ◌≤◌, List}
 use Rattle.fb_bgwrite.proofs.Words.{[], ◌∷◌, ◌++◌, Bool, true, false, ◌&&◌, ◌||◌, not, Some, slice_get, length, map, refl, sym, ap, ap₂}
 use Rattle.fb_bgwrite.proofs.Words.{◌∙◌, subst, arith, inl, inr, if◌then◌else◌, ◌==◌, filter, nat_le, AllByRecursion, list_any}

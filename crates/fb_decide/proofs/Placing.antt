@@ -4,7 +4,7 @@ use Rattle.std.proofs.Common.{◌||◌, not, map, refl, ap, sym, ◌∙◌, ◌+
 use Rattle.std.specs.List.{AllByRecursion, list_any, fold}
 use Rattle.std.proofs.lemmas.Bool.{cases_Bool}
 use Rattle.std.proofs.lemmas.Bool.Decides.{nat_tests}
-use Rattle.std.proofs.lemmas.List.Folds.{or-false}
+use Rattle.std.proofs.Math.Bool.{or-false}
 use Rattle.fb_tasks.proofs.Registered.{itself}
 use Rattle.fb_units.proofs.Lists.{map_at, take_at}
 use Rattle.fb_geometry.specs.Shape.{Shape}

@@ -15,7 +15,7 @@ returns-clause-delivered c = on_ok_weaker c.stay-2.result (λ next past current.
       sessions = c.args.self.now.sessions;
       wanted = c.args.self.now.wanted;
       rows = c.push.new.self;
-    }) = record { tells = current.tells; test = current.up_to_date } in
+    }) = record { tells = current.tells; up_to_date = current.up_to_date } in
     subst (λ rows. HasDelivered disk.map past
     (caught_in_gap disk (held_now holding) c.args.row.gap c.args.row.plan (wanted past)) rows c.stay-2.new.self) c.in_ok-push.ensures.ok
     (subst₂ (λ early late. HasDelivered disk.map past (caught disk (held_now holding) ByGap early (wanted past)
@@ -33,7 +33,7 @@ returns-clause-left c = on_ok_weaker c.stay-2.result (λ next past current.
       sessions = c.args.self.now.sessions;
       wanted = c.args.self.now.wanted;
       rows = c.push.new.self;
-    }) = record { tells = current.tells; test = current.up_to_date } in
+    }) = record { tells = current.tells; up_to_date = current.up_to_date } in
     let first = c.in_ok-stay.ensures.delivered past pushed in
     subst₂ (λ early late. wanted (past_with past (caught disk (held_now holding) ByGap early (wanted past)
     ++ caught disk (held_now holding) ByGap late (missed disk early (wanted past)))) ≡ missed disk late (missed disk early (wanted past)))
