@@ -288,10 +288,10 @@ at_first inputs accepted = record {
   left = accepted.calls;
 }
 
-pub chosen_holds : (inputs : Inputs) → IsAccepted inputs → (past : Past) (decision : Decision) → HoldsOf inputs past
+pub chosen_past_holds : (inputs : Inputs) → IsAccepted inputs → (past : Past) (decision : Decision) → HoldsOf inputs past
     → HoldsOf inputs (chosen_past inputs past decision)
 unfolding chosen_past with_choices
-chosen_holds inputs accepted past decision h =
+chosen_past_holds inputs accepted past decision h =
     let now = instant_of decision in
     let due = calls_due inputs.calls past now in
     let rest = due_first inputs.calls past now accepted.instants in

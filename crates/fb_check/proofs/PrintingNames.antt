@@ -32,9 +32,9 @@ entry_named (time ∷ verb ∷ name ∷ more) entry given =
     let known = has_its_fields (verb_of verb) (length more) in
     let whole = passed BadLine (not (known && is_name name)) _ entry given in
     let instant = both_ok (or_refuse BadTime (millis_of time)) _ entry whole.1 in
-    let inputs = both_ok (asked_by (verb_of verb) more) _ entry instant.2 in
+    let asked = both_ok (asked_by (verb_of verb) more) _ entry instant.2 in
     subst (λ (read : Entry). is_name read.name ≡ true)
-    (same_Ok (record { instant = instant.0; name = name; inputs = inputs.0 }) entry inputs.2)
+    (same_Ok (record { instant = instant.0; name = name; asked = asked.0 }) entry asked.2)
     (and_parts known (is_name name) (not-false (known && is_name name) whole.0)).1
 
 -- an open adds its name

@@ -26,7 +26,7 @@ use Rattle.fb_tasks.proofs.Lists.{all_weaker, all_any, all_append, all_filter, a
 use Rattle.fb_report.specs.Printed.{HasSectors, CountsSectors}
 use Rattle.fb_check.specs.Printing.{RunsCanBePrinted}
 use Rattle.fb_check.proofs.PrintingSectors.{IsSome, runs_have, contents_have, some_have, blocks_have}
-use Rattle.fb_check.proofs.PrintingHistories.{HoldsOf, at_first, chosen_holds, after_holds}
+use Rattle.fb_check.proofs.PrintingHistories.{HoldsOf, at_first, chosen_past_holds, after_holds}
 use Rattle.fb_check.proofs.PrintingReads.{reads_have}
 
 -- ---- deliveries
@@ -146,7 +146,7 @@ module _ (inputs : Inputs) where
         → AllByRecursion CountsSectors (flat_map (step_rows inputs.disk) list)
     steps_count past [] h tests all = tt
     steps_count past (step ∷ list) h tests all =
-        let chosen = chosen_holds inputs accepted past (decision_in step) h in
+        let chosen = chosen_past_holds inputs accepted past (decision_in step) h in
         all_append CountsSectors (step_rows inputs.disk step) (flat_map (step_rows inputs.disk) list)
         (step_counts past step chosen tests.0 all.0)
         (steps_count (past_after inputs past step) list (after_holds inputs past step chosen) tests.1 all.1)
