@@ -42,7 +42,13 @@ module _ (terms : CheckTerms) (old mid new : DeskView) (held : (name : List ℕ)
     (outputs : KeepsOutputs old mid) (only : ChangesPrinted mid new) where
   report_before : (name : List ℕ) (grammar : Grammar) (lines : List (List ℕ)) → ReadsReport mid name grammar lines
       → ReadsReport old name grammar lines
-  report_before name grammar lines reads = record { reads = reads_before (held name) reads.reads; whole = reads.whole }
+  report_before name grammar lines reads = record {
+    bytes = reads.bytes;
+    held = subst (λ (told : Option (List ℕ)). IfSome told (λ here. reads.bytes ≡ here)) (held name) reads.held;
+    within = reads.within;
+    spells = reads.spells;
+    whole = reads.whole;
+  }
 
   -- the verdict on what was read
   pub judges_before : (files : Files) (verdict : Verdict) → JudgesBy mid terms files verdict → JudgesBy old terms files verdict

@@ -180,8 +180,8 @@ module _ (old new : DeskView) (terms : InputTerms) (well : ReadsWell old new ter
 
   report_once : (grammar : Grammar) (name : List ℕ) (line : ℕ) → TellsReport old grammar name → RefusesReport old name grammar line → ⊥
   report_once grammar name line tells refuses =
-      not_both (report_of grammar tells.reads.reads.bytes) tells.lines line tells.reads.reads.spells
-      (ap (report_of grammar) (same_bytes (old.held name) tells.reads.reads.bytes refuses.bytes tells.told tells.reads.reads.held
+      not_both (report_of grammar tells.reads.bytes) tells.lines line tells.reads.spells
+      (ap (report_of grammar) (same_bytes (old.held name) tells.reads.bytes refuses.bytes tells.told tells.reads.held
       refuses.held) ∙ refuses.spells)
 
   reports_once : (report : Report) (line : ℕ) → RefusesReportInTurn old terms (record { report = report; line = line }) → ⊥
@@ -202,10 +202,10 @@ module _ (old new : DeskView) (terms : InputTerms) (well : ReadsWell old new ter
       not_longer (old.held long.name) reads.bytes (2 ^ 26) (told_under long.name long.given) reads.held reads.within long.longer
   not_too_long Puts long = let tells = puts_tells long.name long.given in
       not_longer (old.held long.name) tells.reads.bytes (2 ^ 26) tells.told tells.reads.held tells.reads.within long.longer
-  not_too_long ForeReport long = let tells = fore_tells long.name long.given in not_longer (old.held long.name) tells.reads.reads.bytes
-      (2 ^ 28) tells.told tells.reads.reads.held tells.reads.reads.within long.longer
-  not_too_long BackReport long = let tells = back_tells long.name long.given in not_longer (old.held long.name) tells.reads.reads.bytes
-      (2 ^ 28) tells.told tells.reads.reads.held tells.reads.reads.within long.longer
+  not_too_long ForeReport long = let tells = fore_tells long.name long.given in not_longer (old.held long.name) tells.reads.bytes
+      (2 ^ 28) tells.told tells.reads.held tells.reads.within long.longer
+  not_too_long BackReport long = let tells = back_tells long.name long.given in not_longer (old.held long.name) tells.reads.bytes
+      (2 ^ 28) tells.told tells.reads.held tells.reads.within long.longer
 
   -- no input stops what goes well, but memory may
   pub goes_on : (outcome : Outcome) → StopsInputs terms old new outcome → outcome ≡ outcomes.NoMemory

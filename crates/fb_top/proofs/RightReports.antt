@@ -47,6 +47,6 @@ module _ (one_run : OneFullRun) (inputs : Inputs) (printed : Reports) (run : Run
 pub read_as : (desk : DeskView) (name : List ℕ) (grammar : Grammar) (lines found : List (List ℕ)) → HoldsLines desk name grammar lines
     → ReadsReport desk name grammar found → lines ≡ map ended found
 read_as desk name grammar lines found holds reads =
-    sym holds.read.are ∙ ap (map ended) (same_ok (report_of grammar reads.reads.bytes) holds.read.parts found
-    (ap (report_of grammar) (held_here (desk.held name) reads.reads.bytes (joined lines) holds.held reads.reads.held) ∙ holds.read.read)
-    reads.reads.spells)
+    sym holds.read.are ∙ ap (map ended) (same_ok (report_of grammar reads.bytes) holds.read.parts found
+    (ap (report_of grammar) (held_here (desk.held name) reads.bytes (joined lines) holds.held reads.held) ∙ holds.read.read)
+    reads.spells)

@@ -115,10 +115,13 @@ inputs_of files key until = record {
   until = until;
 }
 
--- the report under a name is accepted by its grammar, with these lines, and they are all that it has
+-- the report under a name is accepted by its grammar, with these lines
 pub record ReadsReport (desk : DeskView) (name : List ℕ) (grammar : Grammar) (lines : List (List ℕ)) : Type 0 where
-  pub reads : ReadsAs desk name report_limit (report_of grammar) (Ok lines)
-  pub whole : flat_map ended lines ≡ reads.bytes
+  pub bytes : List ℕ
+  pub held : IsHeld desk name bytes
+  pub within : length bytes ≤ report_limit
+  pub spells : report_of grammar bytes ≡ Ok lines
+  pub whole : flat_map ended lines ≡ bytes
 
 -- or refused, from this line
 abbrev pub RefusesReport : DeskView → List ℕ → Grammar → ℕ → Type 0
