@@ -96,7 +96,7 @@ pub data HasActed (disk : Disk) (key : Key) (until : ℕ) (next : Option ℕ) (w
   ends_here : waiting ≡ [] → next ≡ None → until ≤ before.now
       → HasActed disk key until next waiting before false waiting before
 
--- the same with the background after the calls up to now, and with the requests that have joined
+-- the same with the background after calls, choices and tests up to now, and with the requests that have joined
 abbrev pub prepared : Course → Background → ℕ → ℕ → Course
 prepared course background joined called = record course { background = background; joined = joined; called = called }
 

@@ -1,4 +1,4 @@
--- The inputs that are lent to a replay, as the inputs that a run is judged by.
+-- The inputs that are lent to a replay, as the inputs of a run.
 use Rattle.fb_model.specs.Inputs.{Inputs}
 use Rattle.fb_model.specs.PlainReplay.{Key}
 use Rattle.fb_decide.specs.declared.run_inputs.RunInputs.{RunInputs}

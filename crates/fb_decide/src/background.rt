@@ -15,6 +15,9 @@ use fb_wanted::Wanted;
 use std::alloc::Global;
 
 /// The background between two events of a replay.
+///
+/// Before a decision it is prepared (`prepare`); around a service blocks are delivered
+/// (`deliver_around`): in the gap (`pass`) and by the read itself (`ride`).
 #[derive(Drop)]
 pub struct Background {
     /// The tasks, in order of opening.

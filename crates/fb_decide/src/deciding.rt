@@ -207,8 +207,8 @@ fn at_start(alloc: Global, latent: &[u64]) -> Result<Course, NoMemory>
     })
 }
 
-// One decision: calls take effect, requests join, and then the head acts. Returns whether another
-// decision follows.
+// One decision: calls take effect, tasks choose and are tested, requests join, and then the head
+// acts. Returns whether another decision follows.
 fn advance<Q: Queue, P: Planner>(
     alloc: Global,
     inputs: RunInputs<'_>,

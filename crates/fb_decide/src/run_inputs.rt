@@ -1,10 +1,10 @@
-// The inputs of a replay, lent.
+// The inputs of a run, lent to its replay.
 use fb_calls::Calls;
 use fb_service::Disk;
 use fb_trace::Trace;
 use fb_units::Ns;
 
-/// The accepted inputs of a replay.
+/// The accepted inputs of a run but for the order of service, which the queue has.
 #[derive(Clone, Copy)]
 pub struct RunInputs<'a> {
     /// The disk.

@@ -1,4 +1,4 @@
-// Where a service starts.
+// Where and when a service starts.
 use fb_units::{Ns, Request, Track};
 
 /// The start of a service: what is served, and from where and when.

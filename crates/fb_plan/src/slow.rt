@@ -1,4 +1,4 @@
-// The planner that tries every track.
+// What a planner is, and the planner that tries every track.
 ghost use Rattle.fb_model.specs.Plans.{IsBest};
 ghost use Rattle.fb_wanted.specs.States.{wanted_of};
 ghost use Rattle.fb_plan.specs.Ways.{AreOnDisk, IsGap};

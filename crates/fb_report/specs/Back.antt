@@ -61,7 +61,7 @@ gap_line row = line_of (codes "gap") (gap_fields row)
 abbrev pub idle_line : Dwell → List ℕ
 idle_line dwell = line_of (codes "idle") (track_text dwell.track ∷ decimal dwell.begin ∷ decimal dwell.end ∷ [])
 
--- task, index, first LBN, count, begin, end, how, bad sectors and the bytes found
+-- task, number in it, first LBN, count, begin, end, how, bad sectors and the bytes found
 abbrev pub got_fields : List (List ℕ) → DeliveryRow → List ℕ → List (List ℕ)
 got_fields names row found = task_text names row.block.task ∷ decimal row.block.number ∷ decimal row.block.lbn ∷ decimal row.block.count
     ∷ decimal row.begin ∷ decimal row.end ∷ how_text row.how ∷ decimal row.bad ∷ found ∷ []

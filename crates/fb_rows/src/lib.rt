@@ -1,6 +1,6 @@
 //! The rows of a run: what a replay reports of the foreground and of the background.
 //!
-//! The types that the engine fills and that reports are made from. Instants are whole nanoseconds,
+//! The types that a replay fills and that reports are made from. Instants are whole nanoseconds,
 //! sectors are LBNs from 0, and a task is its number from 0 in order of opening. Which rows a run has
 //! is not said here, but in the crates above.
 #![tactic(auto)]

@@ -1,4 +1,4 @@
--- The lists of touched sessions and of those that a write asks, as sessions change.
+-- The lists of touched sessions and of those that a write looks at, as sessions change.
 use Rattle.fb_tasks.proofs.Words.{◌≡◌, ◌⊎◌, ◌<◌, ◌&&◌, not, ℕ, Bool, List, [], ◌∷◌, ◌++◌, length, true, false, Some, inl, inr, set, get_or}
 use Rattle.fb_tasks.proofs.Words.{slice_get, length-append, ap, sym, ◌∙◌, arith, BTreeSet, contains, nat_cmp, true≢false, length-set}
 use Rattle.fb_tasks.proofs.Words.{slice_get-get_or, is_backup, Session, AreListed, IsNoted, each_set, each_push}

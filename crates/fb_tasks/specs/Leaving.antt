@@ -32,7 +32,7 @@ pub record OnlyRegisters (IsSuch : ℕ → Type 0) (old new : List Entry) : Type
   pub grown : HasGrown old new
   pub own : AllByRecursion (λ entry. IsSuch entry.block.task) grown.added
 
--- the task is an open clean task that was touched since the last test
+-- the task is an open clean task that was touched since tasks last chose and were tested
 pub record MayClean (sessions : List Session) (task : ℕ) : Type 0 where
   pub session : Session
   pub at : slice_get sessions task ≡ Some session
@@ -44,7 +44,7 @@ pub record MayClean (sessions : List Session) (task : ℕ) : Type 0 where
 abbrev pub by_calls : Session → Kind × ℕ × ℕ × Bool × Bool
 by_calls session = (session.kind, session.weight, session.block, session.suspended, session.closed)
 
--- nothing that calls make of a session has changed, and nothing at all of one that was not touched since the last test
+-- nothing that calls make of a session has changed, and nothing at all of one that was not touched since then
 pub record OnlyTouched (old new : List Session) : Type 0 where
   pub calls : map by_calls new ≡ map by_calls old
   pub untouched : (task : ℕ) (session : Session) → slice_get old task ≡ Some session → session.touched ≡ false

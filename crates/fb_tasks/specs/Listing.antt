@@ -1,5 +1,5 @@
--- The lists of the tasks that choosing and testing look at, and of those of which a write can make blocks wanted again. Contracts of inner
--- functions cite it.
+-- The lists of the tasks that choosing and testing look at, and of those that a write looks at. Contracts of inner functions
+-- cite it.
 use Rattle.std.specs.Prelude.{◌≡◌, ◌⊎◌, ◌<◌, ◌^◌, ◌&&◌, not, ℕ, List, length, true, Some, slice_get}
 use Rattle.std.specs.BTreeSet.{BTreeSet, contains}
 use Rattle.std.specs.Ordering.{nat_cmp}

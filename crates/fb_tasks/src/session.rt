@@ -28,7 +28,7 @@ pub struct Session {
     pub complete: bool,
     /// Whether a backup's seal row was given.
     pub sealed: bool,
-    /// Whether it was touched since its last test: choosing and testing pass over the others.
+    /// Whether it was touched since tasks last chose and were tested: these pass over the others.
     pub touched: bool,
     /// What the delivered blocks of a backup hold.
     pub image: Image,

@@ -36,10 +36,10 @@ use std::marker::Model;
 
 /// The sessions in order of opening: a session's place is its task's number.
 ///
-/// To choose and test costs time for each task that was touched since the last test; a delivery or a
-/// call costs time for its own task. A write costs time for each task of which a block was ever
-/// registered near its sectors, or for each open backup and each task touched since the last
-/// test, whichever are fewer: for each of these, every chunk of 2,048 LBNs that the write
+/// To choose and test costs time for each task that was touched since that was last done; a delivery
+/// or a call costs time for its own task. A write costs time for each task of which a block was ever
+/// registered near its sectors, or for each open backup and each task touched since tasks last
+/// chose, whichever are fewer: for each of these, every chunk of 2,048 LBNs that the write
 /// touches is searched, and the one before them. A task is touched by a delivery, a want, an abort,
 /// a new segment and its close; one whose call ran out of memory may also cost time until it is
 /// touched and tested again. A session to which nothing happens costs nothing.
@@ -47,7 +47,9 @@ use std::marker::Model;
 pub struct Sessions {
     alloc: Global,
     sessions: Vec<Session>,
+    // The tasks that were touched since tasks last chose and were tested.
     touched: BTreeSet<u32>,
+    // The tasks that a write looks at: these and the open backups.
     rewantable: BTreeSet<u32>,
 }
 
@@ -364,8 +366,8 @@ impl Sessions {
         }
     }
 
-    // Wants blocks of open backups again that share a sector with the range. Each turn passes over a
-    // listed task and over one with a block near the range, so there are no more turns than of either.
+    // Wants blocks of open backups again that share a sector with the range. Each round passes over a
+    // listed task and over one with a block near the range, so there are no more rounds than of either.
     fn rewant_near(&self, wanted: &mut Wanted, first: u64, count: u64)
         ensures { wanted.new ≡ map (left_by_write self.now first count) wanted.old }
     {

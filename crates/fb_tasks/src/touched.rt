@@ -1,5 +1,5 @@
-// The tasks that were touched since their last test, and those that are rewantable: a write can make blocks of theirs
-// wanted again. These are the touched ones and the open backups.
+// The tasks that were touched since tasks last chose and were tested, and those that a write looks at: these and the open
+// backups. Of the latter alone a write makes blocks wanted again.
 ghost use Rattle.std.specs.Prelude.{◌≡◌, ◌⊎◌, ℕ, ◌<◌, ◌≤◌, true, false, Some, slice_get, IfSome, IfNone, OnOk, OnErr};
 ghost use Rattle.std.specs.BTreeSet.{BTreeSet as Set, contains};
 ghost use Rattle.std.specs.Ordering.{nat_cmp};
@@ -37,7 +37,7 @@ pub fn forget(list: &mut BTreeSet<u32>, task: u32, stays: bool)
     }
 }
 
-/// Notes that a task was touched, and that it is rewantable.
+/// Notes that a task was touched, and that a write looks at it.
 ///
 /// The only error is out of memory, after which all that was noted before is still there.
 pub fn note_touch(
@@ -53,7 +53,7 @@ pub fn note_touch(
     note(touched, task, true)
 }
 
-/// The first task from `from` on that was touched since its last test.
+/// The first task from `from` on that was touched since tasks last chose and were tested.
 ///
 /// The list may also name a task that a call was about to touch when it ran out of memory.
 pub fn next_touched(listed: &BTreeSet<u32>, sessions: &[Session], from: u32) -> Option<u32>
