@@ -6,7 +6,7 @@ use Rattle.fb_model.specs.Accepted.{IsRequestOf}
 use Rattle.fb_model.specs.PlainReplay.{Served, service}
 use Rattle.fb_decide.specs.declared.start.Start.{Start}
 
--- the service of the request from there and then on
+-- the service that starts so
 abbrev pub served_in : Disk → Start → Served
 served_in disk start = service disk start.head start.instant start.request
 

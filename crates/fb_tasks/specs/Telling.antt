@@ -69,7 +69,7 @@ pub record Delivers (disk : Shape) (past : Past) (sessions : List Session) (held
   pub at : slice_get sessions got.block.task ≡ Some session
   pub is : now ≡ after got.block.task (Deliver got.block.number) held
 
--- the call of the task with this number that does this
+-- a call of the task with this number, for this action
 pub record IsCall (number : ℕ) (does : Action) (call : Call) : Type 0 where
   pub task : call.task ≡ number
   pub action : call.action ≡ does
