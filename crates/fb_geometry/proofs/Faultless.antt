@@ -11,7 +11,7 @@ use Rattle.fb_geometry.proofs.Words.{length, lesser, list_among, list_any, lt-le
 use Rattle.fb_geometry.proofs.Words.{nat_le, nat_lt, nat_tests, none-some, offset_at, offset_in, or_else, or_parts}
 use Rattle.fb_geometry.proofs.Words.{position, position_or_len, recursion_from_All, refl, same_Some, slice_get}
 use Rattle.fb_geometry.proofs.Words.{slice_get-get_or, slice_index_or, slots_at, spares_at, subst, suc, sym, true}
-use Rattle.fb_geometry.proofs.Words.{zero, zone_at, ℕ, ◌+◌, ◌<◌, ◌==◌, ◌^◌, ◌||◌, ◌∙◌, ◌∷◌, ◌≡◌, ◌≤◌}
+use Rattle.fb_geometry.proofs.Words.{zero, zone_at, zone_tells, ℕ, ◌+◌, ◌<◌, ◌==◌, ◌^◌, ◌||◌, ◌∙◌, ◌∷◌, ◌≡◌, ◌≤◌}
 
 -- ---- chains
 
@@ -177,37 +177,33 @@ found_from index begin cylinder (other ∷ zones) zone h from at =
     ]
 
 -- what is said of a cylinder is what its zone says of it
-module _ {A : Type 0} (said : List Zone → A) (says : Zone → A) (cylinder : ℕ)
-    (by_first : (zone : Zone) (zones : List Zone) → said (zone ∷ zones) ≡ cond (nat_le cylinder zone.last) (says zone) (said zones)) where
-  said_by_zone : (zones : List Zone) (zone : Zone) → zone_at zones cylinder ≡ Some zone → said zones ≡ says zone
-  said_by_zone [] zone h = absurd (none-some zone h)
-  said_by_zone (other ∷ zones) zone h = elim (cases_Bool (nat_le cylinder other.last)) [
-    | inl here ↦ rw (by_first other zones, here) (ap says (same_Some other zone (rw here at h)))
-    | inr on ↦ rw (by_first other zones, on) (said_by_zone zones zone (rw on at h))
-  ]
+said_by_zone : {A : Type 0} (none : A) (f : Zone → A) (zones : List Zone) (cylinder : ℕ) (zone : Zone)
+    → zone_at zones cylinder ≡ Some zone → zone_tells none f zones cylinder ≡ f zone
+said_by_zone none f [] cylinder zone h = absurd (none-some zone h)
+said_by_zone none f (other ∷ zones) cylinder zone h = elim (cases_Bool (nat_le cylinder other.last)) [
+  | inl here ↦ rw here (ap f (same_Some other zone (rw here at h)))
+  | inr on ↦ rw on (said_by_zone none f zones cylinder zone (rw on at h))
+]
 
 pub slots_at-zone : (zones : List Zone) (cylinder : ℕ) (zone : Zone) → zone_at zones cylinder ≡ Some zone
     → slots_at zones cylinder ≡ zone.sectors
-slots_at-zone zones cylinder = said_by_zone (λ zones. slots_at zones cylinder) (λ zone. zone.sectors) cylinder (λ zone zones. refl) zones
+slots_at-zone = said_by_zone 0 (λ zone. zone.sectors)
 
 pub spares_at-zone : (zones : List Zone) (cylinder : ℕ) (zone : Zone) → zone_at zones cylinder ≡ Some zone
     → spares_at zones cylinder ≡ zone.spares
-spares_at-zone zones cylinder = said_by_zone (λ zones. spares_at zones cylinder) (λ zone. zone.spares) cylinder (λ zone zones. refl) zones
+spares_at-zone = said_by_zone 0 (λ zone. zone.spares)
 
 pub cylinder_spares_at-zone : (zones : List Zone) (cylinder : ℕ) (zone : Zone) → zone_at zones cylinder ≡ Some zone
     → cylinder_spares_at zones cylinder ≡ zone.cylinder_spares
-cylinder_spares_at-zone zones cylinder = said_by_zone (λ zones. cylinder_spares_at zones cylinder) (λ zone. zone.cylinder_spares) cylinder
-    (λ zone zones. refl) zones
+cylinder_spares_at-zone = said_by_zone 0 (λ zone. zone.cylinder_spares)
 
 pub offset_at_zone : (zones : List Zone) (heads : ℕ) (track : Track) (zone : Zone) → zone_at zones track.cylinder ≡ Some zone
     → offset_at zones heads track ≡ offset_in zone heads track
-offset_at_zone zones heads track = said_by_zone (λ zones. offset_at zones heads track) (λ zone. offset_in zone heads track) track.cylinder
-    (λ zone zones. refl) zones
+offset_at_zone zones heads track = said_by_zone 0 (λ zone. offset_in zone heads track) zones track.cylinder
 
 pub list_among-zone : (disk : Shape) (zones : List Zone) (cylinder : ℕ) (zone : Zone) → zone_at zones cylinder ≡ Some zone
     → list_among disk zones cylinder ≡ data_list disk zone cylinder
-list_among-zone disk zones cylinder = said_by_zone (λ zones. list_among disk zones cylinder) (λ zone. data_list disk zone cylinder) cylinder
-    (λ zone zones. refl) zones
+list_among-zone disk zones cylinder = said_by_zone [] (λ zone. data_list disk zone cylinder) zones cylinder
 
 -- what is said of a cylinder, by its zone
 pub ruleset by_zone = (slots_at-zone, spares_at-zone, cylinder_spares_at-zone, offset_at_zone, list_among-zone)

@@ -52,7 +52,7 @@ pub use Rattle.fb_geometry.specs.Marks.{marks_on, positions, same_mark}
 pub use Rattle.fb_geometry.specs.Places.{by_head, data_list, data_list_at, data_list_by, good_track, list_among}
 pub use Rattle.fb_geometry.specs.Places.{per_cylinder, per_track, replaced, stand_in, turn, zone_places}
 unfoldable pub use Rattle.fb_geometry.specs.Places.{places}
-pub use Rattle.fb_geometry.specs.Shape.{Shape, cylinders_of, is_among, offset_at, offset_in, same_place, slots_at}
+pub use Rattle.fb_geometry.specs.Shape.{Shape, cylinders_of, is_among, offset_at, offset_in, same_place, slots_at, zone_tells}
 pub use Rattle.fb_geometry.specs.Shape.{turn_position}
 pub use Rattle.fb_geometry.specs.Slips.{HoldsNone, HoldsSector, IsAscending, Pairwise, entry_of_sector, indexes, rank}
 pub use Rattle.fb_geometry.specs.Slips.{slipped}

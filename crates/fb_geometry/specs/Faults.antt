@@ -1,5 +1,5 @@
 -- Why an outline is refused: its first fault in a fixed order.
-use Rattle.std.specs.Prelude.{◌≡◌, ℕ, ◌+◌, ◌*◌, ◌^◌, List, [], ◌∷◌, ◌++◌, length, Bool, true, false, ◌&&◌, ◌||◌, not, ◌==◌, nat_lt, nat_le}
+use Rattle.std.specs.Prelude.{◌≡◌, ℕ, ◌+◌, ◌*◌, ◌^◌, List, [], ◌∷◌, ◌++◌, length, Bool, true, false, ◌&&◌, ◌||◌, not, ◌==◌, nat_lt}
 use Rattle.std.specs.Prelude.{Option, Some, None, Result, Ok, Err, if◌then◌else◌, map, filter, find, position}
 use Rattle.std.specs.List.{list_any}
 use Rattle.fb_units.specs.declared.types.Place.{Place}
@@ -14,7 +14,7 @@ use Rattle.fb_geometry.specs.declared.fault.GeometryFault.TheVariants.{DefectTwi
 use Rattle.fb_geometry.specs.declared.fault.GeometryFault.TheVariants.{TooManyInCylinder}
 use Rattle.fb_units.specs.declared.read_error.ReadError.{ReadError}
 use Rattle.fb_units.specs.declared.read_error.ReadError.TheVariants.{Fault, NoMemory}
-use Rattle.fb_geometry.specs.Shape.{Shape, slots_at, cylinders_of, is_among}
+use Rattle.fb_geometry.specs.Shape.{Shape, zone_tells, slots_at, cylinders_of, is_among}
 
 -- the spares leave no sector for data on a track of the zone, or on one of its cylinders
 abbrev pub has_no_data : Layout → Shape → Zone → Bool
@@ -76,13 +76,11 @@ repeated (place ∷ places) = with_repeated (is_among places place) place (repea
 
 -- the spares of each track of a cylinder
 abbrev pub spares_at : List Zone → ℕ → ℕ
-spares_at [] cylinder = 0
-spares_at (zone ∷ zones) cylinder = if nat_le cylinder zone.last then zone.spares else spares_at zones cylinder
+spares_at zones cylinder = zone_tells 0 (λ zone. zone.spares) zones cylinder
 
 -- the spares of a cylinder
 abbrev pub cylinder_spares_at : List Zone → ℕ → ℕ
-cylinder_spares_at [] cylinder = 0
-cylinder_spares_at (zone ∷ zones) cylinder = if nat_le cylinder zone.last then zone.cylinder_spares else cylinder_spares_at zones cylinder
+cylinder_spares_at zones cylinder = zone_tells 0 (λ zone. zone.cylinder_spares) zones cylinder
 
 -- the track has more defects than spares
 abbrev pub is_full_track : Shape → Track → Bool

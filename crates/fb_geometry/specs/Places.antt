@@ -1,12 +1,12 @@
 -- The places of all data sectors of a disk, in the order of their LBNs.
-use Rattle.std.specs.Prelude.{ℕ, ◌+◌, ◌-◌, ◌*◌, List, [], ◌∷◌, ◌++◌, Bool, true, false, nat_le, if◌then◌else◌, filter, map, not, take, drop}
+use Rattle.std.specs.Prelude.{ℕ, ◌+◌, ◌-◌, ◌*◌, List, [], ◌∷◌, ◌++◌, Bool, true, false, filter, map, not, take, drop}
 use Rattle.std.specs.List.{flat_map, range_with_len}
 use Rattle.fb_units.specs.declared.types.Place.{Place}
 use Rattle.fb_units.specs.declared.types.Track.{Track}
 use Rattle.fb_geometry.specs.declared.layout.Layout.{Layout}
 use Rattle.fb_geometry.specs.declared.layout.Layout.TheVariants.{PerTrack, PerCylinder}
 use Rattle.fb_geometry.specs.declared.zone.Zone.{Zone}
-use Rattle.fb_geometry.specs.Shape.{Shape, offset_in, is_among}
+use Rattle.fb_geometry.specs.Shape.{Shape, zone_tells, offset_in, is_among}
 
 -- the slots of a track of n slots from its offset on to the last, and on from slot 0
 abbrev pub turn : ℕ → ℕ → List ℕ
@@ -56,8 +56,7 @@ data_list disk zone cylinder = data_list_by disk.layout disk zone cylinder
 
 -- the same for any cylinder of these zones
 abbrev pub list_among : Shape → List Zone → ℕ → List Place
-list_among disk [] cylinder = []
-list_among disk (zone ∷ zones) cylinder = if nat_le cylinder zone.last then data_list disk zone cylinder else list_among disk zones cylinder
+list_among disk zones cylinder = zone_tells [] (λ zone. data_list disk zone cylinder) zones cylinder
 
 -- the data list of any cylinder of the disk
 abbrev pub data_list_at : Shape → ℕ → List Place

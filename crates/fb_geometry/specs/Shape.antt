@@ -16,10 +16,14 @@ pub record Shape : Type 0 where
   pub defects : List Place
   pub grown : List Place
 
+-- what f says of the zone that a cylinder lies in; `none` where the cylinder lies behind all zones
+abbrev pub zone_tells : {A : Type 0} → A → (Zone → A) → List Zone → ℕ → A
+zone_tells none f [] cylinder = none
+zone_tells none f (zone ∷ zones) cylinder = if nat_le cylinder zone.last then f zone else zone_tells none f zones cylinder
+
 -- the number of slots of each track of a cylinder
 abbrev pub slots_at : List Zone → ℕ → ℕ
-slots_at [] cylinder = 0
-slots_at (zone ∷ zones) cylinder = if nat_le cylinder zone.last then zone.sectors else slots_at zones cylinder
+slots_at zones cylinder = zone_tells 0 (λ zone. zone.sectors) zones cylinder
 
 -- the number of cylinders: one more than the last one
 abbrev pub cylinders_of : List Zone → ℕ
@@ -34,8 +38,7 @@ offset_in zone heads track =
 
 -- the same for any track
 abbrev pub offset_at : List Zone → ℕ → Track → ℕ
-offset_at [] heads track = 0
-offset_at (zone ∷ zones) heads track = if nat_le track.cylinder zone.last then offset_in zone heads track else offset_at zones heads track
+offset_at zones heads track = zone_tells 0 (λ zone. offset_in zone heads track) zones track.cylinder
 
 -- how many slots of its track's turn come before a place
 abbrev pub turn_position : Shape → Place → ℕ
