@@ -14,10 +14,10 @@ use Rattle.fb_wanted.specs.States.{is_wanted, wanted_of}
 use Rattle.fb_model.specs.History.{Past, same_block, registered, state, wanted}
 use Rattle.fb_model.specs.Completion.{view}
 use Rattle.fb_tasks.specs.declared.session.Session.{Session}
-use Rattle.fb_tasks.specs.Standing.{AreIndexed}
+use Rattle.fb_tasks.specs.Standing.{AreNumbered}
 use Rattle.fb_tasks.specs.Telling.{Tells}
 use Rattle.fb_tasks.proofs.Lists.{all_weaker, all_filter, all_map, filter_same, all_any, all_with}
-use Rattle.fb_tasks.proofs.Deliveries.{indexed_from}
+use Rattle.fb_tasks.proofs.Deliveries.{numbered_from}
 use Rattle.fb_decide.specs.Deliveries.{AreDistinct, AreDue, IsOneOf, block_in, row_in, past_with, IsCurrent, HasDelivered, held_now}
 use Rattle.fb_rows.specs.declared.gap.Dwell.{Dwell}
 use Rattle.fb_rows.specs.declared.gap.How.{How}
@@ -55,22 +55,22 @@ alone a (b ∷ bs) h = elim (cases_Bool (b.task == a.task)) [
 ]
 
 -- the blocks of each task are numbered on from some number
-abbrev AreNumbered : List Block → Type 0
-AreNumbered bs = (task : ℕ) → (n : ℕ) × AreIndexed n (own task bs)
+abbrev AreNumberedByTask : List Block → Type 0
+AreNumberedByTask bs = (task : ℕ) → (n : ℕ) × AreNumbered n (own task bs)
 
-fewer : (b : Block) (bs : List Block) → AreNumbered (b ∷ bs) → AreNumbered bs
+fewer : (b : Block) (bs : List Block) → AreNumberedByTask (b ∷ bs) → AreNumberedByTask bs
 fewer b bs h = λ task. elim (cases_Bool (b.task == task)) [
-  | inl mine ↦ let k = subst (λ x. (n : ℕ) × AreIndexed n (if x then b ∷ own task bs else own task bs)) mine (h task) in (k.0 + 1, k.1.1)
-  | inr other ↦ subst (λ x. (n : ℕ) × AreIndexed n (if x then b ∷ own task bs else own task bs)) other (h task)
+  | inl mine ↦ let k = subst (λ x. (n : ℕ) × AreNumbered n (if x then b ∷ own task bs else own task bs)) mine (h task) in (k.0 + 1, k.1.1)
+  | inr other ↦ subst (λ x. (n : ℕ) × AreNumbered n (if x then b ∷ own task bs else own task bs)) other (h task)
 ]
 
-numbered-distinct : (bs : List Block) → AreNumbered bs → AreDistinct bs
+numbered-distinct : (bs : List Block) → AreNumberedByTask bs → AreDistinct bs
 numbered-distinct [] h = tt
 numbered-distinct (b ∷ bs) h =
-    let k = subst (λ x. (n : ℕ) × AreIndexed n (if x then b ∷ own b.task bs else own b.task bs))
+    let k = subst (λ x. (n : ℕ) × AreNumbered n (if x then b ∷ own b.task bs else own b.task bs))
     (let own : (b.task == b.task) ≡ true = grind (arith, nat_tests) in own) (h b.task) in (
       alone b bs (all_weaker (λ c. k.0 + 1 ≤ c.number) (λ c. b.number < c.number) (λ c le. omega (arith, le, k.1.0)) (own b.task bs)
-          (indexed_from (k.0 + 1) (own b.task bs) k.1.1)),
+          (numbered_from (k.0 + 1) (own b.task bs) k.1.1)),
       numbered-distinct bs (fewer b bs h),
     )
 
@@ -82,7 +82,7 @@ pub wanted-distinct : {disk : Shape} {past : Past} {sessions : List Session} {he
     → AreDistinct (wanted past)
 unfolding wanted view
 wanted-distinct {past} tells = filter-distinct (λ b. is_wanted (state past b)) (registered past) (numbered-distinct (registered past)
-    (λ task. (0, (tells.placed task).indexed)))
+    (λ task. (0, (tells.placed task).numbered)))
 
 -- ---- deliveries in their order are those of the catches in their order; none is lost, and none is added
 

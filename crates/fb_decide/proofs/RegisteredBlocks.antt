@@ -15,7 +15,7 @@ use Rattle.fb_model.specs.History.{Event, called, chose, tested, delivered, fini
 use Rattle.fb_model.specs.History.{blocks_of, same_block}
 use Rattle.fb_model.specs.Completion.{Choice, choices, view}
 use Rattle.fb_tasks.specs.declared.session.Session.{Session}
-use Rattle.fb_tasks.specs.Standing.{AreIndexed, IsBlockOf}
+use Rattle.fb_tasks.specs.Standing.{AreNumbered, IsBlockOf}
 use Rattle.fb_tasks.specs.Telling.{Tells}
 use Rattle.fb_decide.specs.Deliveries.{IsRegistered}
 use Rattle.fb_tasks.proofs.Lists.{some_same, some_at, all_at, all_weaker, all_append, all_flat, same_number}
@@ -156,28 +156,28 @@ opened-kept past event none h =
     (all_weaker (λ (block : Block). block.task < length (tasks past)) (λ (block : Block). block.task < length (tasks (event ∷ past)))
     (λ block less. let more = tasks_more past event in omega (arith, less, more)) (registered past) h)
 
-number_at : (n : ℕ) (blocks : List Block) (i : ℕ) (block : Block) → AreIndexed n blocks → slice_get blocks i ≡ Some block
+number_at : (n : ℕ) (blocks : List Block) (i : ℕ) (block : Block) → AreNumbered n blocks → slice_get blocks i ≡ Some block
     → block.number ≡ n + i
-number_at n [] i block indexed at = absurd (grind arith)
-number_at n (b ∷ blocks) zero block indexed at = subst (λ b. b.number ≡ n + 0) (some_same b block at) (omega (arith, indexed.0))
-number_at n (b ∷ blocks) (suc i) block indexed at = let rest = number_at (n + 1) blocks i block indexed.1 at in omega (arith, rest)
+number_at n [] i block numbered at = absurd (grind arith)
+number_at n (b ∷ blocks) zero block numbered at = subst (λ b. b.number ≡ n + 0) (some_same b block at) (omega (arith, numbered.0))
+number_at n (b ∷ blocks) (suc i) block numbered at = let rest = number_at (n + 1) blocks i block numbered.1 at in omega (arith, rest)
 
-pub distinct : (past : Past) → ((task : ℕ) → AreIndexed 0 (blocks_of past task)) → AreDistinct past
-distinct past indexed a b there_a there_b same =
+pub distinct : (past : Past) → ((task : ℕ) → AreNumbered 0 (blocks_of past task)) → AreDistinct past
+distinct past numbered a b there_a there_b same =
     let parts = and_parts (a.task == b.task) (a.number == b.number) same in
     let task = same_number a.task b.task parts.0 in
     let number = same_number a.number b.number parts.1 in
     let first = filter_to (λ block. block.task == b.task) (registered past) there_a.0 a there_a.1 parts.0 in
     let second = filter_to (λ block. block.task == b.task) (registered past) there_b.0 b there_b.1 (number_same b.task b.task refl) in
-    let first_number = number_at 0 (blocks_of past b.task) first.0 a (indexed b.task) first.1 in
-    let second_number = number_at 0 (blocks_of past b.task) second.0 b (indexed b.task) second.1 in
+    let first_number = number_at 0 (blocks_of past b.task) first.0 a (numbered b.task) first.1 in
+    let second_number = number_at 0 (blocks_of past b.task) second.0 b (numbered b.task) second.1 in
     let place : first.0 ≡ second.0 = omega (arith, number, first_number, second_number) in
     some_same a b (sym first.1 ∙ (ap (slice_get (blocks_of past b.task)) place ∙ second.1))
 
 pub distinct-told : (disk : Shape) (past : Past) (sessions : List Session) (held : List Entry) → Tells disk past sessions held
     → AreDistinct past
 unfolding view
-distinct-told disk past sessions held tells = distinct past (λ task. (tells.placed task).indexed)
+distinct-told disk past sessions held tells = distinct past (λ task. (tells.placed task).numbered)
 
 -- an event that registers nothing keeps it so
 pub distinct-kept : (past : Past) (event : Event) → registered_by event ≡ [] → AreDistinct past → AreDistinct (event ∷ past)

@@ -28,10 +28,10 @@ stays shape place t u h e le near =
     omega (arith, same)
 
 -- the first beginning from t on is also the first from that beginning on
-pub settled : (shape : Shape) (place : Place) (t : ℕ) → begin_angle shape place < shape.rotation
+pub begin_from_again : (shape : Shape) (place : Place) (t : ℕ) → begin_angle shape place < shape.rotation
     → begin_from shape place t ≡ begin_from shape place (begin_from shape place t)
 unfolding begin_from
-settled shape place t h =
+begin_from_again shape place t h =
     let w = wait shape.rotation (begin_angle shape place) t in
     let now = wait_least shape.rotation (begin_angle shape place) (t + w) h in
     let before = wait_least shape.rotation (begin_angle shape place) t h in

@@ -17,7 +17,7 @@ use Rattle.fb_service.specs.declared.passage.Extent.{Extent}
 use Rattle.fb_service.specs.Passing.{begin_from, begin_angle, end_angle, length_of, ArePassing}
 use Rattle.fb_service.specs.Service.{passage_from, passages, finish_of, media_of}
 use Rattle.fb_service.specs.Extents.{passages_of, all_passages_of, FollowOn, IsUnbroken}
-use Rattle.fb_service.proofs.Passes.{settled}
+use Rattle.fb_service.proofs.Passes.{begin_from_again}
 
 -- when the way to a sector has ended
 abbrev pub arrived : Disk → Track → ℕ → Bool → ℕ → ℕ
@@ -29,7 +29,7 @@ pub from_begin : (shape : Shape) (lbn t begin : ℕ) → begin_angle shape (plac
     → passage_from shape lbn begin ≡ passage_from shape lbn t
 from_begin shape lbn t begin h e =
     ap (λ b. record { lbn = lbn; begin = b; end = b + (end_angle shape (place_at shape lbn) - begin_angle shape (place_at shape lbn)) })
-    (ap (begin_from shape (place_at shape lbn)) e ∙ sym (settled shape (place_at shape lbn) t h))
+    (ap (begin_from shape (place_at shape lbn)) e ∙ sym (begin_from_again shape (place_at shape lbn) t h))
 
 -- the way from a track to itself takes no time
 pub stays_there : (arm : Mechanics) (a b : Track) (write : Bool) → a ≡ b → pos arm a b write ≡ 0

@@ -8,15 +8,15 @@ use Rattle.fb_tasks.proofs.Words.{Past, Terms, called, calls_of, tasks, terms_of
 use Rattle.fb_tasks.proofs.Words.{is_unsealed, state_in, Choice, added_view, is_over, is_choice_of, wanted_view, is_chosen}
 use Rattle.fb_tasks.proofs.Words.{numbered, opened-silent, opened-view, called-silent, added-view, wanted-silent, wanted-view, Session}
 use Rattle.fb_tasks.proofs.Words.{Told, Cleans, IsUntouched, IsPlaced, IsBlockOf, IsAtNumber, HoldsBlock, HoldsChoice, choice_in}
-use Rattle.fb_tasks.proofs.Words.{kept_segment, IsSegmentOf, HoldsImage, IsQuiet, entry_of, Stands, AreIndexed, Ascend, AreReported}
+use Rattle.fb_tasks.proofs.Words.{kept_segment, IsSegmentOf, HoldsImage, IsQuiet, entry_of, Stands, AreNumbered, Ascend, AreReported}
 use Rattle.fb_tasks.proofs.Words.{IsAtWork, IsCutFrom, Tells, MayTake, IsCall, all_weaker, some_same, number_other, one_or_other}
 use Rattle.fb_tasks.proofs.Words.{all_append, any_none, each_push, get_or_push, length-map, map-append, slice_get-get_or, slice_get_within}
 use Rattle.fb_tasks.proofs.Words.{places, is_clean, is_backup, Content, drop-append_seam, cutting, is_within, Wanted, is_delivered}
 use Rattle.fb_tasks.proofs.Words.{take_call, blocks_by, HasBegun, is_done, new_entries, entries_by, cuts_are, filter_none}
 use Rattle.fb_tasks.proofs.Rules.{opened_same, open_there, terms_there, given_few}
 use Rattle.fb_tasks.proofs.{Frames.kept-entries, Frames.one-tells, States.seen}
-use Rattle.fb_tasks.proofs.Registered.{named_same, indexed_append, fresh_wanted, registered-entries}
-use Rattle.fb_tasks.proofs.Cuts.{cuts_placed, cuts_ascend, cuts_indexed, cuts_own, cuts_count}
+use Rattle.fb_tasks.proofs.Registered.{named_same, numbered_joined, fresh_wanted, registered-entries}
+use Rattle.fb_tasks.proofs.Cuts.{cuts_placed, cuts_ascend, cuts_numbered, cuts_own, cuts_count}
 use Rattle.fb_calls.specs.Allowed as allowed
 use Rattle.fb_clean.specs.Segments as clean
 use Rattle.fb_wanted.specs.Numbering as numbering
@@ -111,7 +111,7 @@ opened-tells disk past call kind weight block items seen more session held is sa
             (λ b on. let task : b.task < length (tasks (called call [] ∷ past)) = omega (arith, on.task, longer) in assumption (task, on))
             (registered past) h.on_disk);
         placed = λ t. one_or_other (λ t. IsPlaced disk (view (called call [] ∷ past) t).work) call.task t
-            (rw own_now (record { indexed = rw none tt; segments = rw before.segments tt })) (λ other. rw (others t other) (h.placed t));
+            (rw own_now (record { numbered = rw none tt; segments = rw before.segments tt })) (λ other. rw (others t other) (h.placed t));
         unopened = λ t beyond. rw (others t (number_other call.task t (λ e. absurd (omega (arith, longer, next)))))
             (h.unopened t (omega (arith, longer, beyond)));
       };
@@ -223,7 +223,7 @@ added-tells disk past call task first blocks age live seen session log held is w
     (λ t. state_in (view past t) b ≡ state_in (view (called call [] ∷ past) t) b) task t (rw own_now refl)
     (λ other. rw (others t other) refl)) (registered past)))
     (rw own_now (record {
-      indexed = placed.indexed;
+      numbered = placed.numbered;
       segments = all_append (IsSegmentOf disk (view past task).terms.block) (view past task).segments
           (next_segment (view past task) first blocks age live ∷ []) placed.segments (
             (
@@ -308,7 +308,7 @@ module _ (disk : Shape) (past : Past) (call : Call) (task first count : ℕ) (is
     (own : AllByRecursion (λ b. b.task ≡ task) added) where
   pub wanting-tells : (sessions : List Session) (session : Session) (held now : List Entry) → slice_get sessions task ≡ Some session
       → task < length (tasks past) → is_clean session.kind ≡ false → is_backup session.kind && (view past task).wants ≡ false
-      → Ascend 0 added → AreIndexed (length (view past task).blocks) added → AllByRecursion (IsBlockOf disk (length (tasks past))) added
+      → Ascend 0 added → AreNumbered (length (view past task).blocks) added → AllByRecursion (IsBlockOf disk (length (tasks past))) added
       → now ≡ held ++ new_entries session added → Tells disk past sessions held
       → Tells disk (called call added ∷ past) (set sessions task (record session { touched = true })) now
   wanting-tells sessions session held now there opened other once ascends after on_disk pushed h =
@@ -322,10 +322,10 @@ module _ (disk : Shape) (past : Past) (call : Call) (task first count : ℕ) (is
       one-tells disk past (called call added) task others kept sessions (record session { touched = true }) held now opened
       (all_append (IsBlockOf disk (length (tasks past))) (registered past) added h.on_disk on_disk)
       (registered-entries past (called call added ∷ past) task added others (λ block. ap (λ v. v.bare block) own_now)
-      (ap (λ v. v.suspended) own_now) placed.indexed after own session held now told.suspended h.entries pushed)
+      (ap (λ v. v.suspended) own_now) placed.numbered after own session held now told.suspended h.entries pushed)
       (rw own_now (record {
-        indexed = indexed_append 0 (view past task).blocks added placed.indexed (let e : length (view past task).blocks
-            ≡ 0 + length (view past task).blocks = omega arith in subst (λ n. AreIndexed n added) e after);
+        numbered = numbered_joined 0 (view past task).blocks added placed.numbered (let e : length (view past task).blocks
+            ≡ 0 + length (view past task).blocks = omega arith in subst (λ n. AreNumbered n added) e after);
         segments = placed.segments;
       }))
       (rw own_now (wanted-told task added (view past task) session other once ascends own told)) h
@@ -351,7 +351,7 @@ wanted-tells disk past call task first count seen touched session held now small
     rw (taken, flagged session there) (wanting-tells disk past call task first count is (numbered task session.weight next cuts)
     (cuts_own task session.weight next cuts) seen session held now there may.opened may.other may.once
     (cuts_ascend disk task session.weight session.block next first (first + count) 0 cuts (omega arith) are)
-    (cuts_indexed task session.weight next cuts)
+    (cuts_numbered task session.weight next cuts)
     (cuts_placed disk (length (tasks past)) task session.weight session.block next first
     (first + count) cuts may.opened may.stands.weight may.stands.block.1 may.on_disk (omega (arith, may.on_disk, small)) are)
     (pushed ∙ ap (λ bs. held ++ new_entries session bs) added_are) h.tells)

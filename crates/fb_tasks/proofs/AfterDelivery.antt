@@ -187,7 +187,7 @@ module _ {disk : Shape} {past : Past} {sessions : List Session} {held now : List
       blocks = held-now got t.may now t.is;
       stands = rw (delivered-view past got got.block.task refl)
           (delivered-stands (view past got.block.task) got was.own_place was.own_there was.bare
-          t.may.content_at old mid (t.may.tells.placed got.block.task).indexed t.may.content taken told-own.stands);
+          t.may.content_at old mid (t.may.tells.placed got.block.task).numbered t.may.content taken told-own.stands);
       reported = rw (delivered-view past got got.block.task refl)
           (others-silent (view past got.block.task) got old mid told-own.stands told-own.reported
           (ap (λ (s : Session). s.log.unfinished) taken.same));

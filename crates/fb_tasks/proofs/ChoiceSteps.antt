@@ -7,14 +7,14 @@ use Rattle.fb_tasks.proofs.Words.{none-some, Shape, places, live_cuts, Block, En
 use Rattle.fb_tasks.proofs.Words.{registered, Choice, TaskView, view, own_of, chosen_view, is_cleaned, is_choice_of, Work, is_unsealed}
 use Rattle.fb_tasks.proofs.Words.{chosen-silent, chosen-view, number_same, numbered, is_better, is_chosen, unchosen, live_count, is_busy}
 use Rattle.fb_tasks.proofs.Words.{choose_best, choose_once, Session, new_entries, is_none, cuts_of, Cleans, HoldsBlocks, HoldsBlock}
-use Rattle.fb_tasks.proofs.Words.{IsPlaced, IsCutFrom, IsBlockOf, IsSegmentOf, AreIndexed, choice_in, kept_segment, CleansBy, HoldsChoice}
+use Rattle.fb_tasks.proofs.Words.{IsPlaced, IsCutFrom, IsBlockOf, IsSegmentOf, AreNumbered, choice_in, kept_segment, CleansBy, HoldsChoice}
 use Rattle.fb_tasks.proofs.Words.{Ascend, IsAtNumber, entry_of, Stands, MayChoose, choosable_by, HoldsImage, all_weaker, all_with}
 use Rattle.fb_tasks.proofs.Words.{all_append, all_filter, all_pass, all_flat, all_same, number_other, none_pass, one_or_other, some_same}
 use Rattle.fb_tasks.proofs.Words.{filter_same, nat_tests, or-true, length-map, map-append, nil_from_length, filter-append, Kind, is_backup}
 use Rattle.fb_tasks.proofs.Words.{is_clean, ContentRun, runs_of, sectors_of, BackRow, SegmentLine, segment_rows_found, is_newly_cleaned}
 use Rattle.fb_tasks.proofs.Words.{found_for, held_at, HasTurned}
-use Rattle.fb_tasks.proofs.Registered.{fresh_wanted, no_smaller, indexed_append, registered-entries, named_same}
-use Rattle.fb_tasks.proofs.Cuts.{cuts_own, cuts_indexed, cuts_count}
+use Rattle.fb_tasks.proofs.Registered.{fresh_wanted, no_smaller, numbered_joined, registered-entries, named_same}
+use Rattle.fb_tasks.proofs.Cuts.{cuts_own, cuts_numbered, cuts_count}
 use Rattle.fb_tasks.proofs.Segmented.{NumberedFrom, at_number, live_placed, live_cover, live_ascend, numbered_given, choice_kept}
 use Rattle.fb_tasks.proofs.Segmented.{live_there, live_some, cuts_of_live, sum_without}
 use Rattle.fb_tasks.proofs.{Complete.busy_by, States.seen}
@@ -52,12 +52,12 @@ chosen_blocks disk task v segment = numbered task v.terms.weight (length v.block
 abbrev pub chosen_for : Shape → ℕ → TaskView → LogSegment → Choice
 chosen_for disk task v segment = record { segment = segment; blocks = chosen_blocks disk task v segment }
 
-indexed_below : (n : ℕ) (bs : List Block) → AreIndexed n bs → AllByRecursion (λ b. b.number < n + length bs) bs
-indexed_below n [] h = tt
-indexed_below n (b ∷ bs) h = (
+numbered_below : (n : ℕ) (bs : List Block) → AreNumbered n bs → AllByRecursion (λ b. b.number < n + length bs) bs
+numbered_below n [] h = tt
+numbered_below n (b ∷ bs) h = (
   omega (arith, h.0),
   all_weaker (λ c. c.number < n + 1 + length bs) (λ c. c.number < n + length (b ∷ bs)) (λ c less. omega (arith, less)) bs
-      (indexed_below (n + 1) bs h.1),
+      (numbered_below (n + 1) bs h.1),
 )
 
 module _ (disk : Shape) (task : ℕ) (v : TaskView) (best : LogSegment) where
@@ -73,8 +73,8 @@ module _ (disk : Shape) (task : ℕ) (v : TaskView) (best : LogSegment) where
   pub added_own : AllByRecursion (λ block. block.task ≡ task) (chosen_blocks disk task v best)
   added_own = cuts_own task v.terms.weight (length v.blocks) (live_cuts disk v.terms.block best.first best.live)
 
-  pub added_indexed : AreIndexed (length v.blocks) (chosen_blocks disk task v best)
-  added_indexed = cuts_indexed task v.terms.weight (length v.blocks) (live_cuts disk v.terms.block best.first best.live)
+  pub added_numbered : AreNumbered (length v.blocks) (chosen_blocks disk task v best)
+  added_numbered = cuts_numbered task v.terms.weight (length v.blocks) (live_cuts disk v.terms.block best.first best.live)
 
   -- the segment is kept as chosen
   kept_all : (ss : List LogSegment) → clean.without best.number (map (kept_segment v.work) ss) ≡ map (kept_segment new.work) ss
@@ -82,28 +82,28 @@ module _ (disk : Shape) (task : ℕ) (v : TaskView) (best : LogSegment) where
   kept_all (s ∷ ss) = grind (arith, nat_tests, kept_all ss, list_any-append (is_choice_of s) v.choices (choice ∷ []))
 
   -- the blocks before stay, and the new ones are wanted
-  pub old_bare : AreIndexed 0 v.blocks
+  pub old_bare : AreNumbered 0 v.blocks
       → AllByRecursion (λ block. (chosen_view task (chosen_for disk task v best) v).bare block ≡ v.bare block) v.blocks
-  old_bare indexed = all_weaker (λ b. b.number < 0 + length v.blocks) (λ block. new.bare block ≡ v.bare block)
-      (λ block less. rw (no_smaller (own_of task block) (length v.blocks) fresh (omega (arith, less)) added_indexed) refl) v.blocks
-      (indexed_below 0 v.blocks indexed)
+  old_bare are_numbered = all_weaker (λ b. b.number < 0 + length v.blocks) (λ block. new.bare block ≡ v.bare block)
+      (λ block less. rw (no_smaller (own_of task block) (length v.blocks) fresh (omega (arith, less)) added_numbered) refl) v.blocks
+      (numbered_below 0 v.blocks are_numbered)
 
   pub new_bare : AllByRecursion (λ block. (chosen_view task (chosen_for disk task v best) v).bare block ≡ Wanted)
       (chosen_blocks disk task v best)
   new_bare = fresh_wanted task fresh v.bare new.bare (λ _. refl) added_own
 
-  pub cleaned_same : AreIndexed 0 v.blocks → v.blocks ≡ flat_map (λ choice. choice.blocks) v.choices → AllByRecursion
+  pub cleaned_same : AreNumbered 0 v.blocks → v.blocks ≡ flat_map (λ choice. choice.blocks) v.choices → AllByRecursion
       (λ choice. is_cleaned (chosen_view task (chosen_for disk task v best) v).work choice ≡ is_cleaned v.work choice) v.choices
-  cleaned_same indexed blocks = all_weaker (λ (c : Choice). AllByRecursion (λ block. new.bare block ≡ v.bare block) c.blocks)
+  cleaned_same are_numbered blocks = all_weaker (λ (c : Choice). AllByRecursion (λ block. new.bare block ≡ v.bare block) c.blocks)
       (λ c. is_cleaned new.work c ≡ is_cleaned v.work c)
       (λ c all. all_same (λ block. is_delivered (new.bare block)) (λ block. is_delivered (v.bare block)) c.blocks
       (all_weaker (λ block. new.bare block ≡ v.bare block) (λ block. is_delivered (new.bare block) ≡ is_delivered (v.bare block))
       (λ block e. ap is_delivered e) c.blocks all))
       v.choices (all_flat (λ block. new.bare block ≡ v.bare block) (λ (c : Choice). c.blocks) v.choices
-      (subst (AllByRecursion (λ block. new.bare block ≡ v.bare block)) blocks (old_bare indexed)))
+      (subst (AllByRecursion (λ block. new.bare block ≡ v.bare block)) blocks (old_bare are_numbered)))
 
   module _ (log : clean.Cleaning) (h : Cleans v.work log) (idle : log.unfinished ≡ None) (going : v.closed ≡ false)
-      (is_left : IsLeft disk v best) (some : 0 < v.terms.block) (indexed : AreIndexed 0 v.blocks) where
+      (is_left : IsLeft disk v best) (some : 0 < v.terms.block) (are_numbered : AreNumbered 0 v.blocks) where
     -- nothing is at work
     all_done : v.choices ≡ h.done
     all_done = by h.current h.by where
@@ -114,7 +114,7 @@ module _ (disk : Shape) (task : ℕ) (v : TaskView) (best : LogSegment) where
     cleaned_all : AllByRecursion (λ c. is_cleaned new.work c ≡ true) h.done
     cleaned_all =
         all_with (λ c. is_cleaned new.work c ≡ is_cleaned v.work c) (λ c. is_cleaned v.work c ≡ true) (λ c. is_cleaned new.work c ≡ true)
-        (λ c same e. same ∙ e) h.done (rw all_done at (cleaned_same indexed h.blocks)) h.cleaned
+        (λ c same e. same ∙ e) h.done (rw all_done at (cleaned_same are_numbered h.blocks)) h.cleaned
 
     -- the choices and the blocks with the new one, whether or not it is cleaned at once
     module _ (done : List Choice) (current : Option Choice) (split : v.choices ++ choice ∷ [] ≡ done ++ choice_in current)
@@ -179,21 +179,21 @@ chosen-holds disk past task best session held now opened light some short small 
     let v = view past task in
     let blocks = chosen_blocks disk task (view past task) best in
     let own = added_own disk task v best in
-    let indexed = added_indexed disk task v best in
+    let are_numbered = added_numbered disk task v best in
     let own_now = chosen-view past task best blocks own task refl in
     let others = chosen-silent past task best blocks own in
     let placed = h.placed task in
     let whole : best.first + length best.live * (view past task).terms.block ≤ length (places disk) = rw on_disk.1 on_disk.0 in
     record {
       entries = registered-entries past (chose task best blocks ∷ past) task blocks others (λ block. ap (λ x. x.bare block) own_now)
-          (ap (λ x. x.suspended) own_now) placed.indexed indexed own session held now says h.entries pushed;
+          (ap (λ x. x.suspended) own_now) placed.numbered are_numbered own session held now says h.entries pushed;
       on_disk = all_append (IsBlockOf disk (length (tasks past))) (registered past) blocks h.on_disk
           (live_placed disk (length (tasks past)) task v.terms.weight v.terms.block
           (length v.blocks) best.first best.live opened light some short whole (omega (arith, whole, small)));
       placed = λ t. one_or_other (λ t. IsPlaced disk (view (chose task best blocks ∷ past) t).work) task t
           (rw own_now (record {
-            indexed = indexed_append 0 v.blocks blocks placed.indexed (subst (λ n. AreIndexed n blocks)
-                (let e : length (view past task).blocks ≡ 0 + length (view past task).blocks = omega arith in e) indexed);
+            numbered = numbered_joined 0 v.blocks blocks placed.numbered (subst (λ n. AreNumbered n blocks)
+                (let e : length (view past task).blocks ≡ 0 + length (view past task).blocks = omega arith in e) are_numbered);
             segments = placed.segments;
           })) (λ other. rw (others t other) (h.placed t));
       unopened = λ t more. rw (others t (number_other task t (λ e. absurd (omega arith)))) (h.unopened t more);
@@ -372,7 +372,7 @@ module _ {disk : Shape} {past : Past} {task : ℕ} {session : Session} {held : L
       (all_weaker (λ choice. is_cleaned (after best).work choice ≡ is_cleaned v.work choice)
       (λ choice. is_newly_cleaned (after best).work choice ≡ is_newly_cleaned v.work choice)
       (λ choice same. ap (λ b. b && not (v.reported choice.segment.number)) same) v.choices
-      (cleaned_same disk task v best (may.blocks.placed task).indexed log_is.blocks)) in
+      (cleaned_same disk task v best (may.blocks.placed task).numbered log_is.blocks)) in
       segment_rows_is (next best) now task ∙ (ap (λ v. segment_rows_of v.work now task) (next_view disk past task best)
       ∙ rw (segment_rows_is past now task, filter-append, map-append, same) refl)
 
@@ -445,7 +445,7 @@ module _ {disk : Shape} {past : Past} {task : ℕ} {session : Session} {held : L
           → HasTurned disk past (choose_once disk task past) task instant (record session { log = log }) now old old
       live-turned some =
           let chosen =
-          chosen-by disk task v step.best session.log log_is step.idle going step.left some_block (may.blocks.placed task).indexed in
+          chosen-by disk task v step.best session.log log_is step.idle going step.left some_block (may.blocks.placed task).numbered in
           let some_added : 0 < length (added step.best) = omega (
             arith,
             cuts_count task v.terms.weight (length v.blocks) (live_cuts disk v.terms.block step.best.first step.best.live),
@@ -480,7 +480,8 @@ module _ {disk : Shape} {past : Past} {task : ℕ} {session : Session} {held : L
           nil_from_length (clean.live_blocks v.terms.block step.best.first step.best.live) (sym live_length ∙ none) in
           let empty : added step.best ≡ [] = rw (← cuts_of_live disk v.terms.block step.best.first step.best.live, live_none) refl in
           let emptied =
-          emptied-by disk task v step.best session.log log_is step.idle going step.left some_block (may.blocks.placed task).indexed empty in
+          emptied-by disk task v step.best session.log log_is step.idle going step.left some_block (may.blocks.placed task).numbered
+          empty in
           let cleaned : is_cleaned (after step.best).work (chosen_for disk task v step.best) ≡ true =
           ap (list_all (λ block. is_delivered ((after step.best).bare block))) empty in
           let silent : v.reported step.best.number ≡ false = grind (arith, log_is.reported step.best.number, step.left.left) in

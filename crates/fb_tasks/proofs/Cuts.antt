@@ -2,7 +2,7 @@
 use Rattle.fb_units.proofs.Lists.{drop_at}
 use Rattle.fb_tasks.proofs.Words.{◌≡◌, ℕ, suc, ◌+◌, ◌-◌, ◌^◌, ◌<◌, ◌≤◌, List, [], ◌∷◌, ◌++◌, length, refl, ap, sym, ◌∙◌, arith, subst, Some}
 use Rattle.fb_tasks.proofs.Words.{drop, slice_get, append_assoc, length-append, AllByRecursion, flat_map, range_with_len, Shape, places}
-use Rattle.fb_tasks.proofs.Words.{Cut, IsOneTurn, cutting, numbered, AreCuts, cuts_rise, IsBlockOf, AreIndexed, Ascend, map-append}
+use Rattle.fb_tasks.proofs.Words.{Cut, IsOneTurn, cutting, numbered, AreCuts, cuts_rise, IsBlockOf, AreNumbered, Ascend, map-append}
 use Rattle.fb_tasks.proofs.Words.{length-map, drop_more, filter-append, Block, Entry, blocks_of, Session, new_entries, cuts_of}
 use Rattle.fb_tasks.proofs.Words.{slice_get_within, get_or_from_slice_get}
 use Rattle.fb_tasks.proofs.Registered.{all_own}
@@ -50,9 +50,9 @@ cuts_end disk task weight block n from end (cut ∷ cuts) h = (
   cuts_end disk task weight block (n + 1) (from + cut.count) end cuts h.4,
 )
 
-pub cuts_indexed : (task weight n : ℕ) (cuts : List Cut) → AreIndexed n (numbered task weight n cuts)
-cuts_indexed task weight n [] = tt
-cuts_indexed task weight n (cut ∷ cuts) = (refl, cuts_indexed task weight (n + 1) cuts)
+pub cuts_numbered : (task weight n : ℕ) (cuts : List Cut) → AreNumbered n (numbered task weight n cuts)
+cuts_numbered task weight n [] = tt
+cuts_numbered task weight n (cut ∷ cuts) = (refl, cuts_numbered task weight (n + 1) cuts)
 
 pub cuts_own : (task weight n : ℕ) (cuts : List Cut) → AllByRecursion (λ block. block.task ≡ task) (numbered task weight n cuts)
 cuts_own task weight n [] = tt

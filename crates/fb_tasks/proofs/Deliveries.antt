@@ -6,7 +6,7 @@ use Rattle.fb_tasks.proofs.Words.{AllByRecursion, list_any, flat_map, range_with
 use Rattle.fb_tasks.proofs.Words.{Gives, after_take, held_in, sectors_of, is_within, Block, Deliver, Entry, Wanted, Delivered, after}
 use Rattle.fb_tasks.proofs.Words.{is_delivered, is_wanted, DeliveryRow, Past, delivered, registered, wanted, state, Choice, TaskView, view}
 use Rattle.fb_tasks.proofs.Words.{state_in, delivered_view, is_cleaned, is_over, delivered-silent, delivered-view, number_same, entry_of}
-use Rattle.fb_tasks.proofs.Words.{HoldsBlock, AreIndexed, Ascend, Stands, Cleans, IsUntouched, IsPlaced, HoldsBlocks, HoldsChoice}
+use Rattle.fb_tasks.proofs.Words.{HoldsBlock, AreNumbered, Ascend, Stands, Cleans, IsUntouched, IsPlaced, HoldsBlocks, HoldsChoice}
 use Rattle.fb_tasks.proofs.Words.{choice_in, CleansBy, some_same, all_any, all_at, all_weaker, all_with, same_number, other_number}
 use Rattle.fb_tasks.proofs.Words.{list_all_each, none_pass, all_right, all_flat, filter_from, filter_to, all_both, none-some, Shape}
 use Rattle.fb_tasks.proofs.Words.{is_backup, held_at, Session, HasTaken, is_unsealed, HoldsImage, is_clean}
@@ -21,24 +21,24 @@ get_append (y ∷ xs) ys zero x h = inl h
 get_append (y ∷ xs) ys (suc i) x h = get_append xs ys i x h
 
 -- blocks are told apart by their numbers
-pub indexed_from : (n : ℕ) (bs : List Block) → AreIndexed n bs → AllByRecursion (λ b. n ≤ b.number) bs
-indexed_from n [] h = tt
-indexed_from n (b ∷ bs) h = (
+pub numbered_from : (n : ℕ) (bs : List Block) → AreNumbered n bs → AllByRecursion (λ b. n ≤ b.number) bs
+numbered_from n [] h = tt
+numbered_from n (b ∷ bs) h = (
   omega (arith, h.0),
-  all_weaker (λ c. n + 1 ≤ c.number) (λ c. n ≤ c.number) (λ c le. omega (arith, le)) bs (indexed_from (n + 1) bs h.1),
+  all_weaker (λ c. n + 1 ≤ c.number) (λ c. n ≤ c.number) (λ c le. omega (arith, le)) bs (numbered_from (n + 1) bs h.1),
 )
 
-pub only_one : (n : ℕ) (bs : List Block) (i : ℕ) (x : Block) → AreIndexed n bs → slice_get bs i ≡ Some x
+pub only_one : (n : ℕ) (bs : List Block) (i : ℕ) (x : Block) → AreNumbered n bs → slice_get bs i ≡ Some x
     → AllByRecursion (λ b. b.number ≡ x.number → b ≡ x) bs
 only_one n [] i x h at = tt
 only_one n (b ∷ bs) zero x h at =
     let e = some_same b x at in (
       (λ same. e),
       all_weaker (λ c. n + 1 ≤ c.number) (λ c. c.number ≡ x.number → c ≡ x)
-          (λ c le same. absurd (omega (arith, le, same, h.0, ap (λ (z : Block). z.number) e))) bs (indexed_from (n + 1) bs h.1),
+          (λ c le same. absurd (omega (arith, le, same, h.0, ap (λ (z : Block). z.number) e))) bs (numbered_from (n + 1) bs h.1),
     )
 only_one n (b ∷ bs) (suc i) x h at = (
-  (λ same. absurd (omega (arith, same, h.0, all_at (λ c. n + 1 ≤ c.number) bs i x (indexed_from (n + 1) bs h.1) at))),
+  (λ same. absurd (omega (arith, same, h.0, all_at (λ c. n + 1 ≤ c.number) bs i x (numbered_from (n + 1) bs h.1) at))),
   only_one (n + 1) bs i x h.1 at,
 )
 
@@ -177,8 +177,8 @@ module _ (disk : Shape) (past : Past) (got : DeliveryRow) where
 -- the task's own view
 module _ (v : TaskView) (got : DeliveryRow) (place : ℕ) (there : slice_get v.blocks place ≡ Some got.block)
     (bare : v.bare got.block ≡ Wanted) where
-  single : AreIndexed 0 v.blocks → AllByRecursion (λ b. b.number ≡ got.block.number → b ≡ got.block) v.blocks
-  single indexed = only_one 0 v.blocks place got.block indexed there
+  single : AreNumbered 0 v.blocks → AllByRecursion (λ b. b.number ≡ got.block.number → b ≡ got.block) v.blocks
+  single are_numbered = only_one 0 v.blocks place got.block are_numbered there
 
   cleaned_still : (cs : List Choice) → AllByRecursion (λ choice. is_cleaned v.work choice ≡ true) cs
       → AllByRecursion (λ choice. is_cleaned (delivered_view got v).work choice ≡ true) cs
@@ -196,12 +196,12 @@ module _ (v : TaskView) (got : DeliveryRow) (place : ℕ) (there : slice_get v.b
     none_there None by = none-some got.block (in_current v got h.done [] place (rw (by.blocks, by.chosen) at there) by.cleaned bare).1
     none_there (Some choice) by = none-some choice.segment.number (sym idle ∙ by.unfinished)
 
-  delivered-cleans : (content_at : ℕ → Content) (old : clean.Cleaning) (now : List (List (ℕ × Option Content))) → AreIndexed 0 v.blocks
+  delivered-cleans : (content_at : ℕ → Content) (old : clean.Cleaning) (now : List (List (ℕ × Option Content))) → AreNumbered 0 v.blocks
       → Gives got.content content_at got.block.lbn got.block.count
       → ((number lbn : ℕ) → old.unfinished ≡ Some number → clean.taken_for (record old { taken = now }) number lbn
       ≡ after_take content_at got.block.lbn got.block.count lbn (clean.taken_for old number lbn))
       → Cleans v.work old → Cleans (delivered_view got v).work (record old { taken = now })
-  delivered-cleans content_at old now indexed gives takes h =
+  delivered-cleans content_at old now are_numbered gives takes h =
       let cleaned = cleaned_still h.done h.cleaned in
       let taken = taken_now h.current h.by in
       let over : v.closed ≡ true → AllByRecursion (λ b. is_over ((delivered_view got v).bare b) ≡ true) v.blocks = λ closed.
@@ -217,25 +217,25 @@ module _ (v : TaskView) (got : DeliveryRow) (place : ℕ) (there : slice_get v.b
             let only =
             all_right (λ (c : Choice). AllByRecursion (λ b. b.number ≡ got.block.number → b ≡ got.block) c.blocks) h.done (choice ∷ [])
             (all_flat (λ b. b.number ≡ got.block.number → b ≡ got.block) (λ (c : Choice). c.blocks) (h.done ++ choice ∷ [])
-            (rw whole at (single indexed))) in (
+            (rw whole at (single are_numbered))) in (
               taken-holds v got (clean.taken_for old choice.segment.number)
                   (clean.taken_for (record old { taken = now }) choice.segment.number) content_at 0 there_now.0 choice.blocks
                   (λ lbn. takes choice.segment.number lbn by.unfinished) gives by.ascend.0 (rw append-nil at there_now.1) only.0 by.taken.0,
               tt,
             )
 
-  pub delivered-stands : (content_at : ℕ → Content) (old new : Session) → AreIndexed 0 v.blocks
+  pub delivered-stands : (content_at : ℕ → Content) (old new : Session) → AreNumbered 0 v.blocks
       → Gives got.content content_at got.block.lbn got.block.count → HasTaken content_at got.block old new → Stands v old
       → Stands (delivered_view got v) new
-  delivered-stands content_at old new indexed gives takes h =
+  delivered-stands content_at old new are_numbered gives takes h =
       let image : is_unsealed v ≡ true → HoldsImage (delivered_view got v).work (held_at new.image) = λ is_open.
       let backup : is_backup old.kind ≡ true = ap (λ t. is_backup t.kind) (sym h.terms)
       ∙ (and_parts (is_backup v.terms.kind) (not v.sealed) is_open).0 in
       let image = h.image is_open in record {
         each = taken-holds v got (held_at old.image) (held_at new.image) content_at 0 place v.blocks (takes.image backup) gives
-            (h.ascend backup) there (single indexed) image.each;
+            (h.ascend backup) there (single are_numbered) image.each;
         only = taken-only v got (held_at old.image) (held_at new.image) content_at place v.blocks (takes.image backup) there image.only;
       } in
       let log = λ (cleans : is_clean old.kind ≡ true).
-      delivered-cleans content_at old.log new.log.taken indexed gives (takes.log cleans) (h.log cleans) in
+      delivered-cleans content_at old.log new.log.taken are_numbered gives (takes.log cleans) (h.log cleans) in
       rw takes.same (assumption (image, log, h))

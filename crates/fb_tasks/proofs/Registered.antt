@@ -2,7 +2,7 @@
 use Rattle.fb_tasks.proofs.Words.{State, ◌≡◌, ℕ, suc, ◌+◌, ◌<◌, ◌==◌, if◌then◌else◌, List, [], ◌∷◌, ◌++◌, true, false, inl, inr, length}
 use Rattle.fb_tasks.proofs.Words.{filter, map, refl, ap, sym, ◌∙◌, arith, subst, or-true, AllByRecursion, list_any, cases_Bool, map-append}
 use Rattle.fb_tasks.proofs.Words.{Block, Entry, Wanted, wanted_unless, Past, registered, same_block, view, own_of, state_in, number_same}
-use Rattle.fb_tasks.proofs.Words.{Session, new_entries, entry_of, AreIndexed, entry_in, all_weaker, all_pass, all_with, map_same}
+use Rattle.fb_tasks.proofs.Words.{Session, new_entries, entry_of, AreNumbered, entry_in, all_weaker, all_pass, all_with, map_same}
 use Rattle.fb_tasks.proofs.Words.{same_number, other_number, one_or_other, nat_tests}
 use Rattle.fb_tasks.proofs.States.{seen}
 use Rattle.fb_model.specs.History.{blocks_of}
@@ -21,7 +21,7 @@ all_member (b ∷ bs) = (
 )
 
 -- blocks that are numbered on from n have no smaller number
-pub no_smaller : (block : Block) (n : ℕ) (added : List Block) → block.number < n → AreIndexed n added
+pub no_smaller : (block : Block) (n : ℕ) (added : List Block) → block.number < n → AreNumbered n added
     → list_any (same_block block) added ≡ false
 no_smaller block n [] less h = refl
 no_smaller block n (b ∷ bs) less h = grind (arith, nat_tests, h.0, no_smaller block (n + 1) bs (omega arith) h.1)
@@ -32,18 +32,18 @@ no_own block task [] other h = refl
 no_own block task (b ∷ bs) other h = grind (arith, nat_tests, h.0, no_own block task bs other h.1)
 
 -- the numbers of a task's blocks are below their number
-pub indexed_below : (task n total : ℕ) (bs : List Block) → n + length (filter (λ b. b.task == task) bs) ≡ total
-    → AreIndexed n (filter (λ b. b.task == task) bs) → AllByRecursion (λ block. block.task ≡ task → block.number < total) bs
-indexed_below task n total [] e h = tt
-indexed_below task n total (b ∷ bs) e h = elim (cases_Bool (b.task == task)) [
+pub numbered_below : (task n total : ℕ) (bs : List Block) → n + length (filter (λ b. b.task == task) bs) ≡ total
+    → AreNumbered n (filter (λ b. b.task == task) bs) → AllByRecursion (λ block. block.task ≡ task → block.number < total) bs
+numbered_below task n total [] e h = tt
+numbered_below task n total (b ∷ bs) e h = elim (cases_Bool (b.task == task)) [
   | inl own ↦ let k = rw own at h in let f = rw own at e in
-      ((λ mine. omega (arith, k.0, f)), indexed_below task (n + 1) total bs (omega (arith, f)) k.1)
-  | inr other ↦ ((λ mine. absurd (other_number b.task task other mine)), indexed_below task n total bs (rw other at e) (rw other at h))
+      ((λ mine. omega (arith, k.0, f)), numbered_below task (n + 1) total bs (omega (arith, f)) k.1)
+  | inr other ↦ ((λ mine. absurd (other_number b.task task other mine)), numbered_below task n total bs (rw other at e) (rw other at h))
 ]
 
 -- no block that is registered already is registered again
-pub none_again : (past : Past) (task : ℕ) (added : List Block) → AreIndexed 0 (blocks_of past task)
-    → AreIndexed (length (blocks_of past task)) added → AllByRecursion (λ b. b.task ≡ task) added
+pub none_again : (past : Past) (task : ℕ) (added : List Block) → AreNumbered 0 (blocks_of past task)
+    → AreNumbered (length (blocks_of past task)) added → AllByRecursion (λ b. b.task ≡ task) added
     → AllByRecursion (λ block. list_any (same_block block) added ≡ false) (registered past)
 none_again past task added before after own =
     all_weaker (λ block. block.task ≡ task → block.number < length (blocks_of past task))
@@ -51,7 +51,7 @@ none_again past task added before after own =
     (λ block less. elim (cases_Bool (block.task == task)) [
       | inl mine ↦ no_smaller block (length (blocks_of past task)) added (less (same_number block.task task mine)) after
       | inr other ↦ no_own block task added (other_number block.task task other) own
-    ]) (registered past) (indexed_below task 0 (length (blocks_of past task)) (registered past) (omega arith) before)
+    ]) (registered past) (numbered_below task 0 (length (blocks_of past task)) (registered past) (omega arith) before)
 
 -- the blocks of a task are its own
 pub own : (past : Past) (task : ℕ) → AllByRecursion (λ block. block.task ≡ task) (view past task).blocks
@@ -59,11 +59,11 @@ unfolding view
 own past task = all_weaker (λ block. (block.task == task) ≡ true) (λ block. block.task ≡ task) (λ block. same_number block.task task)
     (blocks_of past task) (all_pass (λ block. block.task == task) (registered past))
 
-pub indexed_append : (n : ℕ) (xs ys : List Block) → AreIndexed n xs → AreIndexed (n + length xs) ys → AreIndexed n (xs ++ ys)
-indexed_append n [] ys p q = subst (λ k. AreIndexed k ys) (let e : n + 0 ≡ n = omega arith in e) q
-indexed_append n (x ∷ xs) ys p q = (
+pub numbered_joined : (n : ℕ) (xs ys : List Block) → AreNumbered n xs → AreNumbered (n + length xs) ys → AreNumbered n (xs ++ ys)
+numbered_joined n [] ys p q = subst (λ k. AreNumbered k ys) (let e : n + 0 ≡ n = omega arith in e) q
+numbered_joined n (x ∷ xs) ys p q = (
   p.0,
-  indexed_append (n + 1) xs ys p.1 (subst (λ k. AreIndexed k ys) (let e : n + suc (length xs) ≡ n + 1 + length xs = omega arith in e) q),
+  numbered_joined (n + 1) xs ys p.1 (subst (λ k. AreNumbered k ys) (let e : n + suc (length xs) ≡ n + 1 + length xs = omega arith in e) q),
 )
 
 -- the wanted set names the registered blocks
@@ -91,7 +91,7 @@ module _ (past new : Past) (task : ℕ) (added : List Block)
     (bare : (block : Block)
     → (view new task).bare block ≡ (if list_any (same_block (own_of task block)) added then Wanted else (view past task).bare block))
     (still : (view new task).suspended ≡ (view past task).suspended)
-    (before : AreIndexed 0 (view past task).blocks) (after : AreIndexed (length (view past task).blocks) added)
+    (before : AreNumbered 0 (view past task).blocks) (after : AreNumbered (length (view past task).blocks) added)
     (own : AllByRecursion (λ b. b.task ≡ task) added) where
   pub old_bare : AllByRecursion (λ block. block.task ≡ task → (view new task).bare block ≡ (view past task).bare block) (registered past)
   old_bare = all_weaker (λ block. list_any (same_block block) added ≡ false)

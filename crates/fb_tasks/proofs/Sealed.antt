@@ -3,7 +3,7 @@ use Rattle.fb_store.proofs.Taken.{held_none}
 use Rattle.fb_tasks.proofs.Words.{◌≡◌, ℕ, zero, suc, ◌+◌, ◌<◌, ◌≤◌, List, [], ◌∷◌, true, false, Some, Option, map, refl, arith, append-nil}
 use Rattle.fb_tasks.proofs.Words.{◌-◌, ◌==◌, ◌&&◌, ◌^◌, not, nat_lt, if◌then◌else◌, ◌++◌, Bool, None, length, filter, take, slice_get}
 use Rattle.fb_tasks.proofs.Words.{ap, ap₂, sym, ◌∙◌, subst, inl, inr, AllByRecursion, range_with_len, flat_map, list_any, list_all}
-use Rattle.fb_tasks.proofs.Words.{Content, held_in, EndsBy, is_within, Block, Ascend, entry_of, entry_in, AreIndexed, IsBlockOf}
+use Rattle.fb_tasks.proofs.Words.{Content, held_in, EndsBy, is_within, Block, Ascend, entry_of, entry_in, AreNumbered, IsBlockOf}
 use Rattle.fb_tasks.proofs.Words.{HoldsBlock, HoldsBlocks, HoldsImage, Stands, all_weaker, all_with, all_filter, all_at, some_same}
 use Rattle.fb_tasks.proofs.Words.{filter_from, map_at, some_at, list_all_each, and-false, and_comm, and-true, or-false, slice_get_within}
 use Rattle.fb_tasks.proofs.Words.{get_or_from_slice_get, take_more, and_parts, cases_Bool, Shape, Kind, Backup, is_backup, ContentRun}
@@ -162,11 +162,11 @@ backup_over w backup complete = by w.terms.kind backup complete where
   by _ is h = absurd (grind arith)
 
 -- the task's block of a number stands among those that are registered
-pub indexed_at : (n k : ℕ) (blocks : List Block) (block : Block) → AreIndexed n blocks → slice_get blocks k ≡ Some block
+pub numbered_at : (n k : ℕ) (blocks : List Block) (block : Block) → AreNumbered n blocks → slice_get blocks k ≡ Some block
     → block.number ≡ n + k
-indexed_at n k [] block h at = absurd (cc)
-indexed_at n zero (b ∷ bs) block h at = rw (sym (some_same b block at)) (omega (arith, h.0))
-indexed_at n (suc k) (b ∷ bs) block h at = omega (arith, indexed_at (n + 1) k bs block h.1 at)
+numbered_at n k [] block h at = absurd (cc)
+numbered_at n zero (b ∷ bs) block h at = rw (sym (some_same b block at)) (omega (arith, h.0))
+numbered_at n (suc k) (b ∷ bs) block h at = omega (arith, numbered_at (n + 1) k bs block h.1 at)
 
 -- the entry of a task's block
 pub record HasEntry (held : List Entry) (task number : ℕ) (entry : Entry) : Type 0 where
@@ -186,7 +186,7 @@ module _ {disk : Shape} {past : Past} {held : List Entry} (h : HoldsBlocks disk 
         at = rw h.entries (map_at (entry_of past) (registered past) place.0 block place.1);
         is_block = rw (
           number_same block.task task mine,
-          number_same block.number number (indexed_at 0 number (view past task).blocks block (h.placed task).indexed at
+          number_same block.number number (numbered_at 0 number (view past task).blocks block (h.placed task).numbered at
               ∙ (let e : 0 + number ≡ number = omega arith in e)),
         ) refl;
         within = (all_at (IsBlockOf disk (length (tasks past))) (registered past) place.0 block h.on_disk place.1).within;

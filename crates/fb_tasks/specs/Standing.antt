@@ -46,9 +46,9 @@ pub record IsBlockOf (disk : Shape) (tasks : ℕ) (block : Block) : Type 0 where
   pub open on use *
 
 -- blocks are numbered on from n
-abbrev pub AreIndexed : ℕ → List Block → Type 0
-AreIndexed n [] = Unit {0}
-AreIndexed n (block ∷ blocks) = (block.number ≡ n) × AreIndexed (n + 1) blocks
+abbrev pub AreNumbered : ℕ → List Block → Type 0
+AreNumbered n [] = Unit {0}
+AreNumbered n (block ∷ blocks) = (block.number ≡ n) × AreNumbered (n + 1) blocks
 
 -- blocks ascend from a sector on, and none shares a sector with another
 abbrev pub Ascend : ℕ → List Block → Type 0
@@ -151,7 +151,7 @@ IsSegmentOf disk block segment =
 
 -- the blocks and the segments of a task are in place
 pub record IsPlaced (disk : Shape) (work : Work) : Type 0 where
-  pub indexed : AreIndexed 0 work.blocks
+  pub numbered : AreNumbered 0 work.blocks
   pub segments : AllByRecursion (IsSegmentOf disk work.terms.block) work.segments
 
 -- the history and the wanted set, whatever the sessions

@@ -32,9 +32,9 @@ module _ (old new : List (List OnTrack)) (track : Track) (change : OnTrack → O
   pub others_within : (t : Track) → same_track track t ≡ false → weight_kept new t ≤ get_or was t.cylinder 0
   others_within t other = subst (λ k. k.weight ≤ get_or was t.cylinder 0) (sym (elsewhere t other)) (h.weights t)
 
-  pub greatest_settled : (is : List ℕ) → length new ≤ length was → length is ≡ length was
+  pub greatest_after : (is : List ℕ) → length new ≤ length was → length is ≡ length was
       → ((t : Track) → weight_kept new t ≤ get_or is t.cylinder 0) → AreGreatest new is
-  greatest_settled is room size weights = record { weights = weights; there = omega (arith, room, size) }
+  greatest_after is room size weights = record { weights = weights; there = omega (arith, room, size) }
 
 -- the bounds of bands hold after the bound of a cylinder and that of its band have changed
 pub bands_set : (cylinders bands : List ℕ) (c weight greatest : ℕ) → AreBands cylinders bands → c < length cylinders

@@ -11,7 +11,7 @@ use Rattle.fb_wanted.proofs.Reading.{its_task_there, its_track_there, weight_sma
 use Rattle.fb_wanted.proofs.Kept.{kept_set, kept_still, changed_offers}
 use Rattle.fb_wanted.proofs.Offering.{offered_still}
 use Rattle.fb_wanted.proofs.Regions.{noted-with_state, short-with_state}
-use Rattle.fb_wanted.proofs.Cylinders.{greatest_same, others_within, greatest_settled}
+use Rattle.fb_wanted.proofs.Cylinders.{greatest_same, others_within, greatest_after}
 use Rattle.fb_wanted.proofs.Deep.{deep_set}
 use Rattle.fb_wanted.proofs.Nearby.{near-with_state}
 use Rattle.fb_wanted.proofs.wanted.Wanted.set_state.Goals as goal
@@ -132,7 +132,7 @@ invariant_of-self c =
     let same = sym (items-with_state state index entry items (here after)) in (
       kept (goal.at.invariant_of-self c).After-reweigh-weight (here after) (mid after),
       subst (λ l. AreNoted l self.streaks) same (noted-with_state state index items self.streaks c.self.invariant.1),
-      greatest_settled old new entry.block.track change self.greatest (greatest_mid after) c.reweigh-weight.ensures.tracks
+      greatest_after old new entry.block.track change self.greatest (greatest_mid after) c.reweigh-weight.ensures.tracks
           c.update_greatest.new.greatest (omega (arith, c.reweigh-weight.ensures.length, (greatest_mid after).there))
           c.update_greatest.ensures.length c.update_greatest.ensures.weights,
       deep_set state index entry items self.depths.items (here after) c.self.invariant.3,
