@@ -33,8 +33,8 @@ use Rattle.fb_model.proofs.Instants.{IsAmong}
 use Rattle.fb_model.proofs.Lists.{all_map, is_by}
 use Rattle.fb_decide.specs.declared.background.Background.{Background}
 use Rattle.fb_decide.specs.Waiting.{left, IsWaiting, AreByArrival}
-use Rattle.fb_decide.specs.Deciding.{next_of, stay_of, prepared, HasServedNext, HasStayed, HasActed, serves_pick, stays_on, stays_last}
-use Rattle.fb_decide.specs.Deciding.{ends_here, HasPrepared, HasDecided}
+use Rattle.fb_decide.specs.Deciding.{next_of, stay_of, ready_to_act, HasServedNext, HasStayed, HasActed, serves_pick, stays_on, stays_last}
+use Rattle.fb_decide.specs.Deciding.{ends_here, IsReadyToAct, HasDecided}
 use Rattle.fb_decide.proofs.Decided.{none_served, taken, taken_ready, start_waiting, ahead_of, plain_next, order_dropped, serves_now}
 use Rattle.fb_decide.proofs.Decided.{stays_next, ends_now, plain_same, starts_from, StartsFrom, HasCome, to_come, among_instants}
 use Rattle.fb_decide.proofs.Decided.{apart_instants, left_later, passed_instants, none_left, rising_instants}
@@ -132,7 +132,7 @@ pub record LeadsOn (inputs : Inputs) (before : Course) (pending : List Request) 
 module _ (inputs : Inputs) (known : AreKnown inputs) (before : Course) (pending : List Request) (count : ℕ) (steps : List Step)
     (so_far : GoesOn inputs before pending count steps)
     (background : Background) (joined called : ℕ) (waiting : List Request)
-    (ready : HasPrepared inputs.disk (requests inputs) inputs.calls
+    (ready : IsReadyToAct inputs.disk (requests inputs) inputs.calls
     (history inputs steps) before pending background joined called waiting) where
   abbrev step_of : Act → List DeliveryRow → Step
   step_of act gots = step_by inputs.disk.map inputs.calls (history inputs steps) act gots
@@ -194,7 +194,7 @@ module _ (inputs : Inputs) (known : AreKnown inputs) (before : Course) (pending 
   -- a request is served
   module _ (request : Request) (others : List Request) (after : Course) (count_after : ℕ)
       (pick : first_least (inputs.key inputs.disk before.head before.now) waiting ≡ Some (request, others))
-      (now_served : HasServedNext inputs.disk request (prepared before background joined called) after)
+      (now_served : HasServedNext inputs.disk request (ready_to_act before background joined called) after)
       (waits : IsWaiting inputs.disk (requests inputs) after.now after.joined count_after others) where
     abbrev this : Served
     this = service inputs.disk before.head before.now request
@@ -304,7 +304,7 @@ module _ (inputs : Inputs) (known : AreKnown inputs) (before : Course) (pending 
 
   -- the head stays, and nothing that is left to be written ends by then
   module _ (instant : ℕ) (upto : before.now ≤ instant) (after : Course)
-      (stayed : HasStayed inputs.disk instant (prepared before background joined called) after)
+      (stayed : HasStayed inputs.disk instant (ready_to_act before background joined called) after)
       (late : AllByRecursion (λ (w : Written). instant < w.passage.end) (all_writes rest)) where
     stays : StepsBy inputs (history inputs steps) before (idling (stay_of before instant)) after
     stays =
@@ -312,7 +312,7 @@ module _ (inputs : Inputs) (known : AreKnown inputs) (before : Course) (pending 
         (mirrors_run inputs run.done rest before.now instant before.store run.replayed late)
 
   leads_by : (instant : ℕ) (after : Course) (count_after : ℕ) (more : Bool)
-      → HasStayed inputs.disk instant (prepared before background joined called) after
+      → HasStayed inputs.disk instant (ready_to_act before background joined called) after
       → (made : StepsBy inputs (history inputs steps) before (idling (stay_of before instant)) after)
       → HasComeTo inputs more after waiting count_after (steps ++ step_of (idling (stay_of before instant)) made.gots ∷ [])
       → decisions_left inputs more after waiting < length (decisions_by inputs before rest)
@@ -328,7 +328,7 @@ module _ (inputs : Inputs) (known : AreKnown inputs) (before : Course) (pending 
   -- until the next instant
   module _ (instant : ℕ) (after : Course) (count_after : ℕ) (empty : waiting ≡ [])
       (next : next_of (slice_get (requests inputs) joined) (slice_get inputs.calls called) ≡ Some instant)
-      (stayed : HasStayed inputs.disk instant (prepared before background joined called) after)
+      (stayed : HasStayed inputs.disk instant (ready_to_act before background joined called) after)
       (waits : IsWaiting inputs.disk (requests inputs) after.now after.joined count_after waiting) where
     less : before.now < instant
     less = to_come inputs before.now joined called come instant next
@@ -423,7 +423,7 @@ module _ (inputs : Inputs) (known : AreKnown inputs) (before : Course) (pending 
     few_served = omega (arith, ap length run.replayed.all, length-append run.done rest, ap length no_rest, so_far.counted, known.list.few)
 
     module _ (later : before.now < inputs.until) (after : Course)
-        (stayed : HasStayed inputs.disk inputs.until (prepared before background joined called) after) where
+        (stayed : HasStayed inputs.disk inputs.until (ready_to_act before background joined called) after) where
       stays_last_time : StepsBy inputs (history inputs steps) before (idling (stay_of before inputs.until)) after
       stays_last_time = stays inputs.until (omega (arith, later)) after stayed (none_late inputs.until)
 
@@ -451,30 +451,32 @@ module _ (inputs : Inputs) (known : AreKnown inputs) (before : Course) (pending 
           leads_by inputs.until after count_after false stayed stays_last_time ends_staying (omega (arith, ap length last_is))
 
     module _ (over : inputs.until ≤ before.now) where
-      ends_now_by : StepsBy inputs (history inputs steps) before (ending before.now) (prepared before background joined called)
+      ends_now_by : StepsBy inputs (history inputs steps) before (ending before.now) (ready_to_act before background joined called)
       ends_now_by = ends_step inputs (history inputs steps) before background joined called ready.test run.tells run.finds
           (mirrors_run inputs run.done rest before.now before.now before.store run.replayed (none_late before.now))
 
       abbrev step_end : Step
       step_end = step_of (ending before.now) ends_now_by.gots
 
-      ends_there : HasEnded inputs (prepared before background joined called) (steps ++ step_end ∷ [])
+      ends_there : HasEnded inputs (ready_to_act before background joined called) (steps ++ step_end ∷ [])
       ends_there =
           let ends_now : nat_lt before.now inputs.until ≡ false = grind (arith, nat_tests) in
           record {
-            run = run_more inputs rest [] before steps run step_end (prepared before background joined called) ends_now_by.stepped run.done
+            run = run_more inputs rest [] before steps run step_end (ready_to_act before background joined called) ends_now_by.stepped
+                run.done
                 (subst (λ services. Replayed inputs.latent (served inputs) services before.now before.store run.done) no_rest run.replayed);
             decided = sym (append-nil (decisions_in (steps ++ step_end ∷ [])))
                 ∙ one_decided steps step_end (decisions_by inputs before rest) [] (decisions inputs) decided
                 (last_is ∙ ap (λ b. (if b then idles (stay_of before inputs.until) else ends before.now) ∷ []) ends_now);
             calls_made =
-                (called_more inputs rest [] before steps run step_end (prepared before background joined called) ends_now_by.stepped).taken;
+                (called_more inputs rest [] before steps run step_end (ready_to_act before background joined called)
+                ends_now_by.stepped).taken;
             few = few_served;
             early = omega (arith, so_far.soon, so_far.counted, known.list.few);
           }
 
       leads_to_end : (count_after : ℕ)
-          → LeadsOn inputs before pending steps false (prepared before background joined called) waiting count_after
+          → LeadsOn inputs before pending steps false (ready_to_act before background joined called) waiting count_after
       leads_to_end count_after = record {
         step = step_end;
         stepped = ends_now_by.stepped;
@@ -486,7 +488,7 @@ module _ (inputs : Inputs) (known : AreKnown inputs) (before : Course) (pending 
   -- whatever is done
   by_action : (goes_on : Bool) (pending_after : List Request) (after : Course) (count_after : ℕ)
       → HasActed inputs.disk inputs.key inputs.until (next_of (slice_get (requests inputs) joined) (slice_get inputs.calls called)) waiting
-      (prepared before background joined called) goes_on pending_after after
+      (ready_to_act before background joined called) goes_on pending_after after
       → (goes_on ≡ true → IsWaiting inputs.disk (requests inputs) after.now after.joined count_after pending_after)
       → LeadsOn inputs before pending steps goes_on after pending_after count_after
   by_action goes_on pending_after after count_after (serves_pick request others course pick now_served) waits =
@@ -506,4 +508,4 @@ pub decided_more : (inputs : Inputs) (before : Course) (pending : List Request) 
     → LeadsOn inputs before pending steps goes_on after pending_after count_after
 decided_more inputs before pending count steps goes_on after pending_after count_after known so_far decided waits =
     by_action inputs known before pending count steps so_far decided.background decided.joined decided.called decided.waiting
-    decided.has_prepared goes_on pending_after after count_after decided.acted waits
+    decided.is_ready goes_on pending_after after count_after decided.acted waits

@@ -23,10 +23,10 @@ use Rattle.fb_tasks.specs.Taken.{delivery_of}
 use Rattle.fb_tasks.specs.Telling.{Tells, IsBlockOf}
 use Rattle.fb_decide.specs.declared.background.Background.{Background}
 use Rattle.fb_decide.specs.declared.deciding.Course.{Course}
-use Rattle.fb_decide.specs.Calls.{IsCalled, HasChosenAndTested, tested_by, chosen_by, test_rows_by}
+use Rattle.fb_decide.specs.Calls.{IsCalled, HasPrepared, tested_by, chosen_by, test_rows_by}
 use Rattle.fb_decide.specs.Deliveries.{HasDelivered, HasServed, IsRegistered, followed, past_with, rows_of, held_now}
 use Rattle.fb_decide.specs.Standing.{Mirrors, IsFoundIn, IsTrue}
-use Rattle.fb_decide.specs.Deciding.{HasServedNext, HasStayed, stay_of, prepared}
+use Rattle.fb_decide.specs.Deciding.{HasServedNext, HasStayed, stay_of, ready_to_act}
 use Rattle.fb_decide.specs.Making.{IsMade}
 use Rattle.fb_tasks.proofs.Lists.{all_filter}
 use Rattle.fb_tasks.proofs.Calls.{called-finished}
@@ -101,7 +101,7 @@ module _ (inputs : Inputs) (past : Past) (before : Course) (background : Backgro
 
   module _ (end : ℕ) (h : HasDone end) (tells : Tells inputs.disk.map past before.background.sessions before.background.wanted)
       (finds : IsTrue (medium_of inputs) before.store past)
-      (test : HasChosenAndTested inputs.disk.map inputs.calls past (instant_of decision) called before.background.rows background) where
+      (test : HasPrepared inputs.disk.map inputs.calls past (instant_of decision) called before.background.rows background) where
     same_wanted : wanted then ≡ wanted (chosen_past inputs past decision)
     unfolding chosen_past
     same_wanted = wanted_tested (chosen_by inputs.disk.map inputs.calls past (instant_of decision))
@@ -142,7 +142,7 @@ module _ (inputs : Inputs) (past : Past) (before : Course) (background : Backgro
 -- ---- each kind of step
 
 module _ (inputs : Inputs) (past : Past) (before : Course) (background : Background) (joined called : ℕ)
-    (test : HasChosenAndTested inputs.disk.map inputs.calls past before.now called before.background.rows background)
+    (test : HasPrepared inputs.disk.map inputs.calls past before.now called before.background.rows background)
     (tells : Tells inputs.disk.map past before.background.sessions before.background.wanted)
     (finds : IsTrue (medium_of inputs) before.store past) where
   -- by its deliveries and what they leave
@@ -151,11 +151,11 @@ module _ (inputs : Inputs) (past : Past) (before : Course) (background : Backgro
   stepped_by act now gots after end h = record {
     gots = gots;
     stepped = stepped inputs past before background called act gots after end h tells finds
-        (subst (λ t. HasChosenAndTested inputs.disk.map inputs.calls past t called before.background.rows background) (sym now) test);
+        (subst (λ t. HasPrepared inputs.disk.map inputs.calls past t called before.background.rows background) (sym now) test);
   }
 
   abbrev ready : Course
-  ready = prepared before background joined called
+  ready = ready_to_act before background joined called
 
   abbrev tested_now : Past
   tested_now = tested_by inputs.disk.map inputs.calls past before.now

@@ -33,7 +33,7 @@ abbrev pub tested_by : Shape → List Call → Past → ℕ → Past
 tested_by disk calls past now = tested (test_rows_by disk calls past now) ∷ chosen_by disk calls past now
 
 -- all calls up to now have taken effect, the tasks have chosen segments, and all tasks were tested
-pub record HasChosenAndTested (disk : Shape) (calls : List Call) (past : Past) (now later : ℕ) (rows : List BackRow)
+pub record HasPrepared (disk : Shape) (calls : List Call) (past : Past) (now later : ℕ) (rows : List BackRow)
     (after : Background) : Type 0 where
   pub current : IsCurrent disk (tested_by disk calls past now) after
   pub called : IsCalled disk calls (tested_by disk calls past now) later

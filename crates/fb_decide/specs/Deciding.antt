@@ -25,7 +25,7 @@ use Rattle.fb_decide.specs.declared.deciding.Course.{Course}
 use Rattle.fb_decide.specs.Contents.{left_by, IsRowOf}
 use Rattle.fb_decide.specs.Waiting.{left, IsWaiting, IsForegroundOf}
 use Rattle.fb_decide.specs.Deliveries.{IsCurrent, HasDelivered, HasServed, held_now}
-use Rattle.fb_decide.specs.Calls.{HasChosenAndTested, IsScriptOf}
+use Rattle.fb_decide.specs.Calls.{HasPrepared, IsScriptOf}
 
 -- each sector of the disk takes some time to pass
 abbrev pub PassagesTakeTime : Shape → Type 0
@@ -97,8 +97,8 @@ pub data HasActed (disk : Disk) (key : Key) (until : ℕ) (next : Option ℕ) (w
       → HasActed disk key until next waiting before false waiting before
 
 -- the same with the background after calls, choices and tests up to now, and with the requests that have joined
-abbrev pub prepared : Course → Background → ℕ → ℕ → Course
-prepared course background joined called = record course { background = background; joined = joined; called = called }
+abbrev pub ready_to_act : Course → Background → ℕ → ℕ → Course
+ready_to_act course background joined called = record course { background = background; joined = joined; called = called }
 
 -- what must stand before a decision: requests and calls that a replay can have, of which those that wait have arrived, and a head that
 -- is on a track of the disk, so early that one more service ends at an instant
@@ -112,9 +112,9 @@ pub record IsReady (disk : Disk) (requests : List Request) (calls : List Call) (
   pub now : course.now ≤ 9 * 10 ^ 18 - 10 ^ 15
 
 -- all that is due at an instant has happened: calls have taken effect, with choices and tests, and the requests that have arrived wait
-pub record HasPrepared (disk : Disk) (requests : List Request) (calls : List Call) (past : Past) (before : Course) (pending : List Request)
+pub record IsReadyToAct (disk : Disk) (requests : List Request) (calls : List Call) (past : Past) (before : Course) (pending : List Request)
     (background : Background) (joined called : ℕ) (waiting : List Request) : Type 0 where
-  pub test : HasChosenAndTested disk.map calls past before.now called before.background.rows background
+  pub test : HasPrepared disk.map calls past before.now called before.background.rows background
   pub same_left : left requests joined waiting ≡ left requests before.joined pending
   pub come : AllByRecursion (λ r. r.arrival ≤ before.now) (take joined requests)
   pub arrived : AllByRecursion (λ r. r.arrival ≤ before.now) waiting
@@ -127,6 +127,6 @@ pub record HasDecided (disk : Disk) (requests : List Request) (calls : List Call
   pub joined : ℕ
   pub called : ℕ
   pub waiting : List Request
-  pub has_prepared : HasPrepared disk requests calls past before pending background joined called waiting
+  pub is_ready : IsReadyToAct disk requests calls past before pending background joined called waiting
   pub acted : HasActed disk key until (next_of (slice_get requests joined) (slice_get calls called)) waiting
-      (prepared before background joined called) goes_on pending_after after
+      (ready_to_act before background joined called) goes_on pending_after after

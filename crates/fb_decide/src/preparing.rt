@@ -5,7 +5,7 @@ ghost use Rattle.std.specs.List.{fold};
 ghost use Rattle.fb_model.specs.History.{Past};
 ghost use Rattle.fb_model.specs.Steps.{take_call, calls_due};
 ghost use Rattle.fb_tasks.specs.Telling.{Tells};
-ghost use Rattle.fb_decide.specs.Calls.{IsScriptOf, IsCalled, HasChosenAndTested};
+ghost use Rattle.fb_decide.specs.Calls.{IsScriptOf, IsCalled, HasPrepared};
 
 use crate::background::Background;
 use fb_calls::Calls;
@@ -59,7 +59,7 @@ impl Background {
             × Tells disk.now.map past self.old.sessions self.old.wanted }
         ensures { IfOk result (λ later. (past : Past) → IsCalled disk.now.map calls.now.calls.items past next
             → Tells disk.now.map past self.old.sessions self.old.wanted
-            → HasChosenAndTested disk.now.map calls.now.calls.items past now later self.old.rows self.new) }
+            → HasPrepared disk.now.map calls.now.calls.items past now later self.old.rows self.new) }
     {
         let next = self.take_calls(disk, calls, next, now)?;
         self.sessions
