@@ -7,8 +7,8 @@ use Rattle.fb_model.specs.PlainReplay.{Served, service}
 use Rattle.fb_decide.specs.declared.start.Start.{Start}
 
 -- the service that starts so
-abbrev pub served_in : Disk → Start → Served
-served_in disk start = service disk start.head start.instant start.request
+abbrev pub served_from : Disk → Start → Served
+served_from disk start = service disk start.head start.instant start.request
 
 -- the disk has the request's sectors and the head's track, and the service starts so early that its end is an instant too
 pub record IsStartOn (disk : Disk) (start : Start) : Type 0 where

@@ -10,7 +10,7 @@ ghost use Rattle.fb_plan.specs.Order.{in_order};
 ghost use Rattle.fb_plan.specs.Ways.{AreOnDisk};
 ghost use Rattle.fb_decide.specs.Carried.{added, carried_of, ride_of, begins_in, AreExtents, AreLaid};
 ghost use Rattle.fb_decide.specs.Deliveries.{IsCurrent, HasDelivered, AreDistinct, held_now};
-ghost use Rattle.fb_decide.specs.Start.{IsStartOn, served_in};
+ghost use Rattle.fb_decide.specs.Start.{IsStartOn, served_from};
 
 use crate::background::Background;
 use crate::start::Start;
@@ -36,11 +36,12 @@ impl Background {
     ) -> Result<(), NoMemory>
         requires current { (past : Past) × IsCurrent disk.now.map past self.old }
         requires start { IsStartOn disk.now start }
-        requires passages { all_passages_of disk.now.map extents.now ≡ (served_in disk.now start).passages }
+        requires passages { all_passages_of disk.now.map extents.now ≡ (served_from disk.now start).passages }
         requires unbroken { AllByRecursion (IsUnbroken disk.now.map) extents.now }
         requires early { AllByRecursion (λ extent. extent.begin ≤ 10 ^ 19) extents.now }
         ensures { OnOk result ((past : Past) → IsCurrent disk.now.map past self.old
-            → HasDelivered disk.now.map past (rides (held_now store.now) (served_in disk.now start) (wanted past)) self.old.rows self.new) }
+            → HasDelivered disk.now.map past (rides (held_now store.now) (served_from disk.now start) (wanted past))
+            self.old.rows self.new) }
     {
         if start.request.write {
             return Ok(());

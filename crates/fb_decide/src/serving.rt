@@ -15,7 +15,7 @@ ghost use Rattle.fb_plan.specs.Ways.{IsGap};
 ghost use Rattle.fb_tasks.specs.Telling.{Tells};
 ghost use Rattle.fb_decide.specs.Contents.{found_in, left_by, IsRowOf};
 ghost use Rattle.fb_decide.specs.Deliveries.{IsCurrent, HasDelivered, HasPassed, HasServed, held_now, past_with};
-ghost use Rattle.fb_decide.specs.Start.{IsStartOn, served_in};
+ghost use Rattle.fb_decide.specs.Start.{IsStartOn, served_from};
 
 use crate::background::Background;
 use crate::start::Start;
@@ -60,15 +60,15 @@ pub fn serve_request<P: Planner>(
 ) -> Result<Serving, NoMemory>
     requires start { IsStartOn disk.now start }
     requires current { (past : Past) × IsCurrent disk.now.map past background.old }
-    ensures row { IfOk result (λ serving. IsRowOf store.old (served_in disk.now start) serving.row) }
+    ensures row { IfOk result (λ serving. IsRowOf store.old (served_from disk.now start) serving.row) }
     ensures leaves { OnOk result ((lbn : ℕ) → content_in store.new lbn ≡ left_by start.request lbn (content_in store.old lbn)) }
-    ensures head { IfOk result (λ serving. serving.head ≡ last_track disk.now (served_in disk.now start)) }
+    ensures head { IfOk result (λ serving. serving.head ≡ last_track disk.now (served_from disk.now start)) }
     ensures on_disk { IfOk result (λ serving. IsTrackOf disk.now.map serving.head) }
-    ensures each { OnOk result (AllByRecursion (λ passage. passage.begin < passage.end) (served_in disk.now start).passages) }
+    ensures each { OnOk result (AllByRecursion (λ passage. passage.begin < passage.end) (served_from disk.now start).passages) }
     ensures later { IfOk result (λ serving. start.instant < serving.row.finish) }
     ensures soon { IfOk result (λ serving. serving.row.finish ≤ start.instant + 2048 * (4 * 10 ^ 9)) }
     ensures served { OnOk result ((past : Past) → IsCurrent disk.now.map past background.old
-        → HasServed disk.now store.old past (served_in disk.now start) background.old.rows background.new) }
+        → HasServed disk.now store.old past (served_from disk.now start) background.old.rows background.new) }
 {
     let request = start.request;
     let passing = background.deliver_around(alloc, disk, planner, store, start)?;
@@ -102,15 +102,15 @@ impl Background {
     ) -> Result<Passing, NoMemory>
         requires start { IsStartOn disk.now start }
         requires current { (past : Past) × IsCurrent disk.now.map past self.old }
-        ensures media { IfOk result (λ passing. passing.media ≡ media (served_in disk.now start)) }
-        ensures finish { IfOk result (λ passing. passing.finish ≡ finish (served_in disk.now start)) }
-        ensures head { IfOk result (λ passing. passing.head ≡ last_track disk.now (served_in disk.now start)) }
+        ensures media { IfOk result (λ passing. passing.media ≡ media (served_from disk.now start)) }
+        ensures finish { IfOk result (λ passing. passing.finish ≡ finish (served_from disk.now start)) }
+        ensures head { IfOk result (λ passing. passing.head ≡ last_track disk.now (served_from disk.now start)) }
         ensures on_disk { IfOk result (λ passing. IsTrackOf disk.now.map passing.head) }
-        ensures each { OnOk result (AllByRecursion (λ passage. passage.begin < passage.end) (served_in disk.now start).passages) }
+        ensures each { OnOk result (AllByRecursion (λ passage. passage.begin < passage.end) (served_from disk.now start).passages) }
         ensures later { IfOk result (λ passing. start.instant < passing.finish) }
         ensures soon { IfOk result (λ passing. passing.finish ≤ start.instant + start.request.count * (4 * 10 ^ 9)) }
         ensures delivered { OnOk result ((past : Past) → IsCurrent disk.now.map past self.old
-            → HasPassed disk.now store.now past (served_in disk.now start) self.old.rows self.new) }
+            → HasPassed disk.now store.now past (served_from disk.now start) self.old.rows self.new) }
     {
         let request = start.request;
         let access = Access {

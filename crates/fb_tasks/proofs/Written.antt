@@ -78,17 +78,21 @@ module _ (first count : ℕ) where
             | inr other ↦ rw other (λ less. before (grind (arith, nat_tests)))
           ]
 
-    module _ {items : List Session} {touched rewantable : BTreeSet ℕ} (same : items ≡ sessions)
-        (listed : AreListed items touched rewantable) where
-      unlisted : (e : Entry) → contains nat_cmp rewantable e.block.task ≡ false → left e ≡ e
+    module _ {items : List Session} {listed_touched checked_by_writes : BTreeSet ℕ} (same : items ≡ sessions)
+        (listed : AreListed items listed_touched checked_by_writes) where
+      unlisted : (e : Entry) → contains nat_cmp checked_by_writes e.block.task ≡ false → left e ≡ e
       unlisted e none = elim (cases_lt e.block.task (length sessions)) [
         | inl there ↦ let found = some_at sessions e.block.task there in
-            rw (found.1, no_backup_there (subst (λ xs. AreListed xs touched rewantable) same listed) e.block.task found.0 none found.1) refl
+            rw (
+              found.1,
+              no_backup_there (subst (λ xs. AreListed xs listed_touched checked_by_writes) same listed) e.block.task found.0 none found.1,
+            ) refl
         | inr past ↦ beyond e past
       ]
 
       -- tasks are passed over that aren't listed, or else have no block near the range
-      pub passed : (from next task : ℕ) (es now : List Entry) → ((k : ℕ) → from ≤ k → k < next → contains nat_cmp rewantable k ≡ false)
+      pub passed : (from next task : ℕ) (es now : List Entry)
+          → ((k : ℕ) → from ≤ k → k < next → contains nat_cmp checked_by_writes k ≡ false)
           → ((k : ℕ) → next ≤ k → k < task → SharesNone first count k now) → AreRewanted from es now → AreRewanted task es now
       passed from next task es now unnoted far h =
           let near = all_placed (λ e. next ≤ e.block.task → e.block.task < task → left e ≡ e) now

@@ -1,4 +1,4 @@
--- The lists of the tasks that choosing and testing look at, and of those that a write looks at. Contracts of inner functions
+-- The lists of the tasks that choosing and testing look at, and of those that a write checks. Contracts of inner functions
 -- cite it.
 use Rattle.std.specs.Prelude.{◌≡◌, ◌⊎◌, ◌<◌, ◌^◌, ◌&&◌, not, ℕ, List, length, true, Some, slice_get}
 use Rattle.std.specs.BTreeSet.{BTreeSet, contains}
@@ -7,18 +7,19 @@ use Rattle.fb_calls.specs.Sessions.{is_backup}
 use Rattle.fb_tasks.specs.declared.session.Session.{Session}
 
 -- each touched session stands on the first list, all of that list and each open backup on the second, and nothing but sessions on either
-pub record AreListed (sessions : List Session) (touched rewantable : BTreeSet ℕ) : Type 0 where
+pub record AreListed (sessions : List Session) (listed_touched checked_by_writes : BTreeSet ℕ) : Type 0 where
   pub room : length sessions < 2 ^ 32
   pub listed : (task : ℕ) (session : Session) → slice_get sessions task ≡ Some session → session.touched ≡ true
-      → contains nat_cmp touched task ≡ true
-  pub covered : (task : ℕ) → contains nat_cmp touched task ≡ true → contains nat_cmp rewantable task ≡ true
+      → contains nat_cmp listed_touched task ≡ true
+  pub covered : (task : ℕ) → contains nat_cmp listed_touched task ≡ true → contains nat_cmp checked_by_writes task ≡ true
   pub backups : (task : ℕ) (session : Session) → slice_get sessions task ≡ Some session
-      → (is_backup session.kind && not session.sealed) ≡ true → contains nat_cmp rewantable task ≡ true
-  pub within : (task : ℕ) → contains nat_cmp rewantable task ≡ true → task < length sessions
+      → (is_backup session.kind && not session.sealed) ≡ true → contains nat_cmp checked_by_writes task ≡ true
+  pub within : (task : ℕ) → contains nat_cmp checked_by_writes task ≡ true → task < length sessions
 
 -- at most this task was added to the lists, to the first one not before the second
-pub record IsNoted (task : ℕ) (touched rewantable more more_rewantable : BTreeSet ℕ) : Type 0 where
-  pub stay : (k : ℕ) → contains nat_cmp touched k ≡ true → contains nat_cmp more k ≡ true
-  pub rewantable_stay : (k : ℕ) → contains nat_cmp rewantable k ≡ true → contains nat_cmp more_rewantable k ≡ true
-  pub rewantable_only : (k : ℕ) → contains nat_cmp more_rewantable k ≡ true → (k ≡ task) ⊎ (contains nat_cmp rewantable k ≡ true)
-  pub covers : (k : ℕ) → contains nat_cmp more k ≡ true → (contains nat_cmp more_rewantable k ≡ true) ⊎ (contains nat_cmp touched k ≡ true)
+pub record IsNoted (task : ℕ) (listed_touched checked_by_writes more more_checked : BTreeSet ℕ) : Type 0 where
+  pub stay : (k : ℕ) → contains nat_cmp listed_touched k ≡ true → contains nat_cmp more k ≡ true
+  pub checked_stay : (k : ℕ) → contains nat_cmp checked_by_writes k ≡ true → contains nat_cmp more_checked k ≡ true
+  pub checked_only : (k : ℕ) → contains nat_cmp more_checked k ≡ true → (k ≡ task) ⊎ (contains nat_cmp checked_by_writes k ≡ true)
+  pub covers : (k : ℕ) → contains nat_cmp more k ≡ true
+      → (contains nat_cmp more_checked k ≡ true) ⊎ (contains nat_cmp listed_touched k ≡ true)

@@ -48,9 +48,9 @@ pub struct Sessions {
     alloc: Global,
     sessions: Vec<Session>,
     // The tasks that were touched since tasks last chose and were tested.
-    touched: BTreeSet<u32>,
-    // The tasks that a write looks at: these and the open backups.
-    rewantable: BTreeSet<u32>,
+    listed_touched: BTreeSet<u32>,
+    // The tasks that a write checks: these and the open backups.
+    checked_by_writes: BTreeSet<u32>,
 }
 
 impl Model for Sessions {
@@ -62,7 +62,7 @@ impl Model for Sessions {
 
     ghost view = { λ s. s.sessions.items };
 
-    ghost invariant = { λ s. AreListed s.sessions.items s.touched s.rewantable };
+    ghost invariant = { λ s. AreListed s.sessions.items s.listed_touched s.checked_by_writes };
 }
 
 impl Sessions {
@@ -74,8 +74,8 @@ impl Sessions {
         Sessions {
             alloc,
             sessions: Vec::new(alloc),
-            touched: BTreeSet::new(alloc),
-            rewantable: BTreeSet::new(alloc),
+            listed_touched: BTreeSet::new(alloc),
+            checked_by_writes: BTreeSet::new(alloc),
         }
     }
 
@@ -183,7 +183,7 @@ impl Sessions {
     {
         let task = got.block.task;
         wanted.deliver(task, got.block.number);
-        note_touch(&mut self.touched, &mut self.rewantable, task)?;
+        note_touch(&mut self.listed_touched, &mut self.checked_by_writes, task)?;
         let session = &mut self.sessions[task as usize];
         session.deliver(self.alloc, wanted, got, rows)?;
         session.touched = true;
@@ -244,7 +244,7 @@ impl Sessions {
         let task = self.sessions.len() as u32;
         let session = Session::new(self.alloc, kind, weight, block);
         self.sessions.reserve(1)?;
-        note(&mut self.rewantable, task, session.is_open_backup())?;
+        note(&mut self.checked_by_writes, task, session.is_open_backup())?;
         self.sessions.push(session)?;
         Ok(())
     }
@@ -308,7 +308,7 @@ impl Sessions {
             → Tells map.now (called call [] ∷ past) self.new wanted.new) }
         ensures err { OnErr result ((self.new ≡ self.old) × (wanted.new ≡ wanted.old)) }
     {
-        note_touch(&mut self.touched, &mut self.rewantable, task)?;
+        note_touch(&mut self.listed_touched, &mut self.checked_by_writes, task)?;
         let closing = &mut self.sessions[task as usize];
         closing.closed = true;
         closing.touched = true;
@@ -335,7 +335,7 @@ impl Sessions {
             live.now) call → MayTake disk past self.old held call → Tells disk (called call [] ∷ past) self.new held) }
         ensures err { OnErr result (self.new ≡ self.old) }
     {
-        note_touch(&mut self.touched, &mut self.rewantable, task)?;
+        note_touch(&mut self.listed_touched, &mut self.checked_by_writes, task)?;
         let cleaner = &mut self.sessions[task as usize];
         cleaner.log.add(first, blocks, age, live)?;
         cleaner.touched = true;
@@ -350,7 +350,7 @@ impl Sessions {
             → self.new ≡ set self.old task (record session { touched = true })) }
         ensures err { OnErr result (self.new ≡ self.old) }
     {
-        note_touch(&mut self.touched, &mut self.rewantable, task)?;
+        note_touch(&mut self.listed_touched, &mut self.checked_by_writes, task)?;
         self.sessions[task as usize].touched = true;
         Ok(())
     }
@@ -373,7 +373,7 @@ impl Sessions {
     {
         let opened = self.sessions.len() as u32;
         let mut from = 0;
-        while let Some(listed) = next_noted(&self.rewantable, from) {
+        while let Some(listed) = next_noted(&self.checked_by_writes, from) {
             let task = wanted.next_task_near(first, count, listed, opened);
             if task == opened {
                 return;
@@ -402,7 +402,7 @@ impl Sessions {
         ensures stay_rows { HasGrown rows.old rows.new }
     {
         let mut from = 0;
-        while let Some(task) = next_touched(&self.touched, &self.sessions, from) {
+        while let Some(task) = next_touched(&self.listed_touched, &self.sessions, from) {
             let stamp = Stamp { task, instant: now };
             self.sessions[task as usize].choose(self.alloc, map, wanted, stamp, rows)?;
             from = task + 1;
@@ -421,13 +421,13 @@ impl Sessions {
         ensures stay_rows { HasGrown rows.old rows.new }
     {
         let mut from = 0;
-        while let Some(task) = next_touched(&self.touched, &self.sessions, from) {
+        while let Some(task) = next_touched(&self.listed_touched, &self.sessions, from) {
             let session = &mut self.sessions[task as usize];
             session.test(self.alloc, wanted, task, now, rows)?;
             session.touched = false;
             let is_open_backup = session.is_open_backup();
-            forget(&mut self.touched, task, false);
-            forget(&mut self.rewantable, task, is_open_backup);
+            forget(&mut self.listed_touched, task, false);
+            forget(&mut self.checked_by_writes, task, is_open_backup);
             from = task + 1;
         }
         Ok(())

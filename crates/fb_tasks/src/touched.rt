@@ -1,4 +1,4 @@
-// The tasks that were touched since tasks last chose and were tested, and those that a write looks at: these and the open
+// The tasks that were touched since tasks last chose and were tested, and those that a write checks: these and the open
 // backups. Of the latter alone a write makes blocks wanted again.
 ghost use Rattle.std.specs.Prelude.{◌≡◌, ◌⊎◌, ℕ, ◌<◌, ◌≤◌, true, false, Some, slice_get, IfSome, IfNone, OnOk, OnErr};
 ghost use Rattle.std.specs.BTreeSet.{BTreeSet as Set, contains};
@@ -37,27 +37,27 @@ pub fn forget(list: &mut BTreeSet<u32>, task: u32, stays: bool)
     }
 }
 
-/// Notes that a task was touched, and that a write looks at it.
+/// Notes that a task was touched, and that a write checks it.
 ///
 /// The only error is out of memory, after which all that was noted before is still there.
 pub fn note_touch(
-    touched: &mut BTreeSet<u32>,
-    rewantable: &mut BTreeSet<u32>,
+    listed_touched: &mut BTreeSet<u32>,
+    checked_by_writes: &mut BTreeSet<u32>,
     task: u32,
 ) -> Result<(), NoMemory>
-    ensures stay { IsNoted task touched.old rewantable.old touched.new rewantable.new }
-    ensures noted { OnOk result (contains nat_cmp touched.new task ≡ true) }
-    ensures rewantable_noted { OnOk result (contains nat_cmp rewantable.new task ≡ true) }
+    ensures stay { IsNoted task listed_touched.old checked_by_writes.old listed_touched.new checked_by_writes.new }
+    ensures noted { OnOk result (contains nat_cmp listed_touched.new task ≡ true) }
+    ensures checked_noted { OnOk result (contains nat_cmp checked_by_writes.new task ≡ true) }
 {
-    note(rewantable, task, true)?;
-    note(touched, task, true)
+    note(checked_by_writes, task, true)?;
+    note(listed_touched, task, true)
 }
 
 /// The first task from `from` on that was touched since tasks last chose and were tested.
 ///
 /// The list may also name a task that a call was about to touch when it ran out of memory.
 pub fn next_touched(listed: &BTreeSet<u32>, sessions: &[Session], from: u32) -> Option<u32>
-    requires { (rewantable : Set ℕ) × AreListed sessions.now listed.now rewantable }
+    requires { (checked_by_writes : Set ℕ) × AreListed sessions.now listed.now checked_by_writes }
     ensures found { IfSome result (λ task. contains nat_cmp listed.now task ≡ true) }
     ensures touched { IfSome result (λ task. (session : Session) → slice_get sessions.now task ≡ Some session → session.touched ≡ true) }
     ensures from { IfSome result (λ task. from ≤ task) }

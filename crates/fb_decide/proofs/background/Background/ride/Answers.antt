@@ -6,7 +6,7 @@ use Rattle.fb_wanted.specs.States.{wanted_of}
 use Rattle.fb_model.specs.History.{wanted}
 use Rattle.fb_decide.specs.Carried.{carried_of}
 use Rattle.fb_decide.specs.Deliveries.{HasDelivered, AreDistinct, AreDue, row_in, held_now}
-use Rattle.fb_decide.specs.Start.{served_in}
+use Rattle.fb_decide.specs.Start.{served_from}
 use Rattle.fb_decide.proofs.Placing.{wanted-distinct}
 use Rattle.fb_decide.proofs.Delivering.{fits-told, wanted-told}
 use Rattle.fb_decide.proofs.Extents.{laid, laid_within}
@@ -39,7 +39,7 @@ pub deliver_all-requires : goal.deliver_all-requires
 deliver_all-requires c =
     let past = c.requires.current.0 in
     let current = c.requires.current.1 in
-    let served = served_in c.args.disk.now c.args.start in
+    let served = served_from c.args.disk.now c.args.start in
     let rows : map (row_in c.args.store.now ByRide) c.as_slice.result.now ≡ rides (held_now c.args.store.now) served (wanted past) =
     ap (map (row_in c.args.store.now ByRide)) (c.as_slice.ensures.value ∙ c.in_ok-catches.ensures
     ∙ ap (λ ps. carried_of ps c.args.start.request (wanted_of c.args.self.now.wanted)) c.requires.passages
@@ -53,7 +53,7 @@ deliver_all-requires c =
 
 pub returns : goal.returns
 returns c = on_ok_weaker c.deliver_all.result (λ all past current.
-    let served = served_in c.args.disk.now c.args.start in
+    let served = served_from c.args.disk.now c.args.start in
     let rows : map (row_in c.args.store.now ByRide) c.as_slice.result.now ≡ rides (held_now c.args.store.now) served (wanted past) =
     ap (map (row_in c.args.store.now ByRide)) (c.as_slice.ensures.value ∙ c.in_ok-catches.ensures
     ∙ ap (λ ps. carried_of ps c.args.start.request (wanted_of c.args.self.now.wanted)) c.requires.passages

@@ -48,8 +48,8 @@ invariant_of-self c = listed_more c.self.invariant (rw c.self.view_is (within_se
 
 pub invariant_of-self-in_err-deliver : goal.invariant_of-self-in_err-deliver
 invariant_of-self-in_err-deliver c = listed_noted c.self.invariant (rw c.self.view_is (within_sessions c.args.got c.requires.2))
-    c.note_touch.ensures.stay c.in_ok-note_touch.ensures.noted c.in_ok-note_touch.ensures.rewantable_noted _
+    c.note_touch.ensures.stay c.in_ok-note_touch.ensures.noted c.in_ok-note_touch.ensures.checked_noted _
 
 pub invariant_of-self-2 : goal.invariant_of-self-2
 invariant_of-self-2 c = listed_noted c.self.invariant (rw c.self.view_is (within_sessions c.args.got c.requires.2))
-    c.note_touch.ensures.stay c.in_ok-note_touch.ensures.noted c.in_ok-note_touch.ensures.rewantable_noted _
+    c.note_touch.ensures.stay c.in_ok-note_touch.ensures.noted c.in_ok-note_touch.ensures.checked_noted _

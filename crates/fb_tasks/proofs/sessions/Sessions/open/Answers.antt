@@ -15,12 +15,13 @@ returns-clause-ok c = λ disk past call held is h.
     }) h
 
 pub invariant_of-self-in_err-note : goal.invariant_of-self-in_err-note
-invariant_of-self-in_err-note c = subst (λ xs. AreListed xs c.self.inside.touched c.note.new.list) (sym c.in_ok-reserve.ensures.items)
+invariant_of-self-in_err-note c =
+    subst (λ xs. AreListed xs c.self.inside.listed_touched c.note.new.list) (sym c.in_ok-reserve.ensures.items)
     (listed_failed c.self.invariant c.note.new.list c.note.ensures.stay c.in_err-note.ensures.err)
 
 pub invariant_of-self-2 : goal.invariant_of-self-2
 invariant_of-self-2 c =
-    subst (λ xs. AreListed xs c.self.inside.touched c.note.new.list)
+    subst (λ xs. AreListed xs c.self.inside.listed_touched c.note.new.list)
     (sym (c.in_ok-push.ensures.items ∙ ap (λ xs. xs ++ c.new-session.result ∷ []) c.in_ok-reserve.ensures.items))
     (listed_push c.self.invariant c.new-session.result c.note.new.list c.len-task.result
     (c.len-task.ensures ∙ c.self.inside.sessions.ok.0) c.new-session.ensures.touched

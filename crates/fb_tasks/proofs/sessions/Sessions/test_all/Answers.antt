@@ -15,7 +15,7 @@ loop-task-init c = record {
 }
 
 pub next_touched-requires : goal.next_touched-requires
-next_touched-requires c = (c.loop-task.self-inside.rewantable, rw c.deref.ensures.value c.loop-task.invariant.kept)
+next_touched-requires c = (c.loop-task.self-inside.checked_by_writes, rw c.deref.ensures.value c.loop-task.invariant.kept)
 
 pub test-requires : goal.test-requires
 test-requires c =
