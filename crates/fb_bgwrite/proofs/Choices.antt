@@ -138,19 +138,19 @@ module _ (disk : Disk) (gap : Gap) (entries : List Entry) (pending : ArePending 
 
   -- of what the track's blocks offer from the arrival on so many sectors pass by an instant, and this is the end of the last
   module _ (blocks : List Entry) (its : blocks ≡ on_track track entries) (on_disk : AreOnDisk disk blocks)
-      {passing : Turning} (turning : IsTurning disk passing) (at_once : passing.from ≡ ready disk gap track)
+      {turning : Turning} (turns : IsTurning disk turning) (at_once : turning.from ≡ ready disk gap track)
       {offers : List Offer} (are : AreOffers offers blocks) {end sectors last : ℕ}
-      (counted : sectors ≡ sum_by (added (passes_by passing end)) offers) (ends : IsLastEnd passing end offers sectors last) where
+      (counted : sectors ≡ sum_by (added (passes_by turning end)) offers) (ends : IsLastEnd turning end offers sectors last) where
     light : AreLight blocks
     light = subst AreLight (sym its) (light_on track entries pending.light)
 
     sum : sectors ≡ sum_by (stay_gain disk (longest end)) blocks
     sum = subst (λ b. sectors ≡ sum_by (stay_gain disk (from b end)) blocks) at_once
-        (counted ∙ sum_of_stay disk track end entries blocks its on_disk passing turning offers are)
+        (counted ∙ sum_of_stay disk track end entries blocks its on_disk turning turns offers are)
 
     is_last : IsLast disk (longest end) blocks sectors last
     is_last = subst (λ b. IsLast disk (from b end) blocks sectors last) at_once
-        (last_of_stay disk track end entries blocks its on_disk passing turning offers are sectors last ends)
+        (last_of_stay disk track end entries blocks its on_disk turning turns offers are sectors last ends)
 
     whole : sectors ≡ stay disk (longest end) entries
     whole = stay-of disk (longest end) entries blocks sectors its sum

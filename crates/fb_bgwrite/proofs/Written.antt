@@ -13,15 +13,15 @@ use Rattle.fb_bgwrite.proofs.Values.{passes, EndsAt, IsLast}
 -- ---- the loop over the offers
 
 -- the same as IsLastEnd for the first of the offers
-pub record IsLastOf (passing : Turning) (latest : ℕ) (offers : List Offer) (n worth last : ℕ) : Type 0 where
-  pub from : passing.from ≤ last
+pub record IsLastOf (turning : Turning) (latest : ℕ) (offers : List Offer) (n worth last : ℕ) : Type 0 where
+  pub from : turning.from ≤ last
   pub upto : last ≤ latest
-  pub each : (i : ℕ) (offer : Offer) → i < n → slice_get offers i ≡ Some offer → end_of passing.rotation offer.sweep passing.from ≤ latest
-      → end_of passing.rotation offer.sweep passing.from ≤ last
-  pub reached : ((worth ≡ 0) × (last ≡ passing.from)) ⊎ OneEndsAt passing offers last
+  pub each : (i : ℕ) (offer : Offer) → i < n → slice_get offers i ≡ Some offer → end_of turning.rotation offer.sweep turning.from ≤ latest
+      → end_of turning.rotation offer.sweep turning.from ≤ last
+  pub reached : ((worth ≡ 0) × (last ≡ turning.from)) ⊎ OneEndsAt turning offers last
 
-module _ (passing : Turning) (latest : ℕ) (offers : List Offer) where
-  pub none_last : passing.from ≤ latest → IsLastOf passing latest offers 0 0 passing.from
+module _ (turning : Turning) (latest : ℕ) (offers : List Offer) where
+  pub none_last : turning.from ≤ latest → IsLastOf turning latest offers 0 0 turning.from
   none_last order = record {
     from = omega arith;
     upto = order;
@@ -29,8 +29,8 @@ module _ (passing : Turning) (latest : ℕ) (offers : List Offer) where
     reached = inl (refl, refl);
   }
 
-  pub all_last : (n worth last : ℕ) → length offers ≤ n → IsLastOf passing latest offers n worth last
-      → IsLastEnd passing latest offers worth last
+  pub all_last : (n worth last : ℕ) → length offers ≤ n → IsLastOf turning latest offers n worth last
+      → IsLastEnd turning latest offers worth last
   all_last n worth last all is = record {
     from = is.from;
     upto = is.upto;
@@ -39,22 +39,22 @@ module _ (passing : Turning) (latest : ℕ) (offers : List Offer) where
   }
 
   abbrev ends : Offer → ℕ
-  ends offer = end_of passing.rotation offer.sweep passing.from
+  ends offer = end_of turning.rotation offer.sweep turning.from
 
   one_offer : (n : ℕ) (a b : Offer) → slice_get offers n ≡ Some a → slice_get offers n ≡ Some b → a ≡ b
   one_offer n a b at_a at_b = some_one a b (sym at_a ∙ at_b)
 
   module _ (n worth last new_worth new_last : ℕ) (o : Offer) (at : slice_get offers n ≡ Some o)
-      (sum : new_worth ≡ worth + added (passes_by passing latest) o)
-      (is_new : new_last ≡ (if passes_by passing latest o.sweep then max last (ends o) else last))
-      (is : IsLastOf passing latest offers n worth last) where
+      (sum : new_worth ≡ worth + added (passes_by turning latest) o)
+      (is_new : new_last ≡ (if passes_by turning latest o.sweep then max last (ends o) else last))
+      (is : IsLastOf turning latest offers n worth last) where
     -- the n-th is the new one
     own_end : (i : ℕ) (offer : Offer) → i < n + 1 → n ≤ i → slice_get offers i ≡ Some offer → ends o ≡ ends offer
     own_end i offer less here there =
         let same : i ≡ n = omega (arith, less, here) in
         ap ends (one_offer n o offer at (subst (λ k. slice_get offers k ≡ Some offer) same there))
 
-    in_time : passes_by passing latest o.sweep ≡ true → IsLastOf passing latest offers (n + 1) new_worth new_last
+    in_time : passes_by turning latest o.sweep ≡ true → IsLastOf turning latest offers (n + 1) new_worth new_last
     in_time yes' =
         let new : new_last ≡ max last (ends o) = rw yes' at is_new in
         let by : ends o ≤ latest = grind (arith, nat_tests) in
@@ -76,11 +76,11 @@ module _ (passing : Turning) (latest : ℕ) (offers : List Offer) where
           ];
         }
 
-    too_late : latest < ends o → IsLastOf passing latest offers (n + 1) new_worth new_last
+    too_late : latest < ends o → IsLastOf turning latest offers (n + 1) new_worth new_last
     too_late late =
-        let no' : passes_by passing latest o.sweep ≡ false = grind (arith, nat_tests) in
+        let no' : passes_by turning latest o.sweep ≡ false = grind (arith, nat_tests) in
         let new : new_last ≡ last = rw no' at is_new in
-        let none : added (passes_by passing latest) o ≡ 0 = rw no' refl in
+        let none : added (passes_by turning latest) o ≡ 0 = rw no' refl in
         record {
           from = omega (arith, new, is.from);
           upto = omega (arith, new, is.upto);
@@ -94,7 +94,7 @@ module _ (passing : Turning) (latest : ℕ) (offers : List Offer) where
           ];
         }
 
-    pub more_last : IsLastOf passing latest offers (n + 1) new_worth new_last
+    pub more_last : IsLastOf turning latest offers (n + 1) new_worth new_last
     more_last = elim (cases_lt latest (ends o)) [
       | inl late ↦ too_late late
       | inr by ↦ in_time (grind (arith, nat_tests))
@@ -104,51 +104,51 @@ module _ (passing : Turning) (latest : ℕ) (offers : List Offer) where
 
 -- a stay on a track from the turning's instant to the latest one, and what the blocks of this track offer
 module _ (disk : Disk) (track : Track) (latest : ℕ) (entries blocks : List Entry) (its : blocks ≡ on_track track entries)
-    (on : AreOnDisk disk blocks) (passing : Turning) (turns : IsTurning disk passing) (offers : List Offer)
+    (on : AreOnDisk disk blocks) (turning : Turning) (turns : IsTurning disk turning) (offers : List Offer)
     (are : AreOffers offers blocks) where
   abbrev stay : Dwell
-  stay = record { track = track; begin = passing.from; end = latest }
+  stay = record { track = track; begin = turning.from; end = latest }
 
   abbrev sweep_end : Sweep → ℕ
-  sweep_end sweep = end_of passing.rotation sweep passing.from
+  sweep_end sweep = end_of turning.rotation sweep turning.from
 
-  ends_as : (b : Block) → IsBlockOn disk.map b → sweep_end b.sweep ≡ block_end disk.map b passing.from
-  ends_as b fits = turning-end disk passing b turns fits
+  ends_as : (b : Block) → IsBlockOn disk.map b → sweep_end b.sweep ≡ block_end disk.map b turning.from
+  ends_as b fits = turning-end disk turning b turns fits
 
-  over : (b : Block) (o : Offer) → IsBlockOn disk.map b → o.sweep ≡ b.sweep → sweep_end o.sweep ≡ block_end disk.map b passing.from
+  over : (b : Block) (o : Offer) → IsBlockOn disk.map b → o.sweep ≡ b.sweep → sweep_end o.sweep ≡ block_end disk.map b turning.from
   over b o fits same = ap sweep_end same ∙ ends_as b fits
 
   here : (i : ℕ) (e : Entry) → slice_get blocks i ≡ Some e → same_track track e.block.track ≡ true
   here i e at = (in_filter (λ (x : Entry). same_track track x.block.track) entries i e (ap (λ l. slice_get l i) (sym its) ∙ at)).2
 
   adds_as : (e : Entry) → IsBlockOn disk.map e.block → same_track track e.block.track ≡ true
-      → adds (λ b. passes_by passing latest b.sweep) e ≡ stay_gain disk stay e
+      → adds (λ b. passes_by turning latest b.sweep) e ≡ stay_gain disk stay e
   adds_as e fits y = ap (λ x. adds (λ b. nat_le x latest) e) (ends_as e.block fits) ∙ rw y refl
 
-  pub sum_of_stay : sum_by (added (passes_by passing latest)) offers ≡ sum_by (stay_gain disk stay) blocks
+  pub sum_of_stay : sum_by (added (passes_by turning latest)) offers ≡ sum_by (stay_gain disk stay) blocks
   sum_of_stay =
-      sum-offered offers blocks are (passes_by passing latest)
-      ∙ sum-agree (adds (λ b. passes_by passing latest b.sweep)) (stay_gain disk stay) blocks
+      sum-offered offers blocks are (passes_by turning latest)
+      ∙ sum-agree (adds (λ b. passes_by turning latest b.sweep)) (stay_gain disk stay) blocks
       (λ i e at. adds_as e (on i e at) (here i e at))
 
-  module _ (worth last : ℕ) (is : IsLastEnd passing latest offers worth last) where
-    by_last : (i : ℕ) (e : Entry) → slice_get blocks i ≡ Some e → passes disk stay e ≡ true → block_end disk.map e.block passing.from ≤ last
+  module _ (worth last : ℕ) (is : IsLastEnd turning latest offers worth last) where
+    by_last : (i : ℕ) (e : Entry) → slice_get blocks i ≡ Some e → passes disk stay e ≡ true → block_end disk.map e.block turning.from ≤ last
     by_last i e at passed =
         let wanted : is_wanted e.state ≡ true = grind arith in
-        let by : block_end disk.map e.block passing.from ≤ latest = grind (arith, nat_tests) in
+        let by : block_end disk.map e.block turning.from ≤ latest = grind (arith, nat_tests) in
         let block = wanted-at blocks i e at wanted in
         let offer = offer-of offers blocks are block.0 e.block block.1 in
         let end = over e.block offer.1 (on i e at) offer.3 in
         omega (arith, is.each offer.0 offer.1 offer.2 (omega (arith, end, by)), end)
 
-    one_ends : OneEndsAt passing offers last → EndsAt disk stay blocks last
+    one_ends : OneEndsAt turning offers last → EndsAt disk stay blocks last
     one_ends one =
         let block = block-of offers blocks are one.index one.offer one.stands in
         let entry = entry-of blocks block.0 block.1 block.2 in
         let e = entry.1 in
         let same = sym (ap (λ (b : Block). b.sweep) entry.3 ∙ block.3) in
-        let end : block_end disk.map e.block passing.from ≡ last = sym (over e.block one.offer (on entry.0 e entry.2) same) ∙ one.ends in
-        let by : block_end disk.map e.block passing.from ≤ latest = omega (arith, end, is.upto) in
+        let end : block_end disk.map e.block turning.from ≡ last = sym (over e.block one.offer (on entry.0 e entry.2) same) ∙ one.ends in
+        let by : block_end disk.map e.block turning.from ≤ latest = omega (arith, end, is.upto) in
         let on_it = here entry.0 e entry.2 in
         let wanted = entry.4 in
         record {

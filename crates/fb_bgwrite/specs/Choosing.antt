@@ -143,16 +143,16 @@ IsBestIf disk gap pending None = WritesNothing disk gap pending
 IsBestIf disk gap pending (Some best) = IsBest disk gap pending best.spill
 
 -- a sweep of one of the offers next ends at this instant
-pub record OneEndsAt (passing : Turning) (offers : List Offer) (end : ℕ) : Type 0 where
+pub record OneEndsAt (turning : Turning) (offers : List Offer) (end : ℕ) : Type 0 where
   pub index : ℕ
   pub offer : Offer
   pub stands : slice_get offers index ≡ Some offer
-  pub ends : end_of passing.rotation offer.sweep passing.from ≡ end
+  pub ends : end_of turning.rotation offer.sweep turning.from ≡ end
 
 -- of the sweeps that end by the latest instant the last ends at this one, which is the first instant of all where none does
-pub record IsLastEnd (passing : Turning) (latest : ℕ) (offers : List Offer) (worth last : ℕ) : Type 0 where
-  pub from : passing.from ≤ last
+pub record IsLastEnd (turning : Turning) (latest : ℕ) (offers : List Offer) (worth last : ℕ) : Type 0 where
+  pub from : turning.from ≤ last
   pub upto : last ≤ latest
-  pub each : (i : ℕ) (offer : Offer) → slice_get offers i ≡ Some offer → end_of passing.rotation offer.sweep passing.from ≤ latest
-      → end_of passing.rotation offer.sweep passing.from ≤ last
-  pub reached : ((worth ≡ 0) × (last ≡ passing.from)) ⊎ OneEndsAt passing offers last
+  pub each : (i : ℕ) (offer : Offer) → slice_get offers i ≡ Some offer → end_of turning.rotation offer.sweep turning.from ≤ latest
+      → end_of turning.rotation offer.sweep turning.from ≤ last
+  pub reached : ((worth ≡ 0) × (last ≡ turning.from)) ⊎ OneEndsAt turning offers last

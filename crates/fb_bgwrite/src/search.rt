@@ -576,8 +576,8 @@ fn spill_on(search: &Search, track: Track, blocks: &TrackBlocks) -> Option<Value
     if gap.deadline < begin + on {
         return None;
     }
-    let passing = Turning::new(disk, begin);
-    let written = written_by(blocks.offers(), &passing, gap.deadline - on);
+    let turning = Turning::new(disk, begin);
+    let written = written_by(blocks.offers(), &turning, gap.deadline - on);
     if written.sectors == 0 {
         return None;
     }
@@ -591,35 +591,35 @@ fn spill_on(search: &Search, track: Track, blocks: &TrackBlocks) -> Option<Value
 }
 
 // What is written of a track's offers in a stay there until the instant `latest`, in ns.
-fn written_by(offers: &[Offer], passing: &Turning, latest: Ns) -> Written
-    requires stands { Stands passing.now }
-    requires sweeps { AreInTurn passing.now.rotation offers.now }
-    requires order { passing.now.from ≤ latest }
+fn written_by(offers: &[Offer], turning: &Turning, latest: Ns) -> Written
+    requires stands { Stands turning.now }
+    requires sweeps { AreInTurn turning.now.rotation offers.now }
+    requires order { turning.now.from ≤ latest }
     requires few { length offers.now ≤ 16000000 }
-    ensures sectors { result.sectors ≡ sum_by (added (passes_by passing.now latest)) offers.now }
-    ensures last { IsLastEnd passing.now latest offers.now result.sectors result.last }
+    ensures sectors { result.sectors ≡ sum_by (added (passes_by turning.now latest)) offers.now }
+    ensures last { IsLastEnd turning.now latest offers.now result.sectors result.last }
 {
     let mut written = Written {
         sectors: 0,
-        last: passing.from,
+        last: turning.from,
     };
     for offer in offers {
-        written = with_offer(*offer, passing, latest, written);
+        written = with_offer(*offer, turning, latest, written);
     }
     written
 }
 
 // The same with one more offer.
-fn with_offer(offer: Offer, passing: &Turning, latest: Ns, so_far: Written) -> Written
-    requires stands { Stands passing.now }
-    requires sweep { IsInTurn passing.now.rotation offer.sweep }
+fn with_offer(offer: Offer, turning: &Turning, latest: Ns, so_far: Written) -> Written
+    requires stands { Stands turning.now }
+    requires sweep { IsInTurn turning.now.rotation offer.sweep }
     requires room { so_far.sectors < 2 ^ 62 }
-    ensures sectors { result.sectors ≡ so_far.sectors + added (passes_by passing.now latest) offer }
-    ensures last { result.last ≡ (if passes_by passing.now latest offer.sweep
-        then max so_far.last (end_of passing.now.rotation offer.sweep passing.now.from) else so_far.last) }
+    ensures sectors { result.sectors ≡ so_far.sectors + added (passes_by turning.now latest) offer }
+    ensures last { result.last ≡ (if passes_by turning.now latest offer.sweep
+        then max so_far.last (end_of turning.now.rotation offer.sweep turning.now.from) else so_far.last) }
     ensures small { result.sectors < so_far.sectors + 2 ^ 32 }
 {
-    let end = passing.end(offer.sweep);
+    let end = turning.end(offer.sweep);
     if latest < end {
         return so_far;
     }

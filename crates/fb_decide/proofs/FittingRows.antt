@@ -20,7 +20,7 @@ use Rattle.fb_model.specs.Inputs.{Inputs}
 use Rattle.fb_model.specs.PlainReplay.{Served}
 use Rattle.fb_model.specs.Content.{Medium, medium_of, contents_at}
 use Rattle.fb_model.specs.Plans.{catches, early_dwell, late_dwell}
-use Rattle.fb_model.specs.Rides.{delivery, caught, rides, missed, lies_in, gap_of, due}
+use Rattle.fb_model.specs.Rides.{delivery, caught_rows, rides, missed, lies_in, gap_of, due}
 use Rattle.fb_model.specs.Decisions.{Decision, serves, idles, ends, instant_of, Act, serving, idling, ending}
 use Rattle.fb_model.specs.History.{Event, delivered, tested, Past, tasks, task_numbers, terms_of, registered, registered_by, wanted, state}
 use Rattle.fb_model.specs.History.{is_open_backup}
@@ -130,7 +130,7 @@ module _ (n : ℕ) where
   GotFits got = got.block.task < n
 
   caught_fits : (medium : Medium) (how : How) (dwell : _) (blocks : List Block) → AllByRecursion (BlockFits n) blocks
-      → AllByRecursion GotFits (caught medium.disk (contents_at medium) how dwell blocks)
+      → AllByRecursion GotFits (caught_rows medium.disk (contents_at medium) how dwell blocks)
   caught_fits medium how dwell blocks all = in_order-each GotFits _ (all_map GotFits _ (filter (catches medium.disk dwell) blocks)
       (all_filter (BlockFits n) (catches medium.disk dwell) blocks all))
 
@@ -155,7 +155,8 @@ module _ (n : ℕ) where
       let left = missed medium.disk early blocks in
       let left_fit = missed_fit medium.disk early blocks all in
       all_append GotFits _ (rides (contents_at medium) served (missed medium.disk late left))
-      (all_append GotFits (caught medium.disk (contents_at medium) _ early blocks) (caught medium.disk (contents_at medium) _ late left)
+      (all_append GotFits (caught_rows medium.disk (contents_at medium) _ early blocks)
+      (caught_rows medium.disk (contents_at medium) _ late left)
       (caught_fits medium _ early blocks all) (caught_fits medium _ late left left_fit))
       (rides_fit medium served (missed medium.disk late left) (missed_fit medium.disk late left left_fit))
   due_fits medium (idling dwell) blocks all = caught_fits medium _ dwell blocks all

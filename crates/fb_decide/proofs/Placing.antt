@@ -25,7 +25,7 @@ use Rattle.fb_rows.specs.declared.back.DeliveryRow.{DeliveryRow}
 use Rattle.fb_service.specs.declared.disk.Disk.{Disk}
 use Rattle.fb_store.specs.Index.{Holding}
 use Rattle.fb_model.specs.Plans.{catches, block_begin, block_end}
-use Rattle.fb_model.specs.Rides.{placed, in_order, missed, delivery, caught}
+use Rattle.fb_model.specs.Rides.{placed, in_order, missed, delivery, caught_rows}
 use Rattle.fb_plan.specs.declared.catching.Catch.{Catch}
 use Rattle.fb_plan.specs.Order.{is_before, place_in, catch_of, caught_of}
 use Rattle.fb_plan.proofs.Sorted.{put_front, put_behind}
@@ -120,7 +120,7 @@ rows_by disk holding how dwell (b ∷ bs) = ap (λ rs. delivery_by disk holding 
 
 -- those of a dwell's catches
 pub rows-caught : (disk : Disk) (holding : Holding) (how : How) (dwell : Dwell) (bs : List Block)
-    → map (row_in holding how) (caught_of disk dwell bs) ≡ caught disk (held_now holding) how dwell bs
+    → map (row_in holding how) (caught_of disk dwell bs) ≡ caught_rows disk (held_now holding) how dwell bs
 unfolding caught_of
 rows-caught disk holding how dwell bs = rows-in_order holding how (map (catch_of disk dwell) (filter (catches disk dwell) bs))
     ∙ ap in_order (rows_by disk holding how dwell (filter (catches disk dwell) bs))
@@ -251,12 +251,12 @@ left-filtered past p f own distinct =
 
 -- what a dwell catches, and what it misses
 pub due-caught : (disk : Disk) (holding : Holding) (how : How) (dwell : Dwell) (past : Past) → AreDistinct (wanted past)
-    → AreDue past (caught disk (held_now holding) how dwell (wanted past))
+    → AreDue past (caught_rows disk (held_now holding) how dwell (wanted past))
 due-caught disk holding how dwell past distinct =
     due-filtered past (catches disk dwell) (delivery_by disk holding how dwell) (λ b. refl) distinct
 
 pub left-caught : (disk : Disk) (holding : Holding) (how : How) (dwell : Dwell) (past : Past) → AreDistinct (wanted past)
-    → wanted (past_with past (caught disk (held_now holding) how dwell (wanted past))) ≡ missed disk dwell (wanted past)
+    → wanted (past_with past (caught_rows disk (held_now holding) how dwell (wanted past))) ≡ missed disk dwell (wanted past)
 left-caught disk holding how dwell past distinct =
     left-filtered past (catches disk dwell) (delivery_by disk holding how dwell) (λ b. refl) distinct
 
@@ -288,31 +288,33 @@ all-taken holding how cs n enough = take_all n (map (row_in holding how) cs) (om
 -- the catches of a dwell are its deliveries
 pub rows-of_catches : (disk : Disk) (holding : Holding) (how : How) (dwell : Dwell) (past : Past) (before : Background)
     → IsCurrent disk.map past before → (cs : List Catch) → cs ≡ caught_of disk dwell (wanted_of before.wanted)
-    → map (row_in holding how) cs ≡ caught disk (held_now holding) how dwell (wanted past)
+    → map (row_in holding how) cs ≡ caught_rows disk (held_now holding) how dwell (wanted past)
 rows-of_catches disk holding how dwell past before current cs all = ap (map (row_in holding how)) (all
     ∙ ap (caught_of disk dwell) (wanted-told current.tells)) ∙ rows-caught disk holding how dwell (wanted past)
 
 -- what one dwell catches, and then what another one catches of what is left
 module _ (disk : Disk) (holding : Holding) (how : How) (early late : Dwell) (past : Past) where
   abbrev first_caught : List DeliveryRow
-  first_caught = caught disk (held_now holding) how early (wanted past)
+  first_caught = caught_rows disk (held_now holding) how early (wanted past)
 
   pub delivered-both : (rows : List BackRow) (middle after : Background)
       → wanted (past_with past first_caught) ≡ missed disk early (wanted past) → HasDelivered disk.map past first_caught rows middle
       → ((later : Past) → IsCurrent disk.map later middle
-      → HasDelivered disk.map later (caught disk (held_now holding) how late (wanted later)) middle.rows after)
-      → HasDelivered disk.map past (first_caught ++ caught disk (held_now holding) how late (missed disk early (wanted past))) rows after
+      → HasDelivered disk.map later (caught_rows disk (held_now holding) how late (wanted later)) middle.rows after)
+      → HasDelivered disk.map past (first_caught ++ caught_rows disk (held_now holding) how late (missed disk early (wanted past))) rows
+      after
   delivered-both rows middle after left first next =
       delivered-join first
-      (subst (λ bs. HasDelivered disk.map (past_with past first_caught) (caught disk (held_now holding) how late bs) middle.rows after) left
-      (next (past_with past first_caught) first.current))
+      (subst (λ bs. HasDelivered disk.map (past_with past first_caught) (caught_rows disk (held_now holding) how late bs) middle.rows after)
+      left (next (past_with past first_caught) first.current))
 
   pub left-both : wanted (past_with past first_caught) ≡ missed disk early (wanted past)
-      → wanted (past_with (past_with past first_caught) (caught disk (held_now holding) how late (wanted (past_with past first_caught))))
+      → wanted (past_with (past_with past first_caught)
+      (caught_rows disk (held_now holding) how late (wanted (past_with past first_caught))))
       ≡ missed disk late (wanted (past_with past first_caught))
-      → wanted (past_with past (first_caught ++ caught disk (held_now holding) how late (missed disk early (wanted past))))
+      → wanted (past_with past (first_caught ++ caught_rows disk (held_now holding) how late (missed disk early (wanted past))))
       ≡ missed disk late (missed disk early (wanted past))
   left-both left next =
-      ap wanted (past_with-append past first_caught (caught disk (held_now holding) how late (missed disk early (wanted past))))
-      ∙ (ap (λ bs. wanted (past_with (past_with past first_caught) (caught disk (held_now holding) how late bs))) (sym left)
+      ap wanted (past_with-append past first_caught (caught_rows disk (held_now holding) how late (missed disk early (wanted past))))
+      ∙ (ap (λ bs. wanted (past_with (past_with past first_caught) (caught_rows disk (held_now holding) how late bs))) (sym left)
       ∙ (next ∙ ap (missed disk late) left))

@@ -29,7 +29,7 @@ use Rattle.fb_model.proofs.Passages.{from_on, passed_between}
 use Rattle.fb_plan.specs.Ways.{IsGap}
 use Rattle.fb_tasks.specs.Telling.{Tells}
 use Rattle.fb_decide.specs.declared.background.Background.{Background}
-use Rattle.fb_decide.specs.Deliveries.{IsCurrent, HasDelivered, HasPassed, HasServed, followed, past_with, rows_of, held_now}
+use Rattle.fb_decide.specs.Deliveries.{IsCurrent, HasDelivered, HasDeliveredAround, HasServed, followed, past_with, rows_of, held_now}
 use Rattle.fb_decide.proofs.Delivering.{delivered-join}
 
 abbrev pub gap_from : Track → ℕ → Bool → Track → ℕ → Gap
@@ -110,13 +110,13 @@ module _ (disk : Disk) (holding : Holding) (served : Served) (plan : Plan) (past
       delivered-join first (subst (λ bs. HasDelivered disk.map (past_with past (in_gap (gap_of disk served)))
       (rides (held_now holding) served bs) middle.rows after) are_left (next (past_with past (in_gap (gap_of disk served))) first.current))
 
-  pub has-passed : (gap : Gap) (rows : List BackRow) (middle after : Background) → gap ≡ gap_of disk served
+  pub has-delivered-around : (gap : Gap) (rows : List BackRow) (middle after : Background) → gap ≡ gap_of disk served
       → IsBest disk gap (wanted past) plan
       → HasDelivered disk.map past (in_gap gap) (rows ++ opening gap ∷ []) middle → wanted (past_with past (in_gap gap)) ≡ left gap
       → ((later : Past) → IsCurrent disk.map later middle
       → HasDelivered disk.map later (rides (held_now holding) served (wanted later)) middle.rows after)
-      → HasPassed disk holding past served rows after
-  has-passed gap rows middle after its_own best first are_left next = record {
+      → HasDeliveredAround disk holding past served rows after
+  has-delivered-around gap rows middle after its_own best first are_left next = record {
     plan = plan;
     best = subst (λ g. IsBest disk g (wanted past) plan) its_own best;
     delivered = all-delivered (rows ++ opening (gap_of disk served) ∷ []) middle after
@@ -125,12 +125,12 @@ module _ (disk : Disk) (holding : Holding) (served : Served) (plan : Plan) (past
   }
 
 -- and then the request has finished
-pub has-served : (disk : Disk) (holding : Holding) (past : Past) (served : Served) (rows : List BackRow) (passed after : Background)
-    → HasPassed disk holding past served rows passed
-    → ((later : Past) → Tells disk.map later passed.sessions passed.wanted
+pub has-served : (disk : Disk) (holding : Holding) (past : Past) (served : Served) (rows : List BackRow) (middle after : Background)
+    → HasDeliveredAround disk holding past served rows middle
+    → ((later : Past) → Tells disk.map later middle.sessions middle.wanted
     → Tells disk.map (finished served.request ∷ later) after.sessions after.wanted)
-    → after.rows ≡ passed.rows → HasServed disk holding past served rows after
-has-served disk holding past served rows passed after all ends same =
+    → after.rows ≡ middle.rows → HasServed disk holding past served rows after
+has-served disk holding past served rows middle after all ends same =
     let line = GapLine (record { name = served.request.name; gap = gap_of disk served; plan = all.plan }) in
     let gots = due disk (held_now holding) (serving served all.plan) (wanted past) in
     record {

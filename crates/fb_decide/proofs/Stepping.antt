@@ -14,7 +14,7 @@ use Rattle.fb_model.specs.Accepted.{IsRequestOf}
 use Rattle.fb_model.specs.Content.{contents_at, medium_of}
 use Rattle.fb_model.specs.PlainReplay.{Served, service}
 use Rattle.fb_model.specs.Decisions.{Decision, serves, idles, ends, instant_of, end_of, Act, serving, idling, ending, decision_of}
-use Rattle.fb_model.specs.Rides.{due, caught}
+use Rattle.fb_model.specs.Rides.{due, caught_rows}
 use Rattle.fb_model.specs.History.{Past, tested, tasks, registered, wanted, state, bare_state}
 use Rattle.fb_model.specs.Steps.{Delivery, Step, decision_in, chosen_past, past_after, with_delivery, with_finish, opening, step_rows}
 use Rattle.fb_model.specs.SoundRun.{IsTested}
@@ -207,12 +207,12 @@ module _ (inputs : Inputs) (past : Past) (before : Course) (background : Backgro
   -- the head stays
   module _ (instant : ℕ) (later : before.now ≤ instant) (after : Course) (stayed : HasStayed inputs.disk instant ready after)
       (mirrors : Mirrors (medium_of inputs) before.store before.now instant) where
-    has_delivered : HasDelivered inputs.disk.map tested_now (caught inputs.disk (held_now before.store) ByIdle (stay_of ready instant)
+    has_delivered : HasDelivered inputs.disk.map tested_now (caught_rows inputs.disk (held_now before.store) ByIdle (stay_of ready instant)
         (wanted tested_now)) (background.rows ++ opening inputs.disk (idling (stay_of ready instant))) after.background
     has_delivered = stayed.delivered tested_now test.current
 
     abbrev stayed_gots : List DeliveryRow
-    stayed_gots = caught inputs.disk (held_now before.store) ByIdle (stay_of ready instant) (wanted tested_now)
+    stayed_gots = caught_rows inputs.disk (held_now before.store) ByIdle (stay_of ready instant) (wanted tested_now)
 
     pub stays_step : StepsBy inputs past before (idling (stay_of ready instant)) after
     unfolding due medium_of

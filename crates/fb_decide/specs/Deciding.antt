@@ -19,7 +19,7 @@ use Rattle.fb_rows.specs.declared.gap.How.TheVariants.{Idle as ByIdle}
 use Rattle.fb_rows.specs.declared.back.BackRow.TheVariants.{Idle as IdleLine}
 use Rattle.fb_model.specs.PlainReplay.{Key, first_track, service, last_track, finish, first_least}
 use Rattle.fb_model.specs.History.{Past, wanted}
-use Rattle.fb_model.specs.Rides.{caught}
+use Rattle.fb_model.specs.Rides.{caught_rows}
 use Rattle.fb_decide.specs.declared.background.Background.{Background}
 use Rattle.fb_decide.specs.declared.deciding.Course.{Course}
 use Rattle.fb_decide.specs.Contents.{left_by, IsRowOf}
@@ -73,7 +73,7 @@ stay_of course instant = record { track = course.head; begin = course.now; end =
 -- the head stayed until an instant
 pub record HasStayed (disk : Disk) (instant : ℕ) (before after : Course) : Type 0 where
   pub delivered : (past : Past) → IsCurrent disk.map past before.background
-      → HasDelivered disk.map past (caught disk (held_now before.store) ByIdle (stay_of before instant) (wanted past))
+      → HasDelivered disk.map past (caught_rows disk (held_now before.store) ByIdle (stay_of before instant) (wanted past))
       (before.background.rows ++ IdleLine (stay_of before instant) ∷ []) after.background
   pub until : after.now ≡ instant
   pub same_store : after.store ≡ before.store

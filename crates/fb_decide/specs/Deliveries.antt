@@ -77,7 +77,7 @@ pub record HasDelivered (disk : Shape) (past : Past) (gots : List DeliveryRow) (
   pub registered : AllByRecursion (λ got. IsRegistered past got.block) gots
 
 -- the best plan for a request's gap was followed, and what is due in the gap and along with a read was delivered
-pub record HasPassed (disk : Disk) (holding : Holding) (past : Past) (served : Served) (rows : List BackRow)
+pub record HasDeliveredAround (disk : Disk) (holding : Holding) (past : Past) (served : Served) (rows : List BackRow)
     (after : Background) : Type 0 where
   pub plan : Plan
   pub best : IsBest disk (gap_of disk served) (wanted past) plan

@@ -2,7 +2,7 @@
 ghost use Rattle.std.specs.Prelude.{◌≡◌, ◌+◌, ◌*◌, ◌≤◌, ◌^◌, ℕ, [], ◌∷◌, ◌++◌, Some, map, slice_get, OnOk};
 ghost use Rattle.fb_geometry.specs.Shape.{Shape};
 ghost use Rattle.fb_model.specs.History.{Past, wanted};
-ghost use Rattle.fb_model.specs.Rides.{delivery, caught, missed};
+ghost use Rattle.fb_model.specs.Rides.{delivery, caught_rows, missed};
 ghost use Rattle.fb_decide.specs.Deliveries.{IsCurrent, HasDelivered, AreDue, row_in, held_now, past_with};
 
 use fb_plan::{Catch, caught};
@@ -17,7 +17,7 @@ use std::alloc::Global;
 /// The background between two events of a replay.
 ///
 /// Before a decision it is prepared (`prepare`); around a service blocks are delivered
-/// (`deliver_around`): in the gap (`pass`) and by the read itself (`ride`).
+/// (`deliver_around`): in the gap (`go_through`) and by the read itself (`ride`).
 #[derive(Drop)]
 pub struct Background {
     /// The tasks, in order of opening.
@@ -82,7 +82,7 @@ impl Background {
     /// Delivers all that the head catches in a dwell.
     ///
     /// The only error is out of memory.
-    pub fn stay(
+    pub fn deliver_in_stay(
         &mut self,
         alloc: Global,
         disk: &Disk,
@@ -93,9 +93,9 @@ impl Background {
         requires current { (past : Past) × IsCurrent disk.now.map past self.old }
         requires early { dwell.begin ≤ 9 * 10 ^ 18 }
         ensures delivered { OnOk result ((past : Past) → IsCurrent disk.now.map past self.old
-            → HasDelivered disk.now.map past (caught disk.now (held_now store.now) how dwell (wanted past)) self.old.rows self.new) }
+            → HasDelivered disk.now.map past (caught_rows disk.now (held_now store.now) how dwell (wanted past)) self.old.rows self.new) }
         ensures left { OnOk result ((past : Past) → IsCurrent disk.now.map past self.old
-            → wanted (past_with past (caught disk.now (held_now store.now) how dwell (wanted past)))
+            → wanted (past_with past (caught_rows disk.now (held_now store.now) how dwell (wanted past)))
             ≡ missed disk.now dwell (wanted past)) }
     {
         let catches = caught(alloc, disk, &self.wanted, dwell)?;
@@ -115,10 +115,10 @@ impl Background {
         requires current { (past : Past) × IsCurrent disk.now.map past self.old }
         requires early { dwell.begin ≤ 9 * 10 ^ 18 }
         ensures { OnOk result ((past : Past) → IsCurrent disk.now.map past self.old
-            → HasDelivered disk.now.map past (caught disk.now (held_now store.now) How.Idle dwell (wanted past))
+            → HasDelivered disk.now.map past (caught_rows disk.now (held_now store.now) How.Idle dwell (wanted past))
             (self.old.rows ++ BackRow.Idle dwell ∷ []) self.new) }
     {
         self.rows.push(BackRow::Idle(dwell))?;
-        self.stay(alloc, disk, store, How::Idle, dwell)
+        self.deliver_in_stay(alloc, disk, store, How::Idle, dwell)
     }
 }

@@ -14,7 +14,7 @@ ghost use Rattle.fb_model.specs.Rides.{caught_in_gap, missed_in_gap};
 ghost use Rattle.fb_plan.specs.Ways.{IsGap};
 ghost use Rattle.fb_tasks.specs.Telling.{Tells};
 ghost use Rattle.fb_decide.specs.Contents.{found_in, left_by, IsRowOf};
-ghost use Rattle.fb_decide.specs.Deliveries.{IsCurrent, HasDelivered, HasPassed, HasServed, held_now, past_with};
+ghost use Rattle.fb_decide.specs.Deliveries.{IsCurrent, HasDelivered, HasDeliveredAround, HasServed, held_now, past_with};
 ghost use Rattle.fb_decide.specs.Start.{IsStartOn, served_from};
 
 use crate::background::Background;
@@ -110,7 +110,7 @@ impl Background {
         ensures later { IfOk result (λ passing. start.instant < passing.finish) }
         ensures soon { IfOk result (λ passing. passing.finish ≤ start.instant + start.request.count * (4 * 10 ^ 9)) }
         ensures delivered { OnOk result ((past : Past) → IsCurrent disk.now.map past self.old
-            → HasPassed disk.now store.now past (served_from disk.now start) self.old.rows self.new) }
+            → HasDeliveredAround disk.now store.now past (served_from disk.now start) self.old.rows self.new) }
     {
         let request = start.request;
         let access = Access {
@@ -128,7 +128,7 @@ impl Background {
         };
         let plan = planner.best(disk, &self.wanted, &gap);
         let name = request.name;
-        self.pass(alloc, disk, store, GapRow { name, gap, plan })?;
+        self.go_through(alloc, disk, store, GapRow { name, gap, plan })?;
         self.ride(alloc, disk, store, start, service.extents.as_slice())?;
         Ok(Passing {
             media: service.media,
@@ -138,7 +138,7 @@ impl Background {
     }
 
     // Adds the row of a gap, goes through it by the row's plan, and delivers what its dwells catch.
-    fn pass(
+    fn go_through(
         &mut self,
         alloc: Global,
         disk: &Disk,
@@ -157,8 +157,8 @@ impl Background {
     {
         self.rows.push(BackRow::Gap(row))?;
         let pair = dwells(disk, row.plan, &row.gap);
-        self.stay(alloc, disk, store, How::Gap, pair.early)?;
-        self.stay(alloc, disk, store, How::Gap, pair.late)
+        self.deliver_in_stay(alloc, disk, store, How::Gap, pair.early)?;
+        self.deliver_in_stay(alloc, disk, store, How::Gap, pair.late)
     }
 
     // A request has finished: blocks that a write has overwritten may be wanted again.

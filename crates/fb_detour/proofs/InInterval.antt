@@ -17,10 +17,10 @@ by_interval begin end step k later some =
     ]
 
 -- what an offer adds up to the end of an interval
-pub gain-interval : (passing : Turning) (past step k : ℕ) (o : Offer)
-    → past ≡ end_of passing.rotation o.sweep passing.from - passing.from - 1 → 0 < step
-    → (if nat_lt (past / step) (k + 1) then o.worth else 0) ≡ added (passes_by passing (passing.from + (k + 1) * step)) o
-gain-interval passing past step k o is some =
+pub gain-interval : (turning : Turning) (past step k : ℕ) (o : Offer)
+    → past ≡ end_of turning.rotation o.sweep turning.from - turning.from - 1 → 0 < step
+    → (if nat_lt (past / step) (k + 1) then o.worth else 0) ≡ added (passes_by turning (turning.from + (k + 1) * step)) o
+gain-interval turning past step k o is some =
     ap (λ n. if nat_lt (n / step) (k + 1) then o.worth else 0) is
     ∙ ap (λ b. if b then o.worth else 0)
-    (by_interval passing.from (end_of passing.rotation o.sweep passing.from) step k (omega arith) some)
+    (by_interval turning.from (end_of turning.rotation o.sweep turning.from) step k (omega arith) some)

@@ -37,12 +37,12 @@ module _ (xs : List ℕ) (i v : ℕ) (within : i < length xs) (more : get_or xs 
   ]
 
 -- what is behind the last instant at which an offer can be caught adds nothing
-pub behind_last : (passing : Turning) (gap : Gap) (offer : Offer) (last from : ℕ)
-    → ((t : ℕ) → gap.now ≤ t → end_of passing.rotation offer.sweep t ≤ gap.deadline → t ≤ last) → gap.now ≤ from → last < from
-    → late_gain passing gap from offer ≡ 0
-behind_last passing gap offer last from catches after behind = elim (cases_lt gap.deadline (end_of passing.rotation offer.sweep from)) [
+pub behind_last : (turning : Turning) (gap : Gap) (offer : Offer) (last from : ℕ)
+    → ((t : ℕ) → gap.now ≤ t → end_of turning.rotation offer.sweep t ≤ gap.deadline → t ≤ last) → gap.now ≤ from → last < from
+    → late_gain turning gap from offer ≡ 0
+behind_last turning gap offer last from catches after behind = elim (cases_lt gap.deadline (end_of turning.rotation offer.sweep from)) [
   | inl late ↦
-      let missed : nat_le (end_of passing.rotation offer.sweep from) gap.deadline ≡ false = grind (arith, nat_tests) in
+      let missed : nat_le (end_of turning.rotation offer.sweep from) gap.deadline ≡ false = grind (arith, nat_tests) in
       ap (λ b. if b then offer.worth else 0) missed
   | inr caught ↦ absurd (omega (arith, catches from after caught, behind))
 ]

@@ -3,22 +3,22 @@ use Rattle.fb_detour.proofs.Words.{arith, get_or, inl, inr, length, take, ℕ, �
 use Rattle.fb_detour.proofs.Words.{sum_by-take-le, sum_by_more, sum_by, Offer, added, passes_by, Turning, IsReady, missed, offered, Stop}
 use Rattle.fb_detour.proofs.Ceilings.{sum-of-both}
 
-either : (passing : Turning) (upto : ℕ) (o : Offer) → added (passes_by passing upto) o + missed passing upto o ≤ o.worth
-either passing upto o = elim (cases_Bool (passes_by passing upto o.sweep)) [
+either : (turning : Turning) (upto : ℕ) (o : Offer) → added (passes_by turning upto) o + missed turning upto o ≤ o.worth
+either turning upto o = elim (cases_Bool (passes_by turning upto o.sweep)) [
   | inl by ↦ rw by (omega arith)
   | inr late ↦ rw late (omega arith)
 ]
 
 module _ (stop : Stop) (upto : ℕ) (ready : IsReady stop) where
   abbrev misses : Offer → ℕ
-  misses = missed stop.passing upto
+  misses = missed stop.turning upto
 
   -- what is left of a stop's weight when the offers so far that come too late are taken off
   pub missed-so-far : (n : ℕ) → offered stop upto + sum_by misses (take n stop.offers.now) ≤ stop.weight
   missed-so-far n =
-      let gain = added (passes_by stop.passing upto) in
+      let gain = added (passes_by stop.turning upto) in
       let offers = stop.offers.now in
-      let both = sum_by-le-sum_by (λ (o : Offer). gain o + misses o) (λ o. o.worth) offers (either stop.passing upto) in
+      let both = sum_by-le-sum_by (λ (o : Offer). gain o + misses o) (λ o. o.worth) offers (either stop.turning upto) in
       omega (arith, both, sum-of-both gain misses offers, sum_by-take-le misses offers n, ready.weight)
 
   -- one offer more

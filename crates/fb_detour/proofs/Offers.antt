@@ -41,13 +41,13 @@ module _ (disk : Disk) (dwell : Dwell) where
 
   -- a stop's offers give to a stay what it catches of the track's blocks
   pub gives : (es : List Entry) (stop : Stop) → IsStop disk (on_track dwell.track es) stop
-      → sum_by (added (passes_by (turned_to stop.passing dwell.begin) dwell.end)) stop.offers.now ≡ stay disk dwell es
+      → sum_by (added (passes_by (turned_to stop.turning dwell.begin) dwell.end)) stop.offers.now ≡ stay disk dwell es
   unfolding stay
   gives es stop is =
       let its = on_track dwell.track es in
       let all = all_of (λ e. stay_gain disk dwell e ≡ (if is_wanted e.state then by_sweep e.block else 0)) its
       (λ k e at. on_its_track e (is.on_disk k e at) (in_filter (λ x. same_track dwell.track x.block.track) es k e at).2) in
-      ap (λ r. sum_by (added (λ sweep. nat_le (end_of r sweep dwell.begin) dwell.end)) stop.offers.now) is.passing.rotation
+      ap (λ r. sum_by (added (λ sweep. nat_le (end_of r sweep dwell.begin) dwell.end)) stop.offers.now) is.turning.rotation
       ∙ (is.its (λ sweep n. if nat_le (end_of disk.map.rotation sweep dwell.begin) dwell.end then n else 0)
       ∙ over_entries by_sweep (stay_gain disk dwell) its all)
 
@@ -85,19 +85,19 @@ small-sum stop f n less ready =
     omega (arith, sum_by-take-le f stop.offers.now n, all, ready.weight, ready.small)
 
 -- to a later stay each adds no more
-falls : (passing : Turning) (gap : Gap) (soon late : ℕ) (o : Offer) → 0 < passing.rotation → soon ≤ late
-    → late_gain passing gap late o ≤ late_gain passing gap soon o
-falls passing gap soon late o some le =
-    let ends = next-le passing.rotation o.sweep.begin soon late some le in
-    elim (cases_lt gap.deadline (end_of passing.rotation o.sweep late)) [
+falls : (turning : Turning) (gap : Gap) (soon late : ℕ) (o : Offer) → 0 < turning.rotation → soon ≤ late
+    → late_gain turning gap late o ≤ late_gain turning gap soon o
+falls turning gap soon late o some le =
+    let ends = next-le turning.rotation o.sweep.begin soon late some le in
+    elim (cases_lt gap.deadline (end_of turning.rotation o.sweep late)) [
       | inl behind ↦
-          let none : nat_le (end_of passing.rotation o.sweep late) gap.deadline ≡ false = grind (arith, nat_tests) in rw none (omega arith)
+          let none : nat_le (end_of turning.rotation o.sweep late) gap.deadline ≡ false = grind (arith, nat_tests) in rw none (omega arith)
       | inr by ↦
-          let early : nat_le (end_of passing.rotation o.sweep soon) gap.deadline ≡ true = grind (arith, nat_tests) in
-          rw early (added-worth (passes_by (turned_to passing late) gap.deadline) o)
+          let early : nat_le (end_of turning.rotation o.sweep soon) gap.deadline ≡ true = grind (arith, nat_tests) in
+          rw early (added-worth (passes_by (turned_to turning late) gap.deadline) o)
     ]
 
-pub sums-fall : (passing : Turning) (gap : Gap) (soon late : ℕ) (offers : List Offer) → 0 < passing.rotation → soon ≤ late
-    → sum_by (late_gain passing gap late) offers ≤ sum_by (late_gain passing gap soon) offers
-sums-fall passing gap soon late offers some le =
-    sum_by-le-sum_by (late_gain passing gap late) (late_gain passing gap soon) offers (λ o. falls passing gap soon late o some le)
+pub sums-fall : (turning : Turning) (gap : Gap) (soon late : ℕ) (offers : List Offer) → 0 < turning.rotation → soon ≤ late
+    → sum_by (late_gain turning gap late) offers ≤ sum_by (late_gain turning gap soon) offers
+sums-fall turning gap soon late offers some le =
+    sum_by-le-sum_by (late_gain turning gap late) (late_gain turning gap soon) offers (λ o. falls turning gap soon late o some le)

@@ -141,12 +141,12 @@ module _ (search : Search) where
   module _ (way : Way) (bins : Bins) (stop target : Stop) where
     -- what bounds each of its two stays bounds a plan
     pub are_bins : IsStop disk (on_track (early_track gap way) entries) stop → IsStop disk (on_track gap.target entries) target
-        → 0 < bins.leaves.now.bin_length → bins.leaves.now.begin ≡ stop.passing.from → stop.passing.from ≡ arrival disk gap way
+        → 0 < bins.leaves.now.bin_length → bins.leaves.now.begin ≡ stop.turning.from → stop.turning.from ≡ arrival disk gap way
         → bins.leaves.now.move_on ≡ move_on disk gap way
         → AreSmallSums bins.early.now 16384 → AreSmallSums bins.late.now 16384
         → ((leave : ℕ) → offered stop leave ≤ get_or bins.early.now (bin_at bins.leaves.now.begin bins.leaves.now.bin_length leave) 0)
         → ((leave : ℕ) → bins.leaves.now.begin ≤ leave → IsBounded bins.leaves.now leave
-        → sum_by (late_gain target.passing gap (leave + bins.leaves.now.move_on)) target.offers.now
+        → sum_by (late_gain target.turning gap (leave + bins.leaves.now.move_on)) target.offers.now
         ≤ get_or bins.late.now (16383 - bin_at bins.leaves.now.begin bins.leaves.now.bin_length leave) 0)
         → AreBins search way bins
     are_bins its ends some begin arrive on small_early small_late early late = record {
@@ -155,7 +155,7 @@ module _ (search : Search) where
       late = small_late;
       most = λ leave is noted.
           let on_time = (bounds disk gap way leave is).0 in
-          let from = stop.passing.from in
+          let from = stop.turning.from in
           omega (
             arith,
             by_interval way leave from leave (leave + bins.leaves.now.move_on) arrive (omega arith) (omega (arith, on)),

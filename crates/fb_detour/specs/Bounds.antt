@@ -22,7 +22,7 @@ use Rattle.fb_plan.specs.declared.turning.Turning.{Turning}
 use Rattle.fb_plan.specs.declared.way.Way.{Way}
 use Rattle.fb_plan.specs.declared.way.Way.TheVariants.{Over}
 use Rattle.fb_plan.specs.Ways.{IsNoWorse, AreOnDisk, IsGap, IsScored, IsWay, plan_by, early_track, arrival, move_on}
-use Rattle.fb_plan.specs.Turns.{added, passes_by, stay_of, AreInTurn, AreSides, IsTurning, Stands}
+use Rattle.fb_plan.specs.Turns.{added, passes_by, longest_stay, AreInTurn, AreSides, IsTurning, Stands}
 use Rattle.fb_detour.specs.declared.bins.Bins.{Bins}
 use Rattle.fb_detour.specs.declared.bins.Leaves.{Leaves}
 use Rattle.fb_detour.specs.declared.bounds.Moves.{Moves}
@@ -41,15 +41,15 @@ stay_gain disk dwell entry =
 
 -- the same platter at another instant
 abbrev pub turned_to : Turning → ℕ → Turning
-turned_to passing from = record { from = from; at = from % passing.rotation; rotation = passing.rotation }
+turned_to turning from = record { from = from; at = from % turning.rotation; rotation = turning.rotation }
 
 -- what an offer of the target adds to a stay there from an instant on
 abbrev pub late_gain : Turning → Gap → ℕ → Offer → ℕ
-late_gain passing gap from = added (passes_by (turned_to passing from) gap.deadline)
+late_gain turning gap from = added (passes_by (turned_to turning from) gap.deadline)
 
 -- the worth of an offer that a stay misses, since its sweep doesn't pass whole by the end
 abbrev pub missed : Turning → ℕ → Offer → ℕ
-missed passing upto = added (λ sweep. not (passes_by passing upto sweep))
+missed turning upto = added (λ sweep. not (passes_by turning upto sweep))
 
 -- what a stay catches of its track's blocks
 unfoldable pub stay : Disk → Dwell → List Entry → ℕ
@@ -119,7 +119,7 @@ IsDetourIn search track leave = IsDetour search.disk.now search.gap.now track le
 
 -- the sides are the blocks of the way's track and of the target, all of them on the disk, and where the platter stands on arrival
 pub record AreSidesOf (search : Search) (way : Way) (sides : Sides) : Type 0 where
-  pub its : AreSides search.disk.now search.gap.now.target search.wanted.now (stay_of search.disk.now search.gap.now way) sides
+  pub its : AreSides search.disk.now search.gap.now.target search.wanted.now (longest_stay search.disk.now search.gap.now way) sides
   pub early : AreOnDisk search.disk.now sides.early
   pub late : AreOnDisk search.disk.now sides.late
 
@@ -200,15 +200,15 @@ AreNotes trial best notes = (k : ℕ) → k < length notes → IsNoBetter trial 
 pub record IsReady (stop : Stop) : Type 0 where
   pub weight : sum_by (λ (offer : Offer). offer.worth) stop.offers.now ≡ stop.weight
   pub small : stop.weight ≤ 16000000 * 2048000
-  pub in_turn : AreInTurn stop.passing.rotation stop.offers.now
-  pub stands : Stands stop.passing
+  pub in_turn : AreInTurn stop.turning.rotation stop.offers.now
+  pub stands : Stands stop.turning
 
 -- the stop offers what these blocks do, all of which lie on the disk, and its platter is the disk's
 pub record IsStop (disk : Disk) (blocks : List Entry) (stop : Stop) : Type 0 where
   pub ready : IsReady stop
   pub its : AreOffers stop.offers.now blocks
   pub on_disk : AreOnDisk disk blocks
-  pub passing : IsTurning disk stop.passing
+  pub turning : IsTurning disk stop.turning
 
 -- the stop is that of the early dwell of plans of the way
 abbrev pub IsStopOf : Search → Way → Stop → Type 0
@@ -216,7 +216,7 @@ IsStopOf search way stop = IsStop search.disk.now (on_track (early_track search.
 
 -- what a stop gives to a head that stays up to an instant
 abbrev pub offered : Stop → ℕ → ℕ
-offered stop upto = sum_by (added (passes_by stop.passing upto)) stop.offers.now
+offered stop upto = sum_by (added (passes_by stop.turning upto)) stop.offers.now
 
 -- how many cylinders a cylinder lies outside a range; 0 inside it
 abbrev pub distance_to : ℕ → ℕ → ℕ → ℕ

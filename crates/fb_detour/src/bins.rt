@@ -69,10 +69,10 @@ pub fn firsts_of(stop: &Stop, bin_length: Ns) -> [Ns; BINS]
     requires some { 0 < bin_length }
 {
     let mut firsts = [NEVER; BINS];
-    firsts[0] = stop.passing.from;
+    firsts[0] = stop.turning.from;
     for offer in stop.offers {
-        let end = stop.passing.end(offer.sweep);
-        let k = bin_at(stop.passing.from, bin_length, end);
+        let end = stop.turning.end(offer.sweep);
+        let k = bin_at(stop.turning.from, bin_length, end);
         firsts[k] = firsts[k].min(end);
     }
     firsts
@@ -82,13 +82,13 @@ pub fn firsts_of(stop: &Stop, bin_length: Ns) -> [Ns; BINS]
 pub fn early_bins(stop: &Stop, bin_length: Ns) -> [u64; BINS]
     requires stop { IsReady stop.now }
     requires some { 0 < bin_length }
-    ensures most { (leave : ℕ) → offered stop.now leave ≤ get_or result (bin_at stop.now.passing.from bin_length leave) 0 }
+    ensures most { (leave : ℕ) → offered stop.now leave ≤ get_or result (bin_at stop.now.turning.from bin_length leave) 0 }
     ensures small { AreSmallSums result 16384 }
 {
     let mut bins = [0; BINS];
     for offer in stop.offers {
-        let end = stop.passing.end(offer.sweep);
-        let k = bin_at(stop.passing.from, bin_length, end);
+        let end = stop.turning.end(offer.sweep);
+        let k = bin_at(stop.turning.from, bin_length, end);
         add_at(&mut bins, k, offer.worth);
     }
     add_up(&mut bins);
@@ -134,16 +134,16 @@ fn too_late_for(search: &Search, target: &Turning, leaves: &Leaves, sweep: Sweep
 pub fn late_bins(search: &Search, target: &Stop, leaves: &Leaves) -> [u64; BINS]
     requires search { IsSearch search.now }
     requires target { IsStop search.now.disk.now (on_track search.now.gap.now.target search.now.wanted.now) target.now }
-    requires from { target.now.passing.from ≡ search.now.gap.now.now }
+    requires from { target.now.turning.from ≡ search.now.gap.now.now }
     requires leaves { AreLeaves search.now leaves.now }
     ensures most { (leave : ℕ) → leaves.now.begin ≤ leave → IsBounded leaves.now leave
-        → sum_by (late_gain target.now.passing search.now.gap.now (leave + leaves.now.move_on)) target.now.offers.now
+        → sum_by (late_gain target.now.turning search.now.gap.now (leave + leaves.now.move_on)) target.now.offers.now
         ≤ get_or result (16383 - bin_at leaves.now.begin leaves.now.bin_length leave) 0 }
     ensures small { AreSmallSums result 16384 }
 {
     let mut bins = [0; BINS];
     for offer in target.offers {
-        let k = too_late_for(search, &target.passing, leaves, offer.sweep);
+        let k = too_late_for(search, &target.turning, leaves, offer.sweep);
         add_at(&mut bins, k, offer.worth);
     }
     add_up(&mut bins);

@@ -14,7 +14,7 @@ use crate::given::Search;
 use crate::intervals::{Ceilings, ceiling_at, ceilings_of};
 use crate::stop::{Stop, stop_at};
 use fb_plan::{
-    Scored, Sides, Way, blocks_on, is_no_worse, move_on, plan_by, sides_of, stay_of, try_plan,
+    Scored, Sides, Way, blocks_on, is_no_worse, longest_stay, move_on, plan_by, sides_of, try_plan,
 };
 use fb_rows::Gap;
 use fb_service::Disk;
@@ -145,7 +145,7 @@ fn try_each(trial: &Trial, bins: Option<&Bins>, notes: &mut [Ns], start: Scored)
     let offers = sides.early.offers();
     let mut best = try_once(trial, bins, trial.ceilings.begin, notes, start);
     for offer in offers {
-        let end = sides.passing.end(offer.sweep);
+        let end = sides.turning.end(offer.sweep);
         best = try_once(trial, bins, end, notes, best);
     }
     best
@@ -169,7 +169,7 @@ fn try_fullest(trial: &Trial, bins: &Bins, stop: &Stop, start: Scored) -> Scored
     requires trial { IsTrial trial.now }
     requires bins { AreBins trial.now.search.now trial.now.way bins.now }
     requires stop { IsReady stop.now }
-    requires from { stop.now.passing.from ≡ trial.now.ceilings.now.begin }
+    requires from { stop.now.turning.from ≡ trial.now.ceilings.now.begin }
     requires best { IsFound trial.now.search.now start }
     ensures scored { IsFound trial.now.search.now result }
     ensures keeps { IsNoWorseIn trial.now.search.now result.plan start.plan }
@@ -178,7 +178,7 @@ fn try_fullest(trial: &Trial, bins: &Bins, stop: &Stop, start: Scored) -> Scored
     let most = fullest(bins, latest);
     let mut best = start;
     for offer in stop.offers {
-        let end = stop.passing.end(offer.sweep);
+        let end = stop.turning.end(offer.sweep);
         if bin_at(bins.leaves.begin, bins.leaves.bin_length, end) == most {
             best = try_leave(trial, Some(bins), end, best);
         }
@@ -192,7 +192,7 @@ fn try_binned(trial: &Trial, bins: &Bins, stop: &Stop, start: Scored) -> Scored
     requires trial { IsTrial trial.now }
     requires bins { AreBins trial.now.search.now trial.now.way bins.now }
     requires stop { IsReady stop.now }
-    requires from { stop.now.passing.from ≡ trial.now.ceilings.now.begin }
+    requires from { stop.now.turning.from ≡ trial.now.ceilings.now.begin }
     requires best { IsFound trial.now.search.now start }
     ensures scored { IsFound trial.now.search.now result }
     ensures keeps { IsNoWorseIn trial.now.search.now result.plan start.plan }
@@ -206,7 +206,7 @@ fn try_binned(trial: &Trial, bins: &Bins, stop: &Stop, start: Scored) -> Scored
 fn try_many(trial: &Trial, stop: &Stop, start: Scored) -> Scored
     requires trial { IsTrial trial.now }
     requires stop { IsStopOf trial.now.search.now trial.now.way stop.now }
-    requires from { stop.now.passing.from ≡ trial.now.ceilings.now.begin }
+    requires from { stop.now.turning.from ≡ trial.now.ceilings.now.begin }
     requires best { IsFound trial.now.search.now start }
     ensures scored { IsFound trial.now.search.now result }
     ensures keeps { IsNoWorseIn trial.now.search.now result.plan start.plan }
@@ -218,7 +218,7 @@ fn try_many(trial: &Trial, stop: &Stop, start: Scored) -> Scored
     let bin_length = bin_length_on(search.disk);
     let firsts = firsts_of(stop, bin_length);
     let leaves = Leaves {
-        begin: stop.passing.from,
+        begin: stop.turning.from,
         move_on: trial.ceilings.move_on,
         bin_length,
         firsts: &firsts,
@@ -254,12 +254,12 @@ const MOST_OPEN: usize = 16;
 fn are_many_open(trial: &Trial, stop: &Stop, best: Scored) -> bool
     requires trial { IsTrial trial.now }
     requires stop { IsReady stop.now }
-    requires from { stop.now.passing.from ≡ trial.now.ceilings.now.begin }
+    requires from { stop.now.turning.from ≡ trial.now.ceilings.now.begin }
 {
     let latest = trial.search.gap.deadline - trial.ceilings.move_on;
     let mut open: usize = 0;
     for offer in stop.offers {
-        let end = stop.passing.end(offer.sweep);
+        let end = stop.turning.end(offer.sweep);
         let ceiling = ceiling_at(trial.ceilings, end);
         if end <= latest && !is_no_better(best, ceiling, trial.way, end) {
             open = open.saturating_add(1);
@@ -275,7 +275,7 @@ fn are_many_open(trial: &Trial, stop: &Stop, best: Scored) -> bool
 fn try_dense(trial: &Trial, stop: &Stop, start: Scored) -> Scored
     requires trial { IsTrial trial.now }
     requires stop { IsStopOf trial.now.search.now trial.now.way stop.now }
-    requires from { stop.now.passing.from ≡ trial.now.ceilings.now.begin }
+    requires from { stop.now.turning.from ≡ trial.now.ceilings.now.begin }
     requires best { IsFound trial.now.search.now start }
     ensures scored { IsFound trial.now.search.now result }
     ensures keeps { IsNoWorseIn trial.now.search.now result.plan start.plan }
@@ -306,14 +306,14 @@ pub fn try_leaves(
     requires track { IsTrackOf search.now.disk.now.map (early_track search.now.gap.now way) }
     requires search { IsSearch search.now }
     requires stop { IsStopOf search.now way stop.now }
-    requires arrive { stop.now.passing.from ≡ arrival search.now.disk.now search.now.gap.now way }
+    requires arrive { stop.now.turning.from ≡ arrival search.now.disk.now search.now.gap.now way }
     requires ceilings { AreCeilings search.now way ceilings.now }
     requires best { IsFound search.now start }
     ensures scored { IsFound search.now result }
     ensures keeps { IsNoWorseIn search.now result.plan start.plan }
     ensures tried { IsNoWorseThanWay search.now way result.plan }
 {
-    let stay = stay_of(search.disk, search.gap, way);
+    let stay = longest_stay(search.disk, search.gap, way);
     let both = sides_of(search.disk, search.wanted, search.gap.target, stay);
     let trial = Trial {
         search,

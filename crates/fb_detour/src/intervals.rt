@@ -29,13 +29,13 @@ pub struct Ceilings<'a> {
 pub fn ceilings_of<'a>(search: &Search<'a>, way: Way, stop: &Stop, on: Ns) -> Ceilings<'a>
     requires search { IsSearch search.now }
     requires stop { IsStopOf search.now way stop.now }
-    requires arrive { stop.now.passing.from ≡ arrival search.now.disk.now search.now.gap.now way }
+    requires arrive { stop.now.turning.from ≡ arrival search.now.disk.now search.now.gap.now way }
     requires on { on ≡ move_on search.now.disk.now search.now.gap.now way }
     requires soon { on ≤ 2 * 10 ^ 9 }
-    requires in_time { stop.now.passing.from + on ≤ search.now.gap.now.deadline }
+    requires in_time { stop.now.turning.from + on ≤ search.now.gap.now.deadline }
     ensures { AreCeilings search.now way result }
 {
-    let begin = stop.passing.from;
+    let begin = stop.turning.from;
     let step = (search.gap.deadline - on - begin) / INTERVALS as u64 + 1;
     Ceilings {
         begin,

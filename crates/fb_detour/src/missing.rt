@@ -10,12 +10,12 @@ use fb_units::Ns;
 use fb_wanted::Offer;
 
 // The worth of an offer that doesn't pass whole by the latest instant; 0 for any other.
-fn missed(passing: &Turning, latest: Ns, offer: Offer) -> u64
-    requires stands { Stands passing.now }
-    requires in_turn { IsInTurn passing.now.rotation offer.sweep }
-    ensures { result ≡ missed passing.now latest offer }
+fn missed(turning: &Turning, latest: Ns, offer: Offer) -> u64
+    requires stands { Stands turning.now }
+    requires in_turn { IsInTurn turning.now.rotation offer.sweep }
+    ensures { result ≡ missed turning.now latest offer }
 {
-    if passing.ends_by(offer.sweep, latest) {
+    if turning.ends_by(offer.sweep, latest) {
         0
     } else {
         offer.worth as u64
@@ -32,7 +32,7 @@ pub fn misses_enough(stop: &Stop, latest: Ns, late: u64, best: Scored) -> bool
 {
     let mut most = stop.weight;
     for offer in stop.offers {
-        most -= missed(&stop.passing, latest, *offer);
+        most -= missed(&stop.turning, latest, *offer);
         if is_enough(best, most + late, stop.track) {
             return true;
         }

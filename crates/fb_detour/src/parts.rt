@@ -43,17 +43,17 @@ fn worth_by(instant: Ns, upto: Ns, worth: u64) -> u64
 
 // The last instant at which the head can come to the target and still catch what passes so, once a
 // rotation; `None` where it doesn't pass whole by the deadline.
-pub fn last_catch(disk: &Disk, gap: &Gap, passing: &Turning, sweep: Sweep) -> Option<Ns>
+pub fn last_catch(disk: &Disk, gap: &Gap, turning: &Turning, sweep: Sweep) -> Option<Ns>
     requires gap { IsGap disk.now gap.now }
-    requires passing { IsTurning disk.now passing.now }
-    requires from { passing.now.from ≡ gap.now.now }
-    requires in_turn { IsInTurn passing.now.rotation sweep }
+    requires turning { IsTurning disk.now turning.now }
+    requires from { turning.now.from ≡ gap.now.now }
+    requires in_turn { IsInTurn turning.now.rotation sweep }
     ensures some { IfSome result (λ last. (from : ℕ) → gap.entry.now.now ≤ from
-        → end_of passing.now.rotation sweep from ≤ gap.entry.now.deadline → from ≤ last) }
+        → end_of turning.now.rotation sweep from ≤ gap.entry.now.deadline → from ≤ last) }
     ensures within { IfSome result (λ last. (gap.entry.now.now ≤ last) × (last ≤ gap.entry.now.deadline)) }
-    ensures none { IfNone result ((from : ℕ) → gap.entry.now.now ≤ from → gap.entry.now.deadline < end_of passing.now.rotation sweep from) }
+    ensures none { IfNone result ((from : ℕ) → gap.entry.now.now ≤ from → gap.entry.now.deadline < end_of turning.now.rotation sweep from) }
 {
-    let end = passing.end(sweep);
+    let end = turning.end(sweep);
     if gap.deadline < end {
         return None;
     }
@@ -110,27 +110,27 @@ fn add_limit(last: Ns, begin: Ns, step: Ns, limits: &mut [Ns; LIMITS])
 fn add_late(
     disk: &Disk,
     gap: &Gap,
-    passing: &Turning,
+    turning: &Turning,
     offer: Offer,
     parts: &mut [u64; GAP_PARTS],
     limits: &mut [Ns; LIMITS],
 )
     requires gap { IsGap disk.now gap.now }
-    requires passing { IsTurning disk.now passing.now }
-    requires from { passing.now.from ≡ gap.now.now }
-    requires in_turn { IsInTurn passing.now.rotation offer.sweep }
+    requires turning { IsTurning disk.now turning.now }
+    requires from { turning.now.from ≡ gap.now.now }
+    requires in_turn { IsInTurn turning.now.rotation offer.sweep }
     requires spread { (k : ℕ) → k < 33 → gap.now.now + (k - 1) * late_step gap.now ≤ get_or limits.old k 0 }
     requires room { AreSmallSums parts.old 32 }
     ensures most { (k : ℕ) → k < 32 → get_or parts.old k 0
-        + late_gain passing.now gap.entry.now (gap.entry.now.now + k * late_step gap.entry.now) offer ≤ get_or parts.new k 0 }
+        + late_gain turning.now gap.entry.now (gap.entry.now.now + k * late_step gap.entry.now) offer ≤ get_or parts.new k 0 }
     ensures small { (k : ℕ) → k < 32 → get_or parts.new k 0 ≤ get_or parts.old k 0 + offer.worth }
     ensures first { get_or limits.new 0 0 ≡ get_or limits.old 0 0 }
     ensures grow { (k : ℕ) → get_or limits.old k 0 ≤ get_or limits.new k 0 }
     ensures limits { (k : ℕ) → k < 32 → get_or parts.old k 0
-        + late_gain passing.now gap.entry.now (get_or limits.new k 0) offer ≤ get_or parts.new k 0 }
-    ensures end { late_gain passing.now gap.entry.now (get_or limits.new 32 0) offer ≡ 0 }
+        + late_gain turning.now gap.entry.now (get_or limits.new k 0) offer ≤ get_or parts.new k 0 }
+    ensures end { late_gain turning.now gap.entry.now (get_or limits.new 32 0) offer ≡ 0 }
 {
-    if let Some(last) = last_catch(disk, gap, passing, offer.sweep) {
+    if let Some(last) = last_catch(disk, gap, turning, offer.sweep) {
         let step = (gap.deadline - gap.now) / GAP_PARTS as u64 + 1;
         add_last(last, offer.worth as u64, gap.now, step, parts);
         add_limit(last, gap.now, step, limits);
@@ -149,7 +149,7 @@ pub fn late_parts(disk: &Disk, wanted: &Wanted, gap: &Gap) -> LateParts
     let mut parts = [0; GAP_PARTS];
     let mut limits = first_limits(gap.now, step);
     for offer in stop.offers {
-        add_late(disk, gap, &stop.passing, *offer, &mut parts, &mut limits);
+        add_late(disk, gap, &stop.turning, *offer, &mut parts, &mut limits);
     }
     LateParts {
         begin: gap.now,
@@ -187,14 +187,14 @@ pub fn add_at(numbers: &mut [u64], index: usize, worth: u32)
 
 // Adds the worth of an offer to the interval in which its passage ends.
 fn add_offer(stop: &Stop, step: Ns, offer: Offer, intervals: &mut [u64; INTERVALS])
-    requires stands { Stands stop.now.passing }
-    requires in_turn { IsInTurn stop.now.passing.rotation offer.sweep }
+    requires stands { Stands stop.now.turning }
+    requires in_turn { IsInTurn stop.now.turning.rotation offer.sweep }
     requires some { 0 < step }
     requires room { (k : ℕ) → k < 16 → sum_of_first (k + 1) intervals.old ≤ 16000000 * 2048000 }
     ensures { (k : ℕ) → k < 16 → sum_of_first (k + 1) intervals.new ≡ sum_of_first (k + 1) intervals.old
-        + added (passes_by stop.now.passing (stop.now.passing.from + (k + 1) * step)) offer }
+        + added (passes_by stop.now.turning (stop.now.turning.from + (k + 1) * step)) offer }
 {
-    let past = stop.passing.end(offer.sweep) - stop.passing.from;
+    let past = stop.turning.end(offer.sweep) - stop.turning.from;
     let first = past.saturating_sub(1) / step;
     add_at(intervals, first as usize, offer.worth);
 }
@@ -213,7 +213,7 @@ pub fn add_up(intervals: &mut [u64])
 pub fn early_parts(stop: &Stop, step: Ns) -> [u64; INTERVALS]
     requires stop { IsReady stop.now }
     requires some { 0 < step }
-    ensures each { (k : ℕ) → k < 16 → get_or result k 0 ≡ offered stop.now (stop.now.passing.from + (k + 1) * step) }
+    ensures each { (k : ℕ) → k < 16 → get_or result k 0 ≡ offered stop.now (stop.now.turning.from + (k + 1) * step) }
     ensures small { AreSmallSums result 16 }
 {
     let mut parts = [0; INTERVALS];

@@ -17,8 +17,8 @@ pub struct Stop<'a> {
     pub offers: &'a [Offer],
     // What these are worth together, in weight times sectors.
     pub weight: u64,
-    // Where the platter stands as the head arrives; the arrival is `passing.from`, in ns.
-    pub passing: Turning,
+    // Where the platter stands as the head arrives; the arrival is `turning.from`, in ns.
+    pub turning: Turning,
 }
 
 // The stop on a track with these blocks that begins at the instant `arrive`, in ns.
@@ -27,12 +27,12 @@ pub fn stop_at<'a>(disk: &Disk, blocks: &TrackBlocks<'a>, track: Track, arrive: 
     requires early { arrive ≤ 9 * 10 ^ 18 }
     ensures stop { IsStop disk.now blocks.now result }
     ensures track { result.track ≡ track }
-    ensures arrive { result.passing.from ≡ arrive }
+    ensures arrive { result.turning.from ≡ arrive }
 {
     Stop {
         track,
         offers: blocks.offers(),
         weight: blocks.wanted_weight(),
-        passing: Turning::new(disk, arrive),
+        turning: Turning::new(disk, arrive),
     }
 }

@@ -24,7 +24,7 @@ use Rattle.fb_model.specs.Content.{contents_at, Medium}
 use Rattle.fb_model.specs.Plans.{IsPlan, block_begin, block_end, catches, early_dwell, late_dwell}
 use Rattle.fb_model.specs.Decisions.{Decision, serves, Act, serving, idling, ending, decision_of, decisions_from, end_of, idle_until}
 use Rattle.fb_model.specs.Decisions.{instant_of, last_decision}
-use Rattle.fb_model.specs.Rides.{begin_at, caught, delivery, due, end_at, gap_of, in_order, is_before, lies_in, missed, placed, rides}
+use Rattle.fb_model.specs.Rides.{begin_at, caught_rows, delivery, due, end_at, gap_of, in_order, is_before, lies_in, missed, placed, rides}
 use Rattle.fb_model.specs.SoundRun.{HasPlan}
 use Rattle.fb_model.proofs.Lists.{all_both}
 use Rattle.fb_model.proofs.Due.{IsCaughtIn, all_filtered, caught_true}
@@ -121,7 +121,7 @@ ascend_ordered a [] before from up = up
 ascend_ordered a (row ∷ rows) before from up = ascend_ordered a rows (placed before row) from.1 (ascend_placed a before row from.0 up)
 
 caught_ascend : (medium : Medium) (how : How) (dwell : Dwell) (blocks : List Block) → AllByRecursion HasSector blocks
-    → Ascend dwell.begin (caught medium.disk (contents_at medium) how dwell blocks)
+    → Ascend dwell.begin (caught_rows medium.disk (contents_at medium) how dwell blocks)
 caught_ascend medium how dwell blocks all = ascend_ordered dwell.begin
     (map (λ block. delivery (contents_at medium) how block (block_begin medium.disk.map block dwell.begin)
     (block_end medium.disk.map block dwell.begin)) (filter (catches medium.disk dwell) blocks)) []
@@ -131,11 +131,12 @@ caught_ascend medium how dwell blocks all = ascend_ordered dwell.begin
     omega (arith, later, behind)) blocks all) tt
 
 caught_by : (medium : Medium) (how : How) (dwell : Dwell) (blocks : List Block) → AllByRecursion HasSector blocks
-    → EndBy dwell.end (caught medium.disk (contents_at medium) how dwell blocks)
+    → EndBy dwell.end (caught_rows medium.disk (contents_at medium) how dwell blocks)
 caught_by medium how dwell blocks all =
     all_weaker (IsCaughtIn medium.disk (contents_at medium) how dwell HasSector) (λ (row : DeliveryRow). row.end ≤ dwell.end)
     (λ row is. let end = is.end in let in_time = ends_in_time medium.disk dwell row.block is.caught in omega (arith, end, in_time))
-    (caught medium.disk (contents_at medium) how dwell blocks) (caught_true medium.disk (contents_at medium) how dwell HasSector blocks all)
+    (caught_rows medium.disk (contents_at medium) how dwell blocks)
+    (caught_true medium.disk (contents_at medium) how dwell HasSector blocks all)
 
 -- no sector of a service has passed before the service's media
 sector_end : (disk : Disk) (source : Track) (now : ℕ) (write : Bool) (lbn n m x : ℕ)
@@ -202,20 +203,20 @@ due_ascends medium (serving served plan) wanted of_disk is all =
     let turns = dwells_in_turn medium.disk served plan is in
     let first_by = caught_by medium ByGap early wanted all in
     let second_by = caught_by medium ByGap late left left_all in
-    let first = ascend_from served.start early.begin (caught medium.disk
+    let first = ascend_from served.start early.begin (caught_rows medium.disk
     (contents_at medium) ByGap early wanted) turns.0 (caught_ascend medium ByGap early wanted all) in
-    let second = ascend_from early.end late.begin (caught medium.disk
+    let second = ascend_from early.end late.begin (caught_rows medium.disk
     (contents_at medium) ByGap late left) turns.2 (caught_ascend medium ByGap late left left_all) in
-    ascend_append served.start (media served) (caught medium.disk (contents_at medium) ByGap early wanted
-    ++ caught medium.disk (contents_at medium) ByGap late left) (rides (contents_at medium) served last)
-    (ascend_append served.start early.end (caught medium.disk (contents_at medium) ByGap early wanted)
-    (caught medium.disk (contents_at medium) ByGap late left) first first_by (omega (arith, turns.0, turns.1)) second)
-    (all_append (λ (row : DeliveryRow). row.end ≤ media served) (caught medium.disk (contents_at medium) ByGap early wanted)
-    (caught medium.disk (contents_at medium) ByGap late left)
+    ascend_append served.start (media served) (caught_rows medium.disk (contents_at medium) ByGap early wanted
+    ++ caught_rows medium.disk (contents_at medium) ByGap late left) (rides (contents_at medium) served last)
+    (ascend_append served.start early.end (caught_rows medium.disk (contents_at medium) ByGap early wanted)
+    (caught_rows medium.disk (contents_at medium) ByGap late left) first first_by (omega (arith, turns.0, turns.1)) second)
+    (all_append (λ (row : DeliveryRow). row.end ≤ media served) (caught_rows medium.disk (contents_at medium) ByGap early wanted)
+    (caught_rows medium.disk (contents_at medium) ByGap late left)
     (all_weaker _ _ (λ (row : DeliveryRow) h. omega (arith, h, turns.2, turns.3))
-    (caught medium.disk (contents_at medium) ByGap early wanted) first_by)
+    (caught_rows medium.disk (contents_at medium) ByGap early wanted) first_by)
     (all_weaker _ _ (λ (row : DeliveryRow) h. omega (arith, h, turns.4))
-    (caught medium.disk (contents_at medium) ByGap late left) second_by))
+    (caught_rows medium.disk (contents_at medium) ByGap late left) second_by))
     (omega (arith, turns.0, turns.1, turns.2, turns.3))
     (rides_ascend medium served last of_disk.0 last_all)
 due_ascends medium (idling dwell) wanted of_disk is all = caught_ascend medium _ dwell wanted all

@@ -17,7 +17,7 @@ use Rattle.fb_model.specs.Inputs.{Inputs}
 use Rattle.fb_model.specs.Decisions.{Act, serving, idling, ending}
 use Rattle.fb_model.specs.History.{Past, wanted}
 use Rattle.fb_model.specs.Steps.{Step, decision_in, chosen_past}
-use Rattle.fb_model.specs.Rides.{gap_of, due, delivery, is_before, placed, in_order, caught, missed, lies_in, rides, begin_at, end_at}
+use Rattle.fb_model.specs.Rides.{gap_of, due, delivery, is_before, placed, in_order, caught_rows, missed, lies_in, rides, begin_at, end_at}
 use Rattle.fb_model.specs.SoundRun.{IsSublist, none, left_out, taken, IsDelivered}
 
 -- a row has the bytes of its beginning
@@ -68,7 +68,7 @@ all_filtered P Q test f each (block ∷ blocks) qs =
 -- what a dwell catches of blocks that all have a property
 pub caught_true : (disk : Disk) (contents : ContentsAt) (how : How) (dwell : Dwell) (Q : Block → Type 0) (blocks : List Block)
     → AllByRecursion Q blocks
-    → AllByRecursion (IsCaughtIn disk contents how dwell Q) (caught disk contents how dwell blocks)
+    → AllByRecursion (IsCaughtIn disk contents how dwell Q) (caught_rows disk contents how dwell blocks)
 caught_true disk contents how dwell Q blocks qs = all_ordered (IsCaughtIn disk contents how dwell Q)
     (map (λ block. delivery contents how block (block_begin disk.map block dwell.begin) (block_end disk.map block dwell.begin))
     (filter (catches disk dwell) blocks))
@@ -170,13 +170,13 @@ due_true disk contents (serving served plan) Q wanted qs =
     let left_all = all_filter Q (λ block. not (catches disk early block)) wanted qs in
     let last_all = all_filter Q (λ block. not (catches disk late block)) left left_all in
     all_append (IsDueRow disk contents (serving served plan) Q)
-    (caught disk contents ByGap early wanted ++ caught disk contents ByGap late left) (rides contents served last)
-    (all_append (IsDueRow disk contents (serving served plan) Q) (caught disk contents ByGap early wanted)
-    (caught disk contents ByGap late left)
+    (caught_rows disk contents ByGap early wanted ++ caught_rows disk contents ByGap late left) (rides contents served last)
+    (all_append (IsDueRow disk contents (serving served plan) Q) (caught_rows disk contents ByGap early wanted)
+    (caught_rows disk contents ByGap late left)
     (all_weaker (IsCaughtIn disk contents ByGap early Q) (IsDueRow disk contents (serving served plan) Q) (λ row p. inl p)
-    (caught disk contents ByGap early wanted) (caught_true disk contents ByGap early Q wanted qs))
+    (caught_rows disk contents ByGap early wanted) (caught_true disk contents ByGap early Q wanted qs))
     (all_weaker (IsCaughtIn disk contents ByGap late Q) (IsDueRow disk contents (serving served plan) Q) (λ row p. inr (inl p))
-    (caught disk contents ByGap late left) (caught_true disk contents ByGap late Q left left_all)))
+    (caught_rows disk contents ByGap late left) (caught_true disk contents ByGap late Q left left_all)))
     (all_weaker (IsCarriedBy contents served Q) (IsDueRow disk contents (serving served plan) Q) (λ row p. inr (inr p))
     (rides contents served last) (rides_true contents served Q last last_all))
 due_true disk contents (idling dwell) Q wanted qs = caught_true disk contents ByIdle dwell Q wanted qs

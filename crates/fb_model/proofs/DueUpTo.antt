@@ -22,7 +22,7 @@ use Rattle.fb_model.specs.PlainReplay.{Served, media, finish}
 use Rattle.fb_model.specs.Content.{ContentsAt}
 use Rattle.fb_model.specs.Plans.{IsPlan, block_begin, block_end, catches, early_dwell, late_dwell}
 use Rattle.fb_model.specs.Decisions.{Decision, serves, idles, ends, instant_of, end_of, Act, serving, idling, ending, decision_of}
-use Rattle.fb_model.specs.Rides.{gap_of, due, delivery, is_before, placed, in_order, caught, missed, lies_in, begin_at, end_at}
+use Rattle.fb_model.specs.Rides.{gap_of, due, delivery, is_before, placed, in_order, caught_rows, missed, lies_in, begin_at, end_at}
 use Rattle.fb_model.specs.SoundRun.{HasPlan}
 use Rattle.fb_model.proofs.Lists.{same_kept, by_is}
 use Rattle.fb_model.proofs.Due.{IsCaughtIn, IsDueRow, all_placed, ride_of}
@@ -133,7 +133,7 @@ module _ (disk : Disk) (x y : ContentsAt) (from to : ℕ) (same : AgreeBetween f
       }) (same block.lbn block.count begin after before)
 
   same_caught : (how : How) (dwell : Dwell) (blocks : List Block) → from ≤ dwell.begin → dwell.end ≤ to
-      → caught disk x how dwell blocks ≡ caught disk y how dwell blocks
+      → caught_rows disk x how dwell blocks ≡ caught_rows disk y how dwell blocks
   same_caught how dwell blocks after before = ap in_order (same_kept (catches disk dwell)
       (λ (block : Block). delivery x how block (block_begin disk.map block dwell.begin) (block_end disk.map block dwell.begin))
       (λ (block : Block). delivery y how block (block_begin disk.map block dwell.begin) (block_end disk.map block dwell.begin))
@@ -226,7 +226,7 @@ rising_fold [] before rising = rising
 rising_fold (row ∷ rows) before rising = rising_fold rows (placed before row) (rising_placed before row rising)
 
 pub rising_caught : (disk : Disk) (contents : ContentsAt) (how : How) (dwell : Dwell) (blocks : List Block)
-    → RisingEnds (caught disk contents how dwell blocks)
+    → RisingEnds (caught_rows disk contents how dwell blocks)
 rising_caught disk contents how dwell blocks = rising_fold
     (map (λ block. delivery contents how block (block_begin disk.map block dwell.begin) (block_end disk.map block dwell.begin))
     (filter (catches disk dwell) blocks)) [] tt
@@ -335,8 +335,8 @@ module _ (disk : Disk) (a b : ContentsAt) (t done : ℕ) (since : t ≤ done) (s
       kept_both false false e block blocks by row rows = rows
 
   pub same_by_then : (blocks : List Block)
-      → filter (ends_by_then t) (caught disk a how (dwell_until until_a) blocks)
-      ≡ filter (ends_by_then t) (caught disk b how (dwell_until until_b) blocks)
+      → filter (ends_by_then t) (caught_rows disk a how (dwell_until until_a) blocks)
+      ≡ filter (ends_by_then t) (caught_rows disk b how (dwell_until until_b) blocks)
   same_by_then blocks =
       fold_kept t (map row_a (filter (catches disk (dwell_until until_a)) blocks)) [] tt
       ∙ (ap in_order (rows_by_then blocks) ∙ sym (fold_kept t (map row_b (filter (catches disk (dwell_until until_b)) blocks)) [] tt))

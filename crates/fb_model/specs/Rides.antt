@@ -50,8 +50,8 @@ abbrev pub in_order : List DeliveryRow → List DeliveryRow
 in_order rows = fold placed [] rows
 
 -- what a dwell catches of these blocks
-abbrev pub caught : Disk → ContentsAt → How → Dwell → List Block → List DeliveryRow
-caught disk contents how dwell blocks = in_order (map
+abbrev pub caught_rows : Disk → ContentsAt → How → Dwell → List Block → List DeliveryRow
+caught_rows disk contents how dwell blocks = in_order (map
     (λ block. delivery contents how block (block_begin disk.map block dwell.begin) (block_end disk.map block dwell.begin))
     (filter (catches disk dwell) blocks))
 
@@ -79,8 +79,8 @@ rides contents served blocks = if served.request.write then [] else in_order (ma
 
 -- what the early dwell of a gap catches, and then what the late dwell catches of the blocks that are left
 abbrev pub caught_in_gap : Disk → ContentsAt → Gap → Plan → List Block → List DeliveryRow
-caught_in_gap disk contents gap plan wanted = caught disk contents ByGap (early_dwell disk gap plan) wanted
-    ++ caught disk contents ByGap (late_dwell disk gap plan) (missed disk (early_dwell disk gap plan) wanted)
+caught_in_gap disk contents gap plan wanted = caught_rows disk contents ByGap (early_dwell disk gap plan) wanted
+    ++ caught_rows disk contents ByGap (late_dwell disk gap plan) (missed disk (early_dwell disk gap plan) wanted)
 
 -- the blocks that neither dwell of the gap catches
 abbrev pub missed_in_gap : Disk → Gap → Plan → List Block → List Block
@@ -92,5 +92,5 @@ unfoldable pub due : Disk → ContentsAt → Act → List Block → List Deliver
 due disk contents (serving served plan) wanted =
     let gap = gap_of disk served in
     caught_in_gap disk contents gap plan wanted ++ rides contents served (missed_in_gap disk gap plan wanted)
-due disk contents (idling dwell) wanted = caught disk contents ByIdle dwell wanted
+due disk contents (idling dwell) wanted = caught_rows disk contents ByIdle dwell wanted
 due disk contents (ending now) wanted = []

@@ -53,7 +53,7 @@ module _ (disk : Disk) (gap : Gap) (plan : Plan) (es : List Entry) (pair : Dwell
     (are : AreSides disk gap.target es (early_dwell disk gap plan) sides) (turns : IsTurning disk late)
     (from : late.from ≡ pair.late.begin) where
   abbrev in_early : Sweep → Bool
-  in_early sweep = passes_by sides.passing pair.early.end sweep
+  in_early sweep = passes_by sides.turning pair.early.end sweep
 
   abbrev in_late : Sweep → Bool
   in_late sweep = passes_by late pair.late.end sweep
@@ -62,7 +62,7 @@ module _ (disk : Disk) (gap : Gap) (plan : Plan) (es : List Entry) (pair : Dwell
   early_end b = nat_le (block_end disk.map b pair.early.begin) pair.early.end
 
   passes-early : (b : Block) → IsBlockOn disk.map b → in_early b.sweep ≡ early_end b
-  passes-early b fits = passes-as disk sides.passing b are.passing fits pair.early (are.from ∙ ap (λ (d : Dwell). d.begin) (sym p))
+  passes-early b fits = passes-as disk sides.turning b are.turning fits pair.early (are.from ∙ ap (λ (d : Dwell). d.begin) (sym p))
 
   passes-late : (b : Block) → IsBlockOn disk.map b → in_late b.sweep ≡ nat_le (block_end disk.map b pair.late.begin) pair.late.end
   passes-late b fits = passes-as disk late b turns fits pair.late from

@@ -23,7 +23,7 @@ use Rattle.fb_plan.specs.declared.way.Way.TheVariants.{Source, Over}
 use Rattle.fb_plan.specs.declared.turning.Turning.{Turning}
 use Rattle.fb_plan.specs.Ways.{plan_by, early_track, arrival, move_on, AreOnDisk, IsNoWorse}
 use Rattle.fb_plan.specs.declared.sides.Sides.{Sides}
-use Rattle.fb_plan.specs.Turns.{AreSides, IsTurning, end_of, stay_of}
+use Rattle.fb_plan.specs.Turns.{AreSides, IsTurning, end_of, longest_stay}
 use Rattle.fb_plan.proofs.Enough.{enough}
 use Rattle.fb_plan.proofs.Offered.{entry-of, offer-of, wanted-at}
 use Rattle.fb_plan.proofs.Swept.{turning-end}
@@ -167,13 +167,13 @@ sides-at {disk} {target} {es} {dwell} {other} {sides} same h = subst (λ d. AreS
 
 -- the sides of a way are those of each of its plans
 sides-way : (disk : Disk) (gap : Gap) (way : Way) (leave : ℕ) (es : List Entry) (sides : Sides)
-    → AreSides disk gap.target es (stay_of disk gap way) sides
+    → AreSides disk gap.target es (longest_stay disk gap way) sides
     → AreSides disk gap.target es (early_dwell disk gap (plan_by way leave)) sides
-sides-way disk gap Source leave es sides h = record { early = h.early; late = h.late; passing = h.passing; from = h.from }
-sides-way disk gap (Over track) leave es sides h = record { early = h.early; late = h.late; passing = h.passing; from = h.from }
+sides-way disk gap Source leave es sides h = record { early = h.early; late = h.late; turning = h.turning; from = h.from }
+sides-way disk gap (Over track) leave es sides h = record { early = h.early; late = h.late; turning = h.turning; from = h.from }
 
 pub sides-by : (disk : Disk) (gap : Gap) (way : Way) (leave : ℕ) (plan : Plan) (es : List Entry) (sides : Sides) → plan ≡ plan_by way leave
-    → AreSides disk gap.target es (stay_of disk gap way) sides
+    → AreSides disk gap.target es (longest_stay disk gap way) sides
     → AreSides disk gap.target es (early_dwell disk gap plan) sides
 sides-by disk gap way leave plan es sides same h =
     subst (λ p. AreSides disk gap.target es (early_dwell disk gap p) sides) (sym same) (sides-way disk gap way leave es sides h)

@@ -45,8 +45,8 @@ pub record IsTurning (disk : Disk) (turning : Turning) : Type 0 where
 pub record AreSides (disk : Disk) (target : Track) (entries : List Entry) (dwell : Dwell) (sides : Sides) : Type 0 where
   pub early : sides.early ≡ on_track dwell.track entries
   pub late : sides.late ≡ on_track target entries
-  pub passing : IsTurning disk sides.passing
-  pub from : sides.passing.from ≡ dwell.begin
+  pub turning : IsTurning disk sides.turning
+  pub from : sides.turning.from ≡ dwell.begin
 
 -- all of them begin at an angle of the rotation, and take at most one
 abbrev pub AreInTurn : ℕ → List Offer → Type 0
@@ -65,5 +65,5 @@ abbrev pub added : (Sweep → Bool) → Offer → ℕ
 added passes offer = if passes offer.sweep then offer.worth else 0
 
 -- the longest early dwell of a way: from the arrival to the deadline
-abbrev pub stay_of : Disk → Gap → Way → Dwell
-stay_of disk gap way = record { track = early_track gap way; begin = arrival disk gap way; end = gap.deadline }
+abbrev pub longest_stay : Disk → Gap → Way → Dwell
+longest_stay disk gap way = record { track = early_track gap way; begin = arrival disk gap way; end = gap.deadline }

@@ -5,7 +5,7 @@ ghost use Rattle.fb_geometry.specs.Shape.{IsTrackOf};
 ghost use Rattle.fb_model.specs.Plans.{IsPlan, early_dwell};
 ghost use Rattle.fb_wanted.specs.States.{wanted_of};
 ghost use Rattle.fb_plan.specs.Ways.{AreOnDisk, IsGap, IsWay, IsScored, IsNoWorse, plan_by, early_track, arrival, move_on};
-ghost use Rattle.fb_plan.specs.Turns.{Stands, IsInTurn, AreSides, end_of, stay_of};
+ghost use Rattle.fb_plan.specs.Turns.{Stands, IsInTurn, AreSides, end_of, longest_stay};
 
 use crate::choice::choose;
 use crate::sides::{Sides, sides_of};
@@ -116,21 +116,21 @@ pub fn try_plan(
 }
 
 // The instant, in ns, at which the sweep ends, if that is no later than `latest`.
-fn end_by(passing: &Turning, sweep: Sweep, latest: Ns) -> Option<Ns>
-    requires stands { Stands passing.now }
-    requires sweep { IsInTurn passing.now.rotation sweep }
-    ensures some { IfSome result (λ end. (end ≡ end_of passing.now.rotation sweep passing.now.from) × (end ≤ latest)) }
-    ensures none { IfNone result (latest < end_of passing.now.rotation sweep passing.now.from) }
+fn end_by(turning: &Turning, sweep: Sweep, latest: Ns) -> Option<Ns>
+    requires stands { Stands turning.now }
+    requires sweep { IsInTurn turning.now.rotation sweep }
+    ensures some { IfSome result (λ end. (end ≡ end_of turning.now.rotation sweep turning.now.from) × (end ≤ latest)) }
+    ensures none { IfNone result (latest < end_of turning.now.rotation sweep turning.now.from) }
 {
-    let end = passing.end(sweep);
+    let end = turning.end(sweep);
     if end <= latest { Some(end) } else { None }
 }
 
 /// The longest early dwell of this way: from the arrival to the deadline.
-pub fn stay_of(disk: &Disk, gap: &Gap, way: Way) -> Dwell
+pub fn longest_stay(disk: &Disk, gap: &Gap, way: Way) -> Dwell
     requires gap { IsGap disk.now gap.now }
     requires track { IsTrackOf disk.now.map (early_track gap.now way) }
-    ensures value { result ≡ stay_of disk.now gap.entry.now way }
+    ensures value { result ≡ longest_stay disk.now gap.entry.now way }
     ensures soon { result.begin ≤ 9 * 10 ^ 18 + 2 * 10 ^ 9 }
 {
     Dwell {
@@ -155,7 +155,7 @@ pub fn try_way(disk: &Disk, wanted: &Wanted, gap: &Gap, way: Way, start: Scored)
     ensures tried { (leave : ℕ) → IsPlan disk.now gap.entry.now (plan_by way leave)
         → IsNoWorse disk.now gap.entry.now (wanted_of wanted.now) result.plan (plan_by way leave) }
 {
-    let stay = stay_of(disk, gap, way);
+    let stay = longest_stay(disk, gap, way);
     let on = move_on(disk, gap, way);
     if gap.deadline < stay.begin + on {
         return start;
@@ -164,7 +164,7 @@ pub fn try_way(disk: &Disk, wanted: &Wanted, gap: &Gap, way: Way, start: Scored)
     let mut best = try_plan(disk, wanted, gap, &both, plan_by(way, stay.begin), start);
     let offers = both.early.offers();
     for offer in offers {
-        best = match end_by(&both.passing, offer.sweep, gap.deadline - on) {
+        best = match end_by(&both.turning, offer.sweep, gap.deadline - on) {
             Some(end) => try_plan(disk, wanted, gap, &both, plan_by(way, end), best),
             None => best,
         };

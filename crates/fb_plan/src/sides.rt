@@ -17,7 +17,7 @@ pub struct Sides<'a> {
     /// The blocks on the track of the early dwell.
     pub early: TrackBlocks<'a>,
     /// Where the platter stands at the begin of that dwell.
-    pub passing: Turning,
+    pub turning: Turning,
     /// The blocks on the target.
     pub late: TrackBlocks<'a>,
 }
@@ -41,7 +41,7 @@ pub fn sides_of<'a>(disk: &Disk, wanted: &'a Wanted, target: Track, dwell: Dwell
 {
     Sides {
         early: blocks_on(wanted, dwell.track),
-        passing: Turning::new(disk, dwell.begin),
+        turning: Turning::new(disk, dwell.begin),
         late: blocks_on(wanted, target),
     }
 }

@@ -15,13 +15,13 @@ use fb_units::{Ns, Track};
 use fb_wanted::{Offer, Wanted};
 
 // What an offer adds if its passage ends by the instant `latest`, in ns.
-fn added_until(offer: Offer, passing: &Turning, latest: Ns) -> u64
-    requires stands { Stands passing.now }
-    requires sweep { IsInTurn passing.now.rotation offer.sweep }
-    ensures value { result ≡ added (passes_by passing.now latest) offer }
+fn added_until(offer: Offer, turning: &Turning, latest: Ns) -> u64
+    requires stands { Stands turning.now }
+    requires sweep { IsInTurn turning.now.rotation offer.sweep }
+    ensures value { result ≡ added (passes_by turning.now latest) offer }
     ensures small { result < 2 ^ 32 }
 {
-    if passing.ends_by(offer.sweep, latest) {
+    if turning.ends_by(offer.sweep, latest) {
         offer.worth as u64
     } else {
         0
@@ -30,16 +30,16 @@ fn added_until(offer: Offer, passing: &Turning, latest: Ns) -> u64
 
 // What the offers of a track add to the value of a plan that stays there until the instant `latest`,
 // in ns.
-fn value_until(offers: &[Offer], passing: &Turning, latest: Ns) -> u64
-    requires stands { Stands passing.now }
-    requires sweeps { AreInTurn passing.now.rotation offers.now }
+fn value_until(offers: &[Offer], turning: &Turning, latest: Ns) -> u64
+    requires stands { Stands turning.now }
+    requires sweeps { AreInTurn turning.now.rotation offers.now }
     requires few { length offers.now ≤ 16000000 }
-    ensures value { result ≡ sum_by (added (passes_by passing.now latest)) offers.now }
+    ensures value { result ≡ sum_by (added (passes_by turning.now latest)) offers.now }
     ensures small { result ≤ 16000000 * 2 ^ 32 }
 {
     let mut sum = 0;
     for offer in offers {
-        sum += added_until(*offer, passing, latest);
+        sum += added_until(*offer, turning, latest);
     }
     sum
 }
@@ -89,9 +89,9 @@ pub fn value_by(disk: &Disk, wanted: &Wanted, gap: &Gap, sides: &Sides, plan: Pl
     let late = Turning::new(disk, pair.late.begin);
     let offers = sides.early.offers();
     if is_same(pair.early.track, gap.target) {
-        return value_in_either(offers, pair, &sides.passing, &late);
+        return value_in_either(offers, pair, &sides.turning, &late);
     }
-    let sum = value_until(offers, &sides.passing, pair.early.end);
+    let sum = value_until(offers, &sides.turning, pair.early.end);
     sum + value_until(sides.late.offers(), &late, pair.late.end)
 }
 

@@ -10,12 +10,12 @@ pub loop-offer-init : goal.loop-offer-init
 loop-offer-init c = record {
   room = omega arith;
   sum = refl;
-  last = none_last c.args.passing.now c.args.latest c.args.offers.now c.requires.order;
+  last = none_last c.args.turning.now c.args.latest c.args.offers.now c.requires.order;
 }
 
 pub loop-offer-preserved : goal.loop-offer-preserved
 loop-offer-preserved c =
-    let passing = c.args.passing.now in
+    let turning = c.args.turning.now in
     let latest = c.args.latest in
     let offers = c.args.offers.now in
     let i = c.loop-offer.offer-index in
@@ -24,20 +24,20 @@ loop-offer-preserved c =
     let at = slice_get-get_or offers i _ c.loop-offer-test.true in
     record {
       room = omega (arith, c.loop-offer.invariant.room, next.ensures.small);
-      sum = sum-more (added (passes_by passing latest)) offers i _ c.loop-offer-test.true before.sectors next.result.sectors
+      sum = sum-more (added (passes_by turning latest)) offers i _ c.loop-offer-test.true before.sectors next.result.sectors
           c.loop-offer.invariant.sum next.ensures.sectors;
-      last = more_last passing latest offers i before.sectors before.last next.result.sectors next.result.last _ at next.ensures.sectors
+      last = more_last turning latest offers i before.sectors before.last next.result.sectors next.result.last _ at next.ensures.sectors
           next.ensures.last c.loop-offer.invariant.last;
     }
 
 pub returns : goal.returns
 returns c =
-    let passing = c.args.passing.now in
+    let turning = c.args.turning.now in
     let latest = c.args.latest in
     let offers = c.args.offers.now in
     let i = c.loop-offer.offer-index in
     let written = c.loop-offer.written in
     record {
-      sectors = c.loop-offer.invariant.sum ∙ all-of (added (passes_by passing latest)) offers i c.loop-offer-test.false;
-      last = all_last passing latest offers i written.sectors written.last c.loop-offer-test.false c.loop-offer.invariant.last;
+      sectors = c.loop-offer.invariant.sum ∙ all-of (added (passes_by turning latest)) offers i c.loop-offer-test.false;
+      last = all_last turning latest offers i written.sectors written.last c.loop-offer-test.false c.loop-offer.invariant.last;
     }

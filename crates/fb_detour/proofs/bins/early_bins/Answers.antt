@@ -19,7 +19,7 @@ add_at-requires c = record {
 pub loop-offer-preserved : goal.loop-offer-preserved
 loop-offer-preserved c =
     let stop = c.args.stop.now in
-    let passing = stop.passing in
+    let turning = stop.turning in
     let offers = stop.offers.now in
     let i = c.loop-offer.offer-index in
     let within = c.loop-offer-test.true in
@@ -28,13 +28,13 @@ loop-offer-preserved c =
     let k = c.bin_at-k.result in
     let bin_length = c.args.bin_length in record {
       most = λ leave.
-          let n = bin_at passing.from bin_length leave + 1 in
-          most-more (added (passes_by passing leave)) offers i _ within old new k n (c.add_at.ensures n (omega arith))
-          (passes_by passing leave) refl
+          let n = bin_at turning.from bin_length leave + 1 in
+          most-more (added (passes_by turning leave)) offers i _ within old new k n (c.add_at.ensures n (omega arith))
+          (passes_by turning leave) refl
           (λ by.
           let end = c.end-end.ensures.value in
           let le : c.end-end.result ≤ leave = grind (arith, nat_tests) in
-          omega (arith, no_earlier_bin passing.from bin_length c.end-end.result leave c.requires.some le, c.bin_at-k.ensures.value))
+          omega (arith, no_earlier_bin turning.from bin_length c.end-end.result leave c.requires.some le, c.bin_at-k.ensures.value))
           (c.loop-offer.invariant.most leave);
       small = λ n less.
           worth-more (λ (offer : Offer). offer.worth) offers i _ within old new k n (c.add_at.ensures n (omega (arith, less)))
@@ -54,8 +54,8 @@ returns c =
     let i = c.loop-offer.offer-index in
     let so_far = c.loop-offer.invariant in record {
       most = λ leave.
-          let k = bin_at stop.passing.from c.args.bin_length leave in
-          let all = all-of (added (passes_by stop.passing leave)) stop.offers.now i c.loop-offer-test.false in
+          let k = bin_at stop.turning.from c.args.bin_length leave in
+          let all = all-of (added (passes_by stop.turning leave)) stop.offers.now i c.loop-offer-test.false in
           omega (arith, all, so_far.most leave, c.add_up.ensures k (omega arith));
       small = λ k less.
           let small = bins-small stop i k c.loop-offer.bins c.requires.stop so_far.small less in

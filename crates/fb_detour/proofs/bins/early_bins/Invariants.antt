@@ -4,7 +4,7 @@ use Rattle.fb_detour.proofs.bins.early_bins.Given as goal
 abbrev pub invariant-loop-offer : goal.invariant-loop-offer
 invariant-loop-offer l =
     let seen = take l.offer-index l.stop.offers.now in record {
-      most : (leave : ℕ) → sum_by (added (passes_by l.stop.passing leave)) seen
-          ≤ sum_of_first (bin_at l.stop.passing.from l.bin_length leave + 1) l.bins;
+      most : (leave : ℕ) → sum_by (added (passes_by l.stop.turning leave)) seen
+          ≤ sum_of_first (bin_at l.stop.turning.from l.bin_length leave + 1) l.bins;
       small : (n : ℕ) → n ≤ 16384 → sum_of_first n l.bins ≤ sum_by (λ (offer : Offer). offer.worth) seen;
     }

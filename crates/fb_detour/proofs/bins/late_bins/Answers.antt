@@ -19,7 +19,7 @@ add_at-requires c = record {
 pub loop-offer-preserved : goal.loop-offer-preserved
 loop-offer-preserved c =
     let stop = c.args.target.now in
-    let passing = stop.passing in
+    let turning = stop.turning in
     let gap = c.args.search.now.gap.now in
     let leaves = c.args.leaves.now in
     let offers = stop.offers.now in
@@ -30,8 +30,8 @@ loop-offer-preserved c =
     let k = c.too_late_for-k.result in record {
       most = λ leave after noted.
           let n = 16383 - bin_at leaves.begin leaves.bin_length leave + 1 in
-          most-more (late_gain passing gap (leave + leaves.move_on)) offers i _ within old new k n (c.add_at.ensures n (omega arith))
-          (passes_by (turned_to passing (leave + leaves.move_on)) gap.deadline) refl
+          most-more (late_gain turning gap (leave + leaves.move_on)) offers i _ within old new k n (c.add_at.ensures n (omega arith))
+          (passes_by (turned_to turning (leave + leaves.move_on)) gap.deadline) refl
           (λ by. let less = c.too_late_for-k.ensures leave after noted by in omega (arith, less))
           (c.loop-offer.invariant.most leave after noted);
       small = λ n less.
@@ -54,7 +54,7 @@ returns c =
     let so_far = c.loop-offer.invariant in record {
       most = λ leave after noted.
           let k = 16383 - bin_at leaves.begin leaves.bin_length leave in
-          let all = all-of (late_gain stop.passing c.args.search.now.gap.now (leave + leaves.move_on)) stop.offers.now i
+          let all = all-of (late_gain stop.turning c.args.search.now.gap.now (leave + leaves.move_on)) stop.offers.now i
           c.loop-offer-test.false in
           omega (arith, all, so_far.most leave after noted, c.add_up.ensures k (omega arith));
       small = λ k less.

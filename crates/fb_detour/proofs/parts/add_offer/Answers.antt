@@ -8,5 +8,5 @@ returns c = λ k less.
     let past = c.saturating_sub in
     c.add_at.ensures (k + 1) (omega (arith, less))
     ∙ ap (λ gain. sum_of_first (k + 1) intervals + gain)
-    (gain-interval c.args.stop.now.passing past.result c.args.step k c.args.offer (omega (arith, past.ensures, c.end.ensures.value))
+    (gain-interval c.args.stop.now.turning past.result c.args.step k c.args.offer (omega (arith, past.ensures, c.end.ensures.value))
     c.requires.some)

@@ -4,7 +4,7 @@ use Rattle.fb_detour.proofs.parts.last_catch.Goals as goal
 
 pub returns-then-gap-end-clause-none : goal.returns-then-gap-end-clause-none
 returns-then-gap-end-clause-none c = λ from after.
-    let rotation = c.args.passing.now.rotation in
+    let rotation = c.args.turning.now.rotation in
     let sweep = c.args.sweep in
     let now = c.args.gap.now.now in
     let first : c.end-end.result ≡ end_of rotation sweep now = c.end-end.ensures.value ∙ ap (end_of rotation sweep) c.requires.from in
@@ -13,7 +13,7 @@ returns-then-gap-end-clause-none c = λ from after.
 
 pub returns-clause-some : goal.returns-clause-some
 returns-clause-some c = λ from after caught.
-    let rotation = c.args.passing.now.rotation in
+    let rotation = c.args.turning.now.rotation in
     let sweep = c.args.sweep in
     let gap = c.args.gap.now in
     let end = c.end-end.result in
@@ -25,7 +25,7 @@ returns-clause-some c = λ from after caught.
       last,
       first,
       ap (λ r. (gap.deadline - end) / r * r)
-          (c.rotation-rotation.ensures.value ∙ (ap (λ (d : Shape). d.rotation) c.geometry.ensures ∙ sym c.requires.passing.rotation)),
+          (c.rotation-rotation.ensures.value ∙ (ap (λ (d : Shape). d.rotation) c.geometry.ensures ∙ sym c.requires.turning.rotation)),
     )
 
 pub returns-clause-within : goal.returns-clause-within

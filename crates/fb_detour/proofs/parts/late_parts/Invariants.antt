@@ -4,7 +4,7 @@ use Rattle.fb_detour.proofs.parts.late_parts.Given as goal
 abbrev pub invariant-loop-offer : goal.invariant-loop-offer
 invariant-loop-offer l =
     let seen = take l.offer-index l.stop.offers.now in
-    let gain = λ (from : ℕ). late_gain l.stop.passing l.gap from in record {
+    let gain = λ (from : ℕ). late_gain l.stop.turning l.gap from in record {
       parts : (k : ℕ) → k < 32 → sum_by (gain (l.gap.now + k * l.step)) seen ≤ get_or l.parts k 0;
       small : (k : ℕ) → k < 32 → get_or l.parts k 0 ≤ sum_by (λ (offer : Offer). offer.worth) seen;
       limits : (k : ℕ) → k < 32 → sum_by (gain (get_or l.limits k 0)) seen ≤ get_or l.parts k 0;

@@ -22,7 +22,7 @@ returns-then-misses_enough-clause-tried c = λ leave is.
     let ceiling = most.0 + c.late_at-after.result in
     let enough : IsEnough best ceiling track = subst (IsEnough best ceiling) c.stop_at-stop.ensures.track most.2 in
     let same : offered stop latest ≡ stay disk (early_to track arrive latest) entries =
-    gives disk (early_to track stop.passing.from latest) entries stop its
+    gives disk (early_to track stop.turning.from latest) entries stop its
     ∙ ap (λ t. stay disk (early_to track t latest) entries) c.stop_at-stop.ensures.arrive in
     let bound = by_interval search (Over track) leave arrive latest (arrive + on.result)
     (ap (λ x. search.gap.now.now + x) there.ensures.value) (omega (arith, is.in_time, on.ensures.value))

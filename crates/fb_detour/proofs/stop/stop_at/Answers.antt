@@ -12,5 +12,5 @@ returns-clause-stop c = record {
   };
   its = c.offers.ensures.its;
   on_disk = c.requires.on_disk;
-  passing = c.new.ensures.turning;
+  turning = c.new.ensures.turning;
 }

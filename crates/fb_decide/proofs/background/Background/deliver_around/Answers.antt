@@ -4,7 +4,7 @@ use Rattle.fb_service.specs.Extents.{IsUnbroken, all_passages_of}
 use Rattle.fb_model.specs.PlainReplay.{service}
 use Rattle.fb_model.specs.Plans.{IsBest}
 use Rattle.fb_decide.proofs.Delivering.{fits-told, wanted-told}
-use Rattle.fb_decide.proofs.Served.{gap_from, is-gap, extents-begin, gap-is, has-passed}
+use Rattle.fb_decide.proofs.Served.{gap_from, is-gap, extents-begin, gap-is, has-delivered-around}
 use Rattle.fb_decide.proofs.background.Background.deliver_around.Goals as goal
 
 pub best-plan-requires-clause-gap : goal.best-plan-requires-clause-gap
@@ -17,8 +17,8 @@ pub best-plan-requires-clause-blocks : goal.best-plan-requires-clause-blocks
 best-plan-requires-clause-blocks g c =
     fits-told c.args.disk.now c.requires.current.0 c.args.self.now.sessions c.args.self.now.wanted c.requires.current.1.tells
 
-pub pass-requires-clause-gap : goal.pass-requires-clause-gap
-pass-requires-clause-gap g c = is-gap c.args.disk.now c.args.start.head c.args.start.instant c.args.start.request c.place.result.track
+pub go_through-requires-clause-gap : goal.go_through-requires-clause-gap
+go_through-requires-clause-gap g c = is-gap c.args.disk.now c.args.start.head c.args.start.instant c.args.start.request c.place.result.track
     c.in_ok-service.service.media c.requires.start.head c.place.ensures.track c.requires.start.request.range.some
     (ap (λ p. p.track) c.place.ensures.value) c.in_ok-service.ensures.media
     (omega (arith, c.requires.start.instant, c.requires.start.request.few, c.in_ok-service.ensures.soon, c.in_ok-service.ensures.later))
@@ -36,8 +36,8 @@ returns-clause-delivered g c = λ past current.
     let served = service disk c.args.start.head c.args.start.instant c.args.start.request in
     let gap =
     gap_from c.args.start.head c.args.start.instant c.args.start.request.write c.place.result.track c.in_ok-service.service.media in
-    has-passed disk c.args.store.now served c.best-plan.result past gap c.args.self.now.rows c.pass.new.self c.ride.new.self
+    has-delivered-around disk c.args.store.now served c.best-plan.result past gap c.args.self.now.rows c.go_through.new.self c.ride.new.self
     (gap-is disk c.args.start.head c.args.start.instant c.args.start.request c.place.result.track c.in_ok-service.service.media
     (ap (λ p. p.track) c.place.ensures.value) c.in_ok-service.ensures.media)
     (subst (λ blocks. IsBest disk gap blocks c.best-plan.result) (wanted-told current.tells) c.best-plan.ensures)
-    (c.in_ok-pass.ensures.delivered past current) (c.in_ok-pass.ensures.left past current) c.in_ok-ride.ensures
+    (c.in_ok-go_through.ensures.delivered past current) (c.in_ok-go_through.ensures.left past current) c.in_ok-ride.ensures
