@@ -1,25 +1,9 @@
-// What a planner is, and the planner that tries every track.
-ghost use Rattle.fb_model.specs.Plans.{IsBest};
-ghost use Rattle.fb_wanted.specs.States.{wanted_of};
-ghost use Rattle.fb_plan.specs.Ways.{AreOnDisk, IsGap};
-
-use crate::Way;
+// The planner that tries every track.
 use crate::search::{scored, try_cylinder, try_way};
+use crate::{Planner, Way};
 use fb_rows::{Gap, Plan};
 use fb_service::Disk;
 use fb_wanted::Wanted;
-
-/// Chooses the best plan of a gap.
-pub trait Planner {
-    /// The best plan: of greatest value, and of those the first in the order of ties.
-    ///
-    /// Direct plans come before detours, then the lesser track, then the earlier leave. Each block lies
-    /// on the disk, and the gap ends by 9 * 10^18 ns.
-    fn best(&self, disk: &Disk, wanted: &Wanted, gap: &Gap) -> Plan
-        requires gap { IsGap disk.now gap.now }
-        requires blocks { AreOnDisk disk.now wanted.now }
-        ensures { IsBest disk.now gap.entry.now (wanted_of wanted.now) result };
-}
 
 /// Tries every track, leaving each on arrival and as the passage of each of its wanted blocks ends.
 #[derive(Clone, Copy)]

@@ -27,6 +27,7 @@ mod policy;
 mod puts;
 mod reading;
 mod replay;
+mod replay_inputs;
 mod report;
 mod spill_text;
 mod streams;

@@ -22,8 +22,8 @@ ghost use Rattle.fb_top.specs.Unnamed.{KeepsInputs, KeepsUnnamed};
 
 use crate::Outcome;
 use crate::policy::replay_by;
-use crate::puts::{ReplayInputs, read_replay_inputs};
 use crate::reading::ReplayFiles;
+use crate::replay_inputs::{ReplayInputs, read_replay_inputs};
 use crate::report::write_reports;
 use crate::spill_text::SpillLines;
 use crate::writing::write_lines;

@@ -11,9 +11,9 @@ use Rattle.fb_top.specs.Sources.{SourceTerms, files_alone, replay_inputs}
 use Rattle.fb_top.specs.Unnamed.{KeepsUnnamed}
 use Rattle.fb_top.proofs.MoreInputs.{files_opened, files_stopped, files_unnamed, puts_before, puts_calm, puts_opened, puts_stopped}
 use Rattle.fb_top.proofs.MoreInputs.{puts_unnamed}
-use Rattle.fb_top.proofs.puts.read_replay_inputs.Given as given
-use Rattle.fb_top.proofs.puts.read_replay_inputs.Goals as goal
-use Rattle.fb_top.proofs.puts.read_replay_inputs.Goals.{After-read_given_puts}
+use Rattle.fb_top.proofs.replay_inputs.read_replay_inputs.Given as given
+use Rattle.fb_top.proofs.replay_inputs.read_replay_inputs.Goals as goal
+use Rattle.fb_top.proofs.replay_inputs.read_replay_inputs.Goals.{After-read_given_puts}
 
 -- the files were read, and then the puts, if they are given
 unnamed_then : (g : given.Over) (c : After-read_given_puts g)
