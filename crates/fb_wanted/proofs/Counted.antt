@@ -10,7 +10,7 @@ use Rattle.fb_wanted.specs.declared.block.State.TheVariants.{Wanted, Suspended, 
 use Rattle.fb_wanted.specs.declared.block.Change.TheVariants.{Abort}
 use Rattle.fb_wanted.specs.States.{after, shares, is_open, is_abortable, is_delivered, is_aborted}
 use Rattle.fb_wanted.specs.Counting.{of_task, counts_of, no_counts, sum_of, recounted, AreNoMore}
-use Rattle.fb_wanted.specs.Index.{with_state}
+use Rattle.fb_wanted.specs.LookUp.{with_state}
 use Rattle.fb_wanted.proofs.Sums.{sum-with_state, sum_at}
 
 -- counts are equal if each of them is

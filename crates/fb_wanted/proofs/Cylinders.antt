@@ -5,7 +5,7 @@ use Rattle.std.proofs.lemmas.Grind.{get_or-set_at}
 use Rattle.std.proofs.lemmas.List.{get_or-set_other, length-set}
 use Rattle.fb_units.specs.declared.types.Track.{Track}
 use Rattle.fb_units.specs.Tracks.{same_track}
-use Rattle.fb_wanted.specs.Index.{OnTrack, track_at, weight_kept, AreGreatest, AreBands, IsChanged}
+use Rattle.fb_wanted.specs.LookUp.{OnTrack, track_at, weight_kept, AreGreatest, AreBands, IsChanged}
 
 -- the bounds hold too with room for more cylinders
 pub greatest_still : (tracks : List (List OnTrack)) (was is : List ℕ) → AreGreatest tracks was → ((c : ℕ) → get_or is c 0 ≡ get_or was c 0)

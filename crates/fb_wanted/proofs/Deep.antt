@@ -14,7 +14,7 @@ use Rattle.fb_wanted.specs.declared.block.State.{State}
 use Rattle.fb_wanted.specs.declared.depths.Depth.{Depth}
 use Rattle.fb_wanted.specs.Tracks.{band_of}
 use Rattle.fb_wanted.specs.Depth.{is_in, weight_on, depth_at, band_depth, no_depth, spare_for, deepened, IsDeep, AreDeep}
-use Rattle.fb_wanted.specs.Index.{is_of_track, with_state}
+use Rattle.fb_wanted.specs.LookUp.{is_of_track, with_state}
 use Rattle.fb_wanted.proofs.Sums.{sum-with_state, sum-le}
 use Rattle.fb_wanted.proofs.Standing.{length-with_state, items-with_state}
 

@@ -5,7 +5,7 @@ use Rattle.std.specs.List.{swap_remove}
 use Rattle.std.proofs.lemmas.Option.{same_Some, none-some, slice_get-get_or}
 use Rattle.fb_wanted.specs.declared.block.Entry.{Entry}
 use Rattle.fb_wanted.specs.declared.block.State.{State}
-use Rattle.fb_wanted.specs.Index.{with_state}
+use Rattle.fb_wanted.specs.LookUp.{with_state}
 
 module _ {X : Type 0} where
   -- an element is there when one more follows

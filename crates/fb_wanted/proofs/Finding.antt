@@ -10,8 +10,8 @@ use Rattle.fb_wanted.specs.declared.block.Entry.{Entry}
 use Rattle.fb_wanted.specs.declared.streaks.Streak.{Streak}
 use Rattle.fb_wanted.specs.States.{shares, after}
 use Rattle.fb_wanted.specs.Numbering.{AreInOrder, blocks_of}
-use Rattle.fb_wanted.specs.Index.{is_of_task, lbns, region_of, IsUpTo, IsInStreak, BeginsStreak, AreNoted, AreShort, IsWithin}
-use Rattle.fb_wanted.specs.Index.{changed_where, key_of, streak_cmp}
+use Rattle.fb_wanted.specs.LookUp.{is_of_task, lbns, region_of, IsUpTo, IsInStreak, BeginsStreak, AreNoted, AreShort, IsWithin}
+use Rattle.fb_wanted.specs.LookUp.{changed_where, key_of, streak_cmp}
 use Rattle.fb_wanted.proofs.Standing.{among}
 use Rattle.fb_wanted.proofs.Numbers.{number_at}
 use Rattle.fb_wanted.proofs.OfTask.{own_after, others_after}

@@ -14,7 +14,7 @@ use Rattle.fb_wanted.specs.declared.offer.Offer.{Offer}
 use Rattle.fb_wanted.specs.Numbering.{blocks_of}
 use Rattle.fb_wanted.specs.Offers.{AreOffers, AreSameBlocks, AreFound, offer_of, offered_blocks, no_block}
 use Rattle.fb_wanted.specs.States.{on_track, wanted_of}
-use Rattle.fb_wanted.specs.Index.{AreOffered}
+use Rattle.fb_wanted.specs.LookUp.{AreOffered}
 use Rattle.fb_wanted.proofs.Numbers.{block_there, blocks-more}
 use Rattle.fb_wanted.proofs.Elements.{at_left}
 

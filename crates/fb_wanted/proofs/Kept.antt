@@ -14,8 +14,8 @@ use Rattle.fb_wanted.specs.Counting.{counts_of, no_counts, recounted}
 use Rattle.fb_wanted.specs.Numbering.{AreInOrder, AreSmall, blocks_of, registered}
 use Rattle.fb_wanted.specs.States.{is_wanted}
 use Rattle.fb_wanted.specs.Tracks.{wanted_weight}
-use Rattle.fb_wanted.specs.Index.{OnTrack, is_of_task, is_of_track, indexes_of, grown, reweighed, no_blocks, grown_task, counted_anew}
-use Rattle.fb_wanted.specs.Index.{kept_of_task, track_at, weight_kept, offers_at, IsKept, IsChanged, IsTaskChanged, with_state}
+use Rattle.fb_wanted.specs.LookUp.{OnTrack, is_of_task, is_of_track, indexes_of, grown, reweighed, no_blocks, grown_task, counted_anew}
+use Rattle.fb_wanted.specs.LookUp.{kept_of_task, track_at, weight_kept, offers_at, IsKept, IsChanged, IsTaskChanged, with_state}
 use Rattle.fb_wanted.proofs.Standing.{length-with_state, items-with_state, blocks-with_state, indexes_of-with_state, indexes_of-more_yes}
 use Rattle.fb_wanted.proofs.Standing.{indexes_of-more_no}
 use Rattle.fb_wanted.proofs.Numbers.{numbered-more, small-more}
@@ -28,7 +28,7 @@ turned_track a b h = grind (arith, nat_tests)
 pub turned_other : (a b : Track) → same_track a b ≡ false → same_track b a ≡ false
 turned_other a b h = grind (arith, nat_tests)
 
--- what the index has for two tasks is equal if each part is
+-- what the look-up has for two tasks is equal if each part is
 same_blocks : (a b : OfTask) → a.indexes ≡ b.indexes → a.counts ≡ b.counts → a ≡ b
 same_blocks a b x y = rw (x, y) refl
 
@@ -70,11 +70,11 @@ kept_still es tasks tracks new h same_indexes same_weights = record {
   in_order = h.in_order;
   few = h.few;
   small = h.small;
-  index = record {
-    by_task = h.index.by_task;
-    by_track = λ t. same_indexes t ∙ h.index.by_track t;
+  look_up = record {
+    by_task = h.look_up.by_task;
+    by_track = λ t. same_indexes t ∙ h.look_up.by_track t;
     by_weight = λ t. same_weights t
-        ∙ h.index.by_weight t;
+        ∙ h.look_up.by_weight t;
   };
 }
 
@@ -122,18 +122,18 @@ module _ (s : State) (n : ℕ) (e : Entry) (es : List Entry) (tracks new : List 
     in_order = subst AreInOrder (sym (blocks-with_state s n es)) h.in_order;
     few = omega (arith, length-with_state s n es, h.few);
     small = subst AreSmall (sym (blocks-with_state s n es)) h.small;
-    index = record {
+    look_up = record {
       by_task = λ task. elim (cases_Bool (e.block.task == task)) [
-        | inl own ↦ counted task ∙ rw own (kept_own task (get_or tasks task no_blocks) own (h.index.by_task task))
-        | inr other ↦ counted task ∙ rw other (h.index.by_task task ∙ kept_other task other)
+        | inl own ↦ counted task ∙ rw own (kept_own task (get_or tasks task no_blocks) own (h.look_up.by_task task))
+        | inr other ↦ counted task ∙ rw other (h.look_up.by_task task ∙ kept_other task other)
       ];
       by_track = λ t. changed_indexes tracks new e.block.track change (λ o. refl) changed t
-          ∙ (h.index.by_track t ∙ sym (indexes_of-with_state (λ b. same_track t b.track) s n es));
+          ∙ (h.look_up.by_track t ∙ sym (indexes_of-with_state (λ b. same_track t b.track) s n es));
       by_weight = λ t. elim (cases_Bool (same_track e.block.track t)) [
         | inl here ↦ ap (λ o. o.weight) (changed_here tracks new e.block.track change changed t here) ∙ weight_there t
-            (weight_kept tracks t) here (h.index.by_weight t)
+            (weight_kept tracks t) here (h.look_up.by_weight t)
         | inr other ↦ ap (λ o. o.weight) (unchanged tracks new e.block.track change changed t other) ∙ weight_other t
-            (weight_kept tracks t) other (h.index.by_weight t)
+            (weight_kept tracks t) other (h.look_up.by_weight t)
       ];
     };
   }
@@ -194,10 +194,10 @@ module _ (e : Entry) (es : List Entry) (tasks newtasks : List OfTask) (tracks ne
     in_order = numbered-more es e h.in_order free;
     few = omega (arith, room, length-append es (e ∷ []));
     small = small-more es e h.small light short;
-    index = record {
-      by_task = λ task. more_of_task task (h.index.by_task task) by_task;
-      by_track = λ t. more_indexes t (h.index.by_track t) by_track;
-      by_weight = λ t. more_weight t un (h.index.by_weight t) by_track;
+    look_up = record {
+      by_task = λ task. more_of_task task (h.look_up.by_task task) by_task;
+      by_track = λ t. more_indexes t (h.look_up.by_track t) by_track;
+      by_weight = λ t. more_weight t un (h.look_up.by_weight t) by_track;
     };
   }
 

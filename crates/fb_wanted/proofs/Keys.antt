@@ -5,7 +5,7 @@ use Rattle.std.specs.Ordering.{is_gt}
 use Rattle.std.proofs.lemmas.Bool.{cases_lt}
 use Rattle.std.proofs.lemmas.Bool.Decides.{nat_tests}
 use Rattle.fb_wanted.specs.declared.streaks.Streak.{Streak}
-use Rattle.fb_wanted.specs.Index.{key_of, streak_cmp, IsUpTo}
+use Rattle.fb_wanted.specs.LookUp.{key_of, streak_cmp, IsUpTo}
 
 pub still : (new old : Bool) → old ≡ true → (if new then true else old) ≡ true
 still true old h = refl

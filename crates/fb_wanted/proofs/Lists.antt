@@ -7,7 +7,7 @@ use Rattle.fb_wanted.specs.declared.block.Counts.{Counts}
 use Rattle.fb_wanted.specs.declared.block.Entry.{Entry}
 use Rattle.fb_wanted.specs.declared.tasks.OfTask.{OfTask}
 use Rattle.fb_wanted.specs.Counting.{counts_of, no_counts}
-use Rattle.fb_wanted.specs.Index.{IsTaskChanged, pair_cmp, no_blocks, joined, counted_anew, grown_task}
+use Rattle.fb_wanted.specs.LookUp.{IsTaskChanged, pair_cmp, no_blocks, joined, counted_anew, grown_task}
 
 -- if the index that was added last to a task is removed again, all tasks are as before
 pub taken_back : (old one two : List OfTask) (n index : ℕ)

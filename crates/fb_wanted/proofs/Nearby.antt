@@ -7,7 +7,7 @@ use Rattle.fb_wanted.specs.declared.block.Block.{Block}
 use Rattle.fb_wanted.specs.declared.block.Entry.{Entry}
 use Rattle.fb_wanted.specs.declared.block.State.{State}
 use Rattle.fb_wanted.specs.Numbering.{blocks_of}
-use Rattle.fb_wanted.specs.Index.{pair_cmp, with_state}
+use Rattle.fb_wanted.specs.LookUp.{pair_cmp, with_state}
 use Rattle.fb_wanted.specs.Near.{chunk_of, near_of, AreNear}
 use Rattle.fb_wanted.proofs.Numbers.{in_either, blocks-more}
 use Rattle.fb_wanted.proofs.Standing.{blocks-with_state}

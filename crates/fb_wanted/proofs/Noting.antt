@@ -7,7 +7,7 @@ use Rattle.std.proofs.lemmas.Bool.Decides.{nat_tests}
 use Rattle.std.proofs.lemmas.Option.{slice_get_within}
 use Rattle.fb_wanted.specs.declared.block.Entry.{Entry}
 use Rattle.fb_wanted.specs.declared.streaks.Streak.{Streak}
-use Rattle.fb_wanted.specs.Index.{is_of_task, lbns, region_of, key_of, streak_cmp, BeginsStreak, AreNoted, AreShort}
+use Rattle.fb_wanted.specs.LookUp.{is_of_task, lbns, region_of, key_of, streak_cmp, BeginsStreak, AreNoted, AreShort}
 use Rattle.fb_wanted.proofs.Numbers.{in_either}
 use Rattle.fb_wanted.proofs.Regions.{length-lbns, lbns-own, lbns-other, streaks_stay, last_begins, streak_or_last}
 

@@ -9,7 +9,7 @@ use Rattle.fb_wanted.specs.declared.block.Block.{Block}
 use Rattle.fb_wanted.specs.declared.block.Entry.{Entry}
 use Rattle.fb_wanted.specs.States.{is_block}
 use Rattle.fb_wanted.specs.Numbering.{AreInOrder, AreSmall, blocks_of, registered}
-use Rattle.fb_wanted.specs.Index.{is_of_task, indexes_of}
+use Rattle.fb_wanted.specs.LookUp.{is_of_task, indexes_of}
 use Rattle.fb_wanted.proofs.Standing.{among}
 
 -- an element of a list with one more at the end is in the list, or it is the new one

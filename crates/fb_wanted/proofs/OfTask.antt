@@ -7,7 +7,7 @@ use Rattle.fb_wanted.specs.declared.block.Entry.{Entry}
 use Rattle.fb_wanted.specs.declared.block.State.{State}
 use Rattle.fb_wanted.specs.States.{after, entry_after, state_after}
 use Rattle.fb_wanted.specs.Numbering.{AreInOrder, blocks_of}
-use Rattle.fb_wanted.specs.Index.{is_of_task, change_nth}
+use Rattle.fb_wanted.specs.LookUp.{is_of_task, change_nth}
 use Rattle.fb_wanted.proofs.Numbers.{number_at}
 use Rattle.fb_wanted.proofs.Standing.{nth_alone, passes}
 

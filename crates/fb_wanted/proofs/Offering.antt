@@ -16,8 +16,8 @@ use Rattle.fb_wanted.specs.declared.block.State.TheVariants.{Wanted}
 use Rattle.fb_wanted.specs.declared.offer.Offer.{Offer}
 use Rattle.fb_wanted.specs.Offers.{AreSameBlocks, offer_of, offered_blocks, no_block}
 use Rattle.fb_wanted.specs.States.{is_wanted, on_track, wanted_of}
-use Rattle.fb_wanted.specs.Index.{OnTrack, indexes_of, is_of_track, no_offer, last_of, taken_out, with_offer, without_offer, offers_at}
-use Rattle.fb_wanted.specs.Index.{with_state, AreOffered, IsItsOffer, IsChanged}
+use Rattle.fb_wanted.specs.LookUp.{OnTrack, indexes_of, is_of_track, no_offer, last_of, taken_out, with_offer, without_offer, offers_at}
+use Rattle.fb_wanted.specs.LookUp.{with_state, AreOffered, IsItsOffer, IsChanged}
 use Rattle.fb_wanted.proofs.Counted.{filter-le}
 use Rattle.fb_wanted.proofs.Found.{block_at, block_is, blocks_still, found_each}
 use Rattle.fb_wanted.proofs.Kept.{turned_track, turned_other, changed_here, unchanged}

@@ -13,8 +13,8 @@ use Rattle.fb_wanted.specs.declared.tasks.OfTask.{OfTask}
 use Rattle.fb_wanted.specs.Counting.{counts_of, sum_of, AreNoMore, Fit}
 use Rattle.fb_wanted.specs.States.{on_track}
 use Rattle.fb_wanted.specs.Tracks.{wanted_weight}
-use Rattle.fb_wanted.specs.Index.{OnTrack, indexes_of, is_of_task, is_of_track, track_at, weight_kept, IsThere, IsKept, no_blocks}
-use Rattle.fb_wanted.specs.Index.{no_block_on}
+use Rattle.fb_wanted.specs.LookUp.{OnTrack, indexes_of, is_of_task, is_of_track, track_at, weight_kept, IsThere, IsKept, no_blocks}
+use Rattle.fb_wanted.specs.LookUp.{no_block_on}
 use Rattle.fb_wanted.proofs.Standing.{length-indexes_of, among}
 use Rattle.fb_wanted.proofs.Counted.{counts_at, counts-few}
 use Rattle.fb_wanted.proofs.Weights.{weight_at, weight-le}
@@ -22,7 +22,7 @@ use Rattle.fb_wanted.proofs.Weights.{weight_at, weight-le}
 module _ (es : List Entry) (tasks : List OfTask) (tracks : List (List OnTrack)) (h : IsKept es tasks tracks) where
   task_length : (task : ℕ) (blocks : OfTask) → blocks ≡ get_or tasks task no_blocks
       → length blocks.indexes ≡ length (filter (is_of_task task) es)
-  task_length task blocks at = ap (λ b. length b.indexes) (at ∙ h.index.by_task task) ∙ length-indexes_of (is_of_task task) es
+  task_length task blocks at = ap (λ b. length b.indexes) (at ∙ h.look_up.by_task task) ∙ length-indexes_of (is_of_task task) es
 
   no_task : (task : ℕ) → length tasks ≤ task → 0 ≡ length (filter (is_of_task task) es)
   no_task task past = task_length task no_blocks (sym (get_or_past tasks task no_blocks past))
@@ -37,14 +37,14 @@ module _ (es : List Entry) (tasks : List OfTask) (tracks : List (List OnTrack)) 
       → k < length blocks.indexes
   task_index task k blocks at lt = omega (arith, task_length task blocks at, lt)
 
-  -- the counts in the index are those of the task
+  -- the counts in the look-up are those of the task
   pub task_counts : (task : ℕ) (blocks : OfTask) → blocks ≡ get_or tasks task no_blocks → blocks.counts ≡ counts_of task es
-  task_counts task blocks at = ap (λ b. b.counts) (at ∙ h.index.by_task task)
+  task_counts task blocks at = ap (λ b. b.counts) (at ∙ h.look_up.by_task task)
 
   kept_counts : (task : ℕ) → (get_or tasks task no_blocks).counts ≡ counts_of task es
   kept_counts task = task_counts task (get_or tasks task no_blocks) refl
 
-  -- the task of a registered block has an entry in the index, and its counts have the block's part
+  -- the task of a registered block has an entry in the look-up, and its counts have the block's part
   pub its_task_there : (n : ℕ) (e : Entry) → slice_get es n ≡ Some e → e.block.task < length tasks
   its_task_there n e at =
       let own : is_of_task e.block.task e ≡ true = grind (arith, nat_tests) in
@@ -65,13 +65,13 @@ module _ (es : List Entry) (tasks : List OfTask) (tracks : List (List OnTrack)) 
 
   pub track_kept : (t : Track) (on : OnTrack) → on ≡ track_at tracks t
       → (on.indexes ≡ indexes_of (is_of_track t) es) × (on.weight ≡ wanted_weight t es)
-  track_kept t on at = (ap (λ o. o.indexes) at ∙ h.index.by_track t, ap (λ o. o.weight) at ∙ h.index.by_weight t)
+  track_kept t on at = (ap (λ o. o.indexes) at ∙ h.look_up.by_track t, ap (λ o. o.weight) at ∙ h.look_up.by_weight t)
 
   pub track_weight : (t : Track) (on : OnTrack) → on ≡ track_at tracks t → on.weight ≤ 16000000 * 2048000
   track_weight t on at = omega (arith, (track_kept t on at).1, weight-le t es h.small, h.few)
 
   pub weight_read : (t : Track) → weight_kept tracks t ≡ wanted_weight t es
-  weight_read t = h.index.by_weight t
+  weight_read t = h.look_up.by_weight t
 
   pub weight_small : (t : Track) → weight_kept tracks t ≤ 16000000 * 2048000
   weight_small t = omega (arith, weight_read t, weight-le t es h.small, h.few)
@@ -82,7 +82,7 @@ module _ (es : List Entry) (tasks : List OfTask) (tracks : List (List OnTrack)) 
   weight_part n e lost at is = omega (arith, is, weight_read e.block.track, weight_at e.block.track n e es at)
 
   track_length : (t : Track) → length (track_at tracks t).indexes ≡ length (on_track t es)
-  track_length t = ap length (h.index.by_track t) ∙ length-indexes_of (is_of_track t) es
+  track_length t = ap length (h.look_up.by_track t) ∙ length-indexes_of (is_of_track t) es
 
   -- the lists reach to the track of a registered block
   pub its_track_there : (n : ℕ) (e : Entry) → slice_get es n ≡ Some e → IsThere tracks e.block.track

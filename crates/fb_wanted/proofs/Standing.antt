@@ -9,7 +9,7 @@ use Rattle.fb_wanted.specs.declared.block.Entry.{Entry}
 use Rattle.fb_wanted.specs.declared.block.Block.{Block}
 use Rattle.fb_wanted.specs.declared.block.State.{State}
 use Rattle.fb_wanted.specs.Numbering.{blocks_of}
-use Rattle.fb_wanted.specs.Index.{indexes_of, with_state, change_nth, change_first}
+use Rattle.fb_wanted.specs.LookUp.{indexes_of, with_state, change_nth, change_first}
 
 pub length-indexes_of : (p : Entry → Bool) (es : List Entry) → length (indexes_of p es) ≡ length (filter p es)
 length-indexes_of p [] = refl

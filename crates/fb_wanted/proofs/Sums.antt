@@ -5,7 +5,7 @@ use Rattle.std.proofs.lemmas.List.Sums.{sum_by-cons}
 use Rattle.std.proofs.lemmas.Option.{same_Some, none-some}
 use Rattle.fb_wanted.specs.declared.block.Entry.{Entry}
 use Rattle.fb_wanted.specs.declared.block.State.{State}
-use Rattle.fb_wanted.specs.Index.{with_state}
+use Rattle.fb_wanted.specs.LookUp.{with_state}
 
 module _ (sum : List Entry → ℕ) (cons : (x : Entry) (xs : List Entry) → sum (x ∷ xs) ≡ sum (x ∷ []) + sum xs) where
   -- the sum loses the block's part before and gains its part after

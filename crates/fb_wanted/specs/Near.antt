@@ -3,7 +3,7 @@ use Rattle.std.specs.Prelude.{◌≡◌, ℕ, ◌-◌, ◌^◌, ◌/◌, min, Li
 use Rattle.std.specs.BTreeSet.{BTreeSet, contains}
 use Rattle.fb_wanted.specs.declared.block.Block.{Block}
 use Rattle.fb_wanted.specs.declared.block.Entry.{Entry}
-use Rattle.fb_wanted.specs.Index.{pair_cmp}
+use Rattle.fb_wanted.specs.LookUp.{pair_cmp}
 use Rattle.fb_wanted.specs.Numbering.{blocks_of}
 use Rattle.fb_wanted.specs.States.{shares}
 

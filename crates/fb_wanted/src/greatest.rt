@@ -2,7 +2,7 @@
 ghost use Rattle.std.specs.Prelude.{◌≡◌, ℕ, false, ◌⊎◌, ◌≤◌, ◌<◌, ◌+◌, ◌*◌, ◌/◌, [], length, get_or, set, OnOk};
 ghost use Rattle.fb_units.specs.declared.types.Track.{Track};
 ghost use Rattle.fb_units.specs.Tracks.{same_track};
-ghost use Rattle.fb_wanted.specs.Index.{weight_kept};
+ghost use Rattle.fb_wanted.specs.LookUp.{weight_kept};
 
 use crate::bands::{BAND, add_bands};
 use crate::tracks::Tracks;
@@ -20,7 +20,7 @@ pub struct Greatest {
 
 impl Model for Greatest {
     ghost use Rattle.std.specs.Prelude.{List, ℕ};
-    ghost use Rattle.fb_wanted.specs.Index.{AreBands};
+    ghost use Rattle.fb_wanted.specs.LookUp.{AreBands};
 
     ghost Value = { List ℕ };
 

@@ -1,7 +1,7 @@
-// The index of the registered blocks of one cylinder's tracks.
+// The look-up of the registered blocks of one cylinder's tracks.
 ghost use Rattle.std.specs.Prelude.{◌≡◌, ℕ, ◌≤◌, ◌<◌, ◌+◌, ◌-◌, ◌^◌, ◌==◌, ◌∷◌, ◌++◌, [], List, IfSome, IfNone, OnOk, OnErr, length};
 ghost use Rattle.std.specs.Prelude.{get_or, if◌then◌else◌};
-ghost use Rattle.fb_wanted.specs.Index.{grown, reweighed, with_offer, without_offer, last_of, no_block_on, IsHeadChanged};
+ghost use Rattle.fb_wanted.specs.LookUp.{grown, reweighed, with_offer, without_offer, last_of, no_block_on, IsHeadChanged};
 
 use crate::Offer;
 use crate::on_track::OnTrack;
@@ -17,9 +17,9 @@ pub struct Heads {
 
 impl Model for Heads {
     ghost use Rattle.std.specs.Prelude.{List};
-    ghost use Rattle.fb_wanted.specs.Index as index;
+    ghost use Rattle.fb_wanted.specs.LookUp as look_up;
 
-    ghost Value = { List index.OnTrack };
+    ghost Value = { List look_up.OnTrack };
 
     ghost view = { λ h. h.items.items };
 }

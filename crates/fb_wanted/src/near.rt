@@ -3,7 +3,7 @@
 ghost use Rattle.std.specs.Prelude.{◌≡◌, ◌<◌, ◌≤◌, true, false};
 ghost use Rattle.std.specs.BTreeSet.{contains};
 ghost use Rattle.fb_wanted.specs.declared.block.Block.{Block};
-ghost use Rattle.fb_wanted.specs.Index.{pair_cmp};
+ghost use Rattle.fb_wanted.specs.LookUp.{pair_cmp};
 ghost use Rattle.fb_wanted.specs.Near.{near_of, chunk_of};
 ghost use Rattle.fb_wanted.specs.States.{shares};
 

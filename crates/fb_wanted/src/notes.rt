@@ -1,7 +1,7 @@
 // Sets of pairs of numbers, in which the least second number of a first one is found by search.
 ghost use Rattle.std.specs.Prelude.{◌≡◌, ℕ, ◌<◌, ◌≤◌, true, false, IfSome, IfNone, OnOk};
 ghost use Rattle.std.specs.BTreeSet.{contains};
-ghost use Rattle.fb_wanted.specs.Index.{pair_cmp};
+ghost use Rattle.fb_wanted.specs.LookUp.{pair_cmp};
 
 use fb_units::NoMemory;
 use std::collections::BTreeSet;

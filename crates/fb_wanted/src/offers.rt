@@ -4,8 +4,8 @@ ghost use Rattle.fb_units.specs.declared.types.Track.{Track};
 ghost use Rattle.fb_units.specs.Tracks.{same_track};
 ghost use Rattle.fb_wanted.specs.Numbering.{AreSmall, blocks_of};
 ghost use Rattle.fb_wanted.specs.Offers.{offer_of};
-ghost use Rattle.fb_wanted.specs.Index.{track_at, offers_at, with_offer, without_offer, last_of, with_state, indexes_of, is_of_track};
-ghost use Rattle.fb_wanted.specs.Index.{AreOffered, IsChanged, IsThere};
+ghost use Rattle.fb_wanted.specs.LookUp.{track_at, offers_at, with_offer, without_offer, last_of, with_state, indexes_of, is_of_track};
+ghost use Rattle.fb_wanted.specs.LookUp.{AreOffered, IsChanged, IsThere};
 
 use crate::offer::offer_of;
 use crate::tracks::Tracks;

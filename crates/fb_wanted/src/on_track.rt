@@ -1,6 +1,6 @@
-// The index of the registered blocks of one track.
+// The look-up of the registered blocks of one track.
 ghost use Rattle.std.specs.Prelude.{◌≡◌, ℕ, ◌<◌, ◌+◌, ◌-◌, ◌≤◌, ◌^◌, length, OnOk, OnErr};
-ghost use Rattle.fb_wanted.specs.Index.{grown, reweighed, with_offer, without_offer, last_of, no_block_on};
+ghost use Rattle.fb_wanted.specs.LookUp.{grown, reweighed, with_offer, without_offer, last_of, no_block_on};
 
 use crate::Offer;
 use fb_units::{Items, NoMemory};
@@ -20,9 +20,9 @@ pub struct OnTrack {
 
 impl Model for OnTrack {
     ghost use Rattle.std.specs.Prelude.{◌≤◌, length, vec_capacity};
-    ghost use Rattle.fb_wanted.specs.Index as index;
+    ghost use Rattle.fb_wanted.specs.LookUp as look_up;
 
-    ghost Value = { index.OnTrack };
+    ghost Value = { look_up.OnTrack };
 
     ghost view = { λ t. record { indexes = t.indexes; weight = t.weight; offers = t.offers.items } };
 

@@ -4,7 +4,7 @@
 ghost use Rattle.std.specs.Prelude.{◌≡◌, ◌⊎◌, ℕ, ◌<◌, ◌≤◌, ◌+◌, ◌^◌, true, false, IfSome, IfNone, OnOk, OnErr};
 ghost use Rattle.std.specs.BTreeSet.{contains};
 ghost use Rattle.fb_wanted.specs.declared.streaks.Streak.{Streak};
-ghost use Rattle.fb_wanted.specs.Index.{region_of, streak_cmp, key_of, IsUpTo};
+ghost use Rattle.fb_wanted.specs.LookUp.{region_of, streak_cmp, key_of, IsUpTo};
 
 use fb_units::NoMemory;
 use std::collections::BTreeSet;

@@ -1,7 +1,7 @@
-// The index of the registered blocks by task.
+// The look-up of the registered blocks by task.
 ghost use Rattle.std.specs.Prelude.{◌≡◌, ℕ, ◌<◌, length, get_or, OnOk, OnErr};
 ghost use Rattle.fb_wanted.specs.Counting.{sum_of, AreNoMore, Fit};
-ghost use Rattle.fb_wanted.specs.Index.{IsTaskChanged, no_blocks, joined, counted_anew};
+ghost use Rattle.fb_wanted.specs.LookUp.{IsTaskChanged, no_blocks, joined, counted_anew};
 
 use crate::Counts;
 use crate::counting::{no_counts, recounted};

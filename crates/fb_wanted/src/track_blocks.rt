@@ -4,7 +4,7 @@ ghost use Rattle.std.specs.List.{sum_by};
 ghost use Rattle.fb_wanted.specs.States.{on_track, wanted_of};
 ghost use Rattle.fb_wanted.specs.Offers.{AreOffers, AreSameBlocks, AreFound, offered_blocks};
 ghost use Rattle.fb_wanted.specs.Tracks.{wanted_weight};
-ghost use Rattle.fb_wanted.specs.Index.{indexes_of, is_of_track};
+ghost use Rattle.fb_wanted.specs.LookUp.{indexes_of, is_of_track};
 
 use crate::{Entry, Offer, WantedBlocks};
 use fb_units::Track;
@@ -20,7 +20,7 @@ pub struct TrackBlocks<'a> {
     track: Track,
     entries: &'a [Entry],
     // Their indexes among all registered blocks.
-    at: &'a [u32],
+    indexes: &'a [u32],
     // The sum of weight times sectors over the wanted ones.
     weight: u64,
     // What the wanted ones offer.
@@ -33,13 +33,13 @@ impl<'a> Model for TrackBlocks<'a> {
     ghost use Rattle.fb_wanted.specs.States.{on_track, wanted_of};
     ghost use Rattle.fb_wanted.specs.Offers.{AreSameBlocks, AreFound, offered_blocks};
     ghost use Rattle.fb_wanted.specs.Tracks.{wanted_weight};
-    ghost use Rattle.fb_wanted.specs.Index.{indexes_of, is_of_track};
+    ghost use Rattle.fb_wanted.specs.LookUp.{indexes_of, is_of_track};
 
     ghost Value = { List Entry };
 
     ghost view = { λ t. on_track t.track t.entries.now };
 
-    ghost invariant = { λ t. (t.at.now ≡ indexes_of (is_of_track t.track) t.entries.now)
+    ghost invariant = { λ t. (t.indexes.now ≡ indexes_of (is_of_track t.track) t.entries.now)
         × (length t.entries.now ≤ 16000000)
         × (t.weight ≡ wanted_weight t.track t.entries.now)
         × (t.weight ≤ 16000000 * 2048000)
@@ -52,11 +52,11 @@ impl<'a> TrackBlocks<'a> {
     pub(crate) fn new(
         track: Track,
         entries: &'a [Entry],
-        at: &'a [u32],
+        indexes: &'a [u32],
         weight: u64,
         offers: &'a [Offer],
     ) -> Self
-        requires its { at.now ≡ indexes_of (is_of_track track) entries.now }
+        requires its { indexes.now ≡ indexes_of (is_of_track track) entries.now }
         requires few { length entries.now ≤ 16000000 }
         requires weight { weight ≡ wanted_weight track entries.now }
         requires small { weight ≤ 16000000 * 2048000 }
@@ -67,7 +67,7 @@ impl<'a> TrackBlocks<'a> {
         TrackBlocks {
             track,
             entries,
-            at,
+            indexes,
             weight,
             offers,
         }
@@ -78,7 +78,7 @@ impl<'a> TrackBlocks<'a> {
         ensures count { result ≡ length self.now }
         ensures few { result ≤ 16000000 }
     {
-        self.at.len() as u32
+        self.indexes.len() as u32
     }
 
     /// The i-th block, from 0, with its state.
@@ -86,7 +86,7 @@ impl<'a> TrackBlocks<'a> {
         requires { i < length self.now }
         ensures { slice_get self.now i ≡ Some result }
     {
-        self.entries[self.at[i as usize] as usize]
+        self.entries[self.indexes[i as usize] as usize]
     }
 
     /// The sum of weight times sectors over the wanted blocks.

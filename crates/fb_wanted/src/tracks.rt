@@ -1,10 +1,10 @@
-// The index of the registered blocks by track.
+// The look-up of the registered blocks by track.
 ghost use Rattle.std.specs.Prelude.{◌≡◌, ℕ, ◌≤◌, ◌<◌, ◌+◌, ◌-◌, ◌^◌, ◌∷◌, ◌++◌, [], List, IfSome, IfNone, OnOk, OnErr, length, get_or};
 ghost use Rattle.std.specs.Prelude.{if◌then◌else◌};
 ghost use Rattle.fb_units.specs.declared.types.Track.{Track};
 ghost use Rattle.fb_units.specs.Tracks.{same_track};
-ghost use Rattle.fb_wanted.specs.Index.{track_at, offers_at, weight_kept, last_of, no_block_on, IsThere, IsChanged};
-ghost use Rattle.fb_wanted.specs.Index.{grown, reweighed, with_offer, without_offer};
+ghost use Rattle.fb_wanted.specs.LookUp.{track_at, offers_at, weight_kept, last_of, no_block_on, IsThere, IsChanged};
+ghost use Rattle.fb_wanted.specs.LookUp.{grown, reweighed, with_offer, without_offer};
 ghost use Rattle.fb_wanted.specs.Tracks.{wanted_weight};
 
 use crate::heads::Heads;
@@ -22,9 +22,9 @@ pub struct Tracks {
 
 impl Model for Tracks {
     ghost use Rattle.std.specs.Prelude.{List};
-    ghost use Rattle.fb_wanted.specs.Index as index;
+    ghost use Rattle.fb_wanted.specs.LookUp as look_up;
 
-    ghost Value = { List (List index.OnTrack) };
+    ghost Value = { List (List look_up.OnTrack) };
 
     ghost view = { λ t. t.cylinders.items };
 }

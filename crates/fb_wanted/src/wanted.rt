@@ -1,5 +1,5 @@
-// The registered blocks, in order of registration, with their indexes by task, by track, by
-// cylinder, by band of cylinders, by chunk and by region of LBNs.
+// The registered blocks, in order of registration, with look-ups by task, by track, by cylinder, by
+// band of cylinders, by chunk and by region of LBNs.
 ghost use Rattle.std.specs.Prelude.{◌≡◌, List, suc, Bool, true, false, ◌+◌, ◌-◌, ◌<◌, ◌≤◌, ℕ, [], ◌∷◌, ◌++◌, ◌*◌, ◌/◌, length, filter, map};
 ghost use Rattle.std.specs.Prelude.{OnOk, OnErr, IfSome, IfNone, Some, slice_get, get_or, ◌==◌, if◌then◌else◌};
 ghost use Rattle.fb_wanted.specs.declared.block.Block.{Block};
@@ -10,8 +10,8 @@ ghost use Rattle.fb_wanted.specs.Counting.{counts_of, sum_of, Fit};
 ghost use Rattle.fb_wanted.specs.Tracks.{wanted_weight};
 ghost use Rattle.fb_wanted.specs.Depth.{depth_at};
 ghost use Rattle.fb_wanted.specs.Near.{near_of, SharesNone};
-ghost use Rattle.fb_wanted.specs.Index.{indexes_of, is_of_task, lbns, region_of, HasChanged, IsStable, IsWithin, changed_where, with_state};
-ghost use Rattle.fb_wanted.specs.Index.{change_nth, track_at, grown, no_blocks, grown_task, IsChanged, IsTaskChanged};
+ghost use Rattle.fb_wanted.specs.LookUp.{indexes_of, is_of_task, lbns, region_of, HasChanged, IsStable, IsWithin, changed_where};
+ghost use Rattle.fb_wanted.specs.LookUp.{with_state, change_nth, track_at, grown, no_blocks, grown_task, IsChanged, IsTaskChanged};
 ghost use Rattle.fb_units.specs.declared.types.Track.{Track};
 ghost use Rattle.fb_units.specs.Tracks.{same_track};
 
@@ -74,7 +74,7 @@ pub struct Wanted {
 impl Model for Wanted {
     ghost use Rattle.std.specs.Prelude.{List};
     ghost use Rattle.fb_wanted.specs.declared.block.Entry.{Entry};
-    ghost use Rattle.fb_wanted.specs.Index.{IsKept, AreNoted, AreGreatest, AreShort, AreOffered, offers_at};
+    ghost use Rattle.fb_wanted.specs.LookUp.{IsKept, AreNoted, AreGreatest, AreShort, AreOffered, offers_at};
     ghost use Rattle.fb_wanted.specs.Depth.{AreDeep};
     ghost use Rattle.fb_wanted.specs.Near.{AreNear};
 
@@ -91,9 +91,9 @@ impl Model for Wanted {
         × AreOffered w.entries.items (offers_at w.tracks) w.offer_indexes.items };
 }
 
-// Adds a block that is to be registered, and isn't wanted yet, to the indexes by task and by track.
-// Out of memory, it returns `NoMemory` and no index has changed.
-fn add_to_index(
+// Adds a block that is to be registered, and isn't wanted yet, to the look-up by task and by track.
+// Out of memory, it returns `NoMemory` and nothing has changed.
+fn add_to_look_up(
     tasks: &mut Vec<OfTask>,
     tracks: &mut Tracks,
     alloc: Global,
@@ -129,12 +129,12 @@ impl Wanted {
         self.counts(task).registered
     }
 
-    // The index, among all registered blocks, of the k-th block of the task.
-    fn index_of(&self, task: u32, k: u32) -> u32
-        requires { k < length (filter (is_of_task task) self.now) }
-        ensures { slice_get (indexes_of (is_of_task task) self.now) k ≡ Some result }
+    // The index, among all registered blocks, of the task's block with this number.
+    fn index_of(&self, task: u32, number: u32) -> u32
+        requires { number < length (filter (is_of_task task) self.now) }
+        ensures { slice_get (indexes_of (is_of_task task) self.now) number ≡ Some result }
     {
-        *self.tasks[task as usize].indexes.get(k as usize)
+        *self.tasks[task as usize].indexes.get(number as usize)
     }
 
     // The entry with an index among all registered blocks.
@@ -145,12 +145,12 @@ impl Wanted {
         self.entries[index as usize]
     }
 
-    // The k-th block of the task.
-    fn entry_of(&self, task: u32, k: u32) -> Entry
-        requires { k < length (filter (is_of_task task) self.now) }
-        ensures { slice_get (filter (is_of_task task) self.now) k ≡ Some result }
+    // The task's block with this number.
+    fn entry_of(&self, task: u32, number: u32) -> Entry
+        requires { number < length (filter (is_of_task task) self.now) }
+        ensures { slice_get (filter (is_of_task task) self.now) number ≡ Some result }
     {
-        self.entry_at(self.index_of(task, k))
+        self.entry_at(self.index_of(task, number))
     }
 
     // Changes the state of the entry with this index.
@@ -189,12 +189,12 @@ impl Wanted {
         );
     }
 
-    // Changes the k-th block of the task.
-    fn change_block(&mut self, task: u32, k: u32, change: Change)
-        requires { k < length (filter (is_of_task task) self.old) }
-        ensures { self.new ≡ change_nth (is_of_task task) (entry_after task change) k self.old }
+    // Changes the task's block with this number.
+    fn change_block(&mut self, task: u32, number: u32, change: Change)
+        requires { number < length (filter (is_of_task task) self.old) }
+        ensures { self.new ≡ change_nth (is_of_task task) (entry_after task change) number self.old }
     {
-        let index = self.index_of(task, k);
+        let index = self.index_of(task, number);
         let entry = self.entry_at(index);
         self.set_state(index, state_after(change, entry.block, entry.state));
     }
@@ -203,8 +203,8 @@ impl Wanted {
     fn change(&mut self, task: u32, change: Change)
         ensures { self.new ≡ after task change self.old }
     {
-        for k in 0..self.registered_by(task) {
-            self.change_block(task, k, change);
+        for number in 0..self.registered_by(task) {
+            self.change_block(task, number, change);
         }
     }
 
@@ -249,13 +249,13 @@ impl Wanted {
             → HasChanged task change streak es chosen self.new }
     {
         let _ = &self.entries;
-        for k in streak.number..self.registered_by(task) {
-            let block = self.entry_of(task, k).block;
+        for number in streak.number..self.registered_by(task) {
+            let block = self.entry_of(task, number).block;
             if region_of(block.lbn) != streak.region {
                 return;
             }
             if shares(block, first, count) {
-                self.change_block(task, k, change);
+                self.change_block(task, number, change);
             }
         }
     }
@@ -312,7 +312,7 @@ impl Wanted {
         self.greatest.add_room(block.track.cylinder)?;
         add_bands(&mut self.depths, band, NO_DEPTH)?;
         note_streak(&mut self.streaks, block.task, streak, begins_streak)?;
-        match add_to_index(&mut self.tasks, &mut self.tracks, self.alloc, index, entry) {
+        match add_to_look_up(&mut self.tasks, &mut self.tracks, self.alloc, index, entry) {
             Ok(()) => {
                 deepen(&mut self.depths, band, block);
                 self.longest = self.longest.max(block.count);

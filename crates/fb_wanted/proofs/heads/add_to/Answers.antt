@@ -1,7 +1,7 @@
 use Rattle.std.proofs.Common.{ap, ◌∙◌, get_or, set}
 use Rattle.std.proofs.lemmas.List.{set-get_or}
 use Rattle.fb_units.proofs.Lists.{on_err}
-use Rattle.fb_wanted.specs.Index.{no_block_on}
+use Rattle.fb_wanted.specs.LookUp.{no_block_on}
 use Rattle.fb_wanted.proofs.heads.add_to.Goals as goal
 
 pub returns-in_err-add-clause-err : goal.returns-in_err-add-clause-err

@@ -1,5 +1,5 @@
 use Rattle.std.proofs.Common.{◌<◌, ◌≤◌, ℕ, get_or}
-use Rattle.fb_wanted.specs.Index.{no_block_on}
+use Rattle.fb_wanted.specs.LookUp.{no_block_on}
 use Rattle.fb_wanted.proofs.heads.greatest.Given as goal
 
 -- the greatest of those seen

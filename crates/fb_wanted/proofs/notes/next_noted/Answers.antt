@@ -5,7 +5,7 @@ use Rattle.std.specs.BTreeSet.{contains}
 use Rattle.std.specs.Ordering.{is_gt}
 use Rattle.std.proofs.lemmas.Bool.{cases_Bool}
 use Rattle.std.proofs.lemmas.Option.{IfSome_then}
-use Rattle.fb_wanted.specs.Index.{pair_cmp}
+use Rattle.fb_wanted.specs.LookUp.{pair_cmp}
 use Rattle.fb_wanted.proofs.Lists.{from_pair, seconds_rise, first_stays}
 use Rattle.fb_wanted.proofs.notes.next_noted.Goals as goal
 

@@ -2,7 +2,7 @@ use Rattle.std.proofs.Common.{◌≡◌, ◌∙◌, Bool, true, false, refl, if�
 use Rattle.std.specs.BTreeMap.{is_at}
 use Rattle.std.specs.BTreeSet.{contains}
 use Rattle.fb_wanted.proofs.Keys.{still}
-use Rattle.fb_wanted.specs.Index.{pair_cmp}
+use Rattle.fb_wanted.specs.LookUp.{pair_cmp}
 use Rattle.fb_wanted.proofs.notes.note.Goals as goal
 
 pub returns-in_ok-insert-clause-stay : goal.returns-in_ok-insert-clause-stay

@@ -1,6 +1,6 @@
 use Rattle.std.proofs.Common.{◌<◌, ◌∙◌, ap, sym, subst, refl, length, get_or, arith}
 use Rattle.std.proofs.lemmas.Option.{slice_get-get_or, slice_get_read}
-use Rattle.fb_wanted.specs.Index.{offers_at, with_state, AreOffered}
+use Rattle.fb_wanted.specs.LookUp.{offers_at, with_state, AreOffered}
 use Rattle.fb_wanted.proofs.Numbers.{small_at}
 use Rattle.fb_wanted.proofs.Offering.{moved_there, offered_taken, offered_given, offered_alike, offers-few, offers-room, no_entry}
 use Rattle.fb_wanted.proofs.offers.reoffer.Goals as goal

@@ -5,7 +5,7 @@ use Rattle.std.specs.BTreeSet.{contains}
 use Rattle.std.specs.Ordering.{is_gt}
 use Rattle.std.proofs.lemmas.Bool.{cases_Bool}
 use Rattle.std.proofs.lemmas.Option.{IfSome_then}
-use Rattle.fb_wanted.specs.Index.{streak_cmp, key_of}
+use Rattle.fb_wanted.specs.LookUp.{streak_cmp, key_of}
 use Rattle.fb_wanted.proofs.Keys.{from_key, up_to, from_up_to, between}
 use Rattle.fb_wanted.proofs.streaks.next_streak.Goals as goal
 

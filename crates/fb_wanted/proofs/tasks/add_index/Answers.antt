@@ -2,7 +2,7 @@ use Rattle.std.proofs.Common.{ap, ◌∙◌, get_or, set}
 use Rattle.std.proofs.lemmas.List.{set-get_or}
 use Rattle.fb_units.proofs.Lists.{on_err}
 use Rattle.fb_wanted.specs.declared.tasks.OfTask.{OfTask}
-use Rattle.fb_wanted.specs.Index.{no_blocks}
+use Rattle.fb_wanted.specs.LookUp.{no_blocks}
 use Rattle.fb_wanted.proofs.tasks.add_index.Goals as goal
 
 pub returns-in_err-push-2-clause-err : goal.returns-in_err-push-2-clause-err

@@ -6,7 +6,7 @@ use Rattle.fb_wanted.specs.declared.block.Entry.{Entry}
 use Rattle.fb_wanted.specs.Near.{near_of, AreNear}
 use Rattle.fb_wanted.specs.Numbering.{blocks_of, registered}
 use Rattle.fb_wanted.specs.Depth.{AreDeep}
-use Rattle.fb_wanted.specs.Index.{is_of_task, lbns, grown, offers_at, AreNoted, AreShort, AreOffered, IsKept}
+use Rattle.fb_wanted.specs.LookUp.{is_of_task, lbns, grown, offers_at, AreNoted, AreShort, AreOffered, IsKept}
 use Rattle.fb_wanted.specs.declared.block.State.TheVariants.{Suspended}
 use Rattle.fb_wanted.proofs.Offering.{offered_still, offered_pushed}
 use Rattle.fb_wanted.proofs.Numbers.{task-blocks}
@@ -25,8 +25,8 @@ its_number block es free = free ∙ (ap length (task-blocks block.task es) ∙ l
 pub begins_streak-begins_streak-requires : goal.begins_streak-begins_streak-requires
 begins_streak-begins_streak-requires c = its_number c.args.block c.args.self.now c.requires.numbered
 
-pub add_to_index-requires : goal.add_to_index-requires
-add_to_index-requires c = counts_room c.self.inside.entries.items c.self.inside.tasks.items c.self.inside.tracks c.self.invariant.0
+pub add_to_look_up-requires : goal.add_to_look_up-requires
+add_to_look_up-requires c = counts_room c.self.inside.entries.items c.self.inside.tasks.items c.self.inside.tracks c.self.invariant.0
     c.args.block.task (record { block = c.args.block; state = Suspended }) _ refl
 
 pub deepen-requires-clause-room : goal.deepen-requires-clause-room
@@ -51,7 +51,7 @@ invariant_of-self-in-Ok c =
     let next = its_number c.args.block items free in
     let roomy = greatest_still self.tracks self.greatest c.add_room.new.self c.self.invariant.2 c.in_ok-add_room.ensures.stay
     c.in_ok-add_room.ensures.longer in (
-      kept_pushed entry items self.tasks.items c.add_to_index.new.tasks.items self.tracks c.add_to_index.new.tracks
+      kept_pushed entry items self.tasks.items c.add_to_look_up.new.tasks.items self.tracks c.add_to_look_up.new.tracks
           c.push-in-Ok.new.self.items c.len-index.result list index c.self.invariant.0 free room c.requires.light c.requires.short
           refl c.in-Ok.ensures.tasks c.in-Ok.ensures.tracks,
       subst (λ l. AreNoted l c.note_streak.new.streaks) (sym list)
@@ -68,8 +68,8 @@ invariant_of-self-in-Ok c =
           ))
           (λ new i before to at same. c.begins_streak-begins_streak.ensures.new new i before to
           (ap (λ es. slice_get (lbns task es) i) (sym c.self.view_is) ∙ at) (same ∙ c.region_of.ensures))),
-      greatest_same self.tracks c.add_to_index.new.tracks c.add_room.new.self roomy
-          (changed_weight self.tracks c.add_to_index.new.tracks c.args.block.track (grown c.len-index.result) (λ o. refl)
+      greatest_same self.tracks c.add_to_look_up.new.tracks c.add_room.new.self roomy
+          (changed_weight self.tracks c.add_to_look_up.new.tracks c.args.block.track (grown c.len-index.result) (λ o. refl)
           c.in-Ok.ensures.tracks)
           (c.in-Ok.ensures.no_longer (length c.add_room.new.self) roomy.there c.in_ok-add_room.ensures.there),
       deep_pushed items c.push-in-Ok.new.self.items entry c.band_of-band.result c.add_bands.new.bands.items c.deepen.new.depths.items list
@@ -84,15 +84,15 @@ invariant_of-self-in-Ok c =
       subst (AreShort c.max-self-inside.result) (sym list)
           (short_more items entry self.longest c.max-self-inside.result c.self.invariant.5 (omega (arith, c.max-self-inside.ensures))
           (omega (arith, c.max-self-inside.ensures))),
-      subst (λ l. AreOffered l (offers_at c.add_to_index.new.tracks) c.push.new.self.items) (sym list)
-          (subst (λ l. AreOffered (items ++ entry ∷ []) (offers_at c.add_to_index.new.tracks) l) (sym offer_indexes)
-          (offered_pushed items (offers_at c.add_to_index.new.tracks) self.offer_indexes.items entry 0
-          (offered_still items (offers_at self.tracks) (offers_at c.add_to_index.new.tracks) self.offer_indexes.items c.self.invariant.6
-          (changed_offers self.tracks c.add_to_index.new.tracks c.args.block.track (grown c.len-index.result) (λ o. refl)
+      subst (λ l. AreOffered l (offers_at c.add_to_look_up.new.tracks) c.push.new.self.items) (sym list)
+          (subst (λ l. AreOffered (items ++ entry ∷ []) (offers_at c.add_to_look_up.new.tracks) l) (sym offer_indexes)
+          (offered_pushed items (offers_at c.add_to_look_up.new.tracks) self.offer_indexes.items entry 0
+          (offered_still items (offers_at self.tracks) (offers_at c.add_to_look_up.new.tracks) self.offer_indexes.items c.self.invariant.6
+          (changed_offers self.tracks c.add_to_look_up.new.tracks c.args.block.track (grown c.len-index.result) (λ o. refl)
           c.in-Ok.ensures.tracks)) refl)),
     )
 
--- out of memory for the index by task or by track: what was noted is taken back
+-- out of memory for the look-up by task or by track: what was noted is taken back
 pub invariant_of-self-in-Err : goal.invariant_of-self-in-Err
 invariant_of-self-in-Err c =
     let self = c.self.inside in
@@ -104,29 +104,29 @@ invariant_of-self-in-Err c =
     let next = its_number c.args.block items free in
     let roomy = greatest_still self.tracks self.greatest c.add_room.new.self c.self.invariant.2 c.in_ok-add_room.ensures.stay
     c.in_ok-add_room.ensures.longer in (
-      subst (λ es. IsKept es c.add_to_index.new.tasks.items c.add_to_index.new.tracks) list (record {
+      subst (λ es. IsKept es c.add_to_look_up.new.tasks.items c.add_to_look_up.new.tracks) list (record {
         in_order = old.in_order;
         few = old.few;
         small = old.small;
-        index = record {
-          by_task = λ t. stay.tasks_stay t ∙ old.index.by_task t;
-          by_track = λ t. ap (λ o. o.indexes) (stay.tracks_stay t) ∙ old.index.by_track t;
-          by_weight = λ t. ap (λ o. o.weight) (stay.tracks_stay t) ∙ old.index.by_weight t;
+        look_up = record {
+          by_task = λ t. stay.tasks_stay t ∙ old.look_up.by_task t;
+          by_track = λ t. ap (λ o. o.indexes) (stay.tracks_stay t) ∙ old.look_up.by_track t;
+          by_weight = λ t. ap (λ o. o.weight) (stay.tracks_stay t) ∙ old.look_up.by_weight t;
         };
       }),
       subst (λ es. AreNoted es c.forget_streak.new.streaks) list
           (noted_back items c.args.block.task c.region_of.result c.args.block.number self.streaks c.note_streak.new.streaks
           c.begins_streak-begins_streak.result c.self.invariant.1 next c.in_ok-note_streak.ensures.stay c.in_ok-note_streak.ensures.more
           c.forget_streak.new.streaks c.forget_streak.ensures.gone c.forget_streak.ensures.only c.forget_streak.ensures.others),
-      greatest_same self.tracks c.add_to_index.new.tracks c.add_room.new.self roomy (λ t. ap (λ o. o.weight) (stay.tracks_stay t))
+      greatest_same self.tracks c.add_to_look_up.new.tracks c.add_room.new.self roomy (λ t. ap (λ o. o.weight) (stay.tracks_stay t))
           (stay.no_longer (length c.add_room.new.self) roomy.there c.in_ok-add_room.ensures.there),
       subst (λ es. AreDeep es c.add_bands.new.bands.items) list
           (deep_still items self.depths.items c.add_bands.new.bands.items c.self.invariant.3 c.in_ok-add_bands.ensures.stay),
       subst (λ es. AreNear es c.note.new.notes) list
           (near_still items self.near c.note.new.notes c.self.invariant.4 c.in_ok-note.ensures.stay),
       subst (AreShort self.longest) list c.self.invariant.5,
-      subst (λ es. AreOffered es (offers_at c.add_to_index.new.tracks) c.reserve-2.new.self.items) list
-          (subst (λ l. AreOffered items (offers_at c.add_to_index.new.tracks) l) (sym c.in_ok-reserve-2.ensures.items)
-          (offered_still items (offers_at self.tracks) (offers_at c.add_to_index.new.tracks) self.offer_indexes.items c.self.invariant.6
+      subst (λ es. AreOffered es (offers_at c.add_to_look_up.new.tracks) c.reserve-2.new.self.items) list
+          (subst (λ l. AreOffered items (offers_at c.add_to_look_up.new.tracks) l) (sym c.in_ok-reserve-2.ensures.items)
+          (offered_still items (offers_at self.tracks) (offers_at c.add_to_look_up.new.tracks) self.offer_indexes.items c.self.invariant.6
           (λ t. ap (λ o. o.offers) (stay.tracks_stay t)))),
     )

@@ -3,7 +3,7 @@ use Rattle.std.specs.BTreeSet.{contains}
 use Rattle.std.proofs.lemmas.Bool.{cases_lt, true≢false}
 use Rattle.fb_wanted.specs.declared.streaks.Streak.{Streak}
 use Rattle.fb_wanted.specs.Numbering.{AreInOrder, blocks_of}
-use Rattle.fb_wanted.specs.Index.{lbns, region_of, streak_cmp, key_of, BeginsStreak, AreShort, IsInStreak, changed_where}
+use Rattle.fb_wanted.specs.LookUp.{lbns, region_of, streak_cmp, key_of, BeginsStreak, AreShort, IsInStreak, changed_where}
 use Rattle.fb_wanted.specs.States.{after}
 use Rattle.fb_wanted.proofs.Choosing.{none_chosen, lbns_stay}
 use Rattle.fb_wanted.proofs.Finding.{AreBehind, few_streaks, up_or_not, same_streak, comes_later, finished}

@@ -1,6 +1,6 @@
 use Rattle.std.proofs.Common.{◌∙◌, subst, filter}
 use Rattle.std.proofs.lemmas.Option.{slice_get_within}
-use Rattle.fb_wanted.specs.Index.{is_of_task}
+use Rattle.fb_wanted.specs.LookUp.{is_of_task}
 use Rattle.fb_wanted.specs.Numbering.{AreInOrder, blocks_of}
 use Rattle.fb_wanted.proofs.Numbers.{found}
 use Rattle.fb_wanted.proofs.OfTask.{delivered_alone}

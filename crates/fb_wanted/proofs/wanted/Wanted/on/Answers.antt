@@ -3,7 +3,7 @@ use Rattle.std.proofs.lemmas.Option.{none-some}
 use Rattle.fb_units.specs.declared.types.Track.{Track}
 use Rattle.fb_wanted.specs.declared.block.Entry.{Entry}
 use Rattle.fb_wanted.specs.declared.offer.Offer.{Offer}
-use Rattle.fb_wanted.specs.Index.{no_block_on, indexes_of, is_of_track, offers_at}
+use Rattle.fb_wanted.specs.LookUp.{no_block_on, indexes_of, is_of_track, offers_at}
 use Rattle.fb_wanted.specs.Offers.{AreSameBlocks, AreFound, offered_blocks}
 use Rattle.fb_wanted.specs.States.{on_track, wanted_of}
 use Rattle.fb_wanted.specs.Tracks.{wanted_weight}

@@ -1,8 +1,8 @@
 use Rattle.std.proofs.Common.{◌≡◌, ◌<◌, ◌≤◌, Some, set, slice_get, ◌∙◌, ap, sym, subst, refl, length, arith}
 use Rattle.std.proofs.lemmas.Option.{slice_get_read}
 use Rattle.fb_wanted.specs.declared.block.Entry.{Entry}
-use Rattle.fb_wanted.specs.Index.{with_state, reweighed, indexes_of, is_of_track, offers_at, AreGreatest, AreNoted, AreShort, AreOffered}
-use Rattle.fb_wanted.specs.Index.{IsKept}
+use Rattle.fb_wanted.specs.LookUp.{with_state, reweighed, indexes_of, is_of_track, offers_at, AreGreatest, AreNoted, AreShort, AreOffered}
+use Rattle.fb_wanted.specs.LookUp.{IsKept}
 use Rattle.fb_wanted.specs.Numbering.{AreSmall, blocks_of}
 use Rattle.fb_wanted.specs.Near.{AreNear}
 use Rattle.fb_wanted.proofs.Standing.{items-with_state}
@@ -27,7 +27,7 @@ reoffer-requires c =
       there = subst (λ es. c.args.index < length es) is there;
       small = subst (λ es. AreSmall (blocks_of es)) is kept.small;
       few = subst (λ es. length es ≤ 16000000) is kept.few;
-      indexes = λ t. kept.index.by_track t ∙ ap (indexes_of (is_of_track t)) is;
+      indexes = λ t. kept.look_up.by_track t ∙ ap (indexes_of (is_of_track t)) is;
       tracks = λ e at. its_track_there items c.self.inside.tasks.items c.self.inside.tracks kept c.args.index e
           (ap (λ l. slice_get l c.args.index) is ∙ at);
       offered = subst (λ l. AreOffered l (offers_at c.self.inside.tracks) c.self.inside.offer_indexes.items) is c.self.invariant.6;

@@ -1,5 +1,5 @@
 use Rattle.fb_wanted.proofs.Lists.{taken_back, joined_counted}
-use Rattle.fb_wanted.proofs.wanted.add_to_index.Goals as goal
+use Rattle.fb_wanted.proofs.wanted.add_to_look_up.Goals as goal
 
 pub returns-in-Err-clause-tasks_stay : goal.returns-in-Err-clause-tasks_stay
 returns-in-Err-clause-tasks_stay c =

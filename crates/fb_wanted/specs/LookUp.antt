@@ -1,4 +1,4 @@
--- The indexes that are kept beside the list of registered blocks.
+-- What is kept beside the list of registered blocks.
 use Rattle.std.specs.Prelude.{◌≡◌, ◌↔◌, ◌⊎◌, ℕ, zero, suc, ◌+◌, ◌-◌, ◌*◌, ◌/◌, ◌≤◌, ◌<◌, ◌==◌, Bool, true, false, List, [], ◌∷◌, ◌++◌, Some}
 use Rattle.std.specs.Prelude.{length, map, filter, get_or, slice_get, if◌then◌else◌}
 use Rattle.std.specs.List.{swap_remove}
@@ -53,11 +53,11 @@ abbrev pub IsTaskChanged : List OfTask → List OfTask → ℕ → (OfTask → O
 IsTaskChanged old new task change = (k : ℕ)
     → get_or new k no_blocks ≡ (if task == k then change (get_or old k no_blocks) else get_or old k no_blocks)
 
--- what the index has for a task
+-- what the look-up has for a task
 abbrev pub kept_of_task : ℕ → List Entry → OfTask
 kept_of_task task entries = record { indexes = indexes_of (is_of_task task) entries; counts = counts_of task entries }
 
--- what the index has for a track: the indexes of its blocks, the weight of the wanted ones, and what they offer
+-- what the look-up has for a track: the indexes of its blocks, the weight of the wanted ones, and what they offer
 pub record OnTrack : Type 0 where
   pub indexes : List ℕ
   pub weight : ℕ
@@ -113,8 +113,8 @@ IsChanged old new track change = (t : Track)
 abbrev pub IsThere : List (List OnTrack) → Track → Type 0
 IsThere tracks track = (track.cylinder < length tracks) × (track.head < length (get_or tracks track.cylinder []))
 
--- the indexes by task and by track are those of the list
-pub record IsIndex (entries : List Entry) (tasks : List OfTask) (tracks : List (List OnTrack)) : Type 0 where
+-- the look-up by task and by track has what the list has
+pub record IsLookUp (entries : List Entry) (tasks : List OfTask) (tracks : List (List OnTrack)) : Type 0 where
   pub by_task : (task : ℕ) → get_or tasks task no_blocks ≡ kept_of_task task entries
   pub by_track : (track : Track) → (track_at tracks track).indexes ≡ indexes_of (is_of_track track) entries
   pub by_weight : (track : Track) → (track_at tracks track).weight ≡ wanted_weight track entries
@@ -164,11 +164,11 @@ AreNoted entries streaks = (task : ℕ) (streak : Streak)
 abbrev pub AreShort : ℕ → List Entry → Type 0
 AreShort longest entries = (i : ℕ) (entry : Entry) → slice_get entries i ≡ Some entry → entry.block.count ≤ longest
 
--- the wanted weight that the index has for a track
+-- the wanted weight that the look-up has for a track
 abbrev pub weight_kept : List (List OnTrack) → Track → ℕ
 weight_kept tracks track = (track_at tracks track).weight
 
--- the offers that the index has for a track
+-- the offers that the look-up has for a track
 abbrev pub offers_at : List (List OnTrack) → Track → List Offer
 offers_at tracks track = (track_at tracks track).offers
 
@@ -189,7 +189,7 @@ pub record AreOffered (entries : List Entry) (offers : Track → List Offer) (of
       → (i : ℕ) × (slice_get offer_indexes index ≡ Some i) × (slice_get (offers entry.block.track) i ≡ Some (offer_of index entry.block))
   pub one_each : length offer_indexes ≡ length entries
 
--- no track has more wanted weight than the bound of its cylinder, and each cylinder in the index has a bound
+-- no track has more wanted weight than the bound of its cylinder, and each cylinder in the look-up has a bound
 pub record AreGreatest (tracks : List (List OnTrack)) (greatest : List ℕ) : Type 0 where
   pub weights : (t : Track) → weight_kept tracks t ≤ get_or greatest t.cylinder 0
   pub there : length tracks ≤ length greatest
@@ -209,12 +209,12 @@ abbrev pub IsStable : Change → Type 0
 IsStable change = (block : Block) (state : State)
     → state_after change block (state_after change block state) ≡ state_after change block state
 
--- what holds of the registered blocks and their indexes
+-- what holds of the registered blocks and their look-up
 pub record IsKept (entries : List Entry) (tasks : List OfTask) (tracks : List (List OnTrack)) : Type 0 where
   pub in_order : AreInOrder (blocks_of entries)
   pub few : length entries ≤ 16000000
   pub small : AreSmall (blocks_of entries)
-  pub index : IsIndex entries tasks tracks
+  pub look_up : IsLookUp entries tasks tracks
 
 -- the list with the n-th entry, from 0, in another state
 abbrev pub with_state : State → ℕ → List Entry → List Entry
