@@ -1,11 +1,11 @@
 -- Requests that are divided among a map and rows.
 use Rattle.fb_fastq.proofs.Words.{◌≡◌, ◌≢◌, ℕ, ◌+◌, ◌-◌, ◌^◌, ◌<◌, ◌≤◌, List, [], ◌∷◌, ◌++◌, sym, subst, arith, inl, inr, length}
 use Rattle.fb_fastq.proofs.Words.{AllByRecursion, BTreeMap, cases_lt, Track, Request, Disk, sptf, Candidate, Waiting, number_of, pending_of}
-use Rattle.fb_fastq.proofs.Words.{AreNumbered, IsIndex, IsNoLater, IsFirst, IsFirstHeld, IsCandidate, IsBefore, ComesNoLater, IsMore, Row}
-use Rattle.fb_fastq.proofs.Words.{all_of_rows, AreRows, RulesOut, RulesOutAll, IsDivided, length-append, nil_from_length, all_weaker}
+use Rattle.fb_fastq.proofs.Words.{AreNumbered, HaveOwnNumbers, IsNoLater, IsFirst, IsFirstHeld, IsCandidate, IsBefore, ComesNoLater, IsMore}
+use Rattle.fb_fastq.proofs.Words.{Row, all_of_rows, AreRows, RulesOut, RulesOutAll, IsDivided, length-append, nil_from_length, all_weaker}
 use Rattle.fb_fastq.proofs.Words.{all_append, all_left}
 use Rattle.fb_fastq.proofs.{Least.first_listed, Least.length_pending, Sweeps.no_later_trans, OneMore.more_left, OneMore.more_right}
-use Rattle.fb_fastq.proofs.{OneMore.index_more, OneMore.index_less, OneMore.length_more}
+use Rattle.fb_fastq.proofs.{OneMore.numbers_more, OneMore.numbers_less, OneMore.length_more}
 
 pub numbered_left : (xs ys : List Waiting) → AreNumbered (xs ++ ys) → AreNumbered xs
 numbered_left [] ys h = tt
@@ -62,16 +62,19 @@ module _ (disk : Disk) (head : Track) (now : ℕ) (map : BTreeMap (ℕ × ℕ) R
         absurd (omega (arith, some, all, length-append map.entries (all_of_rows rows), left, empty))
   ]
 
-pub index_left : (xs ys : List Waiting) (joined : ℕ) → IsIndex (xs ++ ys) joined → IsIndex xs joined
-index_left xs ys joined h = record { given = all_left (λ w. number_of w < joined) xs ys h.given; numbered = numbered_left xs ys h.numbered }
+pub numbers_left : (xs ys : List Waiting) (joined : ℕ) → HaveOwnNumbers (xs ++ ys) joined → HaveOwnNumbers xs joined
+numbers_left xs ys joined h = record {
+  given = all_left (λ w. number_of w < joined) xs ys h.given;
+  numbered = numbered_left xs ys h.numbered;
+}
 
 -- one of the rows' is taken out, or one of the map's
 pub rows_taken : (entries : List Waiting) (rows new : List Row) (in_rows joined : ℕ) (w : Waiting) → IsDivided entries rows in_rows joined
     → IsMore w (all_of_rows new) (all_of_rows rows) → AreRows 0 new → IsDivided entries new (in_rows - 1) joined
 rows_taken entries rows new in_rows joined w is less own = record {
-  index =
-      index_less w (entries ++ all_of_rows new) (entries ++ all_of_rows rows)
-      (more_left w (all_of_rows new) (all_of_rows rows) less entries) joined is.index;
+  numbers =
+      numbers_less w (entries ++ all_of_rows new) (entries ++ all_of_rows rows)
+      (more_left w (all_of_rows new) (all_of_rows rows) less entries) joined is.numbers;
   own_rows = own;
   counted = let one = length_more w (all_of_rows new) (all_of_rows rows) less in let all = is.counted in omega (arith, one, all);
   few = let all = is.few in omega (arith, all);
@@ -80,9 +83,9 @@ rows_taken entries rows new in_rows joined w is less own = record {
 pub map_taken : (entries new : List Waiting) (rows : List Row) (in_rows joined : ℕ) (w : Waiting) → IsDivided entries rows in_rows joined
     → IsMore w new entries → IsDivided new rows in_rows joined
 map_taken entries new rows in_rows joined w is less = record {
-  index =
-      index_less w (new ++ all_of_rows rows) (entries ++ all_of_rows rows)
-      (more_right w new entries less (all_of_rows rows)) joined is.index;
+  numbers =
+      numbers_less w (new ++ all_of_rows rows) (entries ++ all_of_rows rows)
+      (more_right w new entries less (all_of_rows rows)) joined is.numbers;
   own_rows = is.own_rows;
   counted = is.counted;
   few = is.few;
@@ -93,9 +96,9 @@ pub rows_joined : (entries : List Waiting) (rows new : List Row) (in_rows spot j
     → IsDivided entries rows in_rows joined → IsMore ((spot, joined), r) (all_of_rows rows) (all_of_rows new) → AreRows 0 new
     → IsDivided entries new (in_rows + 1) (joined + 1)
 rows_joined entries rows new in_rows spot joined r is more own = record {
-  index =
-      index_more ((spot, joined), r) (entries ++ all_of_rows rows) (entries ++ all_of_rows new)
-      (more_left ((spot, joined), r) (all_of_rows rows) (all_of_rows new) more entries) is.index;
+  numbers =
+      numbers_more ((spot, joined), r) (entries ++ all_of_rows rows) (entries ++ all_of_rows new)
+      (more_left ((spot, joined), r) (all_of_rows rows) (all_of_rows new) more entries) is.numbers;
   own_rows = own;
   counted = let one = length_more ((spot, joined), r) (all_of_rows rows) (all_of_rows new) more in let all = is.counted in
       omega (arith, one, all);
@@ -105,9 +108,9 @@ rows_joined entries rows new in_rows spot joined r is more own = record {
 pub map_joined : (entries new : List Waiting) (rows : List Row) (in_rows spot joined : ℕ) (r : Request)
     → IsDivided entries rows in_rows joined → IsMore ((spot, joined), r) entries new → IsDivided new rows in_rows (joined + 1)
 map_joined entries new rows in_rows spot joined r is more = record {
-  index =
-      index_more ((spot, joined), r) (entries ++ all_of_rows rows) (new ++ all_of_rows rows)
-      (more_right ((spot, joined), r) entries new more (all_of_rows rows)) is.index;
+  numbers =
+      numbers_more ((spot, joined), r) (entries ++ all_of_rows rows) (new ++ all_of_rows rows)
+      (more_right ((spot, joined), r) entries new more (all_of_rows rows)) is.numbers;
   own_rows = is.own_rows;
   counted = is.counted;
   few = let all = is.few in omega (arith, all);

@@ -1,12 +1,13 @@
 -- Requests in rows.
 use Rattle.fb_fastq.proofs.Words.{all_get, ◌≡◌, ℕ, zero, suc, ◌+◌, ◌*◌, ◌^◌, ◌<◌, ◌≤◌, List, [], ◌∷◌, refl, sym, ap, subst, ◌∙◌, arith, inl}
 use Rattle.fb_fastq.proofs.Words.{inr, ◌⊎◌, Some, slice_get, length, MatchOption, AllByRecursion, Track, cylinders_of, track_at, seek}
-use Rattle.fb_fastq.proofs.Words.{distance_of, Disk, sptf, Candidate, Place, Pick, Waiting, IsAlong, IsBefore, Row, all_of_rows, at_place}
+use Rattle.fb_fastq.proofs.Words.{distance_of, Disk, sptf, Candidate, Position, Pick, Waiting, IsAlong, IsBefore, Row, all_of_rows}
+use Rattle.fb_fastq.proofs.Words.{at_position}
 use Rattle.fb_fastq.proofs.Words.{IsOnCylinder, AreRows, IsAt, IsPick, RulesOut, RulesOutAll, SeeksRise, none-some, all_append, all_left}
 use Rattle.fb_fastq.proofs.Words.{all_right}
 use Rattle.fb_fastq.proofs.{Swept.some_injective, Sweeps.no_later_trans, Far.waits_for_arm, OnLanes.on_cylinder}
 
--- what is so at each place is so of all
+-- what is so at each position is so of all
 pub all_at : (P : Waiting → Type 0) (ws : List Waiting) → ((k : ℕ) (w : Waiting) → slice_get ws k ≡ Some w → P w) → AllByRecursion P ws
 all_at P [] h = tt
 all_at P (w ∷ ws) h = (h 0 w refl, all_at P ws (λ k x e. h (suc k) x e))
@@ -58,12 +59,13 @@ module _ (disk : Disk) (head : Track) (now : ℕ) where
 
   module _ (rows : List Row) where
     -- the one of two that is picked
-    pub picks_one : (limit : Candidate) (pick new : Pick) (next : Candidate) (place : Place) (w : Waiting)
+    pub picks_one : (limit : Candidate) (pick new : Pick) (next : Candidate) (position : Position) (w : Waiting)
         → IsPick disk head now rows limit pick
-        → at_place rows place ≡ Some w → next.key ≡ w.0 → next.wait ≡ sptf disk head now w.1
-        → (new ≡ pick) ⊎ ((new.best ≡ next) × (new.place ≡ Some place)) → IsBefore new.best pick.best → IsPick disk head now rows limit new
-    picks_one limit pick new next place w is there key wait (inl same) before = subst (IsPick disk head now rows limit) (sym same) is
-    picks_one limit pick new next place w is there key wait (inr other) before = record {
+        → at_position rows position ≡ Some w → next.key ≡ w.0 → next.wait ≡ sptf disk head now w.1
+        → (new ≡ pick) ⊎ ((new.best ≡ next) × (new.position ≡ Some position)) → IsBefore new.best pick.best
+        → IsPick disk head now rows limit new
+    picks_one limit pick new next position w is there key wait (inl same) before = subst (IsPick disk head now rows limit) (sym same) is
+    picks_one limit pick new next position w is there key wait (inr other) before = record {
       found = subst (λ o. MatchOption o (new.best ≡ limit) (λ p. IsAt disk head now rows p new.best)) (sym other.1) (record {
         waiting = w;
         there = there;
@@ -73,10 +75,11 @@ module _ (disk : Disk) (head : Track) (now : ℕ) where
       before = no_later_trans new.best.wait new.best.key.1 pick.best.wait pick.best.key.1 limit.wait limit.key.1 before is.before;
     }
 
-    -- where a place is in a row
-    pub in_row : (place : Place) (row : Row) (w : Waiting) → slice_get rows place.row ≡ Some row → slice_get row.items place.index ≡ Some w
-        → at_place rows place ≡ Some w
-    in_row place row w there at = rw there at
+    -- where a position is in a row
+    pub in_row : (position : Position) (row : Row) (w : Waiting) → slice_get rows position.row ≡ Some row
+        → slice_get row.items position.index ≡ Some w
+        → at_position rows position ≡ Some w
+    in_row position row w there at = rw there at
 
 -- what is so of all is so of one of a row
 pub held_in_row : (P : Waiting → Type 0) (rows : List Row) (i : ℕ) (row : Row) (ws : List Waiting) (k : ℕ) (w : Waiting)

@@ -4,8 +4,9 @@ use Rattle.fb_fastq.proofs.Words.{subst, ◌∙◌, arith, inl, inr, ◌⊎◌, 
 use Rattle.fb_fastq.proofs.Words.{Option, None, IsSome, Result, Ok, Err, OnErr, true, false, remove, option_and_then, AllByRecursion}
 use Rattle.fb_fastq.proofs.Words.{match_ordering, nat_cmp, Ordering, Less, Equal, Greater, insert_entry, is_at, BTreeSet, contains}
 use Rattle.fb_fastq.proofs.Words.{remove_entry, true≢false, cases_Bool, nat_tests, slice_get_within, Request, first_least, order, Waiting}
-use Rattle.fb_fastq.proofs.Words.{number_of, join_in, in_order, pending_of, AreNumbered, IsIndex, IsFirst, Place, IsMore, Row, all_of_rows}
-use Rattle.fb_fastq.proofs.Words.{at_place, IsOnCylinder, AreRows, AreOccupied, lookup, none-some, length-append, map-append, all_weaker}
+use Rattle.fb_fastq.proofs.Words.{number_of, join_in, in_order, pending_of, AreNumbered, HaveOwnNumbers, IsFirst, Position, IsMore, Row}
+use Rattle.fb_fastq.proofs.Words.{all_of_rows}
+use Rattle.fb_fastq.proofs.Words.{at_position, IsOnCylinder, AreRows, AreOccupied, lookup, none-some, length-append, map-append, all_weaker}
 use Rattle.fb_fastq.proofs.{Swept.some_injective, Swept.IsIn, Swept.all_of, Keys.same_number, Keys.here_equal, Keys.same_key}
 use Rattle.fb_fastq.proofs.{Joins.all_in_order, Joins.joins_last, Joins.join_before_last, Least.without, Least.without_joined}
 use Rattle.fb_fastq.proofs.{Least.without_other, Least.in_order_rising, Least.least_rising, Least.in_in_order, Least.at_key, InRows.row_on}
@@ -70,8 +71,8 @@ module _ (w : Waiting) (less more : List Waiting) (is : IsMore w less more) wher
       ∙ (ap (map (λ x. x.1)) (in_order_put w is.before is.behind (subst (AllByRecursion (λ x. number_of x < number_of w)) is.less_is h))
       ∙ (map-append (λ x. x.1) (in_order (is.before ++ is.behind)) (w ∷ []) ∙ ap (λ ws. pending_of ws ++ w.1 ∷ []) (sym is.less_is)))
 
-  pub index_more : IsIndex less (number_of w) → IsIndex more (number_of w + 1)
-  index_more h = record {
+  pub numbers_more : HaveOwnNumbers less (number_of w) → HaveOwnNumbers more (number_of w + 1)
+  numbers_more h = record {
     given = all_more (λ x. number_of x < number_of w + 1) (omega arith)
         (all_weaker (λ x. number_of x < number_of w) (λ x. number_of x < number_of w + 1) (λ x under. omega (arith, under)) less h.given);
     numbered = subst AreNumbered (sym is.more_is)
@@ -79,8 +80,8 @@ module _ (w : Waiting) (less more : List Waiting) (is : IsMore w less more) wher
         (subst AreNumbered is.less_is h.numbered));
   }
 
-  pub index_less : (joined : ℕ) → IsIndex more joined → IsIndex less joined
-  index_less joined h = record {
+  pub numbers_less : (joined : ℕ) → HaveOwnNumbers more joined → HaveOwnNumbers less joined
+  numbers_less joined h = record {
     given = all_less (λ x. number_of x < joined) h.given;
     numbered = subst AreNumbered (sym is.less_is) (numbered_drawn w is.before is.behind (subst AreNumbered is.more_is h.numbered));
   }
@@ -164,11 +165,11 @@ split_at (x ∷ ws) (suc k) w e = ap (λ xs. x ∷ xs) (split_at ws k w e)
 pub removed_more : (w : Waiting) (ws less : List Waiting) (k : ℕ) → less ≡ remove ws k → slice_get ws k ≡ Some w → IsMore w less ws
 removed_more w ws less k is there = record { before = take k ws; behind = drop (suc k) ws; less_is = is; more_is = split_at ws k w there }
 
--- the row at a place
+-- the row at a position
 pub row_there : (rows : List Row) (i : ℕ) (row : Row) → i < length rows → row ≡ get_or rows i row → slice_get rows i ≡ Some row
 row_there rows i row within is = slice_get_read rows (length rows) i row refl within is
 
--- one row in the place of another
+-- one row instead of another
 pub set_same : (rows : List Row) (i : ℕ) (row new : Row) → slice_get rows i ≡ Some row → new.items ≡ row.items
     → all_of_rows (set rows i new) ≡ all_of_rows rows
 set_same [] i row new there is = refl
@@ -209,37 +210,38 @@ length_more w less more is =
     let a = ap length is.less_is in let b = ap length is.more_is in
     omega (arith, a, b, length-append is.before is.behind, length-append is.before (w ∷ is.behind))
 
--- a place that has a request is in one of the rows
-pub place_within : (rows : List Row) (place : Place) → IsSome (at_place rows place) → place.row < length rows
-place_within rows place has = go (slice_get rows place.row) refl has
+-- a position that has a request is in one of the rows
+pub position_within : (rows : List Row) (position : Position) → IsSome (at_position rows position) → position.row < length rows
+position_within rows position has = go (slice_get rows position.row) refl has
   where
-    go : (o : Option Row) → slice_get rows place.row ≡ o → IsSome (option_and_then (λ (r : Row). slice_get r.items place.index) o)
-        → place.row < length rows
+    go : (o : Option Row) → slice_get rows position.row ≡ o → IsSome (option_and_then (λ (r : Row). slice_get r.items position.index) o)
+        → position.row < length rows
     go None e h = absurd (true≢false (sym h))
-    go (Some row) e h = slice_get_within rows place.row row e
+    go (Some row) e h = slice_get_within rows position.row row e
 
--- the request at a place is taken out of its row
-pub record IsTakenFrom (rows : List Row) (place : Place) (row new : Row) : Type 0 where
+-- the request at a position is taken out of its row
+pub record IsTakenFrom (rows : List Row) (position : Position) (row new : Row) : Type 0 where
   pub w : Waiting
-  pub there : slice_get rows place.row ≡ Some row
-  pub at : at_place rows place ≡ Some w
+  pub there : slice_get rows position.row ≡ Some row
+  pub at : at_position rows position ≡ Some w
   pub less : IsMore w new.items row.items
 
-pub taken_from : (rows : List Row) (place : Place) (row new : Row) → IsSome (at_place rows place) → row ≡ get_or rows place.row row
-    → new.items ≡ remove row.items place.index → IsTakenFrom rows place row new
-taken_from rows place row new has is items = go (at_place rows place) refl has
+pub taken_from : (rows : List Row) (position : Position) (row new : Row) → IsSome (at_position rows position)
+    → row ≡ get_or rows position.row row
+    → new.items ≡ remove row.items position.index → IsTakenFrom rows position row new
+taken_from rows position row new has is items = go (at_position rows position) refl has
   where
-    there : slice_get rows place.row ≡ Some row
-    there = row_there rows place.row row (place_within rows place has) is
+    there : slice_get rows position.row ≡ Some row
+    there = row_there rows position.row row (position_within rows position has) is
 
-    go : (o : Option Waiting) → at_place rows place ≡ o → IsSome o → IsTakenFrom rows place row new
+    go : (o : Option Waiting) → at_position rows position ≡ o → IsSome o → IsTakenFrom rows position row new
     go None e h = absurd (true≢false (sym h))
     go (Some w) e h = record {
       w = w;
       there = there;
       at = e;
-      less = removed_more w row.items new.items place.index items
-          (sym (ap (option_and_then (λ (r : Row). slice_get r.items place.index)) there) ∙ e);
+      less = removed_more w row.items new.items position.index items
+          (sym (ap (option_and_then (λ (r : Row). slice_get r.items position.index)) there) ∙ e);
     }
 
 -- a row that has one request less, or one more of its cylinder

@@ -32,10 +32,10 @@ pub use Rattle.fb_service.specs.declared.disk.Disk.{Disk}
 pub use Rattle.fb_model.specs.PlainReplay.{better, first_least, sptf}
 pub use Rattle.fb_fastq.specs.ByCylinder.{AreOccupied, AreRows, IsArrival, IsAt, IsDivided, IsOnCylinder, IsPick, Row, RulesOut}
 pub use Rattle.fb_fastq.specs.ByCylinder.{RulesOutAll}
-pub use Rattle.fb_fastq.specs.ByCylinder.{all_of_rows, at_place}
+pub use Rattle.fb_fastq.specs.ByCylinder.{all_of_rows, at_position}
 pub use Rattle.fb_fastq.specs.Candidates.{ComesNoLater, ComesNoLaterBetween, ComesNoLaterOn, ComesNoLaterUntil, IsBefore, IsCandidate}
-pub use Rattle.fb_fastq.specs.Joining.{AllHeld, AreNumbered, Holds, IsFirst, IsFirstHeld, IsIndex, IsNoLater, Waiting, Waits, in_order}
-pub use Rattle.fb_fastq.specs.Joining.{join_in, number_of, order, pending_of}
+pub use Rattle.fb_fastq.specs.Joining.{AllHeld, AreNumbered, HaveOwnNumbers, Holds, IsFirst, IsFirstHeld, IsNoLater, Waiting, Waits}
+pub use Rattle.fb_fastq.specs.Joining.{in_order, join_in, number_of, order, pending_of}
 pub use Rattle.fb_fastq.specs.Lanes.{IsAlong, IsLane, lane_start}
 pub use Rattle.fb_fastq.specs.More.{IsMore}
 pub use Rattle.fb_fastq.specs.Sides.{AreThose, IsNearer, IsNoFarther, IsOn, IsReached, beyond, on_side}
@@ -45,7 +45,7 @@ pub use Rattle.fb_fastq.specs.declared.arrival.Arrival.{Arrival}
 pub use Rattle.fb_fastq.specs.declared.lanes.Lane.{Lane}
 pub use Rattle.fb_fastq.specs.declared.ray.Ray.{Ray}
 pub use Rattle.fb_fastq.specs.declared.rows.Pick.{Pick}
-pub use Rattle.fb_fastq.specs.declared.rows.Place.{Place}
+pub use Rattle.fb_fastq.specs.declared.rows.Position.{Position}
 pub use Rattle.fb_fastq.specs.declared.side.Side.{Side}
 pub use Rattle.fb_fastq.specs.declared.side.Side.TheVariants.{Above, Below}
 pub use Rattle.fb_fastq.specs.declared.soonest.Candidate.{Candidate}

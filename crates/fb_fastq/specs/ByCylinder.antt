@@ -12,9 +12,9 @@ use Rattle.fb_seek.specs.Positioning.{seek, distance_of}
 use Rattle.fb_model.specs.PlainReplay.{sptf}
 use Rattle.fb_fastq.specs.declared.soonest.Candidate.{Candidate}
 use Rattle.fb_fastq.specs.declared.arrival.Arrival.{Arrival}
-use Rattle.fb_fastq.specs.declared.rows.Place.{Place}
+use Rattle.fb_fastq.specs.declared.rows.Position.{Position}
 use Rattle.fb_fastq.specs.declared.rows.Pick.{Pick}
-use Rattle.fb_fastq.specs.Joining.{Waiting, IsIndex}
+use Rattle.fb_fastq.specs.Joining.{Waiting, HaveOwnNumbers}
 use Rattle.fb_fastq.specs.Candidates.{IsBefore, ComesNoLater}
 
 -- the requests of a cylinder
@@ -25,9 +25,9 @@ Row = Vec Waiting Global
 abbrev pub all_of_rows : List Row → List Waiting
 all_of_rows rows = flat_map (λ row. row.items) rows
 
--- the request at a place
-abbrev pub at_place : List Row → Place → Option Waiting
-at_place rows place = option_and_then (λ (row : Row). slice_get row.items place.index) (slice_get rows place.row)
+-- the request at a position
+abbrev pub at_position : List Row → Position → Option Waiting
+at_position rows position = option_and_then (λ (row : Row). slice_get row.items position.index) (slice_get rows position.row)
 
 -- the spot is one of this cylinder's
 abbrev pub IsOnCylinder : ℕ → ℕ → Type 0
@@ -54,16 +54,16 @@ pub record IsArrival (disk : Disk) (from : Departure) (arrival : Arrival) : Type
   pub turned : arrival.angle < disk.map.rotation
   pub rotation_is : arrival.rotation ≡ disk.map.rotation
 
--- the candidate is the request at a place
-pub record IsAt (disk : Disk) (head : Track) (now : ℕ) (rows : List Row) (place : Place) (candidate : Candidate) : Type 0 where
+-- the candidate is the request at a position
+pub record IsAt (disk : Disk) (head : Track) (now : ℕ) (rows : List Row) (position : Position) (candidate : Candidate) : Type 0 where
   pub waiting : Waiting
-  pub there : at_place rows place ≡ Some waiting
+  pub there : at_position rows position ≡ Some waiting
   pub key : candidate.key ≡ waiting.0
   pub wait : candidate.wait ≡ sptf disk head now waiting.1
 
 -- what is picked is the limit still, or a request of the rows that comes before it
 pub record IsPick (disk : Disk) (head : Track) (now : ℕ) (rows : List Row) (limit : Candidate) (pick : Pick) : Type 0 where
-  pub found : MatchOption pick.place (pick.best ≡ limit) (λ place. IsAt disk head now rows place pick.best)
+  pub found : MatchOption pick.position (pick.best ≡ limit) (λ position. IsAt disk head now rows position pick.best)
   pub before : IsBefore pick.best limit
 
 -- the candidate is no later than a request that waits, and it comes soon: the request need not be looked at
@@ -76,7 +76,7 @@ RulesOutAll disk head now candidate ws = AllByRecursion (RulesOut disk head now 
 
 -- the requests that wait are divided among a map and the rows, and those of the rows are counted
 pub record IsDivided (entries : List Waiting) (rows : List Row) (in_rows joined : ℕ) : Type 0 where
-  pub index : IsIndex (entries ++ all_of_rows rows) joined
+  pub numbers : HaveOwnNumbers (entries ++ all_of_rows rows) joined
   pub own_rows : AreRows 0 rows
   pub counted : in_rows ≡ length (all_of_rows rows)
   pub few : in_rows ≤ joined

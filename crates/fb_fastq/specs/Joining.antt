@@ -29,7 +29,7 @@ Waiting = (ℕ × ℕ) × Request
 abbrev pub number_of : Waiting → ℕ
 number_of w = w.0.1
 
--- a request put in its place among others in order of joining
+-- a request put where it belongs among others in order of joining
 abbrev pub join_in : Waiting → List Waiting → List Waiting
 join_in w [] = w ∷ []
 join_in w (x ∷ xs) = if nat_lt (number_of w) (number_of x) then w ∷ x ∷ xs else x ∷ join_in w xs
@@ -49,7 +49,7 @@ AreNumbered [] = Unit {0}
 AreNumbered (w ∷ ws) = AllByRecursion (λ x. number_of x ≢ number_of w) ws × AreNumbered ws
 
 -- each has a number of its own that was given already
-pub record IsIndex (ws : List Waiting) (joined : ℕ) : Type 0 where
+pub record HaveOwnNumbers (ws : List Waiting) (joined : ℕ) : Type 0 where
   pub given : AllByRecursion (λ w. number_of w < joined) ws
   pub numbered : AreNumbered ws
 
@@ -67,6 +67,6 @@ IsFirstHeld rank waiting key = (request : Request) → Holds waiting key request
     → AllHeld (λ other_key other. IsNoLater (rank request) key.1 (rank other) other_key.1) waiting
 
 -- what a queue keeps: the requests that wait, and how many joined
-pub record Index : Type 0 where
+pub record Pending : Type 0 where
   pub waiting : List Waiting
   pub joined : ℕ

@@ -12,7 +12,7 @@ use std::collections::BTreeMap;
 
 /// What decides which of the requests that wait is taken next.
 ///
-/// Requests wait in an index by the cylinder of their first sector, and those of one cylinder in
+/// Requests wait in a map by the cylinder of their first sector, and those of one cylinder in
 /// order of joining.
 pub trait Choice: Drop {
     /// The key, of which the least is taken.

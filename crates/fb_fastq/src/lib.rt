@@ -1,7 +1,7 @@
 //! The order in which pending requests are served, found without a look at all that is pending.
 //!
 //! These queues keep the law of the plain ones: a queue takes the first request of least key, in
-//! order of joining. They keep a ring, or an index in which each request has a spot, and those at one
+//! order of joining. They keep a ring, or a map in which each request has a spot, and those at one
 //! spot stand in order of joining.
 //!
 //! For `SstfMap` and `ClookMap` the spot is the cylinder, so that the first request of the nearest
@@ -12,15 +12,15 @@
 //! `SptfLanes` keeps a row for each cylinder, and a set of those whose rows have requests. Rows are
 //! looked at from the head's cylinder upwards and then downwards, until the seek alone takes longer
 //! than the shortest wait found, and of a row's requests only those are valued that could be sooner.
-//! What a row has no room for waits in the index, where in each lane the next request from the angle
+//! What a row has no room for waits in the map, where in each lane the next request from the angle
 //! of arrival on is found by a search.
 #![tactic(auto)]
 
 mod arrival;
+mod by_spot;
 mod choice;
+mod cylinder_map;
 mod cylinders;
-mod index;
-mod indexed;
 mod lanes;
 mod nearest;
 mod ray;
@@ -33,7 +33,7 @@ mod upwards;
 mod visit;
 
 pub use choice::Choice;
-pub use indexed::Indexed;
+pub use cylinder_map::CylinderMap;
 pub use nearest::{Nearest, SstfMap};
 pub use ring::FcfsRing;
 pub use sptf::SptfLanes;

@@ -4,8 +4,8 @@ ghost use Rattle.fb_seek.specs.Positioning.{distance_of};
 ghost use Rattle.fb_model.specs.PlainReplay.{sstf};
 ghost use Rattle.fb_fastq.specs.Joining.{Waits, IsNoLater};
 
-use crate::index::{earlier, first_before, next_from};
-use crate::{Choice, Indexed};
+use crate::by_spot::{earlier, first_before, next_from};
+use crate::{Choice, CylinderMap};
 use fb_service::Disk;
 use fb_units::{Ns, Request, Track};
 use std::cmp::Ordering;
@@ -15,8 +15,8 @@ use std::collections::BTreeMap;
 #[derive(Clone, Copy, Default)]
 pub struct Nearest;
 
-/// Shortest seek time first, over an index by cylinder.
-pub type SstfMap = Indexed<Nearest>;
+/// Shortest seek time first, over a map by cylinder.
+pub type SstfMap = CylinderMap<Nearest>;
 
 // The first to join among the requests of the nearest spot; where two spots are equally near, among
 // the requests of both.

@@ -14,8 +14,8 @@ ghost use Rattle.fb_fastq.specs.Lanes.{IsAlong};
 ghost use Rattle.fb_fastq.specs.Sides.{IsOn, AreThose};
 ghost use Rattle.fb_fastq.specs.Candidates.{IsBefore};
 ghost use Rattle.fb_fastq.specs.More.{IsMore};
-ghost use Rattle.fb_fastq.specs.ByCylinder.{Row, all_of_rows, at_place, IsOnCylinder, AreRows, AreOccupied, IsArrival, IsPick, RulesOutAll};
-ghost use Rattle.fb_fastq.specs.ByCylinder.{Numbers};
+ghost use Rattle.fb_fastq.specs.ByCylinder.{Row, all_of_rows, at_position, IsOnCylinder, AreRows, AreOccupied, IsArrival, IsPick};
+ghost use Rattle.fb_fastq.specs.ByCylinder.{RulesOutAll, Numbers};
 
 use crate::arrival::{Arrival, arrival_at};
 use crate::side::Side;
@@ -28,7 +28,7 @@ use std::collections::btree_set::Range;
 
 /// Where a request stands among the rows.
 #[derive(Clone, Copy)]
-pub struct Place {
+pub struct Position {
     pub row: u32,
     pub index: usize,
 }
@@ -38,12 +38,12 @@ pub struct Place {
 pub struct Pick {
     pub best: Candidate,
     /// Where it stands, if it is one of the rows'.
-    pub place: Option<Place>,
+    pub position: Option<Position>,
 }
 
 // The sooner of what is picked and another; of two with the same wait, the one that joined first.
-fn sooner(pick: Pick, next: Candidate, place: Place) -> Pick
-    ensures one { (result ≡ pick) ⊎ ((result.best ≡ next) × (result.place ≡ Some place)) }
+fn sooner(pick: Pick, next: Candidate, position: Position) -> Pick
+    ensures one { (result ≡ pick) ⊎ ((result.best ≡ next) × (result.position ≡ Some position)) }
     ensures first { IsBefore result.best pick.best }
     ensures second { IsBefore result.best next }
 {
@@ -51,7 +51,7 @@ fn sooner(pick: Pick, next: Candidate, place: Place) -> Pick
     if next.wait < best.wait || (next.wait == best.wait && next.key.1 < best.key.1) {
         Pick {
             best: next,
-            place: Some(place),
+            position: Some(position),
         }
     } else {
         pick
@@ -92,11 +92,11 @@ fn soonest_of_row(
             key: waiting.0,
             wait,
         };
-        let place = Place {
+        let position = Position {
             row: arrival.cylinder,
             index,
         };
-        pick = sooner(pick, next, place);
+        pick = sooner(pick, next, position);
     }
     pick
 }
@@ -180,7 +180,7 @@ pub fn soonest_in_rows(
 {
     let pick = Pick {
         best: limit,
-        place: None,
+        position: None,
     };
     let above = walk(rows, occupied, disk, from, Side::Above, pick);
     if is_too_far(disk, above.best.wait) {
@@ -270,16 +270,16 @@ fn add_to(
     Ok(())
 }
 
-/// Takes out the request at a place.
-pub fn take_from(rows: &mut Vec<Vec<((u64, u64), Request)>>, place: Place) -> Request
-    requires there { IsSome (at_place rows.old.items place) }
-    ensures value { IfSome (at_place rows.old.items place) (λ w. result ≡ w.1) }
-    ensures less { IfSome (at_place rows.old.items place) (λ w. IsMore w (all_of_rows rows.new.items) (all_of_rows rows.old.items)) }
+/// Takes out the request at a position.
+pub fn take_from(rows: &mut Vec<Vec<((u64, u64), Request)>>, position: Position) -> Request
+    requires there { IsSome (at_position rows.old.items position) }
+    ensures value { IfSome (at_position rows.old.items position) (λ w. result ≡ w.1) }
+    ensures less { IfSome (at_position rows.old.items position) (λ w. IsMore w (all_of_rows rows.new.items) (all_of_rows rows.old.items)) }
     ensures rows { AreRows 0 rows.old.items → AreRows 0 rows.new.items }
-    ensures there { place.row < length rows.new.items }
+    ensures there { position.row < length rows.new.items }
     ensures occupied { (occupied : Numbers) → AreOccupied occupied rows.old.items → AreOccupied occupied rows.new.items }
 {
-    rows[place.row as usize].remove(place.index).1
+    rows[position.row as usize].remove(position.index).1
 }
 
 /// Lets go of a row's memory if the row has no request, and of its number.

@@ -13,7 +13,7 @@ ghost use Rattle.fb_fastq.specs.Visits.{IsVisit};
 ghost use Rattle.fb_fastq.specs.Sides.{IsNoFarther, IsReached};
 ghost use Rattle.fb_fastq.specs.Candidates.{IsCandidate, IsBefore, ComesNoLaterBetween, ComesNoLaterUntil, ComesNoLaterOn};
 
-use crate::index::{next_or_first, next_round};
+use crate::by_spot::{next_or_first, next_round};
 use crate::lanes::cylinder_start;
 use crate::ray::Ray;
 use crate::side::Side;
@@ -167,7 +167,7 @@ fn soonest_on(
     walked.best
 }
 
-/// The request of an index whose first sector passes soonest, while the head is on this track at
+/// The request of a map whose first sector passes soonest, while the head is on this track at
 /// the instant `now`, in ns; where none waits, one that never passes.
 ///
 /// Of several that pass at the same time the one that joined first is found.

@@ -5,7 +5,7 @@ ghost use Rattle.fb_model.specs.PlainReplay.{sptf};
 ghost use Rattle.fb_fastq.specs.Joining.{pending_of};
 ghost use Rattle.fb_fastq.specs.Lanes.{IsAlong};
 
-use crate::index::{add, take_out};
+use crate::by_spot::{add, take_out};
 use crate::lanes::{along, cylinder_around};
 use crate::rows::{leave_if_empty, put, soonest_in_rows, take_from};
 use crate::soonest::soonest_in_map;
@@ -22,7 +22,7 @@ const ROOM: usize = 128;
 /// Shortest positioning time first.
 ///
 /// Requests wait in a row for each cylinder, whose requests are looked at one after another; where
-/// more wait than a row has room for, they wait in an index by lane and angle, which is searched.
+/// more wait than a row has room for, they wait in a map by lane and angle, which is searched.
 #[derive(Drop)]
 pub struct SptfLanes {
     alloc: Global,
@@ -36,10 +36,10 @@ pub struct SptfLanes {
 
 impl Model for SptfLanes {
     ghost use Rattle.std.specs.Prelude.{◌++◌};
-    ghost use Rattle.fb_fastq.specs.Joining.{Index};
+    ghost use Rattle.fb_fastq.specs.Joining.{Pending};
     ghost use Rattle.fb_fastq.specs.ByCylinder.{all_of_rows, IsDivided, AreOccupied};
 
-    ghost Value = { Index };
+    ghost Value = { Pending };
 
     ghost view = { λ q. record { waiting = q.waiting.entries ++ all_of_rows q.rows.items; joined = q.joined } };
 
@@ -103,10 +103,10 @@ impl Queue for SptfLanes {
         let limit = soonest_in_map(&self.waiting, disk, head, now);
         let from = departure_from(disk, head, now);
         let pick = soonest_in_rows(self.rows.as_slice(), &self.occupied, disk, &from, limit);
-        match pick.place {
-            Some(place) => {
-                let request = take_from(&mut self.rows, place);
-                leave_if_empty(self.alloc, &mut self.rows, &mut self.occupied, place.row);
+        match pick.position {
+            Some(position) => {
+                let request = take_from(&mut self.rows, position);
+                leave_if_empty(self.alloc, &mut self.rows, &mut self.occupied, position.row);
                 self.in_rows -= 1;
                 request
             }

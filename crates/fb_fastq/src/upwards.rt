@@ -1,8 +1,8 @@
 // The circular elevator.
 ghost use Rattle.fb_model.specs.PlainReplay.{clook};
 
-use crate::index::next_round;
-use crate::{Choice, Indexed};
+use crate::by_spot::next_round;
+use crate::{Choice, CylinderMap};
 use fb_service::Disk;
 use fb_units::{Ns, Request, Track};
 use std::collections::BTreeMap;
@@ -11,8 +11,8 @@ use std::collections::BTreeMap;
 #[derive(Clone, Copy, Default)]
 pub struct Upwards;
 
-/// The circular elevator, over an index by cylinder.
-pub type ClookMap = Indexed<Upwards>;
+/// The circular elevator, over a map by cylinder.
+pub type ClookMap = CylinderMap<Upwards>;
 
 impl Choice for Upwards {
     ghost key = { clook };

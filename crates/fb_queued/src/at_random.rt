@@ -1,4 +1,4 @@
-// Requests on one cylinder, taken by the plain and the indexed queue of each policy.
+// Requests on one cylinder, taken by the plain and the fast queue of each policy.
 ghost use Rattle.std.specs.Prelude.{◌≡◌, ◌+◌, ◌<◌, ◌≤◌, ◌^◌, [], length, true, OnOk};
 ghost use Rattle.std.specs.List.{AllByRecursion};
 ghost use Rattle.fb_geometry.specs.Shape.{IsTrackOf, cylinders_of};
@@ -174,24 +174,24 @@ fn check_alike<P: Queue, I: Queue>(
     alloc: Global,
     disk: &Disk,
     plain: P,
-    indexed: I,
+    fast: I,
 ) -> Result<(), Fail>
     requires plain { P.pending plain ≡ [] }
     requires plain_fresh { P.joined plain ≡ 0 }
-    requires indexed { I.pending indexed ≡ [] }
-    requires indexed_fresh { I.joined indexed ≡ 0 }
+    requires fast { I.pending fast ≡ [] }
+    requires fast_fresh { I.joined fast ≡ 0 }
 {
     let roomy = has_room(disk);
     assert!(rt; roomy);
     let plain = taken(alloc, disk, plain)?;
-    let indexed = taken(alloc, disk, indexed)?;
+    let fast = taken(alloc, disk, fast)?;
     assert!(rt; 800 < plain.len());
-    assert_eq!(rt; plain.as_slice(), indexed.as_slice());
+    assert_eq!(rt; plain.as_slice(), fast.as_slice());
     Ok(())
 }
 
 #[test]
-fn indexed_queues_take_as_plain_ones(rt: HostRuntime) -> Result<(), Fail> {
+fn fast_queues_take_as_plain_ones(rt: HostRuntime) -> Result<(), Fail> {
     let alloc = rt.alloc();
     let disk = small_disk(alloc)?;
     check_alike(&rt, alloc, &disk, Fcfs::new(alloc), FcfsRing::new(alloc))?;

@@ -1,5 +1,5 @@
 use Rattle.fb_fastq.proofs.Words.{◌≡◌, Some, slice_get, get_or, length, false, refl, sym, subst, ap, ◌∙◌, arith, inl, inr, cases_lt}
-use Rattle.fb_fastq.proofs.Words.{slice_get_read, slice_get-get_or, slice_get_within, Candidate, Place, Waiting, IsAlong, Row, RulesOut}
+use Rattle.fb_fastq.proofs.Words.{slice_get_read, slice_get-get_or, slice_get_within, Candidate, Position, Waiting, IsAlong, Row, RulesOut}
 use Rattle.fb_fastq.proofs.Words.{RulesOutAll}
 use Rattle.fb_units.specs.declared.types.Name.TheVariants.{Traced}
 use Rattle.fb_fastq.proofs.{Swept.some_injective, Sweeps.no_later_trans, InRows.all_at, InRows.held_in_row, InRows.held_on}
@@ -92,13 +92,14 @@ loop-index-preserved c =
     let is = c.sooner-pick.ensures in
     let w = get_or ws index blank in
     let next : Candidate = record { key = w.0; wait = c.wait-wait.result } in
-    let place : Place = record { row = c.args.arrival.now.cylinder; index = index } in
+    let position : Position = record { row = c.args.arrival.now.cylinder; index = index } in
     let there =
     slice_get_read rows (length rows) c.args.arrival.now.cylinder row refl (omega (arith, c.if-rows-number.false)) c.index-rows-number.is in
     let at = slice_get-get_or ws index blank c.loop-index-test.true in
-    let stands = in_row disk head now rows place row w there (subst (λ xs. slice_get xs index ≡ Some w) c.as_slice-row.ensures.value at) in
+    let stands = in_row disk head now rows position row w there (subst (λ xs. slice_get xs index ≡ Some w) c.as_slice-row.ensures.value
+    at) in
     record {
-      pick = λ limit was. picks_one disk head now rows limit old new next place w
+      pick = λ limit was. picks_one disk head now rows limit old new next position w
           (c.loop-index.invariant.pick limit was) stands refl c.wait-wait.ensures.value is.one is.first;
       before = no_later_trans new.best.wait new.best.key.1 old.best.wait old.best.key.1 c.args.pick.best.wait c.args.pick.best.key.1
           is.first c.loop-index.invariant.before;

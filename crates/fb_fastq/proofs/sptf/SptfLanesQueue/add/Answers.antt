@@ -2,13 +2,13 @@ use Rattle.fb_fastq.proofs.Words.{◌≡◌, ◌++◌, ◌∷◌, [], ℕ, List,
 use Rattle.fb_fastq.proofs.Words.{IsAlong}
 use Rattle.fb_fastq.proofs.Words.{IsMore, all_of_rows}
 use Rattle.fb_fastq.proofs.OneMore.{insert_more, more_left, more_right, pending_more, all_more}
-use Rattle.fb_fastq.proofs.Divided.{index_left, map_joined, rows_joined}
+use Rattle.fb_fastq.proofs.Divided.{numbers_left, map_joined, rows_joined}
 use Rattle.fb_fastq.proofs.sptf.SptfLanesQueue.add.Goals.{After-self}
 use Rattle.fb_fastq.proofs.sptf.SptfLanesQueue.add.Goals as goal
 
 pub add-requires : goal.add-requires
 add-requires c =
-    index_left c.self.inside.waiting.entries (all_of_rows c.self.inside.rows.items) c.self.inside.joined c.self.invariant.0.index
+    numbers_left c.self.inside.waiting.entries (all_of_rows c.self.inside.rows.items) c.self.inside.joined c.self.invariant.0.numbers
 
 module _ (c : After-self) (spot : ℕ) where
   -- the one that joins
@@ -22,7 +22,7 @@ module _ (c : After-self) (spot : ℕ) where
       → IsMore one c.self.inside.waiting.entries new
   in_map new is =
       let entries = c.self.inside.waiting.entries in
-      let own = index_left entries (all_of_rows c.self.inside.rows.items) c.self.inside.joined c.self.invariant.0.index in
+      let own = numbers_left entries (all_of_rows c.self.inside.rows.items) c.self.inside.joined c.self.invariant.0.numbers in
       subst (IsMore one entries) (sym is) (insert_more spot c.self.inside.joined c.args.request entries own.given)
 
   beside_rows : (new : List Waiting) → new ≡ insert_entry order c.self.inside.waiting.entries (spot, c.self.inside.joined) c.args.request
@@ -37,7 +37,7 @@ module _ (c : After-self) (spot : ℕ) where
     pending_then : pending_of new ≡ pending_of c.args.self.now.waiting ++ c.args.request ∷ []
     pending_then =
         subst (λ ws. pending_of new ≡ pending_of ws ++ c.args.request ∷ []) (ap (λ v. v.waiting) c.self.view_is)
-        (pending_more one all new more c.self.invariant.0.index.given)
+        (pending_more one all new more c.self.invariant.0.numbers.given)
 
     -- each spot is its request's
     along_then : IsAlong c.args.disk.now c.args.request spot → AllByRecursion (λ w. IsAlong c.args.disk.now w.1 w.0.0) new

@@ -1,6 +1,6 @@
 use Rattle.fb_fastq.proofs.Words.{◌≡◌, List, ◌++◌, ◌<◌, ◌∙◌, ap, sym, subst, Some, None, IfSome, IsSome, refl, arith, length, MatchOption}
-use Rattle.fb_fastq.proofs.Words.{AllByRecursion, sptf, first_least, Candidate, Place, Waiting, pending_of, IsFirst, IsAlong, IsCandidate}
-use Rattle.fb_fastq.proofs.Words.{IsMore, Row, all_of_rows, at_place, IsAt, IsPick, RulesOutAll, all_left, all_right}
+use Rattle.fb_fastq.proofs.Words.{AllByRecursion, sptf, first_least, Candidate, Position, Waiting, pending_of, IsFirst, IsAlong}
+use Rattle.fb_fastq.proofs.Words.{IsCandidate, IsMore, Row, all_of_rows, at_position, IsAt, IsPick, RulesOutAll, all_left, all_right}
 use Rattle.fb_fastq.proofs.Least.{all_held, waits_there, held_is_in}
 use Rattle.fb_fastq.proofs.Swept.{some_injective}
 use Rattle.fb_fastq.proofs.OneMore.{remove_more, more_left, more_right, least_more, all_less, length_more}
@@ -48,29 +48,29 @@ no_later_than_both c w key wait =
     let rows = c.self.inside.rows.items in
     let limit = c.soonest_in_map-limit.result in
     let best = c.soonest_in_rows-pick.result.best in
-    let apart = numbered_left map.entries (all_of_rows rows) c.self.invariant.0.index.numbered in
+    let apart = numbered_left map.entries (all_of_rows rows) c.self.invariant.0.numbers.numbered in
     first_of_both disk c.args.head c.args.now map rows best w key wait
     (no_later_than_map disk c.args.head c.args.now map rows limit best apart c.soonest_in_map-limit.ensures.found
     c.soonest_in_map-limit.ensures.first (picked c).before)
     (ruled_out c)
 
 -- it is one of the rows'
-in_rows : (c : After-soonest_in_rows-pick) (place : Place) → c.soonest_in_rows-pick.result.place ≡ Some place
-    → IsAt c.args.disk.now c.args.head c.args.now c.self.inside.rows.items place c.soonest_in_rows-pick.result.best
-in_rows c place is =
+in_rows : (c : After-soonest_in_rows-pick) (position : Position) → c.soonest_in_rows-pick.result.position ≡ Some position
+    → IsAt c.args.disk.now c.args.head c.args.now c.self.inside.rows.items position c.soonest_in_rows-pick.result.best
+in_rows c position is =
     let best = c.soonest_in_rows-pick.result.best in
     subst (λ o. MatchOption o (best ≡ c.soonest_in_map-limit.result)
-    (λ place. IsAt c.args.disk.now c.args.head c.args.now c.self.inside.rows.items place best)) is (picked c).found
+    (λ position. IsAt c.args.disk.now c.args.head c.args.now c.self.inside.rows.items position best)) is (picked c).found
 
 -- or one of the map's
-in_map : (c : After-soonest_in_rows-pick) → c.soonest_in_rows-pick.result.place ≡ None
+in_map : (c : After-soonest_in_rows-pick) → c.soonest_in_rows-pick.result.position ≡ None
     → c.soonest_in_rows-pick.result.best ≡ c.soonest_in_map-limit.result
 in_map c is =
     let best = c.soonest_in_rows-pick.result.best in
     subst (λ o. MatchOption o (best ≡ c.soonest_in_map-limit.result)
-    (λ place. IsAt c.args.disk.now c.args.head c.args.now c.self.inside.rows.items place best)) is (picked c).found
+    (λ position. IsAt c.args.disk.now c.args.head c.args.now c.self.inside.rows.items position best)) is (picked c).found
 
-of_map : (c : After-soonest_in_rows-pick) → c.soonest_in_rows-pick.result.place ≡ None
+of_map : (c : After-soonest_in_rows-pick) → c.soonest_in_rows-pick.result.position ≡ None
     → IsCandidate c.args.disk.now c.args.head c.args.now c.self.inside.waiting c.soonest_in_map-limit.result
 of_map c is =
     let disk = c.args.disk.now in
@@ -100,13 +100,13 @@ take_from-request-requires c =
     record {
       there =
           subst IsSome
-          (sym (in_rows ((goal.at.take_from-request-requires c).After-soonest_in_rows-pick) c.in-Some.place c.in-Some.is).there)
+          (sym (in_rows ((goal.at.take_from-request-requires c).After-soonest_in_rows-pick) c.in-Some.position c.in-Some.is).there)
           refl;
     }
 
 pub overflow_sub-self : goal.overflow_sub-self
 overflow_sub-self c =
-    let at = in_rows ((goal.at.overflow_sub-self c).After-soonest_in_rows-pick) c.in-Some.place c.in-Some.is in
+    let at = in_rows ((goal.at.overflow_sub-self c).After-soonest_in_rows-pick) c.in-Some.position c.in-Some.is in
     let new = c.take_from-request.new.rows.items in
     let less =
     subst (λ o. IfSome o (λ w. IsMore w (all_of_rows new) (all_of_rows c.self.inside.rows.items))) at.there
@@ -115,7 +115,7 @@ overflow_sub-self c =
     let all = c.self.invariant.0.counted in omega (arith, one, all)
 
 -- the rows have one request less
-one_less : (c : After-leave_if_empty) (w : Waiting) → at_place c.self.inside.rows.items c.in-Some.place ≡ Some w
+one_less : (c : After-leave_if_empty) (w : Waiting) → at_position c.self.inside.rows.items c.in-Some.position ≡ Some w
     → IsMore w (all_of_rows c.leave_if_empty.new.rows.items) (all_of_rows c.self.inside.rows.items)
 one_less c w there =
     subst (λ ws. IsMore w ws (all_of_rows c.self.inside.rows.items)) (sym c.leave_if_empty.ensures.same)
@@ -124,7 +124,7 @@ one_less c w there =
 
 pub invariant_of-self : goal.invariant_of-self
 invariant_of-self c =
-    let at = in_rows ((goal.at.invariant_of-self c).After-soonest_in_rows-pick) c.in-Some.place c.in-Some.is in
+    let at = in_rows ((goal.at.invariant_of-self c).After-soonest_in_rows-pick) c.in-Some.position c.in-Some.is in
     let inside = c.self.inside in
     let new = c.leave_if_empty.new.rows.items in
     let less = one_less ((goal.at.invariant_of-self c).After-leave_if_empty) at.waiting at.there in
@@ -145,7 +145,7 @@ invariant_of-self-in-None c =
     let key = c.soonest_in_map-limit.result.key in
     let is = of_map ((goal.at.invariant_of-self-in-None c).After-soonest_in_rows-pick) c.in-None.is in
     let w : Waiting = (key, is.request) in
-    let apart = numbered_left map.entries (all_of_rows inside.rows.items) c.self.invariant.0.index.numbered in
+    let apart = numbered_left map.entries (all_of_rows inside.rows.items) c.self.invariant.0.numbers.numbered in
     let less =
     subst (λ es. IsMore w es map.entries) (sym c.take_out.ensures.entries)
     (remove_more w map.entries apart (held_is_in key.0 key.1 is.request map.entries is.waits)) in (
@@ -155,7 +155,7 @@ invariant_of-self-in-None c =
 
 pub returns-in-Some-clause-least : goal.returns-in-Some-clause-least
 returns-in-Some-clause-least c =
-    let at = in_rows ((goal.at.returns-in-Some-clause-least c).After-soonest_in_rows-pick) c.in-Some.place c.in-Some.is in
+    let at = in_rows ((goal.at.returns-in-Some-clause-least c).After-soonest_in_rows-pick) c.in-Some.position c.in-Some.is in
     let inside = c.self.inside in
     let rank = sptf c.args.disk.now c.args.head c.args.now in
     let new = c.leave_if_empty.new.rows.items in
@@ -169,11 +169,11 @@ returns-in-Some-clause-least c =
     (subst (λ r. first_least rank (pending_of (entries ++ all_of_rows inside.rows.items))
     ≡ Some (r, pending_of (entries ++ all_of_rows new))) (sym value)
     (least_more w (entries ++ all_of_rows new) (entries ++ all_of_rows inside.rows.items)
-    (more_left w (all_of_rows new) (all_of_rows inside.rows.items) less entries) rank c.self.invariant.0.index.numbered first))
+    (more_left w (all_of_rows new) (all_of_rows inside.rows.items) less entries) rank c.self.invariant.0.numbers.numbered first))
 
 pub returns-in-Some-clause-serves : goal.returns-in-Some-clause-serves
 returns-in-Some-clause-serves c =
-    let at = in_rows ((goal.at.returns-in-Some-clause-serves c).After-soonest_in_rows-pick) c.in-Some.place c.in-Some.is in
+    let at = in_rows ((goal.at.returns-in-Some-clause-serves c).After-soonest_in_rows-pick) c.in-Some.position c.in-Some.is in
     let inside = c.self.inside in
     let new = c.leave_if_empty.new.rows.items in
     let entries = inside.waiting.entries in
@@ -193,7 +193,7 @@ returns-in-None-clause-least c =
     let same = in_map ((goal.at.returns-in-None-clause-least c).After-soonest_in_rows-pick) c.in-None.is in
     let is = of_map ((goal.at.returns-in-None-clause-least c).After-soonest_in_rows-pick) c.in-None.is in
     let w : Waiting = (limit.key, is.request) in
-    let apart = numbered_left map.entries rows c.self.invariant.0.index.numbered in
+    let apart = numbered_left map.entries rows c.self.invariant.0.numbers.numbered in
     let less =
     subst (λ es. IsMore w es map.entries) (sym c.take_out.ensures.entries)
     (remove_more w map.entries apart (held_is_in limit.key.0 limit.key.1 is.request map.entries is.waits)) in
@@ -204,7 +204,7 @@ returns-in-None-clause-least c =
     subst (λ ws. first_least rank (pending_of ws) ≡ Some (c.take_out.result, pending_of (new ++ rows))) (ap (λ v. v.waiting) c.self.view_is)
     (subst (λ r. first_least rank (pending_of (map.entries ++ rows)) ≡ Some (r, pending_of (new ++ rows))) value
     (least_more w (new ++ rows) (map.entries ++ rows)
-    (more_right w new map.entries less rows) rank c.self.invariant.0.index.numbered first))
+    (more_right w new map.entries less rows) rank c.self.invariant.0.numbers.numbered first))
 
 pub returns-in-None-clause-serves : goal.returns-in-None-clause-serves
 returns-in-None-clause-serves c =
@@ -215,7 +215,7 @@ returns-in-None-clause-serves c =
     let key = c.soonest_in_map-limit.result.key in
     let is = of_map ((goal.at.returns-in-None-clause-serves c).After-soonest_in_rows-pick) c.in-None.is in
     let w : Waiting = (key, is.request) in
-    let apart = numbered_left map.entries rows c.self.invariant.0.index.numbered in
+    let apart = numbered_left map.entries rows c.self.invariant.0.numbers.numbered in
     let less =
     subst (λ es. IsMore w es map.entries) (sym c.take_out.ensures.entries)
     (remove_more w map.entries apart (held_is_in key.0 key.1 is.request map.entries is.waits)) in

@@ -2,7 +2,7 @@ use Rattle.fb_fastq.proofs.Words.{◌≡◌, ap, sym, subst, Some, AllByRecursio
 use Rattle.fb_fastq.specs.Spots.{IsCylinderOf}
 use Rattle.fb_model.specs.Accepted.{IsRequestOf}
 use Rattle.fb_fastq.proofs.{Least.all_waiting, Least.all_held, OneMore.all_less, OneMore.taken_more}
-use Rattle.fb_fastq.proofs.indexed.IndexedQueue.take.Goals as goal
+use Rattle.fb_fastq.proofs.cylinder_map.CylinderMapQueue.take.Goals as goal
 
 pub choose-key-requires-clause-on_disk : goal.choose-key-requires-clause-on_disk
 choose-key-requires-clause-on_disk g c =
@@ -17,7 +17,7 @@ choose-key-requires-clause-spots g c =
     (sym (ap (λ v. v.waiting) c.self.view_is)) c.requires.serves)
 
 pub invariant_of-self : goal.invariant_of-self
-invariant_of-self g c = c.take_out.ensures.index c.self.inside.joined c.self.invariant
+invariant_of-self g c = c.take_out.ensures.numbers c.self.inside.joined c.self.invariant
 
 pub returns-clause-least : goal.returns-clause-least
 returns-clause-least g c =

@@ -1,7 +1,7 @@
 use Rattle.fb_fastq.proofs.Words.{sym, subst, inl, inr, IsSome, cases_lt}
 use Rattle.std.proofs.Common.{true≢false}
 use Rattle.fb_fastq.proofs.Keys.{before_spot, spots_fall}
-use Rattle.fb_fastq.proofs.index.last_before.Goals as goal
+use Rattle.fb_fastq.proofs.by_spot.last_before.Goals as goal
 
 pub returns-in-Some-clause-greatest : goal.returns-in-Some-clause-greatest
 returns-in-Some-clause-greatest c = λ k has below.

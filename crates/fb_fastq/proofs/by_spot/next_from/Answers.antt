@@ -2,7 +2,7 @@ use Rattle.fb_fastq.proofs.Words.{sym, subst, inl, inr, IsSome, IfSome, slice_ge
 use Rattle.std.proofs.Common.{true≢false}
 use Rattle.std.specs.BTreeMap.Range.{IsLeBy}
 use Rattle.fb_fastq.proofs.Keys.{at_spot, spots_rise}
-use Rattle.fb_fastq.proofs.index.next_from.Goals as goal
+use Rattle.fb_fastq.proofs.by_spot.next_from.Goals as goal
 
 pub returns-in-Some-clause-least : goal.returns-in-Some-clause-least
 returns-in-Some-clause-least c = λ k has from.

@@ -1,6 +1,6 @@
 use Rattle.fb_fastq.proofs.Words.{arith}
 use Rattle.fb_fastq.proofs.Least.{some_held, waits_there}
-use Rattle.fb_fastq.proofs.index.next_or_first.Goals as goal
+use Rattle.fb_fastq.proofs.by_spot.next_or_first.Goals as goal
 
 pub unreachable-requires : goal.unreachable-requires
 unreachable-requires c =

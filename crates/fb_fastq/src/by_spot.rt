@@ -3,7 +3,7 @@ ghost use Rattle.std.specs.Prelude.{◌≡◌, ℕ, ◌+◌, ◌-◌, ◌<◌, �
 ghost use Rattle.std.specs.BTreeMap.{insert_entry, is_at};
 ghost use Rattle.std.specs.Map.{remove_entry};
 ghost use Rattle.fb_model.specs.PlainReplay.{first_least};
-ghost use Rattle.fb_fastq.specs.Joining.{order, Waits, Holds, pending_of, IsIndex, IsNoLater, IsFirstHeld};
+ghost use Rattle.fb_fastq.specs.Joining.{order, Waits, Holds, pending_of, HaveOwnNumbers, IsNoLater, IsFirstHeld};
 ghost use Rattle.fb_fastq.specs.Turns.{turn};
 
 use fb_units::{NoMemory, Request};
@@ -134,9 +134,9 @@ pub fn add(
     joined: u64,
     request: Request,
 ) -> Result<(), NoMemory>
-    requires { IsIndex waiting.old.entries joined }
+    requires { HaveOwnNumbers waiting.old.entries joined }
     ensures ok { OnOk result (pending_of waiting.new.entries ≡ pending_of waiting.old.entries ++ request ∷ []) }
-    ensures index { OnOk result (IsIndex waiting.new.entries (joined + 1)) }
+    ensures numbers { OnOk result (HaveOwnNumbers waiting.new.entries (joined + 1)) }
     ensures entries { OnOk result (waiting.new.entries ≡ insert_entry order waiting.old.entries (spot, joined) request) }
     ensures err { OnErr result (waiting.new.entries ≡ waiting.old.entries) }
 {
@@ -148,9 +148,9 @@ pub fn add(
 pub fn take_out(waiting: &mut BTreeMap<(u64, u64), Request>, key: (u64, u64)) -> Request
     requires has { Waits waiting.old key }
     ensures value { Holds waiting.old key result }
-    ensures least { (joined : ℕ) (rank : Request → ℕ) → IsIndex waiting.old.entries joined → IsFirstHeld rank waiting.old key
+    ensures least { (joined : ℕ) (rank : Request → ℕ) → HaveOwnNumbers waiting.old.entries joined → IsFirstHeld rank waiting.old key
         → first_least rank (pending_of waiting.old.entries) ≡ Some (result, pending_of waiting.new.entries) }
-    ensures index { (joined : ℕ) → IsIndex waiting.old.entries joined → IsIndex waiting.new.entries joined }
+    ensures numbers { (joined : ℕ) → HaveOwnNumbers waiting.old.entries joined → HaveOwnNumbers waiting.new.entries joined }
     ensures entries { waiting.new.entries ≡ remove_entry (is_at (order key)) waiting.old.entries }
 {
     match waiting.remove(&key) {

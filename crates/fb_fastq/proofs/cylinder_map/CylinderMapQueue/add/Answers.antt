@@ -1,7 +1,7 @@
 use Rattle.fb_fastq.proofs.Words.{ap, sym, subst, AllByRecursion, Waiting}
 use Rattle.fb_fastq.specs.Spots.{IsCylinderOf}
 use Rattle.fb_fastq.proofs.OneMore.{all_more, insert_more}
-use Rattle.fb_fastq.proofs.indexed.IndexedQueue.add.Goals as goal
+use Rattle.fb_fastq.proofs.cylinder_map.CylinderMapQueue.add.Goals as goal
 
 pub returns-clause-serves : goal.returns-clause-serves
 returns-clause-serves g c =

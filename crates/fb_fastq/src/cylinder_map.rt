@@ -5,8 +5,8 @@ ghost use Rattle.fb_fastq.specs.Joining.{pending_of};
 ghost use Rattle.fb_fastq.specs.Spots.{IsCylinderOf};
 
 use crate::Choice;
+use crate::by_spot::{add, take_out};
 use crate::cylinders::cylinder_of;
-use crate::index::{add, take_out};
 use fb_queue::Queue;
 use fb_service::Disk;
 use fb_units::{NoMemory, Ns, Request, Track};
@@ -14,32 +14,32 @@ use std::alloc::Global;
 use std::collections::BTreeMap;
 use std::marker::Model;
 
-/// Waiting requests in an index by cylinder and number of joining; the choice finds the one of least
+/// Waiting requests in a map by cylinder and number of joining; the choice finds the one of least
 /// key.
 #[derive(Drop)]
-pub struct Indexed<C: Choice> {
+pub struct CylinderMap<C: Choice> {
     choice: C,
     waiting: BTreeMap<(u64, u64), Request>,
     joined: u64,
 }
 
-impl<C: Choice> Model for Indexed<C> {
-    ghost use Rattle.fb_fastq.specs.Joining.{Index, IsIndex};
+impl<C: Choice> Model for CylinderMap<C> {
+    ghost use Rattle.fb_fastq.specs.Joining.{Pending, HaveOwnNumbers};
 
-    ghost Value = { Index };
+    ghost Value = { Pending };
 
     ghost view = { λ q. record { waiting = q.waiting.entries; joined = q.joined } };
 
-    ghost invariant = { λ q. IsIndex q.waiting.entries q.joined };
+    ghost invariant = { λ q. HaveOwnNumbers q.waiting.entries q.joined };
 }
 
-impl<C: Choice + Default> Indexed<C> {
+impl<C: Choice + Default> CylinderMap<C> {
     /// An empty queue.
-    pub fn new(alloc: Global) -> Indexed<C>
+    pub fn new(alloc: Global) -> CylinderMap<C>
         ensures pending { pending_of result.waiting ≡ [] }
         ensures joined { result.joined ≡ 0 }
     {
-        Indexed {
+        CylinderMap {
             choice: C::default(),
             waiting: BTreeMap::new(alloc),
             joined: 0,
@@ -47,7 +47,7 @@ impl<C: Choice + Default> Indexed<C> {
     }
 }
 
-impl<C: Choice> Queue for Indexed<C> {
+impl<C: Choice> Queue for CylinderMap<C> {
     ghost pending = { λ q. pending_of q.waiting };
 
     ghost joined = { λ q. q.joined };

@@ -1,5 +1,5 @@
 use Rattle.fb_fastq.proofs.Turns.{next_ahead, next_behind}
-use Rattle.fb_fastq.proofs.index.next_round.Goals as goal
+use Rattle.fb_fastq.proofs.by_spot.next_round.Goals as goal
 
 pub returns-in-Some-clause-first : goal.returns-in-Some-clause-first
 returns-in-Some-clause-first c =
