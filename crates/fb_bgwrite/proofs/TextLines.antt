@@ -12,7 +12,7 @@ pub lines_are : (size : ℕ) (bytes : Bytes) (spill : SpillRun)
 unfolding spill_lines
 lines_are size bytes spill = record { are = refl }
 
--- a line that was made stands at this place
+-- a line that was made stands at this index
 pub stands_at : (made : Result (Vec ℕ Global) NoMemory) (lines : List (List ℕ)) (k : ℕ) (line : List ℕ) → slice_get lines k ≡ Some line
     → IfOk made (λ text. text.items ≡ line) → IfOk made (λ text. slice_get lines k ≡ Some text.items)
 stands_at made lines k line at is =

@@ -40,7 +40,7 @@ waiting_cons : (w : Bool) (x : LogSegment) (xs ys zs : List LogSegment) → wait
 waiting_cons true x xs ys zs e = ap (λ rest. x ∷ rest) e
 waiting_cons false x xs ys zs e = e
 
--- those left to choose up to one more place
+-- those left to choose up to one more index
 waiting_more : (segments : List LogSegment) (n : ℕ) (s : LogSegment) → slice_get segments n ≡ Some s
     → waiting (take (n + 1) segments) ≡ waiting (take n segments) ++ cond s.waits (s ∷ []) []
 waiting_more [] n s at = absurd (grind arith)
@@ -91,7 +91,7 @@ some_at seen segments i same within =
     let less : i < length segments = omega (arith, within, ap length same) in
     let there = element_at segments i less in (less, there.0, there.1)
 
--- the place that holds the best of all
+-- the index that holds the best of all
 pub held_within : (segments : List LogSegment) (n : ℕ) (best : Option ℕ) → n ≤ length segments → HoldsBest segments n best
     → IfSome best (λ b. b < length segments)
 held_within segments n None le holds = tt

@@ -16,7 +16,7 @@ use Rattle.fb_store.specs.Runs.{runs_of}
 use Rattle.fb_clean.specs.Segments.{LogSegment, Cleaning, left_out, without, number_of, first_best, waiting, choice_while, packed_sectors}
 use Rattle.fb_clean.specs.Numbers.{AreNumbered, AreWithin, IsSound}
 
--- the number of a segment says its place
+-- the number of a segment says its index
 pub number_at : (n : ℕ) (segments : List LogSegment) (i : ℕ) (s : LogSegment) → AreNumbered n segments → slice_get segments i ≡ Some s
     → s.number ≡ n + i
 number_at n [] i s numbered at = absurd (grind arith)
@@ -157,7 +157,7 @@ get_one [] i s d at = absurd (grind arith)
 get_one (x ∷ segments) zero s d at = same_Some x s at
 get_one (x ∷ segments) (suc i) s d at = get_one segments i s d at
 
--- leaving out the segment at a place
+-- leaving out the segment at an index
 pub left_at : (segments : List LogSegment) (i : ℕ) (s d now : LogSegment) → AreNumbered 1 segments → slice_get segments i ≡ Some s
     → now ≡ left_out (get_or segments i d) → set segments i now ≡ without (1 + i) segments
 left_at segments i s d now numbered at e =
@@ -176,7 +176,7 @@ number_chosen segments unfinished i s numbered at none best =
     let same : i + 1 ≡ s.number = omega arith in
     ap Some same ∙ (ap number_of (sym at ∙ best) ∙ ap (λ o. choice_while o segments) (sym none))
 
--- what is packed, by the place
+-- what is packed, by the index
 pub packed_at : (cleaning : Cleaning) (number : ℕ) (held : List (ℕ × Option Content)) (s : LogSegment) (lbns : List ℕ)
     → number - 1 < length cleaning.taken → number - 1 < length cleaning.segments
     → held ≡ get_or cleaning.taken (number - 1) held → s ≡ get_or cleaning.segments (number - 1) s → lbns ≡ s.live

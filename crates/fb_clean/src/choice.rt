@@ -5,7 +5,7 @@ ghost use Rattle.fb_clean.specs.Best.{HoldsBest, beats_best};
 
 use crate::segment::Segment;
 
-/// The place, from 0, of the first segment with the greatest ratio of benefit to cost among those
+/// The index of the first segment with the greatest ratio of benefit to cost among those
 /// still to be chosen.
 ///
 /// `None` where no segment is left to choose.

@@ -174,11 +174,11 @@ impl Segments {
         requires { (0 < segment) × (segment ≤ length self.now.segments) }
         ensures { IfOk result (λ runs. runs ≡ runs_of (packed_sectors self.now segment)) }
     {
-        let place = segment as usize - 1;
+        let index = segment as usize - 1;
         pack(
             alloc,
-            &self.taken[place],
-            self.segments[place].live(),
+            &self.taken[index],
+            self.segments[index].live(),
             self.block,
         )
     }

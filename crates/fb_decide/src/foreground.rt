@@ -46,7 +46,7 @@ fn merged(alloc: Global, trace: &[Request], reads: &[Request]) -> Result<Vec<Req
     Ok(requests)
 }
 
-// Adds the requests of the trace that have arrived; returns the place of the next one.
+// Adds the requests of the trace that have arrived; returns the index of the next one.
 fn push_arrived(
     requests: &mut Vec<Request>,
     trace: &[Request],

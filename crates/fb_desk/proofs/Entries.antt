@@ -44,25 +44,25 @@ held_under-more entries name i e within is =
     ∙ held_under-push (take i entries) e name
 
 -- the bytes at an index are those of the entry there
-pub bytes_at-read : (entries : List NamedBytes) (place : ℕ) (e : NamedBytes) → place < length entries → e ≡ get_or entries place e
-    → bytes_at entries place ≡ Some e.bytes
-bytes_at-read entries place e within is =
-    ap (option_map (λ entry. entry.bytes)) (slice_get_read entries (length entries) place e refl within is)
+pub bytes_at-read : (entries : List NamedBytes) (index : ℕ) (e : NamedBytes) → index < length entries → e ≡ get_or entries index e
+    → bytes_at entries index ≡ Some e.bytes
+bytes_at-read entries index e within is =
+    ap (option_map (λ entry. entry.bytes)) (slice_get_read entries (length entries) index e refl within is)
 
 -- if this entry has the name, it is the last one with that name so far
-pub last_here : (entries : List NamedBytes) (name : List ℕ) (place : ℕ) (e : NamedBytes) → place < length entries
-    → e ≡ get_or entries place e → bytes_eq e.name name ≡ true
-    → bytes_at entries place ≡ held_under (take (place + 1) entries) name
-last_here entries name place e within is same =
-    bytes_at-read entries place e within is ∙ sym (held_under-more entries name place e within is ∙ rw same refl)
+pub last_here : (entries : List NamedBytes) (name : List ℕ) (index : ℕ) (e : NamedBytes) → index < length entries
+    → e ≡ get_or entries index e → bytes_eq e.name name ≡ true
+    → bytes_at entries index ≡ held_under (take (index + 1) entries) name
+last_here entries name index e within is same =
+    bytes_at-read entries index e within is ∙ sym (held_under-more entries name index e within is ∙ rw same refl)
 
 -- if this entry has another name, the last one with the name is among those before it
-pub last_before : (entries : List NamedBytes) (name : List ℕ) (place : ℕ) (e : NamedBytes) (found : Option ℕ) → place < length entries
-    → e ≡ get_or entries place e → bytes_eq e.name name ≡ false
-    → option_and_then (bytes_at entries) found ≡ held_under (take place entries) name
-    → option_and_then (bytes_at entries) found ≡ held_under (take (place + 1) entries) name
-last_before entries name place e found within is other so_far =
-    so_far ∙ sym (held_under-more entries name place e within is ∙ rw other refl)
+pub last_before : (entries : List NamedBytes) (name : List ℕ) (index : ℕ) (e : NamedBytes) (found : Option ℕ) → index < length entries
+    → e ≡ get_or entries index e → bytes_eq e.name name ≡ false
+    → option_and_then (bytes_at entries) found ≡ held_under (take index entries) name
+    → option_and_then (bytes_at entries) found ≡ held_under (take (index + 1) entries) name
+last_before entries name index e found within is other so_far =
+    so_far ∙ sym (held_under-more entries name index e within is ∙ rw other refl)
 
 -- at first no byte of an entry is read, which is no more than it has
 IfSome-zero : (bytes : Option (List ℕ)) → IfSome bytes (λ b. 0 ≤ length b)
@@ -70,29 +70,29 @@ IfSome-zero None = tt
 IfSome-zero (Some b) = omega arith
 
 -- a reading may begin at any entry
-pub IsWithin-start : (entries : List NamedBytes) (place : ℕ) → place < length entries → IsWithin entries (At place 0)
-IsWithin-start entries place within = (within, IfSome-zero (bytes_at entries place))
+pub IsWithin-start : (entries : List NamedBytes) (index : ℕ) → index < length entries → IsWithin entries (At index 0)
+IsWithin-start entries index within = (within, IfSome-zero (bytes_at entries index))
 
 -- one more entry doesn't change the bytes at an earlier index
-bytes_at-push : (entries : List NamedBytes) (e : NamedBytes) (place : ℕ) → place < length entries
-    → bytes_at (entries ++ e ∷ []) place ≡ bytes_at entries place
-bytes_at-push [] e place within = absurd (omega arith)
+bytes_at-push : (entries : List NamedBytes) (e : NamedBytes) (index : ℕ) → index < length entries
+    → bytes_at (entries ++ e ∷ []) index ≡ bytes_at entries index
+bytes_at-push [] e index within = absurd (omega arith)
 bytes_at-push (x ∷ entries) e zero within = refl
-bytes_at-push (x ∷ entries) e (suc place) within = bytes_at-push entries e place (omega arith)
+bytes_at-push (x ∷ entries) e (suc index) within = bytes_at-push entries e index (omega arith)
 
 -- one more entry doesn't change what a reading has left
 pub left_of-push : (entries : List NamedBytes) (e : NamedBytes) (reading : Reading) → IsWithin entries reading
     → left_of (entries ++ e ∷ []) reading ≡ left_of entries reading
 left_of-push entries e Unopened within = refl
 left_of-push entries e Empty within = refl
-left_of-push entries e (At place done) within = ap (option_map (drop done)) (bytes_at-push entries e place within.0)
+left_of-push entries e (At index done) within = ap (option_map (drop done)) (bytes_at-push entries e index within.0)
 
 -- a reading within the entries is so too after one more entry
 pub IsWithin-push : (entries : List NamedBytes) (e : NamedBytes) (reading : Reading) → IsWithin entries reading
     → IsWithin (entries ++ e ∷ []) reading
 IsWithin-push entries e Unopened within = tt
 IsWithin-push entries e Empty within = tt
-IsWithin-push entries e (At place done) within = (
+IsWithin-push entries e (At index done) within = (
   omega (arith, length-append entries (e ∷ []), within.0),
-  subst (λ bytes. IfSome bytes (λ b. done ≤ length b)) (sym (bytes_at-push entries e place within.0)) within.1,
+  subst (λ bytes. IfSome bytes (λ b. done ≤ length b)) (sym (bytes_at-push entries e index within.0)) within.1,
 )

@@ -25,13 +25,13 @@ held_under entries name = option_map (λ entry. entry.bytes) (find (λ entry. by
 
 -- the bytes of the entry with this index
 abbrev pub bytes_at : List NamedBytes → ℕ → Option (List ℕ)
-bytes_at entries place = option_map (λ entry. entry.bytes) (slice_get entries place)
+bytes_at entries index = option_map (λ entry. entry.bytes) (slice_get entries index)
 
 -- what a reading has left, if its input is opened
 abbrev pub left_of : List NamedBytes → Reading → Option (List ℕ)
 left_of entries Unopened = None
 left_of entries Empty = Some []
-left_of entries (At place done) = option_map (drop done) (bytes_at entries place)
+left_of entries (At index done) = option_map (drop done) (bytes_at entries index)
 
 -- what is left of an input, if it is opened
 abbrev pub left_in : Held → Input → Option (List ℕ)
@@ -41,7 +41,7 @@ left_in held which = left_of held.entries (of_input held.readings which)
 abbrev pub IsWithin : List NamedBytes → Reading → Type 0
 IsWithin entries Unopened = Unit {0}
 IsWithin entries Empty = Unit {0}
-IsWithin entries (At place done) = (place < length entries) × IfSome (bytes_at entries place) (λ bytes. done ≤ length bytes)
+IsWithin entries (At index done) = (index < length entries) × IfSome (bytes_at entries index) (λ bytes. done ≤ length bytes)
 
 -- each input's reading is of an entry that is held, and no further than its end
 abbrev pub AreWithin : List NamedBytes → EachInput Reading → Type 0

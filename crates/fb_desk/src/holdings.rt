@@ -46,8 +46,8 @@ pub enum Reading {
     Unopened,
     /// It was opened with nothing left to read.
     Empty,
-    /// It was opened on the entry with the index `place`, and `done` of its bytes were read.
-    At { place: usize, done: usize },
+    /// It was opened on the entry with this index, and `done` of its bytes were read.
+    At { index: usize, done: usize },
 }
 
 /// Bytes held under names, and how far each input was read.
@@ -72,14 +72,14 @@ impl Model for Holdings {
 }
 
 // The index of the last entry with a name.
-fn place_of(entries: &[Entry], name: &str) -> Option<usize>
+fn index_of(entries: &[Entry], name: &str) -> Option<usize>
     ensures value { option_and_then (bytes_at entries.now) result ≡ held_under entries.now name.now }
-    ensures within { IfSome result (λ place. place < length entries.now) }
+    ensures within { IfSome result (λ index. index < length entries.now) }
 {
     let mut found = None;
-    for (place, entry) in entries.iter().enumerate() {
+    for (index, entry) in entries.iter().enumerate() {
         if entry.name.as_str() == name {
-            found = Some(place);
+            found = Some(index);
         }
     }
     found
@@ -108,13 +108,13 @@ fn read_on(entries: &[Entry], reading: &mut Reading, piece: usize, into: &mut [u
         ≡ option_map (drop result) (left_of entries.now reading.old) }
     ensures within { IsWithin entries.now reading.new }
 {
-    let Reading::At { place, done } = *reading else {
+    let Reading::At { index, done } = *reading else {
         return 0;
     };
-    let entry = &entries[place];
+    let entry = &entries[index];
     let count = copy_front(&entry.bytes[done..], piece, into);
     *reading = Reading::At {
-        place,
+        index,
         done: done + count,
     };
     count
@@ -151,20 +151,20 @@ impl Holdings {
     pub fn find(&self, name: &str) -> Option<usize>
         ensures value { option_and_then (bytes_at self.now.entries) result
             ≡ held_under self.now.entries name.now }
-        ensures within { IfSome result (λ place. place < length self.now.entries) }
+        ensures within { IfSome result (λ index. index < length self.now.entries) }
         ensures found { is_some result ≡ is_some (held_under self.now.entries name.now) }
     {
-        place_of(&self.entries, name)
+        index_of(&self.entries, name)
     }
 
     /// Opens an input on the entry with this index.
-    pub fn open(&mut self, which: Input, place: usize)
-        requires { place < length self.old.entries }
-        ensures left { left_in self.new which ≡ bytes_at self.old.entries place }
+    pub fn open(&mut self, which: Input, index: usize)
+        requires { index < length self.old.entries }
+        ensures left { left_in self.new which ≡ bytes_at self.old.entries index }
         ensures entries { self.new.entries ≡ self.old.entries }
         ensures others { (other : Input) → other ≢ which → left_in self.new other ≡ left_in self.old other }
     {
-        *self.readings.of_mut(which) = Reading::At { place, done: 0 };
+        *self.readings.of_mut(which) = Reading::At { index, done: 0 };
     }
 
     /// Opens an input with nothing left.

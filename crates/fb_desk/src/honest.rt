@@ -53,7 +53,7 @@ impl Desk for HonestDesk {
         ensures never_fails { IsOk result }
     {
         match self.holdings.find(name) {
-            Some(place) => self.holdings.open(which, place),
+            Some(index) => self.holdings.open(which, index),
             None => self.holdings.open_empty(which),
         }
         Ok(())

@@ -1,4 +1,4 @@
--- The first request of least key, found by place.
+-- The first request of least key, found by index.
 use Rattle.std.proofs.Common.{◌≡◌, ◌≢◌, ℕ, zero, suc, ◌+◌, ◌-◌, ◌<◌, ◌≤◌, List, [], ◌∷◌, ◌++◌, length, take, drop, refl, sym, ap, subst}
 use Rattle.std.proofs.Common.{◌∙◌, arith, Some, None, Option, Bool, true, false, inl, inr, ◌⊎◌}
 use Rattle.std.specs.Prelude.{slice_get, nat_le, remove, if◌then◌else◌}
@@ -76,17 +76,17 @@ pub picked_is_there : (key : Request → ℕ) (rs : List Request) (b : Request �
 picked_is_there key rs b e = subst (IsIn rs) e (is_in key rs)
 
 -- the first of least key is what the plain replay takes
-pub first_least_at : (key : Request → ℕ) (rs : List Request) (place : ℕ) (q : Request) → IsFirstLeastAt key rs (length rs) place
-    → slice_get rs place ≡ Some q → first_least key rs ≡ Some (q, remove rs place)
-first_least_at key [] place q h at_q = absurd (omega (arith, h.within))
+pub first_least_at : (key : Request → ℕ) (rs : List Request) (index : ℕ) (q : Request) → IsFirstLeastAt key rs (length rs) index
+    → slice_get rs index ≡ Some q → first_least key rs ≡ Some (q, remove rs index)
+first_least_at key [] index q h at_q = absurd (omega (arith, h.within))
 first_least_at key (r ∷ rs) zero q h at_q =
     let same : r ≡ q = same_Some r q at_q in
     front_better key r rs (first_least key rs) (λ b e. let there = picked_is_there key rs b e in
     h.least (suc there.0) b.0 r (omega (arith, slice_get_within rs there.0 b.0 there.1)) there.1 refl)
     ∙ ap (λ x. Some (x, rs)) same
-first_least_at key (r ∷ rs) (suc place) q h at_q =
-    later_better key r q rs (remove rs place) (first_least key rs)
-    (first_least_at key rs place q (record {
+first_least_at key (r ∷ rs) (suc index) q h at_q =
+    later_better key r q rs (remove rs index) (first_least key rs)
+    (first_least_at key rs index q (record {
       within = omega (arith, h.within);
       least = λ k x y lt at_k at_y. h.least (suc k) x y (omega arith) at_k at_y;
       first = λ k x y lt at_k at_y. h.first (suc k) x y (omega arith) at_k at_y;

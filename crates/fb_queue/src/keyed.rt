@@ -35,7 +35,7 @@ impl<P: Policy + Default> Keyed<P> {
     }
 }
 
-// The place, from 0, of the first request with the least key.
+// The index of the first request with the least key.
 fn first_least<P: Policy>(
     policy: &P,
     disk: &Disk,
@@ -79,8 +79,8 @@ impl<P: Policy> Queue for Keyed<P> {
     }
 
     fn take(&mut self, disk: &Disk, head: Track, now: Ns) -> Request {
-        let place = first_least(&self.policy, disk, head, now, self.waiting.as_slice());
-        self.waiting.remove(place)
+        let index = first_least(&self.policy, disk, head, now, self.waiting.as_slice());
+        self.waiting.remove(index)
     }
 
     fn is_empty(&self) -> bool {

@@ -11,15 +11,15 @@ use std::test::Fail;
 // ---- rows that are known by an instant
 
 // The field of a line, counted from 0.
-fn field(line: &[u8], place: usize) -> &[u8] {
-    match line.split(|byte| *byte == b' ').nth(place) {
+fn field(line: &[u8], column: usize) -> &[u8] {
+    match line.split(|byte| *byte == b' ').nth(column) {
         Some(text) => text,
         None => b"",
     }
 }
 
 // Which field of a row of either report tells when it is known, if it ever is.
-fn place_of_instant(line: &[u8]) -> Option<usize> {
+fn column_of_instant(line: &[u8]) -> Option<usize> {
     if line.starts_with(b"gap ") {
         Some(4)
     } else if line.starts_with(b"idle ") || line.starts_with(b"seg ") {
@@ -40,8 +40,8 @@ fn place_of_instant(line: &[u8]) -> Option<usize> {
 
 // Whether the row is known by an instant; findings are not among these rows.
 fn is_by(line: &[u8], instant: Ns) -> bool {
-    match place_of_instant(line) {
-        Some(place) => match read_number(field(line, place)) {
+    match column_of_instant(line) {
+        Some(column) => match read_number(field(line, column)) {
             Some(known) => known <= instant,
             None => false,
         },

@@ -37,8 +37,8 @@ pub fn sectors(contents: &Contents) -> u128
     ensures { result ≡ sum_by (λ run. run.count) contents.now }
 {
     let mut sectors = 0;
-    for place in 0..contents.len() {
-        sectors += contents.get(place).count as u128;
+    for index in 0..contents.len() {
+        sectors += contents.get(index).count as u128;
     }
     sectors
 }

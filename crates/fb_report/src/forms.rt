@@ -124,22 +124,22 @@ pub fn split_once(text: &[u8], stop: u8) -> Option<(&[u8], &[u8])>
     ensures split { MatchOption result (slice_split (λ byte. byte == stop) text.now ≡ text.now ∷ [])
         (λ parts. slice_split (λ byte. byte == stop) text.now ≡ parts.0.now ∷ slice_split (λ byte. byte == stop) parts.1.now) }
 {
-    let place = place_of(text, stop);
-    if place < text.len() {
-        Some((&text[..place], &text[place + 1..]))
+    let index = index_of(text, stop);
+    if index < text.len() {
+        Some((&text[..index], &text[index + 1..]))
     } else {
         None
     }
 }
 
 // The index of the first `stop` byte, or the length of the text if there is none.
-fn place_of(text: &[u8], stop: u8) -> usize
-    ensures place { result ≡ position_or_len (λ byte. byte == stop) text.now }
+fn index_of(text: &[u8], stop: u8) -> usize
+    ensures index { result ≡ position_or_len (λ byte. byte == stop) text.now }
     ensures within { result ≤ length text.now }
 {
-    for (place, byte) in text.iter().enumerate() {
+    for (index, byte) in text.iter().enumerate() {
         if *byte == stop {
-            return place;
+            return index;
         }
     }
     text.len()

@@ -22,8 +22,8 @@ pub fn pour<S: Sink>(
 {
     let mut buffer = vec![in alloc; 0; sector_bytes as usize]?;
     let sector = buffer.as_mut_slice();
-    for place in 0..contents.len() {
-        pour_run(sink, &contents.get(place), sector)?;
+    for index in 0..contents.len() {
+        pour_run(sink, &contents.get(index), sector)?;
     }
     Ok(())
 }

@@ -83,8 +83,8 @@ fn faults_of_checks(rt: HostRuntime) -> Result<(), Fail> {
         ("freeblock check --fore=f --fore f", 3, "OptionTwice"),
         ("freeblock replay --params=k --fore=f", 3, "UnknownOption"),
     ];
-    for (text, place, reason) in cases {
-        check_fault(&rt, rt.alloc(), text, place, reason)?;
+    for (text, position, reason) in cases {
+        check_fault(&rt, rt.alloc(), text, position, reason)?;
     }
     Ok(())
 }
@@ -119,26 +119,26 @@ fn faults_of_puts(rt: HostRuntime) -> Result<(), Fail> {
         ("freeblock check --spill=s", 2, "UnknownOption"),
         ("freeblock array --puts=p", 2, "UnknownOption"),
     ];
-    for (text, place, reason) in cases {
-        check_fault(&rt, rt.alloc(), text, place, reason)?;
+    for (text, position, reason) in cases {
+        check_fault(&rt, rt.alloc(), text, position, reason)?;
     }
     Ok(())
 }
 
-// The words of the text are refused for this reason at this place.
+// The words of the text are refused for this reason at this position.
 fn check_fault(
     rt: &impl Abort,
     alloc: Global,
     text: &str,
-    place: u32,
+    position: u32,
     reason: &str,
 ) -> Result<(), Fail> {
     let words = split(alloc, text)?;
     match &read_words(alloc, words.as_slice()) {
         Err(WordsError::Fault(fault)) => {
             assert_eq!(rt;
-                (fault.place, spelled(fault.reason)),
-                (place, reason),
+                (fault.position, spelled(fault.reason)),
+                (position, reason),
                 "for {text}"
             )
         }

@@ -9,7 +9,7 @@ use Rattle.fb_desk.specs.Calls.{behind, Rose}
 use Rattle.fb_top.specs.Streams.{IsFront, AppendsFront}
 use Rattle.fb_top.specs.Written.{joined}
 
--- the lines up to a place
+-- the lines up to an index
 abbrev pub HoldsLines : Option (List ℕ) → List (List ℕ) → ℕ → Type 0
 HoldsLines written lines k = IfSome written (λ bytes. bytes ≡ joined (take k lines))
 

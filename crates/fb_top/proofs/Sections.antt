@@ -32,21 +32,21 @@ module _ (size : ℕ) (bytes : Bytes) where
       )
 
   -- a line in the section of a device
-  pub line_here : (runs : List Run) (device : ℕ) (run : Run) (place rest : ℕ) → slice_get runs device ≡ Some run
+  pub line_here : (runs : List Run) (device : ℕ) (run : Run) (index rest : ℕ) → slice_get runs device ≡ Some run
       → rest < length run.fore + 3
-      → slice_get (sections size bytes 0 runs) place ≡ slice_get (sections size bytes device (drop device runs)) rest
-      → slice_get (sections size bytes 0 runs) place ≡ slice_get (section size bytes device run) rest
-  line_here runs device run place rest at inside same =
+      → slice_get (sections size bytes 0 runs) index ≡ slice_get (sections size bytes device (drop device runs)) rest
+      → slice_get (sections size bytes 0 runs) index ≡ slice_get (section size bytes device run) rest
+  line_here runs device run index rest at inside same =
       same ∙ ap (λ lines. slice_get lines rest) (sections_here runs device run at)
       ∙ get_left (section size bytes device run) (sections size bytes (device + 1) (drop (device + 1) runs)) rest
       (omega (arith, section_counted device run))
 
   -- or behind it
-  pub line_later : (runs : List Run) (device : ℕ) (run : Run) (place rest later : ℕ) → slice_get runs device ≡ Some run
+  pub line_later : (runs : List Run) (device : ℕ) (run : Run) (index rest later : ℕ) → slice_get runs device ≡ Some run
       → rest ≡ (length run.fore + 3) + later
-      → slice_get (sections size bytes 0 runs) place ≡ slice_get (sections size bytes device (drop device runs)) rest
-      → slice_get (sections size bytes 0 runs) place ≡ slice_get (sections size bytes (device + 1) (drop (device + 1) runs)) later
-  line_later runs device run place rest later at is same =
+      → slice_get (sections size bytes 0 runs) index ≡ slice_get (sections size bytes device (drop device runs)) rest
+      → slice_get (sections size bytes 0 runs) index ≡ slice_get (sections size bytes (device + 1) (drop (device + 1) runs)) later
+  line_later runs device run index rest later at is same =
       same ∙ ap (λ lines. slice_get lines rest) (sections_here runs device run at)
       ∙ get_right (section size bytes device run) (sections size bytes (device + 1) (drop (device + 1) runs)) later rest
       (omega (arith, section_counted device run))
@@ -59,21 +59,21 @@ module _ (size : ℕ) (bytes : Bytes) where
   unfolding array_lines
   first_of_array runs = refl
 
-  behind_first : (runs : List Run) (place k : ℕ) → place ≡ k + 1
-      → slice_get (array_lines size bytes runs) place ≡ slice_get (sections size bytes 0 runs ++ array_last (length runs) ∷ []) k
+  behind_first : (runs : List Run) (index k : ℕ) → index ≡ k + 1
+      → slice_get (array_lines size bytes runs) index ≡ slice_get (sections size bytes 0 runs ++ array_last (length runs) ∷ []) k
   unfolding array_lines
-  behind_first runs place k is =
-      get_right (array_first ∷ []) (sections size bytes 0 runs ++ array_last (length runs) ∷ []) k place (omega arith)
+  behind_first runs index k is =
+      get_right (array_first ∷ []) (sections size bytes 0 runs ++ array_last (length runs) ∷ []) k index (omega arith)
 
   -- a line of the sections
-  pub line_of_array : (runs : List Run) (place k : ℕ) (line : List ℕ) → place ≡ k + 1 → slice_get (sections size bytes 0 runs) k ≡ Some line
-      → slice_get (array_lines size bytes runs) place ≡ Some line
-  line_of_array runs place k line is at =
-      behind_first runs place k is ∙ get_left (sections size bytes 0 runs) (array_last (length runs)
+  pub line_of_array : (runs : List Run) (index k : ℕ) (line : List ℕ) → index ≡ k + 1 → slice_get (sections size bytes 0 runs) k ≡ Some line
+      → slice_get (array_lines size bytes runs) index ≡ Some line
+  line_of_array runs index k line is at =
+      behind_first runs index k is ∙ get_left (sections size bytes 0 runs) (array_last (length runs)
       ∷ []) k (slice_get_within (sections size bytes 0 runs) k line at) ∙ at
 
-  pub last_of_array : (runs : List Run) (place k : ℕ) → place ≡ k + 1 → place < length (array_lines size bytes runs)
-      → length (sections size bytes 0 runs) ≤ k → slice_get (array_lines size bytes runs) place ≡ Some (array_last (length runs))
-  last_of_array runs place k is inside behind =
-      behind_first runs place k is
+  pub last_of_array : (runs : List Run) (index k : ℕ) → index ≡ k + 1 → index < length (array_lines size bytes runs)
+      → length (sections size bytes 0 runs) ≤ k → slice_get (array_lines size bytes runs) index ≡ Some (array_last (length runs))
+  last_of_array runs index k is inside behind =
+      behind_first runs index k is
       ∙ get_right (sections size bytes 0 runs) (array_last (length runs) ∷ []) 0 k (omega (arith, array_counted runs))

@@ -43,12 +43,12 @@ impl Lines for ArrayLines<'_> {
         section_lines(self.runs) + 2
     }
 
-    fn line(&self, alloc: Global, place: u64) -> Result<Vec<u8>, NoMemory> {
-        if place == 0 {
+    fn line(&self, alloc: Global, index: u64) -> Result<Vec<u8>, NoMemory> {
+        if index == 0 {
             return first_line(alloc);
         }
-        match section_of(self.runs, place - 1) {
-            Some((device, place)) => self.section_line(alloc, device, place),
+        match section_of(self.runs, index - 1) {
+            Some((device, index)) => self.section_line(alloc, device, index),
             None => last_line(alloc, self.runs.len()),
         }
     }
@@ -56,16 +56,16 @@ impl Lines for ArrayLines<'_> {
 
 impl ArrayLines<'_> {
     // The line with an index, counted from 0, in the section of a device.
-    fn section_line(&self, alloc: Global, device: usize, place: u64) -> Result<Vec<u8>, NoMemory>
+    fn section_line(&self, alloc: Global, device: usize, index: u64) -> Result<Vec<u8>, NoMemory>
         requires size { self.now.sector_bytes % 16 ≡ 0 }
         requires told { AllByRecursion CanTellFore self.now.runs.now }
         requires device { device < length self.now.runs.now }
         requires inside { (run : Run) → slice_get self.now.runs.now device ≡ Some run
-            → place < length (section self.now.sector_bytes self.now.bytes device run) }
+            → index < length (section self.now.sector_bytes self.now.bytes device run) }
         ensures { IfOk result (λ line. (run : Run) → slice_get self.now.runs.now device ≡ Some run
-            → slice_get (section self.now.sector_bytes self.now.bytes device run) place ≡ Some line.items) }
+            → slice_get (section self.now.sector_bytes self.now.bytes device run) index ≡ Some line.items) }
     {
-        if place == 0 {
+        if index == 0 {
             return device_line(alloc, device);
         }
         let lines = ForeLines {
@@ -73,7 +73,7 @@ impl ArrayLines<'_> {
             sector_bytes: self.sector_bytes,
             bytes: self.bytes,
         };
-        lines.line(alloc, place - 1)
+        lines.line(alloc, index - 1)
     }
 }
 
@@ -93,16 +93,16 @@ fn section_lines(runs: &Runs) -> u64
 
 // The device whose section has the line with this index among the lines of all sections, and the
 // index of the line in that section.
-fn section_of(runs: &Runs, place: u64) -> Option<(usize, u64)>
+fn section_of(runs: &Runs, index: u64) -> Option<(usize, u64)>
     requires told { AllByRecursion CanTellFore runs.now }
     ensures device { IfSome result (λ at. at.0 < length runs.now) }
     ensures inside { IfSome result
         (λ at. (size : ℕ) (bytes : Bytes) (run : Run) → slice_get runs.now at.0 ≡ Some run → at.1 < length (section size bytes at.0 run)) }
     ensures same { IfSome result (λ at. (size : ℕ) (bytes : Bytes) (run : Run) → slice_get runs.now at.0 ≡ Some run
-        → slice_get (sections size bytes 0 runs.now) place ≡ slice_get (section size bytes at.0 run) at.1) }
-    ensures behind { IfNone result ((size : ℕ) (bytes : Bytes) → length (sections size bytes 0 runs.now) ≤ place) }
+        → slice_get (sections size bytes 0 runs.now) index ≡ slice_get (section size bytes at.0 run) at.1) }
+    ensures behind { IfNone result ((size : ℕ) (bytes : Bytes) → length (sections size bytes 0 runs.now) ≤ index) }
 {
-    let mut rest = place;
+    let mut rest = index;
     for device in 0..runs.len() {
         let lines = fore_pieces(runs.get(device)) + 1;
         if rest < lines {
@@ -171,7 +171,7 @@ impl Lines for CopyLines<'_> {
         copy_pieces(self.copy)
     }
 
-    fn line(&self, alloc: Global, place: u64) -> Result<Vec<u8>, NoMemory> {
-        copy_piece(alloc, self.copy, self.sectors, place)
+    fn line(&self, alloc: Global, index: u64) -> Result<Vec<u8>, NoMemory> {
+        copy_piece(alloc, self.copy, self.sectors, index)
     }
 }

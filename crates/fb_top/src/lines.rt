@@ -29,15 +29,15 @@ pub trait Lines {
         ensures value { result ≡ length (lines self.now) }
         ensures ends { 2 ≤ result };
 
-    /// The line at a place, counted from 0, with its line feed.
+    /// The line with an index, counted from 0, with its line feed.
     ///
     /// The only error is out of memory.
-    fn line(&self, alloc: Global, place: u64) -> Result<Vec<u8>, NoMemory>
+    fn line(&self, alloc: Global, index: u64) -> Result<Vec<u8>, NoMemory>
         requires told { can_be_told self.now }
-        requires inside { place < length (lines self.now) }
-        ensures value { IfOk result (λ line. slice_get (lines self.now) place ≡ Some line.items) }
+        requires inside { index < length (lines self.now) }
+        ensures value { IfOk result (λ line. slice_get (lines self.now) index ≡ Some line.items) }
         ensures form { IfOk result
-            (λ line. can_be_read self.now → IsLine (is_in_place (grammar self.now) (length (lines self.now)) place) line.items) };
+            (λ line. can_be_read self.now → IsLine (is_in_place (grammar self.now) (length (lines self.now)) index) line.items) };
 }
 
 /// The lines of the foreground report.
@@ -70,8 +70,8 @@ impl Lines for ForeLines<'_> {
         fore_pieces(self.run)
     }
 
-    fn line(&self, alloc: Global, place: u64) -> Result<Vec<u8>, NoMemory> {
-        fore_piece(alloc, self.run, self.sector_bytes, self.bytes, place)
+    fn line(&self, alloc: Global, index: u64) -> Result<Vec<u8>, NoMemory> {
+        fore_piece(alloc, self.run, self.sector_bytes, self.bytes, index)
     }
 }
 
@@ -108,14 +108,14 @@ impl Lines for BackLines<'_> {
         back_pieces(self.run)
     }
 
-    fn line(&self, alloc: Global, place: u64) -> Result<Vec<u8>, NoMemory> {
+    fn line(&self, alloc: Global, index: u64) -> Result<Vec<u8>, NoMemory> {
         back_piece(
             alloc,
             self.run,
             self.names,
             self.sector_bytes,
             self.bytes,
-            place,
+            index,
         )
     }
 }

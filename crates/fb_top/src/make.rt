@@ -93,7 +93,7 @@ fn write_trace<D: Desk>(
         Err(Failed) => return Err(Outcome::WriteFault(Output::MadeTrace)),
     }
     let mut maker = Maker::new(words.number, words.device, sectors);
-    for place in 0..words.requests {
+    for index in 0..words.requests {
         let line = match maker.next_line(alloc) {
             Ok(line) => line,
             Err(NoMemory) => return Err(Outcome::NoMemory),

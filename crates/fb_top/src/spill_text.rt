@@ -35,7 +35,7 @@ impl Lines for SpillLines<'_> {
         spill_pieces(self.spill)
     }
 
-    fn line(&self, alloc: Global, place: u64) -> Result<Vec<u8>, NoMemory> {
-        spill_piece(alloc, self.spill, self.sector_bytes, self.bytes, place)
+    fn line(&self, alloc: Global, index: u64) -> Result<Vec<u8>, NoMemory> {
+        spill_piece(alloc, self.spill, self.sector_bytes, self.bytes, index)
     }
 }

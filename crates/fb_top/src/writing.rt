@@ -70,8 +70,8 @@ pub fn write_lines<D: Desk, L: Lines>(
         Ok(()) => {}
         Err(Failed) => return Err(Outcome::WriteFault(which)),
     }
-    for place in 0..lines.count() {
-        let line = match lines.line(alloc, place) {
+    for index in 0..lines.count() {
+        let line = match lines.line(alloc, index) {
             Ok(line) => line,
             Err(NoMemory) => return Err(Outcome::NoMemory),
         };

@@ -125,10 +125,10 @@ starts_field (b ∷ line) = elim (cases_Bool (is_blank b)) [
 ]
 
 -- the first field of a line, and the rest of the line
-pub fields_next : (line text field rest : List ℕ) (place : ℕ) → text ≡ drop (prefix_len is_blank line) line → 0 < length text
-    → place ≡ position_or_len is_blank text
-    → field ≡ take place text → rest ≡ drop place text → fields_of line ≡ field ∷ fields_of rest
-fields_next line text field rest place e some at front back =
+pub fields_next : (line text field rest : List ℕ) (index : ℕ) → text ≡ drop (prefix_len is_blank line) line → 0 < length text
+    → index ≡ position_or_len is_blank text
+    → field ≡ take index text → rest ≡ drop index text → fields_of line ≡ field ∷ fields_of rest
+fields_next line text field rest index e some at front back =
     sym (fields_behind line) ∙ ap fields_of (sym e) ∙ fields_first text some (subst StartsField (sym e) (starts_field line) some)
-    ∙ ap (λ p. take p text ∷ fields_of (drop p text)) (sym at) ∙ ap (λ f. f ∷ fields_of (drop place text)) (sym front)
+    ∙ ap (λ p. take p text ∷ fields_of (drop p text)) (sym at) ∙ ap (λ f. f ∷ fields_of (drop index text)) (sym front)
     ∙ ap (λ r. field ∷ fields_of r) (sym back)

@@ -35,22 +35,22 @@ pub fn around_first(text: &[u8], stop: u8) -> (&[u8], &[u8])
     ensures front { result.0.now ≡ before_first (λ c. c == stop) text.now }
     ensures back { result.1.now ≡ after_first (λ c. c == stop) text.now }
 {
-    let place = place_of(text, stop);
-    if place < text.len() {
-        (&text[..place], &text[place + 1..])
+    let index = index_of(text, stop);
+    if index < text.len() {
+        (&text[..index], &text[index + 1..])
     } else {
-        (text, &text[place..])
+        (text, &text[index..])
     }
 }
 
 // The index of the first `stop` byte, or the length of the text if there is none.
-fn place_of(text: &[u8], stop: u8) -> usize
-    ensures place { result ≡ position_or_len (λ c. c == stop) text.now }
+fn index_of(text: &[u8], stop: u8) -> usize
+    ensures index { result ≡ position_or_len (λ c. c == stop) text.now }
     ensures within { result ≤ length text.now }
 {
-    for (place, byte) in text.iter().enumerate() {
+    for (index, byte) in text.iter().enumerate() {
         if *byte == stop {
-            return place;
+            return index;
         }
     }
     text.len()
@@ -76,9 +76,9 @@ fn is_blank(byte: u8) -> bool
 fn behind_blanks(line: &[u8]) -> &[u8]
     ensures { result.now ≡ drop (prefix_len is_blank line.now) line.now }
 {
-    for (place, byte) in line.iter().enumerate() {
+    for (index, byte) in line.iter().enumerate() {
         if !is_blank(*byte) {
-            return &line[place..];
+            return &line[index..];
         }
     }
     &line[line.len()..]
@@ -86,12 +86,12 @@ fn behind_blanks(line: &[u8]) -> &[u8]
 
 // The index of the first space or tab, or the length of the text if there is none.
 fn first_blank(text: &[u8]) -> usize
-    ensures place { result ≡ position_or_len is_blank text.now }
+    ensures index { result ≡ position_or_len is_blank text.now }
     ensures within { result ≤ length text.now }
 {
-    for (place, byte) in text.iter().enumerate() {
+    for (index, byte) in text.iter().enumerate() {
         if is_blank(*byte) {
-            return place;
+            return index;
         }
     }
     text.len()

@@ -30,9 +30,9 @@ use Rattle.fb_words.specs.Verdict.{Answers, terms}
 use Rattle.fb_words.specs.Limits.{IsWithinLimits}
 
 -- these numbers are within the limits, where they are given
-record AreSmall (instant place seed count disks : Option ℕ) : Type 0 where
+record AreSmall (instant own seed count disks : Option ℕ) : Type 0 where
   until : IfSome instant (λ until. until ≤ 10 ^ 15)
-  device : IfSome place (λ device. device ≤ 10 ^ 15)
+  device : IfSome own (λ device. device ≤ 10 ^ 15)
   number : IfSome seed (λ number. number ≤ 10 ^ 15)
   requests : IfSome count (λ requests. requests ≤ 10 ^ 6)
   devices : IfSome disks (λ devices. (0 < devices) × (devices ≤ 16))
@@ -126,7 +126,7 @@ small-with_value given next option value e is =
 -- the numbers of the options so far are within the limits
 abbrev IsSmallSoFar : Progress → Type 0
 IsSmallSoFar (ready given) = IsSmall given
-IsSmallSoFar (awaits given option place) = IsSmall given
+IsSmallSoFar (awaits given option position) = IsSmall given
 
 small-with_summary : (given : Options) (next : Progress) → with_summary given ≡ Ok next → IsSmall given → IsSmallSoFar next
 unfolding with_summary
@@ -134,49 +134,51 @@ small-with_summary given next e is =
     let p = both_ok (refuse OptionTwice given.summary) _ next e in
     subst IsSmallSoFar (same_Ok _ next p.2) is
 
-small-with_part : (place : ℕ) (given : Options) (option : OptionName) (value : Option (List ℕ)) (next : Progress)
-    → with_part place given option value ≡ Ok next → IsSmall given → IsSmallSoFar next
+small-with_part : (position : ℕ) (given : Options) (option : OptionName) (value : Option (List ℕ)) (next : Progress)
+    → with_part position given option value ≡ Ok next → IsSmall given → IsSmallSoFar next
 unfolding with_part
-small-with_part place given option None next e is = subst IsSmallSoFar (same_Ok _ next e) is
-small-with_part place given option (Some value) next e is =
+small-with_part position given option None next e is = subst IsSmallSoFar (same_Ok _ next e) is
+small-with_part position given option (Some value) next e is =
     let p = both_ok (with_value given option value) _ next e in
     subst IsSmallSoFar (same_Ok _ next p.2) (small-with_value given p.0 option value p.1 is)
 
-small-with_option : (verb : Verb) (place : ℕ) (given : Options) (word : Parts) (next : Progress)
-    → with_option verb place given word ≡ Ok next → IsSmall given → IsSmallSoFar next
+small-with_option : (verb : Verb) (position : ℕ) (given : Options) (word : Parts) (next : Progress)
+    → with_option verb position given word ≡ Ok next → IsSmall given → IsSmallSoFar next
 unfolding with_option
-small-with_option verb place given word next e is =
+small-with_option verb position given word next e is =
     let p = both_ok (or_refuse UnknownOption (option_of verb word.name)) _ next e in
     let q = both_ok (refuse OptionTwice (is_given given p.0)) _ next p.2 in
-    small-with_part place given p.0 word.value next q.2 is
+    small-with_part position given p.0 word.value next q.2 is
 
-small-with_name : (verb : Verb) (place : ℕ) (given : Options) (word : List ℕ) (next : Progress) → with_name verb place given word ≡ Ok next
+small-with_name : (verb : Verb) (position : ℕ) (given : Options) (word : List ℕ) (next : Progress)
+    → with_name verb position given word ≡ Ok next
     → IsSmall given → IsSmallSoFar next
 unfolding with_name
-small-with_name verb place given word next e is = elim (cases_Bool (is_summary verb word)) [
+small-with_name verb position given word next e is = elim (cases_Bool (is_summary verb word)) [
   | inl summary ↦ small-with_summary given next (rw summary at e) is
-  | inr other ↦ small-with_option verb place given (parts_of word) next (rw other at e) is
+  | inr other ↦ small-with_option verb position given (parts_of word) next (rw other at e) is
 ]
 
-small-with_word : (verb : Verb) (place : ℕ) (so_far next : Progress) (word : List ℕ) → with_word verb place so_far word ≡ Ok next
+small-with_word : (verb : Verb) (position : ℕ) (so_far next : Progress) (word : List ℕ) → with_word verb position so_far word ≡ Ok next
     → IsSmallSoFar so_far → IsSmallSoFar next
 unfolding with_word
-small-with_word verb place (ready given) next word e is = small-with_name verb place given word next (step_ok (fault_at place) _ next e) is
-small-with_word verb place (awaits given option at) next word e is =
+small-with_word verb position (ready given) next word e is =
+    small-with_name verb position given word next (step_ok (fault_at position) _ next e) is
+small-with_word verb position (awaits given option at) next word e is =
     let p = both_ok (with_value given option word) _ next (step_ok (fault_at at) _ next e) in
     subst IsSmallSoFar (same_Ok _ next p.2) (small-with_value given p.0 option word p.1 is)
 
 small-at_end : (so_far : Progress) (given : Options) → at_end so_far ≡ Ok given → IsSmallSoFar so_far → IsSmall given
 small-at_end (ready now) given e is = subst IsSmall (same_Ok now given e) is
-small-at_end (awaits now option place) given e is = cc
+small-at_end (awaits now option position) given e is = cc
 
-small-options_from : (verb : Verb) (place : ℕ) (so_far : Progress) (words : List (List ℕ)) (given : Options)
-    → options_from verb place so_far words ≡ Ok given → IsSmallSoFar so_far → IsSmall given
+small-options_from : (verb : Verb) (position : ℕ) (so_far : Progress) (words : List (List ℕ)) (given : Options)
+    → options_from verb position so_far words ≡ Ok given → IsSmallSoFar so_far → IsSmall given
 unfolding options_from
-small-options_from verb place so_far [] given e is = small-at_end so_far given e is
-small-options_from verb place so_far (word ∷ words) given e is =
-    let p = both_ok (with_word verb place so_far word) _ given e in
-    small-options_from verb (place + 1) p.0 words given p.2 (small-with_word verb place so_far p.0 word p.1 is)
+small-options_from verb position so_far [] given e is = small-at_end so_far given e is
+small-options_from verb position so_far (word ∷ words) given e is =
+    let p = both_ok (with_word verb position so_far word) _ given e in
+    small-options_from verb (position + 1) p.0 words given p.2 (small-with_word verb position so_far p.0 word p.1 is)
 
 -- an option that isn't given is 0
 small-default : (o : Option ℕ) (limit : ℕ) → IfSome o (λ n. n ≤ limit) → unwrap_or o 0 ≤ limit

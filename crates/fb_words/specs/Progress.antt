@@ -12,4 +12,4 @@ parts word = record { name = word.name.now; value = option_copied word.value }
 
 abbrev pub progress : Progress → reading.Progress
 progress (Ready given) = ready (options given)
-progress (Awaits given option place) = awaits (options given) option place
+progress (Awaits given option position) = awaits (options given) option position

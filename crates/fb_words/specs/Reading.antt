@@ -16,7 +16,7 @@ use Rattle.fb_words.specs.Values.{is_given, with_value}
 
 -- a fault of the word with this index; an index that doesn't fit in 32 bits is the last one that does
 abbrev pub fault_at : ℕ → UsageReason → UsageFault
-fault_at place reason = record { place = min place 4294967295; reason = reason }
+fault_at position reason = record { position = min position 4294967295; reason = reason }
 
 -- the options so far, and the option whose value is to be the next word, with the index of its word
 pub data Progress : Type 0 where
@@ -52,24 +52,24 @@ with_summary given = refuse OptionTwice given.summary >> Ok (ready (record given
 
 -- the options with one more option, whose value is in the same word or will be the next word
 unfoldable pub with_part : ℕ → Options → OptionName → Option (List ℕ) → Result Progress UsageReason
-with_part place given option None = Ok (awaits given option place)
-with_part place given option (Some value) = with_value given option value >>= (λ now. Ok (ready now))
+with_part position given option None = Ok (awaits given option position)
+with_part position given option (Some value) = with_value given option value >>= (λ now. Ok (ready now))
 
 -- the options with one more option, unless it is unknown or was given before
 unfoldable pub with_option : Verb → ℕ → Options → Parts → Result Progress UsageReason
-with_option verb place given parts = do
+with_option verb position given parts = do
   option ← or_refuse UnknownOption (option_of verb parts.name)
   refuse OptionTwice (is_given given option)
-  with_part place given option parts.value
+  with_part position given option parts.value
 
 -- the options with a word that isn't the value of the option before it
 unfoldable pub with_name : Verb → ℕ → Options → List ℕ → Result Progress UsageReason
-with_name verb place given word = if is_summary verb word then with_summary given else with_option verb place given (parts_of word)
+with_name verb position given word = if is_summary verb word then with_summary given else with_option verb position given (parts_of word)
 
 -- the options with one more word, which has this index; a fault of a value has the index of the word with its option
 unfoldable pub with_word : Verb → ℕ → Progress → List ℕ → Result Progress UsageFault
-with_word verb place (ready given) word = refused_as (fault_at place) (with_name verb place given word)
-with_word verb place (awaits given option at) word = refused_as (fault_at at) (with_value given option word >>= (λ now. Ok (ready now)))
+with_word verb position (ready given) word = refused_as (fault_at position) (with_name verb position given word)
+with_word verb position (awaits given option at) word = refused_as (fault_at at) (with_value given option word >>= (λ now. Ok (ready now)))
 
 -- the options at the end of the words, unless a value is still missing
 abbrev pub at_end : Progress → Result Options UsageFault
@@ -78,7 +78,7 @@ at_end (awaits given option at) = Err (fault_at at NoValue)
 
 -- the options with the words from this index on
 unfoldable pub options_from : Verb → ℕ → Progress → List (List ℕ) → Result Options UsageFault
-options_from verb place so_far [] = at_end so_far
-options_from verb place so_far (word ∷ words) = do
-  next ← with_word verb place so_far word
-  options_from verb (place + 1) next words
+options_from verb position so_far [] = at_end so_far
+options_from verb position so_far (word ∷ words) = do
+  next ← with_word verb position so_far word
+  options_from verb (position + 1) next words

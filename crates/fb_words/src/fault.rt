@@ -39,7 +39,7 @@ pub struct UsageFault {
     /// The index of the word, where the name of the program has index 0. For `NoCommand`,
     /// `MissingOption`, `CallsAndBack`, `PutsAndSpill`, `RebuildIncomplete` and `RebuildBeyond` it
     /// is the number of words. An index that doesn't fit in 32 bits is the last one that does.
-    pub place: u32,
+    pub position: u32,
     /// The reason.
     pub reason: UsageReason,
 }

@@ -38,11 +38,11 @@ pub enum Progress<'a> {
 
 /// A fault of the word with this index. An index that doesn't fit in 32 bits is the last one that
 /// does.
-pub fn fault_at(place: usize, reason: UsageReason) -> UsageFault
-    ensures { result ≡ fault_at place reason }
+pub fn fault_at(position: usize, reason: UsageReason) -> UsageFault
+    ensures { result ≡ fault_at position reason }
 {
     UsageFault {
-        place: place.min(u32::MAX as usize) as u32,
+        position: position.min(u32::MAX as usize) as u32,
         reason,
     }
 }
@@ -64,7 +64,7 @@ fn at_end(so_far: Progress<'_>) -> Result<Given<'_>, UsageFault>
 {
     match so_far {
         Progress::Ready(given) => Ok(given),
-        Progress::Awaits(_, _, place) => Err(fault_at(place, UsageReason::NoValue)),
+        Progress::Awaits(_, _, position) => Err(fault_at(position, UsageReason::NoValue)),
     }
 }
 
@@ -73,16 +73,16 @@ fn at_end(so_far: Progress<'_>) -> Result<Given<'_>, UsageFault>
 #[tactic(auto, unfolding(crate::specs::Reading::with_word))]
 fn with_word<'a>(
     verb: Verb,
-    place: usize,
+    position: usize,
     so_far: Progress<'a>,
     word: &'a str,
 ) -> Result<Progress<'a>, UsageFault>
-    ensures { Agrees progress result (with_word verb place (progress so_far.entry) word.now) }
+    ensures { Agrees progress result (with_word verb position (progress so_far.entry) word.now) }
 {
     match so_far {
-        Progress::Ready(given) => match with_name(verb, place, given, word) {
+        Progress::Ready(given) => match with_name(verb, position, given, word) {
             Ok(now) => Ok(now),
-            Err(reason) => Err(fault_at(place, reason)),
+            Err(reason) => Err(fault_at(position, reason)),
         },
         Progress::Awaits(given, option, at) => match with_value(given, option, word) {
             Ok(now) => Ok(Progress::Ready(now)),
@@ -95,16 +95,16 @@ fn with_word<'a>(
 #[tactic(auto, unfolding(crate::specs::Reading::with_name))]
 fn with_name<'a>(
     verb: Verb,
-    place: usize,
+    position: usize,
     given: Given<'a>,
     word: &'a str,
 ) -> Result<Progress<'a>, UsageReason>
-    ensures { Agrees progress result (with_name verb place (options given.entry) word.now) }
+    ensures { Agrees progress result (with_name verb position (options given.entry) word.now) }
 {
     if is_summary(verb, word) {
         with_summary(given)
     } else {
-        with_option(verb, place, given, parts_of(word))
+        with_option(verb, position, given, parts_of(word))
     }
 }
 
@@ -154,17 +154,17 @@ fn parts_of(word: &str) -> Parts<'_>
 #[tactic(auto, unfolding(crate::specs::Reading::with_option))]
 fn with_option<'a>(
     verb: Verb,
-    place: usize,
+    position: usize,
     given: Given<'a>,
     word: Parts<'a>,
 ) -> Result<Progress<'a>, UsageReason>
-    ensures { Agrees progress result (with_option verb place (options given.entry) (parts word.entry)) }
+    ensures { Agrees progress result (with_option verb position (options given.entry) (parts word.entry)) }
 {
     let option = named(verb, word.name)?;
     if given.has(option) {
         return Err(UsageReason::OptionTwice);
     }
-    with_part(place, given, option, word.value)
+    with_part(position, given, option, word.value)
 }
 
 fn named(verb: Verb, name: &str) -> Result<OptionName, UsageReason>
@@ -176,15 +176,15 @@ fn named(verb: Verb, name: &str) -> Result<OptionName, UsageReason>
 // The options with one more option, whose value is in the same word or will be the next word.
 #[tactic(auto, unfolding(crate::specs::Reading::with_part))]
 fn with_part<'a>(
-    place: usize,
+    position: usize,
     given: Given<'a>,
     option: OptionName,
     value: Option<&'a str>,
 ) -> Result<Progress<'a>, UsageReason>
-    ensures { Agrees progress result (with_part place (options given.entry) option (option_copied value.entry)) }
+    ensures { Agrees progress result (with_part position (options given.entry) option (option_copied value.entry)) }
 {
     match value {
-        None => Ok(Progress::Awaits(given, option, place)),
+        None => Ok(Progress::Awaits(given, option, position)),
         Some(value) => Ok(Progress::Ready(with_value(given, option, value)?)),
     }
 }

@@ -1,5 +1,5 @@
 use Rattle.fb_report.proofs.Words.{◌≡◌, ◌≤◌, ◌*◌, ◌^◌, take, sum_by}
 use Rattle.fb_report.proofs.contents.sectors.Given as goal
 
-abbrev pub invariant-loop-place : goal.invariant-loop-place
-invariant-loop-place l = (l.sectors ≡ sum_by (λ run. run.count) (take l.place l.contents)) × (l.sectors ≤ l.place * 10 ^ 12)
+abbrev pub invariant-loop-index : goal.invariant-loop-index
+invariant-loop-index l = (l.sectors ≡ sum_by (λ run. run.count) (take l.index l.contents)) × (l.sectors ≤ l.index * 10 ^ 12)

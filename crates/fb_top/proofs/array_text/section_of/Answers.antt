@@ -10,9 +10,9 @@ pub returns-then-rest-lines-clause-same : goal.returns-then-rest-lines-clause-sa
 returns-then-rest-lines-clause-same c = λ size bytes run at.
     let runs = c.args.runs.now in
     let loop = c.loop-device in
-    subst (λ (r : Run). slice_get (sections size bytes 0 runs) c.args.place ≡ slice_get (section size bytes loop.device r) loop.rest)
+    subst (λ (r : Run). slice_get (sections size bytes 0 runs) c.args.index ≡ slice_get (section size bytes loop.device r) loop.rest)
     (one_element (slice_get runs loop.device) c.get.result.now run c.get.ensures at)
-    (line_here size bytes runs loop.device c.get.result.now c.args.place loop.rest c.get.ensures
+    (line_here size bytes runs loop.device c.get.result.now c.args.index loop.rest c.get.ensures
     (omega (arith, c.fore_pieces-lines.ensures.value, c.if-rest-lines.true)) (loop.invariant.same size bytes))
 
 pub loop-device-preserved : goal.loop-device-preserved
@@ -22,7 +22,7 @@ loop-device-preserved c =
     let run = c.get.result.now in
     let lines = c.fore_pieces-lines.ensures.value in
     record {
-      same = λ size bytes. line_later size bytes runs loop.device run c.args.place loop.rest _ c.get.ensures
+      same = λ size bytes. line_later size bytes runs loop.device run c.args.index loop.rest _ c.get.ensures
           (omega (arith, lines, c.if-rest-lines.false)) (loop.invariant.same size bytes);
       counted = λ size bytes. omega (
         arith,

@@ -7,7 +7,7 @@ use Rattle.fb_top.proofs.array_text.section_of.Given as goal
 abbrev pub invariant-loop-device : goal.invariant-loop-device
 invariant-loop-device l = record {
   same : (size : ℕ) (bytes : Bytes)
-      → slice_get (sections size bytes 0 l.runs) l.place ≡ slice_get (sections size bytes l.device (drop l.device l.runs)) l.rest;
+      → slice_get (sections size bytes 0 l.runs) l.index ≡ slice_get (sections size bytes l.device (drop l.device l.runs)) l.rest;
   counted : (size : ℕ) (bytes : Bytes)
-      → l.place + length (sections size bytes l.device (drop l.device l.runs)) ≡ l.rest + length (sections size bytes 0 l.runs);
+      → l.index + length (sections size bytes l.device (drop l.device l.runs)) ≡ l.rest + length (sections size bytes 0 l.runs);
 }

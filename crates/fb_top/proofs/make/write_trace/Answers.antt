@@ -13,63 +13,63 @@ use Rattle.fb_top.proofs.make.write_trace.Goals.{After-write_whole}
 
 -- what is written is the next line of the trace
 next_line : (g : given.Over) (c : After-write_whole g)
-    → slice_get (made_lines c.args.words.now.number c.args.words.now.device c.args.sectors c.args.words.now.requests) c.loop-place.place
+    → slice_get (made_lines c.args.words.now.number c.args.words.now.device c.args.sectors c.args.words.now.requests) c.loop-index.index
     ≡ Some c.as_slice.result.now
 next_line g c =
     let words = c.args.words.now in
-    line_at words.number words.device c.args.sectors words.requests c.loop-place.place c.loop-place-test.true
-    ∙ ap Some (sym (c.as_slice.ensures.value ∙ c.in-Ok-next_line.ensures.line ∙ ap line_made c.loop-place.invariant.maker))
+    line_at words.number words.device c.args.sectors words.requests c.loop-index.index c.loop-index-test.true
+    ∙ ap Some (sym (c.as_slice.ensures.value ∙ c.in-Ok-next_line.ensures.line ∙ ap line_made c.loop-index.invariant.maker))
 
 pub returns-in-Err-next_line-clause-stops : goal.returns-in-Err-next_line-clause-stops
 returns-in-Err-next_line-clause-stops g c =
     let words = c.args.words.now in
     let lines = made_lines words.number words.device c.args.sectors words.requests in
     λ begun. record {
-      named = c.loop-place.invariant.name;
-      written = front_of ((g.D.Desk.seen c.loop-place.desk).outputs
-          MadeTrace).written lines c.loop-place.place c.loop-place.invariant.lines;
+      named = c.loop-index.invariant.name;
+      written = front_of ((g.D.Desk.seen c.loop-index.desk).outputs
+          MadeTrace).written lines c.loop-index.index c.loop-index.invariant.lines;
     }
 
 pub returns-in-Err-write_whole-clause-stops : goal.returns-in-Err-write_whole-clause-stops
 returns-in-Err-write_whole-clause-stops g c =
     let words = c.args.words.now in
-    let place = c.loop-place.place in
+    let index = c.loop-index.index in
     let lines = made_lines words.number words.device c.args.sectors words.requests in
     let old = g.D.Desk.seen c.args.desk.now in
-    let now = g.D.Desk.seen c.loop-place.desk in
+    let now = g.D.Desk.seen c.loop-index.desk in
     let new = g.D.Desk.seen c.write_whole.new.desk in
     let line = next_line g (goal.at.returns-in-Err-write_whole-clause-stops g c).After-write_whole in (
       refl,
       rose_since (old.outputs MadeTrace).faults (now.outputs MadeTrace).faults
-          (new.outputs MadeTrace).faults c.loop-place.invariant.calm c.in-Err-write_whole.ensures.cause.failed,
+          (new.outputs MadeTrace).faults c.loop-index.invariant.calm c.in-Err-write_whole.ensures.cause.failed,
       λ begun. record {
         named = same_name (string_bytes words.trace) (now.outputs MadeTrace).name
-            (new.outputs MadeTrace).name c.in-Err-write_whole.ensures.name c.loop-place.invariant.name;
-        written = front_more (now.outputs MadeTrace).written (new.outputs MadeTrace).written lines place c.as_slice.result.now
-            c.loop-place.invariant.lines line c.in-Err-write_whole.ensures.front;
+            (new.outputs MadeTrace).name c.in-Err-write_whole.ensures.name c.loop-index.invariant.name;
+        written = front_more (now.outputs MadeTrace).written (new.outputs MadeTrace).written lines index c.as_slice.result.now
+            c.loop-index.invariant.lines line c.in-Err-write_whole.ensures.front;
       },
     )
 
-pub loop-place-preserved : goal.loop-place-preserved
-loop-place-preserved g c =
+pub loop-index-preserved : goal.loop-index-preserved
+loop-index-preserved g c =
     let words = c.args.words.now in
-    let place = c.loop-place.place in
+    let index = c.loop-index.index in
     let lines = made_lines words.number words.device c.args.sectors words.requests in
     let old = g.D.Desk.seen c.args.desk.now in
-    let now = g.D.Desk.seen c.loop-place.desk in
+    let now = g.D.Desk.seen c.loop-index.desk in
     let new = g.D.Desk.seen c.write_whole.new.desk in
     let told = c.in-Ok-write_whole.ensures in
-    let line = next_line g (goal.at.loop-place-preserved g c).After-write_whole in
+    let line = next_line g (goal.at.loop-index-preserved g c).After-write_whole in
     record {
-      only = output_on MadeTrace old now new c.loop-place.invariant.only told.only;
-      calm = told.cause.calm ∙ c.loop-place.invariant.calm;
+      only = output_on MadeTrace old now new c.loop-index.invariant.only told.only;
+      calm = told.cause.calm ∙ c.loop-index.invariant.calm;
       begun = told.begun;
       name = same_name (string_bytes words.trace) (now.outputs MadeTrace).name
-          (new.outputs MadeTrace).name told.name c.loop-place.invariant.name;
+          (new.outputs MadeTrace).name told.name c.loop-index.invariant.name;
       lines = holds_more (now.outputs MadeTrace).written
-          (new.outputs MadeTrace).written lines place c.as_slice.result.now c.loop-place.invariant.lines line told.whole;
+          (new.outputs MadeTrace).written lines index c.as_slice.result.now c.loop-index.invariant.lines line told.whole;
       maker =
-          c.in-Ok-next_line.ensures.ok ∙ ap (λ (making : Making). record making { made = making.made + 1 }) c.loop-place.invariant.maker;
+          c.in-Ok-next_line.ensures.ok ∙ ap (λ (making : Making). record making { made = making.made + 1 }) c.loop-index.invariant.maker;
     }
 
 pub returns-clause-whole : goal.returns-clause-whole
@@ -77,9 +77,9 @@ returns-clause-whole g c =
     let words = c.args.words.now in
     let lines = made_lines words.number words.device c.args.sectors words.requests in
     record {
-      begun = c.loop-place.invariant.begun;
-      named = c.loop-place.invariant.name;
+      begun = c.loop-index.invariant.begun;
+      named = c.loop-index.invariant.name;
       written =
-          holds_all ((g.D.Desk.seen c.loop-place.desk).outputs MadeTrace).written lines c.loop-place.place c.loop-place.invariant.lines
-          (omega (arith, lines_counted words.number words.device c.args.sectors words.requests, c.loop-place-test.false));
+          holds_all ((g.D.Desk.seen c.loop-index.desk).outputs MadeTrace).written lines c.loop-index.index c.loop-index.invariant.lines
+          (omega (arith, lines_counted words.number words.device c.args.sectors words.requests, c.loop-index-test.false));
     }

@@ -7,8 +7,8 @@ use Rattle.fb_maker.specs.Trace.{made_lines}
 use Rattle.fb_top.proofs.Fronts.{HoldsLines}
 use Rattle.fb_top.proofs.make.write_trace.Given as goal
 
-abbrev pub invariant-loop-place : goal.invariant-loop-place
-invariant-loop-place g l =
+abbrev pub invariant-loop-index : goal.invariant-loop-index
+invariant-loop-index g l =
     let old = g.D.Desk.seen l.fn.desk in
     let new = g.D.Desk.seen l.desk in
     record {
@@ -16,6 +16,6 @@ invariant-loop-place g l =
       calm : (new.outputs MadeTrace).faults ≡ (old.outputs MadeTrace).faults;
       begun : (new.outputs MadeTrace).begun ≡ true;
       name : IfSome (new.outputs MadeTrace).name (λ told. told ≡ string_bytes l.words.trace);
-      lines : HoldsLines (new.outputs MadeTrace).written (made_lines l.words.number l.words.device l.sectors l.words.requests) l.place;
-      maker : l.maker ≡ record { number = l.words.number; device = l.words.device; sectors = l.sectors; made = l.place };
+      lines : HoldsLines (new.outputs MadeTrace).written (made_lines l.words.number l.words.device l.sectors l.words.requests) l.index;
+      maker : l.maker ≡ record { number = l.words.number; device = l.words.device; sectors = l.sectors; made = l.index };
     }

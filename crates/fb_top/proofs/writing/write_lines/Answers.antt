@@ -6,27 +6,27 @@ use Rattle.fb_top.proofs.Pieces.{output_on}
 use Rattle.fb_top.proofs.Fronts.{front_of, front_more, holds_more, holds_all, holds_none, rose_since, same_name}
 use Rattle.fb_top.proofs.writing.write_lines.Goals as goal
 
-pub loop-place-init : goal.loop-place-init
-loop-place-init g c = record {
+pub loop-index-init : goal.loop-index-init
+loop-index-init g c = record {
   only = c.in-Ok.ensures.only;
   calm = c.in-Ok.ensures.cause.calm;
   begun = c.in-Ok.ensures.begun;
   name = c.in-Ok.ensures.named;
   lines = holds_none ((g.D.Desk.seen c.begin_output.new.self).outputs c.args.which).written
       (g.L.Lines.lines c.args.lines.now) c.in-Ok.ensures.empty;
-  in_place = λ can place line inside got. absurd (omega arith);
+  in_place = λ can index line inside got. absurd (omega arith);
 }
 
 pub returns-in-Err-line : goal.returns-in-Err-line
 returns-in-Err-line g c = record {
-  only = c.loop-place.invariant.only;
+  only = c.loop-index.invariant.only;
   whole = tt;
   calm = tt;
   read = tt;
   stops = λ begun. record {
-    named = c.loop-place.invariant.name;
-    written = front_of ((g.D.Desk.seen c.loop-place.desk).outputs c.args.which).written
-        (g.L.Lines.lines c.args.lines.now) c.loop-place.place c.loop-place.invariant.lines;
+    named = c.loop-index.invariant.name;
+    written = front_of ((g.D.Desk.seen c.loop-index.desk).outputs c.args.which).written
+        (g.L.Lines.lines c.args.lines.now) c.loop-index.index c.loop-index.invariant.lines;
   };
 }
 
@@ -35,67 +35,67 @@ returns-in-Err-write_whole g c =
     let which = c.args.which in
     let lines = g.L.Lines.lines c.args.lines.now in
     let old = g.D.Desk.seen c.args.desk.now in
-    let now = g.D.Desk.seen c.loop-place.desk in
+    let now = g.D.Desk.seen c.loop-index.desk in
     let new = g.D.Desk.seen c.write_whole.new.desk in
-    let line : slice_get lines c.loop-place.place ≡ Some c.as_slice.result.now = c.in-Ok-line.ensures.value
+    let line : slice_get lines c.loop-index.index ≡ Some c.as_slice.result.now = c.in-Ok-line.ensures.value
     ∙ ap Some (sym c.as_slice.ensures.value) in
     record {
-      only = output_on which old now new c.loop-place.invariant.only c.in-Err-write_whole.ensures.only;
+      only = output_on which old now new c.loop-index.invariant.only c.in-Err-write_whole.ensures.only;
       whole = tt;
       calm = tt;
       read = tt;
       stops = (
         refl,
         rose_since (old.outputs which).faults (now.outputs which).faults
-            (new.outputs which).faults c.loop-place.invariant.calm c.in-Err-write_whole.ensures.cause.failed,
+            (new.outputs which).faults c.loop-index.invariant.calm c.in-Err-write_whole.ensures.cause.failed,
         λ begun. record {
           named = same_name c.args.name.now (now.outputs which).name
-              (new.outputs which).name c.in-Err-write_whole.ensures.name c.loop-place.invariant.name;
-          written = front_more (now.outputs which).written (new.outputs which).written lines c.loop-place.place c.as_slice.result.now
-              c.loop-place.invariant.lines line c.in-Err-write_whole.ensures.front;
+              (new.outputs which).name c.in-Err-write_whole.ensures.name c.loop-index.invariant.name;
+          written = front_more (now.outputs which).written (new.outputs which).written lines c.loop-index.index c.as_slice.result.now
+              c.loop-index.invariant.lines line c.in-Err-write_whole.ensures.front;
         },
       );
     }
 
-pub loop-place-preserved : goal.loop-place-preserved
-loop-place-preserved g c =
+pub loop-index-preserved : goal.loop-index-preserved
+loop-index-preserved g c =
     let which = c.args.which in
     let lines = g.L.Lines.lines c.args.lines.now in
     let old = g.D.Desk.seen c.args.desk.now in
-    let now = g.D.Desk.seen c.loop-place.desk in
+    let now = g.D.Desk.seen c.loop-index.desk in
     let new = g.D.Desk.seen c.write_whole.new.desk in
     let told = c.in-Ok-write_whole.ensures in
-    let line : slice_get lines c.loop-place.place ≡ Some c.as_slice.result.now = c.in-Ok-line.ensures.value
+    let line : slice_get lines c.loop-index.index ≡ Some c.as_slice.result.now = c.in-Ok-line.ensures.value
     ∙ ap Some (sym c.as_slice.ensures.value) in
     record {
-      only = output_on which old now new c.loop-place.invariant.only told.only;
-      calm = told.cause.calm ∙ c.loop-place.invariant.calm;
+      only = output_on which old now new c.loop-index.invariant.only told.only;
+      calm = told.cause.calm ∙ c.loop-index.invariant.calm;
       begun = told.begun;
-      name = same_name c.args.name.now (now.outputs which).name (new.outputs which).name told.name c.loop-place.invariant.name;
+      name = same_name c.args.name.now (now.outputs which).name (new.outputs which).name told.name c.loop-index.invariant.name;
       lines = holds_more (now.outputs which).written
-          (new.outputs which).written lines c.loop-place.place c.as_slice.result.now c.loop-place.invariant.lines line told.whole;
-      in_place = λ can. one_place_more (λ place line. IsLine (is_in_place (g.L.Lines.grammar c.args.lines.now) (length lines) place) line)
-          lines c.loop-place.place c.in-Ok-line.line.items c.in-Ok-line.ensures.value
-          (c.loop-place.invariant.in_place can) (c.in-Ok-line.ensures.form can);
+          (new.outputs which).written lines c.loop-index.index c.as_slice.result.now c.loop-index.invariant.lines line told.whole;
+      in_place = λ can. one_place_more (λ index line. IsLine (is_in_place (g.L.Lines.grammar c.args.lines.now) (length lines) index) line)
+          lines c.loop-index.index c.in-Ok-line.line.items c.in-Ok-line.ensures.value
+          (c.loop-index.invariant.in_place can) (c.in-Ok-line.ensures.form can);
     }
 
 pub returns : goal.returns
 returns g c =
     let lines = g.L.Lines.lines c.args.lines.now in
     record {
-      only = c.loop-place.invariant.only;
+      only = c.loop-index.invariant.only;
       whole = record {
-        begun = c.loop-place.invariant.begun;
-        named = c.loop-place.invariant.name;
-        written = holds_all ((g.D.Desk.seen c.loop-place.desk).outputs c.args.which).written lines c.loop-place.place
-            c.loop-place.invariant.lines (omega (arith, c.count-place-end.ensures.value, c.loop-place-test.false));
+        begun = c.loop-index.invariant.begun;
+        named = c.loop-index.invariant.name;
+        written = holds_all ((g.D.Desk.seen c.loop-index.desk).outputs c.args.which).written lines c.loop-index.index
+            c.loop-index.invariant.lines (omega (arith, c.count-index-end.ensures.value, c.loop-index-test.false));
       };
-      calm = c.loop-place.invariant.calm;
-      read = λ can. all_in_place (g.L.Lines.grammar c.args.lines.now) lines c.loop-place.place (length lines) refl (omega (
+      calm = c.loop-index.invariant.calm;
+      read = λ can. all_in_place (g.L.Lines.grammar c.args.lines.now) lines c.loop-index.index (length lines) refl (omega (
         arith,
-        c.count-place-end.ensures.value,
-        c.count-place-end.ensures.ends,
+        c.count-index-end.ensures.value,
+        c.count-index-end.ensures.ends,
       ))
-          (omega (arith, c.count-place-end.ensures.value, c.loop-place-test.false)) (c.loop-place.invariant.in_place can);
+          (omega (arith, c.count-index-end.ensures.value, c.loop-index-test.false)) (c.loop-index.invariant.in_place can);
       stops = tt;
     }

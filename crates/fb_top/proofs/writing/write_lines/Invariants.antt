@@ -5,8 +5,8 @@ use Rattle.fb_desk.specs.Calls.{ChangesOutput}
 use Rattle.fb_top.proofs.Fronts.{HoldsLines}
 use Rattle.fb_top.proofs.writing.write_lines.Given as goal
 
-abbrev pub invariant-loop-place : goal.invariant-loop-place
-invariant-loop-place g l =
+abbrev pub invariant-loop-index : goal.invariant-loop-index
+invariant-loop-index g l =
     let old = g.D.Desk.seen l.fn.desk in
     let new = g.D.Desk.seen l.desk in
     record {
@@ -14,8 +14,8 @@ invariant-loop-place g l =
       calm : (new.outputs l.which).faults ≡ (old.outputs l.which).faults;
       begun : (new.outputs l.which).begun ≡ true;
       name : IfSome (new.outputs l.which).name (λ told. told ≡ l.name);
-      lines : HoldsLines (new.outputs l.which).written (g.L.Lines.lines l.lines) l.place;
-      in_place : g.L.Lines.can_be_read l.lines → (place : ℕ) (line : List ℕ) → place < l.place
-          → slice_get (g.L.Lines.lines l.lines) place ≡ Some line
-          → IsLine (is_in_place (g.L.Lines.grammar l.lines) (length (g.L.Lines.lines l.lines)) place) line;
+      lines : HoldsLines (new.outputs l.which).written (g.L.Lines.lines l.lines) l.index;
+      in_place : g.L.Lines.can_be_read l.lines → (index : ℕ) (line : List ℕ) → index < l.index
+          → slice_get (g.L.Lines.lines l.lines) index ≡ Some line
+          → IsLine (is_in_place (g.L.Lines.grammar l.lines) (length (g.L.Lines.lines l.lines)) index) line;
     }

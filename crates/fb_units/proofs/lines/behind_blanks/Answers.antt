@@ -6,12 +6,12 @@ use Rattle.fb_units.proofs.lines.behind_blanks.Goals as goal
 
 pub returns-then-not-is_blank : goal.returns-then-not-is_blank
 returns-then-not-is_blank c =
-    take_rest c.args.line.now c.loop-place.place
+    take_rest c.args.line.now c.loop-index.index
     ∙ ap (λ n. drop n c.args.line.now) (sym
-    (prefix_len_is is_blank c.args.line.now c.loop-place.place 0 (omega arith) c.loop-place.invariant (λ h. sym c.if-not-is_blank.ensures)))
+    (prefix_len_is is_blank c.args.line.now c.loop-index.index 0 (omega arith) c.loop-index.invariant (λ h. sym c.if-not-is_blank.ensures)))
 
 pub returns : goal.returns
 returns c =
     take_rest c.args.line.now (length c.args.line.now)
     ∙ ap (λ n. drop n c.args.line.now) (sym (prefix_len_is is_blank c.args.line.now (length c.args.line.now) 0 (omega arith)
-    (λ k h. c.loop-place.invariant k (omega arith)) (λ h. absurd (omega arith))))
+    (λ k h. c.loop-index.invariant k (omega arith)) (λ h. absurd (omega arith))))

@@ -10,5 +10,5 @@ returns-then-is_empty c =
 pub returns : goal.returns
 returns c = record {
   field = fields_next c.args.line.now c.behind_blanks-text.result.now c.split_at.result.0.now c.split_at.result.1.now c.first_blank.result
-      c.behind_blanks-text.ensures (grind (arith, nat_tests)) c.first_blank.ensures.place c.split_at.ensures.front c.split_at.ensures.back;
+      c.behind_blanks-text.ensures (grind (arith, nat_tests)) c.first_blank.ensures.index c.split_at.ensures.front c.split_at.ensures.back;
 }

@@ -8,6 +8,6 @@ use Rattle.fb_desk.proofs.holdings.Holdings.open.Goals as goal
 pub invariant_of-self : goal.invariant_of-self
 invariant_of-self c =
     let entries = c.self.inside.entries.items in
-    let place = c.args.place in
-    every-with_input (IsWithin entries) c.self.inside.readings c.args.which (At place 0) c.self.invariant
-    (IsWithin-start entries place (subst (λ (held : Held). place < length held.entries) (sym c.self.view_is) c.requires))
+    let index = c.args.index in
+    every-with_input (IsWithin entries) c.self.inside.readings c.args.which (At index 0) c.self.invariant
+    (IsWithin-start entries index (subst (λ (held : Held). index < length held.entries) (sym c.self.view_is) c.requires))

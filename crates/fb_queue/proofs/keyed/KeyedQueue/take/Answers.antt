@@ -9,9 +9,9 @@ pub returns-clause-least : goal.returns-clause-least
 returns-clause-least g c =
     let items = c.args.self.now.waiting.items in
     let key = g.P.Policy.key c.args.disk.now c.args.head c.args.now in
-    let found : IsFirstLeastAt key items (length items) c.first_least-place.result =
-    subst (λ (rs : List Request). IsFirstLeastAt key rs (length rs) c.first_least-place.result) c.as_slice.ensures.value
-    c.first_least-place.ensures in
-    first_least_at key items c.first_least-place.result c.remove.result found
-    (slice_get_read items (length items) c.first_least-place.result c.remove.result refl found.within c.remove.ensures.value)
+    let found : IsFirstLeastAt key items (length items) c.first_least-index.result =
+    subst (λ (rs : List Request). IsFirstLeastAt key rs (length rs) c.first_least-index.result) c.as_slice.ensures.value
+    c.first_least-index.ensures in
+    first_least_at key items c.first_least-index.result c.remove.result found
+    (slice_get_read items (length items) c.first_least-index.result c.remove.result refl found.within c.remove.ensures.value)
     ∙ ap (λ rs. Some (c.remove.result, rs)) (sym c.remove.ensures.items)

@@ -13,5 +13,5 @@ pub returns-clause-form : goal.returns-clause-form
 returns-clause-form c =
     let lines = c.args.self.now in
     IfOk-weaker c.fore_piece.result _ _
-    (λ line form can. subst (λ n. IsLine (is_in_place fore_grammar n c.args.place) line.items)
+    (λ line form can. subst (λ n. IsLine (is_in_place fore_grammar n c.args.index) line.items)
     (sym (fore_counted lines.sector_bytes lines.bytes lines.run.now)) (form can.0 can.1)) c.fore_piece.ensures.form

@@ -1,0 +1,15 @@
+use Rattle.std.proofs.Common.{sym, arith, length}
+use Rattle.std.specs.Prelude.{◌==◌}
+use Rattle.std.proofs.lemmas.List.Sums.{position_or_len_is}
+use Rattle.std.proofs.lemmas.Bool.Decides.{nat_tests}
+use Rattle.fb_units.proofs.lines.index_of.Goals as goal
+
+pub returns-then-byte-stop-clause-index : goal.returns-then-byte-stop-clause-index
+returns-then-byte-stop-clause-index c =
+    sym (position_or_len_is (λ x. x == c.args.stop) c.args.text.now c.loop-index.index 0 (omega arith) c.loop-index.invariant
+    (λ h. grind (arith, nat_tests)))
+
+pub returns-clause-index : goal.returns-clause-index
+returns-clause-index c =
+    sym (position_or_len_is (λ x. x == c.args.stop) c.args.text.now (length c.args.text.now) 0 (omega arith)
+    (λ k h. c.loop-index.invariant k (omega arith)) (λ h. absurd (omega arith)))
