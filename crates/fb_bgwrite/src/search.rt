@@ -115,28 +115,28 @@ fn trimmed(pending: &Pending, from: u32, end: u32, most: u32) -> (u32, u32)
 
 // Tries the tracks of these cylinders, if their bound leaves it open whether a spill there is better
 // than the best so far: in two parts, that with the greater bound first.
-fn visit(search: &Search, part: Part, start: Option<Valued>) -> Option<Valued>
+fn visit(search: &Search, part: Part, best: Option<Valued>) -> Option<Valued>
     requires search { IsSearch search.now }
     requires part { IsPart search.now part }
-    requires best { IsFound search.now start }
+    requires best { IsFound search.now best }
     ensures valued { IsFound search.now result }
-    ensures keeps { IsKept search.now start result }
+    ensures keeps { IsKept search.now best result }
     ensures tried { AreTried search.now result part.from part.end }
 {
-    if is_enough(start, part.most, part.from) {
-        return start;
+    if is_enough(best, part.most, part.from) {
+        return best;
     }
     if is_swept(search.gap, part) {
-        return sweep(search, part, start);
+        return sweep(search, part, best);
     }
     let middle = split_at(search.gap, part);
     let low = narrowed(search, part, part.from, middle);
     let high = narrowed(search, part, middle, part.end);
     if low.most < high.most {
-        let best = visit(search, high, start);
+        let best = visit(search, high, best);
         return visit(search, low, best);
     }
-    let best = visit(search, low, start);
+    let best = visit(search, low, best);
     visit(search, high, best)
 }
 
@@ -353,18 +353,15 @@ fn is_above(gap: &Gap, from: u32) -> bool {
 
 // Tries the tracks of the cylinders of a part one after the other, beside the gap from the nearest one
 // on, until a bound shows that no other is better.
-fn sweep(search: &Search, part: Part, start: Option<Valued>) -> Option<Valued>
+fn sweep(search: &Search, part: Part, best: Option<Valued>) -> Option<Valued>
     requires search { IsSearch search.now }
     requires part { IsPart search.now part }
-    requires best { IsFound search.now start }
+    requires best { IsFound search.now best }
     ensures valued { IsFound search.now result }
-    ensures keeps { IsKept search.now start result }
+    ensures keeps { IsKept search.now best result }
     ensures tried { AreTried search.now result part.from part.end }
 {
-    let mut swept = Swept {
-        best: start,
-        rest: part,
-    };
+    let mut swept = Swept { best, rest: part };
     while !is_enough(swept.best, swept.rest.most, swept.rest.from) {
         if swept.rest.end == swept.rest.from {
             break;
@@ -376,52 +373,52 @@ fn sweep(search: &Search, part: Part, start: Option<Valued>) -> Option<Valued>
 
 // Tries one more cylinder of a part, the first one if it lies behind the gap, else the last one; the
 // others are left.
-fn try_next(search: &Search, part: Part, start: Option<Valued>) -> Swept
+fn try_next(search: &Search, part: Part, best: Option<Valued>) -> Swept
     requires some { part.from < part.end }
     requires search { IsSearch search.now }
     requires part { IsPart search.now part }
-    requires best { IsFound search.now start }
+    requires best { IsFound search.now best }
     ensures after { part.from ≤ result.rest.from }
     ensures within { result.rest.end ≤ part.end }
     ensures fewer { result.rest.end + part.from < part.end + result.rest.from }
     ensures rest { IsPart search.now result.rest }
     ensures valued { IsFound search.now result.best }
-    ensures keeps { IsKept search.now start result.best }
+    ensures keeps { IsKept search.now best result.best }
     ensures before { AreTried search.now result.best part.from result.rest.from }
     ensures behind { AreTried search.now result.best result.rest.end part.end }
 {
     if is_above(search.gap, part.from) {
-        try_first(search, part, start)
+        try_first(search, part, best)
     } else {
-        try_last(search, part, start)
+        try_last(search, part, best)
     }
 }
 
 // Tries the last cylinder of a part that has a block short enough for the part's bound. The cylinders
 // before it are left, with a bound for all up to this one.
-fn try_last(search: &Search, part: Part, start: Option<Valued>) -> Swept
+fn try_last(search: &Search, part: Part, best: Option<Valued>) -> Swept
     requires some { part.from < part.end }
     requires search { IsSearch search.now }
     requires part { IsPart search.now part }
-    requires best { IsFound search.now start }
+    requires best { IsFound search.now best }
     ensures from { result.rest.from ≡ part.from }
     ensures fewer { result.rest.end < part.end }
     ensures rest { IsPart search.now result.rest }
     ensures valued { IsFound search.now result.best }
-    ensures keeps { IsKept search.now start result.best }
+    ensures keeps { IsKept search.now best result.best }
     ensures tried { AreTried search.now result.best result.rest.end part.end }
 {
     let short = part.most.min(LONGEST as u64) as u32;
     let end = search.pending.end_short(part.from, part.end, short);
     if end == part.from {
         return Swept {
-            best: start,
+            best,
             rest: Part { end, ..part },
         };
     }
-    if is_light(search, end - 1, start) {
+    if is_light(search, end - 1, best) {
         return Swept {
-            best: start,
+            best,
             rest: Part {
                 end: end - 1,
                 ..part
@@ -437,7 +434,7 @@ fn try_last(search: &Search, part: Part, start: Option<Valued>) -> Swept
         ..part
     };
     Swept {
-        best: try_cylinder(search, own, start),
+        best: try_cylinder(search, own, best),
         rest: Part {
             end: end - 1,
             most,
@@ -448,29 +445,29 @@ fn try_last(search: &Search, part: Part, start: Option<Valued>) -> Swept
 
 // Tries the first cylinder of a part that has a block short enough for the part's bound. The cylinders
 // behind it are left, with a bound for all from this one on.
-fn try_first(search: &Search, part: Part, start: Option<Valued>) -> Swept
+fn try_first(search: &Search, part: Part, best: Option<Valued>) -> Swept
     requires some { part.from < part.end }
     requires search { IsSearch search.now }
     requires part { IsPart search.now part }
-    requires best { IsFound search.now start }
+    requires best { IsFound search.now best }
     ensures end { result.rest.end ≡ part.end }
     ensures fewer { part.from < result.rest.from }
     ensures rest { IsPart search.now result.rest }
     ensures valued { IsFound search.now result.best }
-    ensures keeps { IsKept search.now start result.best }
+    ensures keeps { IsKept search.now best result.best }
     ensures tried { AreTried search.now result.best part.from result.rest.from }
 {
     let short = part.most.min(LONGEST as u64) as u32;
     let from = search.pending.first_short(part.from, part.end, short);
     if from == part.end {
         return Swept {
-            best: start,
+            best,
             rest: Part { from, ..part },
         };
     }
-    if is_light(search, from, start) {
+    if is_light(search, from, best) {
         return Swept {
-            best: start,
+            best,
             rest: Part {
                 from: from + 1,
                 ..part
@@ -486,7 +483,7 @@ fn try_first(search: &Search, part: Part, start: Option<Valued>) -> Swept
         ..part
     };
     Swept {
-        best: try_cylinder(search, own, start),
+        best: try_cylinder(search, own, best),
         rest: Part {
             from: from + 1,
             most,
@@ -497,32 +494,32 @@ fn try_first(search: &Search, part: Part, start: Option<Valued>) -> Swept
 
 // Whether there is a best so far, and it is at least as good as each spill on a track of this cylinder, by
 // its weights.
-fn is_light(search: &Search, cylinder: u32, start: Option<Valued>) -> bool
+fn is_light(search: &Search, cylinder: u32, best: Option<Valued>) -> bool
     requires room { cylinder < 2 ^ 32 - 1 }
     requires search { IsSearch search.now }
-    ensures { result ≡ true → AreTried search.now start cylinder (cylinder + 1) }
+    ensures { result ≡ true → AreTried search.now best cylinder (cylinder + 1) }
 {
-    if start.is_none() {
+    if best.is_none() {
         return false;
     }
     let weight = search.pending.greatest_weight_in(cylinder, cylinder + 1);
-    is_enough(start, weight, cylinder)
+    is_enough(best, weight, cylinder)
 }
 
 // Tries the tracks of a part of one cylinder, if a pending block there is short enough.
-fn try_cylinder(search: &Search, part: Part, start: Option<Valued>) -> Option<Valued>
+fn try_cylinder(search: &Search, part: Part, best: Option<Valued>) -> Option<Valued>
     requires one { part.end ≡ part.from + 1 }
     requires search { IsSearch search.now }
     requires part { IsPart search.now part }
-    requires best { IsFound search.now start }
+    requires best { IsFound search.now best }
     ensures valued { IsFound search.now result }
-    ensures keeps { IsKept search.now start result }
+    ensures keeps { IsKept search.now best result }
     ensures tried { AreTried search.now result part.from part.end }
 {
     if part.most < search.pending.shortest_at(part.from) as u64 {
-        return start;
+        return best;
     }
-    let mut best = start;
+    let mut best = best;
     for head in 0..search.disk.map.geometry().heads() {
         let track = Track {
             cylinder: part.from,
@@ -535,27 +532,27 @@ fn try_cylinder(search: &Search, part: Part, start: Option<Valued>) -> Option<Va
 
 // Tries the spills on a track, none of which writes more than `most`, unless its pending blocks are
 // too few or each of them is too long.
-fn try_track(search: &Search, track: Track, most: u64, start: Option<Valued>) -> Option<Valued>
+fn try_track(search: &Search, track: Track, most: u64, best: Option<Valued>) -> Option<Valued>
     requires track { IsTrackOf search.now.disk.now.map track }
     requires most { IsMostOn search.now.disk.now search.now.gap.now (wanted_of search.now.pending.now) track most }
     requires search { IsSearch search.now }
-    requires best { IsFound search.now start }
+    requires best { IsFound search.now best }
     ensures valued { IsFound search.now result }
-    ensures keeps { IsKept search.now start result }
+    ensures keeps { IsKept search.now best result }
     ensures tried { IsTried search.now result track }
 {
     let blocks = search.pending.on(track);
-    if is_enough(start, most.min(blocks.wanted_weight()), track.cylinder) {
-        return start;
+    if is_enough(best, most.min(blocks.wanted_weight()), track.cylinder) {
+        return best;
     }
     if most < least_on(&blocks, LONGEST) as u64 {
-        return start;
+        return best;
     }
     let found = spill_on(search, track, &blocks);
-    match (start, found) {
+    match (best, found) {
         (Some(best), Some(found)) => Some(better(best, found)),
         (None, found) => found,
-        (start, None) => start,
+        (best, None) => best,
     }
 }
 

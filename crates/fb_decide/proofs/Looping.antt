@@ -23,7 +23,7 @@ use Rattle.fb_model.specs.Content.{medium_of}
 use Rattle.fb_model.specs.Decisions.{decisions}
 use Rattle.fb_tasks.specs.Telling.{Tells}
 use Rattle.fb_decide.specs.declared.deciding.Course.{Course}
-use Rattle.fb_decide.specs.Deciding.{IsAtStart, PassagesTakeTime, HasDecided, IsReady}
+use Rattle.fb_decide.specs.Deciding.{IsAtBegin, PassagesTakeTime, HasDecided, IsReady}
 use Rattle.fb_decide.specs.Making.{GoesOn, AreKnown, RowFits, HasComeTo, HasMade, HasMadeOne}
 use Rattle.fb_decide.proofs.Calling.{called_first}
 use Rattle.fb_decide.proofs.Truth.{true_first}
@@ -71,31 +71,31 @@ listed inputs lists accepted = record {
 
 -- ---- where a run begins
 
-pub begins : (inputs : Inputs) (course : Course) (pending : List Request) (count : ℕ) → AreKnown inputs → IsAtStart inputs.latent course
+pub begins : (inputs : Inputs) (course : Course) (pending : List Request) (count : ℕ) → AreKnown inputs → IsAtBegin inputs.latent course
     → pending ≡ [] → count ≡ 0 → GoesOn inputs course pending count []
 unfolding decisions served
-begins inputs course pending count known start none zero_count = record {
+begins inputs course pending count known begin none zero_count = record {
   run = record {
     done = [];
     replayed =
-        record { all = rw (none, start.none_joined, start.first_head, start.first_instant) refl; ended = tt; holds = start.unwritten_yet };
-    tells = rw start.none_wanted (start.none_opened inputs.disk.map);
+        record { all = rw (none, begin.none_joined, begin.first_head, begin.first_instant) refl; ended = tt; holds = begin.unwritten_yet };
+    tells = rw begin.none_wanted (begin.none_opened inputs.disk.map);
     finds = true_first (medium_of inputs) course.store;
-    ends_at = sym start.first_instant;
+    ends_at = sym begin.first_instant;
   };
-  decided = rw (none, start.none_joined, start.first_head, start.first_instant) refl;
-  called = rw start.none_called (called_first inputs.disk.map inputs.calls known.accepted.few_blocks);
-  arrivals = rw start.none_joined tt;
-  calls_taken = rw start.none_called tt;
+  decided = rw (none, begin.none_joined, begin.first_head, begin.first_instant) refl;
+  called = rw begin.none_called (called_first inputs.disk.map inputs.calls known.accepted.few_blocks);
+  arrivals = rw begin.none_joined tt;
+  calls_taken = rw begin.none_called tt;
   waits = record {
-    within = omega (arith, start.none_joined);
-    counted = zero_count ∙ sym start.none_joined;
+    within = omega (arith, begin.none_joined);
+    counted = zero_count ∙ sym begin.none_joined;
     arrived = rw none tt;
-    on_disk = rw (none, start.none_joined) known.list.on_disk;
+    on_disk = rw (none, begin.none_joined) known.list.on_disk;
   };
-  stands = rw start.first_head (record { cylinder = inputs.disk.some_cylinders; head = inputs.disk.some_heads });
-  soon = omega (arith, start.first_instant);
-  counted = rw (none, start.none_joined) (omega arith);
+  stands = rw begin.first_head (record { cylinder = inputs.disk.some_cylinders; head = inputs.disk.some_heads });
+  soon = omega (arith, begin.first_instant);
+  counted = rw (none, begin.none_joined) (omega arith);
 }
 
 -- ---- one decision after another, with the list of requests as the program has it

@@ -32,7 +32,7 @@ abbrev pub PassagesTakeTime : Shape → Type 0
 PassagesTakeTime disk = (lbn : ℕ) → lbn < length (places disk) → 0 < length_of disk (place_at disk lbn)
 
 -- no sector was written, no task opened, nothing served
-pub record IsAtStart (latent : List ℕ) (course : Course) : Type 0 where
+pub record IsAtBegin (latent : List ℕ) (course : Course) : Type 0 where
   pub unwritten_yet : (lbn : ℕ) → content_in course.store lbn ≡ unwritten latent lbn
   pub none_opened : (disk : Shape) → Tells disk [] course.background.sessions []
   pub none_wanted : course.background.wanted ≡ []

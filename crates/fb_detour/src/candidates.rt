@@ -132,18 +132,18 @@ fn try_once(trial: &Trial, bins: Option<&Bins>, leave: Ns, notes: &mut [Ns], bes
 
 // Tries all plans of a way: the leave on arrival, and for each block that at its end. Blocks of many tasks
 // that end in one slot share a leave; where there are notes, most leaves are tried once.
-fn try_each(trial: &Trial, bins: Option<&Bins>, notes: &mut [Ns], start: Scored) -> Scored
+fn try_each(trial: &Trial, bins: Option<&Bins>, notes: &mut [Ns], best: Scored) -> Scored
     requires trial { IsTrial trial.now }
     requires bins { IfSome bins (λ bins. AreBins trial.now.search.now trial.now.way bins.now) }
-    requires best { IsFound trial.now.search.now start }
-    requires notes { AreNotes trial.now start.plan notes.old }
+    requires best { IsFound trial.now.search.now best }
+    requires notes { AreNotes trial.now best.plan notes.old }
     ensures scored { IsFound trial.now.search.now result }
-    ensures keeps { IsNoWorseIn trial.now.search.now result.plan start.plan }
+    ensures keeps { IsNoWorseIn trial.now.search.now result.plan best.plan }
     ensures tried { IsNoWorseThanWay trial.now.search.now trial.now.way result.plan }
 {
     let sides = trial.sides;
     let offers = sides.early.offers();
-    let mut best = try_once(trial, bins, trial.ceilings.begin, notes, start);
+    let mut best = try_once(trial, bins, trial.ceilings.begin, notes, best);
     for offer in offers {
         let end = sides.turning.end(offer.sweep);
         best = try_once(trial, bins, end, notes, best);
@@ -152,31 +152,31 @@ fn try_each(trial: &Trial, bins: Option<&Bins>, notes: &mut [Ns], start: Scored)
 }
 
 // Tries all plans of a way whose track has many blocks, with notes.
-fn try_noted(trial: &Trial, bins: Option<&Bins>, start: Scored) -> Scored
+fn try_noted(trial: &Trial, bins: Option<&Bins>, best: Scored) -> Scored
     requires trial { IsTrial trial.now }
     requires bins { IfSome bins (λ bins. AreBins trial.now.search.now trial.now.way bins.now) }
-    requires best { IsFound trial.now.search.now start }
+    requires best { IsFound trial.now.search.now best }
     ensures scored { IsFound trial.now.search.now result }
-    ensures keeps { IsNoWorseIn trial.now.search.now result.plan start.plan }
+    ensures keeps { IsNoWorseIn trial.now.search.now result.plan best.plan }
     ensures tried { IsNoWorseThanWay trial.now.search.now trial.now.way result.plan }
 {
     let mut notes = [NEVER; NOTED];
-    try_each(trial, bins, &mut notes, start)
+    try_each(trial, bins, &mut notes, best)
 }
 
 // Tries the leaves of the bin that promises most.
-fn try_fullest(trial: &Trial, bins: &Bins, stop: &Stop, start: Scored) -> Scored
+fn try_fullest(trial: &Trial, bins: &Bins, stop: &Stop, best: Scored) -> Scored
     requires trial { IsTrial trial.now }
     requires bins { AreBins trial.now.search.now trial.now.way bins.now }
     requires stop { IsReady stop.now }
     requires from { stop.now.turning.from ≡ trial.now.ceilings.now.begin }
-    requires best { IsFound trial.now.search.now start }
+    requires best { IsFound trial.now.search.now best }
     ensures scored { IsFound trial.now.search.now result }
-    ensures keeps { IsNoWorseIn trial.now.search.now result.plan start.plan }
+    ensures keeps { IsNoWorseIn trial.now.search.now result.plan best.plan }
 {
     let latest = trial.search.gap.deadline - trial.ceilings.move_on;
     let most = fullest(bins, latest);
-    let mut best = start;
+    let mut best = best;
     for offer in stop.offers {
         let end = stop.turning.end(offer.sweep);
         if bin_at(bins.leaves.begin, bins.leaves.bin_length, end) == most {
@@ -188,28 +188,28 @@ fn try_fullest(trial: &Trial, bins: &Bins, stop: &Stop, start: Scored) -> Scored
 
 // Tries all plans of a way: at first those of the bin that promises most, so that the bounds of nearly all
 // others show that they aren't better.
-fn try_binned(trial: &Trial, bins: &Bins, stop: &Stop, start: Scored) -> Scored
+fn try_binned(trial: &Trial, bins: &Bins, stop: &Stop, best: Scored) -> Scored
     requires trial { IsTrial trial.now }
     requires bins { AreBins trial.now.search.now trial.now.way bins.now }
     requires stop { IsReady stop.now }
     requires from { stop.now.turning.from ≡ trial.now.ceilings.now.begin }
-    requires best { IsFound trial.now.search.now start }
+    requires best { IsFound trial.now.search.now best }
     ensures scored { IsFound trial.now.search.now result }
-    ensures keeps { IsNoWorseIn trial.now.search.now result.plan start.plan }
+    ensures keeps { IsNoWorseIn trial.now.search.now result.plan best.plan }
     ensures tried { IsNoWorseThanWay trial.now.search.now trial.now.way result.plan }
 {
-    let best = try_fullest(trial, bins, stop, start);
+    let best = try_fullest(trial, bins, stop, best);
     try_noted(trial, Some(bins), best)
 }
 
 // Tries all plans of a way by bins.
-fn try_many(trial: &Trial, stop: &Stop, start: Scored) -> Scored
+fn try_many(trial: &Trial, stop: &Stop, best: Scored) -> Scored
     requires trial { IsTrial trial.now }
     requires stop { IsStopOf trial.now.search.now trial.now.way stop.now }
     requires from { stop.now.turning.from ≡ trial.now.ceilings.now.begin }
-    requires best { IsFound trial.now.search.now start }
+    requires best { IsFound trial.now.search.now best }
     ensures scored { IsFound trial.now.search.now result }
-    ensures keeps { IsNoWorseIn trial.now.search.now result.plan start.plan }
+    ensures keeps { IsNoWorseIn trial.now.search.now result.plan best.plan }
     ensures tried { IsNoWorseThanWay trial.now.search.now trial.now.way result.plan }
 {
     let search = trial.search;
@@ -230,19 +230,19 @@ fn try_many(trial: &Trial, stop: &Stop, start: Scored) -> Scored
         early: &early,
         late: &late,
     };
-    try_binned(trial, &bins, stop, start)
+    try_binned(trial, &bins, stop, best)
 }
 
 // Tries to leave on arrival, and as late as there is time.
-fn try_both_ends(trial: &Trial, start: Scored) -> Scored
+fn try_both_ends(trial: &Trial, best: Scored) -> Scored
     requires trial { IsTrial trial.now }
-    requires best { IsFound trial.now.search.now start }
+    requires best { IsFound trial.now.search.now best }
     ensures scored { IsFound trial.now.search.now result }
-    ensures keeps { IsNoWorseIn trial.now.search.now result.plan start.plan }
+    ensures keeps { IsNoWorseIn trial.now.search.now result.plan best.plan }
 {
     let begin = trial.ceilings.begin;
     let latest = trial.search.gap.deadline - trial.ceilings.move_on;
-    let best = try_leave(trial, None, begin, start);
+    let best = try_leave(trial, None, begin, best);
     try_leave(trial, None, latest, best)
 }
 
@@ -272,16 +272,16 @@ fn are_many_open(trial: &Trial, stop: &Stop, best: Scored) -> bool
 }
 
 // Tries all plans of a way whose track has many blocks, by bins where the intervals leave many of them open.
-fn try_dense(trial: &Trial, stop: &Stop, start: Scored) -> Scored
+fn try_dense(trial: &Trial, stop: &Stop, best: Scored) -> Scored
     requires trial { IsTrial trial.now }
     requires stop { IsStopOf trial.now.search.now trial.now.way stop.now }
     requires from { stop.now.turning.from ≡ trial.now.ceilings.now.begin }
-    requires best { IsFound trial.now.search.now start }
+    requires best { IsFound trial.now.search.now best }
     ensures scored { IsFound trial.now.search.now result }
-    ensures keeps { IsNoWorseIn trial.now.search.now result.plan start.plan }
+    ensures keeps { IsNoWorseIn trial.now.search.now result.plan best.plan }
     ensures tried { IsNoWorseThanWay trial.now.search.now trial.now.way result.plan }
 {
-    let best = try_both_ends(trial, start);
+    let best = try_both_ends(trial, best);
     if are_many_open(trial, stop, best) {
         return try_many(trial, stop, best);
     }
@@ -300,7 +300,7 @@ pub fn try_leaves(
     way: Way,
     stop: &Stop,
     ceilings: &Ceilings,
-    start: Scored,
+    best: Scored,
 ) -> Scored
     requires way { IsWay search.now.disk.now search.now.gap.now way }
     requires track { IsTrackOf search.now.disk.now.map (early_track search.now.gap.now way) }
@@ -308,9 +308,9 @@ pub fn try_leaves(
     requires stop { IsStopOf search.now way stop.now }
     requires arrive { stop.now.turning.from ≡ arrival search.now.disk.now search.now.gap.now way }
     requires ceilings { AreCeilings search.now way ceilings.now }
-    requires best { IsFound search.now start }
+    requires best { IsFound search.now best }
     ensures scored { IsFound search.now result }
-    ensures keeps { IsNoWorseIn search.now result.plan start.plan }
+    ensures keeps { IsNoWorseIn search.now result.plan best.plan }
     ensures tried { IsNoWorseThanWay search.now way result.plan }
 {
     let stay = longest_stay(search.disk, search.gap, way);
@@ -323,25 +323,25 @@ pub fn try_leaves(
     };
     let offers = stop.offers.len();
     if offers <= MOST_WITHOUT_NOTES {
-        return try_each(&trial, None, &mut [], start);
+        return try_each(&trial, None, &mut [], best);
     }
     if offers <= UNBINNED {
-        return try_noted(&trial, None, start);
+        return try_noted(&trial, None, best);
     }
-    try_dense(&trial, stop, start)
+    try_dense(&trial, stop, best)
 }
 
 // Tries all plans that wait at the source.
-pub fn try_source(search: &Search, start: Scored) -> Scored
+pub fn try_source(search: &Search, best: Scored) -> Scored
     requires search { IsSearch search.now }
-    requires best { IsFound search.now start }
+    requires best { IsFound search.now best }
     ensures scored { IsFound search.now result }
-    ensures keeps { IsNoWorseIn search.now result.plan start.plan }
+    ensures keeps { IsNoWorseIn search.now result.plan best.plan }
     ensures tried { IsNoWorseThanWay search.now Way.Source result.plan }
 {
     let blocks = blocks_on(search.wanted, search.gap.source);
     let stop = stop_at(search.disk, &blocks, search.gap.source, search.gap.now);
     let on = move_on(search.disk, search.gap, Way::Source);
     let ceilings = ceilings_of(search, Way::Source, &stop, on);
-    try_leaves(search, Way::Source, &stop, &ceilings, start)
+    try_leaves(search, Way::Source, &stop, &ceilings, best)
 }

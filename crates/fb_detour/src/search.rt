@@ -28,7 +28,7 @@ fn try_stop(
     track: Track,
     seeks: Seeks,
     blocks: &TrackBlocks,
-    start: Scored,
+    best: Scored,
 ) -> Scored
     requires seeks { AreSeeks search.now.disk.now.mechanism search.now.gap.now track.cylinder seeks }
     requires track { IsTrackOf search.now.disk.now.map track }
@@ -37,9 +37,9 @@ fn try_stop(
     requires its { blocks.now ≡ on_track track search.now.wanted.now }
     requires on_disk { AreOnDisk search.now.disk.now blocks.now }
     requires search { IsSearch search.now }
-    requires best { IsFound search.now start }
+    requires best { IsFound search.now best }
     ensures scored { IsFound search.now result }
-    ensures keeps { IsNoWorseIn search.now result.plan start.plan }
+    ensures keeps { IsNoWorseIn search.now result.plan best.plan }
     ensures tried { IsNoWorseThanTrack search.now result.plan track }
 {
     let mechanism = &search.disk.mechanism;
@@ -47,60 +47,60 @@ fn try_stop(
     let on = mechanism.pos_with(seeks.on, track, search.gap.target, search.gap.write);
     let arrive = search.gap.now + there;
     if search.gap.deadline < arrive + on {
-        return start;
+        return best;
     }
     let stop = stop_at(search.disk, blocks, track, arrive);
     let after = late_at(search.late, arrive + on);
-    if misses_enough(&stop, search.gap.deadline - on, after, start) {
-        return start;
+    if misses_enough(&stop, search.gap.deadline - on, after, best) {
+        return best;
     }
     let way = Way::Over(track);
     let ceilings = ceilings_of(search, way, &stop, on);
-    if none_is_better(search, &ceilings, track, start) {
-        return start;
+    if none_is_better(search, &ceilings, track, best) {
+        return best;
     }
-    try_leaves(search, way, &stop, &ceilings, start)
+    try_leaves(search, way, &stop, &ceilings, best)
 }
 
 // Tries the plans over a track, unless none can be better than the best so far.
-fn try_track(search: &Search, track: Track, seeks: Seeks, reach: Reach, start: Scored) -> Scored
+fn try_track(search: &Search, track: Track, seeks: Seeks, reach: Reach, best: Scored) -> Scored
     requires seeks { AreSeeks search.now.disk.now.mechanism search.now.gap.now track.cylinder seeks }
     requires track { IsTrackOf search.now.disk.now.map track }
     requires reach { IsReach search.now track reach }
     requires search { IsSearch search.now }
-    requires best { IsFound search.now start }
+    requires best { IsFound search.now best }
     ensures scored { IsFound search.now result }
-    ensures keeps { IsNoWorseIn search.now result.plan start.plan }
+    ensures keeps { IsNoWorseIn search.now result.plan best.plan }
     ensures tried { IsNoWorseThanTrack search.now result.plan track }
 {
     if is_same(track, search.gap.source) {
-        return start;
+        return best;
     }
     if is_same(track, search.gap.target) {
-        return start;
+        return best;
     }
     let blocks = blocks_on(search.wanted, track);
-    let most = most_by_steps(search, reach, blocks.wanted_weight(), start.value);
-    if is_enough(start, most, track) {
-        return start;
+    let most = most_by_steps(search, reach, blocks.wanted_weight(), best.value);
+    if is_enough(best, most, track) {
+        return best;
     }
-    try_stop(search, track, seeks, &blocks, start)
+    try_stop(search, track, seeks, &blocks, best)
 }
 
 // Tries the tracks of a cylinder.
-fn try_cylinder(search: &Search, cylinder: u32, rate: u64, start: Scored) -> Scored
+fn try_cylinder(search: &Search, cylinder: u32, rate: u64, best: Scored) -> Scored
     requires cylinder { cylinder < search.now.disk.now.mechanism.cylinders }
     requires rate { AreRated search.now cylinder (cylinder + 1) rate }
     requires search { IsSearch search.now }
-    requires best { IsFound search.now start }
+    requires best { IsFound search.now best }
     ensures scored { IsFound search.now result }
-    ensures keeps { IsNoWorseIn search.now result.plan start.plan }
+    ensures keeps { IsNoWorseIn search.now result.plan best.plan }
     ensures tried { IsNoWorseThanTracks search.now result.plan cylinder (cylinder + 1) }
 {
     let _cylinders = search.disk.map.geometry().cylinders();
     let seeks = seeks_over(search.disk, search.gap, cylinder);
     let reach = reach_by(search, cylinder, seeks, rate);
-    let mut best = start;
+    let mut best = best;
     for head in 0..search.disk.map.geometry().heads() {
         let track = Track { cylinder, head };
         best = try_track(search, track, seeks, reach, best);
@@ -198,34 +198,34 @@ fn greater_below(key: u64, other: u64, below: u64) -> u64
 
 // Tries the tracks of these cylinders, if their upper bound leaves it open whether one is better
 // than the best so far: part by part, that with the greatest bound first.
-fn visit(search: &Search, from: u32, end: u32, most: u64, rate: u64, start: Scored) -> Scored
+fn visit(search: &Search, from: u32, end: u32, most: u64, rate: u64, best: Scored) -> Scored
     requires within { end ≤ search.now.disk.now.mechanism.cylinders }
     requires few { search.now.disk.now.mechanism.cylinders ≤ 10 ^ 6 }
     requires most { IsCeiling search.now from end most }
     requires search { IsSearch search.now }
     requires rate { AreRated search.now from end rate }
-    requires best { IsFound search.now start }
+    requires best { IsFound search.now best }
     ensures scored { IsFound search.now result }
-    ensures keeps { IsNoWorseIn search.now result.plan start.plan }
+    ensures keeps { IsNoWorseIn search.now result.plan best.plan }
     ensures tried { IsNoWorseThanTracks search.now result.plan from end }
 {
     if end <= from {
-        return start;
+        return best;
     }
     let first = Track {
         cylinder: from,
         head: 0,
     };
-    if is_enough(start, most, first) {
-        return start;
+    if is_enough(best, most, first) {
+        return best;
     }
     if end - from == 1 {
-        return try_cylinder(search, from, rate, start);
+        return try_cylinder(search, from, rate, best);
     }
     let own = rate_in(search, from, end, rate);
     let width = width_of(end - from);
-    let keys = keys_of(search, from, end, width, own, start.value);
-    let mut best = start;
+    let keys = keys_of(search, from, end, width, own, best.value);
+    let mut best = best;
     let mut key = next_below(&keys, u64::MAX);
     while 0 < key {
         let most = (key - 1) / 8;
@@ -242,17 +242,17 @@ fn visit(search: &Search, from: u32, end: u32, most: u64, rate: u64, start: Scor
 }
 
 // Tries the tracks of all cylinders.
-pub fn try_all(search: &Search, start: Scored) -> Scored
+pub fn try_all(search: &Search, best: Scored) -> Scored
     requires search { IsSearch search.now }
-    requires best { IsFound search.now start }
+    requires best { IsFound search.now best }
     ensures scored { IsFound search.now result }
-    ensures keeps { IsNoWorseIn search.now result.plan start.plan }
+    ensures keeps { IsNoWorseIn search.now result.plan best.plan }
     ensures tried { IsNoWorseThanTracks search.now result.plan 0 search.now.disk.now.mechanism.cylinders }
 {
     let geometry = search.disk.map.geometry();
     geometry.sound();
     let end = geometry.cylinders();
     let rate = rate_over(search.disk, search.wanted, 0, end);
-    let most = most_within(search, 0, end, rate, start.value);
-    visit(search, 0, end, most, rate, start)
+    let most = most_within(search, 0, end, rate, best.value);
+    visit(search, 0, end, most, rate, best)
 }

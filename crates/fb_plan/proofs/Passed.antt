@@ -123,12 +123,12 @@ module _ (disk : Disk) (gap : Gap) (way : Way) (es : List Entry) (turning : Turn
       let end = turning-end disk turning e.block turns (on k e here) ∙ ap (block_end disk.map e.block) when in
       (o.0, o.1, o.2, ap (λ s. end_of turning.rotation s turning.from) o.3 ∙ end)
 
-  pub way_done : (best first start : Plan) (n u : ℕ) → start ≡ plan_by way turning.from → length offers ≤ n
-      → IsNoWorse disk gap (wanted_of es) best first → IsNoWorse disk gap (wanted_of es) first start
+  pub way_done : (best first earliest : Plan) (n u : ℕ) → earliest ≡ plan_by way turning.from → length offers ≤ n
+      → IsNoWorse disk gap (wanted_of es) best first → IsNoWorse disk gap (wanted_of es) first earliest
       → AreTried disk gap way (wanted_of es) turning offers n best
       → IsPlan disk gap (plan_by way u) → IsNoWorse disk gap (wanted_of es) best (plan_by way u)
-  way_done best first start n u from all b f each is =
-      let arrived = no_worse-trans disk gap (wanted_of es) best first start b f in
+  way_done best first earliest n u from all b f each is =
+      let arrived = no_worse-trans disk gap (wanted_of es) best first earliest b f in
       all_leaves disk gap way es best u disk.some_rotation
       (subst (λ p. IsNoWorse disk gap (wanted_of es) best p) (from ∙ ap (plan_by way) when) arrived)
       (λ k e at w fits.

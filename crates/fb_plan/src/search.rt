@@ -144,24 +144,24 @@ pub fn longest_stay(disk: &Disk, gap: &Gap, way: Way) -> Dwell
 ///
 /// It tries to leave on arrival and as each wanted block's passage ends: no other plan of this way
 /// is better.
-pub fn try_way(disk: &Disk, wanted: &Wanted, gap: &Gap, way: Way, start: Scored) -> Scored
+pub fn try_way(disk: &Disk, wanted: &Wanted, gap: &Gap, way: Way, best: Scored) -> Scored
     requires way { IsWay disk.now gap.now way }
     requires track { IsTrackOf disk.now.map (early_track gap.now way) }
     requires gap { IsGap disk.now gap.now }
     requires blocks { AreOnDisk disk.now wanted.now }
-    requires best { IsScored disk.now gap.now (wanted_of wanted.now) start }
+    requires best { IsScored disk.now gap.now (wanted_of wanted.now) best }
     ensures scored { IsScored disk.now gap.entry.now (wanted_of wanted.now) result }
-    ensures keeps { IsNoWorse disk.now gap.entry.now (wanted_of wanted.now) result.plan start.plan }
+    ensures keeps { IsNoWorse disk.now gap.entry.now (wanted_of wanted.now) result.plan best.plan }
     ensures tried { (leave : ℕ) → IsPlan disk.now gap.entry.now (plan_by way leave)
         → IsNoWorse disk.now gap.entry.now (wanted_of wanted.now) result.plan (plan_by way leave) }
 {
     let stay = longest_stay(disk, gap, way);
     let on = move_on(disk, gap, way);
     if gap.deadline < stay.begin + on {
-        return start;
+        return best;
     }
     let both = sides_of(disk, wanted, gap.target, stay);
-    let mut best = try_plan(disk, wanted, gap, &both, plan_by(way, stay.begin), start);
+    let mut best = try_plan(disk, wanted, gap, &both, plan_by(way, stay.begin), best);
     let offers = both.early.offers();
     for offer in offers {
         best = match end_by(&both.turning, offer.sweep, gap.deadline - on) {
@@ -173,38 +173,38 @@ pub fn try_way(disk: &Disk, wanted: &Wanted, gap: &Gap, way: Way, start: Scored)
 }
 
 // Tries all detours over a track; there is none over the source or the target.
-fn try_track(disk: &Disk, wanted: &Wanted, gap: &Gap, track: Track, start: Scored) -> Scored
+fn try_track(disk: &Disk, wanted: &Wanted, gap: &Gap, track: Track, best: Scored) -> Scored
     requires track { IsTrackOf disk.now.map track }
     requires gap { IsGap disk.now gap.now }
     requires blocks { AreOnDisk disk.now wanted.now }
-    requires best { IsScored disk.now gap.now (wanted_of wanted.now) start }
+    requires best { IsScored disk.now gap.now (wanted_of wanted.now) best }
     ensures scored { IsScored disk.now gap.entry.now (wanted_of wanted.now) result }
-    ensures keeps { IsNoWorse disk.now gap.entry.now (wanted_of wanted.now) result.plan start.plan }
+    ensures keeps { IsNoWorse disk.now gap.entry.now (wanted_of wanted.now) result.plan best.plan }
     ensures tried { (leave : ℕ) → IsPlan disk.now gap.entry.now (Plan.Detour track leave)
         → IsNoWorse disk.now gap.entry.now (wanted_of wanted.now) result.plan (Plan.Detour track leave) }
 {
     if is_same(track, gap.source) {
-        return start;
+        return best;
     }
     if is_same(track, gap.target) {
-        return start;
+        return best;
     }
-    try_way(disk, wanted, gap, Way::Over(track), start)
+    try_way(disk, wanted, gap, Way::Over(track), best)
 }
 
 /// Tries all detours over the tracks of a cylinder.
-pub fn try_cylinder(disk: &Disk, wanted: &Wanted, gap: &Gap, cylinder: u32, start: Scored) -> Scored
+pub fn try_cylinder(disk: &Disk, wanted: &Wanted, gap: &Gap, cylinder: u32, best: Scored) -> Scored
     requires cylinder { cylinder < disk.now.mechanism.cylinders }
     requires gap { IsGap disk.now gap.now }
     requires blocks { AreOnDisk disk.now wanted.now }
-    requires best { IsScored disk.now gap.now (wanted_of wanted.now) start }
+    requires best { IsScored disk.now gap.now (wanted_of wanted.now) best }
     ensures scored { IsScored disk.now gap.entry.now (wanted_of wanted.now) result }
-    ensures keeps { IsNoWorse disk.now gap.entry.now (wanted_of wanted.now) result.plan start.plan }
+    ensures keeps { IsNoWorse disk.now gap.entry.now (wanted_of wanted.now) result.plan best.plan }
     ensures tried { (head leave : ℕ) → IsPlan disk.now gap.entry.now (Plan.Detour (record { cylinder = cylinder; head = head }) leave)
         → IsNoWorse disk.now gap.entry.now (wanted_of wanted.now) result.plan
         (Plan.Detour (record { cylinder = cylinder; head = head }) leave) }
 {
-    let mut best = start;
+    let mut best = best;
     for head in 0..disk.map.geometry().heads() {
         best = try_track(disk, wanted, gap, Track { cylinder, head }, best);
     }

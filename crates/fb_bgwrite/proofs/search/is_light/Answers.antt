@@ -11,4 +11,4 @@ returns c = λ yes track low high leave is.
     let weight = c.greatest_weight_in-weight in
     let few : value disk gap (wanted_of entries) spill ≤ weight.result =
     omega (arith, by_weight disk gap entries c.requires.search.blocks track leave, weight.ensures.each track low high) in
-    enough_beats disk gap (wanted_of entries) c.args.start weight.result c.args.cylinder spill (c.is_enough.ensures yes) few low
+    enough_beats disk gap (wanted_of entries) c.args.best weight.result c.args.cylinder spill (c.is_enough.ensures yes) few low

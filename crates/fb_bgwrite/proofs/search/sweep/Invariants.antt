@@ -8,7 +8,7 @@ invariant-loop-swept l = record {
   within : l.swept.rest.end ≤ l.fn.part.end;
   rest : IsPart l.search l.swept.rest;
   valued : IsFound l.search l.swept.best;
-  keeps : IsKept l.search l.fn.start l.swept.best;
+  keeps : IsKept l.search l.fn.best l.swept.best;
   before : AreTried l.search l.swept.best l.fn.part.from l.swept.rest.from;
   behind : AreTried l.search l.swept.best l.swept.rest.end l.fn.part.end;
 }

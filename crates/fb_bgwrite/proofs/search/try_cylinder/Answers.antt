@@ -5,7 +5,7 @@ use Rattle.fb_bgwrite.proofs.search.try_cylinder.Goals as goal
 pub returns-then-part-shortest_at-clause-tried : goal.returns-then-part-shortest_at-clause-tried
 returns-then-part-shortest_at-clause-tried c = λ track low high.
     let from = c.args.part.from in
-    range_beaten c.args.search.now c.requires.search c.args.start c.requires.best c.args.part c.requires.part c.shortest_at.result
+    range_beaten c.args.search.now c.requires.search c.args.best c.requires.best c.args.part c.requires.part c.shortest_at.result
     from (from + 1) (omega arith) (omega (arith, c.requires.one)) (omega (arith, c.if-part-shortest_at.true)) c.shortest_at.ensures
     track low (omega (arith, high, c.requires.one))
 
@@ -17,7 +17,7 @@ loop-head-preserved c =
     let next = c.try_track-best in
     record {
       valued = next.ensures.valued;
-      keeps = kept_on disk gap pending c.args.start c.loop-head.best next.result c.loop-head.invariant.keeps next.ensures.keeps;
+      keeps = kept_on disk gap pending c.args.best c.loop-head.best next.result c.loop-head.invariant.keeps next.ensures.keeps;
       tried = heads_more disk gap pending c.loop-head.best next.result c.args.part.from c.loop-head.head next.ensures.keeps
           next.ensures.tried c.loop-head.invariant.tried;
     }

@@ -5,16 +5,16 @@ use Rattle.fb_bgwrite.proofs.search.try_last.Goals as goal
 pub returns-then-end-part-clause-tried : goal.returns-then-end-part-clause-tried
 returns-then-end-part-clause-tried c =
     let short = c.end_short-end in
-    range_beaten c.args.search.now c.requires.search c.args.start c.requires.best c.args.part c.requires.part (c.min-short.result + 1)
+    range_beaten c.args.search.now c.requires.search c.args.best c.requires.best c.args.part c.requires.part (c.min-short.result + 1)
     short.result c.args.part.end short.ensures.after (omega arith) (omega (arith, c.min-short.ensures)) short.ensures.each
 
 pub returns-then-is_light-clause-tried : goal.returns-then-is_light-clause-tried
 returns-then-is_light-clause-tried c =
     let search = c.args.search.now in
     let short = c.end_short-end in
-    let behind = range_beaten search c.requires.search c.args.start c.requires.best c.args.part c.requires.part (c.min-short.result + 1)
+    let behind = range_beaten search c.requires.search c.args.best c.requires.best c.args.part c.requires.part (c.min-short.result + 1)
     short.result c.args.part.end short.ensures.after (omega arith) (omega (arith, c.min-short.ensures)) short.ensures.each in
-    range_more search.disk.now search.gap.now _ c.args.start (short.result - 1) short.result c.args.part.end
+    range_more search.disk.now search.gap.now _ c.args.best (short.result - 1) short.result c.args.part.end
     (λ track low high. c.is_light.ensures c.if-is_light.true track low (omega (arith, high))) behind
 
 pub try_cylinder-requires-clause-part : goal.try_cylinder-requires-clause-part

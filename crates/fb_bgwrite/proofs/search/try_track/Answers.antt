@@ -18,7 +18,7 @@ returns-then-is_enough-clause-tried c = λ leave is.
       weight,
       c.min.ensures,
     ) in
-    enough_beats disk gap (wanted_of entries) c.args.start c.min.result c.args.track.cylinder spill
+    enough_beats disk gap (wanted_of entries) c.args.best c.min.result c.args.track.cylinder spill
     (c.is_enough.ensures c.if-is_enough.true) few (omega arith)
 
 pub returns-then-most-least_on-clause-tried : goal.returns-then-most-least_on-clause-tried
@@ -27,7 +27,7 @@ returns-then-most-least_on-clause-tried c = λ leave is.
     let gap = c.args.search.now.gap.now in
     let entries = c.args.search.now.pending.now in
     let spill : Spill = record { track = c.args.track; leave = leave } in
-    nothing_beaten disk gap (wanted_of entries) c.args.start spill c.requires.best
+    nothing_beaten disk gap (wanted_of entries) c.args.best spill c.requires.best
     (too_long_on disk gap entries spill c.requires.search.blocks.light c.least_on.result c.on-blocks.result c.args.most
     c.on-blocks.ensures.its c.least_on.ensures.each (c.requires.most leave is) (omega (arith, c.if-most-least_on.true)))
 

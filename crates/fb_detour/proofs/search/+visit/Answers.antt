@@ -6,7 +6,7 @@ use Rattle.fb_detour.proofs.search.+visit.Goals as goal
 pub loop-key-init : goal.loop-key-init
 loop-key-init n c = record {
   scored = c.requires.best;
-  keeps = itself c.args.search.now c.args.start.plan;
+  keeps = itself c.args.search.now c.args.best.plan;
   done = λ j less above. absurd (omega (
     arith,
     c.next_below-key.ensures.greatest j less (omega (arith, (c.keys_of-keys.ensures j less).small)),
@@ -22,7 +22,7 @@ loop-key-preserved n c =
     let new = c.visit-best in
     let next = c.next_below-key-in-loop-key in record {
       scored = new.ensures.scored;
-      keeps = through search new.result.plan c.loop-key.best.plan c.args.start.plan new.ensures.keeps old.keeps;
+      keeps = through search new.result.plan c.loop-key.best.plan c.args.best.plan new.ensures.keeps old.keeps;
       done = part-more search c.args.from c.args.end c.width_of-width.result c.keys_of-keys.result c.keys_of-keys.ensures
           new.result.plan c.loop-key.best.plan c.loop-key.key next.result c.min-upto.result (old.among c.loop-key-test.true)
           c.min-upto.ensures next.ensures.greatest new.ensures.keeps old.done new.ensures.tried;
