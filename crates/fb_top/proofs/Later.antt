@@ -19,7 +19,7 @@ use Rattle.fb_words.specs.Command.{ReplayTerms}
 use Rattle.fb_top.specs.Sources.{InputTerms, SourceTerms, files_alone, name_of, replay_inputs}
 use Rattle.fb_top.specs.declared.outcome.Outcome.{Outcome}
 use Rattle.fb_top.specs.declared.outcome.Outcome.TheVariants as outcomes
-use Rattle.fb_top.specs.Read.{ReadsScript, Files, inputs_of}
+use Rattle.fb_top.specs.Read.{ReadsScript, Files, inputs_of_files}
 use Rattle.fb_top.specs.Streams.{ReadsAs}
 use Rattle.fb_top.specs.Causes.{AcceptsBefore, AcceptsDisk, AcceptsTrace, EndsAt, HasCause, IsTooLong, IsUnread, KeepsLater, StopsCalls}
 use Rattle.fb_top.specs.Causes.{StopsDisk, StopsInputs, StopsPuts, StopsReading, StopsReport, StopsScript, StopsTrace, input_of}
@@ -179,7 +179,7 @@ all_requests disk (request ∷ requests) all = (
 pub is_accepted : (files : Files) (key : Key) (until : ℕ) → AllByRecursion (λ lbn. lbn < length (places files.disk.map)) files.latent
     → IsTraceOf (length (places files.disk.map)) files.trace.requests
     → IsScript files.disk.map (length files.trace.requests) files.script.calls → until ≤ 10 ^ 15
-    → IsAccepted (inputs_of files key until)
+    → IsAccepted (inputs_of_files files key until)
 is_accepted files key until inside trace script late = record {
   latent = inside;
   requests = all_requests files.disk files.trace.requests trace.servable;

@@ -8,7 +8,7 @@ use Rattle.fb_check.proofs.PrintingNames.{scripts_name}
 use Rattle.fb_check.proofs.PrintingRows.{can_be_printed}
 use Rattle.fb_desk.specs.View.{DeskView}
 use Rattle.fb_words.specs.Command.{ReplayTerms}
-use Rattle.fb_top.specs.Read.{ReadsScript, inputs_of, key_of}
+use Rattle.fb_top.specs.Read.{ReadsScript, inputs_of_files, key_of}
 use Rattle.fb_top.specs.Done.{CanBeRead, IsRunOf}
 
 named : (desk : DeskView) (given : Option (List ℕ)) (disk : Disk) (traced : ℕ) (script : Script) → ReadsScript desk given disk traced script
@@ -18,7 +18,7 @@ named desk (Some name) disk traced script reads = scripts_name disk.map traced r
 
 pub run_can_be_read : (desk : DeskView) (terms : ReplayTerms) (run : Run) (is_run : IsRunOf desk terms run) → CanBeRead is_run.files run
 run_can_be_read desk terms run is_run =
-    let rows = can_be_printed (inputs_of is_run.files (key_of terms.policy) terms.until) run is_run.accepted is_run.full in
+    let rows = can_be_printed (inputs_of_files is_run.files (key_of terms.policy) terms.until) run is_run.accepted is_run.full in
     record {
       some_bytes = let bytes = is_run.files.disk.some_bytes in omega arith;
       names = named desk terms.calls is_run.files.disk _ is_run.files.script is_run.accepts.script;

@@ -15,7 +15,7 @@ use Rattle.fb_top.specs.declared.outcome.Outcome.TheVariants as outcomes
 use Rattle.fb_top.specs.Calm.{IsCalm, MeetsNoFault}
 use Rattle.fb_top.specs.Causes.{HasCause, IsCut, RunsOut}
 use Rattle.fb_top.specs.Done.{AreReadBack, CanBeRead, HoldsReports, HoldsWanted, IsRunOf, back_told, fore_told}
-use Rattle.fb_top.specs.Read.{AcceptsPuts, Files, inputs_of, key_of}
+use Rattle.fb_top.specs.Read.{AcceptsPuts, Files, inputs_of_files, key_of}
 use Rattle.fb_top.specs.Sources.{replay_inputs}
 use Rattle.fb_top.specs.Spilled.{CutsSpill, HoldsBoth, HoldsReplay, HoldsSpill, IsSpillOf, StopsReplay, StopsSpill, WritesGiven, WritesPuts}
 use Rattle.fb_top.specs.Spilled.{spill_told}
@@ -116,7 +116,7 @@ module _ (terms : ReplayTerms) (files : Files) (puts : Option PutsRead) (old mid
     };
   }
 
-  module _ (run : Run) (full : IsFull (inputs_of files (key_of terms.policy) terms.until) run) where
+  module _ (run : Run) (full : IsFull (inputs_of_files files (key_of terms.policy) terms.until) run) where
     abbrev is_run : IsRunOf old terms run
     is_run = record { files = files; accepts = takes.accepts; sound = takes.sound; accepted = takes.fit; full = full }
 

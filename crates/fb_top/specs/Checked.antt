@@ -18,7 +18,7 @@ use Rattle.fb_desk.specs.declared.desk.Output.{Output}
 use Rattle.fb_desk.specs.declared.desk.Output.TheVariants.{Fore}
 use Rattle.fb_words.specs.Command.{CheckTerms}
 use Rattle.fb_top.specs.declared.outcome.Outcome.{Outcome}
-use Rattle.fb_top.specs.Read.{Files, Accepts, ReadsReport, inputs_of, key_of}
+use Rattle.fb_top.specs.Read.{Files, Accepts, ReadsReport, inputs_of_files, key_of}
 use Rattle.fb_top.specs.Sources.{check_sources}
 use Rattle.fb_top.specs.Written.{HoldsWhole, KeepsBut, StopsText}
 
@@ -65,7 +65,7 @@ pub record ArePrintedCalm (old new : DeskView) : Type 0 where
 pub record JudgesBack (desk : DeskView) (terms : CheckTerms) (files : Files) (fore : List (List ℕ)) (verdict : Verdict) : Type 0 where
   pub back : List (List ℕ)
   pub back_read : ReadsReport desk terms.back back_grammar back
-  pub verdict_is : IsVerdict (inputs_of files (key_of terms.policy) terms.until)
+  pub verdict_is : IsVerdict (inputs_of_files files (key_of terms.policy) terms.until)
       (record { names = files.script.names; bytes = terms.bytes; fore = fore; back = back }) verdict
 
 -- the lines of both reports under the names that the words give, and the verdict on them by these files
@@ -79,7 +79,7 @@ pub record IsVerdictOf (desk : DeskView) (terms : CheckTerms) (verdict : Verdict
   pub files : Files
   pub accepts : Accepts desk (check_sources terms) files
   pub sound : IsSound files.disk.map
-  pub accepted : IsAccepted (inputs_of files (key_of terms.policy) terms.until)
+  pub accepted : IsAccepted (inputs_of_files files (key_of terms.policy) terms.until)
   pub judges : JudgesBy desk terms files verdict
 
 -- the verdict's line is written under the name `-`, and nothing else was written

@@ -17,7 +17,7 @@ use Rattle.fb_desk.specs.View.{DeskView}
 use Rattle.fb_desk.specs.declared.desk.Input.TheVariants.{Trace}
 use Rattle.fb_words.specs.Command.{ArrayTerms, RebuildTerms}
 use Rattle.fb_top.specs.declared.devices.ArrayFiles.{ArrayFiles}
-use Rattle.fb_top.specs.Read.{Files, ReadsDisk, inputs_of, key_of}
+use Rattle.fb_top.specs.Read.{Files, ReadsDisk, inputs_of_files, key_of}
 use Rattle.fb_top.specs.declared.outcome.Outcome.{Outcome}
 use Rattle.fb_top.specs.declared.outcome.Outcome.TheVariants as outcomes
 use Rattle.fb_top.specs.Causes.{AcceptsDisk, EndsAt, StopsInputs, StopsReading}
@@ -80,7 +80,7 @@ device_files rebuild array device trace = record {
 
 -- what the run of a device is made from
 abbrev pub device_inputs : ArrayTerms → Array → ℕ → Accepted → Inputs
-device_inputs terms array device trace = inputs_of (device_files terms.rebuild array device trace) (key_of terms.policy) terms.until
+device_inputs terms array device trace = inputs_of_files (device_files terms.rebuild array device trace) (key_of terms.policy) terms.until
 
 -- an accepted disk, and a trace that is refused for one of the devices
 pub record RefusesDeviceInTurn (desk : DeskView) (terms : ArrayTerms) (fault : TraceFault) : Type 0 where

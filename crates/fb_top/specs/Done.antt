@@ -17,7 +17,7 @@ use Rattle.fb_words.specs.Command.{ReplayTerms}
 use Rattle.fb_top.specs.declared.outcome.Outcome.{Outcome}
 use Rattle.fb_top.specs.declared.outcome.Outcome.TheVariants as outcomes
 use Rattle.fb_puts.specs.Reading.{Accepted as PutsRead}
-use Rattle.fb_top.specs.Read.{Files, Accepts, AcceptsPuts, inputs_of, key_of}
+use Rattle.fb_top.specs.Read.{Files, Accepts, AcceptsPuts, inputs_of_files, key_of}
 use Rattle.fb_top.specs.Sources.{replay_sources}
 use Rattle.fb_top.specs.Written.{HoldsWhole, KeepsButBoth, CutsOff, CutsSecond, OutputFaultsRose}
 
@@ -26,8 +26,8 @@ pub record IsRunOf (desk : DeskView) (terms : ReplayTerms) (run : Run) : Type 0 
   pub files : Files
   pub accepts : Accepts desk (replay_sources terms) files
   pub sound : IsSound files.disk.map
-  pub accepted : IsAccepted (inputs_of files (key_of terms.policy) terms.until)
-  pub full : IsFull (inputs_of files (key_of terms.policy) terms.until) run
+  pub accepted : IsAccepted (inputs_of_files files (key_of terms.policy) terms.until)
+  pub full : IsFull (inputs_of_files files (key_of terms.policy) terms.until) run
 
 -- rows that a report can show: at most a million in the foreground, and each task of the background has a name
 pub record CanBeTold (names : List (List ℕ)) (run : Run) : Type 0 where

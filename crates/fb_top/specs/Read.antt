@@ -104,8 +104,8 @@ key_of Clook = clook
 key_of Sptf = sptf
 
 -- what a run is made from
-abbrev pub inputs_of : Files → Key → ℕ → Inputs
-inputs_of files key until = record {
+abbrev pub inputs_of_files : Files → Key → ℕ → Inputs
+inputs_of_files files key until = record {
   disk = files.disk;
   latent = files.latent;
   trace = files.trace.requests;

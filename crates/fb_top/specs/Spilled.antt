@@ -18,7 +18,7 @@ use Rattle.fb_desk.specs.declared.desk.Output.TheVariants.{Fore, Back, Spill}
 use Rattle.fb_words.specs.Command.{ReplayTerms}
 use Rattle.fb_top.specs.declared.outcome.Outcome.{Outcome}
 use Rattle.fb_top.specs.declared.outcome.Outcome.TheVariants as outcomes
-use Rattle.fb_top.specs.Read.{AcceptsPuts, Files, inputs_of, puts_terms}
+use Rattle.fb_top.specs.Read.{AcceptsPuts, Files, inputs_of_files, puts_terms}
 use Rattle.fb_top.specs.Done.{AreReadBack, HoldsReports, HoldsWanted, IsRunOf, StopsReports, back_told, fore_told}
 use Rattle.fb_top.specs.Written.{HoldsFront, HoldsWhole, KeepsButThree, OutputFaultsRose, joined}
 
@@ -31,7 +31,7 @@ pub record CanBeSpilled (files : Files) (puts : PutsRead) : Type 0 where
 pub record IsRunOfFiles (files : Files) (run : Run) : Type 0 where
   pub key : Key
   pub until : ℕ
-  pub full : IsFull (inputs_of files key until) run
+  pub full : IsFull (inputs_of_files files key until) run
 
 -- what is written of puts in the free gaps of a run
 pub record WritesPuts (disk : Disk) (run : Run) (puts : PutsRead) (spill : SpillRun) : Type 0 where

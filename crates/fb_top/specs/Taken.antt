@@ -15,7 +15,7 @@ use Rattle.fb_top.specs.declared.outcome.Outcome.{Outcome}
 use Rattle.fb_top.specs.declared.outcome.Outcome.TheVariants as outcomes
 use Rattle.fb_top.specs.declared.reading.Workload.{Workload}
 use Rattle.fb_top.specs.Devices.{AcceptsArray, Array}
-use Rattle.fb_top.specs.Read.{Accepts, AcceptsPuts, Files, inputs_of, key_of}
+use Rattle.fb_top.specs.Read.{Accepts, AcceptsPuts, Files, inputs_of_files, key_of}
 use Rattle.fb_top.specs.Sources.{array_inputs, check_sources, files_alone, replay_inputs, replay_sources}
 use Rattle.fb_top.specs.Unnamed.{KeepsUnnamed}
 
@@ -33,7 +33,7 @@ pub record TakesReplay (terms : ReplayTerms) (files : Files) (puts : Option Puts
   pub accepts : Accepts old (replay_sources terms) files
   pub accepts_puts : AcceptsPuts old terms.puts files puts
   pub sound : IsSound files.disk.map
-  pub fit : IsAccepted (inputs_of files (key_of terms.policy) terms.until)
+  pub fit : IsAccepted (inputs_of_files files (key_of terms.policy) terms.until)
   pub unnamed : KeepsUnnamed (replay_inputs terms) old new
   pub outputs : KeepsOutputs old new
 
@@ -46,7 +46,7 @@ done_as run (Some spill) = outcomes.Spilled run spill
 pub record TakesCheck (terms : CheckTerms) (files : Files) (old new : DeskView) : Type 0 where
   pub accepts : Accepts old (check_sources terms) files
   pub sound : IsSound files.disk.map
-  pub fit : IsAccepted (inputs_of files (key_of terms.policy) terms.until)
+  pub fit : IsAccepted (inputs_of_files files (key_of terms.policy) terms.until)
   pub held : (name : List ℕ) → new.held name ≡ old.held name
   pub unnamed : KeepsUnnamed (files_alone (check_sources terms)) old new
   pub outputs : KeepsOutputs old new

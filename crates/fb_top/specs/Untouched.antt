@@ -23,7 +23,7 @@ use Rattle.fb_top.specs.Checked.{IsVerdictOf}
 use Rattle.fb_top.specs.Complete.{TellsReport}
 use Rattle.fb_top.specs.Sources.{SourceTerms, check_sources, replay_sources}
 use Rattle.fb_top.specs.Limits.{report_limit}
-use Rattle.fb_top.specs.Read.{Files, inputs_of, key_of}
+use Rattle.fb_top.specs.Read.{Files, inputs_of_files, key_of}
 use Rattle.fb_top.specs.Array.{AreRunsOf, device_line, section}
 use Rattle.fb_top.specs.Done.{IsDone, IsRunOf, fore_told}
 use Rattle.fb_top.specs.Spilled.{IsSpilled}
@@ -71,7 +71,8 @@ abbrev pub RunsLookNotAhead : Type 0
 RunsLookNotAhead = (one other : DeskView) (terms others : ReplayTerms) (run run' : Run) (is_run : IsRunOf one terms run)
     (is_other : IsRunOf other others run') (t : ℕ)
     → t < run.end → t < run'.end
-    → AgreeUpTo t (inputs_of is_run.files (key_of terms.policy) terms.until) (inputs_of is_other.files (key_of others.policy) others.until)
+    → AgreeUpTo t (inputs_of_files is_run.files (key_of terms.policy) terms.until)
+    (inputs_of_files is_other.files (key_of others.policy) others.until)
     → SameKnown t run run'
 
 -- a check asks for what a replay asked for: the same policy and end, and files of the same bytes

@@ -12,7 +12,7 @@ ghost use Rattle.fb_report.specs.declared.reading.Report.TheVariants as reports;
 ghost use Rattle.fb_top.specs.Causes.{CheckHasCause, StopsPrinted, StopsReport, refused_as};
 ghost use Rattle.fb_top.specs.Checked.{ArePrintedCalm, ChangesPrinted, JudgesBack, JudgesBy, verdict_line};
 ghost use Rattle.fb_top.specs.Opened.{IsOpenedAs, OpensAsNamed};
-ghost use Rattle.fb_top.specs.Read.{files_of, inputs_of, key_of};
+ghost use Rattle.fb_top.specs.Read.{files_of, inputs_of_files, key_of};
 ghost use Rattle.fb_top.specs.Sources.{check_inputs, check_sources, sources_of};
 ghost use Rattle.fb_top.specs.Taken.{TakesCheck};
 ghost use Rattle.fb_top.specs.Unnamed.{KeepsUnnamed};
@@ -20,7 +20,7 @@ ghost use Rattle.fb_top.specs.Written.{HoldsWhole, StopsText};
 
 use crate::Outcome;
 use crate::policy::judge_by;
-use crate::reading::{ReplayFiles, Sources, read_inputs, read_printed};
+use crate::reading::{ReplayFiles, Sources, read_files, read_printed};
 use crate::verdict_line::verdict_line;
 use crate::writing::write_made;
 use fb_check::{Printed, Verdict};
@@ -40,7 +40,7 @@ pub fn run_check<D: Desk>(alloc: Global, desk: &mut D, words: &CheckWords) -> Ou
     ensures calm { MeetsNoFault result (D.seen desk.old) (D.seen desk.new) }
     ensures no_note { (D.seen desk.new).outputs Output.Note ≡ (D.seen desk.old).outputs Output.Note }
 {
-    match read_inputs(alloc, desk, &sources(words)) {
+    match read_files(alloc, desk, &sources(words)) {
         Ok(files) => check_read(alloc, desk, words, &files),
         Err(outcome) => outcome,
     }
@@ -56,7 +56,7 @@ fn check_read<D: Desk>(
     requires fresh_fore { ((D.seen desk.old).inputs Input.ForeReport).opened ≡ false }
     requires fresh_back { ((D.seen desk.old).inputs Input.BackReport).opened ≡ false }
     requires fresh { ((D.seen desk.old).outputs Output.Fore).begun ≡ false }
-    requires fit { IsAccepted (inputs_of (files_of files.now) (key_of words.now.policy) words.now.until) }
+    requires fit { IsAccepted (inputs_of_files (files_of files.now) (key_of words.now.policy) words.now.until) }
     requires names { length files.now.calls.names ≡ length (tasks files.now.calls.calls.items) }
     ensures cause { (first : DeskView) → TakesCheck (check_terms words.now) (files_of files.now) first (D.seen desk.old)
         → CheckHasCause (check_terms words.now) first (D.seen desk.new) result }
@@ -100,7 +100,7 @@ fn judge_printed<D: Desk>(
 ) -> Result<Verdict, Outcome>
     requires fresh_fore { ((D.seen desk.old).inputs Input.ForeReport).opened ≡ false }
     requires fresh_back { ((D.seen desk.old).inputs Input.BackReport).opened ≡ false }
-    requires fit { IsAccepted (inputs_of (files_of files.now) (key_of words.now.policy) words.now.until) }
+    requires fit { IsAccepted (inputs_of_files (files_of files.now) (key_of words.now.policy) words.now.until) }
     requires names { length files.now.calls.names ≡ length (tasks files.now.calls.calls.items) }
     ensures only { ChangesPrinted (D.seen desk.old) (D.seen desk.new) }
     ensures fore { IsOpenedAs (check_terms words.now).fore (D.seen desk.old) ((D.seen desk.new).inputs Input.ForeReport) }
@@ -128,7 +128,7 @@ fn judge_with<D: Desk>(
     fore: &ReportLines<'_>,
 ) -> Result<Verdict, Outcome>
     requires fresh { ((D.seen desk.old).inputs Input.BackReport).opened ≡ false }
-    requires fit { IsAccepted (inputs_of (files_of files.now) (key_of words.now.policy) words.now.until) }
+    requires fit { IsAccepted (inputs_of_files (files_of files.now) (key_of words.now.policy) words.now.until) }
     requires names { length files.now.calls.names ≡ length (tasks files.now.calls.calls.items) }
     requires fore { IsReport fore_grammar fore.now }
     ensures only { ChangesInput Input.BackReport (D.seen desk.old) (D.seen desk.new) }
@@ -151,7 +151,7 @@ fn judge_with<D: Desk>(
         fore,
         back: &back,
     };
-    match judge_by(alloc, words.policy, files.inputs(words.until), printed) {
+    match judge_by(alloc, words.policy, files.run_inputs(words.until), printed) {
         Ok(verdict) => Ok(verdict),
         Err(NoMemory) => Err(Outcome::NoMemory),
     }

@@ -10,11 +10,11 @@ ghost use Rattle.fb_trace.specs.Servable.{IsTraceOf};
 ghost use Rattle.fb_trace.specs.Verdict.{accepted};
 ghost use Rattle.fb_calls.specs.Allowed.{IsScript, tasks};
 ghost use Rattle.fb_script.specs.Verdict.{accepted as accepted_calls};
-ghost use Rattle.fb_decide.specs.RunInputs.{inputs_of as run_inputs_of};
+ghost use Rattle.fb_decide.specs.RunInputs.{inputs_of};
 ghost use Rattle.fb_model.specs.Accepted.{IsAccepted};
 ghost use Rattle.fb_model.specs.PlainReplay.{Key};
 ghost use Rattle.fb_top.specs.Sources.{files_alone, sources_of};
-ghost use Rattle.fb_top.specs.Read.{Accepts, ReadsCalls, ReadsDisk, ReadsScript, ReadsTrace, files_of, inputs_of};
+ghost use Rattle.fb_top.specs.Read.{Accepts, ReadsCalls, ReadsDisk, ReadsScript, ReadsTrace, files_of, inputs_of_files};
 ghost use Rattle.fb_top.specs.Causes.{StopsCalls, StopsDisk, StopsInputs, StopsReading, StopsReport, StopsScript, StopsTrace};
 ghost use Rattle.fb_top.specs.Causes.{input_of};
 ghost use Rattle.fb_top.specs.Limits.{limit_of};
@@ -73,8 +73,8 @@ struct Workload {
 impl ReplayFiles {
     /// The inputs of a replay of these files. `until` is the instant, in ns, at most 10^15, up to which
     /// the head goes on reading background when nothing else is left to do.
-    pub fn inputs(&self, until: Ns) -> RunInputs<'_>
-        ensures inputs { (key : Key) → run_inputs_of result key ≡ inputs_of (files_of self.now) key until }
+    pub fn run_inputs(&self, until: Ns) -> RunInputs<'_>
+        ensures inputs { (key : Key) → inputs_of result key ≡ inputs_of_files (files_of self.now) key until }
         ensures calls { result.calls.now ≡ self.now.calls }
     {
         RunInputs {
@@ -91,7 +91,7 @@ impl ReplayFiles {
 /// any.
 ///
 /// The error is the outcome of the first file that can't be read or is refused.
-pub fn read_inputs<D: Desk>(
+pub fn read_files<D: Desk>(
     alloc: Global,
     desk: &mut D,
     sources: &Sources<'_>,
@@ -100,7 +100,8 @@ pub fn read_inputs<D: Desk>(
     ensures held { (name : List ℕ) → (D.seen desk.new).held name ≡ (D.seen desk.old).held name }
     ensures outputs { KeepsOutputs (D.seen desk.old) (D.seen desk.new) }
     ensures accepts { IfOk result (λ files. Accepts (D.seen desk.old) (sources_of sources.now) (files_of files)) }
-    ensures fit { IfOk result (λ files. (key : Key) (until : ℕ) → until ≤ 10 ^ 15 → IsAccepted (inputs_of (files_of files) key until)) }
+    ensures fit { IfOk result (λ files. (key : Key) (until : ℕ) → until ≤ 10 ^ 15
+        → IsAccepted (inputs_of_files (files_of files) key until)) }
     ensures sound { IfOk result (λ files. IsSound files.params.disk.map) }
     ensures names { IfOk result (λ files. length files.calls.names ≡ length (tasks files.calls.calls.items)) }
     ensures cause { IfErr result (StopsInputs (files_alone (sources_of sources.now)) (D.seen desk.old) (D.seen desk.new)) }

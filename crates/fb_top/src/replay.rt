@@ -14,7 +14,7 @@ ghost use Rattle.fb_top.specs.Calm.{AreOutputsCalm, MeetsNoFault};
 ghost use Rattle.fb_top.specs.Causes.{HasCause};
 ghost use Rattle.fb_top.specs.Done.{AreReadBack, CanBeRead, CanBeTold};
 ghost use Rattle.fb_top.specs.Opened.{OpensAsNamed};
-ghost use Rattle.fb_top.specs.Read.{files_of, inputs_of, key_of};
+ghost use Rattle.fb_top.specs.Read.{files_of, inputs_of_files, key_of};
 ghost use Rattle.fb_top.specs.Sources.{replay_inputs};
 ghost use Rattle.fb_top.specs.Spilled.{CanBeSpilled, HoldsReplay, IsRunOfFiles, StopsReplay, WritesGiven};
 ghost use Rattle.fb_top.specs.Taken.{TakesReplay, done_as};
@@ -47,7 +47,7 @@ pub fn run_replay<D: Desk>(alloc: Global, desk: &mut D, words: &ReplayWords) -> 
     ensures no_note { (D.seen desk.new).outputs Output.Note ≡ (D.seen desk.old).outputs Output.Note }
 {
     match read_replay_inputs(alloc, desk, words) {
-        Ok(inputs) => replay_and_write(alloc, desk, words, &inputs),
+        Ok(read) => replay_and_write(alloc, desk, words, &read),
         Err(outcome) => outcome,
     }
 }
@@ -57,26 +57,26 @@ fn replay_and_write<D: Desk>(
     alloc: Global,
     desk: &mut D,
     words: &ReplayWords,
-    inputs: &ReplayInputs,
+    read: &ReplayInputs,
 ) -> Outcome
     requires fresh { (output : Output) → ((D.seen desk.old).outputs output).begun ≡ false }
-    requires fit { IsAccepted (inputs_of (files_of inputs.now.files) (key_of words.now.policy) words.now.until) }
-    requires fit_puts { IfSome inputs.now.puts (λ puts. CanBeSpilled (files_of inputs.now.files) (accepted puts)) }
-    requires names { length inputs.now.files.calls.names ≡ length (tasks inputs.now.files.calls.calls.items) }
-    requires named { is_some inputs.now.puts ≡ is_some (replay_terms words.now).spill }
+    requires fit { IsAccepted (inputs_of_files (files_of read.now.files) (key_of words.now.policy) words.now.until) }
+    requires fit_puts { IfSome read.now.puts (λ puts. CanBeSpilled (files_of read.now.files) (accepted puts)) }
+    requires names { length read.now.files.calls.names ≡ length (tasks read.now.files.calls.calls.items) }
+    requires named { is_some read.now.puts ≡ is_some (replay_terms words.now).spill }
     ensures cause { (first : DeskView)
-        → TakesReplay (replay_terms words.now) (files_of inputs.now.files) (option_map accepted inputs.now.puts) first (D.seen desk.old)
+        → TakesReplay (replay_terms words.now) (files_of read.now.files) (option_map accepted read.now.puts) first (D.seen desk.old)
         → HasCause (replay_terms words.now) first (D.seen desk.new) result }
     ensures calm { MeetsNoFault result (D.seen desk.old) (D.seen desk.new) }
     ensures no_note { (D.seen desk.new).outputs Output.Note ≡ (D.seen desk.old).outputs Output.Note }
     ensures inputs { KeepsInputs (D.seen desk.old) (D.seen desk.new) }
 {
-    let files = &inputs.files;
-    let run = match replay_by(alloc, words.policy, files.inputs(words.until)) {
+    let files = &read.files;
+    let run = match replay_by(alloc, words.policy, files.run_inputs(words.until)) {
         Ok(run) => run,
         Err(NoMemory) => return Outcome::NoMemory,
     };
-    let spill = match spill_given(alloc, inputs, &run) {
+    let spill = match spill_given(alloc, read, &run) {
         Ok(spill) => spill,
         Err(NoMemory) => return Outcome::NoMemory,
     };
@@ -97,19 +97,15 @@ fn outcome_of(run: Run, spill: Option<SpillRun>) -> Outcome
 }
 
 // What is written in the free gaps of a run, if there are puts. The only error is out of memory.
-fn spill_given(
-    alloc: Global,
-    inputs: &ReplayInputs,
-    run: &Run,
-) -> Result<Option<SpillRun>, NoMemory>
-    requires full { IsRunOfFiles (files_of inputs.now.files) run.now }
+fn spill_given(alloc: Global, read: &ReplayInputs, run: &Run) -> Result<Option<SpillRun>, NoMemory>
+    requires full { IsRunOfFiles (files_of read.now.files) run.now }
     requires early { run.now.end ≤ 9 * 10 ^ 18 }
-    requires fit { IfSome inputs.now.puts (λ puts. CanBeSpilled (files_of inputs.now.files) (accepted puts)) }
-    ensures writes { IfOk result (WritesGiven (files_of inputs.now.files).disk run.now (option_map accepted inputs.now.puts)) }
+    requires fit { IfSome read.now.puts (λ puts. CanBeSpilled (files_of read.now.files) (accepted puts)) }
+    ensures writes { IfOk result (WritesGiven (files_of read.now.files).disk run.now (option_map accepted read.now.puts)) }
     ensures told { IfOk result (λ spill. IfSome spill (λ spill. AllByRecursion HasRange spill.items)) }
 {
-    match &inputs.puts {
-        Some(puts) => Ok(Some(spill(alloc, &inputs.files.params.disk, run, puts)?)),
+    match &read.puts {
+        Some(puts) => Ok(Some(spill(alloc, &read.files.params.disk, run, puts)?)),
         None => Ok(None),
     }
 }

@@ -10,7 +10,7 @@ ghost use Rattle.fb_words.specs.Verdict.{replay_terms};
 ghost use Rattle.fb_top.specs.Calm.{AreInputsCalm};
 ghost use Rattle.fb_top.specs.Causes.{StopsInputs};
 ghost use Rattle.fb_top.specs.Opened.{OpensAsNamed};
-ghost use Rattle.fb_top.specs.Read.{Accepts, AcceptsPuts, files_of, inputs_of, key_of};
+ghost use Rattle.fb_top.specs.Read.{Accepts, AcceptsPuts, files_of, inputs_of_files, key_of};
 ghost use Rattle.fb_top.specs.Sources.{replay_inputs, replay_sources, sources_of};
 ghost use Rattle.fb_top.specs.Spilled.{CanBeSpilled};
 ghost use Rattle.fb_top.specs.Taken.{KeepsOutputs};
@@ -18,7 +18,7 @@ ghost use Rattle.fb_top.specs.Unnamed.{KeepsUnnamed};
 
 use crate::Outcome;
 use crate::puts::read_given_puts;
-use crate::reading::{ReplayFiles, Sources, read_inputs};
+use crate::reading::{ReplayFiles, Sources, read_files};
 use fb_desk::Desk;
 use fb_puts::Puts;
 use fb_words::ReplayWords;
@@ -48,7 +48,7 @@ pub fn read_replay_inputs<D: Desk>(
     ensures accepts { IfOk result (λ inputs. Accepts (D.seen desk.old) (replay_sources (replay_terms words.now)) (files_of inputs.files)) }
     ensures puts { IfOk result
         (λ inputs. AcceptsPuts (D.seen desk.old) (replay_terms words.now).puts (files_of inputs.files) (option_map accepted inputs.puts)) }
-    ensures fit { IfOk result (λ inputs. IsAccepted (inputs_of (files_of inputs.files) (key_of words.now.policy) words.now.until)) }
+    ensures fit { IfOk result (λ inputs. IsAccepted (inputs_of_files (files_of inputs.files) (key_of words.now.policy) words.now.until)) }
     ensures fit_puts { IfOk result (λ inputs. IfSome inputs.puts (λ puts. CanBeSpilled (files_of inputs.files) (accepted puts))) }
     ensures sound { IfOk result (λ inputs. IsSound inputs.files.params.disk.map) }
     ensures names { IfOk result (λ inputs. length inputs.files.calls.names ≡ length (tasks inputs.files.calls.calls.items)) }
@@ -57,7 +57,7 @@ pub fn read_replay_inputs<D: Desk>(
     ensures opened { OpensAsNamed (replay_inputs (replay_terms words.now)) (D.seen desk.old) (D.seen desk.new) }
     ensures calm { IfOk result (λ _. AreInputsCalm (D.seen desk.old) (D.seen desk.new)) }
 {
-    let files = match read_inputs(alloc, desk, &sources(words)) {
+    let files = match read_files(alloc, desk, &sources(words)) {
         Ok(files) => files,
         Err(outcome) => return Err(outcome),
     };

@@ -10,7 +10,7 @@ use Rattle.fb_top.proofs.check.run_check.Goals as goal
 pub returns-in-Ok-clause-cause : goal.returns-in-Ok-clause-cause
 returns-in-Ok-clause-cause g c =
     let old = g.D.Desk.seen c.args.desk.now in
-    let mid = g.D.Desk.seen c.read_inputs.new.desk in
+    let mid = g.D.Desk.seen c.read_files.new.desk in
     c.check_read.ensures.cause old (record {
       accepts = subst (λ (s : SourceTerms). Accepts old s (files_of c.in-Ok.files)) c.sources.ensures c.in-Ok.ensures.accepts;
       sound = c.in-Ok.ensures.sound;
@@ -23,6 +23,6 @@ returns-in-Ok-clause-cause g c =
 pub returns-in-Err-clause-cause : goal.returns-in-Err-clause-cause
 returns-in-Err-clause-cause g c =
     let old = g.D.Desk.seen c.args.desk.now in
-    let new = g.D.Desk.seen c.read_inputs.new.desk in
+    let new = g.D.Desk.seen c.read_files.new.desk in
     check_files_stopped (check_terms c.args.words.now) old new c.in-Err.outcome
     (subst (λ (s : SourceTerms). StopsInputs (files_alone s) old new c.in-Err.outcome) c.sources.ensures c.in-Err.ensures.cause)

@@ -9,7 +9,7 @@ use Rattle.fb_words.specs.Verdict.{replay_terms}
 use Rattle.fb_top.specs.declared.outcome.Outcome.{Outcome}
 use Rattle.fb_top.specs.Calm.{MeetsNoFault}
 use Rattle.fb_top.specs.Causes.{HasCause}
-use Rattle.fb_top.specs.Read.{files_of, inputs_of, key_of}
+use Rattle.fb_top.specs.Read.{files_of, inputs_of_files, key_of}
 use Rattle.fb_top.specs.Done.{CanBeTold}
 use Rattle.fb_top.specs.Spilled.{HoldsReplay, StopsReplay}
 use Rattle.fb_top.proofs.Opened.{calm_both}
@@ -20,14 +20,16 @@ use Rattle.fb_top.proofs.replay.replay_and_write.Goals.{In-Ok}
 
 -- the run is the full run of the files
 full : (g : given.Over) (c : In-Ok g)
-    → IsFull (inputs_of (files_of c.args.inputs.now.files) (key_of c.args.words.now.policy) c.args.words.now.until) c.in-Ok.run'
+    → IsFull (inputs_of_files (files_of c.args.read.now.files) (key_of c.args.words.now.policy) c.args.words.now.until) c.in-Ok.run'
 full g c =
-    subst (λ (inputs : Inputs). IsFull inputs c.in-Ok.run') (c.inputs.ensures.inputs (key_of c.args.words.now.policy)) c.in-Ok.ensures.full
+    subst (λ (inputs : Inputs). IsFull inputs c.in-Ok.run') (c.run_inputs.ensures.inputs (key_of c.args.words.now.policy))
+    c.in-Ok.ensures.full
 
 pub replay_by-requires : goal.replay_by-requires
 replay_by-requires g c = record {
-  fit = subst IsAccepted (sym (c.inputs.ensures.inputs (key_of c.args.words.now.policy))) c.requires.fit;
-  names = subst (λ (calls : Calls). length calls.names ≡ length (tasks calls.calls.items)) (sym c.inputs.ensures.calls) c.requires.names;
+  fit = subst IsAccepted (sym (c.run_inputs.ensures.inputs (key_of c.args.words.now.policy))) c.requires.fit;
+  names = subst (λ (calls : Calls). length calls.names ≡ length (tasks calls.calls.items)) (sym c.run_inputs.ensures.calls)
+      c.requires.names;
 }
 
 pub returns-in-Err-clause-cause : goal.returns-in-Err-clause-cause
@@ -45,14 +47,14 @@ returns-in-Err-spill_given-clause-cause g c = λ first takes. inl (replay_ran_ou
 
 pub write_replay-requires-clause-told : goal.write_replay-requires-clause-told
 write_replay-requires-clause-told g c =
-    subst (λ (calls : Calls). CanBeTold calls.names c.in-Ok.run') c.inputs.ensures.calls c.in-Ok.ensures.told
+    subst (λ (calls : Calls). CanBeTold calls.names c.in-Ok.run') c.run_inputs.ensures.calls c.in-Ok.ensures.told
 
 pub returns-in-Err-write_replay-clause-cause : goal.returns-in-Err-write_replay-clause-cause
 returns-in-Err-write_replay-clause-cause g c = λ first takes.
     let mid = g.D.Desk.seen c.args.desk.now in
     let new = g.D.Desk.seen c.write_replay.new.desk in
     let terms = replay_terms c.args.words.now in
-    let files = files_of c.args.inputs.now.files in
+    let files = files_of c.args.read.now.files in
     let run = c.in-Ok.run' in
     let is_full = full g (goal.at.returns-in-Err-write_replay-clause-cause g c).In-Ok in
     at_replay terms files _ first mid takes run is_full c.in-Ok-spill_given.spill c.in-Ok-spill_given.ensures.writes new
@@ -65,7 +67,7 @@ returns-in-Ok-write_replay-clause-cause g c = λ first takes.
     let mid = g.D.Desk.seen c.args.desk.now in
     let new = g.D.Desk.seen c.write_replay.new.desk in
     let terms = replay_terms c.args.words.now in
-    let files = files_of c.args.inputs.now.files in
+    let files = files_of c.args.read.now.files in
     let run = c.in-Ok.run' in
     let is_full = full g (goal.at.returns-in-Ok-write_replay-clause-cause g c).In-Ok in
     subst (λ (outcome : Outcome). HasCause terms first new outcome) (sym c.outcome_of.ensures)

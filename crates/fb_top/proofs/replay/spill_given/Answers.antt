@@ -1,5 +1,5 @@
 use Rattle.fb_puts.specs.Verdict.{accepted, reserve}
-use Rattle.fb_top.specs.Read.{files_of, inputs_of}
+use Rattle.fb_top.specs.Read.{files_of, inputs_of_files}
 use Rattle.fb_top.specs.Spilled.{CanBeSpilled}
 use Rattle.fb_top.proofs.Spills.{holds_of}
 use Rattle.fb_top.proofs.RunGaps.{run_gaps}
@@ -10,9 +10,9 @@ pub spill-requires : goal.spill-requires
 spill-requires c =
     let run = c.args.run.now in
     let full = c.requires.full.full in
-    let inputs = inputs_of (files_of c.args.inputs.now.files) c.requires.full.key c.requires.full.until in
-    let fit : CanBeSpilled (files_of c.args.inputs.now.files) (accepted c.in-Some.puts) =
-    holds_of _ c.args.inputs.now.puts c.in-Some.puts c.in-Some.is c.requires.fit in
+    let inputs = inputs_of_files (files_of c.args.read.now.files) c.requires.full.key c.requires.full.until in
+    let fit : CanBeSpilled (files_of c.args.read.now.files) (accepted c.in-Some.puts) =
+    holds_of _ c.args.read.now.puts c.in-Some.puts c.in-Some.is c.requires.fit in
     record {
       possible = full.sound.possible;
       early = c.requires.early;

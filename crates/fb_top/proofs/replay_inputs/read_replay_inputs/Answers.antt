@@ -21,7 +21,7 @@ unnamed_then : (g : given.Over) (c : After-read_given_puts g)
     (g.D.Desk.seen c.read_given_puts.new.desk)
 unnamed_then g c =
     puts_unnamed (replay_inputs (replay_terms c.args.words.now)) _ c.sources.ensures
-    (g.D.Desk.seen c.args.desk.now) (g.D.Desk.seen c.read_inputs.new.desk) (g.D.Desk.seen c.read_given_puts.new.desk)
+    (g.D.Desk.seen c.args.desk.now) (g.D.Desk.seen c.read_files.new.desk) (g.D.Desk.seen c.read_given_puts.new.desk)
     c.in-Ok.ensures.held c.in-Ok.ensures.outputs c.in-Ok.ensures.unnamed c.read_given_puts.ensures.only
     (λ none. c.read_given_puts.ensures.unnamed (c.puts_name.ensures ∙ none))
 
@@ -30,7 +30,7 @@ opened_then : (g : given.Over) (c : After-read_given_puts g)
     (g.D.Desk.seen c.read_given_puts.new.desk)
 opened_then g c =
     let old = g.D.Desk.seen c.args.desk.now in
-    let mid = g.D.Desk.seen c.read_inputs.new.desk in
+    let mid = g.D.Desk.seen c.read_files.new.desk in
     let new = g.D.Desk.seen c.read_given_puts.new.desk in
     puts_opened (replay_inputs (replay_terms c.args.words.now)) _ c.sources.ensures old mid new c.in-Ok.ensures.held
     c.in-Ok.ensures.outputs c.in-Ok.ensures.unnamed
@@ -42,21 +42,21 @@ opened_then g c =
 pub returns-in-Err-clause-cause : goal.returns-in-Err-clause-cause
 returns-in-Err-clause-cause g c =
     let old = g.D.Desk.seen c.args.desk.now in
-    let new = g.D.Desk.seen c.read_inputs.new.desk in
+    let new = g.D.Desk.seen c.read_files.new.desk in
     files_stopped (replay_inputs (replay_terms c.args.words.now)) old new c.in-Err.outcome
     (subst (λ (s : SourceTerms). StopsInputs (files_alone s) old new c.in-Err.outcome) c.sources.ensures c.in-Err.ensures.cause)
 
 pub returns-in-Err-clause-unnamed : goal.returns-in-Err-clause-unnamed
 returns-in-Err-clause-unnamed g c =
     let old = g.D.Desk.seen c.args.desk.now in
-    let new = g.D.Desk.seen c.read_inputs.new.desk in
+    let new = g.D.Desk.seen c.read_files.new.desk in
     files_unnamed (replay_inputs (replay_terms c.args.words.now)) old new
     (subst (λ (s : SourceTerms). KeepsUnnamed (files_alone s) old new) c.sources.ensures c.in-Err.ensures.unnamed)
 
 pub returns-in-Err-clause-opened : goal.returns-in-Err-clause-opened
 returns-in-Err-clause-opened g c =
     let old = g.D.Desk.seen c.args.desk.now in
-    let new = g.D.Desk.seen c.read_inputs.new.desk in
+    let new = g.D.Desk.seen c.read_files.new.desk in
     files_opened (replay_inputs (replay_terms c.args.words.now)) old new
     (subst (λ (s : SourceTerms). KeepsUnnamed (files_alone s) old new) c.sources.ensures c.in-Err.ensures.unnamed)
     c.requires.unused (subst (λ (s : SourceTerms). OpensAsNamed (files_alone s) old new) c.sources.ensures c.in-Err.ensures.opened)
@@ -69,7 +69,7 @@ returns-in-Ok-read_given_puts-clause-accepts g c =
 pub returns-in-Ok-read_given_puts-clause-puts : goal.returns-in-Ok-read_given_puts-clause-puts
 returns-in-Ok-read_given_puts-clause-puts g c =
     let old = g.D.Desk.seen c.args.desk.now in
-    let mid = g.D.Desk.seen c.read_inputs.new.desk in
+    let mid = g.D.Desk.seen c.read_files.new.desk in
     let new = g.D.Desk.seen c.read_given_puts.new.desk in
     let terms = replay_inputs (replay_terms c.args.words.now) in
     let files = files_of c.in-Ok.files in
@@ -92,14 +92,14 @@ returns-in-Ok-read_given_puts-clause-opened g c =
 pub returns-in-Ok-read_given_puts-clause-calm : goal.returns-in-Ok-read_given_puts-clause-calm
 returns-in-Ok-read_given_puts-clause-calm g c =
     puts_calm (replay_inputs (replay_terms c.args.words.now)) _ c.sources.ensures
-    (g.D.Desk.seen c.args.desk.now) (g.D.Desk.seen c.read_inputs.new.desk) (g.D.Desk.seen c.read_given_puts.new.desk)
+    (g.D.Desk.seen c.args.desk.now) (g.D.Desk.seen c.read_files.new.desk) (g.D.Desk.seen c.read_given_puts.new.desk)
     c.in-Ok.ensures.held c.in-Ok.ensures.outputs c.in-Ok.ensures.unnamed c.in-Ok-read_given_puts.ensures.only c.in-Ok.ensures.calm
     c.in-Ok-read_given_puts.ensures.calm
 
 pub returns-in-Err-read_given_puts-clause-cause : goal.returns-in-Err-read_given_puts-clause-cause
 returns-in-Err-read_given_puts-clause-cause g c =
     let old = g.D.Desk.seen c.args.desk.now in
-    let mid = g.D.Desk.seen c.read_inputs.new.desk in
+    let mid = g.D.Desk.seen c.read_files.new.desk in
     let new = g.D.Desk.seen c.read_given_puts.new.desk in
     let terms = replay_inputs (replay_terms c.args.words.now) in
     let outcome = c.in-Err-read_given_puts.outcome in

@@ -6,7 +6,7 @@ use Rattle.fb_report.specs.Grammar.{back_grammar, ended, fore_grammar}
 use Rattle.fb_check.specs.Verdict.{Reports}
 use Rattle.fb_words.specs.declared.command.Policy.{Policy}
 use Rattle.std.specs.Prelude.{map}
-use Rattle.fb_top.specs.Read.{Accepts, Files, inputs_of, key_of}
+use Rattle.fb_top.specs.Read.{Accepts, Files, inputs_of_files, key_of}
 use Rattle.fb_top.specs.Sources.{SourceTerms, replay_sources}
 use Rattle.fb_top.proofs.OneRun.{one_reading}
 use Rattle.fb_top.proofs.RightReports.{is_yes, read_as}
@@ -21,10 +21,10 @@ returns c = λ one other terms checks run verdict is_run is_verdict asks own.
     let judges = is_verdict.judges in
     let printed : Reports =
     record { names = is_verdict.files.script.names; bytes = checks.bytes; fore = judges.fore; back = judges.judges_back.back } in
-    is_yes c.one_full_run.ensures (inputs_of is_verdict.files (key_of checks.policy) checks.until) printed run is_verdict.accepted
-    (subst (λ (files : Files). IsFull (inputs_of files (key_of checks.policy) checks.until) run) same
-    (subst (λ (policy : Policy). IsFull (inputs_of is_run.files (key_of policy) checks.until) run) (sym asks.policy)
-    (subst (λ (until : ℕ). IsFull (inputs_of is_run.files (key_of terms.policy) until) run) (sym asks.until) is_run.full)))
+    is_yes c.one_full_run.ensures (inputs_of_files is_verdict.files (key_of checks.policy) checks.until) printed run is_verdict.accepted
+    (subst (λ (files : Files). IsFull (inputs_of_files files (key_of checks.policy) checks.until) run) same
+    (subst (λ (policy : Policy). IsFull (inputs_of_files is_run.files (key_of policy) checks.until) run) (sym asks.policy)
+    (subst (λ (until : ℕ). IsFull (inputs_of_files is_run.files (key_of terms.policy) until) run) (sym asks.until) is_run.full)))
     (subst (λ (files : Files). fore_lines files.disk.sector_bytes checks.bytes run ≡ map ended judges.fore) same
     (read_as other checks.fore fore_grammar _ judges.fore own.fore judges.fore_read))
     (subst (λ (files : Files). back_lines files.script.names files.disk.sector_bytes checks.bytes run ≡ map ended judges.judges_back.back)

@@ -1,12 +1,12 @@
 use Rattle.std.proofs.Common.{ap, sym, ◌∙◌}
-use Rattle.fb_top.specs.Read.{inputs_of, key_of}
+use Rattle.fb_top.specs.Read.{inputs_of_files, key_of}
 use Rattle.fb_top.proofs.SameText.{same_text}
 use Rattle.fb_top.proofs.untouched.scripts_leave_the_foreground.Goals as goal
 
 pub returns : goal.returns
 returns c = λ one other terms others run run' is_run is_other bytes policy asks.
-    let fore = c.foreground_is_untouched.ensures (inputs_of is_run.files (key_of terms.policy) terms.until) (inputs_of is_other.files
-    (key_of others.policy) others.until) run run'
+    let fore = c.foreground_is_untouched.ensures (inputs_of_files is_run.files (key_of terms.policy) terms.until)
+    (inputs_of_files is_other.files (key_of others.policy) others.until) run run'
     (record {
       disk = asks.disk;
       latent = asks.latent;

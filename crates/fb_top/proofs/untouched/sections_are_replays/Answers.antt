@@ -7,7 +7,7 @@ use Rattle.fb_report.specs.Fore.{fore_text}
 use Rattle.fb_report.specs.Summary.{summary_text}
 use Rattle.fb_top.specs.Array.{device_line}
 use Rattle.fb_top.specs.Devices.{device_inputs}
-use Rattle.fb_top.specs.Read.{ReadsDisk, ReadsScript, ReadsTrace, inputs_of, key_of}
+use Rattle.fb_top.specs.Read.{ReadsDisk, ReadsScript, ReadsTrace, inputs_of_files, key_of}
 use Rattle.fb_top.proofs.OneRun.{one_disk, one_trace, one_value}
 use Rattle.fb_top.proofs.OneSection.{device_reads, devices_promote_none}
 use Rattle.fb_top.proofs.SameText.{same_text}
@@ -31,7 +31,7 @@ returns c = λ one other terms replay runs run run' are_runs is_run asks at.
     one_disk one other terms.params array.disk files.disk array.latent files.latent asks.params_alike are_runs.accepts.disk reads_disk in
     let trace = one_trace one other terms.trace device array.disk files.disk mine.trace files.trace disk asks.trace_alike
     (device_reads one terms.trace terms.devices array.disk array.traces are_runs.accepts.traces device mine.trace mine.here) reads_trace in
-    let fore = c.foreground_is_untouched.ensures (device_inputs terms array device mine.trace) (inputs_of files
+    let fore = c.foreground_is_untouched.ensures (device_inputs terms array device mine.trace) (inputs_of_files files
     (key_of replay.policy) replay.until) run run' (record {
       disk = disk;
       latent = ap (λ v. v.latent) value;

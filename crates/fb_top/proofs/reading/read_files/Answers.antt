@@ -5,7 +5,7 @@ use Rattle.fb_top.specs.Taken.{files_on}
 use Rattle.fb_top.proofs.Later.{at_params, is_accepted}
 use Rattle.fb_top.proofs.Unnamed.{unnamed_at_params}
 use Rattle.fb_top.proofs.Opened.{opened_at_params}
-use Rattle.fb_top.proofs.reading.read_inputs.Goals as goal
+use Rattle.fb_top.proofs.reading.read_files.Goals as goal
 
 pub returns-in-Err-clause-cause : goal.returns-in-Err-clause-cause
 returns-in-Err-clause-cause g c =
