@@ -9,7 +9,7 @@ use Rattle.fb_units.specs.Tracks.{same_track}
 use Rattle.fb_seek.specs.Mechanics.{Mechanics}
 use Rattle.fb_seek.specs.Positioning.{pos}
 use Rattle.fb_service.specs.declared.disk.Disk.{Disk}
-use Rattle.fb_wanted.proofs.Kept.{turned_other}
+use Rattle.fb_wanted.proofs.Kept.{swapped_other}
 use Rattle.fb_rows.specs.declared.gap.Gap.{Gap}
 use Rattle.fb_rows.specs.declared.gap.Plan.{Plan}
 use Rattle.fb_rows.specs.declared.gap.Plan.TheVariants.{Direct, Detour}
@@ -80,7 +80,7 @@ lead_gap disk gap (Detour track leave) plan =
     let arrived = leave + pos disk.mechanism track gap.target gap.write in
     lead_on disk gap.source track gap.target gap.now there gap.deadline (move gap.source track false gap.now there ∷ [])
     (stay track there leave ∷ move track gap.target gap.write leave arrived ∷ arrival disk gap track leave ∷ [])
-    (lead_move disk gap.source track false gap.now (turned_other track gap.source plan.not_source))
+    (lead_move disk gap.source track false gap.now (swapped_other track gap.source plan.not_source))
     (lead_on disk track track gap.target there leave gap.deadline (stay track there leave ∷ [])
     (move track gap.target gap.write leave arrived ∷ arrival disk gap track leave ∷ [])
     (lead_stay disk track there leave plan.after_arrival)

@@ -7,7 +7,7 @@ use Rattle.fb_tasks.proofs.Words.{choose_in, is_better, is_busy, is_chosen, unch
 use Rattle.fb_tasks.proofs.Words.{Stands, MayChoose, AreReported, IsSegmentOf, HasNoChoice, HoldsBlocks, IsQuiet, IsAtWork}
 use Rattle.fb_tasks.proofs.Words.{HaveChosen, choosable_by, flat_same, some_at, number_other, each_set, step_to}
 use Rattle.fb_tasks.proofs.Words.{AllByRecursion, sum_by, best_of, flat_map, fold, range_with_len, sum_by-cons, slice_get_within, Block}
-use Rattle.fb_tasks.proofs.Words.{chosen-silent, MayChooseAndTest, TaskView, nil_from_length, HasTurned, kept_segment}
+use Rattle.fb_tasks.proofs.Words.{chosen-silent, MayChooseAndTest, TaskView, nil_from_length, HasChosenUpTo, kept_segment}
 use Rattle.fb_tasks.proofs.{ChoiceSteps.best_left, ChoiceSteps.chosen_blocks, ChoiceSteps.chosen_for, ChoiceSteps.next_view}
 use Rattle.fb_tasks.proofs.{States.seen, Segmented.numbered_given, ChoiceSteps.once_is, ChoiceSteps.left_less, ChoiceSteps.added_own}
 use Rattle.fb_tasks.proofs.{ChoiceSteps.segment_rows_of, ChoiceSteps.segment_rows_is, ChoiceSteps.few_less, ChoiceSteps.best_of_left}
@@ -39,29 +39,29 @@ in_by : (disk : Shape) (past : Past) (task : ℕ) (session : Session) (b : Bool)
 in_by disk past task session b stands is = rw (in_is disk past task, stands.terms, sym stands.closed, is) refl
 
 -- a task that stays
-pub still-turned : {disk : Shape} {past new : Past} {task now : ℕ} {session : Session} {held : List Entry} {rows : List BackRow} → new
+pub still-chosen : {disk : Shape} {past new : Past} {task now : ℕ} {session : Session} {held : List Entry} {rows : List BackRow} → new
     ≡ past
-    → MayChoose disk past task session held → HasTurned disk past new task now session held rows rows
-still-turned still may = rw still (record { may = may; rows = λ before so_far. so_far })
+    → MayChoose disk past task session held → HasChosenUpTo disk past new task now session held rows rows
+still-chosen still may = rw still (record { may = may; rows = λ before so_far. so_far })
 
-pub idle-turned : {disk : Shape} {past : Past} {task now : ℕ} {session : Session} {held : List Entry} {rows : List BackRow}
+pub idle-chosen : {disk : Shape} {past : Past} {task now : ℕ} {session : Session} {held : List Entry} {rows : List BackRow}
     → (is_clean session.kind && not session.closed) ≡ false → MayChoose disk past task session held
-    → HasTurned disk past (choose_in disk past task) task now session held rows rows
-idle-turned {disk} {past} {task} {now} {session} none may = still-turned (in_by disk past task session false may.stands none) may
+    → HasChosenUpTo disk past (choose_in disk past task) task now session held rows rows
+idle-chosen {disk} {past} {task} {now} {session} none may = still-chosen (in_by disk past task session false may.stands none) may
 
-pub turned-on : {disk : Shape} {past mid new : Past} {task now : ℕ} {before session : Session} {was held : List Entry}
+pub chosen-on : {disk : Shape} {past mid new : Past} {task now : ℕ} {before session : Session} {was held : List Entry}
     {old rows more : List BackRow}
-    → HasTurned disk past mid task now before was old rows → HasTurned disk mid new task now session held rows more
-    → HasTurned disk past new task now session held old more
-turned-on a b = record { may = b.may; rows = λ start so_far. b.rows start (a.rows start so_far) }
+    → HasChosenUpTo disk past mid task now before was old rows → HasChosenUpTo disk mid new task now session held rows more
+    → HasChosenUpTo disk past new task now session held old more
+chosen-on a b = record { may = b.may; rows = λ start so_far. b.rows start (a.rows start so_far) }
 
--- after as many turns as there are segments, or after one that changed nothing, all was chosen
-pub turns_in : {disk : Shape} {past : Past} {task : ℕ} {session : Session} {held : List Entry} (k n : ℕ)
+-- after as many choices as there are segments, or after one that changed nothing, all was chosen
+pub choices_in : {disk : Shape} {past : Past} {task : ℕ} {session : Session} {held : List Entry} (k n : ℕ)
     → (is_clean session.kind && not session.closed) ≡ true
     → n ≡ length session.log.segments → MayChoose disk past task session held → k ≤ n
     → (0 < n - k → choose_once disk task (choose_up_to k disk task past) ≡ choose_up_to k disk task past)
     → choose_in disk past task ≡ choose_up_to k disk task past
-turns_in {disk} {past} {task} {session} k n may_be count may le still =
+choices_in {disk} {past} {task} {session} k n may_be count may le still =
     let log = may.stands.log (and_parts (is_clean session.kind) (not session.closed) may_be).0 in
     let as_many : length (view past task).segments ≡ k + (n - k) = omega
     (arith, count, ap length log.segments, length-map (view past task).segments (kept_segment (view past task).work)) in
@@ -287,9 +287,9 @@ module _ {disk : Shape} {past : Past} {instant : ℕ} {before : List BackRow} wh
   pub partly-more : {sessions : List Session} {held now : List Entry} {rows more : List BackRow} {n : ℕ} {session new : Session}
       → slice_get sessions n ≡ Some session
       → new.touched ≡ session.touched → Partly disk past sessions held instant before rows n
-      → HasTurned disk (past_at disk past n) (choose_in disk (past_at disk past n) n) n instant new now rows more
+      → HasChosenUpTo disk (past_at disk past n) (choose_in disk (past_at disk past n) n) n instant new now rows more
       → Partly disk past (set sessions n new) now instant before more (n + 1)
-  partly-more {sessions} {held} {now} {rows} {more} {n} {session} {new} at flag h turned =
+  partly-more {sessions} {held} {now} {rows} {more} {n} {session} {new} at flag h chosen =
       let old = past_at disk past n in
       let after = choose_in disk (past_at disk past n) n in
       let same = λ (other : ℕ) (differ : n ≡ other → ⊥). in_same disk n other old differ in
@@ -300,14 +300,14 @@ module _ {disk : Shape} {past : Past} {instant : ℕ} {before : List BackRow} wh
       let kept = flat_same (segment_rows_found after instant) (segment_rows_found old instant) (range_with_len 0 n)
       (all_range (λ k. segment_rows_found after instant k ≡ segment_rows_found old instant k) 0 n
       (λ k le lt. rows-same old after k instant (same k (λ e. absurd (omega arith))))) in
-      let given = turned.rows rows
+      let given = chosen.rows rows
       (rw (reported_rows old instant n ((h.each n session at).later (omega arith))) (sym (append-nil rows))) in
       record {
         begun = rw (past_more disk past n) (record {
           as_many = length-set sessions n new ∙ h.as_many;
           each = each_set (λ t. Begins (n + 1) t (view after t)) sessions n new (record {
-            stands = turned.may.stands;
-            at_work = turned.may.at_work;
+            stands = chosen.may.stands;
+            at_work = chosen.may.at_work;
             later = λ le. absurd (omega arith);
             chosen = λ _. no-choice-left disk n old (h.blocks.placed n).segments;
             quiet = λ untouched. let was = (h.each n session at).quiet (sym flag ∙ untouched) in rw (stays disk n old was.chosen) was;
@@ -315,7 +315,7 @@ module _ {disk : Shape} {past : Past} {instant : ℕ} {before : List BackRow} wh
               let later : n + 1 ≤ t → AreReported (view old t).work = λ le. was.later (omega arith) in
               let chosen : t < n + 1 → HasNoChoice (view old t) = λ less. was.chosen (grind arith) in
               rw (same t differ) (assumption (later, chosen, was)));
-          blocks = turned.may.blocks;
+          blocks = chosen.may.blocks;
           few = omega (arith, h.few, fewer, rest, left_split (choosable_by disk old) n (length (tasks past)) within);
         });
         rows_are = rw (past_more disk past n) (rows_more (segment_rows_found after instant) before rows more
@@ -331,7 +331,7 @@ module _ {disk : Shape} {past : Past} {instant : ℕ} {before : List BackRow} wh
       let found = some_at sessions k (omega (arith, within)) in
       let still = stays disk k (past_at disk past k) ((now.each k found.0 found.1).quiet (untouched k found.0 from to found.1)).chosen in
       subst (λ xs. Partly disk past xs held instant before rows (k + 1)) (set_same sessions k found.0 found.1)
-      (partly-more found.1 refl now (still-turned still (partly-may found.1 now)))) h
+      (partly-more found.1 refl now (still-chosen still (partly-may found.1 now)))) h
 
 -- after the choices of all tasks
 pub all-chosen : {disk : Shape} {past : Past} {sessions : List Session} {held : List Entry} {instant : ℕ} {before rows : List BackRow}

@@ -12,7 +12,7 @@ use Rattle.fb_tasks.proofs.Words.{Ascend, IsAtNumber, entry_of, Stands, MayChoos
 use Rattle.fb_tasks.proofs.Words.{all_append, all_filter, all_pass, all_flat, all_same, number_other, none_pass, one_or_other, some_same}
 use Rattle.fb_tasks.proofs.Words.{filter_same, nat_tests, or-true, length-map, map-append, nil_from_length, filter-append, Kind, is_backup}
 use Rattle.fb_tasks.proofs.Words.{is_clean, ContentRun, runs_of, sectors_of, BackRow, SegmentLine, segment_rows_found, is_newly_cleaned}
-use Rattle.fb_tasks.proofs.Words.{found_for, held_at, HasTurned}
+use Rattle.fb_tasks.proofs.Words.{found_for, held_at, HasChosenUpTo}
 use Rattle.fb_tasks.proofs.Registered.{fresh_wanted, no_smaller, numbered_joined, registered-entries, named_same}
 use Rattle.fb_tasks.proofs.Cuts.{cuts_own, cuts_numbered, cuts_count}
 use Rattle.fb_tasks.proofs.Segmented.{NumberedFrom, at_number, live_placed, live_cover, live_ascend, numbered_given, choice_kept}
@@ -335,9 +335,9 @@ module _ {disk : Shape} {past : Past} {task : ℕ} {session : Session} {held : L
     by_left free (s ∷ ss) are = absurd (none-some (best_of is_better s ss).number
         (sym is ∙ choice_kept v.work going session.log log_is.segments (grind (arith, may.at_work cleans.0, free)) (s ∷ ss) are))
 
-  pub none-turned : (log : clean.Cleaning) (now : ℕ) (rows : List BackRow) → clean.choice_of session.log ≡ None → log ≡ session.log
-      → HasTurned disk past (choose_once disk task past) task now (record session { log = log }) held rows rows
-  none-turned log now rows is same = rw (none-step is, same) (record { may = may; rows = λ before so_far. so_far })
+  pub none-chosen : (log : clean.Cleaning) (now : ℕ) (rows : List BackRow) → clean.choice_of session.log ≡ None → log ≡ session.log
+      → HasChosenUpTo disk past (choose_once disk task past) task now (record session { log = log }) held rows rows
+  none-chosen log now rows is same = rw (none-step is, same) (record { may = may; rows = λ before so_far. so_far })
 
   -- a chosen session stands as it did, but for its log
   chosen-stands : (best : LogSegment) (log : clean.Cleaning) → Cleans (after best).work log
@@ -441,9 +441,9 @@ module _ {disk : Shape} {past : Past} {task : ℕ} {session : Session} {held : L
       live_length = rw (live-now, may.stands.terms) refl
 
       -- some give blocks: their segment is not cleaned, and has no row
-      pub live-turned : 0 < length (clean.live_of log number)
-          → HasTurned disk past (choose_once disk task past) task instant (record session { log = log }) now old old
-      live-turned some =
+      pub live-chosen : 0 < length (clean.live_of log number)
+          → HasChosenUpTo disk past (choose_once disk task past) task instant (record session { log = log }) now old old
+      live-chosen some =
           let chosen =
           chosen-by disk task v step.best session.log log_is step.idle going step.left some_block (may.blocks.placed task).numbered in
           let some_added : 0 < length (added step.best) = omega (
@@ -464,7 +464,7 @@ module _ {disk : Shape} {past : Past} {task : ℕ} {session : Session} {held : L
           })
 
       -- none gives no blocks: its segment is cleaned, and has its row
-      pub empty-turned : (rows : List BackRow) (content : List ContentRun) → length (clean.live_of log number) ≡ 0 → content ≡ []
+      pub empty-chosen : (rows : List BackRow) (content : List ContentRun) → length (clean.live_of log number) ≡ 0 → content ≡ []
           → rows ≡ old ++ SegmentLine (record {
             task = task;
             segment = number;
@@ -473,9 +473,9 @@ module _ {disk : Shape} {past : Past} {task : ℕ} {session : Session} {held : L
                 (clean.live_of log number);
             content = content;
           }) ∷ []
-          → HasTurned disk past (choose_once disk task past) task instant
+          → HasChosenUpTo disk past (choose_once disk task past) task instant
           (record session { log = record log { unfinished = None } }) now old rows
-      empty-turned rows content none nothing rows_are =
+      empty-chosen rows content none nothing rows_are =
           let live_none : clean.live_blocks v.terms.block step.best.first step.best.live ≡ [] =
           nil_from_length (clean.live_blocks v.terms.block step.best.first step.best.live) (sym live_length ∙ none) in
           let empty : added step.best ≡ [] = rw (← cuts_of_live disk v.terms.block step.best.first step.best.live, live_none) refl in

@@ -86,7 +86,7 @@ pub use Rattle.fb_tasks.specs.Keeping.{new_entries, without_aborted}
 pub use Rattle.fb_tasks.specs.Leaving.{HasBegun, HasGrown, MayClean, OnlyRegisters, OnlyTouched, by_calls, entries_by}
 pub use Rattle.fb_tasks.specs.Listing.{AreListed, IsNoted}
 pub use Rattle.fb_tasks.specs.Script.{IsCalled}
-pub use Rattle.fb_tasks.specs.Standing.{AreNumbered, AreReported, AreRowsOf, Ascend, Cleans, CleansBy, HasChosen, HasNoChoice, HasTurned}
+pub use Rattle.fb_tasks.specs.Standing.{AreNumbered, AreReported, AreRowsOf, Ascend, Cleans, CleansBy, HasChosen, HasChosenUpTo, HasNoChoice}
 pub use Rattle.fb_tasks.specs.Standing.{HaveChosen}
 pub use Rattle.fb_tasks.specs.Standing.{HoldsBlock, HoldsBlocks, HoldsChoice, HoldsImage, IsAtNumber, IsAtWork, IsBlockOf, IsCutFrom}
 pub use Rattle.fb_tasks.specs.Standing.{IsPlaced, IsQuiet, IsReady, IsSegmentOf, IsTested, IsUntouched, MayChoose, MayFinish, Stands, Told}

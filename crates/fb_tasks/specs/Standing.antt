@@ -223,7 +223,7 @@ pub record MayChoose (disk : Shape) (past : Past) (task : ℕ) (session : Sessio
   pub few : length (registered past) + choosable_by disk past task ≤ 16 * 10 ^ 6
 
 -- choices were made up to a later history: the session may choose on, and the rows of what they cleaned at once follow
-pub record HasTurned (disk : Shape) (past new : Past) (task now : ℕ) (session : Session) (held : List Entry)
+pub record HasChosenUpTo (disk : Shape) (past new : Past) (task now : ℕ) (session : Session) (held : List Entry)
     (old more : List BackRow) : Type 0 where
   pub may : MayChoose disk new task session held
   pub rows : (before : List BackRow) → old ≡ before ++ segment_rows_found past now task → more

@@ -4,7 +4,7 @@ ghost use Rattle.fb_calls.specs.Sessions.{is_clean};
 ghost use Rattle.fb_model.specs.History.{Past};
 ghost use Rattle.fb_model.specs.Segments.{choose_once, choose_in};
 ghost use Rattle.fb_tasks.specs.Leaving.{HasGrown, OnlyRegisters, by_calls};
-ghost use Rattle.fb_tasks.specs.Standing.{MayChoose, HasTurned};
+ghost use Rattle.fb_tasks.specs.Standing.{MayChoose, HasChosenUpTo};
 
 use crate::session::{Session, Stamp};
 use crate::wanting::want_live;
@@ -29,7 +29,8 @@ impl Session {
     ) -> Result<(), NoMemory>
         requires { (past : Past) × MayChoose map.now past stamp.task self.old wanted.old }
         ensures chosen { OnOk result ((past : Past) → MayChoose map.now past stamp.task self.old wanted.old
-            → HasTurned map.now past (choose_in map.now past stamp.task) stamp.task stamp.instant self.new wanted.new rows.old rows.new) }
+            → HasChosenUpTo map.now past (choose_in map.now past stamp.task) stamp.task stamp.instant self.new wanted.new
+            rows.old rows.new) }
         ensures same { (by_calls self.new ≡ by_calls self.old) × (self.new.touched ≡ self.old.touched) }
         ensures own { OnlyRegisters (λ other. other ≡ stamp.task) wanted.old wanted.new }
         ensures idle { (is_clean self.old.kind && not self.old.closed) ≡ false → wanted.new ≡ wanted.old }
@@ -38,7 +39,7 @@ impl Session {
         if !self.may_choose() {
             return Ok(());
         }
-        for _turn in 0..self.log.len() {
+        for _choice in 0..self.log.len() {
             if !self.choose_one(alloc, map, wanted, stamp, rows)? {
                 return Ok(());
             }
@@ -69,7 +70,8 @@ impl Session {
         requires cleans { (is_clean self.old.kind ≡ true) × (self.old.closed ≡ false) }
         requires may { (past : Past) × MayChoose map.now past stamp.task self.old wanted.old }
         ensures chosen { IfOk result (λ some. (past : Past) → MayChoose map.now past stamp.task self.old wanted.old
-            → HasTurned map.now past (choose_once map.now stamp.task past) stamp.task stamp.instant self.new wanted.new rows.old rows.new) }
+            → HasChosenUpTo map.now past (choose_once map.now stamp.task past) stamp.task stamp.instant self.new wanted.new
+            rows.old rows.new) }
         ensures same { (by_calls self.new ≡ by_calls self.old) × (self.new.touched ≡ self.old.touched) }
         ensures own { OnlyRegisters (λ other. other ≡ stamp.task) wanted.old wanted.new }
         ensures grown { HasGrown rows.old rows.new }

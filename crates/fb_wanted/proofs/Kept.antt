@@ -22,11 +22,11 @@ use Rattle.fb_wanted.proofs.Numbers.{numbered-more, small-more}
 use Rattle.fb_wanted.proofs.Counted.{counts-grown, counts-grown_other, counts-with_state, counts-with_other}
 use Rattle.fb_wanted.proofs.Weights.{weight-append, weight-with_state, weight_elsewhere, weight_unwanted, weight_at}
 
-pub turned_track : (a b : Track) → same_track a b ≡ true → same_track b a ≡ true
-turned_track a b h = grind (arith, nat_tests)
+pub swapped_track : (a b : Track) → same_track a b ≡ true → same_track b a ≡ true
+swapped_track a b h = grind (arith, nat_tests)
 
-pub turned_other : (a b : Track) → same_track a b ≡ false → same_track b a ≡ false
-turned_other a b h = grind (arith, nat_tests)
+pub swapped_other : (a b : Track) → same_track a b ≡ false → same_track b a ≡ false
+swapped_other a b h = grind (arith, nat_tests)
 
 -- what the look-up has for two tasks is equal if each part is
 same_blocks : (a b : OfTask) → a.indexes ≡ b.indexes → a.counts ≡ b.counts → a ≡ b
@@ -79,46 +79,47 @@ kept_still es tasks tracks new h same_indexes same_weights = record {
 }
 
 module _ (s : State) (n : ℕ) (e : Entry) (es : List Entry) (tracks new : List (List OnTrack)) (at : slice_get es n ≡ Some e) where
-  abbrev pub turned : Entry
-  turned = record { block = e.block; state = s }
+  abbrev pub changed_entry : Entry
+  changed_entry = record { block = e.block; state = s }
 
   abbrev change : OnTrack → OnTrack
-  change = reweighed (wanted_weight e.block.track (e ∷ [])) (wanted_weight e.block.track (turned ∷ []))
+  change = reweighed (wanted_weight e.block.track (e ∷ [])) (wanted_weight e.block.track (changed_entry ∷ []))
 
   weight_there : (t : Track) (w : ℕ) → same_track e.block.track t ≡ true → w ≡ wanted_weight t es
-      → w - wanted_weight e.block.track (e ∷ []) + wanted_weight e.block.track (turned ∷ []) ≡ wanted_weight t (with_state s n es)
+      → w - wanted_weight e.block.track (e ∷ []) + wanted_weight e.block.track (changed_entry ∷ []) ≡ wanted_weight t (with_state s n es)
   weight_there t w here kept =
       let same = same_tracks e.block.track t here in
       let lost = ap (λ u. wanted_weight u (e ∷ [])) same in
-      let gained = ap (λ u. wanted_weight u (turned ∷ [])) same in
+      let gained = ap (λ u. wanted_weight u (changed_entry ∷ [])) same in
       let change = weight-with_state t s n e es at in
       let part = weight_at t n e es at in
       omega (arith, lost, gained, change, part, kept)
 
   weight_other : (t : Track) (w : ℕ) → same_track e.block.track t ≡ false → w ≡ wanted_weight t es → w ≡ wanted_weight t (with_state s n es)
   weight_other t w other kept =
-      let off = turned_other e.block.track t other in
+      let off = swapped_other e.block.track t other in
       let lost = weight_elsewhere t e off in
-      let gained = weight_elsewhere t turned off in
+      let gained = weight_elsewhere t changed_entry off in
       let change = weight-with_state t s n e es at in
       omega (arith, lost, gained, change, kept)
 
   kept_own : (task : ℕ) (blocks : OfTask) → (e.block.task == task) ≡ true → blocks ≡ kept_of_task task es
-      → counted_anew (counts_of e.block.task (e ∷ [])) (counts_of e.block.task (turned ∷ [])) blocks ≡ kept_of_task task (with_state s n es)
+      → counted_anew (counts_of e.block.task (e ∷ [])) (counts_of e.block.task (changed_entry ∷ [])) blocks ≡ kept_of_task task
+      (with_state s n es)
   kept_own task blocks own kept =
       let same : e.block.task ≡ task = grind (arith, nat_tests) in
-      ap (counted_anew (counts_of e.block.task (e ∷ [])) (counts_of e.block.task (turned ∷ []))) kept
-      ∙ (ap (λ u. counted_anew (counts_of u (e ∷ [])) (counts_of u (turned ∷ [])) (kept_of_task task es)) same
+      ap (counted_anew (counts_of e.block.task (e ∷ [])) (counts_of e.block.task (changed_entry ∷ []))) kept
+      ∙ (ap (λ u. counted_anew (counts_of u (e ∷ [])) (counts_of u (changed_entry ∷ [])) (kept_of_task task es)) same
       ∙ same_blocks _ _ (sym (indexes_of-with_state (λ b. b.task == task) s n es)) (counts-with_state task s n e es at))
 
   kept_other : (task : ℕ) → (e.block.task == task) ≡ false → kept_of_task task es ≡ kept_of_task task (with_state s n es)
   kept_other task other = same_blocks _ _ (sym (indexes_of-with_state (λ b. b.task == task) s n es))
       (counts-with_other task s n e es at other)
 
-  kept_turned : (tasks more : List OfTask) → IsKept es tasks tracks
-      → IsTaskChanged tasks more e.block.task (counted_anew (counts_of e.block.task (e ∷ [])) (counts_of e.block.task (turned ∷ [])))
+  kept_changed : (tasks more : List OfTask) → IsKept es tasks tracks
+      → IsTaskChanged tasks more e.block.task (counted_anew (counts_of e.block.task (e ∷ [])) (counts_of e.block.task (changed_entry ∷ [])))
       → IsChanged tracks new e.block.track change → IsKept (with_state s n es) more new
-  kept_turned tasks more h counted changed = record {
+  kept_changed tasks more h counted changed = record {
     in_order = subst AreInOrder (sym (blocks-with_state s n es)) h.in_order;
     few = omega (arith, length-with_state s n es, h.few);
     small = subst AreSmall (sym (blocks-with_state s n es)) h.small;
@@ -140,13 +141,13 @@ module _ (s : State) (n : ℕ) (e : Entry) (es : List Entry) (tracks new : List 
 
   -- the indexes after a block is written with its new state
   pub kept_set : (tasks more : List OfTask) (was is : Counts) (lost gained : ℕ) → IsKept es tasks tracks
-      → was ≡ counts_of e.block.task (e ∷ []) → is ≡ counts_of e.block.task (turned ∷ [])
-      → lost ≡ wanted_weight e.block.track (e ∷ []) → gained ≡ wanted_weight e.block.track (turned ∷ [])
+      → was ≡ counts_of e.block.task (e ∷ []) → is ≡ counts_of e.block.task (changed_entry ∷ [])
+      → lost ≡ wanted_weight e.block.track (e ∷ []) → gained ≡ wanted_weight e.block.track (changed_entry ∷ [])
       → IsTaskChanged tasks more e.block.task (counted_anew was is) → IsChanged tracks new e.block.track (reweighed lost gained)
-      → IsKept (set es n turned) more new
+      → IsKept (set es n changed_entry) more new
   kept_set tasks more was is lost gained h before after loses gains counted changed =
       subst (λ l. IsKept l more new) (sym (items-with_state s n e es at))
-      (kept_turned tasks more h (λ k. counted k ∙ rw (before, after) refl) (λ t. changed t ∙ rw (loses, gains) refl))
+      (kept_changed tasks more h (λ k. counted k ∙ rw (before, after) refl) (λ t. changed t ∙ rw (loses, gains) refl))
 
 module _ (e : Entry) (es : List Entry) (tasks newtasks : List OfTask) (tracks new : List (List OnTrack)) where
   more_own : (task : ℕ) (blocks : OfTask) → (e.block.task == task) ≡ true → blocks ≡ kept_of_task task es → grown_task
@@ -172,12 +173,12 @@ module _ (e : Entry) (es : List Entry) (tasks newtasks : List OfTask) (tracks ne
       → IsChanged tracks new e.block.track (grown (length es)) → (track_at new t).indexes ≡ indexes_of (is_of_track t) (es ++ e ∷ [])
   more_indexes t kept changed = elim (cases_Bool (same_track e.block.track t)) [
     | inl here ↦
-        let on = turned_track e.block.track t here in
+        let on = swapped_track e.block.track t here in
         ap (λ o. o.indexes) (changed_here tracks new e.block.track (grown (length es)) changed t here)
         ∙ (ap (λ l. l ++ length es ∷ []) kept ∙ sym (indexes_of-more_yes (is_of_track t) es e on))
     | inr other ↦
         ap (λ o. o.indexes) (unchanged tracks new e.block.track (grown (length es)) changed t other)
-        ∙ (kept ∙ sym (indexes_of-more_no (is_of_track t) es e (turned_other e.block.track t other)))
+        ∙ (kept ∙ sym (indexes_of-more_no (is_of_track t) es e (swapped_other e.block.track t other)))
   ]
 
   more_weight : (t : Track) → is_wanted e.state ≡ false → weight_kept tracks t ≡ wanted_weight t es

@@ -20,7 +20,7 @@ use Rattle.fb_wanted.specs.LookUp.{OnTrack, indexes_of, is_of_track, no_offer, l
 use Rattle.fb_wanted.specs.LookUp.{with_state, AreOffered, IsItsOffer, IsChanged}
 use Rattle.fb_wanted.proofs.Counted.{filter-le}
 use Rattle.fb_wanted.proofs.Found.{block_at, block_is, blocks_still, found_each}
-use Rattle.fb_wanted.proofs.Kept.{turned_track, turned_other, changed_here, unchanged}
+use Rattle.fb_wanted.proofs.Kept.{swapped_track, swapped_other, changed_here, unchanged}
 use Rattle.fb_wanted.proofs.Numbers.{in_either}
 use Rattle.fb_wanted.proofs.Elements.{at_left, at_end, set_same, set_other, removed_within, removed_other, removed_at, last_at, state_other}
 use Rattle.fb_wanted.proofs.Elements.{state_at}
@@ -71,8 +71,8 @@ offered_pushed es offers offer_indexes e offer_index h un = record {
 }
 
 module _ (es : List Entry) (offer_indexes : List ℕ) (p : ℕ) (e : Entry) (s : State) (at : slice_get es p ≡ Some e) where
-  abbrev pub turned : Entry
-  turned = record { block = e.block; state = s }
+  abbrev pub changed_entry : Entry
+  changed_entry = record { block = e.block; state = s }
 
   -- offers are of the same blocks after the change
   same_sum : (measure : Block → ℕ) (os : List Offer)
@@ -80,10 +80,14 @@ module _ (es : List Entry) (offer_indexes : List ℕ) (p : ℕ) (e : Entry) (s :
   same_sum measure os = ap (λ bs. sum_by measure (map (λ o. get_or bs o.index no_block) os)) (blocks-with_state s p es)
 
   -- an entry after the change is the block itself, or as it was
-  entry_is : (q : ℕ) (x : Entry) → slice_get (with_state s p es) q ≡ Some x → ((q ≡ p) × (turned ≡ x)) ⊎ ((q ≡ p → ⊥) ×
+  entry_is : (q : ℕ) (x : Entry) → slice_get (with_state s p es) q ≡ Some x → ((q ≡ p) × (changed_entry ≡ x)) ⊎ ((q ≡ p → ⊥) ×
       (slice_get es q ≡ Some x))
   entry_is q x there = elim (cases_eq q p) [
-    | inl here ↦ inl (here, same_Some turned x (sym (state_at s p e es at) ∙ (ap (slice_get (with_state s p es)) (sym here) ∙ there)))
+    | inl here ↦ inl (
+      here,
+      same_Some changed_entry x (sym (state_at s p e es at) ∙ (ap (slice_get (with_state s p es)) (sym here)
+          ∙ there)),
+    )
     | inr other ↦ inr (other, sym (state_other s p q es other) ∙ there)
   ]
 
@@ -109,7 +113,7 @@ module _ (es : List Entry) (offer_indexes : List ℕ) (p : ℕ) (e : Entry) (s :
       (with_state s p es) offers offer_indexes
   offered_alike offers h alike = record {
     sums = λ t measure.
-        let part : sum_wanted measure (is_of_track t) (turned ∷ []) ≡ sum_wanted measure (is_of_track t) (e ∷ [])
+        let part : sum_wanted measure (is_of_track t) (changed_entry ∷ []) ≡ sum_wanted measure (is_of_track t) (e ∷ [])
         = elim (cases_Bool (same_track t e.block.track)) [
           | inl on ↦ elim (cases_Bool (is_wanted e.state)) [
             | inl yes' ↦ rw (on, alike, yes') refl
@@ -122,7 +126,7 @@ module _ (es : List Entry) (offer_indexes : List ℕ) (p : ℕ) (e : Entry) (s :
       | inl here ↦
           let one = same_Some e its.entry (sym at ∙ (ap (slice_get es) (sym here) ∙ its.there)) in
           record {
-            entry = turned;
+            entry = changed_entry;
             there = ap (slice_get (with_state s p es)) here ∙ state_at s p e es at;
             on = ap (λ x. same_track x.block.track t) one ∙ its.on;
             wanted = alike ∙ (ap (λ x. is_wanted x.state) one ∙ its.wanted);
@@ -181,11 +185,11 @@ module _ (es : List Entry) (offer_indexes : List ℕ) (p : ℕ) (e : Entry) (s :
         let none = by_unwanted measure (is_of_track t) e un in
         elim (cases_Bool (same_track track t)) [
           | inl here ↦
-              let own = by_wanted measure (is_of_track t) turned (turned_track track t here) wanted in
+              let own = by_wanted measure (is_of_track t) changed_entry (swapped_track track t here) wanted in
               let sums = ap (λ os. sum_by measure (offered_blocks es os)) (one_more t here) ∙ pushed_sum measure (offers_at tracks t) in
               omega (arith, same, sums, h.sums t measure, change, none, own)
           | inr other ↦
-              let off = by_elsewhere measure (is_of_track t) turned (turned_other track t other) in
+              let off = by_elsewhere measure (is_of_track t) changed_entry (swapped_other track t other) in
               let sums = ap (λ os. sum_by measure (offered_blocks es os)) (as_before t other) in
               omega (arith, same, sums, h.sums t measure, change, none, off)
         ]
@@ -207,7 +211,7 @@ module _ (es : List Entry) (offer_indexes : List ℕ) (p : ℕ) (e : Entry) (s :
                 let index : o.index ≡ p = ap (λ x. x.index) last.1 in
                 let is : i ≡ offer_index = last.0 ∙ offer_index_of t here in
                 record {
-                  entry = turned;
+                  entry = changed_entry;
                   there = ap (slice_get (with_state s p es)) index ∙ state_at s p e es at;
                   on = here;
                   wanted = wanted;
@@ -294,15 +298,15 @@ module _ (es : List Entry) (offer_indexes : List ℕ) (p : ℕ) (e : Entry) (s :
       taken_sums t measure =
           let same = same_sum measure (offers_at new t) in
           let change = by-with_state measure (is_of_track t) s p e es at in
-          let none = by_unwanted measure (is_of_track t) turned un in
+          let none = by_unwanted measure (is_of_track t) changed_entry un in
           elim (cases_Bool (same_track own_track t)) [
             | inl here ↦
-                let own = by_wanted measure (is_of_track t) e (turned_track own_track t here) was in
+                let own = by_wanted measure (is_of_track t) e (swapped_track own_track t here) was in
                 let sums = ap (λ os. sum_by measure (offered_blocks es os)) (one_less t here) in
                 let before = ap (λ u. sum_by measure (offered_blocks es (offers_at tracks u))) (same_tracks own_track t here) in
                 omega (arith, same, sums, rest_sum measure, before, h.sums t measure, change, none, own)
             | inr other ↦
-                let off = by_elsewhere measure (is_of_track t) e (turned_other own_track t other) in
+                let off = by_elsewhere measure (is_of_track t) e (swapped_other own_track t other) in
                 let sums = ap (λ os. sum_by measure (offered_blocks es os)) (as_they_were t other) in
                 omega (arith, same, sums, h.sums t measure, change, none, off)
           ]

@@ -147,11 +147,11 @@ nth_step p f s x e es false (suc k) j rest is new h at =
     let r = raised (indexes_of p es) (suc k) j h in
     rw (r.2, is) (ap (λ l. x ∷ l) (rest (suc k) r.0 r.1 (ap (slice_get (x ∷ es)) (sym r.2) ∙ at)))
 
-pub nth_turned : (p : Entry → Bool) (f : Entry → Entry) (s : State) (e : Entry) (es : List Entry) (k j : ℕ)
+pub nth_changed : (p : Entry → Bool) (f : Entry → Entry) (s : State) (e : Entry) (es : List Entry) (k j : ℕ)
     → f e ≡ record { block = e.block; state = s }
     → slice_get (indexes_of p es) k ≡ Some j → slice_get es j ≡ Some e → with_state s j es ≡ change_nth p f k es
-nth_turned p f s e [] k j new h at = refl
-nth_turned p f s e (x ∷ es) k j new h at = nth_step p f s x e es (p x) k j (λ i n. nth_turned p f s e es i n new) refl new h at
+nth_changed p f s e [] k j new h at = refl
+nth_changed p f s e (x ∷ es) k j new h at = nth_step p f s x e es (p x) k j (λ i n. nth_changed p f s e es i n new) refl new h at
 
 -- the first k entries that pass are changed, and then one more
 pub first_none : (p : Entry → Bool) (f : Entry → Entry) (es : List Entry) → change_first p f 0 es ≡ es

@@ -166,19 +166,19 @@ impl Wanted {
             index,
             state,
         );
-        let turned = Entry {
+        let changed = Entry {
             block: entry.block,
             state,
         };
-        self.entries[index as usize] = turned;
+        self.entries[index as usize] = changed;
         recount(
             &mut self.tasks,
             entry.block.task,
             counts_of(entry),
-            counts_of(turned),
+            counts_of(changed),
         );
         let lost = weight_of(entry);
-        let gained = weight_of(turned);
+        let gained = weight_of(changed);
         let weight = self.tracks.reweigh(entry.block.track, lost, gained);
         update_greatest(
             &mut self.greatest,

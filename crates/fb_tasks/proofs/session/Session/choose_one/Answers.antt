@@ -1,5 +1,5 @@
 use Rattle.fb_tasks.proofs.Words.{sym, ◌∙◌, arith}
-use Rattle.fb_tasks.proofs.ChoiceSteps.{choice-step, none-step, none-turned, live-on_disk, live-few, live-turned, empty-turned}
+use Rattle.fb_tasks.proofs.ChoiceSteps.{choice-step, none-step, none-chosen, live-on_disk, live-few, live-chosen, empty-chosen}
 use Rattle.fb_tasks.proofs.session.Session.choose_one.Goals as goal
 
 pub want_live-requires-clause-on_disk : goal.want_live-requires-clause-on_disk
@@ -16,7 +16,7 @@ want_live-requires-clause-few c =
 
 pub returns-in_ok-finish-in-Some-clause-chosen : goal.returns-in_ok-finish-in-Some-clause-chosen
 returns-in_ok-finish-in-Some-clause-chosen c = λ past may. rw c.in_ok-finish-in-Some.ensures.session
-    (empty-turned c.requires.cleans may c.in-Some.segment (choice-step c.requires.cleans may c.in-Some.segment
+    (empty-chosen c.requires.cleans may c.in-Some.segment (choice-step c.requires.cleans may c.in-Some.segment
     (sym c.in-Some.ensures.choice))
     c.choose.new.self c.in-Some.ensures.state (omega (arith, c.count-sectors.ensures.value, c.count-sectors.ensures.bound))
     c.want_live.new.wanted c.in_ok-want_live-in-Some.ensures.all
@@ -25,14 +25,14 @@ returns-in_ok-finish-in-Some-clause-chosen c = λ past may. rw c.in_ok-finish-in
 
 pub returns-else-live_count-eq0-clause-chosen : goal.returns-else-live_count-eq0-clause-chosen
 returns-else-live_count-eq0-clause-chosen c = λ past may.
-    live-turned c.requires.cleans may c.in-Some.segment (choice-step c.requires.cleans may c.in-Some.segment (sym c.in-Some.ensures.choice))
+    live-chosen c.requires.cleans may c.in-Some.segment (choice-step c.requires.cleans may c.in-Some.segment (sym c.in-Some.ensures.choice))
     c.choose.new.self c.in-Some.ensures.state (omega (arith, c.count-sectors.ensures.value, c.count-sectors.ensures.bound))
     c.want_live.new.wanted c.in_ok-want_live-in-Some.ensures.all
     c.args.stamp.instant c.args.rows.now (omega (arith, c.live_count.ensures, c.if-live_count-eq0.false))
 
 pub returns-in-None-clause-chosen : goal.returns-in-None-clause-chosen
 returns-in-None-clause-chosen c = λ past may.
-    none-turned c.requires.cleans may c.choose.new.self c.args.stamp.instant c.args.rows.now
+    none-chosen c.requires.cleans may c.choose.new.self c.args.stamp.instant c.args.rows.now
     (sym c.in-None.ensures.choice) c.in-None.ensures.state
 
 pub returns-in-None-clause-none : goal.returns-in-None-clause-none

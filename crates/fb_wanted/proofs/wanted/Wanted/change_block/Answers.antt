@@ -2,7 +2,7 @@ use Rattle.std.proofs.Common.{◌∙◌}
 use Rattle.fb_wanted.specs.LookUp.{is_of_task}
 use Rattle.fb_wanted.specs.States.{entry_after}
 use Rattle.fb_wanted.proofs.OfTask.{own_after}
-use Rattle.fb_wanted.proofs.Standing.{at_index, passes, index_within, nth_turned}
+use Rattle.fb_wanted.proofs.Standing.{at_index, passes, index_within, nth_changed}
 use Rattle.fb_wanted.proofs.wanted.Wanted.change_block.Goals as goal
 
 pub entry_at-entry-requires : goal.entry_at-entry-requires
@@ -21,6 +21,6 @@ returns c =
     let own = passes test entries c.args.number entry (at_index test entries c.args.number index c.index_of-index.ensures
     ∙ c.entry_at-entry.ensures) in
     c.set_state.ensures
-    ∙ nth_turned test (entry_after c.args.task c.args.change) c.state_after.result entry entries c.args.number index
+    ∙ nth_changed test (entry_after c.args.task c.args.change) c.state_after.result entry entries c.args.number index
     (own_after c.args.task c.args.change entry c.state_after.result own c.state_after.ensures) c.index_of-index.ensures
     c.entry_at-entry.ensures

@@ -30,7 +30,7 @@ loop-number-preserved c =
     let test = is_of_task c.args.task in
     let step = entry_after c.args.task c.args.change in
     let k = c.loop-number.number in
-    let turned : c.if-shares.self ≡ change_nth test step k c.loop-number.self = elim c.if-shares.branch [
+    let step_is : c.if-shares.self ≡ change_nth test step k c.loop-number.self = elim c.if-shares.branch [
       | then-shares w ↦ w.self-is ∙ w.change_block.ensures
       | else-shares w ↦ w.self-is ∙ sym (nth_stays test step k c.loop-number.self (λ e at.
           let same = same_Some c.entry_of.result e (sym c.entry_of.ensures ∙ at) in
@@ -45,14 +45,14 @@ loop-number-preserved c =
           let in_order = subst AreInOrder (ap blocks_of (c.self.view_is ∙ same) ∙ blocks_stay chosen c.args.task c.args.change es)
           c.self.invariant.0.in_order in (
             λ j. now.0 j || (j == k),
-            turned ∙ (ap (change_nth test step k) now.1 ∙ one_more now.0 c.args.task k c.args.change es in_order c.requires.stable),
+            step_is ∙ (ap (change_nth test step k) now.1 ∙ one_more now.0 c.args.task k c.args.change es in_order c.requires.stable),
             λ j own. rw (now.2 j own) refl,
             λ j low high. elim (cases_lt j k) [
               | inl before ↦ rw (now.3 j low before) refl
               | inr most ↦ let here : (j == k) ≡ true = grind (arith, nat_tests, high, most) in or_right (now.0 j) (j == k) here
             ],
           );
-      size = ap (λ l. length (filter test l)) turned
+      size = ap (λ l. length (filter test l)) step_is
           ∙ (passing-nth test step (λ e. refl) k c.loop-number.self ∙ c.loop-number.invariant.size);
     }
 

@@ -67,11 +67,11 @@ recount-requires c =
     let tracks = c.self.inside.tracks in
     let entry = c.index-entry.result.now in
     let at = here (goal.at.recount-requires c).After-reoffer in
-    let turned : Entry = record { block = entry.block; state = c.args.state } in
+    let changed : Entry = record { block = entry.block; state = c.args.state } in
     record {
       there = its_task_there items tasks tracks c.self.invariant.0 c.args.index entry at;
       part = counts_part items tasks tracks c.self.invariant.0 c.args.index entry c.counts_of.result at c.counts_of.ensures;
-      room = counts_room items tasks tracks c.self.invariant.0 entry.block.task turned c.counts_of-2.result c.counts_of-2.ensures;
+      room = counts_room items tasks tracks c.self.invariant.0 entry.block.task changed c.counts_of-2.result c.counts_of-2.ensures;
     }
 
 pub reweigh-weight-requires : goal.reweigh-weight-requires
