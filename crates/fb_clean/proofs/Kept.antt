@@ -13,7 +13,8 @@ use Rattle.fb_store.specs.declared.content.ContentRun.{ContentRun}
 use Rattle.fb_store.specs.Index.{held_at}
 use Rattle.fb_store.specs.Sparse.{held_in}
 use Rattle.fb_store.specs.Runs.{runs_of}
-use Rattle.fb_clean.specs.Segments.{LogSegment, Cleaning, left_out, without, number_of, first_best, waiting, choice_while, packed_sectors}
+use Rattle.fb_clean.specs.Segments.{LogSegment, Cleaning, no_longer_waiting, without, number_of, first_best, waiting, choice_while}
+use Rattle.fb_clean.specs.Segments.{packed_sectors}
 use Rattle.fb_clean.specs.Numbers.{AreNumbered, AreWithin, IsSound}
 
 -- the number of a segment says its index
@@ -51,15 +52,15 @@ within_at block (x ∷ segments) zero s within at =
     subst (λ y. AllByRecursion (λ lbn. lbn + block ≤ 10 ^ 12) y.live) (same_Some x s at) within.0
 within_at block (x ∷ segments) (suc i) s within at = within_at block segments i s within.1 at
 
--- leaving one segment out
-abbrev pub leave_at : ℕ → LogSegment → LogSegment
-leave_at number s = cond (s.number == number) (left_out s) s
+-- a segment with this number no longer waits
+abbrev pub stop_at : ℕ → LogSegment → LogSegment
+stop_at number s = cond (s.number == number) (no_longer_waiting s) s
 
-same_number : (b : Bool) (s : LogSegment) → (cond b (left_out s) s).number ≡ s.number
+same_number : (b : Bool) (s : LogSegment) → (cond b (no_longer_waiting s) s).number ≡ s.number
 same_number true s = refl
 same_number false s = refl
 
-same_live : (b : Bool) (s : LogSegment) → (cond b (left_out s) s).live ≡ s.live
+same_live : (b : Bool) (s : LogSegment) → (cond b (no_longer_waiting s) s).live ≡ s.live
 same_live true s = refl
 same_live false s = refl
 
@@ -67,29 +68,29 @@ without_none : (number n : ℕ) (segments : List LogSegment) → AreNumbered n s
 without_none number n [] numbered less = refl
 without_none number n (s ∷ segments) numbered less =
     let own = numbered.0 in
-    ap₂ (λ b rest. cond b (left_out s) s ∷ rest) (more_differs s.number number (omega arith))
+    ap₂ (λ b rest. cond b (no_longer_waiting s) s ∷ rest) (more_differs s.number number (omega arith))
     (without_none number (n + 1) segments numbered.1 (omega arith))
 
 pub without_set : (n : ℕ) (segments : List LogSegment) (i : ℕ) (s : LogSegment) → AreNumbered n segments → slice_get segments i ≡ Some s
-    → set segments i (left_out s) ≡ without (n + i) segments
+    → set segments i (no_longer_waiting s) ≡ without (n + i) segments
 without_set n [] i s numbered at = absurd (grind arith)
 without_set n (x ∷ segments) zero s numbered at =
     let own = numbered.0 in
     let here : n + 0 ≡ n = omega arith in
-    ap (λ y. left_out y ∷ segments) (sym (same_Some x s at))
-    ∙ sym (ap₂ (λ b rest. cond b (left_out x) x ∷ rest) (own_number x.number (n + 0) (omega arith))
+    ap (λ y. no_longer_waiting y ∷ segments) (sym (same_Some x s at))
+    ∙ sym (ap₂ (λ b rest. cond b (no_longer_waiting x) x ∷ rest) (own_number x.number (n + 0) (omega arith))
     (without_none (n + 0) (n + 1) segments numbered.1 (omega arith)))
 without_set n (x ∷ segments) (suc i) s numbered at =
     let own = numbered.0 in
     let next : n + 1 + i ≡ n + suc i = omega arith in
     ap (λ rest. x ∷ rest) (without_set (n + 1) segments i s numbered.1 at ∙ ap (λ k. without k segments) next)
-    ∙ sym (ap (λ b. cond b (left_out x) x ∷ without (n + suc i) segments) (less_differs x.number (n + suc i) (omega arith)))
+    ∙ sym (ap (λ b. cond b (no_longer_waiting x) x ∷ without (n + suc i) segments) (less_differs x.number (n + suc i) (omega arith)))
 
 pub numbered_without : (number n : ℕ) (segments : List LogSegment) → AreNumbered n segments → AreNumbered n (without number segments)
-numbered_without number n segments numbered = numbered_map (leave_at number) (λ s. same_number (s.number == number) s) n segments numbered
+numbered_without number n segments numbered = numbered_map (stop_at number) (λ s. same_number (s.number == number) s) n segments numbered
 
 pub within_without : (number block : ℕ) (segments : List LogSegment) → AreWithin block segments → AreWithin block (without number segments)
-within_without number block segments within = within_map (leave_at number) (λ s. same_live (s.number == number) s) block segments within
+within_without number block segments within = within_map (stop_at number) (λ s. same_live (s.number == number) s) block segments within
 
 -- one more segment
 pub sound_more : (block : ℕ) (segments more : List LogSegment) (unfinished : Option ℕ) (taken more_taken : ℕ) (s : LogSegment)
@@ -107,12 +108,12 @@ sound_more block segments more unfinished taken more_taken s sound e taken_more 
       known = λ n is. let at = sound.known n is in (at.0, omega (arith, at.1));
     }
 
--- one left out
+-- one no longer waits
 pub sound_chosen : (block : ℕ) (segments now : List LogSegment) (unfinished : Option ℕ) (taken i : ℕ) (s : LogSegment)
     → IsSound block segments unfinished taken → slice_get segments i ≡ Some s → i < length segments
     → now ≡ without (1 + i) segments → IsSound block now (Some (i + 1)) taken
 sound_chosen block segments now unfinished taken i s sound at less e =
-    let size = ap length e ∙ length-map segments (leave_at (1 + i)) in
+    let size = ap length e ∙ length-map segments (stop_at (1 + i)) in
     let few = sound.few in
     let as_many = sound.as_many in
     record {
@@ -123,17 +124,17 @@ sound_chosen block segments now unfinished taken i s sound at less e =
       known = λ n is. let same = same_Some (i + 1) n is in (omega arith, omega arith);
     }
 
--- all left out
+-- none waits any longer
 pub sound_left : (block : ℕ) (segments now : List LogSegment) (unfinished : Option ℕ) (taken : ℕ) → IsSound block segments unfinished taken
-    → now ≡ map left_out segments → IsSound block now unfinished taken
+    → now ≡ map no_longer_waiting segments → IsSound block now unfinished taken
 sound_left block segments now unfinished taken sound e =
-    let size = ap length e ∙ length-map segments left_out in
+    let size = ap length e ∙ length-map segments no_longer_waiting in
     let few = sound.few in
     let as_many = sound.as_many in
     record {
-      numbered = subst (AreNumbered 1) (sym e) (numbered_map left_out (λ s. refl) 1 segments sound.numbered);
+      numbered = subst (AreNumbered 1) (sym e) (numbered_map no_longer_waiting (λ s. refl) 1 segments sound.numbered);
       few = omega arith;
-      within = subst (AreWithin block) (sym e) (within_map left_out (λ s. refl) block segments sound.within);
+      within = subst (AreWithin block) (sym e) (within_map no_longer_waiting (λ s. refl) block segments sound.within);
       as_many = omega arith;
       known = λ n is. let at = sound.known n is in (at.0, omega (arith, at.1));
     }
@@ -157,11 +158,11 @@ get_one [] i s d at = absurd (grind arith)
 get_one (x ∷ segments) zero s d at = same_Some x s at
 get_one (x ∷ segments) (suc i) s d at = get_one segments i s d at
 
--- leaving out the segment at an index
-pub left_at : (segments : List LogSegment) (i : ℕ) (s d now : LogSegment) → AreNumbered 1 segments → slice_get segments i ≡ Some s
-    → now ≡ left_out (get_or segments i d) → set segments i now ≡ without (1 + i) segments
-left_at segments i s d now numbered at e =
-    ap (set segments i) (e ∙ ap left_out (get_one segments i s d at)) ∙ without_set 1 segments i s numbered at
+-- the segment at an index no longer waits
+pub stopped_at : (segments : List LogSegment) (i : ℕ) (s d now : LogSegment) → AreNumbered 1 segments → slice_get segments i ≡ Some s
+    → now ≡ no_longer_waiting (get_or segments i d) → set segments i now ≡ without (1 + i) segments
+stopped_at segments i s d now numbered at e =
+    ap (set segments i) (e ∙ ap no_longer_waiting (get_one segments i s d at)) ∙ without_set 1 segments i s numbered at
 
 pub none_unfinished : (o : Option ℕ) → is_some o ≡ false → o ≡ None
 none_unfinished None e = refl

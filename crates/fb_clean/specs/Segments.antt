@@ -73,12 +73,12 @@ choice_while (Some unfinished) segments = None
 abbrev pub choice_of : Cleaning → Option ℕ
 choice_of cleaning = choice_while cleaning.unfinished cleaning.segments
 
-abbrev pub left_out : LogSegment → LogSegment
-left_out segment = record segment { waits = false }
+abbrev pub no_longer_waiting : LogSegment → LogSegment
+no_longer_waiting segment = record segment { waits = false }
 
 -- the chosen segment is no longer left to choose
 abbrev pub without : ℕ → List LogSegment → List LogSegment
-without number segments = map (λ segment. if segment.number == number then left_out segment else segment) segments
+without number segments = map (λ segment. if segment.number == number then no_longer_waiting segment else segment) segments
 
 abbrev pub after_choice : Option ℕ → Cleaning → Cleaning
 after_choice None before = before
@@ -86,7 +86,7 @@ after_choice (Some number) before = record before { segments = without number be
 
 -- no segment is left to choose
 abbrev pub after_drop : Cleaning → Cleaning
-after_drop before = record before { segments = map left_out before.segments }
+after_drop before = record before { segments = map no_longer_waiting before.segments }
 
 -- the first LBNs of a segment's live blocks
 abbrev pub live_of : Cleaning → ℕ → List ℕ

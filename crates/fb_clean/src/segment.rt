@@ -1,7 +1,7 @@
 // One segment of a log.
 ghost use Rattle.std.specs.Prelude.{◌≡◌, ◌+◌, ◌-◌, ◌*◌, ◌≤◌, ◌^◌, true, length, IfOk};
 ghost use Rattle.std.specs.List.{AllByRecursion};
-ghost use Rattle.fb_clean.specs.Segments.{is_better, live_blocks, left_out};
+ghost use Rattle.fb_clean.specs.Segments.{is_better, live_blocks, no_longer_waiting};
 
 use fb_calls::Live;
 use fb_units::NoMemory;
@@ -74,8 +74,8 @@ impl Segment {
     }
 
     /// Removes the segment from those still to be chosen: it is chosen now, or dropped.
-    pub fn leave(&mut self)
-        ensures { self.new ≡ left_out self.old }
+    pub fn stop_waiting(&mut self)
+        ensures { self.new ≡ no_longer_waiting self.old }
     {
         self.waits = false;
     }

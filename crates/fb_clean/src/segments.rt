@@ -7,8 +7,8 @@ ghost use Rattle.fb_store.specs.Index.{held_at};
 ghost use Rattle.fb_store.specs.Sparse.{Gives, after_take, held_in};
 ghost use Rattle.fb_store.specs.Runs.{runs_of};
 ghost use Rattle.fb_clean.specs.Greatest.{IsChoice};
-ghost use Rattle.fb_clean.specs.Segments.{live_blocks, left_out, after_add, choice_of, after_choice, after_drop, live_of, taken_for};
-ghost use Rattle.fb_clean.specs.Segments.{packed_sectors};
+ghost use Rattle.fb_clean.specs.Segments.{live_blocks, no_longer_waiting, after_add, choice_of, after_choice, after_drop, live_of};
+ghost use Rattle.fb_clean.specs.Segments.{taken_for, packed_sectors};
 
 use crate::choice::best_waiting;
 use crate::segment::Segment;
@@ -126,7 +126,7 @@ impl Segments {
             return None;
         }
         let best = best_waiting(&self.segments)?;
-        self.segments[best].leave();
+        self.segments[best].stop_waiting();
         self.unfinished = Some(best as u32 + 1);
         self.unfinished
     }
@@ -164,7 +164,7 @@ impl Segments {
     pub fn drop_rest(&mut self)
         ensures { self.new ≡ after_drop self.old }
     {
-        leave_all(&mut self.segments);
+        stop_all(&mut self.segments);
     }
 
     /// What was kept for a segment, in the order of its live blocks, as the fewest runs.
@@ -190,11 +190,11 @@ pub fn live_blocks_are_live()
 {}
 
 // Removes all segments from those still to be chosen.
-fn leave_all(segments: &mut [Segment])
-    ensures { segments.new ≡ map left_out segments.old }
+fn stop_all(segments: &mut [Segment])
+    ensures { segments.new ≡ map no_longer_waiting segments.old }
 {
     for i in 0..segments.len() {
-        segments[i].leave();
+        segments[i].stop_waiting();
     }
 }
 

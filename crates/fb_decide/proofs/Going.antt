@@ -255,7 +255,7 @@ module _ (inputs : Inputs) (known : AreKnown inputs) (before : Course) (pending 
     replayed : Replayed inputs.latent (served inputs) later after.now after.store (run.done ++ this ∷ [])
     replayed = replayed_more inputs.disk inputs.latent
         (served inputs) run.done rest later before.head before.now after.now request before.store run.replayed next
-        (let h = now_served.later in omega (arith, h)) now_served.finished after.store now_served.leaves
+        (let h = now_served.later in omega (arith, h)) now_served.finished after.store now_served.contents
 
     next_decided : decisions_by inputs before rest ≡ serves this ∷ decisions_by inputs after later
     next_decided = rw (now_served.same_joined, now_served.stands, now_served.finished)

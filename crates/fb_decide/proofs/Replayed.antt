@@ -112,9 +112,9 @@ written_or_not true q before writes first after h = h
 written_or_not false q before writes first after h = refl
 
 -- what a request leaves is what the services with it leave
-leaves : (disk : Disk) (latent : List ℕ) (done : List Served) (head : Track) (start : ℕ) (request : Request) (lbn : ℕ)
+contents_left : (disk : Disk) (latent : List ℕ) (done : List Served) (head : Track) (start : ℕ) (request : Request) (lbn : ℕ)
     → left_by request lbn (held_after latent done lbn) ≡ held_after latent (done ++ service disk head start request ∷ []) lbn
-leaves disk latent done head start request lbn =
+contents_left disk latent done head start request lbn =
     let before = last_or None (filter (is_of lbn) (all_writes done)) in
     written_or_not request.write (is_of lbn) before
     (map (written_by (number_of request.name)) (passages disk head start request.write request.lbn request.count)) (unwritten latent lbn) _
@@ -179,10 +179,10 @@ module _ (disk : Disk) (latent : List ℕ) (whole done rest later : List Served)
 
   pub replayed_more : (left : Holding) → ((lbn : ℕ) → content_in left lbn ≡ left_by request lbn (content_in holding lbn))
       → Replayed latent whole later end left (done ++ this ∷ [])
-  replayed_more left leaves_it = record {
+  replayed_more left contents_are = record {
     all = one_more done this rest later whole next so_far.all;
     ended = ended_more disk done head now now end request longer ends so_far.ended;
-    holds = λ lbn. leaves_it lbn ∙ ap (left_by request lbn) (so_far.holds lbn) ∙ leaves disk latent done head now request lbn;
+    holds = λ lbn. contents_are lbn ∙ ap (left_by request lbn) (so_far.holds lbn) ∙ contents_left disk latent done head now request lbn;
   }
 
 pub in_order : (requests : List Request) → IsRising (map (λ (r : Request). r.arrival) requests) → AreByArrival requests

@@ -95,7 +95,7 @@ module _ (inputs : Inputs) (past : Past) (before : Course) (background : Backgro
     pub all : gots ≡ due (medium_of inputs).disk (contents_at (medium_of inputs)) act (wanted then)
     pub rows_behind : after.background.rows ≡ (background.rows ++ opening inputs.disk act) ++ rows_of (followed then gots)
     pub tells_after : Tells inputs.disk.map (with_finish (past_with then gots) decision) after.background.sessions after.background.wanted
-    pub leaves : LeftBy decision before.store after.store
+    pub contents : LeftBy decision before.store after.store
     pub same_called : after.called ≡ called
     pub ends_at : end_of decision ≡ after.now
 
@@ -133,7 +133,7 @@ module _ (inputs : Inputs) (past : Past) (before : Course) (background : Backgro
         all = gots_followed then gots ∙ (h.all ∙ ap (due (medium_of inputs).disk (contents_at (medium_of inputs)) act) same_wanted);
         tested = truths.0;
       };
-      finds = after_true inputs (medium_of inputs) before.store after.store past act gots h.leaves truths.1;
+      finds = after_true inputs (medium_of inputs) before.store after.store past act gots h.contents truths.1;
       called = subst (λ p. IsCalled inputs.disk.map inputs.calls p after.called) (sym after_is) (subst (IsCalled inputs.disk.map
           inputs.calls (with_finish (past_with then gots) decision)) (sym h.same_called) (finished_called decision));
       ends_at = h.ends_at;
@@ -199,7 +199,7 @@ module _ (inputs : Inputs) (past : Past) (before : Course) (background : Backgro
       rows_behind = has_served.rows_after
           ∙ sym (append_assoc background.rows (opening inputs.disk served_act) (rows_of (followed tested_now served_gots)));
       tells_after = has_served.tells;
-      leaves = now_served.leaves;
+      contents = now_served.contents;
       same_called = now_served.same_called;
       ends_at = sym now_served.finished;
     })
@@ -226,7 +226,7 @@ module _ (inputs : Inputs) (past : Past) (before : Course) (background : Backgro
           (omega arith) all_some mirrors;
       rows_behind = has_delivered.rows_after;
       tells_after = has_delivered.current.tells;
-      leaves = stayed.same_store;
+      contents = stayed.same_store;
       same_called = stayed.same_called;
       ends_at = sym stayed.until;
     })
@@ -243,7 +243,7 @@ module _ (inputs : Inputs) (past : Past) (before : Course) (background : Backgro
     all = refl;
     rows_behind = sym (append-nil (background.rows ++ []) ∙ append-nil background.rows);
     tells_after = test.current.tells;
-    leaves = refl;
+    contents = refl;
     same_called = refl;
     ends_at = refl;
   })

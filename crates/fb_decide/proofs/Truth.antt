@@ -270,7 +270,7 @@ not_rewanted true true was free_then done free h = absurd (true≢false (sym (ap
 not_rewanted true false was free_then done free h = inr refl
 
 module _ (medium : Medium) (holding left : Holding) (past : Past) (request : Request)
-    (leaves : (lbn : ℕ) → content_in left lbn ≡ left_by request lbn (content_in holding lbn)) where
+    (contents : (lbn : ℕ) → content_in left lbn ≡ left_by request lbn (content_in holding lbn)) where
   not_overwritten : (block : Block) → is_delivered (bare_state (finished request ∷ past) block) ≡ true
       → ((((request.write && shares request.lbn request.count block) && is_delivered (bare_state past block))
       && is_open_backup past block.task) ≡ false) × (is_delivered (bare_state past block) ≡ true)
@@ -281,10 +281,10 @@ module _ (medium : Medium) (holding left : Holding) (past : Past) (request : Req
 
   left_in : (block : Block) → (request.write ≡ false) ⊎ (shares request.lbn request.count block ≡ false) → (lbn : ℕ) → block.lbn ≤ lbn
       → lbn < block.lbn + block.count → content_in holding lbn ≡ content_in left lbn
-  left_in block (inl reads) lbn from before = sym (leaves lbn ∙ ap (λ b. if b
+  left_in block (inl reads) lbn from before = sym (contents lbn ∙ ap (λ b. if b
       then after_write request.lbn request.count (number_of request.name) lbn (content_in holding lbn) else content_in holding lbn) reads)
   left_in block (inr none) lbn from before =
-      sym (leaves lbn ∙ either request.write (ap (λ b. if b then Filled (number_of request.name) else content_in holding lbn)
+      sym (contents lbn ∙ either request.write (ap (λ b. if b then Filled (number_of request.name) else content_in holding lbn)
       (apart lbn request.lbn request.count block none from before))) where
         either : (write : Bool) {c : Content} → c ≡ content_in holding lbn
             → (if write then c else content_in holding lbn) ≡ content_in holding lbn
@@ -354,9 +354,9 @@ pub after_true : (inputs : Inputs) (medium : Medium) (holding left : Holding) (p
     → IsTrue medium holding (past_with (tested_by inputs.disk.map inputs.calls past (instant_of (decision_of act))) gots)
     → IsTrue medium left (past_after inputs past (step_by inputs.disk.map inputs.calls past act gots))
 unfolding chosen_past past_after
-after_true inputs medium holding left past (serving served plan) gots leaves h =
-    finished_true medium holding left (past_with (tested_by inputs.disk.map inputs.calls past served.start) gots) served.request leaves h
-after_true inputs medium holding left past (idling dwell) gots leaves h =
-    subst (λ disk_then. IsTrue medium disk_then (past_with (tested_by inputs.disk.map inputs.calls past dwell.begin) gots)) (sym leaves) h
-after_true inputs medium holding left past (ending now) gots leaves h =
-    subst (λ disk_then. IsTrue medium disk_then (past_with (tested_by inputs.disk.map inputs.calls past now) gots)) (sym leaves) h
+after_true inputs medium holding left past (serving served plan) gots contents h =
+    finished_true medium holding left (past_with (tested_by inputs.disk.map inputs.calls past served.start) gots) served.request contents h
+after_true inputs medium holding left past (idling dwell) gots contents h =
+    subst (λ disk_then. IsTrue medium disk_then (past_with (tested_by inputs.disk.map inputs.calls past dwell.begin) gots)) (sym contents) h
+after_true inputs medium holding left past (ending now) gots contents h =
+    subst (λ disk_then. IsTrue medium disk_then (past_with (tested_by inputs.disk.map inputs.calls past now) gots)) (sym contents) h

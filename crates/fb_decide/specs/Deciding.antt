@@ -53,7 +53,7 @@ pub record HasServedNext (disk : Disk) (request : Request) (before after : Cours
   pub row : ForeRow
   pub is_row : IsRowOf before.store (service disk before.head before.now request) row
   pub more : after.fore ≡ before.fore ++ row ∷ []
-  pub leaves : (lbn : ℕ) → content_in after.store lbn ≡ left_by request lbn (content_in before.store lbn)
+  pub contents : (lbn : ℕ) → content_in after.store lbn ≡ left_by request lbn (content_in before.store lbn)
   pub stands : after.head ≡ last_track disk (service disk before.head before.now request)
   pub finished : after.now ≡ finish (service disk before.head before.now request)
   pub on_disk : IsTrackOf disk.map after.head

@@ -61,7 +61,7 @@ pub fn serve_request<P: Planner>(
     requires start { IsStartOn disk.now start }
     requires current { (past : Past) × IsCurrent disk.now.map past background.old }
     ensures row { IfOk result (λ serving. IsRowOf store.old (served_from disk.now start) serving.row) }
-    ensures leaves { OnOk result ((lbn : ℕ) → content_in store.new lbn ≡ left_by start.request lbn (content_in store.old lbn)) }
+    ensures contents { OnOk result ((lbn : ℕ) → content_in store.new lbn ≡ left_by start.request lbn (content_in store.old lbn)) }
     ensures head { IfOk result (λ serving. serving.head ≡ last_track disk.now (served_from disk.now start)) }
     ensures on_disk { IfOk result (λ serving. IsTrackOf disk.now.map serving.head) }
     ensures each { OnOk result (AllByRecursion (λ passage. passage.begin < passage.end) (served_from disk.now start).passages) }

@@ -283,7 +283,7 @@ pub fn take_from(rows: &mut Vec<Vec<((u64, u64), Request)>>, position: Position)
 }
 
 /// Lets go of a row's memory if the row has no request, and of its number.
-pub fn leave_if_empty(
+pub fn free_if_empty(
     alloc: Global,
     rows: &mut Vec<Vec<((u64, u64), Request)>>,
     occupied: &mut BTreeSet<u32>,

@@ -7,7 +7,7 @@ ghost use Rattle.fb_fastq.specs.Lanes.{IsAlong};
 
 use crate::by_spot::{add, take_out};
 use crate::lanes::{along, cylinder_around};
-use crate::rows::{leave_if_empty, put, soonest_in_rows, take_from};
+use crate::rows::{free_if_empty, put, soonest_in_rows, take_from};
 use crate::soonest::soonest_in_map;
 use fb_queue::Queue;
 use fb_service::{Disk, departure_from};
@@ -106,7 +106,7 @@ impl Queue for SptfLanes {
         match pick.position {
             Some(position) => {
                 let request = take_from(&mut self.rows, position);
-                leave_if_empty(self.alloc, &mut self.rows, &mut self.occupied, position.row);
+                free_if_empty(self.alloc, &mut self.rows, &mut self.occupied, position.row);
                 self.in_rows -= 1;
                 request
             }

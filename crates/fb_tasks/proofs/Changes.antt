@@ -77,7 +77,7 @@ fewer : (block : Block) (before : State) → is_delivered (ended true before) �
 fewer block before done = grind arith
 
 left_all : (v : TaskView) (xs : List LogSegment)
-    → map clean.left_out (map (kept_segment v.work) xs) ≡ map (kept_segment (closed_view v).work) xs
+    → map clean.no_longer_waiting (map (kept_segment v.work) xs) ≡ map (kept_segment (closed_view v).work) xs
 left_all v [] = refl
 left_all v (x ∷ xs) = rw (left_all v xs) (simp and-false)
 
@@ -89,7 +89,7 @@ closed-cleans v log h =
     (choice_in h.current) h.taken in
     let over : true ≡ true → AllByRecursion (λ block. is_over ((closed_view v).bare block) ≡ true) v.blocks =
     λ _. all_any (λ block. is_over (ended true (v.bare block)) ≡ true) (λ block. grind arith) v.blocks in
-    let segments = ap (map clean.left_out) h.segments ∙ left_all v v.segments in
+    let segments = ap (map clean.no_longer_waiting) h.segments ∙ left_all v v.segments in
     record { done = h.done; current = h.current; by = assumption (cleaned, taken, over, segments, h.by) }
 
 closed-told : (v : TaskView) (session : Session) → Told v session

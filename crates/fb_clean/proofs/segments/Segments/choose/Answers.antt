@@ -1,10 +1,10 @@
 use Rattle.std.proofs.Common.{◌≡◌, ◌+◌, ◌<◌, Some, ap, sym, ◌∙◌, arith, length, subst, slice_get}
 use Rattle.std.proofs.lemmas.List.{length-set}
-use Rattle.fb_clean.specs.Segments.{choice_of, without, left_out, first_best, waiting}
+use Rattle.fb_clean.specs.Segments.{choice_of, without, no_longer_waiting, first_best, waiting}
 use Rattle.fb_clean.specs.Numbers.{AreNumbered}
 use Rattle.fb_clean.proofs.Chosen.{some_at}
 use Rattle.fb_clean.proofs.Greatest.{choice_is_greatest}
-use Rattle.fb_clean.proofs.Kept.{left_at, sound_chosen, none_unfinished, number_chosen}
+use Rattle.fb_clean.proofs.Kept.{stopped_at, sound_chosen, none_unfinished, number_chosen}
 use Rattle.fb_clean.proofs.segments.Segments.choose.Goals as goal
 
 pub invariant_of-self : goal.invariant_of-self
@@ -13,8 +13,8 @@ invariant_of-self c =
     let here = some_at _ segments c.in_ok-best.best c.deref.ensures.value c.in_ok-best.ensures.within in
     sound_chosen c.self.inside.block segments _ c.self.inside.unfinished
     (length c.self.inside.taken.items) c.in_ok-best.best here.1 c.self.invariant here.2 here.0
-    (left_at segments c.in_ok-best.best here.1 c.index_mut.result.now c.leave.new.self c.self.invariant.numbered here.2
-    (c.leave.ensures ∙ ap left_out c.index_mut.ensures.value))
+    (stopped_at segments c.in_ok-best.best here.1 c.index_mut.result.now c.stop_waiting.new.self c.self.invariant.numbered here.2
+    (c.stop_waiting.ensures ∙ ap no_longer_waiting c.index_mut.ensures.value))
 
 pub returns-clause-choice : goal.returns-clause-choice
 returns-clause-choice c =
@@ -40,8 +40,9 @@ returns-clause-state c =
       unfinished = Some (c.in_ok-best.best + 1);
       taken = c.self.inside.taken.items;
     })
-    (left_at segments c.in_ok-best.best here.1 c.index_mut.result.now c.leave.new.self c.self.invariant.numbered here.2 (c.leave.ensures
-    ∙ ap left_out c.index_mut.ensures.value) ∙ ap (λ n. without n segments) number)
+    (stopped_at segments c.in_ok-best.best here.1 c.index_mut.result.now c.stop_waiting.new.self c.self.invariant.numbered here.2
+    (c.stop_waiting.ensures
+    ∙ ap no_longer_waiting c.index_mut.ensures.value) ∙ ap (λ n. without n segments) number)
     ∙ ap (λ v. record {
       block = v.block;
       segments = without (c.in_ok-best.best + 1) v.segments;
@@ -53,4 +54,4 @@ pub returns-clause-known : goal.returns-clause-known
 returns-clause-known c =
     let segments = c.self.inside.segments.items in
     let here = some_at _ segments c.in_ok-best.best c.deref.ensures.value c.in_ok-best.ensures.within in
-    (omega arith, omega (arith, here.0, length-set segments c.in_ok-best.best c.leave.new.self))
+    (omega arith, omega (arith, here.0, length-set segments c.in_ok-best.best c.stop_waiting.new.self))

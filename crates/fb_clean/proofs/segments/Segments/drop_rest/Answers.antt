@@ -1,6 +1,6 @@
 use Rattle.std.proofs.Common.{ap, ◌∙◌, map, length}
 use Rattle.std.proofs.lemmas.List.{take_at, length-map}
-use Rattle.fb_clean.specs.Segments.{left_out}
+use Rattle.fb_clean.specs.Segments.{no_longer_waiting}
 use Rattle.fb_clean.proofs.Kept.{sound_left}
 use Rattle.fb_clean.proofs.segments.Segments.drop_rest.Goals as goal
 
@@ -8,6 +8,6 @@ pub invariant_of-self : goal.invariant_of-self
 invariant_of-self c =
     sound_left c.self.inside.block c.self.inside.segments.items _ c.self.inside.unfinished
     (length c.self.inside.taken.items) c.self.invariant
-    (take_at c.leave_all.new.segments _ c.self.inside.segments.len
-    (ap length c.leave_all.ensures ∙ (length-map c.deref_mut.result.now left_out ∙ c.deref_mut.ensures.len))
-    ∙ (c.leave_all.ensures ∙ ap (map left_out) c.deref_mut.ensures.value))
+    (take_at c.stop_all.new.segments _ c.self.inside.segments.len
+    (ap length c.stop_all.ensures ∙ (length-map c.deref_mut.result.now no_longer_waiting ∙ c.deref_mut.ensures.len))
+    ∙ (c.stop_all.ensures ∙ ap (map no_longer_waiting) c.deref_mut.ensures.value))

@@ -5,7 +5,7 @@ use Rattle.fb_fastq.proofs.Least.{all_held, waits_there, held_is_in}
 use Rattle.fb_fastq.proofs.Swept.{some_injective}
 use Rattle.fb_fastq.proofs.OneMore.{remove_more, more_left, more_right, least_more, all_less, length_more}
 use Rattle.fb_fastq.proofs.Divided.{numbered_left, no_later_than_map, first_of_both, some_of_map, rows_taken, map_taken}
-use Rattle.fb_fastq.proofs.sptf.SptfLanesQueue.take.Goals.{After-self, After-soonest_in_rows-pick, After-leave_if_empty}
+use Rattle.fb_fastq.proofs.sptf.SptfLanesQueue.take.Goals.{After-self, After-soonest_in_rows-pick, After-free_if_empty}
 use Rattle.fb_fastq.proofs.sptf.SptfLanesQueue.take.Goals as goal
 
 -- each spot is its request's
@@ -115,10 +115,10 @@ overflow_sub-self c =
     let all = c.self.invariant.0.counted in omega (arith, one, all)
 
 -- the rows have one request less
-one_less : (c : After-leave_if_empty) (w : Waiting) → at_position c.self.inside.rows.items c.in-Some.position ≡ Some w
-    → IsMore w (all_of_rows c.leave_if_empty.new.rows.items) (all_of_rows c.self.inside.rows.items)
+one_less : (c : After-free_if_empty) (w : Waiting) → at_position c.self.inside.rows.items c.in-Some.position ≡ Some w
+    → IsMore w (all_of_rows c.free_if_empty.new.rows.items) (all_of_rows c.self.inside.rows.items)
 one_less c w there =
-    subst (λ ws. IsMore w ws (all_of_rows c.self.inside.rows.items)) (sym c.leave_if_empty.ensures.same)
+    subst (λ ws. IsMore w ws (all_of_rows c.self.inside.rows.items)) (sym c.free_if_empty.ensures.same)
     (subst (λ o. IfSome o (λ w. IsMore w (all_of_rows c.take_from-request.new.rows.items) (all_of_rows c.self.inside.rows.items))) there
     c.take_from-request.ensures.less)
 
@@ -126,11 +126,11 @@ pub invariant_of-self : goal.invariant_of-self
 invariant_of-self c =
     let at = in_rows ((goal.at.invariant_of-self c).After-soonest_in_rows-pick) c.in-Some.position c.in-Some.is in
     let inside = c.self.inside in
-    let new = c.leave_if_empty.new.rows.items in
-    let less = one_less ((goal.at.invariant_of-self c).After-leave_if_empty) at.waiting at.there in
-    let own = c.leave_if_empty.ensures.rows (c.take_from-request.ensures.rows c.self.invariant.0.own_rows) in (
+    let new = c.free_if_empty.new.rows.items in
+    let less = one_less ((goal.at.invariant_of-self c).After-free_if_empty) at.waiting at.there in
+    let own = c.free_if_empty.ensures.rows (c.take_from-request.ensures.rows c.self.invariant.0.own_rows) in (
       rows_taken inside.waiting.entries inside.rows.items new inside.in_rows inside.joined at.waiting c.self.invariant.0 less own,
-      c.leave_if_empty.ensures.occupied (c.take_from-request.ensures.occupied inside.occupied c.self.invariant.1),
+      c.free_if_empty.ensures.occupied (c.take_from-request.ensures.occupied inside.occupied c.self.invariant.1),
     )
 
 pub take_out-requires : goal.take_out-requires
@@ -158,10 +158,10 @@ returns-in-Some-clause-least c =
     let at = in_rows ((goal.at.returns-in-Some-clause-least c).After-soonest_in_rows-pick) c.in-Some.position c.in-Some.is in
     let inside = c.self.inside in
     let rank = sptf c.args.disk.now c.args.head c.args.now in
-    let new = c.leave_if_empty.new.rows.items in
+    let new = c.free_if_empty.new.rows.items in
     let entries = inside.waiting.entries in
     let w = at.waiting in
-    let less = one_less ((goal.at.returns-in-Some-clause-least c).After-leave_if_empty) at.waiting at.there in
+    let less = one_less ((goal.at.returns-in-Some-clause-least c).After-free_if_empty) at.waiting at.there in
     let value = subst (λ o. IfSome o (λ w. c.take_from-request.result ≡ w.1)) at.there c.take_from-request.ensures.value in
     let first = no_later_than_both ((goal.at.returns-in-Some-clause-least c).After-soonest_in_rows-pick) w at.key at.wait in
     subst (λ ws. first_least rank (pending_of ws) ≡ Some (c.take_from-request.result, pending_of (entries ++ all_of_rows new)))
@@ -175,9 +175,9 @@ pub returns-in-Some-clause-serves : goal.returns-in-Some-clause-serves
 returns-in-Some-clause-serves c =
     let at = in_rows ((goal.at.returns-in-Some-clause-serves c).After-soonest_in_rows-pick) c.in-Some.position c.in-Some.is in
     let inside = c.self.inside in
-    let new = c.leave_if_empty.new.rows.items in
+    let new = c.free_if_empty.new.rows.items in
     let entries = inside.waiting.entries in
-    let less = one_less ((goal.at.returns-in-Some-clause-serves c).After-leave_if_empty) at.waiting at.there in
+    let less = one_less ((goal.at.returns-in-Some-clause-serves c).After-free_if_empty) at.waiting at.there in
     all_less at.waiting (entries ++ all_of_rows new) (entries ++ all_of_rows inside.rows.items)
     (more_left at.waiting (all_of_rows new) (all_of_rows inside.rows.items) less entries)
     (λ w. IsAlong c.args.disk.now w.1 w.0.0) (spots ((goal.at.returns-in-Some-clause-serves c).After-self))

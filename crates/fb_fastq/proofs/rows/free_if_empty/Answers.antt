@@ -1,7 +1,7 @@
 use Rattle.fb_fastq.proofs.Words.{nil_from_length, ◌≡◌, ◌∙◌, Some, slice_get, length, refl, sym, ap, arith, nat_tests, slice_get_read, Row}
 use Rattle.fb_fastq.proofs.{InRows.same_row_of, OneMore.set_same, OneMore.same_rows, OneMore.occupied_less}
-use Rattle.fb_fastq.proofs.rows.leave_if_empty.Goals.{After-remove}
-use Rattle.fb_fastq.proofs.rows.leave_if_empty.Goals as goal
+use Rattle.fb_fastq.proofs.rows.free_if_empty.Goals.{After-remove}
+use Rattle.fb_fastq.proofs.rows.free_if_empty.Goals as goal
 
 -- the row is as empty as a new one
 none_left : (c : After-remove)
