@@ -13,7 +13,7 @@ use Rattle.fb_check.specs.declared.comparing.Comparison.{Comparison}
 use Rattle.fb_check.specs.declared.verdict.Rule.{Rule}
 use Rattle.fb_check.specs.declared.verdict.Mismatch.{Mismatch}
 use Rattle.fb_check.specs.Verdict.{IsMismatch}
-use Rattle.fb_check.specs.Comparing.{IsReady, IsDue, NamesLine, NextIs, OneMore, HasComparedOne, SoFar, HasCompared}
+use Rattle.fb_check.specs.Comparing.{CanCompare, IsDue, NamesLine, NextIs, OneMore, HasComparedOne, SoFar, HasCompared}
 
 -- ---- a mismatch
 
@@ -230,7 +230,8 @@ complete_by (Some mismatch) lines rules due rule_by before after so_far one ends
 
 -- where no line was wrong, the lines with the last one are the printed ones
 pub complete : (lines : List (List ℕ)) (rules : List (ℕ → Rule)) (due : List ℕ) (rule_by : ℕ → Rule) (before after : Comparison)
-    → SoFar before.wrong lines rules before.report before.lines.now before.same → HasComparedOne rule_by due before after → IsReady before
+    → SoFar before.wrong lines rules before.report before.lines.now before.same → HasComparedOne rule_by due before after
+    → CanCompare before
     → BeginsLikeEnd due → after.wrong ≡ None → lines ++ due ∷ [] ≡ map ended before.lines.now
 complete lines rules due rule_by before after so_far one ready begins right =
     complete_by before.wrong lines rules due rule_by before after so_far one.one ready.ends begins right

@@ -32,7 +32,7 @@ use Rattle.fb_check.specs.declared.verdict.Verdict.TheVariants.{Yes, No}
 use Rattle.fb_decide.specs.FullRuns.{AreRowsOf, DecisionsMakeARun}
 use Rattle.fb_check.specs.Judged.{HasJudged}
 use Rattle.fb_check.specs.Verdict.{IsMismatch, Reports, back_rule, fore_rules, back_rules, HasForeLines, IsVerdict}
-use Rattle.fb_check.specs.Comparing.{IsReady, HasComparedOne, SoFar, HasComparedFore, HasComparedBack}
+use Rattle.fb_check.specs.Comparing.{CanCompare, HasComparedOne, SoFar, HasComparedFore, HasComparedBack}
 use Rattle.fb_check.proofs.Comparisons.{still_wrong, one_line, complete}
 
 -- ---- lines and rules of a whole report
@@ -101,7 +101,7 @@ module _ (inputs : Inputs) (printed : Reports) where
   pub at_first : (list : List Request) (course : Course) (pending : List Request) (count : ℕ) (fore back : Comparison)
       → HasMade inputs true [] list course pending count → course.fore ≡ [] → course.background.rows ≡ []
       → HasComparedFore inputs.disk.sector_bytes printed.bytes printed.fore fore []
-      → HasComparedBack printed.names inputs.disk.sector_bytes printed.bytes printed.back back [] → IsReady fore → IsReady back
+      → HasComparedBack printed.names inputs.disk.sector_bytes printed.bytes printed.back back [] → CanCompare fore → CanCompare back
       → HasJudged inputs printed true list course pending count fore back
   at_first list course pending count fore back made no_fore no_back fore_compared back_compared fore_ready back_ready = record {
     steps = [];
@@ -215,7 +215,7 @@ module _ (inputs : Inputs) (printed : Reports) (more : Bool) (list : List Reques
         → (fore_after back_after : Comparison)
         → HasComparedFore inputs.disk.sector_bytes printed.bytes printed.fore fore_after (judged.fore_rows ++ fore_new)
         → HasComparedBack printed.names inputs.disk.sector_bytes printed.bytes printed.back back_after (judged.back_rows ++ back_new)
-        → IsReady fore_after → IsReady back_after
+        → CanCompare fore_after → CanCompare back_after
         → HasJudged inputs printed more now_list now now_pending now_count fore_after back_after
     next now_list now now_pending now_count made no_fore no_back fore_new back_new f b fore_after back_after fore_h back_h fore_ready back_ready = record {
       steps = judged.steps ++ one.step ∷ [];
@@ -302,7 +302,7 @@ module _ (inputs : Inputs) (printed : Reports) (list : List Request) (course : C
     module _ (end_right : after.wrong ≡ None) (rows : List BackRow) (rows_are : rows ≡ task_rows (history inputs judged.steps))
         (between ended_back : Comparison) (end : ℕ) (end_is : end ≡ run_end (decisions inputs))
         (compared : HasComparedBack printed.names inputs.disk.sector_bytes printed.bytes printed.back between (judged.back_rows ++ rows))
-        (ready : IsReady between) (last : HasComparedOne (λ field. End) (back_last end) between ended_back) where
+        (ready : CanCompare between) (last : HasComparedOne (λ field. End) (back_last end) between ended_back) where
       abbrev due_back : List (List ℕ)
       due_back = back_first ∷ map (back_line printed.names inputs.disk.sector_bytes printed.bytes) (judged.back_rows ++ rows)
 

@@ -21,7 +21,7 @@ StandsNext None lines same = same < length lines
 StandsNext (Some mismatch) lines same = Unit {0}
 
 -- another due line can be compared
-pub record IsReady (comparison : Comparison) : Type 0 where
+pub record CanCompare (comparison : Comparison) : Type 0 where
   pub ends : EndsOnce comparison.lines.now
   pub next : StandsNext comparison.wrong comparison.lines.now comparison.same
 

@@ -10,7 +10,7 @@ use Rattle.fb_decide.specs.Making.{HasMade}
 use Rattle.fb_check.specs.declared.comparing.Comparison.{Comparison}
 use Rattle.fb_decide.specs.FullRuns.{AreRowsOf}
 use Rattle.fb_check.specs.Verdict.{Reports}
-use Rattle.fb_check.specs.Comparing.{IsReady, HasComparedFore, HasComparedBack}
+use Rattle.fb_check.specs.Comparing.{CanCompare, HasComparedFore, HasComparedBack}
 
 -- these steps have been made, their rows were taken out, and the lines of the rows were compared
 pub record HasJudged (inputs : Inputs) (printed : Reports) (more : Bool) (list : List Request) (course : Course) (pending : List Request)
@@ -24,5 +24,5 @@ pub record HasJudged (inputs : Inputs) (printed : Reports) (more : Bool) (list :
   pub rows : AreRowsOf inputs steps fore_rows back_rows
   pub fore_compared : HasComparedFore inputs.disk.sector_bytes printed.bytes printed.fore fore fore_rows
   pub back_compared : HasComparedBack printed.names inputs.disk.sector_bytes printed.bytes printed.back back back_rows
-  pub fore_ready : IsReady fore
-  pub back_ready : IsReady back
+  pub fore_ready : CanCompare fore
+  pub back_ready : CanCompare back

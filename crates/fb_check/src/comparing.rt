@@ -11,7 +11,7 @@ ghost use Rattle.fb_report.specs.Grammar.{ended};
 ghost use Rattle.fb_report.specs.Reading.{BeginsLikeEnd, EndsOnce};
 ghost use Rattle.fb_check.specs.declared.verdict.Rule.TheVariants.{Foreground, End};
 ghost use Rattle.fb_check.specs.Verdict as verdict;
-ghost use Rattle.fb_check.specs.Comparing.{IsReady, IsDue, IsNotDue, HasComparedOne, HasComparedFore, HasComparedBack};
+ghost use Rattle.fb_check.specs.Comparing.{CanCompare, IsDue, IsNotDue, HasComparedOne, HasComparedFore, HasComparedBack};
 
 use crate::fields::first_wrong_field;
 use crate::{Mismatch, Rule};
@@ -40,7 +40,7 @@ impl<'a> Comparison<'a> {
     /// Begins with the first line of a foreground report. The only error is out of memory.
     pub fn begin_fore(alloc: Global, lines: &'a ReportLines<'a>) -> Result<Comparison<'a>, NoMemory>
         requires ends { EndsOnce lines.now }
-        ensures ready { IfOk result IsReady }
+        ensures ready { IfOk result CanCompare }
         ensures compared { (size : ℕ) (bytes : Bytes) → IfOk result (λ comparison. HasComparedFore size bytes lines.now comparison []) }
     {
         let due = fore_first(alloc)?;
@@ -57,7 +57,7 @@ impl<'a> Comparison<'a> {
     /// Begins with the first line of a background report. The only error is out of memory.
     pub fn begin_back(alloc: Global, lines: &'a ReportLines<'a>) -> Result<Comparison<'a>, NoMemory>
         requires ends { EndsOnce lines.now }
-        ensures ready { IfOk result IsReady }
+        ensures ready { IfOk result CanCompare }
         ensures compared { (names : List (List ℕ)) (size : ℕ) (bytes : Bytes)
             → IfOk result (λ comparison. HasComparedBack names size bytes lines.now comparison []) }
     {
@@ -76,7 +76,7 @@ impl<'a> Comparison<'a> {
     ///
     /// `passed_over` is the number of requests passed over. The only error is out of memory.
     pub fn end_fore(&mut self, alloc: Global, passed_over: u64) -> Result<(), NoMemory>
-        requires ready { IsReady self.old }
+        requires ready { CanCompare self.old }
         requires some { 0 < self.old.same }
         ensures { OnOk result (HasComparedOne (λ field. Foreground) (fore_last (self.old.same - 1) passed_over) self.old self.new) }
     {
@@ -89,7 +89,7 @@ impl<'a> Comparison<'a> {
     ///
     /// `end` is the instant, in ns, at which the run ends. The only error is out of memory.
     pub fn end_back(&mut self, alloc: Global, end: Ns) -> Result<(), NoMemory>
-        requires ready { IsReady self.old }
+        requires ready { CanCompare self.old }
         ensures { OnOk result (HasComparedOne (λ field. End) (back_last end) self.old self.new) }
     {
         if self.wrong.is_some() {
@@ -103,10 +103,10 @@ impl<'a> Comparison<'a> {
     // Compares the next line with the due one, unless an earlier line was wrong. `due` has its line
     // feed, and `rule` is the rule that it keeps.
     fn compare_line(&mut self, due: &[u8], rule: Rule)
-        requires ready { IsReady self.old }
+        requires ready { CanCompare self.old }
         requires whole { (line : List ℕ) × (due.now ≡ ended line) }
         ensures one { HasComparedOne (λ field. rule) due.now self.old self.new }
-        ensures ready { (BeginsLikeEnd due.now → ⊥) → IsReady self.new }
+        ensures ready { (BeginsLikeEnd due.now → ⊥) → CanCompare self.new }
     {
         if self.wrong.is_none() {
             if let Some(field) = self.pass_line(due) {
@@ -117,10 +117,10 @@ impl<'a> Comparison<'a> {
 
     // Compares the next line with a row's.
     fn compare_row(&mut self, due: &[u8], row: &BackRow)
-        requires ready { IsReady self.old }
+        requires ready { CanCompare self.old }
         requires whole { (line : List ℕ) × (due.now ≡ ended line) }
         ensures one { HasComparedOne (verdict.back_rule row.now) due.now self.old self.new }
-        ensures ready { (BeginsLikeEnd due.now → ⊥) → IsReady self.new }
+        ensures ready { (BeginsLikeEnd due.now → ⊥) → CanCompare self.new }
     {
         if self.wrong.is_none() {
             if let Some(field) = self.pass_line(due) {
@@ -140,8 +140,8 @@ impl<'a> Comparison<'a> {
         bytes: Bytes,
     ) -> Result<(), NoMemory>
         requires whole { sector_bytes % 16 ≡ 0 }
-        requires ready { IsReady self.old }
-        ensures ready { OnOk result (IsReady self.new) }
+        requires ready { CanCompare self.old }
+        ensures ready { OnOk result (CanCompare self.new) }
         ensures compared { OnOk result
             ((printed : List (List ℕ)) (fore : List ForeRow) → HasComparedFore sector_bytes bytes printed self.old fore
             → HasComparedFore sector_bytes bytes printed self.new (fore ++ rows.now)) }
@@ -170,8 +170,8 @@ impl<'a> Comparison<'a> {
     ) -> Result<(), NoMemory>
         requires whole { sector_bytes % 16 ≡ 0 }
         requires named { AllByRecursion (HasNamedTask names.now) rows.now }
-        requires ready { IsReady self.old }
-        ensures ready { OnOk result (IsReady self.new) }
+        requires ready { CanCompare self.old }
+        ensures ready { OnOk result (CanCompare self.new) }
         ensures compared { OnOk result
             ((printed : List (List ℕ)) (back : List BackRow) → HasComparedBack names.now sector_bytes bytes printed self.old back
             → HasComparedBack names.now sector_bytes bytes printed self.new (back ++ rows.now)) }

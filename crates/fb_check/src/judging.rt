@@ -10,7 +10,7 @@ ghost use Rattle.fb_decide.specs.Making.{HasMade};
 ghost use Rattle.fb_model.specs.Accepted.{IsAccepted};
 ghost use Rattle.fb_report.specs.Grammar.{back_grammar, fore_grammar};
 ghost use Rattle.fb_report.specs.Reading.{IsReport};
-ghost use Rattle.fb_check.specs.Comparing.{IsReady, HasComparedFore, HasComparedBack};
+ghost use Rattle.fb_check.specs.Comparing.{CanCompare, HasComparedFore, HasComparedBack};
 ghost use Rattle.fb_check.specs.Judged.{HasJudged};
 ghost use Rattle.fb_check.specs.Printed.{reports_of};
 ghost use Rattle.fb_check.specs.Verdict.{IsVerdict};
@@ -109,13 +109,13 @@ fn compare_rows(
 ) -> Result<(), NoMemory>
     requires whole { inputs.disk.now.sector_bytes % 16 ≡ 0 }
     requires named { AllByRecursion (HasNamedTask inputs.calls.now.names) rows.now.back }
-    requires fore_ready { IsReady fore.old }
-    requires back_ready { IsReady back.old }
-    ensures fore_ready { OnOk result (IsReady fore.new) }
+    requires fore_ready { CanCompare fore.old }
+    requires back_ready { CanCompare back.old }
+    ensures fore_ready { OnOk result (CanCompare fore.new) }
     ensures fore_compared { OnOk result ((printed : List (List ℕ)) (before : List ForeRow)
         → HasComparedFore inputs.entry.disk.now.sector_bytes bytes printed fore.old before
         → HasComparedFore inputs.entry.disk.now.sector_bytes bytes printed fore.new (before ++ rows.now.fore)) }
-    ensures back_ready { OnOk result (fore.new.wrong ≡ None → IsReady back.new) }
+    ensures back_ready { OnOk result (fore.new.wrong ≡ None → CanCompare back.new) }
     ensures back_compared { OnOk result (fore.new.wrong ≡ None → (printed : List (List ℕ)) (before : List BackRow)
         → HasComparedBack inputs.entry.calls.now.names inputs.entry.disk.now.sector_bytes bytes printed back.old before
         → HasComparedBack inputs.entry.calls.now.names inputs.entry.disk.now.sector_bytes bytes printed back.new

@@ -33,8 +33,8 @@ use Rattle.fb_tasks.specs.Telling.{Tells, MayDeliver, IsUpToDate, IsBlockOf, ent
 use Rattle.fb_tasks.proofs.Lists.{all_append, all_at, all_map, all_weaker, filter_from}
 use Rattle.fb_tasks.proofs.States.{shown}
 use Rattle.fb_decide.specs.declared.background.Background.{Background}
-use Rattle.fb_decide.specs.Deliveries.{IsCurrent, HasDelivered, IsRegistered, AreDistinct, AreDue, IsOneOf, block_in, followed, past_with}
-use Rattle.fb_decide.specs.Deliveries.{rows_of, held_now}
+use Rattle.fb_decide.specs.Deliveries.{TellsUpToDate, HasDelivered, IsRegistered, AreDistinct, AreDue, IsOneOf, block_in, followed}
+use Rattle.fb_decide.specs.Deliveries.{past_with, rows_of, held_now}
 
 -- the wanted set gives the blocks that are wanted
 wanted_by : (past : Past) (bs : List Block) → wanted_of (map (entry_of past) bs) ≡ filter (λ b. is_wanted (state past b)) bs
@@ -129,14 +129,14 @@ rows-append past xs ys =
     ap rows_of (followed-append past xs ys) ∙ flat_map-append lines_of (followed past xs) (followed (past_with past xs) ys)
 
 -- a wanted block may be delivered, with what its sectors hold
-pub wanted-on_disk : (disk : Shape) (past : Past) (place : ℕ) (block : Block) (background : Background) → IsCurrent disk past background
+pub wanted-on_disk : (disk : Shape) (past : Past) (place : ℕ) (block : Block) (background : Background) → TellsUpToDate disk past background
     → slice_get (wanted past) place ≡ Some block → block.lbn + block.count ≤ 10 ^ 12
 wanted-on_disk disk past place block background current at =
     let found = wanted-registered past place block at in
     (all_at (IsBlockOf disk (length (tasks past))) (registered past) found.0 block current.tells.on_disk found.1).within
 
 pub may-deliver : (disk : Shape) (past : Past) (place : ℕ) (got : DeliveryRow) (background : Background) (content_at : ℕ → Content)
-    → IsCurrent disk past background → slice_get (wanted past) place ≡ Some got.block
+    → TellsUpToDate disk past background → slice_get (wanted past) place ≡ Some got.block
     → Gives got.content content_at got.block.lbn got.block.count → MayDeliver disk past background.sessions background.wanted got
 may-deliver disk past place got background content_at current at gives = record {
   tells = current.tells;
@@ -174,7 +174,7 @@ if_ok_with P Q R (Ok x) f p q = f x p q
 if_ok_with P Q R (Err e) f p q = tt
 
 -- nothing was delivered
-pub delivered-none : {disk : Shape} {past : Past} {background : Background} → IsCurrent disk past background
+pub delivered-none : {disk : Shape} {past : Past} {background : Background} → TellsUpToDate disk past background
     → HasDelivered disk past [] background.rows background
 delivered-none {background} current = record { current = current; rows_after = sym (append-nil background.rows); registered = tt }
 
@@ -183,7 +183,7 @@ pub delivered-join : {disk : Shape} {past : Past} {xs ys : List DeliveryRow} {ro
     → HasDelivered disk past xs rows middle → HasDelivered disk (past_with past xs) ys middle.rows after
     → HasDelivered disk past (xs ++ ys) rows after
 delivered-join {disk} {past} {xs} {ys} {rows} {middle} {after} first next = record {
-  current = subst (λ p. IsCurrent disk p after) (sym (past_with-append past xs ys)) next.current;
+  current = subst (λ p. TellsUpToDate disk p after) (sym (past_with-append past xs ys)) next.current;
   rows_after = next.rows_after ∙ (ap (λ rs. rs ++ rows_of (followed (past_with past xs) ys)) first.rows_after
       ∙ (append_assoc rows (rows_of (followed past xs)) (rows_of (followed (past_with past xs) ys))
       ∙ ap (λ rs. rows ++ rs) (sym (rows-append past xs ys))));

@@ -23,7 +23,7 @@ use Rattle.fb_model.specs.Content.{medium_of}
 use Rattle.fb_model.specs.Decisions.{decisions}
 use Rattle.fb_tasks.specs.Telling.{Tells}
 use Rattle.fb_decide.specs.declared.deciding.Course.{Course}
-use Rattle.fb_decide.specs.Deciding.{IsAtBegin, PassagesTakeTime, HasDecided, IsReady}
+use Rattle.fb_decide.specs.Deciding.{IsAtBegin, PassagesTakeTime, HasDecided, MayDecide}
 use Rattle.fb_decide.specs.Making.{GoesOn, AreKnown, RowFits, HasComeTo, HasMade, HasMadeOne}
 use Rattle.fb_decide.proofs.Calling.{called_first}
 use Rattle.fb_decide.proofs.Truth.{true_first}
@@ -117,8 +117,8 @@ module _ (inputs : Inputs) (steps : List Step) (list : List Request) (course : C
   list_is : now_list ≡ requests inputs
   list_is = same ∙ made.list_is
 
-  pub now_ready : IsReady inputs.disk now_list inputs.calls course count pending
-  now_ready = subst (λ list. IsReady inputs.disk list inputs.calls course count pending) (sym list_is) (record {
+  pub now_ready : MayDecide inputs.disk now_list inputs.calls course count pending
+  now_ready = subst (λ list. MayDecide inputs.disk list inputs.calls course count pending) (sym list_is) (record {
     list = made.known.list;
     script = record { instants = made.known.accepted.instants; allowed = made.known.accepted.calls; few = made.known.accepted.few_calls };
     waiting = made.come_to.waits;

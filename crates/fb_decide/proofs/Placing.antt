@@ -18,7 +18,7 @@ use Rattle.fb_tasks.specs.Standing.{AreNumbered}
 use Rattle.fb_tasks.specs.Telling.{Tells}
 use Rattle.fb_tasks.proofs.Lists.{all_weaker, all_filter, all_map, filter_same, all_any, all_with}
 use Rattle.fb_tasks.proofs.Deliveries.{numbered_from}
-use Rattle.fb_decide.specs.Deliveries.{AreDistinct, AreDue, IsOneOf, block_in, row_in, past_with, IsCurrent, HasDelivered, held_now}
+use Rattle.fb_decide.specs.Deliveries.{AreDistinct, AreDue, IsOneOf, block_in, row_in, past_with, TellsUpToDate, HasDelivered, held_now}
 use Rattle.fb_rows.specs.declared.gap.Dwell.{Dwell}
 use Rattle.fb_rows.specs.declared.gap.How.{How}
 use Rattle.fb_rows.specs.declared.back.DeliveryRow.{DeliveryRow}
@@ -287,7 +287,7 @@ all-taken holding how cs n enough = take_all n (map (row_in holding how) cs) (om
 
 -- the catches of a dwell are its deliveries
 pub rows-of_catches : (disk : Disk) (holding : Holding) (how : How) (dwell : Dwell) (past : Past) (before : Background)
-    → IsCurrent disk.map past before → (cs : List Catch) → cs ≡ caught_of disk dwell (wanted_of before.wanted)
+    → TellsUpToDate disk.map past before → (cs : List Catch) → cs ≡ caught_of disk dwell (wanted_of before.wanted)
     → map (row_in holding how) cs ≡ caught_rows disk (held_now holding) how dwell (wanted past)
 rows-of_catches disk holding how dwell past before current cs all = ap (map (row_in holding how)) (all
     ∙ ap (caught_of disk dwell) (wanted-told current.tells)) ∙ rows-caught disk holding how dwell (wanted past)
@@ -299,7 +299,7 @@ module _ (disk : Disk) (holding : Holding) (how : How) (early late : Dwell) (pas
 
   pub delivered-both : (rows : List BackRow) (middle after : Background)
       → wanted (past_with past first_caught) ≡ missed disk early (wanted past) → HasDelivered disk.map past first_caught rows middle
-      → ((later : Past) → IsCurrent disk.map later middle
+      → ((later : Past) → TellsUpToDate disk.map later middle
       → HasDelivered disk.map later (caught_rows disk (held_now holding) how late (wanted later)) middle.rows after)
       → HasDelivered disk.map past (first_caught ++ caught_rows disk (held_now holding) how late (missed disk early (wanted past))) rows
       after

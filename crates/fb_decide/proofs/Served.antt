@@ -29,7 +29,7 @@ use Rattle.fb_model.proofs.Passages.{from_on, passed_between}
 use Rattle.fb_plan.specs.Ways.{IsGap}
 use Rattle.fb_tasks.specs.Telling.{Tells}
 use Rattle.fb_decide.specs.declared.background.Background.{Background}
-use Rattle.fb_decide.specs.Deliveries.{IsCurrent, HasDelivered, HasDeliveredAround, HasServed, followed, past_with, rows_of, held_now}
+use Rattle.fb_decide.specs.Deliveries.{TellsUpToDate, HasDelivered, HasDeliveredAround, HasServed, followed, past_with, rows_of, held_now}
 use Rattle.fb_decide.proofs.Delivering.{delivered-join}
 
 abbrev pub gap_from : Track → ℕ → Bool → Track → ℕ → Gap
@@ -102,7 +102,7 @@ module _ (disk : Disk) (holding : Holding) (served : Served) (plan : Plan) (past
 
   all-delivered : (rows : List BackRow) (middle after : Background) → HasDelivered disk.map past (in_gap (gap_of disk served)) rows middle
       → wanted (past_with past (in_gap (gap_of disk served))) ≡ left (gap_of disk served)
-      → ((later : Past) → IsCurrent disk.map later middle
+      → ((later : Past) → TellsUpToDate disk.map later middle
       → HasDelivered disk.map later (rides (held_now holding) served (wanted later)) middle.rows after)
       → HasDelivered disk.map past (due disk (held_now holding) (serving served plan) (wanted past)) rows after
   unfolding due
@@ -113,7 +113,7 @@ module _ (disk : Disk) (holding : Holding) (served : Served) (plan : Plan) (past
   pub has-delivered-around : (gap : Gap) (rows : List BackRow) (middle after : Background) → gap ≡ gap_of disk served
       → IsBest disk gap (wanted past) plan
       → HasDelivered disk.map past (in_gap gap) (rows ++ opening gap ∷ []) middle → wanted (past_with past (in_gap gap)) ≡ left gap
-      → ((later : Past) → IsCurrent disk.map later middle
+      → ((later : Past) → TellsUpToDate disk.map later middle
       → HasDelivered disk.map later (rides (held_now holding) served (wanted later)) middle.rows after)
       → HasDeliveredAround disk holding past served rows after
   has-delivered-around gap rows middle after its_own best first are_left next = record {

@@ -12,7 +12,7 @@ use Rattle.fb_model.specs.Segments.{with_choices}
 use Rattle.fb_tasks.specs.Taken.{test_rows_found}
 pub use Rattle.fb_tasks.specs.Script.{IsCalled}
 use Rattle.fb_decide.specs.declared.background.Background.{Background}
-use Rattle.fb_decide.specs.Deliveries.{IsCurrent}
+use Rattle.fb_decide.specs.Deliveries.{TellsUpToDate}
 
 -- calls in order of instant, each of which keeps the rules behind those before it
 pub record IsScriptOf (disk : Shape) (calls : List Call) : Type 0 where
@@ -35,7 +35,7 @@ tested_by disk calls past now = tested (test_rows_by disk calls past now) ∷ ch
 -- all calls up to now have taken effect, the tasks have chosen segments, and all tasks were tested
 pub record HasPrepared (disk : Shape) (calls : List Call) (past : Past) (now later : ℕ) (rows : List BackRow)
     (after : Background) : Type 0 where
-  pub current : IsCurrent disk (tested_by disk calls past now) after
+  pub current : TellsUpToDate disk (tested_by disk calls past now) after
   pub called : IsCalled disk calls (tested_by disk calls past now) later
   pub rows_after : after.rows ≡ rows ++ test_rows_by disk calls past now
   pub ahead : IfSome (slice_get calls later) (λ call. now < call.instant)

@@ -24,7 +24,7 @@ use Rattle.fb_decide.specs.declared.background.Background.{Background}
 use Rattle.fb_decide.specs.declared.deciding.Course.{Course}
 use Rattle.fb_decide.specs.Contents.{left_by, IsRowOf}
 use Rattle.fb_decide.specs.Waiting.{left, IsWaiting, IsForegroundOf}
-use Rattle.fb_decide.specs.Deliveries.{IsCurrent, HasDelivered, HasServed, held_now}
+use Rattle.fb_decide.specs.Deliveries.{TellsUpToDate, HasDelivered, HasServed, held_now}
 use Rattle.fb_decide.specs.Calls.{HasPrepared, IsScriptOf}
 
 -- each sector of the disk takes some time to pass
@@ -61,7 +61,7 @@ pub record HasServedNext (disk : Disk) (request : Request) (before after : Cours
       (passages disk before.head before.now request.write request.lbn request.count)
   pub later : before.now < after.now
   pub soon : after.now ≤ before.now + 2048 * (4 * 10 ^ 9)
-  pub served : (past : Past) → IsCurrent disk.map past before.background
+  pub served : (past : Past) → TellsUpToDate disk.map past before.background
       → HasServed disk before.store past (service disk before.head before.now request) before.background.rows after.background
   pub same_joined : after.joined ≡ before.joined
   pub same_called : after.called ≡ before.called
@@ -72,7 +72,7 @@ stay_of course instant = record { track = course.head; begin = course.now; end =
 
 -- the head stayed until an instant
 pub record HasStayed (disk : Disk) (instant : ℕ) (before after : Course) : Type 0 where
-  pub delivered : (past : Past) → IsCurrent disk.map past before.background
+  pub delivered : (past : Past) → TellsUpToDate disk.map past before.background
       → HasDelivered disk.map past (caught_rows disk (held_now before.store) ByIdle (stay_of before instant) (wanted past))
       (before.background.rows ++ IdleLine (stay_of before instant) ∷ []) after.background
   pub until : after.now ≡ instant
@@ -102,7 +102,7 @@ ready_to_act course background joined called = record course { background = back
 
 -- what must stand before a decision: requests and calls that a replay can have, of which those that wait have arrived, and a head that
 -- is on a track of the disk, so early that one more service ends at an instant
-pub record IsReady (disk : Disk) (requests : List Request) (calls : List Call) (course : Course) (count : ℕ)
+pub record MayDecide (disk : Disk) (requests : List Request) (calls : List Call) (course : Course) (count : ℕ)
     (pending : List Request) : Type 0 where
   pub list : IsForegroundOf disk requests
   pub script : IsScriptOf disk.map calls

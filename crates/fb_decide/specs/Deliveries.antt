@@ -48,7 +48,7 @@ abbrev pub IsRegistered : Past → Block → Type 0
 IsRegistered past block = (place : ℕ) × (slice_get (registered past) place ≡ Some block)
 
 -- the sessions and the wanted set tell the history, and all of it was tested
-pub record IsCurrent (disk : Shape) (past : Past) (background : Background) : Type 0 where
+pub record TellsUpToDate (disk : Shape) (past : Past) (background : Background) : Type 0 where
   pub tells : Tells disk past background.sessions background.wanted
   pub up_to_date : IsUpToDate past
 
@@ -72,7 +72,7 @@ pub record AreDue (past : Past) (gots : List DeliveryRow) : Type 0 where
 
 -- these deliveries were made, and their rows added
 pub record HasDelivered (disk : Shape) (past : Past) (gots : List DeliveryRow) (rows : List BackRow) (after : Background) : Type 0 where
-  pub current : IsCurrent disk (past_with past gots) after
+  pub current : TellsUpToDate disk (past_with past gots) after
   pub rows_after : after.rows ≡ rows ++ rows_of (followed past gots)
   pub registered : AllByRecursion (λ got. IsRegistered past got.block) gots
 

@@ -3,7 +3,7 @@ ghost use Rattle.std.specs.Prelude.{◌≡◌, ◌+◌, ◌*◌, ◌≤◌, ◌^
 ghost use Rattle.fb_geometry.specs.Shape.{Shape};
 ghost use Rattle.fb_model.specs.History.{Past, wanted};
 ghost use Rattle.fb_model.specs.Rides.{delivery, caught_rows, missed};
-ghost use Rattle.fb_decide.specs.Deliveries.{IsCurrent, HasDelivered, AreDue, row_in, held_now, past_with};
+ghost use Rattle.fb_decide.specs.Deliveries.{TellsUpToDate, HasDelivered, AreDue, row_in, held_now, past_with};
 
 use fb_plan::{Catch, caught};
 use fb_rows::{BackRow, BackRows, DeliveryRow, Dwell, How};
@@ -39,9 +39,9 @@ impl Background {
         how: How,
         catch: Catch,
     ) -> Result<(), NoMemory>
-        requires wanted { (disk : Shape) × (past : Past) × (place : ℕ) × IsCurrent disk past self.old
+        requires wanted { (disk : Shape) × (past : Past) × (place : ℕ) × TellsUpToDate disk past self.old
             × (slice_get (wanted past) place ≡ Some catch.block) }
-        ensures { OnOk result ((disk : Shape) (past : Past) (place : ℕ) → IsCurrent disk past self.old
+        ensures { OnOk result ((disk : Shape) (past : Past) (place : ℕ) → TellsUpToDate disk past self.old
             → slice_get (wanted past) place ≡ Some catch.block
             → HasDelivered disk past (delivery (held_now store.now) how catch.block catch.begin catch.end ∷ []) self.old.rows self.new) }
     {
@@ -68,8 +68,9 @@ impl Background {
         how: How,
         catches: &[Catch],
     ) -> Result<(), NoMemory>
-        requires { (disk : Shape) × (past : Past) × IsCurrent disk past self.old × AreDue past (map (row_in store.now how) catches.now) }
-        ensures { OnOk result ((disk : Shape) (past : Past) → IsCurrent disk past self.old
+        requires { (disk : Shape) × (past : Past) × TellsUpToDate disk past self.old
+            × AreDue past (map (row_in store.now how) catches.now) }
+        ensures { OnOk result ((disk : Shape) (past : Past) → TellsUpToDate disk past self.old
             → AreDue past (map (row_in store.now how) catches.now)
             → HasDelivered disk past (map (row_in store.now how) catches.now) self.old.rows self.new) }
     {
@@ -90,11 +91,11 @@ impl Background {
         how: How,
         dwell: Dwell,
     ) -> Result<(), NoMemory>
-        requires current { (past : Past) × IsCurrent disk.now.map past self.old }
+        requires current { (past : Past) × TellsUpToDate disk.now.map past self.old }
         requires early { dwell.begin ≤ 9 * 10 ^ 18 }
-        ensures delivered { OnOk result ((past : Past) → IsCurrent disk.now.map past self.old
+        ensures delivered { OnOk result ((past : Past) → TellsUpToDate disk.now.map past self.old
             → HasDelivered disk.now.map past (caught_rows disk.now (held_now store.now) how dwell (wanted past)) self.old.rows self.new) }
-        ensures left { OnOk result ((past : Past) → IsCurrent disk.now.map past self.old
+        ensures left { OnOk result ((past : Past) → TellsUpToDate disk.now.map past self.old
             → wanted (past_with past (caught_rows disk.now (held_now store.now) how dwell (wanted past)))
             ≡ missed disk.now dwell (wanted past)) }
     {
@@ -112,9 +113,9 @@ impl Background {
         store: &Store,
         dwell: Dwell,
     ) -> Result<(), NoMemory>
-        requires current { (past : Past) × IsCurrent disk.now.map past self.old }
+        requires current { (past : Past) × TellsUpToDate disk.now.map past self.old }
         requires early { dwell.begin ≤ 9 * 10 ^ 18 }
-        ensures { OnOk result ((past : Past) → IsCurrent disk.now.map past self.old
+        ensures { OnOk result ((past : Past) → TellsUpToDate disk.now.map past self.old
             → HasDelivered disk.now.map past (caught_rows disk.now (held_now store.now) How.Idle dwell (wanted past))
             (self.old.rows ++ BackRow.Idle dwell ∷ []) self.new) }
     {

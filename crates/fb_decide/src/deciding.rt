@@ -14,8 +14,8 @@ ghost use Rattle.fb_tasks.specs.Telling.{Tells};
 ghost use Rattle.fb_decide.specs.RunInputs.{inputs_of};
 ghost use Rattle.fb_decide.specs.Waiting.{IsWaiting};
 ghost use Rattle.fb_decide.specs.Calls.{IsCalled};
-ghost use Rattle.fb_decide.specs.Deliveries.{IsCurrent};
-ghost use Rattle.fb_decide.specs.Deciding.{IsAtBegin, IsReady, next_of, HasServedNext, HasStayed, HasActed, HasDecided};
+ghost use Rattle.fb_decide.specs.Deliveries.{TellsUpToDate};
+ghost use Rattle.fb_decide.specs.Deciding.{IsAtBegin, MayDecide, next_of, HasServedNext, HasStayed, HasActed, HasDecided};
 ghost use Rattle.fb_decide.specs.Making.{HasMade, HasMadeOne, RowFits};
 
 use crate::background::Background;
@@ -217,7 +217,7 @@ fn advance<Q: Queue, P: Planner>(
     queue: &mut Q,
     course: &mut Course,
 ) -> Result<bool, NoMemory>
-    requires ready { IsReady inputs.disk.now requests.now inputs.calls.now.calls.items course.old (Q.joined queue.old)
+    requires ready { MayDecide inputs.disk.now requests.now inputs.calls.now.calls.items course.old (Q.joined queue.old)
         (Q.pending queue.old) }
     requires serves { Q.serves queue.old inputs.disk.now }
     requires called { (past : Past) × IsCalled inputs.disk.now.map inputs.calls.now.calls.items past course.old.called
@@ -253,7 +253,7 @@ fn act<Q: Queue, P: Planner>(
     requires serves { Q.serves queue.old inputs.disk.now }
     requires head { IsTrackOf inputs.disk.now.map course.old.head }
     requires now { course.old.now ≤ 9 * 10 ^ 18 - 10 ^ 15 }
-    requires current { (past : Past) × IsCurrent inputs.disk.now.map past course.old.background }
+    requires current { (past : Past) × TellsUpToDate inputs.disk.now.map past course.old.background }
     ensures acted { IfOk result (λ goes_on. HasActed inputs.entry.disk.now Q.key inputs.entry.until
         (next_of (slice_get requests.now course.old.joined) (slice_get inputs.entry.calls.now.calls.items course.old.called))
         (Q.pending queue.old) course.old goes_on (Q.pending queue.new) course.new) }
@@ -304,7 +304,7 @@ fn serve_next<Q: Queue, P: Planner>(
     requires on_disk { AllByRecursion (IsRequestOf disk.now.map) (Q.pending queue.old) }
     requires head { IsTrackOf disk.now.map course.old.head }
     requires now { course.old.now ≤ 9 * 10 ^ 18 - 10 ^ 15 }
-    requires current { (past : Past) × IsCurrent disk.now.map past course.old.background }
+    requires current { (past : Past) × TellsUpToDate disk.now.map past course.old.background }
     ensures served { OnOk result ((request : Request)
         × (first_least (Q.key disk.now course.old.head course.old.now) (Q.pending queue.old) ≡ Some (request, Q.pending queue.new))
         × HasServedNext disk.now request course.old course.new) }
@@ -333,7 +333,7 @@ fn serve_next<Q: Queue, P: Planner>(
 
 // The head stays on its track until an instant, in ns.
 fn stay_until(alloc: Global, disk: &Disk, course: &mut Course, instant: Ns) -> Result<(), NoMemory>
-    requires current { (past : Past) × IsCurrent disk.now.map past course.old.background }
+    requires current { (past : Past) × TellsUpToDate disk.now.map past course.old.background }
     requires early { course.old.now ≤ 9 * 10 ^ 18 }
     ensures { OnOk result (HasStayed disk.now instant course.old course.new) }
 {

@@ -9,7 +9,7 @@ ghost use Rattle.fb_wanted.specs.States.{on_track, wanted_of};
 ghost use Rattle.fb_plan.specs.Order.{in_order};
 ghost use Rattle.fb_plan.specs.Ways.{AreOnDisk};
 ghost use Rattle.fb_decide.specs.Carried.{added, carried_of, ride_of, begins_in, AreExtents, AreLaid};
-ghost use Rattle.fb_decide.specs.Deliveries.{IsCurrent, HasDelivered, AreDistinct, held_now};
+ghost use Rattle.fb_decide.specs.Deliveries.{TellsUpToDate, HasDelivered, AreDistinct, held_now};
 ghost use Rattle.fb_decide.specs.Start.{IsStartOn, served_from};
 
 use crate::background::Background;
@@ -34,12 +34,12 @@ impl Background {
         start: Start,
         extents: &[Extent],
     ) -> Result<(), NoMemory>
-        requires current { (past : Past) × IsCurrent disk.now.map past self.old }
+        requires current { (past : Past) × TellsUpToDate disk.now.map past self.old }
         requires start { IsStartOn disk.now start }
         requires passages { all_passages_of disk.now.map extents.now ≡ (served_from disk.now start).passages }
         requires unbroken { AllByRecursion (IsUnbroken disk.now.map) extents.now }
         requires early { AllByRecursion (λ extent. extent.begin ≤ 10 ^ 19) extents.now }
-        ensures { OnOk result ((past : Past) → IsCurrent disk.now.map past self.old
+        ensures { OnOk result ((past : Past) → TellsUpToDate disk.now.map past self.old
             → HasDelivered disk.now.map past (rides (held_now store.now) (served_from disk.now start) (wanted past))
             self.old.rows self.new) }
     {

@@ -14,7 +14,7 @@ ghost use Rattle.fb_model.specs.Rides.{caught_in_gap, missed_in_gap};
 ghost use Rattle.fb_plan.specs.Ways.{IsGap};
 ghost use Rattle.fb_tasks.specs.Telling.{Tells};
 ghost use Rattle.fb_decide.specs.Contents.{found_in, left_by, IsRowOf};
-ghost use Rattle.fb_decide.specs.Deliveries.{IsCurrent, HasDelivered, HasDeliveredAround, HasServed, held_now, past_with};
+ghost use Rattle.fb_decide.specs.Deliveries.{TellsUpToDate, HasDelivered, HasDeliveredAround, HasServed, held_now, past_with};
 ghost use Rattle.fb_decide.specs.Start.{IsStartOn, served_from};
 
 use crate::background::Background;
@@ -59,7 +59,7 @@ pub fn serve_request<P: Planner>(
     start: Start,
 ) -> Result<Serving, NoMemory>
     requires start { IsStartOn disk.now start }
-    requires current { (past : Past) × IsCurrent disk.now.map past background.old }
+    requires current { (past : Past) × TellsUpToDate disk.now.map past background.old }
     ensures row { IfOk result (λ serving. IsRowOf store.old (served_from disk.now start) serving.row) }
     ensures contents { OnOk result ((lbn : ℕ) → content_in store.new lbn ≡ left_by start.request lbn (content_in store.old lbn)) }
     ensures head { IfOk result (λ serving. serving.head ≡ last_track disk.now (served_from disk.now start)) }
@@ -67,7 +67,7 @@ pub fn serve_request<P: Planner>(
     ensures each { OnOk result (AllByRecursion (λ passage. passage.begin < passage.end) (served_from disk.now start).passages) }
     ensures later { IfOk result (λ serving. start.instant < serving.row.finish) }
     ensures soon { IfOk result (λ serving. serving.row.finish ≤ start.instant + 2048 * (4 * 10 ^ 9)) }
-    ensures served { OnOk result ((past : Past) → IsCurrent disk.now.map past background.old
+    ensures served { OnOk result ((past : Past) → TellsUpToDate disk.now.map past background.old
         → HasServed disk.now store.old past (served_from disk.now start) background.old.rows background.new) }
 {
     let request = start.request;
@@ -101,7 +101,7 @@ impl Background {
         start: Start,
     ) -> Result<Passing, NoMemory>
         requires start { IsStartOn disk.now start }
-        requires current { (past : Past) × IsCurrent disk.now.map past self.old }
+        requires current { (past : Past) × TellsUpToDate disk.now.map past self.old }
         ensures media { IfOk result (λ passing. passing.media ≡ media (served_from disk.now start)) }
         ensures finish { IfOk result (λ passing. passing.finish ≡ finish (served_from disk.now start)) }
         ensures head { IfOk result (λ passing. passing.head ≡ last_track disk.now (served_from disk.now start)) }
@@ -109,7 +109,7 @@ impl Background {
         ensures each { OnOk result (AllByRecursion (λ passage. passage.begin < passage.end) (served_from disk.now start).passages) }
         ensures later { IfOk result (λ passing. start.instant < passing.finish) }
         ensures soon { IfOk result (λ passing. passing.finish ≤ start.instant + start.request.count * (4 * 10 ^ 9)) }
-        ensures delivered { OnOk result ((past : Past) → IsCurrent disk.now.map past self.old
+        ensures delivered { OnOk result ((past : Past) → TellsUpToDate disk.now.map past self.old
             → HasDeliveredAround disk.now store.now past (served_from disk.now start) self.old.rows self.new) }
     {
         let request = start.request;
@@ -145,13 +145,13 @@ impl Background {
         store: &Store,
         row: GapRow,
     ) -> Result<(), NoMemory>
-        requires current { (past : Past) × IsCurrent disk.now.map past self.old }
+        requires current { (past : Past) × TellsUpToDate disk.now.map past self.old }
         requires gap { IsGap disk.now row.gap }
         requires plan { IsPlan disk.now row.gap row.plan }
-        ensures delivered { OnOk result ((past : Past) → IsCurrent disk.now.map past self.old
+        ensures delivered { OnOk result ((past : Past) → TellsUpToDate disk.now.map past self.old
             → HasDelivered disk.now.map past (caught_in_gap disk.now (held_now store.now) row.gap row.plan (wanted past))
             (self.old.rows ++ BackRow.Gap row ∷ []) self.new) }
-        ensures left { OnOk result ((past : Past) → IsCurrent disk.now.map past self.old
+        ensures left { OnOk result ((past : Past) → TellsUpToDate disk.now.map past self.old
             → wanted (past_with past (caught_in_gap disk.now (held_now store.now) row.gap row.plan (wanted past)))
             ≡ missed_in_gap disk.now row.gap row.plan (wanted past)) }
     {

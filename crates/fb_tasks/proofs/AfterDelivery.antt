@@ -10,7 +10,7 @@ use Rattle.fb_tasks.proofs.Words.{segment_rows_found}
 use Rattle.fb_tasks.proofs.Words.{seal_rows_found, complete_rows, is_newly_cleaned, findings, is_scrub, bad_sectors, Session}
 use Rattle.fb_tasks.proofs.Words.{rows_after, HasTaken, entry_of, choice_in, AreReported, MayFinish, IsBlockOf, IsAtWork, HoldsBlocks}
 use Rattle.fb_tasks.proofs.Words.{Stands, Told, HasNoChoice, Tells, IsUpToDate, MayDeliver, all_at, number_other, same_number, other_number}
-use Rattle.fb_tasks.proofs.Words.{some_at, map_at, each_set, flat_none, all_range, HasBegun, Delivers, HasChosen, ends_of, IsTested}
+use Rattle.fb_tasks.proofs.Words.{some_at, map_at, each_set, flat_none, all_range, HasBegun, Delivers, HasChosen, ends_of, StandsAfterTest}
 use Rattle.fb_tasks.proofs.{RowsOf.rows-given, RowsOf.seals_given, RowsOf.findings-mute, Tested.up_to_date-tested, Tested.AreAllRows}
 use Rattle.fb_tasks.proofs.{Tested.tells-tested, Tested.still-stands, Tested.no-ends, States.flagged-stands, Deliveries.delivered-entries}
 use Rattle.fb_tasks.proofs.{Deliveries.WasWanted, Deliveries.was_wanted, Deliveries.delivered-holds, Deliveries.delivered-stands}
@@ -250,7 +250,7 @@ module _ {disk : Shape} {past : Past} {sessions : List Session} {held now : List
 
           pub has-delivered : {new : Session} {more : List BackRow}
               → ((disk : Shape) (past : Past) → HasChosen disk past got.block.task finished now
-              → IsTested past got.block.task got.end new with_segment more)
+              → StandsAfterTest past got.block.task got.end new with_segment more)
               → (Stands (view (tested (rows_after past got) ∷ delivered got ∷ past) got.block.task) new)
               × (IsAtWork (view (tested (rows_after past got) ∷ delivered got ∷ past) got.block.task).work new)
               × (more ≡ rows ++ GotLine got ∷ rows_after past got)

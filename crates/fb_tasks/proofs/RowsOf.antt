@@ -6,7 +6,7 @@ use Rattle.fb_tasks.proofs.Words.{test_rows_found, segment_rows_found, seal_rows
 use Rattle.fb_tasks.proofs.Words.{take_more, get_or_past, slice_get_within, get_or_from_slice_get, flat_map-append, and-false, or-false}
 use Rattle.fb_tasks.proofs.Words.{cases_Bool, nat_tests, list_any-append, BackRow, BadLine, SegmentLine}
 use Rattle.fb_tasks.proofs.Words.{DeliveryRow, Past, tasks, task_numbers, terms_of, is_seal_of, is_open_backup, Choice, view, work, choices}
-use Rattle.fb_tasks.proofs.Words.{is_complete, is_segment_of, live_count, AreRowsOf, all_any, any_same, any_none, Plain}
+use Rattle.fb_tasks.proofs.Words.{is_complete, is_segment_of, live_count, AreTestRowsOf, all_any, any_same, any_none, Plain}
 use Rattle.fb_tasks.proofs.Words.{AreReported, filter_none, found_for}
 use Rattle.fb_geometry.proofs.Turns.{range-append}
 
@@ -151,7 +151,8 @@ findings-mute past got = for (is_scrub (terms_of past got.block.task).kind) wher
 
 -- a test's rows are such as a test has to give
 pub rows-given : (past : Past) (now : ℕ) (before : List BackRow) → AreMute before → (task : ℕ)
-    → (length (tasks past) ≤ task → (view past task).choices ≡ []) → AreRowsOf task (view past task) (before ++ test_rows_found past now)
+    → (length (tasks past) ≤ task → (view past task).choices ≡ [])
+    → AreTestRowsOf task (view past task) (before ++ test_rows_found past now)
 unfolding view is_complete
 rows-given past now before mute task unopened = record {
   seals = rw (list_any-append, mute.seals task) (seals_given past now task);

@@ -5,8 +5,9 @@ use Rattle.fb_tasks.proofs.Words.{if◌then◌else◌, append_assoc, AllByRecurs
 use Rattle.fb_tasks.proofs.Words.{[], Option, length, tested, Choice, is_done, is_busy, Session, is_none, Stands, some_at, step_to, ends_of}
 use Rattle.fb_tasks.proofs.Words.{false, append-nil, bare_state, content_of, registered, IsUntouched, HasNoChoice, HoldsBlocks, get_or_past}
 use Rattle.fb_tasks.proofs.Words.{slice_get, and-false, is_backup, is_cleaned, HoldsBlock, HoldsImage, HaveChosen, all_weaker, length-set}
-use Rattle.fb_tasks.proofs.Words.{or-true, BackRow, Content, held_at, TaskView, IsSealed, IsAtWork, CleansBy, each_set, is_clean, IsTested}
-use Rattle.fb_tasks.proofs.Words.{list_any, flat_map, SealLine, AreRowsOf, choice_in, HasChosen, IsUpToDate, flat_none, all_range}
+use Rattle.fb_tasks.proofs.Words.{or-true, BackRow, Content, held_at, TaskView, IsSealed, IsAtWork, CleansBy, each_set, is_clean}
+use Rattle.fb_tasks.proofs.Words.{StandsAfterTest}
+use Rattle.fb_tasks.proofs.Words.{list_any, flat_map, SealLine, AreTestRowsOf, choice_in, HasChosen, IsUpToDate, flat_none, all_range}
 use Rattle.fb_tasks.proofs.Words.{found_for}
 use Rattle.fb_tasks.proofs.Words.{list_any-append, test_rows_found, segment_rows_found, seal_rows_found, is_newly_cleaned, slice_get_within}
 use Rattle.fb_tasks.proofs.Words.{task_numbers, tested_view, is_unsealed, is_complete, number_same, tested-view, AreReported, is_delivered}
@@ -33,7 +34,7 @@ found_by_number f (c ∷ cs) = (
 )
 
 -- after the rows that a test has to give no other test of the task gives any
-module _ (task : ℕ) (v : TaskView) (rows : List BackRow) (given : AreRowsOf task v rows) where
+module _ (task : ℕ) (v : TaskView) (rows : List BackRow) (given : AreTestRowsOf task v rows) where
   pub reported-tested : AreReported (tested_view task rows v).work
   reported-tested =
       all_weaker (λ choice. is_newly_cleaned v.work choice ≡ true
@@ -92,7 +93,7 @@ no_others past rows task sealed now = ap₂ (λ a b. (if a then SealLine (record
     sealed (once (is_complete past task))
 
 pub up_to_date-tested : (past : Past) (rows : List BackRow)
-    → ((task : ℕ) → task < length (tasks past) → AreRowsOf task (view past task) rows) → IsUpToDate (tested rows ∷ past)
+    → ((task : ℕ) → task < length (tasks past) → AreTestRowsOf task (view past task) rows) → IsUpToDate (tested rows ∷ past)
 unfolding test_rows_found is_complete bare_state content_of
 up_to_date-tested past rows given = record {
   tested = λ task. refl;
@@ -109,7 +110,7 @@ up_to_date-tested past rows given = record {
 }
 
 -- a backup was sealed where the test had to, and its completion is noted
-module _ (task : ℕ) (v : TaskView) (rows : List BackRow) (given : AreRowsOf task v rows) (old mid : Session)
+module _ (task : ℕ) (v : TaskView) (rows : List BackRow) (given : AreTestRowsOf task v rows) (old mid : Session)
     (is : IsSealed (is_unsealed v && is_done v.work) old mid) where
   open_was : is_unsealed (tested_view task rows v) ≡ true → (is_unsealed v ≡ true) × ((is_unsealed v && is_done v.work) ≡ false)
   open_was h = by (is_backup v.terms.kind) v.sealed (is_done v.work) (rw (sym given.seals) h) where
@@ -136,7 +137,7 @@ module _ (task : ℕ) (v : TaskView) (rows : List BackRow) (given : AreRowsOf ta
 
 -- these rows are all that a test of the tasks has to give
 abbrev pub AreAllRows : Past → List BackRow → Type 0
-AreAllRows past rows = (task : ℕ) → AreRowsOf task (view past task) rows
+AreAllRows past rows = (task : ℕ) → AreTestRowsOf task (view past task) rows
 
 -- what has chosen before its test
 pub chosen_at : {disk : Shape} {past : Past} {old : List Session} {held : List Entry} → HaveChosen disk past old held
@@ -144,7 +145,7 @@ pub chosen_at : {disk : Shape} {past : Past} {old : List Session} {held : List E
 chosen_at h k session at = record { blocks = h.blocks; stands = (h.each k session at).stands; at_work = (h.each k session at).at_work }
 
 -- a quiet task stands as it did after the test, and gives no row
-module _ (task : ℕ) (v : TaskView) (rows : List BackRow) (given : AreRowsOf task v rows) (session : Session)
+module _ (task : ℕ) (v : TaskView) (rows : List BackRow) (given : AreTestRowsOf task v rows) (session : Session)
     (none : (is_unsealed v && is_done v.work) ≡ false) (noted : session.complete ≡ is_done v.work) where
   pub still-stands : Stands v session → IsAtWork v.work session
       → (Stands (tested_view task rows v) session) × (IsAtWork (tested_view task rows v).work session)
@@ -183,7 +184,7 @@ none_tested {past} {old} {instant} {rows} =
 module _ {past : Past} {old now : List Session} {instant : ℕ} {before rows : List BackRow} where
   -- one more is tested, and no more touched
   pub one_tested : {more : List BackRow} {n : ℕ} {new : Session} → AreTested past old now instant before rows n
-      → IsTested past n instant new rows more
+      → StandsAfterTest past n instant new rows more
       → AreTested past old (set now n (record new { touched = false })) instant before more (n + 1)
   one_tested {more} {n} {new} is test = let cleared = record new { touched = false } in record {
     as_many = length-set now n cleared ∙ is.as_many;
@@ -206,7 +207,7 @@ module _ {past : Past} {old now : List Session} {instant : ℕ} {before rows : L
       let flag = untouched k found.0 from to found.1 in
       let ready = chosen.each k found.0 was in
       let quiet = ready.quiet flag in
-      let test : IsTested past k instant found.0 rows rows = record {
+      let test : StandsAfterTest past k instant found.0 rows rows = record {
         session = λ all given. rw (tested-view past all k) (still-stands k (view past k) all given found.0 quiet.sealed
             (ready.stands.complete ∙ quiet.tested) ready.stands ready.at_work);
         rows = rw (no-ends past instant k quiet.sealed quiet.tested) (sym (append-nil rows));
@@ -216,7 +217,7 @@ module _ {past : Past} {old now : List Session} {instant : ℕ} {before rows : L
       (one_tested is test))
 
 pub untouched-tested : (disk : Shape) (past : Past) (held : List Entry) (h : HoldsBlocks disk past held) (task : ℕ)
-    → length (tasks past) ≤ task → (rows : List BackRow) → AreRowsOf task (view past task) rows
+    → length (tasks past) ≤ task → (rows : List BackRow) → AreTestRowsOf task (view past task) rows
     → IsUntouched (tested_view task rows (view past task))
 untouched-tested disk past held h task beyond rows given =
     let was = h.unopened task beyond in

@@ -188,7 +188,7 @@ pub record Told (view : TaskView) (session : Session) : Type 0 where
   pub quiet : session.touched ≡ false → IsQuiet view
 
 -- these rows seal the task, and report its segments, as a test has to
-pub record AreRowsOf (task : ℕ) (view : TaskView) (rows : List BackRow) : Type 0 where
+pub record AreTestRowsOf (task : ℕ) (view : TaskView) (rows : List BackRow) : Type 0 where
   pub seals : list_any (is_seal_of task) rows ≡ (is_unsealed view && is_done view.work)
   pub segments : (number : ℕ) → list_any (is_segment_of task number) rows
       ≡ list_any (λ choice. (choice.segment.number == number) && is_newly_cleaned view.work choice) view.choices
@@ -198,8 +198,8 @@ abbrev pub ends_of : Past → ℕ → ℕ → List BackRow
 ends_of past now task = seal_rows_found past now task ++ complete_rows past now task
 
 -- a session is tested: it is as its task stands after a test that gives these rows and any of other tasks
-pub record IsTested (past : Past) (task now : ℕ) (new : Session) (old more : List BackRow) : Type 0 where
-  pub session : (all : List BackRow) → AreRowsOf task (view past task) all
+pub record StandsAfterTest (past : Past) (task now : ℕ) (new : Session) (old more : List BackRow) : Type 0 where
+  pub session : (all : List BackRow) → AreTestRowsOf task (view past task) all
       → (Stands (view (tested all ∷ past) task) new) × (IsAtWork (view (tested all ∷ past) task).work new)
   pub rows : more ≡ old ++ ends_of past now task
 
@@ -236,7 +236,7 @@ pub record HasChosen (disk : Shape) (past : Past) (task : ℕ) (session : Sessio
   pub at_work : IsAtWork (view past task).work session
 
 -- a session has chosen, and a test finds something only where it was touched
-pub record IsReady (view : TaskView) (session : Session) : Type 0 where
+pub record MayBeTested (view : TaskView) (session : Session) : Type 0 where
   pub stands : Stands view session
   pub at_work : IsAtWork view.work session
   pub chosen : HasNoChoice view
@@ -245,5 +245,5 @@ pub record IsReady (view : TaskView) (session : Session) : Type 0 where
 -- after all choices, before their test
 pub record HaveChosen (disk : Shape) (past : Past) (sessions : List Session) (held : List Entry) : Type 0 where
   pub as_many : length sessions ≡ length (tasks past)
-  pub each : (task : ℕ) (session : Session) → slice_get sessions task ≡ Some session → IsReady (view past task) session
+  pub each : (task : ℕ) (session : Session) → slice_get sessions task ≡ Some session → MayBeTested (view past task) session
   pub blocks : HoldsBlocks disk past held

@@ -15,7 +15,7 @@ ghost use Rattle.fb_model.specs.Images.{complete_rows};
 ghost use Rattle.fb_tasks.specs.Keeping.{IsSealed, without_aborted};
 ghost use Rattle.fb_tasks.specs.Taken.{found_for, segment_rows_found, seal_rows_found};
 ghost use Rattle.fb_tasks.specs.Leaving.{HasGrown, HasBegun, by_calls};
-ghost use Rattle.fb_tasks.specs.Standing.{Stands, HoldsBlocks, IsAtWork, HasChosen, MayFinish, IsTested, ends_of};
+ghost use Rattle.fb_tasks.specs.Standing.{Stands, HoldsBlocks, IsAtWork, HasChosen, MayFinish, StandsAfterTest, ends_of};
 
 use crate::session::{Session, Stamp};
 use fb_calls::Kind;
@@ -104,7 +104,7 @@ impl Session {
     ) -> Result<(), NoMemory>
         requires { (disk : Shape) × (past : Past) × HasChosen disk past task self.old wanted.now }
         ensures tested { OnOk result ((disk : Shape) (past : Past) → HasChosen disk past task self.old wanted.now
-            → IsTested past task now self.new rows.old rows.new) }
+            → StandsAfterTest past task now self.new rows.old rows.new) }
         ensures err_rows { OnErr result ((disk : Shape) (past : Past) → HasChosen disk past task self.old wanted.now
             → HasBegun rows.old (ends_of past now task) rows.new) }
         ensures grown { HasGrown rows.old rows.new }

@@ -3,7 +3,7 @@ use Rattle.std.proofs.lemmas.Result.{on_ok_weaker}
 use Rattle.fb_rows.specs.declared.gap.How.TheVariants.{Gap as ByGap}
 use Rattle.fb_model.specs.History.{wanted}
 use Rattle.fb_model.specs.Rides.{missed, caught_in_gap, caught_rows}
-use Rattle.fb_decide.specs.Deliveries.{IsCurrent, HasDelivered, past_with, held_now}
+use Rattle.fb_decide.specs.Deliveries.{TellsUpToDate, HasDelivered, past_with, held_now}
 use Rattle.fb_decide.proofs.Placing.{delivered-both, left-both}
 use Rattle.fb_decide.proofs.background.Background.go_through.Goals as goal
 
@@ -11,7 +11,7 @@ pub returns-clause-delivered : goal.returns-clause-delivered
 returns-clause-delivered c = on_ok_weaker c.deliver_in_stay-2.result (λ next past current.
     let disk = c.args.disk.now in
     let holding = c.args.store.now in
-    let pushed : IsCurrent disk.map past (record {
+    let pushed : TellsUpToDate disk.map past (record {
       sessions = c.args.self.now.sessions;
       wanted = c.args.self.now.wanted;
       rows = c.push.new.self;
@@ -31,7 +31,7 @@ pub returns-clause-left : goal.returns-clause-left
 returns-clause-left c = on_ok_weaker c.deliver_in_stay-2.result (λ next past current.
     let disk = c.args.disk.now in
     let holding = c.args.store.now in
-    let pushed : IsCurrent disk.map past (record {
+    let pushed : TellsUpToDate disk.map past (record {
       sessions = c.args.self.now.sessions;
       wanted = c.args.self.now.wanted;
       rows = c.push.new.self;
