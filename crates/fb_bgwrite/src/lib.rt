@@ -21,4 +21,4 @@ mod text;
 
 pub use items::{SpillItem, SpillItems, SpillRow, SpillRun, WroteRow};
 pub use spills::spill;
-pub use text::{spill_piece, spill_pieces};
+pub use text::{spill_line_at, spill_line_count};

@@ -14,7 +14,7 @@ use std::alloc::Global;
 const FIRST_WRITER: u64 = 4_294_967_296;
 
 /// The number of lines in the text of spills: one for each row, the first and the last.
-pub fn spill_pieces(spill: &SpillRun) -> u64
+pub fn spill_line_count(spill: &SpillRun) -> u64
     ensures value { result ≡ length spill.now.items + 2 }
     ensures lines { (size : ℕ) (bytes : Bytes) → result ≡ length (spill_lines size bytes spill.now) }
 {
@@ -23,7 +23,7 @@ pub fn spill_pieces(spill: &SpillRun) -> u64
 
 /// The line with an index, counted from 0, in the text of spills, with its line feed.
 /// `sector_bytes` is the size of a sector, a multiple of 16. The only error is `NoMemory`.
-pub fn spill_piece(
+pub fn spill_line_at(
     alloc: Global,
     spill: &SpillRun,
     sector_bytes: u32,
@@ -32,7 +32,7 @@ pub fn spill_piece(
 ) -> Result<Vec<u8>, NoMemory>
     requires whole { sector_bytes % 16 ≡ 0 }
     requires ranges { AllByRecursion HasRange spill.now.items }
-    requires piece { k < length spill.now.items + 2 }
+    requires line { k < length spill.now.items + 2 }
     ensures { IfOk result (λ line. slice_get (spill_lines sector_bytes bytes spill.now) k ≡ Some line.items) }
 {
     let rows = spill.items.len() as u64;

@@ -16,7 +16,7 @@ use fb_units::{NoMemory, Ns};
 use std::alloc::Global;
 
 /// The number of lines of the background report: one for each row, the first and the last.
-pub fn back_pieces(run: &Run) -> u64
+pub fn back_line_count(run: &Run) -> u64
     ensures value { result ≡ length run.now.back + 2 }
     ensures lines { (names : List (List ℕ)) (size : ℕ) (bytes : Bytes) → result ≡ length (back_lines names size bytes run.now) }
 {
@@ -26,7 +26,7 @@ pub fn back_pieces(run: &Run) -> u64
 /// The k-th line of the background report, from 0, with its line feed.
 ///
 /// `sector_bytes` is the size of a sector, a multiple of 16, and `names` are the tasks' names.
-pub fn back_piece(
+pub fn back_line_at(
     alloc: Global,
     run: &Run,
     names: &TaskNames,
@@ -36,7 +36,7 @@ pub fn back_piece(
 ) -> Result<Vec<u8>, NoMemory>
     requires whole { sector_bytes % 16 ≡ 0 }
     requires named { AllByRecursion (HasNamedTask names.now) run.now.back }
-    requires piece { k < length run.now.back + 2 }
+    requires line { k < length run.now.back + 2 }
     ensures value { IfOk result (λ line. slice_get (back_lines names.now sector_bytes bytes run.now) k ≡ Some line.items) }
     ensures form { IfOk result (λ line. 0 < sector_bytes → AreNames names.now → AllByRecursion CountsSectors run.now.back
         → IsLine (is_in_place back_grammar (length run.now.back + 2) k) line.items) }

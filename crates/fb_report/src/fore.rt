@@ -15,7 +15,7 @@ use fb_units::NoMemory;
 use std::alloc::Global;
 
 /// The number of lines of the foreground report: one for each row, the first and the last.
-pub fn fore_pieces(run: &Run) -> u64
+pub fn fore_line_count(run: &Run) -> u64
     ensures value { result ≡ length run.now.fore + 2 }
     ensures lines { (size : ℕ) (bytes : Bytes) → result ≡ length (fore_lines size bytes run.now) }
 {
@@ -25,7 +25,7 @@ pub fn fore_pieces(run: &Run) -> u64
 /// The k-th line of the foreground report, from 0, with its line feed.
 ///
 /// `sector_bytes` is the size of a sector, a multiple of 16.
-pub fn fore_piece(
+pub fn fore_line_at(
     alloc: Global,
     run: &Run,
     sector_bytes: u32,
@@ -33,7 +33,7 @@ pub fn fore_piece(
     k: u64,
 ) -> Result<Vec<u8>, NoMemory>
     requires whole { sector_bytes % 16 ≡ 0 }
-    requires piece { k < length run.now.fore + 2 }
+    requires line { k < length run.now.fore + 2 }
     ensures value { IfOk result (λ line. slice_get (fore_lines sector_bytes bytes run.now) k ≡ Some line.items) }
     ensures form { IfOk result (λ line. 0 < sector_bytes → AllByRecursion ReadsSectors run.now.fore
         → IsLine (is_in_place fore_grammar (length run.now.fore + 2) k) line.items) }

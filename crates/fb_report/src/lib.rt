@@ -1,6 +1,6 @@
 //! The texts of a run, line by line.
 //!
-//! A report is a list of lines, and each piece is one of them. The foreground text is a function of
+//! A report is a list of lines. The foreground text is a function of
 //! the foreground rows, the number of requests passed over, the sector size and the mode of bytes;
 //! the background text of the background rows, the tasks' names, the run's end, the sector size and
 //! the mode; the summary of the run alone.
@@ -27,11 +27,11 @@ mod sectors;
 mod sink;
 mod summary;
 
-pub use back::{back_first, back_last, back_piece, back_pieces};
+pub use back::{back_first, back_last, back_line_at, back_line_count};
 pub use back_rows::back_line;
 pub use bytes::Bytes;
 pub use contents::shown;
-pub use fore::{fore_first, fore_last, fore_line, fore_piece, fore_pieces};
+pub use fore::{fore_first, fore_last, fore_line, fore_line_at, fore_line_count};
 pub use line::{Line, first_line};
 pub use printed::printed_reports_are_read;
 pub use reading::{

@@ -86,10 +86,10 @@ pub use Rattle.fb_tasks.specs.Keeping.{new_entries, without_aborted}
 pub use Rattle.fb_tasks.specs.Leaving.{HasBegun, HasGrown, MayClean, OnlyRegisters, OnlyTouched, by_calls, entries_by}
 pub use Rattle.fb_tasks.specs.Listing.{AreListed, IsNoted}
 pub use Rattle.fb_tasks.specs.Script.{IsCalled}
-pub use Rattle.fb_tasks.specs.Standing.{AreNumbered, AreReported, AreTestRowsOf, Ascend, Cleans, CleansBy, HasChosen, HasChosenUpTo, HasNoChoice}
-pub use Rattle.fb_tasks.specs.Standing.{HaveChosen}
+pub use Rattle.fb_tasks.specs.Standing.{AreNumbered, AreReported, AreTestRowsOf, Ascend, Cleans, CleansBy, HasChosen, HasChosenUpTo}
+pub use Rattle.fb_tasks.specs.Standing.{HasNoChoice, HaveChosen}
 pub use Rattle.fb_tasks.specs.Standing.{HoldsBlock, HoldsBlocks, HoldsChoice, HoldsImage, IsAtNumber, IsAtWork, IsBlockOf, IsCutFrom}
-pub use Rattle.fb_tasks.specs.Standing.{IsPlaced, IsQuiet, MayBeTested, IsSegmentOf, StandsAfterTest, IsUntouched, MayChoose, MayFinish}
+pub use Rattle.fb_tasks.specs.Standing.{IsPlaced, IsQuiet, IsSegmentOf, IsUntouched, MayBeTested, MayChoose, MayFinish, StandsAfterTest}
 pub use Rattle.fb_tasks.specs.Standing.{Stands, Told, choice_in}
 pub use Rattle.fb_tasks.specs.Standing.{choosable_by, ends_of, entry_by, entry_in, entry_of, kept_segment}
 pub use Rattle.fb_tasks.specs.Taken.{delivery_of, found_for, rows_after, seal_rows_found, segment_rows_found}

@@ -8,8 +8,8 @@ ghost use Rattle.fb_top.specs.Array.{CanTellFore, array_first, array_last, devic
 use crate::Runs;
 use crate::lines::{ForeLines, Lines};
 use crate::note_words::{push_number, push_words};
-use fb_mirror::{Rebuilt, copy_piece, copy_pieces};
-use fb_report::{Bytes, fore_pieces};
+use fb_mirror::{Rebuilt, copy_line_at, copy_line_count};
+use fb_report::{Bytes, fore_line_count};
 use fb_units::NoMemory;
 use std::alloc::Global;
 
@@ -86,7 +86,7 @@ fn section_lines(runs: &Runs) -> u64
 {
     let mut lines = 0;
     for device in 0..runs.len() {
-        lines += fore_pieces(runs.get(device)) + 1;
+        lines += fore_line_count(runs.get(device)) + 1;
     }
     lines
 }
@@ -104,7 +104,7 @@ fn section_of(runs: &Runs, index: u64) -> Option<(usize, u64)>
 {
     let mut rest = index;
     for device in 0..runs.len() {
-        let lines = fore_pieces(runs.get(device)) + 1;
+        let lines = fore_line_count(runs.get(device)) + 1;
         if rest < lines {
             return Some((device, rest));
         }
@@ -168,10 +168,10 @@ impl Lines for CopyLines<'_> {
     ghost can_be_read = { λ t. ⊥ };
 
     fn count(&self) -> u64 {
-        copy_pieces(self.copy)
+        copy_line_count(self.copy)
     }
 
     fn line(&self, alloc: Global, index: u64) -> Result<Vec<u8>, NoMemory> {
-        copy_piece(alloc, self.copy, self.sectors, index)
+        copy_line_at(alloc, self.copy, self.sectors, index)
     }
 }

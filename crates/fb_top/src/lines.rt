@@ -4,7 +4,7 @@ ghost use Rattle.fb_report.specs.Grammar.{Grammar};
 ghost use Rattle.fb_report.specs.Printed.{IsLine, is_in_place};
 
 use fb_calls::TaskNames;
-use fb_report::{Bytes, back_piece, back_pieces, fore_piece, fore_pieces};
+use fb_report::{Bytes, back_line_at, back_line_count, fore_line_at, fore_line_count};
 use fb_rows::Run;
 use fb_units::NoMemory;
 use std::alloc::Global;
@@ -67,11 +67,11 @@ impl Lines for ForeLines<'_> {
     ghost can_be_read = { λ t. (0 < t.sector_bytes) × AllByRecursion ReadsSectors t.run.now.fore };
 
     fn count(&self) -> u64 {
-        fore_pieces(self.run)
+        fore_line_count(self.run)
     }
 
     fn line(&self, alloc: Global, index: u64) -> Result<Vec<u8>, NoMemory> {
-        fore_piece(alloc, self.run, self.sector_bytes, self.bytes, index)
+        fore_line_at(alloc, self.run, self.sector_bytes, self.bytes, index)
     }
 }
 
@@ -105,11 +105,11 @@ impl Lines for BackLines<'_> {
     ghost can_be_read = { λ t. (0 < t.sector_bytes) × AreNames t.names.now × AllByRecursion CountsSectors t.run.now.back };
 
     fn count(&self) -> u64 {
-        back_pieces(self.run)
+        back_line_count(self.run)
     }
 
     fn line(&self, alloc: Global, index: u64) -> Result<Vec<u8>, NoMemory> {
-        back_piece(
+        back_line_at(
             alloc,
             self.run,
             self.names,

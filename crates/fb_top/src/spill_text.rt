@@ -1,6 +1,6 @@
 // The text of what was written in free gaps, line by line.
 use crate::lines::Lines;
-use fb_bgwrite::{SpillRun, spill_piece, spill_pieces};
+use fb_bgwrite::{SpillRun, spill_line_at, spill_line_count};
 use fb_report::Bytes;
 use fb_units::NoMemory;
 use std::alloc::Global;
@@ -32,10 +32,10 @@ impl Lines for SpillLines<'_> {
     ghost can_be_read = { λ t. ⊥ };
 
     fn count(&self) -> u64 {
-        spill_pieces(self.spill)
+        spill_line_count(self.spill)
     }
 
     fn line(&self, alloc: Global, index: u64) -> Result<Vec<u8>, NoMemory> {
-        spill_piece(alloc, self.spill, self.sector_bytes, self.bytes, index)
+        spill_line_at(alloc, self.spill, self.sector_bytes, self.bytes, index)
     }
 }

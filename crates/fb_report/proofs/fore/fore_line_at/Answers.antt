@@ -2,7 +2,7 @@ use Rattle.fb_units.proofs.Lists.{all_get}
 use Rattle.fb_report.proofs.Words.{ap, sym, ◌∙◌, arith, Some, length, ◌+◌, ◌-◌, fore_last, fore_grammar, ReadsSectors}
 use Rattle.fb_report.proofs.{Places.at_first, Places.at_row, Places.at_last, Lines.line_first, Lines.line_row}
 use Rattle.fb_report.proofs.{Lines.line_last, Lines.fore_are}
-use Rattle.fb_report.proofs.fore.fore_piece.Goals as goal
+use Rattle.fb_report.proofs.fore.fore_line_at.Goals as goal
 
 pub returns-in_ok-fore_first-clause-value : goal.returns-in_ok-fore_first-clause-value
 returns-in_ok-fore_first-clause-value c =
@@ -17,7 +17,7 @@ returns-in_ok-fore_line-clause-value c =
 
 pub returns-in_ok-fore_last-clause-value : goal.returns-in_ok-fore_last-clause-value
 returns-in_ok-fore_last-clause-value c =
-    line_last _ _ _ _ _ (fore_are c.args.sector_bytes c.args.bytes c.args.run.now) c.args.k (omega (arith, c.requires.piece))
+    line_last _ _ _ _ _ (fore_are c.args.sector_bytes c.args.bytes c.args.run.now) c.args.k (omega (arith, c.requires.line))
     ∙ ap (λ n. Some (fore_last n c.args.run.now.passed_over)) (sym c.len-rows.ensures.value) ∙ ap Some (sym c.in_ok-fore_last.ensures.value)
 
 pub returns-in_ok-fore_first-clause-form : goal.returns-in_ok-fore_first-clause-form

@@ -2,7 +2,7 @@ use Rattle.fb_units.proofs.Lists.{all_get}
 use Rattle.fb_report.proofs.Words.{ap, sym, ◌∙◌, arith, Some, length, ◌+◌, ◌-◌, back_grammar, CountsSectors}
 use Rattle.fb_report.proofs.{Places.at_first, Places.at_row, Places.at_last, Lines.line_first, Lines.line_row}
 use Rattle.fb_report.proofs.{Lines.line_last, Lines.back_are}
-use Rattle.fb_report.proofs.back.back_piece.Goals as goal
+use Rattle.fb_report.proofs.back.back_line_at.Goals as goal
 
 pub returns-in_ok-back_first-clause-value : goal.returns-in_ok-back_first-clause-value
 returns-in_ok-back_first-clause-value c =
@@ -18,7 +18,7 @@ returns-in_ok-back_line-clause-value c =
 pub returns-in_ok-back_last-clause-value : goal.returns-in_ok-back_last-clause-value
 returns-in_ok-back_last-clause-value c =
     line_last _ _ _ _ _ (back_are c.args.names.now c.args.sector_bytes c.args.bytes c.args.run.now) c.args.k
-    (omega (arith, c.requires.piece)) ∙ ap Some (sym c.in_ok-back_last.ensures.value)
+    (omega (arith, c.requires.line)) ∙ ap Some (sym c.in_ok-back_last.ensures.value)
 
 pub returns-in_ok-back_first-clause-form : goal.returns-in_ok-back_first-clause-form
 returns-in_ok-back_first-clause-form c =
