@@ -4,7 +4,7 @@ use Rattle.fb_bgwrite.proofs.Words.{one_more, all_get, Bor, None, ◌≡◌, ℕ
 use Rattle.fb_bgwrite.proofs.Words.{false, Some, slice_get, take, drop, map, length, refl, sym, ap, ap₂, ◌∙◌, subst, arith, inl}
 use Rattle.fb_bgwrite.proofs.Words.{inr, append_assoc, append-nil, if◌then◌else◌, ◌==◌, AllByRecursion, sum_by, cases_Bool}
 use Rattle.fb_bgwrite.proofs.Words.{nat_tests, map-append, length-map, sum_by-cons, IsRising, Shape, places, Cut, cutting, Disk}
-use Rattle.fb_bgwrite.proofs.Words.{all_weaker, Block, Entry, Wanted, Delivered, blocks_of, registered, wanted_of, numbered}
+use Rattle.fb_bgwrite.proofs.Words.{all_weaker, Block, Entry, Wanted, Delivered, blocks_of, registered_count, wanted_of, numbered}
 use Rattle.fb_bgwrite.proofs.Words.{AreOnDisk, IsBlockOn, SpillItem, SpillLine, WroteLine, Put, Spilling, share, AreApart, PutBlock}
 use Rattle.fb_bgwrite.proofs.Words.{blocks_from, is_written, pending, put_blocks, writes, block_range, ArePending, entry_of}
 use Rattle.fb_bgwrite.proofs.Words.{first_blocks, wanted_entry, ArePutsOn, HasChosen, HasKept, IsSpilling, IsUpTo, IsBest}
@@ -26,7 +26,7 @@ cut_more number block_number before now cut cuts rest split added =
     ∙ ap (λ cs. before ++ map wanted_entry (numbered number 1 block_number cs)) (sym split)
 
 pub one_counted : (number : ℕ) (before : List Entry) (entry : Entry) → entry.block.task ≡ number
-    → registered number (blocks_of (before ++ entry ∷ [])) ≡ registered number (blocks_of before) + 1
+    → registered_count number (blocks_of (before ++ entry ∷ [])) ≡ registered_count number (blocks_of before) + 1
 one_counted number [] entry same =
     let own : (entry.block.task == number) ≡ true = grind (arith, nat_tests) in
     rw own (omega arith)
@@ -35,7 +35,7 @@ one_counted number (e ∷ es) entry same = elim (cases_Bool (e.block.task == num
   | inr other ↦ rw other (one_counted number es entry same)
 ]
 
-pub registered_few : (number : ℕ) (entries : List Entry) → registered number (blocks_of entries) ≤ length entries
+pub registered_few : (number : ℕ) (entries : List Entry) → registered_count number (blocks_of entries) ≤ length entries
 registered_few number [] = omega arith
 registered_few number (e ∷ es) = elim (cases_Bool (e.block.task == number)) [
   | inl own ↦ rw own (omega (arith, registered_few number es))
@@ -82,9 +82,9 @@ first_few disk puts n are =
 
 -- no block of the next put is registered
 pub none_yet_registered : (disk : Disk) (puts : List Put) (items : List SpillItem) (n : ℕ) → ArePutsOn (length (places disk.map)) puts
-    → registered (n + 1) (blocks_of (map (entry_of items) (first_blocks disk puts n))) ≡ 0
+    → registered_count (n + 1) (blocks_of (map (entry_of items) (first_blocks disk puts n))) ≡ 0
 none_yet_registered disk puts items n are =
-    ap (registered (n + 1)) (its_map items (first_blocks disk puts n))
+    ap (registered_count (n + 1)) (its_map items (first_blocks disk puts n))
     ∙ none_registered (n + 1) (its_blocks (first_blocks disk puts n)) (all_map (λ (b : Block). b.task < n + 1) (λ (p : PutBlock). p.block)
     (first_blocks disk puts n)
     (all_weaker (λ (p : PutBlock). p.block.task ≤ n) (λ (p : PutBlock). p.block.task < n + 1) (λ p le. omega (arith, le))

@@ -3,7 +3,7 @@ use Rattle.fb_bgwrite.proofs.Words.{option_map, append-nil, slice_get-map, all_m
 use Rattle.fb_bgwrite.proofs.Words.{List, [], ◌∷◌, ◌++◌, false, Some, slice_get, take, drop, map, length, refl, sym, ap, ◌∙◌, subst}
 use Rattle.fb_bgwrite.proofs.Words.{arith, inl, inr, append_assoc, ◌==◌, AllByRecursion, sum_by, nat_tests, map-append, sum_by-cons}
 use Rattle.fb_bgwrite.proofs.Words.{sum_by-append, Shape, places, Cut, IsOneTurn, sweep_of, cutting, track_at, Disk, all_weaker, Block}
-use Rattle.fb_bgwrite.proofs.Words.{registered, numbered, all_append, all_left, IsBlockOn, Put, share, AreApart, range_of, PutBlock}
+use Rattle.fb_bgwrite.proofs.Words.{registered_count, numbered, all_append, all_left, IsBlockOn, Put, share, AreApart, range_of, PutBlock}
 use Rattle.fb_bgwrite.proofs.Words.{blocks_from, sectors, block_range, is_shares, some_one}
 use Rattle.fb_puts.proofs.Sharing.{not_share}
 use Rattle.fb_bgwrite.specs.Blocks.{blocks_of}
@@ -293,7 +293,7 @@ few_blocks disk number puts on_disk = omega (
 -- ---- the numbers of puts
 
 pub none_registered : (number : ℕ) (blocks : List Block) → AllByRecursion (λ block. block.task < number) blocks
-    → registered number blocks ≡ 0
+    → registered_count number blocks ≡ 0
 none_registered number [] all = refl
 none_registered number (b ∷ bs) all =
     let other : (b.task == number) ≡ false = let less = all.0 in grind (arith, nat_tests) in

@@ -43,7 +43,7 @@ pub use Rattle.fb_puts.specs.declared.puts.Put.{Put}
 pub use Rattle.fb_puts.specs.declared.puts.Puts.{Puts}
 pub use Rattle.fb_puts.specs.declared.range.SectorRange.{SectorRange}
 pub use Rattle.fb_puts.proofs.Sharing.{is_shares}
-pub use Rattle.fb_wanted.specs.Numbering.{blocks_of, registered}
+pub use Rattle.fb_wanted.specs.Numbering.{blocks_of, registered_count}
 pub use Rattle.fb_wanted.specs.States.{after, entry_after, is_block, is_wanted, on_track, wanted_of}
 pub use Rattle.fb_wanted.specs.declared.block.Block.{Block}
 pub use Rattle.fb_wanted.specs.declared.block.Change.TheVariants.{Deliver}

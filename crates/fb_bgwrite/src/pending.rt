@@ -7,7 +7,7 @@ ghost use Rattle.fb_wanted.specs.States.{after, is_block, is_wanted, on_track, w
 ghost use Rattle.fb_wanted.specs.Tracks.{wanted_weight};
 ghost use Rattle.fb_units.specs.declared.types.Track.{Track};
 ghost use Rattle.fb_plan.specs.Order.{caught_of, AreOrdered};
-ghost use Rattle.fb_wanted.specs.Numbering.{blocks_of, registered};
+ghost use Rattle.fb_wanted.specs.Numbering.{blocks_of, registered_count};
 ghost use Rattle.fb_service.specs.declared.disk.Disk.{Disk};
 ghost use Rattle.fb_plan.specs.Ways.{AreOnDisk};
 ghost use Rattle.fb_model.specs.Segments.{numbered};
@@ -77,7 +77,7 @@ impl Pending {
     /// Registers what a cut gives as a pending block of the put with the number `put`. Its own number
     /// is the next of that put. The only error is `NoMemory`.
     pub fn register(&mut self, put: u32, number: u32, cut: Cut) -> Result<(), NoMemory>
-        requires numbered { number ≡ registered put (blocks_of self.old) }
+        requires numbered { number ≡ registered_count put (blocks_of self.old) }
         requires room { length self.old < 16000000 }
         requires short { cut.count ≤ 2048 }
         ensures ok { OnOk result (self.new ≡ self.old ++ map wanted_entry (numbered put 1 number (cut ∷ []))) }

@@ -2,7 +2,7 @@
 ghost use Rattle.std.specs.Prelude.{◌≡◌, ◌+◌, ◌*◌, ◌<◌, ◌≤◌, ◌^◌, [], ◌∷◌, ◌++◌, length, map, slice_get, Some, IfNone, IfSome, OnOk};
 ghost use Rattle.fb_geometry.specs.Places.{places};
 ghost use Rattle.fb_sectormap.specs.Cutting.{cutting};
-ghost use Rattle.fb_wanted.specs.Numbering.{blocks_of, registered};
+ghost use Rattle.fb_wanted.specs.Numbering.{blocks_of, registered_count};
 ghost use Rattle.fb_wanted.specs.States.{wanted_of};
 ghost use Rattle.fb_model.specs.Segments.{numbered};
 ghost use Rattle.fb_bgwrite.specs.declared.items.SpillItem.TheVariants.{Spill as SpillLine, Wrote as WroteLine};
@@ -234,7 +234,7 @@ fn register_blocks(
     requires on_disk { put.first + put.count ≤ length (places sectors.now) }
     requires fits { put.first + put.count < 2 ^ 63 }
     requires room { length pending.old + put.count ≤ 16000000 }
-    requires none { registered number (blocks_of pending.old) ≡ 0 }
+    requires none { registered_count number (blocks_of pending.old) ≡ 0 }
     ensures { OnOk result
         (pending.new ≡ pending.old ++ map wanted_entry (numbered number 1 0 (cutting sectors.now 2048 put.first put.count))) }
 {

@@ -3,7 +3,7 @@ use Rattle.std.proofs.Common.{◌≡◌, ℕ, ◌+◌, ◌==◌, List, [], ◌�
 use Rattle.std.proofs.lemmas.Bool.{cases_Bool}
 use Rattle.fb_service.specs.declared.disk.Disk.{Disk}
 use Rattle.fb_wanted.specs.declared.block.Entry.{Entry}
-use Rattle.fb_wanted.specs.Numbering.{blocks_of, registered}
+use Rattle.fb_wanted.specs.Numbering.{blocks_of, registered_count}
 use Rattle.fb_wanted.proofs.Numbers.{in_either}
 use Rattle.fb_model.specs.Blocks.{IsBlockOn}
 use Rattle.fb_plan.specs.Ways.{AreOnDisk}
@@ -15,7 +15,7 @@ on-disk-more disk es e h fits i x at = elim (in_either es e x i at) [
 ]
 
 registered-more : (es : List Entry) (e : Entry) → e.block.task ≡ 0
-    → registered 0 (blocks_of (es ++ e ∷ [])) ≡ registered 0 (blocks_of es) + 1
+    → registered_count 0 (blocks_of (es ++ e ∷ [])) ≡ registered_count 0 (blocks_of es) + 1
 registered-more [] e h = rw h refl
 registered-more (x ∷ es) e h = elim (cases_Bool (x.block.task == 0)) [
   | inl yes' ↦ rw yes' (omega (arith, registered-more es e h))
@@ -24,8 +24,8 @@ registered-more (x ∷ es) e h = elim (cases_Bool (x.block.task == 0)) [
 
 pub sample-more : (disk : Disk) (es new : List Entry) (e : Entry) (i : ℕ) → new ≡ es ++ e ∷ [] → e.block.task ≡ 0
     → IsBlockOn disk.map e.block
-    → (registered 0 (blocks_of es) ≡ i) × (length es ≡ i) × AreOnDisk disk es
-    → (registered 0 (blocks_of new) ≡ i + 1) × (length new ≡ i + 1) × AreOnDisk disk new
+    → (registered_count 0 (blocks_of es) ≡ i) × (length es ≡ i) × AreOnDisk disk es
+    → (registered_count 0 (blocks_of new) ≡ i + 1) × (length new ≡ i + 1) × AreOnDisk disk new
 sample-more disk es new e i same task fits h =
-    subst (λ xs. (registered 0 (blocks_of xs) ≡ i + 1) × (length xs ≡ i + 1) × AreOnDisk disk xs) (sym same)
+    subst (λ xs. (registered_count 0 (blocks_of xs) ≡ i + 1) × (length xs ≡ i + 1) × AreOnDisk disk xs) (sym same)
     (omega (arith, registered-more es e task, h.0), omega (arith, length-append es (e ∷ []), h.1), on-disk-more disk es e h.2 fits)

@@ -266,7 +266,7 @@ pub record MayWant (disk : Shape) (past : Past) (task first count : ℕ) (held :
   pub once : is_backup session.kind && (view past task).wants ≡ false
   pub on_disk : first + count ≤ length (places disk)
   pub few : length held + length (cutting disk session.block first count) ≤ 16000000
-  pub next : numbering.registered task (numbering.blocks_of held) ≡ length (view past task).blocks
+  pub next : numbering.registered_count task (numbering.blocks_of held) ≡ length (view past task).blocks
   pub taken : blocks_by disk past task (Want first count)
       ≡ numbered task session.weight (length (view past task).blocks) (cutting disk session.block first count)
   pub stands : Stands (view past task) session
@@ -298,8 +298,8 @@ may_want disk past call task first count sessions session held is at h =
         ap length h.tells.entries,
         length-map (registered past) (entry_of past),
       );
-      next = ap (λ es. numbering.registered task (numbering.blocks_of es)) h.tells.entries
-          ∙ ap (numbering.registered task) (named_same past (registered past));
+      next = ap (λ es. numbering.registered_count task (numbering.blocks_of es)) h.tells.entries
+          ∙ ap (numbering.registered_count task) (named_same past (registered past));
       taken = taken;
       stands = stands;
     }
@@ -333,7 +333,7 @@ module _ (disk : Shape) (past : Past) (call : Call) (task first count : ℕ) (is
 pub wanted-tells : (disk : Shape) (past : Past) (call : Call) (task first count : ℕ) (seen touched : List Session)
     (session : Session) (held now : List Entry) → length (places disk) ≤ 10 ^ 12 → IsCall task (Want first count) call → task < length seen
     → session ≡ get_or seen task session
-    → now ≡ held ++ new_entries session (numbered task session.weight (numbering.registered task (numbering.blocks_of held))
+    → now ≡ held ++ new_entries session (numbered task session.weight (numbering.registered_count task (numbering.blocks_of held))
     (cutting disk session.block first count))
     → ((s : Session) → slice_get seen task ≡ Some s → touched ≡ set seen task (record s { touched = true }))
     → MayTake disk past seen held call → Tells disk (take_call disk past call) touched now
@@ -346,7 +346,7 @@ wanted-tells disk past call task first count seen touched session held now small
     let next = length (view past task).blocks in
     let cuts = cutting disk session.block first count in
     let are = cuts_are disk session.block first count may.stands.block.0 in
-    let added_are : numbered task session.weight (numbering.registered task (numbering.blocks_of held)) cuts
+    let added_are : numbered task session.weight (numbering.registered_count task (numbering.blocks_of held)) cuts
     ≡ numbered task session.weight next cuts = ap (λ n. numbered task session.weight n cuts) may.next in
     rw (taken, flagged session there) (wanting-tells disk past call task first count is (numbered task session.weight next cuts)
     (cuts_own task session.weight next cuts) seen session held now there may.opened may.other may.once
@@ -362,11 +362,12 @@ pub wanted_begun : (disk : Shape) (past : Past) (call : Call) (task first count 
     → session ≡ get_or seen task session
     → MayTake disk past seen held call
     → HasBegun held (new_entries session
-    (numbered task session.weight (numbering.registered task (numbering.blocks_of held)) (cutting disk session.block first count))) now
+    (numbered task session.weight (numbering.registered_count task (numbering.blocks_of held))
+    (cutting disk session.block first count))) now
     → HasBegun held (entries_by disk past call) now
 wanted_begun disk past call task first count seen session held now small is within at h begun =
     let there = slice_get-get_or seen task session within ∙ ap Some (sym at) in
-    let added = new_entries session (numbered task session.weight (numbering.registered task (numbering.blocks_of held))
+    let added = new_entries session (numbered task session.weight (numbering.registered_count task (numbering.blocks_of held))
     (cutting disk session.block first count)) in
     let entry = entry_of (take_call disk past call) in
     let tells = wanted-tells disk past call task first count seen (set seen task (record session { touched = true })) session held (held

@@ -406,8 +406,8 @@ module _ {disk : Shape} {past : Past} {task : ℕ} {session : Session} {held : L
         omega (arith, one, may.few, ap length may.blocks.entries, length-map (registered past) (entry_of past), ap length cuts_now)
 
     module _ (small : length (places disk) ≤ 10 ^ 12) (now : List Entry)
-        (pushed : now ≡ held ++ new_entries session (numbered task session.weight (numbering.registered task (numbering.blocks_of held))
-        (cuts_of disk session.block (clean.live_of log number))))
+        (pushed : now ≡ held ++ new_entries session (numbered task session.weight
+        (numbering.registered_count task (numbering.blocks_of held)) (cuts_of disk session.block (clean.live_of log number))))
         (instant : ℕ) (old : List BackRow) where
       log_at : log ≡ clean.after_choice (Some step.best.number) session.log
       log_at = rw step.number_is taken
@@ -418,9 +418,9 @@ module _ {disk : Shape} {past : Past} {task : ℕ} {session : Session} {held : L
       -- what the wanted set registers are the history's blocks
       holds_now : HoldsBlocks disk (next step.best) now
       holds_now =
-          let many : numbering.registered task (numbering.blocks_of held) ≡ length v.blocks =
+          let many : numbering.registered_count task (numbering.blocks_of held) ≡ length v.blocks =
           rw (may.blocks.entries, named_same past (registered past), (seen past task).blocks) refl in
-          let blocks : numbered task session.weight (numbering.registered task (numbering.blocks_of held))
+          let blocks : numbered task session.weight (numbering.registered_count task (numbering.blocks_of held))
           (cuts_of disk session.block (clean.live_of log number)) ≡ added step.best =
           rw (cuts_now, many, may.stands.terms) refl in
           chosen-holds disk past task step.best session held now opened (rw may.stands.terms may.stands.weight) some_block

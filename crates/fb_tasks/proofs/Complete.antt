@@ -18,11 +18,12 @@ use Rattle.fb_clean.specs.Segments as clean
 pub filter-le : {X : Type 0} (p : X → Bool) (xs : List X) → length (filter p xs) ≤ length xs
 filter-le p xs = rw length-filter (count_by-le-length p xs)
 
-pub registered_count : (task : ℕ) (es : List Entry) → (counts_of task es).registered ≡ numbering.registered task (numbering.blocks_of es)
-registered_count task [] = refl
-registered_count task (e ∷ es) = grind (arith, registered_count task es)
+pub counts_registered : (task : ℕ) (es : List Entry)
+    → (counts_of task es).registered ≡ numbering.registered_count task (numbering.blocks_of es)
+counts_registered task [] = refl
+counts_registered task (e ∷ es) = grind (arith, counts_registered task es)
 
-pub registered_few : (task : ℕ) (es : List Entry) → numbering.registered task (numbering.blocks_of es) ≤ length es
+pub registered_few : (task : ℕ) (es : List Entry) → numbering.registered_count task (numbering.blocks_of es) ≤ length es
 registered_few task es =
     omega (arith, filter-le (λ (block : Block). block.task == task) (numbering.blocks_of es), length-map es (λ e. e.block))
 

@@ -9,7 +9,7 @@ use Rattle.fb_tasks.proofs.Registered.{all_own}
 use Rattle.fb_geometry.proofs.Turns.{range-append}
 use Rattle.fb_sectormap.specs.Lookup.{track_at}
 use Rattle.fb_sectormap.specs.Sweeps.{sweep_of}
-use Rattle.fb_wanted.specs.Numbering.{registered}
+use Rattle.fb_wanted.specs.Numbering.{registered_count}
 
 pub cuts_placed : (disk : Shape) (tasks task weight block n from end : ℕ) (cuts : List Cut) → task < tasks → weight ≤ 1000 → block ≤ 2048
     → end ≤ length (places disk) → end ≤ 10 ^ 12 → AreCuts disk block from end cuts
@@ -89,21 +89,21 @@ new_named session [] = refl
 new_named session (b ∷ bs) = rw (new_named session bs) refl
 
 pub registered_more : (task : ℕ) (session : Session) (held : List Entry) (bs : List Block) → AllByRecursion (λ b. b.task ≡ task) bs
-    → registered task (blocks_of (held ++ new_entries session bs)) ≡ registered task (blocks_of held) + length bs
+    → registered_count task (blocks_of (held ++ new_entries session bs)) ≡ registered_count task (blocks_of held) + length bs
 registered_more task session held bs own = simp (map-append, filter-append, length-append, new_named, all_own task bs own)
 
 -- one live block more
 pub live-more : (disk : Shape) (task block weight : ℕ) (session : Session) (held now : List Entry) (lbns : List ℕ) (i lbn : ℕ)
     → slice_get lbns i ≡ Some lbn
-    → now ≡ held ++ new_entries session (numbered task weight (registered task (blocks_of held)) (cutting disk block lbn block))
-    → (now ++ new_entries session (numbered task weight (registered task (blocks_of now)) (cuts_of disk block (drop (i + 1) lbns))) ≡ held
-    ++ new_entries session (numbered task weight (registered task (blocks_of held)) (cuts_of disk block (drop i lbns))))
+    → now ≡ held ++ new_entries session (numbered task weight (registered_count task (blocks_of held)) (cutting disk block lbn block))
+    → (now ++ new_entries session (numbered task weight (registered_count task (blocks_of now)) (cuts_of disk block (drop (i + 1) lbns)))
+    ≡ held ++ new_entries session (numbered task weight (registered_count task (blocks_of held)) (cuts_of disk block (drop i lbns))))
     × (length now + length (cuts_of disk block (drop (i + 1) lbns)) ≡ length held + length (cuts_of disk block (drop i lbns)))
 live-more disk task block weight session held now lbns i lbn at pushed =
-    let n = registered task (blocks_of held) in
+    let n = registered_count task (blocks_of held) in
     let cs = cutting disk block lbn block in
     let ds = cuts_of disk block (drop (i + 1) lbns) in
-    let more : registered task (blocks_of now) ≡ n + length cs =
+    let more : registered_count task (blocks_of now) ≡ n + length cs =
     rw pushed (registered_more task session held (numbered task weight n cs) (cuts_own task weight n cs)
     ∙ ap (λ k. n + k) (cuts_count task weight n cs)) in
     let rest : cuts_of disk block (drop i lbns) ≡ cs ++ ds = ap (cuts_of disk block) (drop_at lbns i lbn at) in

@@ -8,7 +8,7 @@ use Rattle.fb_tasks.proofs.Words.{wanted_unless, numbered, number_same, Session,
 use Rattle.fb_tasks.proofs.Words.{OnlyTouched, by_calls, all_append, all_left, all_map, all_weaker, map_at, some_at, some_same}
 use Rattle.fb_tasks.proofs.Words.{take-map-range_with_len, ◌&&◌, not, and_parts, not-true}
 use Rattle.fb_tasks.proofs.{Frames.get_other, Cuts.cuts_own}
-use Rattle.fb_wanted.specs.Numbering.{registered}
+use Rattle.fb_wanted.specs.Numbering.{registered_count}
 
 pub grown_not : {A : Type 0} (xs : List A) → HasGrown xs xs
 grown_not xs = record { added = []; is = sym (append-nil xs) }
@@ -152,7 +152,7 @@ pub cut_registered : (task number : ℕ) (session : Session) (before now : List 
 cut_registered task number session before now cut cuts rest block first same is = rw (is, first, same, append_assoc) refl
 
 pub one_counted : (task number : ℕ) (before now : List Entry) (entry : Entry) → now ≡ before ++ entry ∷ [] → entry.block.task ≡ task
-    → number ≡ registered task (blocks_of before) → number + 1 ≡ registered task (blocks_of now)
+    → number ≡ registered_count task (blocks_of before) → number + 1 ≡ registered_count task (blocks_of now)
 one_counted task number before now entry is own next =
     rw is (simp (map-append, filter-append, length-append, number_same entry.block.task task own) (omega (arith, next)))
 

@@ -4,7 +4,7 @@ ghost use Rattle.std.specs.List.{AllByRecursion};
 ghost use Rattle.fb_geometry.specs.Places.{places};
 ghost use Rattle.fb_sectormap.specs.Cutting.{cutting};
 ghost use Rattle.fb_clean.specs.Segments.{live_of};
-ghost use Rattle.fb_wanted.specs.Numbering.{registered, blocks_of};
+ghost use Rattle.fb_wanted.specs.Numbering.{registered_count, blocks_of};
 ghost use Rattle.fb_model.specs.Segments.{numbered};
 ghost use Rattle.fb_tasks.specs.Keeping.{new_entries, cuts_of};
 ghost use Rattle.fb_tasks.specs.Leaving.{HasBegun, OnlyRegisters};
@@ -29,9 +29,9 @@ pub fn want_range(
     requires on_disk { first + count ≤ length (places map.now) }
     requires few { length wanted.old + length (cutting map.now session.now.block first count) ≤ 16000000 }
     ensures all { OnOk result (wanted.new ≡ wanted.old ++ new_entries session.now (numbered task session.now.weight
-        (registered task (blocks_of wanted.old)) (cutting map.now session.now.block first count))) }
-    ensures begun { HasBegun wanted.old (new_entries session.now (numbered task session.now.weight (registered task (blocks_of wanted.old))
-        (cutting map.now session.now.block first count))) wanted.new }
+        (registered_count task (blocks_of wanted.old)) (cutting map.now session.now.block first count))) }
+    ensures begun { HasBegun wanted.old (new_entries session.now (numbered task session.now.weight
+        (registered_count task (blocks_of wanted.old)) (cutting map.now session.now.block first count))) wanted.new }
 {
     if count == 0 {
         return Ok(());
@@ -88,7 +88,7 @@ pub fn want_live(
     requires on_disk { AllByRecursion (λ lbn. lbn + session.now.block ≤ length (places map.now)) (live_of session.now.log segment) }
     requires few { length wanted.old + length (cuts_of map.now session.now.block (live_of session.now.log segment)) ≤ 16000000 }
     ensures all { OnOk result (wanted.new ≡ wanted.old ++ new_entries session.now (numbered task session.now.weight
-        (registered task (blocks_of wanted.old)) (cuts_of map.now session.now.block (live_of session.now.log segment)))) }
+        (registered_count task (blocks_of wanted.old)) (cuts_of map.now session.now.block (live_of session.now.log segment)))) }
     ensures own { OnlyRegisters (λ other. other ≡ task) wanted.old wanted.new }
 {
     for i in 0..session.log.live_count(segment) {

@@ -8,7 +8,7 @@ use Rattle.std.proofs.lemmas.Option.{slice_get-map}
 use Rattle.fb_wanted.specs.declared.block.Block.{Block}
 use Rattle.fb_wanted.specs.declared.block.Entry.{Entry}
 use Rattle.fb_wanted.specs.States.{is_block}
-use Rattle.fb_wanted.specs.Numbering.{AreInOrder, AreSmall, blocks_of, registered}
+use Rattle.fb_wanted.specs.Numbering.{AreInOrder, AreSmall, blocks_of, registered_count}
 use Rattle.fb_wanted.specs.LookUp.{is_of_task, indexes_of}
 use Rattle.fb_wanted.proofs.Standing.{among}
 
@@ -46,7 +46,7 @@ task-blocks task (e ∷ es) = elim (cases_Bool (e.block.task == task)) [
   | inr no' ↦ rw no' (task-blocks task es)
 ]
 
-in_order-more : (bs : List Block) (b : Block) → AreInOrder bs → b.number ≡ registered b.task bs → AreInOrder (bs ++ b ∷ [])
+in_order-more : (bs : List Block) (b : Block) → AreInOrder bs → b.number ≡ registered_count b.task bs → AreInOrder (bs ++ b ∷ [])
 in_order-more bs b h new task k block at =
     let split = filter-append (λ other. other.task == task) bs (b ∷ []) in
     elim (cases_Bool (b.task == task)) [
@@ -56,7 +56,7 @@ in_order-more bs b h new task k block at =
           ∙ ap (λ v. filter (λ other. other.task == task) bs ++ (if v then b ∷ [] else [])) own in
           elim (in_either (filter (λ other. other.task == task) bs) b block k (ap (λ l. slice_get l k) (sym list) ∙ at)) [
             | inl old ↦ h task k block old.1
-            | inr last ↦ ap (λ c. c.number) last.1 ∙ (new ∙ (ap (λ t. registered t bs) same ∙ sym last.0))
+            | inr last ↦ ap (λ c. c.number) last.1 ∙ (new ∙ (ap (λ t. registered_count t bs) same ∙ sym last.0))
           ]
       | inr other ↦
           let list : filter (λ other. other.task == task) (bs ++ b ∷ []) ≡ filter (λ other. other.task == task) bs = split
@@ -64,7 +64,8 @@ in_order-more bs b h new task k block at =
           h task k block (ap (λ l. slice_get l k) (sym list) ∙ at)
     ]
 
-pub numbered-more : (es : List Entry) (e : Entry) → AreInOrder (blocks_of es) → e.block.number ≡ registered e.block.task (blocks_of es)
+pub numbered-more : (es : List Entry) (e : Entry) → AreInOrder (blocks_of es)
+    → e.block.number ≡ registered_count e.block.task (blocks_of es)
     → AreInOrder (blocks_of (es ++ e ∷ []))
 numbered-more es e h new = subst AreInOrder (sym (blocks-more es e)) (in_order-more (blocks_of es) e.block h new)
 

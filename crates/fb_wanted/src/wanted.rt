@@ -5,7 +5,7 @@ ghost use Rattle.std.specs.Prelude.{OnOk, OnErr, IfSome, IfNone, Some, slice_get
 ghost use Rattle.fb_wanted.specs.declared.block.Block.{Block};
 ghost use Rattle.fb_wanted.specs.declared.block.Entry.{Entry};
 ghost use Rattle.fb_wanted.specs.States.{after, shares, entry_after, is_abortable, is_wanted, wanted_unless, on_track, is_block};
-ghost use Rattle.fb_wanted.specs.Numbering.{AreInOrder, blocks_of, registered};
+ghost use Rattle.fb_wanted.specs.Numbering.{AreInOrder, blocks_of, registered_count};
 ghost use Rattle.fb_wanted.specs.Counting.{counts_of, sum_of, Fit};
 ghost use Rattle.fb_wanted.specs.Tracks.{wanted_weight};
 ghost use Rattle.fb_wanted.specs.Depth.{depth_at};
@@ -286,7 +286,7 @@ impl Wanted {
     // Registers a block, suspended, behind all others. Out of memory, it returns `NoMemory` and
     // nothing has changed.
     fn add(&mut self, block: Block) -> Result<(), NoMemory>
-        requires numbered { block.number ≡ registered block.task (blocks_of self.old) }
+        requires numbered { block.number ≡ registered_count block.task (blocks_of self.old) }
         requires room { length self.old < 16000000 }
         requires light { block.weight ≤ 1000 }
         requires short { block.count ≤ 2048 }
@@ -349,7 +349,7 @@ impl Wanted {
     /// task. There are at most 16,000,000 blocks, each of at most 2,048 sectors and weight 1,000. Out
     /// of memory, it returns `NoMemory` and nothing has changed.
     pub fn register(&mut self, block: Block, suspended: bool) -> Result<(), NoMemory>
-        requires numbered { block.number ≡ registered block.task (blocks_of self.old) }
+        requires numbered { block.number ≡ registered_count block.task (blocks_of self.old) }
         requires room { length self.old < 16000000 }
         requires light { block.weight ≤ 1000 }
         requires short { block.count ≤ 2048 }

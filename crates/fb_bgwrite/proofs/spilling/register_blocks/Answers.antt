@@ -1,4 +1,4 @@
-use Rattle.fb_bgwrite.proofs.Words.{◌+◌, ◌-◌, length, refl, sym, ap, ◌∙◌, arith, length_push, cutting, blocks_of, registered}
+use Rattle.fb_bgwrite.proofs.Words.{◌+◌, ◌-◌, length, refl, sym, ap, ◌∙◌, arith, length_push, cutting, blocks_of, registered_count}
 use Rattle.fb_bgwrite.proofs.Words.{wanted_entry}
 use Rattle.fb_bgwrite.proofs.Admitting.{cut_more, none_left, one_counted, registered_few}
 use Rattle.fb_bgwrite.proofs.PutBlocks.{block_of}
@@ -25,7 +25,7 @@ loop-left-preserved c =
       next = omega (
         arith,
         c.loop-left.invariant.next,
-        ap (λ es. registered c.args.number (blocks_of es)) is,
+        ap (λ es. registered_count c.args.number (blocks_of es)) is,
         one_counted c.args.number before entry refl,
       );
       within = omega (arith, c.next_cut-cut.ensures.within, c.loop-left.invariant.within);

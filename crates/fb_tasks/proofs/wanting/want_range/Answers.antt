@@ -1,8 +1,8 @@
 use Rattle.fb_tasks.proofs.Words.{◌≡◌, ℕ, ◌+◌, ◌-◌, List, [], ◌∷◌, ◌++◌, length, length-append, refl, ap, sym, subst, ◌∙◌, append-nil}
 use Rattle.fb_tasks.proofs.Words.{arith, Shape, cutting, blocks_of, Entry, numbered, Session, new_entries, HasBegun, wanted_unless}
-use Rattle.fb_tasks.proofs.Complete.{registered_count, registered_few}
+use Rattle.fb_tasks.proofs.Complete.{counts_registered, registered_few}
 use Rattle.fb_tasks.proofs.Leaving.{grown_not, grown_more, begun_by, cut_registered, one_counted}
-use Rattle.fb_wanted.specs.Numbering.{registered}
+use Rattle.fb_wanted.specs.Numbering.{registered_count}
 use Rattle.fb_tasks.proofs.wanting.want_range.Goals as goal
 
 -- a range without sectors gives nothing
@@ -13,12 +13,12 @@ none-new disk session task number lbn left wanted none = sym (append-nil wanted)
     ∙ ap (λ n. wanted ++ new_entries session (numbered task session.weight number (cutting disk session.block lbn n))) (sym none)
 
 pub returns-then-count-eq0-clause-all : goal.returns-then-count-eq0-clause-all
-returns-then-count-eq0-clause-all c = none-new c.args.map.now c.args.session.now c.args.task (registered c.args.task
+returns-then-count-eq0-clause-all c = none-new c.args.map.now c.args.session.now c.args.task (registered_count c.args.task
     (blocks_of c.args.wanted.now)) c.args.first c.args.count c.args.wanted.now (omega arith)
 
 pub loop-left-init : goal.loop-left-init
 loop-left-init c =
-    let first = ap (λ n. n.registered) c.counts-number.ensures ∙ registered_count c.args.task c.args.wanted.now in
+    let first = ap (λ n. n.registered) c.counts-number.ensures ∙ counts_registered c.args.task c.args.wanted.now in
     record {
       all = ap (λ n. c.args.wanted.now ++ new_entries c.args.session.now (numbered c.args.task c.args.session.now.weight n
           (cutting c.args.map.now c.args.session.now.block c.args.first c.args.count))) first;

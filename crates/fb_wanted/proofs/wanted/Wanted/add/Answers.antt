@@ -4,7 +4,7 @@ use Rattle.std.proofs.lemmas.List.{length-map}
 use Rattle.fb_wanted.specs.declared.block.Block.{Block}
 use Rattle.fb_wanted.specs.declared.block.Entry.{Entry}
 use Rattle.fb_wanted.specs.Near.{near_of, AreNear}
-use Rattle.fb_wanted.specs.Numbering.{blocks_of, registered}
+use Rattle.fb_wanted.specs.Numbering.{blocks_of, registered_count}
 use Rattle.fb_wanted.specs.Depth.{AreDeep}
 use Rattle.fb_wanted.specs.LookUp.{is_of_task, lbns, grown, offers_at, AreNoted, AreShort, AreOffered, IsKept}
 use Rattle.fb_wanted.specs.declared.block.State.TheVariants.{Suspended}
@@ -18,7 +18,7 @@ use Rattle.fb_wanted.proofs.Deep.{deep_room, deep_still, deep_pushed}
 use Rattle.fb_wanted.proofs.Nearby.{near_pushed, near_still}
 use Rattle.fb_wanted.proofs.wanted.Wanted.add.Goals as goal
 
-its_number : (block : Block) (es : List Entry) → block.number ≡ registered block.task (blocks_of es)
+its_number : (block : Block) (es : List Entry) → block.number ≡ registered_count block.task (blocks_of es)
     → block.number ≡ length (filter (is_of_task block.task) es)
 its_number block es free = free ∙ (ap length (task-blocks block.task es) ∙ length-map (filter (is_of_task block.task) es) (λ e. e.block))
 
@@ -43,7 +43,7 @@ invariant_of-self-in-Ok c =
     let items = self.entries.items in
     let task = c.args.block.task in
     let entry : Entry = record { block = c.args.block; state = Suspended } in
-    let free = c.requires.numbered ∙ ap (λ es. registered task (blocks_of es)) (sym c.self.view_is) in
+    let free = c.requires.numbered ∙ ap (λ es. registered_count task (blocks_of es)) (sym c.self.view_is) in
     let room = subst (λ es. length es < 16000000) (sym c.self.view_is) c.requires.room in
     let list = c.in_ok-push-in-Ok-2.ensures.items ∙ ap (λ l. l ++ entry ∷ []) c.in_ok-reserve.ensures.items in
     let offer_indexes = c.in_ok-push-in-Ok.ensures.items ∙ ap (λ l. l ++ 0 ∷ []) c.in_ok-reserve-2.ensures.items in
@@ -100,7 +100,7 @@ invariant_of-self-in-Err c =
     let old = c.self.invariant.0 in
     let list = sym c.in_ok-reserve.ensures.items in
     let stay = c.in-Err.ensures in
-    let free = c.requires.numbered ∙ ap (λ es. registered c.args.block.task (blocks_of es)) (sym c.self.view_is) in
+    let free = c.requires.numbered ∙ ap (λ es. registered_count c.args.block.task (blocks_of es)) (sym c.self.view_is) in
     let next = its_number c.args.block items free in
     let roomy = greatest_still self.tracks self.greatest c.add_room.new.self c.self.invariant.2 c.in_ok-add_room.ensures.stay
     c.in_ok-add_room.ensures.longer in (
