@@ -71,7 +71,7 @@ returns-then-region_of-streak c = λ es chosen same.
             (sym (ap (lbns c.args.task) now.1 ∙ lbns_stay now.0 c.args.task c.args.task c.args.change es))
             ∙ lbn_at c.args.task c.loop-number.self c.loop-number.number c.entry_of.result c.entry_of.ensures in
             absurd (c.if-region_of-streak.true (c.region_of.ensures
-            ∙ streak.1 c.loop-number.number c.entry_of.result.block.lbn c.loop-number.auto.k not_before at))
+            ∙ streak.1 c.loop-number.number c.entry_of.result.block.lbn c.loop-number.auto.number not_before at))
       ];
     }
 
