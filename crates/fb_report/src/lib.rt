@@ -1,9 +1,9 @@
 //! The texts of a run, line by line.
 //!
-//! A report is a list of lines. The foreground text is a function of
-//! the foreground rows, the number of requests passed over, the sector size and the mode of bytes;
-//! the background text of the background rows, the tasks' names, the run's end, the sector size and
-//! the mode; the summary of the run alone.
+//! A report is a list of lines. The foreground text is a function of the foreground rows, the
+//! number of requests passed over, the sector size and the mode of bytes; the background text of
+//! the background rows, the tasks' names, the run's end, the sector size and the mode; the summary
+//! of the run alone.
 //! Digests are computed while the bytes are made, so that no bytes are held.
 //!
 //! A printed report is read back as its lines. A text is accepted exactly if its lines obey the

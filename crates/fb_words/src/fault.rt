@@ -36,9 +36,9 @@ pub enum UsageReason {
 /// The first faulty word, and why it is refused.
 #[derive(Clone, Copy)]
 pub struct UsageFault {
-    /// The index of the word, where the name of the program has index 0. For `NoCommand`,
+    /// The position of the word, where the name of the program has position 0. For `NoCommand`,
     /// `MissingOption`, `CallsAndBack`, `PutsAndSpill`, `RebuildIncomplete` and `RebuildBeyond` it
-    /// is the number of words. An index that doesn't fit in 32 bits is the last one that does.
+    /// is the number of words. A position that doesn't fit in 32 bits is the last one that does.
     pub position: u32,
     /// The reason.
     pub reason: UsageReason,

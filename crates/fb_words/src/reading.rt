@@ -26,8 +26,8 @@ pub struct Parts<'a> {
     pub value: Option<&'a str>,
 }
 
-/// The options so far, and the option whose value is to be the next word, with the index of its
-/// word.
+/// The options so far, and the option whose value is to be the next word, with the position of
+/// its word.
 #[derive(Clone, Copy)]
 pub enum Progress<'a> {
     /// The next word is no value.
@@ -36,8 +36,8 @@ pub enum Progress<'a> {
     Awaits(Given<'a>, OptionName, usize),
 }
 
-/// A fault of the word with this index. An index that doesn't fit in 32 bits is the last one that
-/// does.
+/// A fault of the word at this position. A position that doesn't fit in 32 bits is the last one
+/// that does.
 pub fn fault_at(position: usize, reason: UsageReason) -> UsageFault
     ensures { result ≡ fault_at position reason }
 {
