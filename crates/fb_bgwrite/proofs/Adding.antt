@@ -1,6 +1,6 @@
 -- One more row keeps all that holds of the rows.
 use Rattle.fb_units.proofs.Lists.{none_of_any, append_at, map_at}
-use Rattle.fb_bgwrite.proofs.Words.{option_map, slice_get-map, all_get, all_push, ◌≡◌, ℕ, ◌+◌, ◌*◌, ◌^◌, ◌≤◌, List, [], ◌∷◌, ◌++◌, Bool}
+use Rattle.fb_bgwrite.proofs.Words.{all_get, all_push, ◌≡◌, ℕ, ◌+◌, ◌*◌, ◌^◌, ◌≤◌, List, [], ◌∷◌, ◌++◌, Bool}
 use Rattle.fb_bgwrite.proofs.Words.{true, false, not, Some, slice_get, take, drop, map, length, refl, sym, ap, ◌∙◌, subst, arith}
 use Rattle.fb_bgwrite.proofs.Words.{if◌then◌else◌, ◌==◌, ◌&&◌, filter, AllByRecursion, sum_by, nat_tests, sum_by_push, places, Disk, Block}
 use Rattle.fb_bgwrite.proofs.Words.{Entry, Wanted, Delivered, Deliver, after, is_block, Catch, SpillItem, SpillLine, WroteLine, SpillRow}

@@ -1,13 +1,11 @@
 -- Blocks that share no sector pass one slot each.
 use Rattle.fb_detour.proofs.Ranges.{same_cylinder}
-use Rattle.fb_bgwrite.proofs.Words.{map, and_parts, leb-true, ltb-true, nat_le, nat_lt, ap, if◌then◌else◌, ◌≡◌, ℕ, zero, suc, ◌+◌, ◌-◌, ◌/◌}
+use Rattle.fb_bgwrite.proofs.Words.{map, and_parts, leb-true, ltb-true, nat_le, nat_lt, ap, if◌then◌else◌, ◌≡◌, ℕ, ◌+◌, ◌-◌, ◌/◌}
 use Rattle.fb_bgwrite.proofs.Words.{◌<◌, ◌≤◌, List, [], ◌∷◌, Bool, true, inl, inr, refl, arith, ◌==◌, sum_by, cases_Bool, nat_tests}
 use Rattle.fb_bgwrite.proofs.Words.{sum_by-cons, Track, same_track, slots_at, IsSound, HasOwnPlaces, pos, distance_of, Disk, Entry}
 use Rattle.fb_bgwrite.proofs.Words.{on_track, wanted_of, Gap, slots_within, Spill, AreApart, block_range, AreLeast, ArePending, ready}
 use Rattle.fb_bgwrite.proofs.Words.{value, AreLight, IsSpill}
 use Rattle.fb_puts.proofs.Sharing.{has, has_it, once}
-use Rattle.std.proofs.lemmas.Nat.{le-div, mul-le}
-use Rattle.std.proofs.Math.Nat.{div-mul-le_self}
 use Rattle.fb_seek.specs.Mechanics.{Mechanics}
 use Rattle.fb_seek.specs.Rising.{SeeksRise}
 use Rattle.fb_wanted.specs.Depth.{depth_at, is_in, weight_on}

@@ -1,7 +1,7 @@
 -- What a stay writes is what its track offers to it.
 use Rattle.fb_plan.proofs.Both.{sum-agree}
-use Rattle.fb_bgwrite.proofs.Words.{◌≡◌, ℕ, suc, ◌+◌, ◌<◌, ◌≤◌, List, [], ◌∷◌, true, false, Some, slice_get, length, max, inl, inr, refl}
-use Rattle.fb_bgwrite.proofs.Words.{sym, ap, ◌∙◌, subst, arith, if◌then◌else◌, ◌⊎◌, sum_by, nat_le, cases_lt, nat_tests, sum_by-cons}
+use Rattle.fb_bgwrite.proofs.Words.{◌≡◌, ℕ, ◌+◌, ◌<◌, ◌≤◌, List, true, false, Some, slice_get, length, max, inl, inr, refl}
+use Rattle.fb_bgwrite.proofs.Words.{sym, ap, ◌∙◌, subst, arith, if◌then◌else◌, ◌⊎◌, sum_by, nat_le, cases_lt, nat_tests}
 use Rattle.fb_bgwrite.proofs.Words.{slice_get_within, same_track, Sweep, Track, Disk, Block, Entry, is_wanted, on_track, Offer, AreOffers}
 use Rattle.fb_bgwrite.proofs.Words.{Dwell, block_end, AreOnDisk, IsBlockOn, Turning, IsTurning, added, end_of, passes_by}
 use Rattle.fb_bgwrite.proofs.Words.{stay_gain, some_one, OneEndsAt, IsLastEnd}

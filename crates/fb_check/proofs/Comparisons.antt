@@ -5,7 +5,7 @@ use Rattle.std.specs.Prelude.{true, is_some, Option, Some, None, slice_get, opti
 use Rattle.std.proofs.lemmas.List.{map-append, length-map, take-append-le, take-append-drop, take_all}
 use Rattle.std.proofs.lemmas.Bool.{cases_lt}
 use Rattle.std.proofs.lemmas.Option.{slice_get-map, slice_get_within}
-use Rattle.fb_units.proofs.Lists.{get_left, get_right, take_at, append_at}
+use Rattle.fb_units.proofs.Lists.{get_right, take_at, append_at}
 use Rattle.fb_report.specs.declared.reading.Report.{Report}
 use Rattle.fb_report.specs.Grammar.{report_fields, ended}
 use Rattle.fb_report.specs.Reading.{BeginsLikeEnd, EndsOnce}

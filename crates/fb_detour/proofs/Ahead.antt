@@ -1,6 +1,6 @@
 -- What comes no later, in the order of ties, than the earliest detour over a track.
 use Rattle.fb_units.proofs.Tracks.{same_fields}
-use Rattle.fb_detour.proofs.Words.{arith, inl, inr, refl, subst, sym, ℕ, ◌≡◌, ◌≤◌, cases_lt, Track, Plan, Detour, Direct, IsAhead}
+use Rattle.fb_detour.proofs.Words.{arith, inl, inr, subst, sym, ℕ, ◌≤◌, cases_lt, Track, Plan, Detour, Direct, IsAhead}
 use Rattle.fb_detour.proofs.Words.{IsNoLater, IsTrackBefore}
 
 -- what comes before a track comes before each track that isn't before that one

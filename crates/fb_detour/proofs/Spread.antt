@@ -1,9 +1,9 @@
 -- Two slots of a track don't begin to pass within the least length of a slot.
 use Rattle.fb_model.proofs.Passages.{slots_short}
-use Rattle.fb_detour.proofs.Words.{List, Some, [], ap, arith, inl, inr, nat_le, refl, slice_get, suc, sym, ℕ, ◌%◌, ◌*◌, ◌+◌, ◌-◌, ◌/◌, ◌<◌}
-use Rattle.fb_detour.proofs.Words.{◌∙◌, ◌∷◌, ◌≡◌, ◌≤◌, ◌⊎◌, mod-lt, cases_Bool, cases_lt, cases_order, div-add-mod', le-div, least_of}
+use Rattle.fb_detour.proofs.Words.{ap, arith, inl, inr, sym, ℕ, ◌%◌, ◌*◌, ◌+◌, ◌-◌, ◌/◌, ◌<◌}
+use Rattle.fb_detour.proofs.Words.{◌∙◌, ◌≡◌, ◌≤◌, ◌⊎◌, mod-lt, cases_lt, cases_order, div-add-mod', le-div, least_of}
 use Rattle.fb_detour.proofs.Words.{least_unique, reaches_ahead, reaches_over, wait_least, wait, Place, Track, slot_begin, Shape, slots_at}
-use Rattle.fb_detour.proofs.Words.{IsSound, Zone, in-turn, later-after, over, begin_from, Disk}
+use Rattle.fb_detour.proofs.Words.{IsSound, in-turn, later-after, over, begin_from, Disk}
 
 -- ---- numbers
 

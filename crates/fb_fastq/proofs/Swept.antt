@@ -1,6 +1,6 @@
 -- Lists that rise by a number, and what a walk from one of their ends has seen.
 use Rattle.fb_fastq.proofs.Words.{◌≡◌, ℕ, ◌≤◌, List, [], ◌∷◌, ◌++◌, map, filter, refl, sym, ap, subst, ◌∙◌, arith, Bool, true, false, inl}
-use Rattle.fb_fastq.proofs.Words.{inr, ◌⊎◌, Some, cond, AllByRecursion, IsStrictlySortedBy, Ordering, Less, cases_Bool, all_filter}
+use Rattle.fb_fastq.proofs.Words.{inr, ◌⊎◌, cond, AllByRecursion, IsStrictlySortedBy, Ordering, Less, cases_Bool, all_filter}
 use Rattle.fb_fastq.proofs.Words.{all_left, all_right, ◌<◌, length, length-append, Side, Above, Below, on_side, IsNoFarther, AreThose}
 pub use Rattle.std.proofs.lemmas.Option.{same_Some as some_injective}
 pub use Rattle.fb_model.proofs.Lists.{all_unmapped}

@@ -2,7 +2,7 @@
 use Rattle.std.proofs.lemmas.Bool.{and_parts}
 use Rattle.fb_units.proofs.Splitting.{but_empty_last-cons}
 use Rattle.fb_maker.proofs.Words.{◌≡◌, ℕ, ◌-◌, ◌<◌, List, [], ◌∷◌, ◌++◌, length, get_or, Bool, true, false, refl, ap, ◌∙◌, arith, ◌==◌}
-use Rattle.fb_maker.proofs.Words.{nat_lt, ◌&&◌, map, filter, slice_split, list_all, list_all-append, nat_tests, is_blank, but_empty_last}
+use Rattle.fb_maker.proofs.Words.{nat_lt, map, filter, slice_split, list_all, list_all-append, nat_tests, is_blank, but_empty_last}
 use Rattle.fb_maker.proofs.Words.{lines_of, fields_of}
 use Rattle.std.specs.Str.Lines.{strip_carriage_return}
 use Rattle.std.proofs.lemmas.List.Splits.{slice_split_at, slice_split_none, length-slice_split}

@@ -1,8 +1,8 @@
 -- Lists whose elements all have a property, and what a test keeps of them.
-use Rattle.std.proofs.Common.{◌≡◌, ℕ, zero, suc, ◌+◌, ◌≤◌, ◌<◌, List, [], ◌∷◌, ◌++◌, Bool, true, false, map, inl, inr, refl, ap, ap₂, sym}
+use Rattle.std.proofs.Common.{◌≡◌, ℕ, ◌≤◌, ◌<◌, List, [], ◌∷◌, Bool, true, false, map, inl, inr, refl, ap, ap₂, sym}
 use Rattle.std.proofs.Common.{◌∙◌, arith, nat_le}
 use Rattle.std.specs.Prelude.{filter}
-use Rattle.std.specs.List.{AllByRecursion, best_of, flat_map, range_with_len}
+use Rattle.std.specs.List.{AllByRecursion, best_of, flat_map}
 use Rattle.std.proofs.lemmas.Bool.{cases_Bool, true≢false}
 use Rattle.std.proofs.lemmas.Bool.Decides.{nat_tests}
 use Rattle.fb_units.proofs.Lists.{all_filter, all_append}

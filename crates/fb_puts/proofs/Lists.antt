@@ -1,8 +1,8 @@
 -- Elements of lists, by their index.
 use Rattle.std.proofs.lemmas.Option.{same_Some}
-use Rattle.fb_puts.proofs.Words.{AllByRecursion, Bool, IsSome, List, None, Option, Some, [], ap, arith, cases_Bool, false, get_left}
-use Rattle.fb_puts.proofs.Words.{inl, inr, list_any, refl, rules, slice_get, slice_get_within, suc, sym, true, true≢false, zero, ℕ}
-use Rattle.fb_puts.proofs.Words.{◌++◌, ◌∙◌, ◌∷◌, ◌≡◌}
+use Rattle.fb_puts.proofs.Words.{Bool, IsSome, List, None, Option, Some, [], ap, arith, cases_Bool}
+use Rattle.fb_puts.proofs.Words.{inl, inr, list_any, refl, rules, slice_get, suc, true, zero, ℕ}
+use Rattle.fb_puts.proofs.Words.{◌∙◌, ◌∷◌, ◌≡◌}
 
 pub any_at : {X : Type 0} (p : X → Bool) (xs : List X) (k : ℕ) (x : X) → slice_get xs k ≡ Some x → p x ≡ true → list_any p xs ≡ true
 any_at p [] k x is h = absurd (grind arith)

@@ -2,7 +2,7 @@
 use Rattle.std.proofs.lemmas.Option.{same_Some}
 use Rattle.fb_units.proofs.Lists.{all_push, all_weaker, all_get, get_left, get_right}
 use Rattle.fb_report.proofs.Words.{and_parts, ◌≡◌, ℕ, suc, ◌+◌, ◌≤◌, List, [], ◌∷◌, ◌++◌, ◌⊎◌, inl, inr, length, true, false, refl, sym, ap}
-use Rattle.fb_report.proofs.Words.{◌∙◌, arith, lit≤, true≢false, subst, length-append, Some, Ok, ◌==◌, ◌&&◌, codes, slice_get}
+use Rattle.fb_report.proofs.Words.{◌∙◌, arith, lit≤, true≢false, subst, length-append, Ok, ◌==◌, ◌&&◌, codes, slice_get}
 use Rattle.fb_report.proofs.Words.{AllByRecursion, onto_first, list_any, bytes_eq, cases_Bool, Decides-eqb, slice_split-cons_yes}
 use Rattle.fb_report.proofs.Words.{slice_split-cons_no, Grammar, Form, fore_grammar, back_grammar, have_forms, is_line_of, is_word}
 use Rattle.fb_report.proofs.Words.{report_fields, may_follow, may_end, lines_behind, BeginsLikeEnd, EndsOnce, ReportsEndOnce}

@@ -1,6 +1,6 @@
 -- A number is tested digit by digit.
 use Rattle.fb_units.proofs.Digits.{digits_grow}
-use Rattle.fb_report.proofs.Words.{◌≡◌, ℕ, ◌+◌, ◌-◌, ◌*◌, ◌^◌, ◌<◌, ◌≤◌, List, [], ◌∷◌, Bool, true, false, refl, ap, ◌∙◌, inl, inr, length}
+use Rattle.fb_report.proofs.Words.{◌≡◌, ℕ, ◌+◌, ◌-◌, ◌*◌, ◌^◌, ◌<◌, ◌≤◌, List, ◌∷◌, Bool, true, false, refl, ap, ◌∙◌, inl, inr, length}
 use Rattle.fb_report.proofs.Words.{drop, arith, ◌&&◌, nat_lt, list_all, is_ascii_digit, cases_Bool, nat_tests, drop_all, and-false}
 use Rattle.fb_report.proofs.Words.{digits_after}
 

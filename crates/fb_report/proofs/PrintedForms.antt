@@ -1,6 +1,6 @@
 -- The fields of lines have their forms.
 use Rattle.fb_units.proofs.Written.{some_digits, digit, digits_end}
-use Rattle.fb_report.proofs.Words.{and_parts, ◌≡◌, ℕ, ◌+◌, ◌-◌, ◌*◌, ◌%◌, ◌<◌, ◌^◌, List, [], ◌∷◌, ◌++◌, length, drop, get_or, Bool, true}
+use Rattle.fb_report.proofs.Words.{and_parts, ◌≡◌, ℕ, ◌+◌, ◌%◌, ◌<◌, ◌^◌, List, [], ◌∷◌, ◌++◌, length, drop, get_or, Bool, true}
 use Rattle.fb_report.proofs.Words.{false, refl, sym, ap, ◌∙◌, arith, subst, inl, inr, ◌==◌, nat_lt, decimal, list_all, position_or_len}
 use Rattle.fb_report.proofs.Words.{before_first, after_first, is_ascii_digit, bytes_eq, cases_Bool, nat_tests, take_at, list_all-append}
 use Rattle.fb_report.proofs.Words.{decimal_by_steps, decimal_nonempty, decimal_digit, first_decimal, are_digits, digits_after, is_name}

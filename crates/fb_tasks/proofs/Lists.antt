@@ -4,7 +4,6 @@ use Rattle.std.proofs.Common.{find, set, slice_get, refl, arith, subst, ◌++◌
 use Rattle.std.specs.List.{AllByRecursion, flat_map, list_any, list_all}
 use Rattle.std.proofs.lemmas.Bool.{cases_Bool, cases_lt}
 use Rattle.std.proofs.lemmas.Bool.Decides.{nat_tests}
-use Rattle.std.proofs.lemmas.Option.{slice_get-map}
 pub use Rattle.std.proofs.lemmas.Option.{same_Some as some_same}
 pub use Rattle.fb_units.proofs.Lists.{none_of_any as none_pass, all_weaker, element_at as some_at, all_range, all_append, all_left}
 pub use Rattle.fb_units.proofs.Lists.{all_right, all_filter}

@@ -1,5 +1,5 @@
 -- A replay has puts exactly if it has an output for what is written.
-use Rattle.std.proofs.Common.{◌≡◌, ◌∙◌, ap, ℕ, List, [], ◌∷◌, length, Bool, true, false, refl, subst, Result, Ok}
+use Rattle.std.proofs.Common.{◌≡◌, ◌∙◌, ap, ℕ, List, [], ◌∷◌, length, Bool, true, false, refl, subst, Ok}
 use Rattle.std.specs.Prelude.{not}
 use Rattle.fb_units.proofs.Lists.{same_Ok}
 use Rattle.fb_units.specs.Judging.{or_refuse, refuse, refused_as}

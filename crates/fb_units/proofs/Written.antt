@@ -1,7 +1,7 @@
 -- A time that is written in milliseconds reads back as the same time.
-use Rattle.std.proofs.Common.{◌≡◌, ℕ, ◌+◌, ◌-◌, ◌*◌, ◌/◌, ◌%◌, ◌<◌, ◌≤◌, ◌^◌, List, [], ◌∷◌, ◌++◌, length, drop, Bool, true, false, refl}
+use Rattle.std.proofs.Common.{◌≡◌, ℕ, ◌+◌, ◌-◌, ◌*◌, ◌/◌, ◌%◌, ◌<◌, ◌≤◌, ◌^◌, List, [], ◌∷◌, ◌++◌, length, drop, true, false, refl}
 use Rattle.std.proofs.Common.{arith, Some, ◌∙◌, sym, ap, append_assoc}
-use Rattle.std.specs.Prelude.{◌&&◌, ◌==◌, decimal}
+use Rattle.std.specs.Prelude.{◌==◌, decimal}
 use Rattle.std.specs.List.{list_all, before_first, after_first, position_or_len}
 use Rattle.std.specs.Char.{is_ascii_digit}
 use Rattle.std.proofs.lemmas.Bool.Decides.{nat_tests}

@@ -1,8 +1,7 @@
 -- The best plan of a gap in which no block can be caught, or all at once.
-use Rattle.std.proofs.Common.{◌≡◌, ℕ, List, [], ◌∷◌, Bool, true, false, ◌≤◌, ◌<◌, ◌+◌, ◌*◌, ◌-◌, ◌%◌, ◌==◌, nat_le, filter, cond, refl}
-use Rattle.std.proofs.Common.{lit≤, arith, inl, inr, ap, ap₂, sym, subst, ◌∙◌, true≢false}
+use Rattle.std.proofs.Common.{◌≡◌, ℕ, List, [], ◌∷◌, Bool, true, false, ◌≤◌, ◌<◌, ◌+◌, ◌*◌, nat_le, filter, cond, refl}
+use Rattle.std.proofs.Common.{lit≤, arith, inl, inr, sym, subst, ◌∙◌, true≢false}
 use Rattle.std.specs.List.{sum_by, AllByRecursion}
-use Rattle.std.proofs.Math.Nat.{mod-add-mod, mod-lt}
 use Rattle.std.proofs.lemmas.Bool.{and_parts, and_left, or_from, false_from_ne_true, cases_Bool}
 use Rattle.std.proofs.lemmas.Bool.Decides.{nat_tests}
 use Rattle.std.proofs.lemmas.List.Sums.{sum_by-cons}
@@ -10,19 +9,14 @@ use Rattle.fb_model.proofs.Ends.{end-le}
 use Rattle.fb_units.proofs.Tracks.{same_tracks}
 use Rattle.fb_units.specs.declared.types.Track.{Track}
 use Rattle.fb_units.specs.Tracks.{same_track}
-use Rattle.fb_units.specs.Wait.{wait}
-use Rattle.fb_units.proofs.Waits.{wait_least}
-use Rattle.fb_geometry.specs.Shape.{Shape}
-use Rattle.fb_sectormap.specs.Lookup.{place_at}
 use Rattle.fb_seek.specs.Positioning.{pos}
 use Rattle.fb_service.specs.declared.disk.Disk.{Disk}
-use Rattle.fb_service.specs.Passing.{begin_angle, end_angle, begin_from}
 use Rattle.fb_wanted.specs.declared.block.Block.{Block}
 use Rattle.fb_rows.specs.declared.gap.Gap.{Gap}
 use Rattle.fb_rows.specs.declared.gap.Dwell.{Dwell}
 use Rattle.fb_rows.specs.declared.gap.Plan.{Plan}
 use Rattle.fb_rows.specs.declared.gap.Plan.TheVariants.{Direct, Detour}
-use Rattle.fb_model.specs.Plans.{IsPlan, IsBest, IsNoLater, value, is_caught, catches, early_dwell, late_dwell, block_begin, block_end}
+use Rattle.fb_model.specs.Plans.{IsPlan, IsBest, IsNoLater, value, is_caught, catches, early_dwell, late_dwell, block_end}
 
 -- sums over some of a list
 module _ (f : Block → ℕ) (test : Block → Bool) where

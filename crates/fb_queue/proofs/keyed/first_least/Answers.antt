@@ -1,4 +1,4 @@
-use Rattle.std.proofs.Common.{◌≡◌, arith, ap, sym, ◌∙◌, inl, inr, refl, Some, subst, length}
+use Rattle.std.proofs.Common.{arith, ap, ◌∙◌, inl, inr, subst}
 use Rattle.std.proofs.lemmas.Option.{get_or_from_slice_get}
 use Rattle.fb_queue.specs.Least.{IsFirstLeastAt}
 use Rattle.fb_queue.proofs.FirstLeast.{goes_on, first_is_best}

@@ -1,4 +1,4 @@
-use Rattle.std.proofs.Common.{◌≡◌, ◌+◌, ◌<◌, Some, ap, sym, ◌∙◌, arith, length, subst, slice_get}
+use Rattle.std.proofs.Common.{◌≡◌, ◌+◌, Some, ap, sym, ◌∙◌, arith, length, subst, slice_get}
 use Rattle.std.proofs.lemmas.List.{length-set}
 use Rattle.fb_clean.specs.Segments.{choice_of, without, no_longer_waiting, first_best, waiting}
 use Rattle.fb_clean.specs.Numbers.{AreNumbered}

@@ -1,4 +1,4 @@
-use Rattle.std.proofs.Common.{◌≡◌, ap, sym, refl, ◌∙◌, length, subst, List, Some, arith}
+use Rattle.std.proofs.Common.{ap, sym, refl, ◌∙◌, length, subst, List, Some}
 use Rattle.std.proofs.lemmas.Option.{slice_get_read}
 use Rattle.fb_units.specs.declared.types.Request.{Request}
 use Rattle.fb_queue.specs.Least.{IsFirstLeastAt}
