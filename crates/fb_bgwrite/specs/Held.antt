@@ -4,10 +4,9 @@ use Rattle.std.specs.Prelude.{slice_get}
 use Rattle.std.specs.List.{AllByRecursion, flat_map}
 use Rattle.fb_store.specs.declared.content.Content.{Content}
 use Rattle.fb_store.specs.declared.content.Content.TheVariants.{Filled}
-use Rattle.fb_store.specs.Writes.{is_within, unwritten}
+use Rattle.fb_store.specs.Writes.{is_within, writer_of, unwritten}
 use Rattle.fb_rows.specs.declared.fore.ForeRow.{ForeRow}
 use Rattle.fb_rows.specs.declared.run.Run.{Run}
-use Rattle.fb_model.specs.Content.{number_of}
 use Rattle.fb_bgwrite.specs.declared.items.SpillItem.{SpillItem}
 use Rattle.fb_bgwrite.specs.declared.items.SpillItem.TheVariants.{Spill as SpillLine, Wrote as WroteLine}
 use Rattle.fb_bgwrite.specs.declared.items.WroteRow.{WroteRow}
@@ -23,7 +22,7 @@ pub record Fill : Type 0 where
 -- a foreground write takes effect at its finish, and leaves its number in its sectors
 abbrev pub fore_fills : ForeRow → List Fill
 fore_fills row = if row.request.write
-    then record { instant = row.finish; range = request_range row.request; writer = number_of row.request.name } ∷ []
+    then record { instant = row.finish; range = request_range row.request; writer = writer_of row.request.name } ∷ []
     else []
 
 abbrev pub wrote_range : WroteRow → SectorRange

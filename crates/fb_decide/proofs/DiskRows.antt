@@ -6,16 +6,16 @@ use Rattle.std.proofs.lemmas.Bool.{and_parts}
 use Rattle.fb_store.specs.declared.content.Content.{Content}
 use Rattle.fb_store.specs.declared.content.ContentRun.{ContentRun}
 use Rattle.fb_store.specs.Runs.{runs_of, sectors_of}
-use Rattle.fb_store.specs.Index.{Holding, content_in}
+use Rattle.fb_store.specs.Ranges.{Holding, content_in}
 use Rattle.fb_store.proofs.Runs.{sectors_of-runs_of}
 use Rattle.fb_wanted.specs.declared.block.Block.{Block}
 use Rattle.fb_wanted.specs.States.{is_delivered}
-use Rattle.fb_rows.specs.declared.back.BackRow.TheVariants.{Seal as SealLine, Segment as SegmentLine}
+use Rattle.fb_rows.specs.declared.back.BackRow.TheVariants.{Seal as SealLine}
 use Rattle.fb_model.specs.Content.{Medium, content, contents_at}
 use Rattle.fb_model.specs.History.{Past, task_numbers, registered, blocks_of, bare_state, content_of, is_open_backup}
 use Rattle.fb_model.specs.Completion.{Choice, choices, view, work, own_of, is_cleaned, is_complete}
-use Rattle.fb_model.specs.Segments.{live_count}
-use Rattle.fb_model.specs.Images.{held_at_delivery, image, packed, is_newly_cleaned, segment_rows, seal_rows, complete_rows, test_rows}
+use Rattle.fb_model.specs.Images.{held_at_delivery, image, packed, is_newly_cleaned, segment_row, segment_rows, seal_rows}
+use Rattle.fb_model.specs.Images.{complete_rows, test_rows}
 use Rattle.fb_tasks.specs.Taken.{found_for, segment_rows_found, seal_rows_found, test_rows_found}
 use Rattle.fb_decide.specs.Deliveries.{IsRegistered}
 use Rattle.fb_decide.specs.Standing.{Mirrors, IsTrue}
@@ -67,30 +67,12 @@ module _ (medium : Medium) (holding : Holding) (past : Past) (true_so_far : IsTr
 
   segments-true : (now task : ℕ) → segment_rows_found past now task ≡ segment_rows (packed medium past) past now task
   segments-true now task = map_same
-      (λ (choice : Choice). SegmentLine (record {
-        task = task;
-        segment = choice.segment.number;
-        instant = now;
-        live = live_count choice.segment;
-        content = found_for (work past task) choice.blocks;
-      }))
-      (λ (choice : Choice). SegmentLine (record {
-        task = task;
-        segment = choice.segment.number;
-        instant = now;
-        live = live_count choice.segment;
-        content = packed medium past choice;
-      }))
+      (λ (choice : Choice). segment_row now task (found_for (work past task) choice.blocks) choice)
+      (λ (choice : Choice). segment_row now task (packed medium past choice) choice)
       (filter (is_newly_cleaned (work past task)) (choices past task))
       (all_with (λ choice. is_newly_cleaned (work past task) choice ≡ true)
       (λ (choice : Choice). AllByRecursion (IsBlockHere task) choice.blocks) _
-      (λ choice newly here. ap (λ content. SegmentLine (record {
-        task = task;
-        segment = choice.segment.number;
-        instant = now;
-        live = live_count choice.segment;
-        content = content;
-      })) (packed-true task choice newly here))
+      (λ choice newly here. ap (λ content. segment_row now task content choice) (packed-true task choice newly here))
       (filter (is_newly_cleaned (work past task)) (choices past task))
       (all_pass (is_newly_cleaned (work past task)) (choices past task))
       (all_filter (λ (choice : Choice). AllByRecursion (IsBlockHere task) choice.blocks) (is_newly_cleaned (work past task))

@@ -5,11 +5,10 @@ use Rattle.fb_units.specs.declared.types.Request.{Request}
 use Rattle.fb_store.specs.declared.content.Content.{Content}
 use Rattle.fb_store.specs.declared.content.ContentRun.{ContentRun}
 use Rattle.fb_store.specs.Runs.{runs_of, bad_of}
-use Rattle.fb_store.specs.Writes.{after_write}
-use Rattle.fb_store.specs.Index.{Holding, content_in}
+use Rattle.fb_store.specs.Writes.{after_write, writer_of}
+use Rattle.fb_store.specs.Ranges.{Holding, content_in}
 use Rattle.fb_rows.specs.declared.fore.ForeRow.{ForeRow}
 use Rattle.fb_model.specs.PlainReplay.{Served, media, finish}
-use Rattle.fb_model.specs.Content.{number_of}
 
 -- what a read finds on the disk as it is; a write finds nothing
 abbrev pub found_in : Holding → Request → List ContentRun
@@ -18,7 +17,7 @@ found_in holding request = if request.write then []
 
 -- what a sector holds when the request is served
 abbrev pub left_by : Request → ℕ → Content → Content
-left_by request lbn before = if request.write then after_write request.lbn request.count (number_of request.name) lbn before else before
+left_by request lbn before = if request.write then after_write request.lbn request.count (writer_of request.name) lbn before else before
 
 -- the row tells of this service, and of what it found
 pub record IsRowOf (holding : Holding) (served : Served) (row : ForeRow) : Type 0 where

@@ -4,9 +4,8 @@ ghost use Rattle.std.specs.Prelude.{◌≡◌, ℕ, ◌+◌, ◌-◌, ◌*◌, �
 ghost use Rattle.std.specs.List.{AllByRecursion, sum_by};
 ghost use Rattle.fb_geometry.specs.Shape.{Shape, IsTrackOf};
 ghost use Rattle.fb_geometry.specs.Places.{places};
-ghost use Rattle.fb_store.specs.Index.{content_in};
+ghost use Rattle.fb_store.specs.Ranges.{content_in};
 ghost use Rattle.fb_service.specs.Extents.{all_passages_of, IsUnbroken};
-ghost use Rattle.fb_model.specs.Content.{number_of};
 ghost use Rattle.fb_model.specs.History.{Past, finished, wanted};
 ghost use Rattle.fb_model.specs.PlainReplay.{media, finish, last_track};
 ghost use Rattle.fb_model.specs.Plans.{IsPlan};
@@ -22,9 +21,9 @@ use crate::start::Start;
 use fb_plan::{Planner, dwells};
 use fb_rows::{BackRow, ForeRow, Gap, GapRow, How};
 use fb_service::{Access, Disk, serve};
-use fb_store::{Contents, Store};
+use fb_store::{Contents, Store, writer_of};
 use fb_tasks::reads_change_nothing;
-use fb_units::{Name, NoMemory, Ns, Request, Track};
+use fb_units::{NoMemory, Ns, Request, Track};
 use std::alloc::Global;
 
 /// A served request.
@@ -157,8 +156,8 @@ impl Background {
     {
         self.rows.push(BackRow::Gap(row))?;
         let pair = dwells(disk, row.plan, &row.gap);
-        self.deliver_in_stay(alloc, disk, store, How::Gap, pair.early)?;
-        self.deliver_in_stay(alloc, disk, store, How::Gap, pair.late)
+        self.deliver_in_dwell(alloc, disk, store, How::Gap, pair.early)?;
+        self.deliver_in_dwell(alloc, disk, store, How::Gap, pair.late)
     }
 
     // A request has finished: blocks that a write has overwritten may be wanted again.
@@ -197,16 +196,6 @@ fn write_sectors(store: &mut Store, request: Request) -> Result<(), NoMemory>
     if !request.write {
         return Ok(());
     }
-    store.write_range(request.lbn, request.count, number(request.name))?;
+    store.write_range(request.lbn, request.count, writer_of(request.name))?;
     Ok(())
-}
-
-// The number that a write leaves in its sectors; promoted reads write nothing.
-fn number(name: Name) -> u64
-    ensures { result ≡ number_of name }
-{
-    match name {
-        Name::Traced(number) => number as u64,
-        Name::Promoted(_) => 0,
-    }
 }

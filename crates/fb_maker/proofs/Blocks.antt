@@ -3,7 +3,7 @@ use Rattle.fb_maker.proofs.Words.{◌≡◌, ℕ, zero, suc, ◌+◌, ◌-◌, �
 use Rattle.fb_maker.proofs.Words.{◌∙◌, arith, inl, inr, ◌==◌, cases_Bool, nat_tests, Place, Shape, places, is_later, is_cut_before}
 use Rattle.fb_maker.proofs.Words.{with_sector, cutting}
 use Rattle.fb_sectormap.specs.declared.cut.Cut.{Cut}
-use Rattle.fb_sectormap.specs.Lookup.{place_at}
+use Rattle.fb_sectormap.specs.LookUp.{place_at}
 use Rattle.fb_maker.proofs.{Left.left_first, Left.left_rest, Breaks.breaks_from, Breaks.IsSpread}
 
 module _ (disk : Shape) where

@@ -200,6 +200,9 @@ some_first disk sound = first_is_some disk disk.zones sound.some_zones (λ zone 
       sound.some_data 0 zone is,
     ))
 
+pub some_sectors : (disk : Shape) → IsSound disk → 0 < length (places disk)
+some_sectors disk sound = let first = some_first disk sound in omega (arith, first.0, first.1)
+
 -- a generated script reads back as its calls
 pub script_read : (disk : Shape) → IsSound disk → length (places disk) ≤ 10 ^ 12 → (traced : ℕ)
     → calls_of disk traced (script_text disk) ≡ Ok (record { names = codes "scrub" ∷ codes "backup" ∷ []; calls = script_calls disk })

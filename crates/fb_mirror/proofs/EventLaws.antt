@@ -12,12 +12,11 @@ use Rattle.fb_store.specs.declared.content.Content.TheVariants.{Filled}
 use Rattle.fb_store.specs.declared.content.ContentRun.{ContentRun}
 use Rattle.fb_store.specs.Runs.{sectors_in, sectors_of}
 use Rattle.fb_store.specs.Sparse.{Gives, after_taking}
-use Rattle.fb_store.specs.Writes.{is_within}
+use Rattle.fb_store.specs.Writes.{is_within, writer_of}
 use Rattle.fb_store.proofs.Taken.{taken_block}
 use Rattle.fb_rows.specs.declared.back.BackRow.TheVariants.{Got}
 use Rattle.fb_rows.specs.declared.back.DeliveryRow.{DeliveryRow}
 use Rattle.fb_rows.specs.declared.fore.ForeRow.{ForeRow}
-use Rattle.fb_model.specs.Content.{number_of}
 use Rattle.fb_mirror.specs.Replacement.{Event, given, later, decided, Decides, writes_in, deliveries_in}
 
 one_decides : (within : Bool) (instant : ℕ) (content : Content) (held : Option Content) → held ≡ cond within (Some content) None
@@ -26,9 +25,9 @@ one_decides true instant content held is = rw is refl
 one_decides false instant content held is = rw is refl
 
 pub write_gives : (row : ForeRow) (lbn : ℕ) → row.request.write ≡ true → decided lbn (writes_in row)
-    ≡ cond (is_within row.request.lbn row.request.count lbn) (Some (row.finish, Filled (number_of row.request.name))) None
+    ≡ cond (is_within row.request.lbn row.request.count lbn) (Some (row.finish, Filled (writer_of row.request.name))) None
 write_gives row lbn writes =
-    let content = Filled (number_of row.request.name) in
+    let content = Filled (writer_of row.request.name) in
     let run : ContentRun = record { first = row.request.lbn; count = row.request.count; content = content } in
     ap (λ b. decided lbn (cond b (record { instant = row.finish; contents = run ∷ [] } ∷ []) [])) writes
     ∙ one_decides (is_within row.request.lbn row.request.count lbn) row.finish content (after_taking (sectors_of (run ∷ [])) lbn None)

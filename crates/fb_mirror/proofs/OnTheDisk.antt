@@ -15,7 +15,8 @@ use Rattle.fb_rows.specs.declared.back.DeliveryRow.{DeliveryRow}
 use Rattle.fb_rows.specs.declared.run.Run.{Run}
 use Rattle.fb_calls.specs.declared.call.Call.{Call}
 use Rattle.fb_model.specs.Accepted.{IsAccepted}
-use Rattle.fb_model.specs.Content.{contents_at, Medium, content, fore_row, fore_rows, medium_of, number_of}
+use Rattle.fb_store.specs.Writes.{writer_of}
+use Rattle.fb_model.specs.Content.{contents_at, Medium, content, fore_row, fore_rows, medium_of}
 use Rattle.fb_model.specs.FullRun.{IsFull}
 use Rattle.fb_model.specs.History.{Past}
 use Rattle.fb_model.specs.Inputs.{Inputs, served}
@@ -38,7 +39,7 @@ write_within disk medium served within = by served.request.write
   where
     by : (write : Bool) → AllByRecursion (IsWithin (length (places disk.map))) (if write then record {
       instant = finish served;
-      contents = record { first = served.request.lbn; count = served.request.count; content = Filled (number_of served.request.name) } ∷ [];
+      contents = record { first = served.request.lbn; count = served.request.count; content = Filled (writer_of served.request.name) } ∷ [];
     } ∷ [] else [])
     by true = ((within, tt), tt)
     by false = tt

@@ -16,9 +16,8 @@ use Rattle.fb_model.specs.Inputs.{Inputs}
 use Rattle.fb_model.specs.Decisions.{instant_of, Act, serving, idling, ending}
 use Rattle.fb_model.specs.History.{Past, delivered, is_open_backup, task_numbers, terms_of, tested}
 use Rattle.fb_model.specs.Completion.{Choice, choices, is_complete, was_complete, work}
-use Rattle.fb_model.specs.Segments.{live_count}
 use Rattle.fb_model.specs.Images.{bad_sectors, complete_rows, findings, image, is_newly_cleaned, is_scrub, packed, seal_rows, segment_rows}
-use Rattle.fb_model.specs.Images.{test_rows}
+use Rattle.fb_model.specs.Images.{segment_row, test_rows}
 use Rattle.fb_model.specs.Steps.{AtEach, Delivery, Step, decision_in, history, opening, step_rows, past_after, chosen_past, task_row}
 use Rattle.fb_model.specs.Steps.{task_rows, tested_past, with_delivery}
 use Rattle.fb_model.specs.SoundRun.{AreFollowed, IsSoundBy, IsTested}
@@ -119,13 +118,7 @@ module _ (P : DeliveryRow → Type 0) (C : ℕ → Type 0) where
         (flat_map (λ task. seal_rows (image medium past task now) past now task ++ complete_rows past now task) (task_numbers past))
         (all_flat_map (RowFits P C) (segment_rows (packed medium past) past now)
         (λ task. all_map_any (RowFits P C)
-        (λ (choice : Choice). SegmentLine (record {
-          task = task;
-          segment = choice.segment.number;
-          instant = now;
-          live = live_count choice.segment;
-          content = packed medium past choice;
-        })) (λ choice. tt)
+        (λ (choice : Choice). segment_row now task (packed medium past choice) choice) (λ choice. tt)
         (filter (is_newly_cleaned (work past task)) (choices past task))) (task_numbers past))
         (all_flat_map (RowFits P C) (λ task. seal_rows (image medium past task now) past now task ++ complete_rows past now task)
         (λ task. all_append (RowFits P C) (seal_rows (image medium past task now) past now task) (complete_rows past now task)

@@ -1,18 +1,16 @@
 -- The script of a rebuild reads back as its two calls.
-use Rattle.std.proofs.Common.{◌≡◌, ℕ, ◌+◌, ◌-◌, ◌^◌, ◌<◌, ◌≤◌, List, [], ◌∷◌, ◌++◌, length, Bool, true, false, refl, sym, ap, ◌∙◌, arith}
-use Rattle.std.proofs.Common.{subst, suc, Some, Ok, Err}
-use Rattle.std.specs.Prelude.{nat_lt, ◌==◌, decimal, codes, slice_get, if◌then◌else◌}
-use Rattle.std.specs.List.{list_all, flat_map, range_with_len}
+use Rattle.std.proofs.Common.{◌≡◌, ℕ, ◌+◌, ◌^◌, ◌<◌, ◌≤◌, List, [], ◌∷◌, ◌++◌, length, Bool, true, false, refl, ap, ◌∙◌, arith}
+use Rattle.std.proofs.Common.{Ok, Err}
+use Rattle.std.specs.Prelude.{nat_lt, ◌==◌, decimal, codes, if◌then◌else◌}
+use Rattle.std.specs.List.{list_all}
 use Rattle.std.proofs.lemmas.List.Folds.{list_all-append}
-use Rattle.std.proofs.lemmas.List.{length-append}
 use Rattle.std.proofs.lemmas.Bool.Decides.{nat_tests}
-use Rattle.fb_maker.proofs.ScriptRead.{calls_end, first_data, calls_more}
+use Rattle.fb_maker.proofs.ScriptRead.{calls_end, calls_more, some_sectors}
 use Rattle.fb_units.specs.Lines.{lines_of, fields_of}
 use Rattle.fb_units.proofs.Written.{whole_number}
 use Rattle.fb_geometry.specs.Shape.{Shape}
-use Rattle.fb_geometry.specs.Places.{places, zone_places, data_list}
+use Rattle.fb_geometry.specs.Places.{places}
 use Rattle.fb_geometry.specs.Sound.{IsSound}
-use Rattle.fb_geometry.specs.declared.zone.Zone.{Zone}
 use Rattle.fb_calls.specs.declared.call.Action.TheVariants.{Open, Want}
 use Rattle.fb_calls.specs.declared.call.Kind.TheVariants.{Backup}
 use Rattle.fb_script.specs.declared.fault.CallsFault.{CallsFault}
@@ -102,28 +100,10 @@ read_as disk traced n false is =
     ∙ calls_more disk 2 (after_one disk traced) (after_two disk traced n) (second_line n) [] is
     ∙ calls_end disk 3 (after_two disk traced n)
 
-some_in : (disk : Shape) (zones : List Zone) → 0 < length zones
-    → ((zone : Zone) → slice_get zones 0 ≡ Some zone → 0 < length (zone_places disk zone)) → 0 < length (flat_map (zone_places disk) zones)
-some_in disk [] some held = absurd (omega arith)
-some_in disk (zone ∷ zones) some held =
-    omega (arith, length-append (zone_places disk zone) (flat_map (zone_places disk) zones), held zone refl)
-
--- a disk has a sector
-some_places : (disk : Shape) → IsSound disk → 0 < length (places disk)
-unfolding places
-some_places disk sound = some_in disk disk.zones sound.some_zones (λ zone is.
-    let some = sound.some_cylinders 0 zone is in
-    omega (
-      arith,
-      first_data disk zone some,
-      sound.equal 0 zone zone.first (record { zone_is = is; from = omega arith; upto = some }),
-      sound.some_data 0 zone is,
-    ))
-
 pub script_read : (disk : Shape) → IsSound disk → length (places disk) ≤ 10 ^ 12 → (traced : ℕ)
     → calls_of disk traced (rebuild_text disk) ≡ rebuild_reading disk
 script_read disk sound few traced =
     let n = length (places disk) in
     ap (lines_from disk 1 (at_start traced)) (two_read n (omega arith))
     ∙ read_as disk traced n (are_too_many 0 (disk_blocks disk))
-    (line_two disk traced n (some_places disk sound) (omega arith) few (are_too_many 0 (disk_blocks disk)) refl)
+    (line_two disk traced n (some_sectors disk sound) (omega arith) few (are_too_many 0 (disk_blocks disk)) refl)

@@ -15,7 +15,7 @@ use Rattle.fb_service.specs.declared.disk.Disk.{Disk}
 use Rattle.fb_store.specs.declared.content.Content.{Content}
 use Rattle.fb_store.specs.declared.content.Content.TheVariants.{Filled}
 use Rattle.fb_store.specs.Runs.{sectors_of}
-use Rattle.fb_store.specs.Writes.{is_within, unwritten}
+use Rattle.fb_store.specs.Writes.{is_within, writer_of, unwritten}
 use Rattle.fb_store.proofs.Runs.{sectors_of-runs_of}
 use Rattle.fb_store.proofs.Taken.{taken_block}
 use Rattle.fb_wanted.specs.declared.block.Block.{Block}
@@ -27,7 +27,7 @@ use Rattle.fb_rows.specs.declared.run.Run.{Run}
 use Rattle.fb_model.specs.PlainReplay.{Served, finish, first_track, last_track}
 use Rattle.fb_model.specs.Inputs.{Inputs, served}
 use Rattle.fb_model.specs.Accepted.{IsAccepted}
-use Rattle.fb_model.specs.Content.{Medium, Written, content, content_by, contents_at, fore_row, fore_rows, medium_of, number_of, writes_of}
+use Rattle.fb_model.specs.Content.{Medium, Written, content, content_by, contents_at, fore_row, fore_rows, medium_of, writes_of}
 use Rattle.fb_model.specs.Decisions.{Decision, serves, decisions, decisions_from, end_of, idle_until, instant_of, instants_of}
 use Rattle.fb_model.specs.Decisions.{last_decision, run_end}
 use Rattle.fb_model.specs.History.{Past, wanted}
@@ -108,11 +108,11 @@ abbrev leaves : ℕ → ForeRow → Bool
 leaves lbn row = row.request.write && is_within row.request.lbn row.request.count lbn
 
 row_gives : (row : ForeRow) (lbn : ℕ)
-    → decided lbn (writes_in row) ≡ cond (leaves lbn row) (Some (row.finish, Filled (number_of row.request.name))) None
+    → decided lbn (writes_in row) ≡ cond (leaves lbn row) (Some (row.finish, Filled (writer_of row.request.name))) None
 row_gives row lbn = by row.request.write refl
   where
     by : (write : Bool) → row.request.write ≡ write → decided lbn (writes_in row)
-        ≡ cond (write && is_within row.request.lbn row.request.count lbn) (Some (row.finish, Filled (number_of row.request.name))) None
+        ≡ cond (write && is_within row.request.lbn row.request.count lbn) (Some (row.finish, Filled (writer_of row.request.name))) None
     by true is = write_gives row lbn is
     by false is = rw is refl
 
@@ -120,7 +120,7 @@ row_at : (P : ℕ → Type 0) (medium : Medium) (served : Served) (lbn : ℕ) �
     → IsAt P (decided lbn (writes_in (fore_row medium served)))
 row_at P medium served lbn each = by served.request.write refl
   where
-    within : (b : Bool) → P (finish served) → IsAt P (cond b (Some (finish served, Filled (number_of served.request.name))) None)
+    within : (b : Bool) → P (finish served) → IsAt P (cond b (Some (finish served, Filled (writer_of served.request.name))) None)
     within true h = h
     within false h = tt
 
@@ -173,7 +173,7 @@ left_decided disk medium lbn first now [] before are = refl
 left_decided disk medium lbn first now (served ∷ replay) before are =
     let row = fore_row medium served in
     let behind = decided lbn (wrote medium replay) in
-    let left = Filled (number_of served.request.name) in
+    let left = Filled (writer_of served.request.name) in
     let mid = content_by before first in
     ap (λ o. content_by o first) (last_of-more before lbn served replay)
     ∙ left_decided disk medium lbn first (finish served) replay _ are.3

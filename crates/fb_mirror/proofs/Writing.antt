@@ -1,7 +1,7 @@
 -- The services of a replay: one after another, what they write takes time, and what it leaves.
-use Rattle.std.proofs.Common.{◌≡◌, ℕ, zero, suc, ◌+◌, ◌<◌, ◌≤◌, List, [], ◌∷◌, ◌++◌, length, map, Option, Some, None, Bool, true, false}
-use Rattle.std.proofs.Common.{refl, ap, sym, subst, ◌∙◌, arith, inl, inr}
-use Rattle.std.specs.Prelude.{filter, ◌==◌, ◌&&◌, if◌then◌else◌}
+use Rattle.std.proofs.Common.{◌≡◌, ℕ, zero, suc, ◌+◌, ◌<◌, ◌≤◌, List, [], ◌∷◌, ◌++◌, length, map, Option, None, Bool, true, false}
+use Rattle.std.proofs.Common.{refl, ap, sym, subst, ◌∙◌, arith}
+use Rattle.std.specs.Prelude.{filter, ◌&&◌, if◌then◌else◌}
 use Rattle.std.specs.List.{AllByRecursion, flat_map, last_or}
 use Rattle.std.proofs.lemmas.List.Elements.{filter-append}
 use Rattle.std.proofs.lemmas.List.Concat.{flat_map-append}
@@ -15,11 +15,11 @@ use Rattle.fb_service.specs.declared.passage.Passage.{Passage}
 use Rattle.fb_service.specs.Service.{passages, finish_of, media_of}
 use Rattle.fb_store.specs.declared.content.Content.{Content}
 use Rattle.fb_store.specs.declared.content.Content.TheVariants.{Filled}
-use Rattle.fb_store.specs.Writes.{is_within, unwritten}
+use Rattle.fb_store.specs.Writes.{is_within, writer_of, unwritten}
 use Rattle.fb_model.specs.PlainReplay.{Key, Served, finish, first_track, last_track, media, plain_replay, service}
 use Rattle.fb_model.specs.Inputs.{Inputs, requests, served}
 use Rattle.fb_model.specs.Accepted.{IsAccepted}
-use Rattle.fb_model.specs.Content.{Medium, Written, content, content_by, number_of, writes_of}
+use Rattle.fb_model.specs.Content.{Medium, Written, content, content_by, writes_of}
 use Rattle.fb_model.specs.Laws.{FollowsRules, ForegroundListsAscend, OnePlainReplay}
 use Rattle.fb_model.proofs.Lists.{all_both, all_map, all_unmapped}
 use Rattle.fb_model.proofs.Passages.{IsServiceOf, LiesOnDisk, passed_between, long_slots, requests_lie, served_between, passages_long}
@@ -96,9 +96,9 @@ pub late : (disk : Disk) → IsSound disk.map → (served : Served) → IsServic
     → AllByRecursion (λ (w : Written). free_until served < w.passage.end) (writes_of served)
 late disk sound served is lies =
     subst (λ (s : Served). AllByRecursion (λ (w : Written). free served.request.write served.start s.passages < w.passage.end)
-    (writes_by served.request.write (number_of served.request.name) s.passages)) (sym is)
+    (writes_by served.request.write (writer_of served.request.name) s.passages)) (sym is)
     (late_by disk sound served.source served.start served.request.write served.request.write served.request.lbn served.request.count
-    (number_of served.request.name) lies.inside)
+    (writer_of served.request.name) lies.inside)
 
 -- and by its finish
 pub ended : (disk : Disk) (served : Served) → IsServiceOf disk served
@@ -106,8 +106,8 @@ pub ended : (disk : Disk) (served : Served) → IsServiceOf disk served
 ended disk served is = by served.request.write
   where
     by : (write : Bool)
-        → AllByRecursion (λ (w : Written). w.passage.end ≤ finish served) (writes_by write (number_of served.request.name) served.passages)
-    by true = all_map (λ (w : Written). w.passage.end ≤ finish served) (written_by (number_of served.request.name)) served.passages
+        → AllByRecursion (λ (w : Written). w.passage.end ≤ finish served) (writes_by write (writer_of served.request.name) served.passages)
+    by true = all_map (λ (w : Written). w.passage.end ≤ finish served) (written_by (writer_of served.request.name)) served.passages
         (all_weaker _ _ (λ (p : Passage) h. h.2) served.passages (served_between disk served is).1)
     by false = tt
 
@@ -165,12 +165,12 @@ last_of-append before lbn xs ys =
 -- what a service leaves
 pub left_by : (disk : Disk) (served : Served) → IsServiceOf disk served → (lbn : ℕ) (before : Option Written) (first : Content)
     → content_by (last_or before (filter (is_of lbn) (writes_of served))) first
-    ≡ (if served.request.write && is_within served.request.lbn served.request.count lbn then Filled (number_of served.request.name)
+    ≡ (if served.request.write && is_within served.request.lbn served.request.count lbn then Filled (writer_of served.request.name)
     else content_by before first)
 left_by disk served is lbn before first = by served.request.write
   where
     number : ℕ
-    number = number_of served.request.name
+    number = writer_of served.request.name
 
     by : (write : Bool) → content_by (last_or before (filter (is_of lbn) (writes_by write number served.passages))) first
         ≡ (if write && is_within served.request.lbn served.request.count lbn then Filled number else content_by before first)
@@ -192,9 +192,9 @@ late_end disk source now write lbn (suc n) t some all =
 pub finishes_late : (disk : Disk) (served : Served) (t : ℕ) → IsServiceOf disk served → LiesOnDisk disk.map served.request
     → AllByRecursion (λ (w : Written). t < w.passage.end) (writes_of served) → served.request.write ≡ true → t < finish served
 finishes_late disk served t is lies all writes =
-    let whole : AllByRecursion (λ (w : Written). t < w.passage.end) (map (written_by (number_of served.request.name)) served.passages) =
-    subst (λ write. AllByRecursion (λ (w : Written). t < w.passage.end) (writes_by write (number_of served.request.name) served.passages))
+    let whole : AllByRecursion (λ (w : Written). t < w.passage.end) (map (written_by (writer_of served.request.name)) served.passages) =
+    subst (λ write. AllByRecursion (λ (w : Written). t < w.passage.end) (writes_by write (writer_of served.request.name) served.passages))
     writes all in
-    let each = all_unmapped (λ (w : Written). t < w.passage.end) (written_by (number_of served.request.name)) served.passages whole in
+    let each = all_unmapped (λ (w : Written). t < w.passage.end) (written_by (writer_of served.request.name)) served.passages whole in
     subst (λ (s : Served). AllByRecursion (λ (p : Passage). t < p.end) s.passages → t < finish_of served.start s.passages) (sym is)
     (late_end disk served.source served.start served.request.write served.request.lbn served.request.count t lies.some) each

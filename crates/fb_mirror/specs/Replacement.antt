@@ -12,7 +12,7 @@ use Rattle.fb_rows.specs.declared.fore.ForeRow.{ForeRow}
 use Rattle.fb_rows.specs.declared.back.BackRow.{BackRow}
 use Rattle.fb_rows.specs.declared.back.BackRow.TheVariants.{Got, Seal}
 use Rattle.fb_rows.specs.declared.run.Run.{Run}
-use Rattle.fb_model.specs.Content.{number_of}
+use Rattle.fb_store.specs.Writes.{writer_of}
 
 -- an event: at an instant the sectors of some runs get contents
 pub record Event : Type 0 where
@@ -24,7 +24,7 @@ abbrev pub writes_in : ForeRow → List Event
 writes_in row = if row.request.write
     then record {
       instant = row.finish;
-      contents = record { first = row.request.lbn; count = row.request.count; content = Filled (number_of row.request.name) } ∷ [];
+      contents = record { first = row.request.lbn; count = row.request.count; content = Filled (writer_of row.request.name) } ∷ [];
     } ∷ []
     else []
 

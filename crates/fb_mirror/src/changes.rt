@@ -3,13 +3,12 @@ ghost use Rattle.std.specs.Prelude.{◌≡◌, ℕ, ◌+◌, ◌≤◌, ◌^◌,
 ghost use Rattle.std.specs.List.{AllByRecursion, flat_map};
 ghost use Rattle.fb_store.specs.Runs.{sectors_of, IsInRange};
 ghost use Rattle.fb_store.specs.Sparse.{after_taking};
-ghost use Rattle.fb_model.specs.Content.{number_of};
 ghost use Rattle.fb_mirror.specs.Changes.{changes_of};
 ghost use Rattle.fb_mirror.specs.Replacement.{deliveries_in, events, held_after, IsWithin, writes_in};
 
 use fb_rows::{BackRow, BackRows, ForeRow, ForeRows, Run};
-use fb_store::{Content, ContentRun, Contents};
-use fb_units::{Name, NoMemory, Ns};
+use fb_store::{Content, ContentRun, Contents, writer_of};
+use fb_units::{NoMemory, Ns};
 use std::alloc::Global;
 
 // A run of sectors that gets its content at an instant.
@@ -73,7 +72,7 @@ fn push_write(changes: &mut Vec<Change>, row: &ForeRow) -> Result<(), NoMemory>
         let run = ContentRun {
             first: row.request.lbn,
             count: u64::from(row.request.count),
-            content: Content::Filled(number(row.request.name)),
+            content: Content::Filled(writer_of(row.request.name)),
         };
         changes.push(Change {
             instant: row.finish,
@@ -81,16 +80,6 @@ fn push_write(changes: &mut Vec<Change>, row: &ForeRow) -> Result<(), NoMemory>
         })?;
     }
     Ok(())
-}
-
-// The number of a request of the trace; 0 of a promoted read, which writes nothing.
-fn number(name: Name) -> u64
-    ensures { result ≡ number_of name }
-{
-    match name {
-        Name::Traced(number) => number as u64,
-        Name::Promoted(_) => 0,
-    }
 }
 
 fn push_deliveries(changes: &mut Vec<Change>, rows: &BackRows) -> Result<(), NoMemory>

@@ -4,11 +4,10 @@ ghost use Rattle.std.specs.List.{AllByRecursion};
 ghost use Rattle.fb_store.specs.declared.content.Content.{Content};
 ghost use Rattle.fb_store.specs.declared.content.Content.TheVariants.{Filled};
 ghost use Rattle.fb_store.specs.Sparse.{Gives};
-ghost use Rattle.fb_store.specs.Writes.{is_within};
+ghost use Rattle.fb_store.specs.Writes.{is_within, writer_of};
 ghost use Rattle.fb_rows.specs.declared.back.BackRow.TheVariants.{Got};
 ghost use Rattle.fb_rows.specs.declared.back.DeliveryRow.{DeliveryRow};
 ghost use Rattle.fb_rows.specs.declared.fore.ForeRow.{ForeRow};
-ghost use Rattle.fb_model.specs.Content.{number_of};
 ghost use Rattle.fb_mirror.specs.Replacement.{decided, Decides, deliveries_in, Event, given, writes_in};
 ghost use Rattle.fb_mirror.specs.Survivor.{CoveredSectorsAreTheSurvivors, CoveredSectorsAreTheSurvivorsAtRest, RunsLieOnTheDisk};
 ghost use Rattle.fb_mirror.specs.Survivor.{SealedRebuildsAreWhole, SealedRebuildsStayWhole};
@@ -19,7 +18,7 @@ use fb_model::{foreground_lists_ascend, one_plain_replay};
 /// sectors of its block what they held, at its end. Neither concerns any other sector.
 pub fn events_concern_their_sectors()
     ensures write { (row : ForeRow) (lbn : ℕ) → row.request.write ≡ true → decided lbn (writes_in row)
-        ≡ if is_within row.request.lbn row.request.count lbn then Some (row.finish, Filled (number_of row.request.name)) else None }
+        ≡ if is_within row.request.lbn row.request.count lbn then Some (row.finish, Filled (writer_of row.request.name)) else None }
     ensures delivery { (row : DeliveryRow) (content_of : ℕ → Content) (lbn : ℕ) → Gives row.content content_of row.block.lbn row.block.count
         → decided lbn (deliveries_in (Got row)) ≡ if is_within row.block.lbn row.block.count lbn then Some (row.end, content_of lbn)
         else None }

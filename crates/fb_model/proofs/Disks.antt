@@ -19,7 +19,7 @@ use Rattle.fb_geometry.specs.Index.{IsFaultless, zone_fault, defect_fault}
 use Rattle.fb_geometry.proofs.Faultless.{or_else-none, zone_by_bounds, slots_at-zone}
 use Rattle.fb_geometry.proofs.Judging.{first_fault-is, has_zones, faultless}
 use Rattle.fb_geometry.proofs.Once.{sound, own_places}
-use Rattle.fb_sectormap.specs.Lookup.{place_at}
+use Rattle.fb_sectormap.specs.LookUp.{place_at}
 use Rattle.fb_sectormap.proofs.Parts.{length-same}
 use Rattle.fb_sectormap.proofs.ByCylinder.{by_zone, has_place}
 use Rattle.fb_service.specs.Passing.{begin_angle, begin_from}

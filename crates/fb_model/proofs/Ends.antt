@@ -1,8 +1,8 @@
 -- A later start never ends the passage of a block earlier.
-use Rattle.std.proofs.Common.{◌≡◌, ℕ, ◌+◌, ◌-◌, ◌%◌, ◌<◌, ◌≤◌, arith}
+use Rattle.std.proofs.Common.{ℕ, ◌+◌, ◌-◌, ◌%◌, ◌<◌, ◌≤◌, arith}
 use Rattle.fb_units.proofs.Waits.{next-le}
 use Rattle.fb_geometry.specs.Shape.{Shape}
-use Rattle.fb_sectormap.specs.Lookup.{place_at}
+use Rattle.fb_sectormap.specs.LookUp.{place_at}
 use Rattle.fb_service.specs.Passing.{begin_angle, end_angle, begin_from}
 use Rattle.fb_wanted.specs.declared.block.Block.{Block}
 use Rattle.fb_model.specs.Plans.{block_begin, block_end}

@@ -14,7 +14,7 @@ use Rattle.fb_geometry.specs.Shape.{Shape, slots_at}
 use Rattle.fb_geometry.specs.Places.{places}
 use Rattle.fb_geometry.specs.Sound.{IsSound}
 use Rattle.fb_geometry.proofs.Rotation.{cover}
-use Rattle.fb_sectormap.specs.Lookup.{place_at, track_at}
+use Rattle.fb_sectormap.specs.LookUp.{place_at, track_at}
 use Rattle.fb_sectormap.proofs.ByCylinder.{has_place}
 use Rattle.fb_seek.specs.Positioning.{pos}
 use Rattle.fb_calls.specs.declared.call.Action.{Action}
@@ -30,7 +30,8 @@ use Rattle.fb_model.specs.PlainReplay.{Key, Served, service, finish, media, last
 use Rattle.fb_model.specs.Foreground.{behind, read_of, promoted_from, promoted}
 use Rattle.fb_model.specs.Inputs.{Inputs, requests}
 use Rattle.fb_model.specs.Accepted.{IsAccepted, IsRequestOf}
-use Rattle.fb_model.specs.Content.{Written, number_of, writes_of}
+use Rattle.fb_store.specs.Writes.{writer_of}
+use Rattle.fb_model.specs.Content.{Written, writes_of}
 use Rattle.fb_model.specs.Rides.{begin_at, end_at, lies_in}
 use Rattle.fb_model.proofs.Lists.{all_both, all_map}
 use Rattle.fb_model.proofs.Picks.{all_picked}
@@ -197,7 +198,7 @@ written_by writer passage = record { writer = writer; passage = passage }
 pub passes_late : (disk : Disk) → TakeTime disk.map → (source : Track) (start : ℕ) (request : Request)
     → IsRange disk.map request.lbn request.count → WritesLate (service disk source start request)
 passes_late disk long source start request range = elim (cases_Bool request.write) [
-  | inl writes ↦ rw writes (all_map (λ (w : Written). start < w.passage.end) (written_by (number_of request.name))
+  | inl writes ↦ rw writes (all_map (λ (w : Written). start < w.passage.end) (written_by (writer_of request.name))
       (passages disk source start true request.lbn request.count)
       (all_weaker _ _ (λ (p : Passage) h. omega (arith, h.0.0, h.1)) (passages disk source start true request.lbn request.count)
       (all_both _ _ (passages disk source start true request.lbn request.count)

@@ -11,7 +11,7 @@ use Rattle.std.proofs.lemmas.List.Sorted.{IsPermutation-refl, IsPermutation-tran
 use Rattle.fb_units.specs.declared.types.Track.{Track}
 use Rattle.fb_units.specs.declared.types.Request.{Request}
 use Rattle.fb_units.specs.Rising.{IsRising}
-use Rattle.fb_sectormap.specs.Lookup.{track_at}
+use Rattle.fb_sectormap.specs.LookUp.{track_at}
 use Rattle.fb_seek.specs.Positioning.{pos}
 use Rattle.fb_service.specs.declared.disk.Disk.{Disk}
 use Rattle.fb_service.specs.Passing.{begin_from}

@@ -11,16 +11,15 @@ use Rattle.fb_store.specs.Runs.{runs_of}
 use Rattle.fb_wanted.specs.declared.block.Block.{Block}
 use Rattle.fb_wanted.specs.States.{is_delivered}
 use Rattle.fb_rows.specs.declared.back.BackRow.{BackRow}
-use Rattle.fb_rows.specs.declared.back.BackRow.TheVariants.{Got as GotLine, Bad as BadLine, Seal as SealLine, Segment as SegmentLine}
+use Rattle.fb_rows.specs.declared.back.BackRow.TheVariants.{Got as GotLine, Bad as BadLine, Seal as SealLine}
 use Rattle.fb_rows.specs.declared.back.BackRow.TheVariants.{Complete as CompleteLine}
 use Rattle.fb_rows.specs.declared.back.DeliveryRow.{DeliveryRow}
 use Rattle.fb_model.specs.Content.{Medium, contents_at}
 use Rattle.fb_model.specs.History.{Past, called, chose, tested, delivered, finished, task_numbers, terms_of, blocks_of, same_block}
 use Rattle.fb_model.specs.History.{is_open_backup}
 use Rattle.fb_model.specs.Completion.{Choice, choices, work, is_complete, was_complete}
-use Rattle.fb_model.specs.Segments.{live_count}
 use Rattle.fb_model.specs.Images.{bad_sectors, is_scrub, findings, held_at_delivery, packed, is_newly_cleaned, segment_rows, image}
-use Rattle.fb_model.specs.Images.{seal_rows, complete_rows, test_rows}
+use Rattle.fb_model.specs.Images.{segment_row, seal_rows, complete_rows, test_rows}
 use Rattle.fb_model.specs.Steps.{Delivery, with_delivery, task_row, task_rows}
 use Rattle.fb_model.specs.SoundRun.{AreFollowed}
 use Rattle.fb_model.specs.Known.{is_known, follows_known, only_if, known_from}
@@ -67,13 +66,7 @@ module _ (t : ℕ) where
       all_append (IsUnknown t) (flat_map (segment_rows (packed medium past) past now) (task_numbers past))
       (flat_map (λ task. seal_rows (image medium past task now) past now task ++ complete_rows past now task) (task_numbers past))
       (all_flat_map (IsUnknown t) (segment_rows (packed medium past) past now) (λ task.
-      all_map (IsUnknown t) (λ choice. SegmentLine (record {
-        task = task;
-        segment = choice.segment.number;
-        instant = now;
-        live = live_count choice.segment;
-        content = packed medium past choice;
-      }))
+      all_map (IsUnknown t) (λ (choice : Choice). segment_row now task (packed medium past choice) choice)
       (filter (is_newly_cleaned (work past task)) (choices past task))
       (all_any (λ (choice : Choice). (follows : Bool) → nat_le now t ≡ false) (λ choice follows. late)
       (filter (is_newly_cleaned (work past task)) (choices past task)))) (task_numbers past))
@@ -159,27 +152,9 @@ module _ (done : ℕ) (a b : Medium) (same : HoldSame done a b) where
   same_segments : (past : Past) (now task : ℕ) → AreFine (HasBegun done) past
       → segment_rows (packed a past) past now task ≡ segment_rows (packed b past) past now task
   same_segments past now task fine = same_map
-      (λ (choice : Choice). SegmentLine (record {
-        task = task;
-        segment = choice.segment.number;
-        instant = now;
-        live = live_count choice.segment;
-        content = packed a past choice;
-      }))
-      (λ (choice : Choice). SegmentLine (record {
-        task = task;
-        segment = choice.segment.number;
-        instant = now;
-        live = live_count choice.segment;
-        content = packed b past choice;
-      }))
-      (λ choice. ap (λ content. SegmentLine (record {
-        task = task;
-        segment = choice.segment.number;
-        instant = now;
-        live = live_count choice.segment;
-        content = content;
-      })) (same_packed past choice fine))
+      (λ (choice : Choice). segment_row now task (packed a past choice) choice)
+      (λ (choice : Choice). segment_row now task (packed b past choice) choice)
+      (λ choice. ap (λ content. segment_row now task content choice) (same_packed past choice fine))
       (filter (is_newly_cleaned (work past task)) (choices past task))
 
   same_seals : (past : Past) (now task : ℕ) → now ≤ done

@@ -16,12 +16,11 @@ use Rattle.fb_calls.specs.Sessions.{is_backup, is_clean}
 use Rattle.fb_sectormap.specs.declared.cut.Cut.{Cut}
 use Rattle.fb_sectormap.specs.Cutting.{cutting}
 use Rattle.fb_store.specs.Runs.{runs_of}
-use Rattle.fb_store.specs.declared.content.ContentRun.{ContentRun}
 use Rattle.fb_wanted.specs.declared.block.Block.{Block}
 use Rattle.fb_wanted.specs.declared.block.State.{State}
 use Rattle.fb_wanted.specs.declared.block.State.TheVariants.{Wanted, Suspended, Delivered, Aborted}
 use Rattle.fb_wanted.specs.States.{is_wanted, is_delivered}
-use Rattle.fb_rows.specs.declared.back.BackRow.TheVariants.{Bad as BadLine, Seal as SealLine, Segment as SegmentLine}
+use Rattle.fb_rows.specs.declared.back.BackRow.TheVariants.{Bad as BadLine, Seal as SealLine}
 use Rattle.fb_rows.specs.declared.back.BackRow.TheVariants.{Complete as CompleteLine}
 use Rattle.fb_rows.specs.declared.back.DeliveryRow.{DeliveryRow}
 use Rattle.fb_model.specs.Inputs.{Inputs}
@@ -33,10 +32,10 @@ use Rattle.fb_model.specs.History.{is_seal_of, is_sealed, is_open_backup, bare_s
 use Rattle.fb_model.specs.History.{wanted}
 use Rattle.fb_model.specs.Completion.{segment_by, segments, Choice, choices, is_close, is_closed, is_segment_of, is_reported, own_of, Work}
 use Rattle.fb_model.specs.Completion.{work, is_done, is_complete, was_complete}
-use Rattle.fb_model.specs.Segments.{numbered, next_blocks, live_count, is_better, unchosen, is_busy, choose_best, choose_once, choose_up_to}
+use Rattle.fb_model.specs.Segments.{numbered, next_blocks, is_better, unchosen, is_busy, choose_best, choose_once, choose_up_to}
 use Rattle.fb_model.specs.Segments.{choose_in, with_choices}
 use Rattle.fb_model.specs.Images.{bad_sectors, is_scrub, findings, held_at_delivery, packed, is_newly_cleaned, segment_rows, image}
-use Rattle.fb_model.specs.Images.{seal_rows, complete_rows, test_rows}
+use Rattle.fb_model.specs.Images.{segment_row, seal_rows, complete_rows, test_rows}
 use Rattle.fb_model.specs.Rides.{due}
 use Rattle.fb_model.specs.Steps.{Delivery, Step, decision_in, blocks_by, take_call, calls_due, chosen_past, with_delivery, with_finish}
 use Rattle.fb_model.specs.Steps.{tested_past, past_after, AtEach}
@@ -330,17 +329,11 @@ module _ (medium : Medium) where
   segments_same : (past : Past) (now task : ℕ)
       → segment_rows (packed medium (unlined_past past)) (unlined_past past) now task ≡ segment_rows (packed medium past) past now task
   segments_same past now task =
-      let line = λ (content : List ContentRun) (choice : Choice). SegmentLine (record {
-        task = task;
-        segment = choice.segment.number;
-        instant = now;
-        live = live_count choice.segment;
-        content = content;
-      }) in
-      ap₂ (λ (w : Work) (found : List Choice). map (λ choice. line (packed medium (unlined_past past) choice) choice)
+      let row = segment_row now task in
+      ap₂ (λ (w : Work) (found : List Choice). map (λ choice. row (packed medium (unlined_past past) choice) choice)
       (filter (is_newly_cleaned w) found)) (same_work past task) (same_choices past task)
-      ∙ same_map (λ choice. line (packed medium (unlined_past past) choice) choice) (λ choice. line (packed medium past choice) choice)
-      (λ choice. ap (λ content. line content choice) (packed_same past choice))
+      ∙ same_map (λ choice. row (packed medium (unlined_past past) choice) choice) (λ choice. row (packed medium past choice) choice)
+      (λ choice. ap (λ content. row content choice) (packed_same past choice))
       (filter (is_newly_cleaned (work past task)) (choices past task))
 
   image_same : (past : Past) (task now : ℕ) → image medium (unlined_past past) task now ≡ image medium past task now

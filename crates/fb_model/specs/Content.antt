@@ -1,15 +1,13 @@
 -- What a sector holds at an instant.
 use Rattle.std.specs.Prelude.{ℕ, List, [], ◌&&◌, ◌==◌, nat_le, Option, Some, None, filter, map, if◌then◌else◌}
 use Rattle.std.specs.List.{flat_map, range_with_len, last_or}
-use Rattle.fb_units.specs.declared.types.Name.{Name}
-use Rattle.fb_units.specs.declared.types.Name.TheVariants.{Traced, Promoted}
 use Rattle.fb_service.specs.declared.disk.Disk.{Disk}
 use Rattle.fb_service.specs.declared.passage.Passage.{Passage}
 use Rattle.fb_store.specs.declared.content.Content.{Content}
 use Rattle.fb_store.specs.declared.content.Content.TheVariants.{Filled}
 use Rattle.fb_store.specs.declared.content.ContentRun.{ContentRun}
 use Rattle.fb_store.specs.Runs.{runs_of, bad_of}
-use Rattle.fb_store.specs.Writes.{unwritten}
+use Rattle.fb_store.specs.Writes.{writer_of, unwritten}
 use Rattle.fb_rows.specs.declared.fore.ForeRow.{ForeRow}
 use Rattle.fb_model.specs.PlainReplay.{Served, media, finish}
 use Rattle.fb_model.specs.Inputs.{Inputs, served}
@@ -19,15 +17,10 @@ pub record Written : Type 0 where
   pub writer : ℕ
   pub passage : Passage
 
--- the number of a request of the trace; a promoted read writes nothing, so its 0 is never left anywhere
-abbrev pub number_of : Name → ℕ
-number_of (Traced number) = number
-number_of (Promoted number) = 0
-
 -- the passages in which a service writes, each with the number that it leaves; a read writes nothing
 abbrev pub writes_of : Served → List Written
 writes_of served = if served.request.write
-    then map (λ passage. record { writer = number_of served.request.name; passage = passage }) served.passages
+    then map (λ passage. record { writer = writer_of served.request.name; passage = passage }) served.passages
     else []
 
 -- the disk, its latent sectors, and all passages of the plain replay's writes, in order

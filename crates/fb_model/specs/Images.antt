@@ -54,11 +54,14 @@ packed medium past choice = runs_of (flat_map (held_at_delivery medium past) cho
 abbrev pub is_newly_cleaned : Work → Choice → Bool
 is_newly_cleaned work choice = is_cleaned work choice && not (work.reported choice.segment.number)
 
+-- the row of a segment that was cleaned, with these contents
+abbrev pub segment_row : ℕ → ℕ → List ContentRun → Choice → BackRow
+segment_row now task content choice = SegmentLine
+    (record { task = task; segment = choice.segment.number; instant = now; live = live_count choice.segment; content = content })
+
 -- the rows of the segments that are cleaned and have none yet, each with the contents given for it
 abbrev pub segment_rows : (Choice → List ContentRun) → Past → ℕ → ℕ → List BackRow
-segment_rows content past now task = map
-    (λ choice. SegmentLine
-    (record { task = task; segment = choice.segment.number; instant = now; live = live_count choice.segment; content = content choice }))
+segment_rows content past now task = map (λ choice. segment_row now task (content choice) choice)
     (filter (is_newly_cleaned (work past task)) (choices past task))
 
 -- a backup is sealed, with these contents, at the first test at which it is complete

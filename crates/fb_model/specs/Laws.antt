@@ -12,7 +12,7 @@ use Rattle.fb_geometry.specs.Angles.{slot_begin, CoverRotation}
 use Rattle.fb_geometry.specs.Places.{places}
 use Rattle.fb_geometry.specs.Faults.{FitsLayout, first_fault}
 use Rattle.fb_geometry.specs.Sound.{HasOwnPlaces, cylinder_size}
-use Rattle.fb_sectormap.specs.Lookup.{place_at}
+use Rattle.fb_sectormap.specs.LookUp.{place_at}
 use Rattle.fb_service.specs.declared.disk.Disk.{Disk}
 use Rattle.fb_service.specs.Passing.{begin_angle, begin_from}
 use Rattle.fb_wanted.specs.declared.block.Block.{Block}

@@ -7,7 +7,7 @@ use Rattle.std.specs.List.{list_any}
 use Rattle.fb_units.specs.declared.types.Track.{Track}
 use Rattle.fb_units.specs.declared.types.Request.{Request}
 use Rattle.fb_geometry.specs.Shape.{cylinders_of}
-use Rattle.fb_sectormap.specs.Lookup.{place_at, track_at}
+use Rattle.fb_sectormap.specs.LookUp.{place_at, track_at}
 use Rattle.fb_seek.specs.Positioning.{distance_of, pos}
 use Rattle.fb_service.specs.declared.disk.Disk.{Disk}
 use Rattle.fb_service.specs.declared.passage.Passage.{Passage}

@@ -7,6 +7,7 @@ ghost use Rattle.fb_report.specs.Forms.{fits};
 ghost use Rattle.fb_report.specs.Grammar.{are_bytes, is_lower_hex, is_number, is_one_of, is_request, is_track};
 
 use fb_calls::is_name;
+use fb_units::index_of;
 
 /// What a field must be.
 #[derive(Clone, Copy)]
@@ -130,17 +131,4 @@ pub fn split_once(text: &[u8], stop: u8) -> Option<(&[u8], &[u8])>
     } else {
         None
     }
-}
-
-// The index of the first `stop` byte, or the length of the text if there is none.
-fn index_of(text: &[u8], stop: u8) -> usize
-    ensures index { result ≡ position_or_len (λ byte. byte == stop) text.now }
-    ensures within { result ≤ length text.now }
-{
-    for (index, byte) in text.iter().enumerate() {
-        if *byte == stop {
-            return index;
-        }
-    }
-    text.len()
 }

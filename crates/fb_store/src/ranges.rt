@@ -3,7 +3,7 @@
 ghost use Rattle.std.specs.Prelude.{◌≡◌, ℕ, ◌+◌, ◌<◌, ◌≤◌, ◌≢◌, None, Some, OnOk, OnErr};
 ghost use Rattle.std.specs.Ordering.{nat_cmp};
 ghost use Rattle.std.specs.BTreeMap.{get, ContainsKey, IsUnchanged};
-ghost use Rattle.fb_store.specs.Index.{held_of};
+ghost use Rattle.fb_store.specs.Ranges.{held_of};
 
 use crate::Content;
 use fb_units::NoMemory;

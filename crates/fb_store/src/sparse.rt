@@ -4,7 +4,7 @@ ghost use Rattle.std.specs.Ordering.{nat_cmp};
 ghost use Rattle.std.specs.BTreeMap.{get};
 ghost use Rattle.std.specs.List.{range_with_len};
 ghost use Rattle.fb_store.specs.declared.content.Content.{Content};
-ghost use Rattle.fb_store.specs.Index.{held_of, held_at, AreCut};
+ghost use Rattle.fb_store.specs.Ranges.{held_of, held_at, AreCut};
 ghost use Rattle.fb_store.specs.Sparse.{after_taking, Gives, EndsBy, after_take, after_dropping, held_in};
 ghost use Rattle.fb_store.specs.Runs.{runs_of, sectors_of};
 
@@ -27,7 +27,7 @@ pub struct SparseContents {
 impl Model for SparseContents {
     ghost use Rattle.std.specs.Prelude.{ℕ, ◌^◌, List, Option};
     ghost use Rattle.fb_store.specs.declared.content.Content.{Content};
-    ghost use Rattle.fb_store.specs.Index.{held_at};
+    ghost use Rattle.fb_store.specs.Ranges.{held_at};
     ghost use Rattle.fb_store.specs.Sparse.{EndsBy};
 
     ghost Value = { List (ℕ × Option Content) };

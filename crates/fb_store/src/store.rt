@@ -5,7 +5,7 @@ ghost use Rattle.std.specs.BTreeSet.{contains, IsFromIterResult};
 ghost use Rattle.std.specs.List.{range_with_len, sum_by};
 ghost use Rattle.fb_store.specs.declared.content.Content.{Content};
 ghost use Rattle.fb_store.specs.Writes.{unwritten, after_write};
-ghost use Rattle.fb_store.specs.Index.{content_in};
+ghost use Rattle.fb_store.specs.Ranges.{content_in};
 ghost use Rattle.fb_store.specs.Runs.{runs_of, same_content, ArePacked, IsRun, IsLongestRun};
 
 use crate::content::is_same;
@@ -24,7 +24,7 @@ pub struct Store {
 }
 
 impl Model for Store {
-    ghost use Rattle.fb_store.specs.Index.{Holding};
+    ghost use Rattle.fb_store.specs.Ranges.{Holding};
 
     ghost Value = { Holding };
 

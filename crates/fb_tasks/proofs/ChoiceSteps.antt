@@ -5,13 +5,14 @@ use Rattle.fb_tasks.proofs.Words.{filter, append_assoc, length-append, AllByRecu
 use Rattle.fb_tasks.proofs.Words.{true≢false, not-true, cases_Bool, cases_lt, and_parts, flat_map-append, list_any-append, slice_get_within}
 use Rattle.fb_tasks.proofs.Words.{none-some, Shape, places, live_cuts, Block, Entry, Wanted, is_delivered, Past, LogSegment, chose, tasks}
 use Rattle.fb_tasks.proofs.Words.{registered, Choice, TaskView, view, own_of, chosen_view, is_cleaned, is_choice_of, Work, is_unsealed}
-use Rattle.fb_tasks.proofs.Words.{chosen-silent, chosen-view, number_same, numbered, is_better, is_chosen, unchosen, live_count, is_busy}
+use Rattle.fb_tasks.proofs.Words.{chosen-silent, chosen-view, number_same, numbered, is_better, is_chosen, unchosen, is_busy}
 use Rattle.fb_tasks.proofs.Words.{choose_best, choose_once, Session, new_entries, is_none, cuts_of, Cleans, HoldsBlocks, HoldsBlock}
 use Rattle.fb_tasks.proofs.Words.{IsPlaced, IsCutFrom, IsBlockOf, IsSegmentOf, AreNumbered, choice_in, kept_segment, CleansBy, HoldsChoice}
 use Rattle.fb_tasks.proofs.Words.{Ascend, IsAtNumber, entry_of, Stands, MayChoose, choosable_by, HoldsImage, all_weaker, all_with}
 use Rattle.fb_tasks.proofs.Words.{all_append, all_filter, all_pass, all_flat, all_same, number_other, none_pass, one_or_other, some_same}
 use Rattle.fb_tasks.proofs.Words.{filter_same, nat_tests, or-true, length-map, map-append, nil_from_length, filter-append, Kind, is_backup}
-use Rattle.fb_tasks.proofs.Words.{is_clean, ContentRun, runs_of, sectors_of, BackRow, SegmentLine, segment_rows_found, is_newly_cleaned}
+use Rattle.fb_tasks.proofs.Words.{is_clean, ContentRun, runs_of, sectors_of, BackRow, SegmentLine, segment_row, segment_rows_found}
+use Rattle.fb_tasks.proofs.Words.{is_newly_cleaned}
 use Rattle.fb_tasks.proofs.Words.{found_for, held_at, HasChosenUpTo}
 use Rattle.fb_tasks.proofs.Registered.{fresh_wanted, no_smaller, numbered_joined, registered-entries, named_same}
 use Rattle.fb_tasks.proofs.Cuts.{cuts_own, cuts_numbered, cuts_count}
@@ -249,13 +250,7 @@ few_less disk past task best left =
 
 -- the row of a cleaned segment
 abbrev pub segment_row_of : Work → ℕ → ℕ → Choice → BackRow
-segment_row_of w now task choice = SegmentLine (record {
-  task = task;
-  segment = choice.segment.number;
-  instant = now;
-  live = live_count choice.segment;
-  content = found_for w choice.blocks;
-})
+segment_row_of w now task choice = segment_row now task (found_for w choice.blocks) choice
 
 abbrev pub segment_rows_of : Work → ℕ → ℕ → List BackRow
 segment_rows_of w now task = map (segment_row_of w now task) (filter (is_newly_cleaned w) w.choices)

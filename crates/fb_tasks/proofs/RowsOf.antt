@@ -4,9 +4,9 @@ use Rattle.fb_tasks.proofs.Words.{append_assoc, sym, arith, refl, zero, suc, ◌
 use Rattle.fb_tasks.proofs.Words.{map, ap, ◌∙◌, range_with_len, flat_map, list_any, Unreadable, ContentRun, same_content, bad_sectors}
 use Rattle.fb_tasks.proofs.Words.{test_rows_found, segment_rows_found, seal_rows_found, complete_rows, is_newly_cleaned, findings, is_scrub}
 use Rattle.fb_tasks.proofs.Words.{take_more, get_or_past, slice_get_within, get_or_from_slice_get, flat_map-append, and-false, or-false}
-use Rattle.fb_tasks.proofs.Words.{cases_Bool, nat_tests, list_any-append, BackRow, BadLine, SegmentLine}
+use Rattle.fb_tasks.proofs.Words.{cases_Bool, nat_tests, list_any-append, BackRow, BadLine, segment_row}
 use Rattle.fb_tasks.proofs.Words.{DeliveryRow, Past, tasks, task_numbers, terms_of, is_seal_of, is_open_backup, Choice, view, work, choices}
-use Rattle.fb_tasks.proofs.Words.{is_complete, is_segment_of, live_count, AreTestRowsOf, all_any, any_same, any_none, Plain}
+use Rattle.fb_tasks.proofs.Words.{is_complete, is_segment_of, AreTestRowsOf, all_any, any_same, any_none, Plain}
 use Rattle.fb_tasks.proofs.Words.{AreReported, filter_none, found_for}
 use Rattle.fb_geometry.proofs.Turns.{range-append}
 
@@ -75,13 +75,9 @@ module _ (past : Past) (now : ℕ) where
   seals_by task t = grind arith
 
   no_seals : (task t : ℕ) → list_any (is_seal_of task) (segment_rows_found past now t) ≡ false
-  no_seals task t = any_mapped_none (is_seal_of task) (λ (choice : Choice). SegmentLine (record {
-    task = t;
-    segment = choice.segment.number;
-    instant = now;
-    live = live_count choice.segment;
-    content = found_for (work past t) choice.blocks;
-  })) (λ choice. refl) (filter (is_newly_cleaned (work past t)) (choices past t))
+  no_seals task t = any_mapped_none (is_seal_of task)
+      (λ (choice : Choice). segment_row now t (found_for (work past t) choice.blocks) choice) (λ choice. refl)
+      (filter (is_newly_cleaned (work past t)) (choices past t))
 
   -- a test seals a backup that is complete
   pub seals_given : (task : ℕ) → list_any (is_seal_of task) (test_rows_found past now) ≡ (is_open_backup past task && is_complete past task)
@@ -94,13 +90,8 @@ module _ (past : Past) (now : ℕ) where
 
   -- segments
   segments_by : (task t number : ℕ) (p : Choice → Bool) (cs : List Choice)
-      → list_any (is_segment_of task number) (map (λ (choice : Choice). SegmentLine (record {
-        task = t;
-        segment = choice.segment.number;
-        instant = now;
-        live = live_count choice.segment;
-        content = found_for (work past t) choice.blocks;
-      })) (filter p cs))
+      → list_any (is_segment_of task number)
+      (map (λ (choice : Choice). segment_row now t (found_for (work past t) choice.blocks) choice) (filter p cs))
       ≡ ((t == task) && list_any (λ choice. (choice.segment.number == number) && p choice) cs)
   segments_by task t number p [] = sym (and-false (t == task))
   segments_by task t number p (c ∷ cs) = grind (arith, segments_by task t number p cs)

@@ -29,7 +29,7 @@ pub use Rattle.fb_geometry.specs.Shape.{Shape}
 pub use Rattle.fb_sectormap.specs.Cutting.{IsOneTurn, with_sector}
 unfoldable pub use Rattle.fb_sectormap.specs.Cutting.{cutting}
 pub use Rattle.fb_sectormap.specs.declared.cut.Cut.{Cut}
-pub use Rattle.fb_store.specs.Index.{content_in, held_at}
+pub use Rattle.fb_store.specs.Ranges.{content_in, held_at}
 pub use Rattle.fb_store.specs.Runs.{runs_of, same_content, sectors_of}
 pub use Rattle.fb_store.specs.Sparse.{EndsBy, Gives, after_take, held_in, held_sector}
 pub use Rattle.fb_store.specs.Writes.{is_within}
@@ -70,7 +70,7 @@ unfoldable pub use Rattle.fb_model.specs.Completion.{is_complete, view}
 pub use Rattle.fb_model.specs.History.{Event, LogSegment, Past, Terms, called, calls_of, chose, delivered, finished, is_open_backup}
 pub use Rattle.fb_model.specs.History.{is_seal_of, opened_by, registered, same_block, state, task_numbers, tasks, terms_of, tested}
 unfoldable pub use Rattle.fb_model.specs.History.{bare_state, content_of, wanted}
-pub use Rattle.fb_model.specs.Images.{bad_sectors, complete_rows, findings, is_newly_cleaned, is_scrub}
+pub use Rattle.fb_model.specs.Images.{bad_sectors, complete_rows, findings, is_newly_cleaned, is_scrub, segment_row}
 pub use Rattle.fb_model.specs.Segments.{choose_best, choose_in, choose_once, choose_up_to, is_better, is_busy, is_chosen, live_count}
 pub use Rattle.fb_model.specs.Segments.{next_blocks, numbered, unchosen}
 unfoldable pub use Rattle.fb_model.specs.Segments.{with_choices}

@@ -1,16 +1,11 @@
 -- What a make wrote, told of the desk at the start.
-use Rattle.std.proofs.Common.{◌≡◌, ◌≢◌, ℕ, ◌+◌, ◌-◌, ◌<◌, ◌≤◌, List, [], ◌∷◌, length, subst, refl, sym, ap, ◌∙◌, suc, inl, inr, arith, Some}
+use Rattle.std.proofs.Common.{◌≡◌, ◌≢◌, ℕ, ◌<◌, [], ◌∷◌, length, subst, refl, sym, ap, ◌∙◌, inl, inr, Some}
 use Rattle.std.specs.Prelude.{slice_get, Ok, codes}
-use Rattle.std.specs.List.{flat_map, range_with_len}
-use Rattle.std.proofs.lemmas.List.{length-append, length-map}
+use Rattle.std.specs.List.{range_with_len}
+use Rattle.std.proofs.lemmas.List.{length-map}
 use Rattle.std.proofs.lemmas.List.FromFn.{length-map-range_with_len}
 use Rattle.std.proofs.lemmas.Option.{slice_get-map}
 use Rattle.std.specs.Option.{option_map}
-use Rattle.fb_maker.proofs.ScriptRead.{first_data}
-use Rattle.fb_geometry.specs.Shape.{Shape}
-use Rattle.fb_geometry.specs.Places.{places, zone_places, data_list}
-use Rattle.fb_geometry.specs.Sound.{IsSound}
-use Rattle.fb_geometry.specs.declared.zone.Zone.{Zone}
 use Rattle.fb_service.specs.declared.disk.Disk.{Disk}
 use Rattle.fb_trace.specs.Reading.{trace_of}
 use Rattle.fb_maker.specs.Trace.{request_at, line_of, made_lines, made_requests}
@@ -190,21 +185,3 @@ line_at number device sectors n i inside =
 pub lines_counted : (number device sectors n : ℕ) → length (made_lines number device sectors n) ≡ n
 lines_counted number device sectors n =
     length-map (made_requests number sectors n) (line_of device) ∙ length-map-range_with_len (request_at number sectors) 0 n
-
-first_sectors : (disk : Shape) (zones : List Zone) → 0 < length zones
-    → ((zone : Zone) → slice_get zones 0 ≡ Some zone → 0 < length (zone_places disk zone)) → 1 ≤ length (flat_map (zone_places disk) zones)
-first_sectors disk [] some held = absurd (omega arith)
-first_sectors disk (zone ∷ zones) some held =
-    omega (arith, length-append (zone_places disk zone) (flat_map (zone_places disk) zones), held zone refl)
-
--- a disk has sectors
-pub some_sectors : (disk : Shape) → IsSound disk → 1 ≤ length (places disk)
-unfolding places
-some_sectors disk sound = first_sectors disk disk.zones sound.some_zones (λ zone is.
-    let some = sound.some_cylinders 0 zone is in
-    omega (
-      arith,
-      first_data disk zone some,
-      sound.equal 0 zone zone.first (record { zone_is = is; from = omega arith; upto = some }),
-      sound.some_data 0 zone is,
-    ))

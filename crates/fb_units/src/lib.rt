@@ -14,7 +14,7 @@ mod times;
 mod types;
 
 pub use items::Items;
-pub use lines::{next_field, next_line};
+pub use lines::{index_of, next_field, next_line};
 pub use numbers::{LIMIT, read_flags, read_millis, read_number, write_millis};
 pub use read_error::ReadError;
 pub use times::{Ns, wait_for};

@@ -43,8 +43,8 @@ pub fn around_first(text: &[u8], stop: u8) -> (&[u8], &[u8])
     }
 }
 
-// The index of the first `stop` byte, or the length of the text if there is none.
-fn index_of(text: &[u8], stop: u8) -> usize
+/// The index of the first `stop` byte, or the length of the text if there is none.
+pub fn index_of(text: &[u8], stop: u8) -> usize
     ensures index { result ≡ position_or_len (λ c. c == stop) text.now }
     ensures within { result ≤ length text.now }
 {

@@ -4,7 +4,7 @@ use Rattle.std.specs.Option.{unwrap_or}
 use Rattle.std.proofs.lemmas.Result.{IfOk-weaker}
 use Rattle.fb_store.specs.declared.content.Content.TheVariants.{Unreadable}
 use Rattle.fb_store.specs.declared.content.ContentRun.{ContentRun}
-use Rattle.fb_store.specs.Index.{held_at}
+use Rattle.fb_store.specs.Ranges.{held_at}
 use Rattle.fb_store.specs.Runs.{runs_of, sectors_of}
 use Rattle.fb_store.specs.Sparse.{after_taking, held_in, EndsBy}
 use Rattle.fb_mirror.proofs.Covering.{whole_runs}

@@ -7,7 +7,8 @@ use Rattle.fb_words.specs.Verdict.{make_terms}
 use Rattle.fb_desk.specs.declared.desk.Output.TheVariants.{MadeTrace, MadeCalls}
 use Rattle.fb_top.specs.Make.{trace_text}
 use Rattle.fb_top.specs.Written.{HoldsWhole, StopsText}
-use Rattle.fb_top.proofs.Making.{some_sectors, stopped_trace, stopped_calls, wrote_both}
+use Rattle.fb_maker.proofs.ScriptRead.{some_sectors}
+use Rattle.fb_top.proofs.Making.{stopped_trace, stopped_calls, wrote_both}
 use Rattle.fb_top.proofs.make.make_for.Given as given
 use Rattle.fb_top.proofs.make.make_for.Goals as goal
 use Rattle.fb_top.proofs.make.make_for.Goals.{In-Ok}
@@ -48,7 +49,8 @@ returns-in-Ok-write_calls-clause-cause g c = λ first latent reads only.
     (subst (λ (name : List ℕ). HoldsWhole (new.outputs MadeCalls) name (script_text disk.map)) c.as_str.ensures.value
     c.in-Ok-write_calls.ensures.whole)
     (c.made_traces_are_read.ensures terms.number terms.device (length (places disk.map)) terms.requests c.requires.limits.2
-    (some_sectors disk.map (subst IsSound c.geometry.ensures c.sound.ensures)) (omega (arith, c.count.ensures.value, c.count.ensures.bound))
+    (omega (arith, some_sectors disk.map (subst IsSound c.geometry.ensures c.sound.ensures)))
+    (omega (arith, c.count.ensures.value, c.count.ensures.bound))
     c.requires.limits.1)
     (c.made_scripts_are_read.ensures terms.requests)
 
