@@ -2,7 +2,7 @@
 ghost use Rattle.std.specs.Prelude.{◌≡◌, ℕ, ◌+◌, ◌≤◌, ◌^◌, None, IfOk, OnOk, OnErr};
 ghost use Rattle.std.specs.List.{range_with_len};
 ghost use Rattle.fb_store.specs.declared.content.Content.{Content};
-ghost use Rattle.fb_store.specs.Index.{held_at};
+ghost use Rattle.fb_store.specs.Ranges.{held_at};
 ghost use Rattle.fb_store.specs.Sparse.{Gives, EndsBy, after_take, after_dropping, held_in};
 ghost use Rattle.fb_store.specs.Runs.{runs_of};
 

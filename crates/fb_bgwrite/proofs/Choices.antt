@@ -1,7 +1,7 @@
 -- The best so far beats what it beat before.
 use Rattle.fb_bgwrite.proofs.Words.{◌≡◌, ℕ, ◌+◌, ◌<◌, ◌≤◌, List, [], ◌∷◌, Option, Some, None, inl, inr, refl, sym, ◌∙◌, subst, arith}
 use Rattle.fb_bgwrite.proofs.Words.{sum_by, cases_Bool, cases_lt, Track, same_track, cylinders_of, Disk, Block, Entry, on_track, wanted_of}
-use Rattle.fb_bgwrite.proofs.Words.{Dwell, Gap, AreOnDisk, stay_gain, longer_stay, stay-of, weight_of_stay, Spill, Valued, ready, stay_of}
+use Rattle.fb_bgwrite.proofs.Words.{Dwell, Gap, AreOnDisk, stay_gain, longer_stay, stay-of, weight_of_stay, Spill, Valued, ready, dwell_of}
 use Rattle.fb_bgwrite.proofs.Words.{value, IsSpill, ArePending, IsNoWorse, IsNoWorseThanTrack, IsNoWorseThanTracks, IsBestIf, IsEnough}
 use Rattle.fb_bgwrite.proofs.Words.{IsOnly, IsShare}
 use Rattle.fb_bgwrite.proofs.Words.{AreLight, AreOffers, IsLastEnd, IsTrackOf, IsTurning, IsValuedIf, Keeps, Offer, Part, Turning, added}
@@ -117,7 +117,7 @@ module _ (disk : Disk) (gap : Gap) (entries : List Entry) (pending : ArePending 
   pub by_weight : (leave : ℕ) → value disk gap (wanted_of entries) (record { track = track; leave = leave }) ≤ wanted_weight track entries
   by_weight leave =
       let spill : Spill = record { track = track; leave = leave } in
-      omega (arith, value_stay disk gap entries spill pending.light, weight_of_stay disk (stay_of disk gap spill) entries)
+      omega (arith, value_stay disk gap entries spill pending.light, weight_of_stay disk (dwell_of disk gap spill) entries)
 
   abbrev longest : ℕ → Dwell
   longest end = record { track = track; begin = ready disk gap track; end = end }
@@ -130,7 +130,7 @@ module _ (disk : Disk) (gap : Gap) (entries : List Entry) (pending : ArePending 
       omega (
         arith,
         value_stay disk gap entries spill pending.light,
-        longer_stay disk (stay_of disk gap spill) (longest end) entries disk.some_rotation refl (omega arith) le,
+        longer_stay disk (dwell_of disk gap spill) (longest end) entries disk.some_rotation refl (omega arith) le,
       )
 
   abbrev from : ℕ → ℕ → Dwell

@@ -5,7 +5,7 @@ use Rattle.fb_bgwrite.proofs.Words.{true, ◌==◌, Option, Some, slice_get, get
 use Rattle.fb_bgwrite.proofs.Words.{AllByRecursion, sum_by, cases_Bool, true≢false, nat_tests, sum_by-cons, Track, same_track}
 use Rattle.fb_bgwrite.proofs.Words.{IsTrackOf, IsSound, Disk, Deliver, Entry, after, entry_after, is_wanted, on_track, wanted_of}
 use Rattle.fb_bgwrite.proofs.Words.{Dwell, Gap, AreOnDisk, stay_gain, stay-of, Spill, Valued, ArePending}
-use Rattle.fb_bgwrite.proofs.Words.{AreAtLeast, AreLight, IsAtLeast, IsNoShorter, stay_of, value, all_of, some_one}
+use Rattle.fb_bgwrite.proofs.Words.{AreAtLeast, AreLight, IsAtLeast, IsNoShorter, dwell_of, value, all_of, some_one}
 use Rattle.fb_bgwrite.proofs.Words.{◌-◌, get_or-le-sum_by, get_or_from_slice_get, length, slice_get_within, sum_by-le-sum_by}
 use Rattle.fb_bgwrite.proofs.Words.{sum_by_more, take, AreOffers, Block, Offer}
 use Rattle.fb_bgwrite.proofs.{Values.its_sectors, Values.passes, Values.value_caught, Values.value_stay, Amended.track_on_disk}
@@ -73,7 +73,7 @@ module _ (disk : Disk) (gap : Gap) (entries : List Entry) (spill : Spill) (light
       → ((i : ℕ) (e : Entry) → slice_get blocks i ≡ Some e → is_wanted e.state ≡ true → least ≤ e.block.weight * e.block.count)
       → value disk gap (wanted_of entries) spill ≤ most → most < least → value disk gap (wanted_of entries) spill ≡ 0
   too_long_on blocks most its each few less =
-      let dwell = stay_of disk gap spill in
+      let dwell = dwell_of disk gap spill in
       let sum = stay-of disk dwell entries blocks (sum_by (stay_gain disk dwell) blocks) its refl in
       let is_value = value_stay disk gap entries spill light in
       elim (some_caught disk dwell blocks (subst AreLight (sym its) (light_on spill.track entries light))) [
@@ -88,7 +88,7 @@ module _ (disk : Disk) (gap : Gap) (entries : List Entry) (spill : Spill) (light
       → AreOnDisk disk entries → value disk gap (wanted_of entries) spill ≤ most → min most 2048 < least
       → value disk gap (wanted_of entries) spill ≡ 0
   none_short from end long low high most on_disk few less =
-      let dwell = stay_of disk gap spill in
+      let dwell = dwell_of disk gap spill in
       let is_value = value_caught disk gap entries spill light in
       elim (some_caught disk dwell entries light) [
         | inl none ↦ omega (arith, is_value, none)

@@ -2,11 +2,10 @@
 use Rattle.fb_units.proofs.Comparing.{if_le}
 use Rattle.fb_detour.proofs.Ceilings.{stay-all}
 use Rattle.fb_bgwrite.proofs.Words.{all_get, ◌≡◌, ℕ, ◌+◌, ◌*◌, ◌<◌, ◌≤◌, ◌⊎◌, List, [], ◌∷◌, Bool, true, false, Some, slice_get}
-use Rattle.fb_bgwrite.proofs.Words.{inl, inr, refl, ap, ◌∙◌, arith, if◌then◌else◌, filter, sum_by}
-use Rattle.fb_bgwrite.proofs.Words.{cases_Bool, nat_tests, sum_by-cons, same_track, Disk, Block, Entry, is_wanted}
+use Rattle.fb_bgwrite.proofs.Words.{inl, inr, refl, ap, ◌∙◌, arith, filter, sum_by}
+use Rattle.fb_bgwrite.proofs.Words.{cases_Bool, nat_tests, sum_by-cons, Disk, Block, Entry, is_wanted}
 use Rattle.fb_bgwrite.proofs.Words.{◌&&◌, wanted_of, Dwell, Gap, block_end, catches, AreOnDisk, IsBlockOn, stay_gain}
-use Rattle.fb_bgwrite.proofs.Words.{and_false, AreLight, Spill, stay_of, value, all_of}
-use Rattle.fb_plan.proofs.Gains.{one_part}
+use Rattle.fb_bgwrite.proofs.Words.{AreLight, Spill, dwell_of, value, all_of}
 use Rattle.fb_detour.specs.Bounds.{stay}
 use Rattle.fb_bgwrite.proofs.{Sums.sum_le_on, Sums.sum_less}
 
@@ -67,14 +66,14 @@ sectors_caught disk dwell (e ∷ es) light = elim (cases_Bool (is_wanted e.state
 ]
 
 pub value_caught : (disk : Disk) (gap : Gap) (es : List Entry) (spill : Spill) → AreLight es
-    → value disk gap (wanted_of es) spill ≡ sum_by (stay_gain disk (stay_of disk gap spill)) es
+    → value disk gap (wanted_of es) spill ≡ sum_by (stay_gain disk (dwell_of disk gap spill)) es
 unfolding value
-value_caught disk gap es spill light = sectors_caught disk (stay_of disk gap spill) es light
+value_caught disk gap es spill light = sectors_caught disk (dwell_of disk gap spill) es light
 
 pub value_stay : (disk : Disk) (gap : Gap) (es : List Entry) (spill : Spill) → AreLight es
-    → value disk gap (wanted_of es) spill ≡ stay disk (stay_of disk gap spill) es
+    → value disk gap (wanted_of es) spill ≡ stay disk (dwell_of disk gap spill) es
 unfolding value
-value_stay disk gap es spill light = sectors_caught disk (stay_of disk gap spill) es light ∙ stay-all disk (stay_of disk gap spill) es
+value_stay disk gap es spill light = sectors_caught disk (dwell_of disk gap spill) es light ∙ stay-all disk (dwell_of disk gap spill) es
 
 -- the same stay up to another instant
 abbrev pub upto : Dwell → ℕ → Dwell

@@ -28,8 +28,8 @@ pub use Rattle.fb_geometry.specs.Sound.{HasOwnPlaces, IsSound}
 pub use Rattle.fb_sectormap.specs.Cutting.{IsOneTurn}
 pub use Rattle.fb_sectormap.specs.Sweeps.{sweep_of}
 unfoldable pub use Rattle.fb_sectormap.specs.Cutting.{cutting}
-pub use Rattle.fb_sectormap.specs.Lookup.{track_at}
-unfoldable pub use Rattle.fb_sectormap.specs.Lookup.{place_at}
+pub use Rattle.fb_sectormap.specs.LookUp.{track_at}
+unfoldable pub use Rattle.fb_sectormap.specs.LookUp.{place_at}
 pub use Rattle.fb_sectormap.specs.declared.cut.Cut.{Cut}
 pub use Rattle.fb_seek.specs.Positioning.{distance_of}
 unfoldable pub use Rattle.fb_seek.specs.Positioning.{pos}
@@ -89,7 +89,7 @@ pub use Rattle.fb_bgwrite.specs.Choosing.{OneEndsAt, block_range}
 pub use Rattle.fb_bgwrite.specs.Gaps.{HasNoFree, RunGap, delivers, gaps}
 pub use Rattle.fb_bgwrite.specs.Shortest.{AreAbove, AreAtLeast, AreLight, IsAtLeast, IsNoShorter, IsUnder}
 pub use Rattle.fb_bgwrite.specs.Spilled.{AreGaps, AreOnce, IsGapOf, IsInTime, IsOfPut, IsSpillRun, fore_ranges, left_over, sectors_in}
-pub use Rattle.fb_bgwrite.specs.Spilling.{IsBest, IsSpill, WritesNothing, ready, stay_of}
+pub use Rattle.fb_bgwrite.specs.Spilling.{IsBest, IsSpill, WritesNothing, ready, dwell_of}
 unfoldable pub use Rattle.fb_bgwrite.specs.Spilling.{value}
 pub use Rattle.fb_bgwrite.specs.Standing.{ArePutsOn, HasChosen, HasKept, IsSpilling, IsToWrite, IsUpTo, entry_of, first_blocks}
 pub use Rattle.fb_bgwrite.specs.Standing.{wanted_entry}

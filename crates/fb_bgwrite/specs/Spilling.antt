@@ -22,12 +22,12 @@ pub record IsSpill (disk : Disk) (gap : Gap) (spill : Spill) : Type 0 where
   pub in_time : spill.leave + pos disk.mechanism spill.track gap.target gap.write ≤ gap.deadline
 
 -- the stay in which it writes
-abbrev pub stay_of : Disk → Gap → Spill → Dwell
-stay_of disk gap spill = record { track = spill.track; begin = ready disk gap spill.track; end = spill.leave }
+abbrev pub dwell_of : Disk → Gap → Spill → Dwell
+dwell_of disk gap spill = record { track = spill.track; begin = ready disk gap spill.track; end = spill.leave }
 
 -- how many sectors of pending blocks pass whole in that stay
 unfoldable pub value : Disk → Gap → List Block → Spill → ℕ
-value disk gap pending spill = sectors (filter (catches disk (stay_of disk gap spill)) pending)
+value disk gap pending spill = sectors (filter (catches disk (dwell_of disk gap spill)) pending)
 
 -- the order of ties: the lesser track, then the earlier leave
 abbrev pub IsNoLater : Spill → Spill → Type 0

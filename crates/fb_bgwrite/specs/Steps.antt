@@ -12,7 +12,7 @@ use Rattle.fb_bgwrite.specs.declared.items.SpillRow.{SpillRow}
 use Rattle.fb_bgwrite.specs.declared.items.WroteRow.{WroteRow}
 use Rattle.fb_bgwrite.specs.Blocks.{PutBlock, pending}
 use Rattle.fb_bgwrite.specs.Gaps.{RunGap}
-use Rattle.fb_bgwrite.specs.Spilling.{stay_of, ready, IsBest, WritesNothing}
+use Rattle.fb_bgwrite.specs.Spilling.{dwell_of, ready, IsBest, WritesNothing}
 
 -- a gap with the blocks that are pending there, and its spill if it has one
 pub record Step : Type 0 where
@@ -29,7 +29,7 @@ wrote_row catch = record { put = catch.block.task; lbn = catch.block.lbn; count 
 -- the rows of a spill: the stay, and the pending blocks that pass whole in it, by end
 abbrev pub spill_rows : Disk → GapRow → List Block → Spill → List SpillItem
 spill_rows disk row pending spill =
-    SpillLine (spill_row disk row spill) ∷ map (λ catch. WroteLine (wrote_row catch)) (caught_of disk (stay_of disk row.gap spill) pending)
+    SpillLine (spill_row disk row spill) ∷ map (λ catch. WroteLine (wrote_row catch)) (caught_of disk (dwell_of disk row.gap spill) pending)
 
 abbrev pub rows_of : Disk → GapRow → List Block → Option Spill → List SpillItem
 rows_of disk row pending None = []

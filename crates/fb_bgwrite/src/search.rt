@@ -227,22 +227,22 @@ fn part_of(search: &Search, from: u32, end: u32, share: Ns) -> Part
     ensures end { result.end ≡ end }
     ensures part { IsPart search.now result }
 {
-    let passing = most_passing(search.disk, search.gap, from, end, share);
-    let most = unless_lighter(search.pending, from, end, passing);
+    let slots = most_passing(search.disk, search.gap, from, end, share);
+    let most = unless_lighter(search.pending, from, end, slots);
     Part {
         from,
         end,
         share,
         most,
-        brief: is_brief(search.disk, share, passing, most),
+        brief: is_brief(search.disk, share, slots, most),
     }
 }
 
 // Whether no more slots pass than in a turn, and the heaviest track may take half of them.
-fn is_brief(disk: &Disk, share: Ns, passing: u64, most: u64) -> bool
+fn is_brief(disk: &Disk, share: Ns, slots: u64, most: u64) -> bool
     requires { 0 < share }
 {
-    passing <= disk.map.geometry().rotation() / share && passing / 2 <= most
+    slots <= disk.map.geometry().rotation() / share && slots / 2 <= most
 }
 
 // Whether the best so far is at least as good as each spill that writes `most` sectors at most, on
@@ -425,8 +425,8 @@ fn try_last(search: &Search, part: Part, best: Option<Valued>) -> Swept
             },
         };
     }
-    let passing = most_passing(search.disk, search.gap, part.from, end, part.share);
-    let most = passing.min(part.most);
+    let slots = most_passing(search.disk, search.gap, part.from, end, part.share);
+    let most = slots.min(part.most);
     let own = Part {
         from: end - 1,
         end,
@@ -474,8 +474,8 @@ fn try_first(search: &Search, part: Part, best: Option<Valued>) -> Swept
             },
         };
     }
-    let passing = most_passing(search.disk, search.gap, from, part.end, part.share);
-    let most = passing.min(part.most);
+    let slots = most_passing(search.disk, search.gap, from, part.end, part.share);
+    let most = slots.min(part.most);
     let own = Part {
         from,
         end: from + 1,

@@ -8,7 +8,7 @@ ghost use Rattle.fb_model.specs.Segments.{numbered};
 ghost use Rattle.fb_bgwrite.specs.declared.items.SpillItem.TheVariants.{Spill as SpillLine, Wrote as WroteLine};
 ghost use Rattle.fb_puts.specs.declared.puts.Put.{Put};
 ghost use Rattle.fb_bgwrite.specs.Choosing.{IsGap};
-ghost use Rattle.fb_bgwrite.specs.Spilling.{stay_of, IsSpill};
+ghost use Rattle.fb_bgwrite.specs.Spilling.{dwell_of, IsSpill};
 ghost use Rattle.fb_bgwrite.specs.Standing.{wanted_entry, ArePutsOn, HasChosen, HasKept, IsSpilling, IsToWrite};
 ghost use Rattle.fb_bgwrite.specs.Steps.{spill_rows, wrote_row};
 
@@ -152,7 +152,7 @@ impl<'a> Spilling<'a> {
         ensures items { OnOk result
             (self.new.items ≡ self.old.items ++ spill_rows self.old.disk.now row.now (wanted_of self.old.pending) spill) }
     {
-        let stay = stay_of(self.disk, &row.gap, spill);
+        let stay = dwell_of(self.disk, &row.gap, spill);
         let found = self.pending.caught(self.alloc, self.disk, stay)?;
         self.add_stay(SpillRow {
             name: row.name,
@@ -198,10 +198,10 @@ impl<'a> Spilling<'a> {
 }
 
 // The stay in which a spill writes.
-fn stay_of(disk: &Disk, gap: &Gap, spill: Spill) -> Dwell
+fn dwell_of(disk: &Disk, gap: &Gap, spill: Spill) -> Dwell
     requires gap { IsGap disk.now gap.now }
     requires spill { IsSpill disk.now gap.now spill }
-    ensures stay { result ≡ stay_of disk.now gap.entry.now spill }
+    ensures stay { result ≡ dwell_of disk.now gap.entry.now spill }
     ensures early { result.begin ≤ 9 * 10 ^ 18 }
 {
     Dwell {

@@ -4,13 +4,12 @@ use Rattle.std.proofs.Common.{◌∙◌, length, map, cond, set, get_or, slice_g
 use Rattle.std.proofs.Common.{OnErr, IfOk, true≢false}
 use Rattle.std.specs.Option.{is_some}
 use Rattle.std.specs.List.{AllByRecursion, flat_map, range_with_len}
-use Rattle.std.proofs.lemmas.Bool.Decides.{nat_tests}
 use Rattle.std.proofs.lemmas.List.{length_push, length-map, get_or_default, get_or-map}
 use Rattle.std.proofs.lemmas.Option.{same_Some}
 use Rattle.fb_units.proofs.Comparing.{less_differs, same_number as own_number, more_differs}
 use Rattle.fb_store.specs.declared.content.Content.{Content}
 use Rattle.fb_store.specs.declared.content.ContentRun.{ContentRun}
-use Rattle.fb_store.specs.Index.{held_at}
+use Rattle.fb_store.specs.Ranges.{held_at}
 use Rattle.fb_store.specs.Sparse.{held_in}
 use Rattle.fb_store.specs.Runs.{runs_of}
 use Rattle.fb_clean.specs.Segments.{LogSegment, Cleaning, no_longer_waiting, without, number_of, first_best, waiting, choice_while}

@@ -4,7 +4,7 @@ use Rattle.std.specs.Prelude.{ℕ, ◌+◌, ◌-◌, ◌*◌, List, [], ◌∷�
 use Rattle.std.specs.Prelude.{map, if◌then◌else◌}
 use Rattle.std.specs.List.{best_of, flat_map, range_with_len, slice_index_or}
 use Rattle.fb_store.specs.declared.content.Content.{Content}
-use Rattle.fb_store.specs.Index.{held_at}
+use Rattle.fb_store.specs.Ranges.{held_at}
 use Rattle.fb_store.specs.Sparse.{held_in}
 
 -- a segment: its number of blocks, the first LBNs of its live ones, ascending, and whether it is still to be chosen

@@ -3,7 +3,7 @@ ghost use Rattle.std.specs.Prelude.{◌≡◌, ◌≢◌, ℕ, List, [], ◌∷�
 ghost use Rattle.std.specs.Prelude.{filter, map, IfOk, IfSome, OnOk, OnErr, slice_get};
 ghost use Rattle.std.specs.List.{AllByRecursion, flat_map, list_any, range_with_len};
 ghost use Rattle.fb_store.specs.declared.content.Content.{Content};
-ghost use Rattle.fb_store.specs.Index.{held_at};
+ghost use Rattle.fb_store.specs.Ranges.{held_at};
 ghost use Rattle.fb_store.specs.Sparse.{Gives, after_take, held_in};
 ghost use Rattle.fb_store.specs.Runs.{runs_of};
 ghost use Rattle.fb_clean.specs.Greatest.{IsChoice};
@@ -164,7 +164,7 @@ impl Segments {
     pub fn drop_rest(&mut self)
         ensures { self.new ≡ after_drop self.old }
     {
-        stop_all(&mut self.segments);
+        stop_all_waiting(&mut self.segments);
     }
 
     /// What was kept for a segment, in the order of its live blocks, as the fewest runs.
@@ -190,7 +190,7 @@ pub fn live_blocks_are_live()
 {}
 
 // Removes all segments from those still to be chosen.
-fn stop_all(segments: &mut [Segment])
+fn stop_all_waiting(segments: &mut [Segment])
     ensures { segments.new ≡ map no_longer_waiting segments.old }
 {
     for i in 0..segments.len() {

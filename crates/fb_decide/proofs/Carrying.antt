@@ -1,6 +1,6 @@
 -- What a read carries, gathered extent by extent, is what it carries, and is due.
 use Rattle.std.proofs.Common.{◌≡◌, List, [], ◌∷◌, ◌++◌, map, filter, Bool, true, false, ◌||◌, inl, inr, refl, sym, ap, ◌∙◌, arith, subst, ℕ}
-use Rattle.std.proofs.Common.{suc, ◌+◌, ◌-◌, ◌≤◌, ◌<◌, length, take, drop, get_or, ◌&&◌, Some, ◌^◌}
+use Rattle.std.proofs.Common.{◌+◌, ◌-◌, ◌≤◌, ◌<◌, length, take, drop, get_or, ◌&&◌, Some, ◌^◌}
 use Rattle.std.specs.List.{fold, AllByRecursion}
 use Rattle.std.proofs.lemmas.Bool.{cases_Bool}
 use Rattle.std.proofs.lemmas.Bool.Decides.{nat_tests}
@@ -20,7 +20,7 @@ use Rattle.std.proofs.lemmas.Option.{slice_get-get_or}
 use Rattle.fb_units.specs.declared.types.Request.{Request}
 use Rattle.fb_units.specs.Tracks.{same_track}
 use Rattle.fb_geometry.specs.Shape.{Shape}
-use Rattle.fb_sectormap.specs.Lookup.{track_at}
+use Rattle.fb_sectormap.specs.LookUp.{track_at}
 use Rattle.fb_service.specs.Extents.{IsUnbroken}
 use Rattle.fb_service.specs.declared.passage.Extent.{Extent}
 use Rattle.fb_service.specs.declared.passage.Passage.{Passage}
@@ -31,7 +31,7 @@ use Rattle.fb_decide.specs.Carried.{added, ride_of, begins_in, begun_in, carried
 use Rattle.fb_tasks.proofs.Lists.{filter_none, filter_same, all_any, all_at, all_weaker}
 use Rattle.fb_geometry.specs.Places.{places}
 use Rattle.fb_service.specs.declared.disk.Disk.{Disk}
-use Rattle.fb_store.specs.Index.{Holding}
+use Rattle.fb_store.specs.Ranges.{Holding}
 use Rattle.fb_rows.specs.declared.back.DeliveryRow.{DeliveryRow}
 use Rattle.fb_rows.specs.declared.gap.How.TheVariants.{Ride as ByRide}
 use Rattle.fb_model.specs.PlainReplay.{Served}

@@ -20,7 +20,7 @@ use Rattle.fb_rows.specs.declared.back.BackRow.TheVariants.{Got as GotLine}
 use Rattle.fb_service.specs.declared.disk.Disk.{Disk}
 use Rattle.fb_store.specs.declared.content.Content.{Content}
 use Rattle.fb_store.specs.declared.content.ContentRun.{ContentRun}
-use Rattle.fb_store.specs.Index.{Holding, content_in}
+use Rattle.fb_store.specs.Ranges.{Holding, content_in}
 use Rattle.fb_store.specs.Sparse.{Gives}
 use Rattle.fb_store.specs.Runs.{runs_of, bad_of}
 use Rattle.fb_model.specs.History.{Past, tasks, same_block, bare_state, is_suspended, state, registered, wanted}
@@ -55,9 +55,9 @@ fits-told disk past sessions held tells = λ i entry at. all_at (λ (e : Entry).
     (all_map (λ (e : Entry). IsBlockOn disk.map e.block) (entry_of past) (registered past)
     (all_weaker _ (IsBlockOn disk.map) (λ b h. h.on) (registered past) tells.on_disk))) at
 
-pub wanted-registered : (past : Past) (place : ℕ) (block : Block) → slice_get (wanted past) place ≡ Some block → IsRegistered past block
+pub wanted-registered : (past : Past) (index : ℕ) (block : Block) → slice_get (wanted past) index ≡ Some block → IsRegistered past block
 unfolding wanted
-wanted-registered past place block at = let found = filter_from (λ b. is_wanted (state past b)) (registered past) place block at in
+wanted-registered past index block at = let found = filter_from (λ b. is_wanted (state past b)) (registered past) index block at in
     (found.0, found.1)
 
 -- the block is none of the delivered ones
@@ -129,35 +129,35 @@ rows-append past xs ys =
     ap rows_of (followed-append past xs ys) ∙ flat_map-append lines_of (followed past xs) (followed (past_with past xs) ys)
 
 -- a wanted block may be delivered, with what its sectors hold
-pub wanted-on_disk : (disk : Shape) (past : Past) (place : ℕ) (block : Block) (background : Background) → TellsUpToDate disk past background
-    → slice_get (wanted past) place ≡ Some block → block.lbn + block.count ≤ 10 ^ 12
-wanted-on_disk disk past place block background current at =
-    let found = wanted-registered past place block at in
+pub wanted-on_disk : (disk : Shape) (past : Past) (index : ℕ) (block : Block) (background : Background) → TellsUpToDate disk past background
+    → slice_get (wanted past) index ≡ Some block → block.lbn + block.count ≤ 10 ^ 12
+wanted-on_disk disk past index block background current at =
+    let found = wanted-registered past index block at in
     (all_at (IsBlockOf disk (length (tasks past))) (registered past) found.0 block current.tells.on_disk found.1).within
 
-pub may-deliver : (disk : Shape) (past : Past) (place : ℕ) (got : DeliveryRow) (background : Background) (content_at : ℕ → Content)
-    → TellsUpToDate disk past background → slice_get (wanted past) place ≡ Some got.block
+pub may-deliver : (disk : Shape) (past : Past) (index : ℕ) (got : DeliveryRow) (background : Background) (content_at : ℕ → Content)
+    → TellsUpToDate disk past background → slice_get (wanted past) index ≡ Some got.block
     → Gives got.content content_at got.block.lbn got.block.count → MayDeliver disk past background.sessions background.wanted got
-may-deliver disk past place got background content_at current at gives = record {
+may-deliver disk past index got background content_at current at gives = record {
   tells = current.tells;
   up_to_date = current.up_to_date;
-  place = place;
+  index = index;
   wanted = at;
   content_at = content_at;
   content = gives;
 }
 
 -- and is delivered then
-pub delivered-one : (disk : Shape) (past : Past) (place : ℕ) (got row : DeliveryRow) (before after : Background) → got ≡ row
-    → slice_get (wanted past) place ≡ Some got.block
+pub delivered-one : (disk : Shape) (past : Past) (index : ℕ) (got row : DeliveryRow) (before after : Background) → got ≡ row
+    → slice_get (wanted past) index ≡ Some got.block
     → Tells disk (with_delivery past (delivery_of past got)) after.sessions after.wanted
     → IsUpToDate (with_delivery past (delivery_of past got)) → after.rows ≡ before.rows ++ GotLine got ∷ rows_after past got
     → HasDelivered disk past (row ∷ []) before.rows after
-delivered-one disk past place got row before after is at tells up_to_date rows =
+delivered-one disk past index got row before after is at tells up_to_date rows =
     subst (λ r. HasDelivered disk past (r ∷ []) before.rows after) is (record {
       current = record { tells = tells; up_to_date = up_to_date };
       rows_after = rows ∙ ap (λ rs. before.rows ++ rs) (sym (append-nil (GotLine got ∷ rows_after past got)));
-      registered = (wanted-registered past place got.block at, tt);
+      registered = (wanted-registered past index got.block at, tt);
     })
 
 abbrev made : How → Block → ℕ → ℕ → ℕ → List ContentRun → DeliveryRow

@@ -2,7 +2,7 @@
 use Rattle.std.proofs.Common.{◌≡◌, ℕ, List, arith}
 use Rattle.std.specs.List.{AllByRecursion}
 use Rattle.fb_service.specs.declared.disk.Disk.{Disk}
-use Rattle.fb_store.specs.Index.{Holding}
+use Rattle.fb_store.specs.Ranges.{Holding}
 use Rattle.fb_wanted.specs.declared.block.Block.{Block}
 use Rattle.fb_model.specs.Content.{Medium, contents_at}
 use Rattle.fb_model.specs.Decisions.{instant_of, Act, decision_of}

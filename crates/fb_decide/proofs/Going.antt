@@ -26,15 +26,15 @@ use Rattle.fb_units.specs.declared.types.Request.{Request}
 use Rattle.fb_geometry.specs.Shape.{Shape, IsTrackOf}
 use Rattle.fb_calls.specs.declared.call.Call.{Call}
 use Rattle.fb_calls.specs.Allowed.{AreAllowed}
-use Rattle.fb_store.specs.Index.{Holding, content_in}
+use Rattle.fb_store.specs.Ranges.{Holding, content_in}
 use Rattle.fb_model.specs.Accepted.{IsRequestOf}
 use Rattle.fb_model.specs.History.{Past}
 use Rattle.fb_model.proofs.Instants.{IsAmong}
 use Rattle.fb_model.proofs.Lists.{all_map, is_by}
 use Rattle.fb_decide.specs.declared.background.Background.{Background}
 use Rattle.fb_decide.specs.Waiting.{left, IsWaiting, AreByArrival}
-use Rattle.fb_decide.specs.Deciding.{next_of, stay_of, ready_to_act, HasServedNext, HasStayed, HasActed, serves_pick, stays_on, stays_last}
-use Rattle.fb_decide.specs.Deciding.{ends_here, IsReadyToAct, HasDecided}
+use Rattle.fb_decide.specs.Deciding.{next_of, dwell_until, ready_to_act, HasServedNext, HasStayed, HasActed, serves_pick, stays_on}
+use Rattle.fb_decide.specs.Deciding.{stays_last, ends_here, IsReadyToAct, HasDecided}
 use Rattle.fb_decide.proofs.Decided.{none_served, taken, taken_ready, start_waiting, ahead_of, plain_next, order_dropped, serves_now}
 use Rattle.fb_decide.proofs.Decided.{stays_next, ends_now, plain_same, starts_from, StartsFrom, HasCome, to_come, among_instants}
 use Rattle.fb_decide.proofs.Decided.{apart_instants, left_later, passed_instants, none_left, rising_instants}
@@ -306,19 +306,19 @@ module _ (inputs : Inputs) (known : AreKnown inputs) (before : Course) (pending 
   module _ (instant : ℕ) (upto : before.now ≤ instant) (after : Course)
       (stayed : HasStayed inputs.disk instant (ready_to_act before background joined called) after)
       (late : AllByRecursion (λ (w : Written). instant < w.passage.end) (all_writes rest)) where
-    stays : StepsBy inputs (history inputs steps) before (idling (stay_of before instant)) after
+    stays : StepsBy inputs (history inputs steps) before (idling (dwell_until before instant)) after
     stays =
         stays_step inputs (history inputs steps) before background joined called ready.test run.tells run.finds instant upto after stayed
         (mirrors_run inputs run.done rest before.now instant before.store run.replayed late)
 
   leads_by : (instant : ℕ) (after : Course) (count_after : ℕ) (more : Bool)
       → HasStayed inputs.disk instant (ready_to_act before background joined called) after
-      → (made : StepsBy inputs (history inputs steps) before (idling (stay_of before instant)) after)
-      → HasComeTo inputs more after waiting count_after (steps ++ step_of (idling (stay_of before instant)) made.gots ∷ [])
+      → (made : StepsBy inputs (history inputs steps) before (idling (dwell_until before instant)) after)
+      → HasComeTo inputs more after waiting count_after (steps ++ step_of (idling (dwell_until before instant)) made.gots ∷ [])
       → decisions_left inputs more after waiting < length (decisions_by inputs before rest)
       → LeadsOn inputs before pending steps more after waiting count_after
   leads_by instant after count_after more stayed made come_to fewer = record {
-    step = step_of (idling (stay_of before instant)) made.gots;
+    step = step_of (idling (dwell_until before instant)) made.gots;
     stepped = made.stepped;
     fore = stayed.same_fore ∙ sym (append-nil before.fore);
     come_to = come_to;
@@ -354,20 +354,21 @@ module _ (inputs : Inputs) (known : AreKnown inputs) (before : Course) (pending 
     late_writes = subst (λ services. AllByRecursion (λ (w : Written). instant < w.passage.end) (all_writes services)) (sym same_then)
         (all_late (length left_over) inputs.disk known.takes_time inputs.key before.head instant left_over on_disk)
 
-    stays_now : StepsBy inputs (history inputs steps) before (idling (stay_of before instant)) after
+    stays_now : StepsBy inputs (history inputs steps) before (idling (dwell_until before instant)) after
     stays_now = stays instant (omega (arith, less)) after stayed late_writes
 
     abbrev step_stay : Step
-    step_stay = step_of (idling (stay_of before instant)) stays_now.gots
+    step_stay = step_of (idling (dwell_until before instant)) stays_now.gots
 
-    next_stay : decisions_by inputs before rest ≡ idles (stay_of before instant) ∷ decisions_by inputs after (rest_of inputs after waiting)
+    next_stay : decisions_by inputs before rest
+        ≡ idles (dwell_until before instant) ∷ decisions_by inputs after (rest_of inputs after waiting)
     next_stay = rw (stayed.same_joined, stayed.same_head, stayed.until)
         (stays_next inputs.disk (instants_of inputs) inputs.until before.head before.now instant rest less
         (rising_instants inputs before.now joined called come)
         (among_instants inputs before.now joined called come instant next)
         (apart_instants inputs before.now joined called come instant next)
         (subst (StartsFrom instant) (sym same_then) (starts_from (length left_over) inputs.disk inputs.key before.head instant left_over))
-        ∙ ap (λ services. idles (stay_of before instant)
+        ∙ ap (λ services. idles (dwell_until before instant)
         ∷ decisions_from inputs.disk (instants_of inputs) inputs.until before.head instant services) same_then)
 
     replayed_stay : Replayed inputs.latent (served inputs) (rest_of inputs after waiting) after.now after.store run.done
@@ -424,11 +425,11 @@ module _ (inputs : Inputs) (known : AreKnown inputs) (before : Course) (pending 
 
     module _ (later : before.now < inputs.until) (after : Course)
         (stayed : HasStayed inputs.disk inputs.until (ready_to_act before background joined called) after) where
-      stays_last_time : StepsBy inputs (history inputs steps) before (idling (stay_of before inputs.until)) after
+      stays_last_time : StepsBy inputs (history inputs steps) before (idling (dwell_until before inputs.until)) after
       stays_last_time = stays inputs.until (omega (arith, later)) after stayed (none_late inputs.until)
 
       abbrev step_last : Step
-      step_last = step_of (idling (stay_of before inputs.until)) stays_last_time.gots
+      step_last = step_of (idling (dwell_until before inputs.until)) stays_last_time.gots
 
       ends_staying : HasEnded inputs after (steps ++ step_last ∷ [])
       ends_staying =
@@ -440,7 +441,7 @@ module _ (inputs : Inputs) (known : AreKnown inputs) (before : Course) (pending 
                 no_rest (omega (arith, until, later)) stayed.same_store);
             decided = sym (append-nil (decisions_in (steps ++ step_last ∷ [])))
                 ∙ one_decided steps step_last (decisions_by inputs before rest) [] (decisions inputs) decided
-                (last_is ∙ ap (λ b. (if b then idles (stay_of before inputs.until) else ends before.now) ∷ []) idle);
+                (last_is ∙ ap (λ b. (if b then idles (dwell_until before inputs.until) else ends before.now) ∷ []) idle);
             calls_made = (called_more inputs rest [] before steps run step_last after stays_last_time.stepped).taken;
             few = few_served;
             early = omega (arith, until, known.accepted.until);
@@ -467,7 +468,7 @@ module _ (inputs : Inputs) (known : AreKnown inputs) (before : Course) (pending 
                 (subst (λ services. Replayed inputs.latent (served inputs) services before.now before.store run.done) no_rest run.replayed);
             decided = sym (append-nil (decisions_in (steps ++ step_end ∷ [])))
                 ∙ one_decided steps step_end (decisions_by inputs before rest) [] (decisions inputs) decided
-                (last_is ∙ ap (λ b. (if b then idles (stay_of before inputs.until) else ends before.now) ∷ []) ends_now);
+                (last_is ∙ ap (λ b. (if b then idles (dwell_until before inputs.until) else ends before.now) ∷ []) ends_now);
             calls_made =
                 (called_more inputs rest [] before steps run step_end (ready_to_act before background joined called)
                 ends_now_by.stepped).taken;

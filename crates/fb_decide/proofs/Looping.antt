@@ -23,7 +23,7 @@ use Rattle.fb_model.specs.Content.{medium_of}
 use Rattle.fb_model.specs.Decisions.{decisions}
 use Rattle.fb_tasks.specs.Telling.{Tells}
 use Rattle.fb_decide.specs.declared.deciding.Course.{Course}
-use Rattle.fb_decide.specs.Deciding.{IsAtBegin, PassagesTakeTime, HasDecided, MayDecide}
+use Rattle.fb_decide.specs.Deciding.{IsInitial, PassagesTakeTime, HasDecided, MayDecide}
 use Rattle.fb_decide.specs.Making.{GoesOn, AreKnown, RowFits, HasComeTo, HasMade, HasMadeOne}
 use Rattle.fb_decide.proofs.Calling.{called_first}
 use Rattle.fb_decide.proofs.Truth.{true_first}
@@ -71,7 +71,7 @@ listed inputs lists accepted = record {
 
 -- ---- where a run begins
 
-pub begins : (inputs : Inputs) (course : Course) (pending : List Request) (count : ℕ) → AreKnown inputs → IsAtBegin inputs.latent course
+pub begins : (inputs : Inputs) (course : Course) (pending : List Request) (count : ℕ) → AreKnown inputs → IsInitial inputs.latent course
     → pending ≡ [] → count ≡ 0 → GoesOn inputs course pending count []
 unfolding decisions served
 begins inputs course pending count known begin none zero_count = record {
@@ -117,8 +117,8 @@ module _ (inputs : Inputs) (steps : List Step) (list : List Request) (course : C
   list_is : now_list ≡ requests inputs
   list_is = same ∙ made.list_is
 
-  pub now_ready : MayDecide inputs.disk now_list inputs.calls course count pending
-  now_ready = subst (λ list. MayDecide inputs.disk list inputs.calls course count pending) (sym list_is) (record {
+  pub now_may_decide : MayDecide inputs.disk now_list inputs.calls course count pending
+  now_may_decide = subst (λ list. MayDecide inputs.disk list inputs.calls course count pending) (sym list_is) (record {
     list = made.known.list;
     script = record { instants = made.known.accepted.instants; allowed = made.known.accepted.calls; few = made.known.accepted.few_calls };
     waiting = made.come_to.waits;

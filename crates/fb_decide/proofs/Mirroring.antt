@@ -1,6 +1,6 @@
 -- What the disk holds between two decisions it holds until the next write has passed.
-use Rattle.std.proofs.Common.{◌≡◌, ℕ, zero, suc, ◌+◌, ◌<◌, ◌≤◌, List, [], ◌∷◌, map, Bool, true, false, Option, Some, None, ap, sym, ◌∙◌}
-use Rattle.std.proofs.Common.{arith, inl, inr}
+use Rattle.std.proofs.Common.{◌≡◌, ℕ, zero, suc, ◌<◌, ◌≤◌, List, [], ◌∷◌, map, Bool, true, false, Option, Some, None, ap, sym, ◌∙◌}
+use Rattle.std.proofs.Common.{arith}
 use Rattle.std.specs.Prelude.{unwrap_or, if◌then◌else◌}
 use Rattle.std.specs.Option.{option_map}
 use Rattle.std.specs.List.{AllByRecursion}
@@ -10,11 +10,12 @@ use Rattle.fb_units.specs.declared.types.Request.{Request}
 use Rattle.fb_service.specs.declared.disk.Disk.{Disk}
 use Rattle.fb_service.specs.declared.passage.Passage.{Passage}
 use Rattle.fb_service.specs.Service.{passages, finish_of, media_of}
-use Rattle.fb_store.specs.Index.{Holding}
+use Rattle.fb_store.specs.Ranges.{Holding}
 use Rattle.fb_model.specs.PlainReplay.{Key, Served, plain, service, media, finish, last_track, start_of, first_ready}
 use Rattle.fb_model.specs.Accepted.{IsRequestOf}
 use Rattle.fb_model.specs.Inputs.{Inputs, served}
-use Rattle.fb_model.specs.Content.{Written, medium_of, writes_of, number_of, content}
+use Rattle.fb_store.specs.Writes.{writer_of}
+use Rattle.fb_model.specs.Content.{Written, medium_of, writes_of, content}
 use Rattle.fb_model.proofs.Passages.{passages_long, passed_between, passes_late, written_by}
 use Rattle.fb_model.proofs.Lists.{all_both, all_map}
 use Rattle.fb_decide.specs.Deciding.{PassagesTakeTime}
@@ -93,9 +94,9 @@ own_late disk head start request each = by request.write each
     by : (b : Bool) → AllByRecursion (λ (p : Passage). p.begin < p.end) (passages disk head start b request.lbn request.count)
         → AllByRecursion (λ (w : Written). (if b then media_of (passages disk head start b request.lbn request.count)
         else finish_of start (passages disk head start b request.lbn request.count)) < w.passage.end)
-        (if b then map (written_by (number_of request.name)) (passages disk head start b request.lbn request.count) else [])
+        (if b then map (written_by (writer_of request.name)) (passages disk head start b request.lbn request.count) else [])
     by true long = all_map (λ (w : Written). media_of (passages disk head start true request.lbn request.count) < w.passage.end)
-        (written_by (number_of request.name)) (passages disk head start true request.lbn request.count)
+        (written_by (writer_of request.name)) (passages disk head start true request.lbn request.count)
         (all_weaker _ _ (λ (p : Passage) h. omega (arith, h.0, h.1)) (passages disk head start true request.lbn request.count)
         (all_both _ _ (passages disk head start true request.lbn request.count)
         (begun_after disk head start true request.lbn request.count) long))

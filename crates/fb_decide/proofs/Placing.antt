@@ -23,15 +23,15 @@ use Rattle.fb_rows.specs.declared.gap.Dwell.{Dwell}
 use Rattle.fb_rows.specs.declared.gap.How.{How}
 use Rattle.fb_rows.specs.declared.back.DeliveryRow.{DeliveryRow}
 use Rattle.fb_service.specs.declared.disk.Disk.{Disk}
-use Rattle.fb_store.specs.Index.{Holding}
+use Rattle.fb_store.specs.Ranges.{Holding}
 use Rattle.fb_model.specs.Plans.{catches, block_begin, block_end}
 use Rattle.fb_model.specs.Rides.{placed, in_order, missed, delivery, caught_rows}
 use Rattle.fb_plan.specs.declared.catching.Catch.{Catch}
 use Rattle.fb_plan.specs.Order.{is_before, place_in, catch_of, caught_of}
 use Rattle.fb_plan.proofs.Sorted.{put_front, put_behind}
 use Rattle.fb_decide.proofs.Delivering.{none_of, wanted-with, next-wanted, delivered-join, past_with-append, wanted-told}
-use Rattle.std.proofs.lemmas.Option.{slice_get-get_or, slice_get_within, get_or_from_slice_get}
-use Rattle.std.proofs.lemmas.List.{length-map, take_more}
+use Rattle.std.proofs.lemmas.Option.{slice_get-get_or}
+use Rattle.std.proofs.lemmas.List.{length-map}
 use Rattle.fb_rows.specs.declared.back.BackRow.{BackRow}
 use Rattle.fb_decide.specs.declared.background.Background.{Background}
 use Rattle.fb_model.specs.Rides as rides

@@ -23,7 +23,7 @@ use Rattle.fb_tasks.proofs.Registered.{own, itself}
 
 -- an element of a list
 abbrev pub IsIn : {X : Type 0} → List X → X → Type 0
-IsIn xs x = (place : ℕ) × (slice_get xs place ≡ Some x)
+IsIn xs x = (index : ℕ) × (slice_get xs index ≡ Some x)
 
 pub in_left : {X : Type 0} (xs ys : List X) (i : ℕ) (x : X) → slice_get xs i ≡ Some x → IsIn (xs ++ ys) x
 in_left [] ys i x h = absurd (grind arith)
@@ -171,8 +171,8 @@ distinct past numbered a b there_a there_b same =
     let second = filter_to (λ block. block.task == b.task) (registered past) there_b.0 b there_b.1 (number_same b.task b.task refl) in
     let first_number = number_at 0 (blocks_of past b.task) first.0 a (numbered b.task) first.1 in
     let second_number = number_at 0 (blocks_of past b.task) second.0 b (numbered b.task) second.1 in
-    let place : first.0 ≡ second.0 = omega (arith, number, first_number, second_number) in
-    some_same a b (sym first.1 ∙ (ap (slice_get (blocks_of past b.task)) place ∙ second.1))
+    let index : first.0 ≡ second.0 = omega (arith, number, first_number, second_number) in
+    some_same a b (sym first.1 ∙ (ap (slice_get (blocks_of past b.task)) index ∙ second.1))
 
 pub distinct-told : (disk : Shape) (past : Past) (sessions : List Session) (held : List Entry) → Tells disk past sessions held
     → AreDistinct past

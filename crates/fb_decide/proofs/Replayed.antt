@@ -1,28 +1,28 @@
 -- What services leave on the disk, and the rows that they give.
-use Rattle.std.proofs.Common.{◌≡◌, ℕ, zero, suc, ◌+◌, ◌≤◌, List, [], ◌∷◌, ◌++◌, map, Bool, true, false, refl, ap, ◌∙◌, arith, Option, Some}
+use Rattle.std.proofs.Common.{◌≡◌, ℕ, zero, suc, ◌+◌, ◌≤◌, List, [], ◌∷◌, ◌++◌, map, Bool, true, false, refl, ap, ◌∙◌, arith, Option}
 use Rattle.std.proofs.Common.{None, inl, inr, ◌<◌, sym, subst, append-nil}
-use Rattle.std.specs.Prelude.{◌==◌, filter, if◌then◌else◌}
+use Rattle.std.specs.Prelude.{filter, if◌then◌else◌}
 use Rattle.std.specs.List.{AllByRecursion, last_or, range_with_len}
 use Rattle.std.proofs.lemmas.Bool.{cases_Bool}
 use Rattle.fb_units.proofs.Lists.{all_weaker, all_append}
 use Rattle.fb_units.specs.declared.types.Track.{Track}
 use Rattle.fb_units.specs.declared.types.Request.{Request}
 use Rattle.fb_seek.specs.Positioning.{pos}
-use Rattle.fb_sectormap.specs.Lookup.{track_at}
+use Rattle.fb_sectormap.specs.LookUp.{track_at}
 use Rattle.fb_service.specs.declared.disk.Disk.{Disk}
 use Rattle.fb_service.specs.declared.passage.Passage.{Passage}
 use Rattle.fb_service.specs.Service.{passages, finish_of, passage_from}
 use Rattle.fb_store.specs.declared.content.Content.{Content}
-use Rattle.fb_store.specs.Writes.{unwritten}
+use Rattle.fb_store.specs.Writes.{writer_of, unwritten}
 use Rattle.fb_model.specs.PlainReplay.{service, finish, Served, media}
-use Rattle.fb_model.specs.Content.{Written, writes_of, number_of, content_by, Medium, content, found, fore_row}
+use Rattle.fb_model.specs.Content.{Written, writes_of, content_by, Medium, content, found, fore_row}
 use Rattle.fb_model.proofs.Passages.{passed_between, written_by}
 use Rattle.fb_model.proofs.Lists.{all_map, all_both, all_unmapped}
 use Rattle.std.proofs.lemmas.List.Elements.{filter-append}
 use Rattle.std.proofs.lemmas.List.Concat.{flat_map-append}
 use Rattle.fb_store.specs.declared.content.ContentRun.{ContentRun}
 use Rattle.fb_store.specs.Runs.{runs_of, bad_of}
-use Rattle.fb_store.specs.Index.{Holding, content_in}
+use Rattle.fb_store.specs.Ranges.{Holding, content_in}
 use Rattle.fb_rows.specs.declared.fore.ForeRow.{ForeRow}
 use Rattle.fb_model.specs.Accepted.{IsRising}
 use Rattle.fb_model.proofs.ContentsUpTo.{is_of_by}
@@ -45,7 +45,7 @@ pub written_between : (disk : Disk) (head : Track) (start : ℕ) (request : Requ
     → AllByRecursion (λ (w : Written). (start ≤ w.passage.end) × (w.passage.end ≤ finish (service disk head start request)))
     (writes_of (service disk head start request))
 written_between disk head start request = elim (cases_Bool request.write) [
-  | inl writes ↦ rw writes (all_map _ (written_by (number_of request.name)) (passages disk head start true request.lbn request.count)
+  | inl writes ↦ rw writes (all_map _ (written_by (writer_of request.name)) (passages disk head start true request.lbn request.count)
       (all_ends disk head start true request.lbn request.count))
   | inr reads ↦ rw reads tt
 ]
@@ -117,8 +117,8 @@ contents_left : (disk : Disk) (latent : List ℕ) (done : List Served) (head : T
 contents_left disk latent done head start request lbn =
     let before = last_or None (filter (is_of lbn) (all_writes done)) in
     written_or_not request.write (is_of lbn) before
-    (map (written_by (number_of request.name)) (passages disk head start request.write request.lbn request.count)) (unwritten latent lbn) _
-    (sym (own_writes disk head start request.write request.lbn request.count (number_of request.name) lbn before (unwritten latent lbn)))
+    (map (written_by (writer_of request.name)) (passages disk head start request.write request.lbn request.count)) (unwritten latent lbn) _
+    (sym (own_writes disk head start request.write request.lbn request.count (writer_of request.name) lbn before (unwritten latent lbn)))
     ∙ ap (λ o. content_by o (unwritten latent lbn)) (sym
     (ap (λ ws. last_or None (filter (is_of lbn) ws)) (flat_map-append writes_of done (service disk head start request ∷ [])
     ∙ ap (λ ws. all_writes done ++ ws) (append-nil (writes_of (service disk head start request))))

@@ -26,7 +26,7 @@ use Rattle.fb_decide.specs.declared.deciding.Course.{Course}
 use Rattle.fb_decide.specs.Calls.{IsCalled, HasPrepared, tested_by, chosen_by, test_rows_by}
 use Rattle.fb_decide.specs.Deliveries.{HasDelivered, HasServed, IsRegistered, followed, past_with, rows_of, held_now}
 use Rattle.fb_decide.specs.Standing.{Mirrors, IsFoundIn, IsTrue}
-use Rattle.fb_decide.specs.Deciding.{HasServedNext, HasStayed, stay_of, ready_to_act}
+use Rattle.fb_decide.specs.Deciding.{HasServedNext, HasStayed, dwell_until, ready_to_act}
 use Rattle.fb_decide.specs.Making.{IsMade}
 use Rattle.fb_tasks.proofs.Lists.{all_filter}
 use Rattle.fb_tasks.proofs.Calls.{called-finished}
@@ -207,22 +207,24 @@ module _ (inputs : Inputs) (past : Past) (before : Course) (background : Backgro
   -- the head stays
   module _ (instant : ℕ) (later : before.now ≤ instant) (after : Course) (stayed : HasStayed inputs.disk instant ready after)
       (mirrors : Mirrors (medium_of inputs) before.store before.now instant) where
-    has_delivered : HasDelivered inputs.disk.map tested_now (caught_rows inputs.disk (held_now before.store) ByIdle (stay_of ready instant)
-        (wanted tested_now)) (background.rows ++ opening inputs.disk (idling (stay_of ready instant))) after.background
+    has_delivered : HasDelivered inputs.disk.map tested_now
+        (caught_rows inputs.disk (held_now before.store) ByIdle (dwell_until ready instant) (wanted tested_now))
+        (background.rows ++ opening inputs.disk (idling (dwell_until ready instant))) after.background
     has_delivered = stayed.delivered tested_now test.current
 
     abbrev stayed_gots : List DeliveryRow
-    stayed_gots = caught_rows inputs.disk (held_now before.store) ByIdle (stay_of ready instant) (wanted tested_now)
+    stayed_gots = caught_rows inputs.disk (held_now before.store) ByIdle (dwell_until ready instant) (wanted tested_now)
 
-    pub stays_step : StepsBy inputs past before (idling (stay_of ready instant)) after
+    pub stays_step : StepsBy inputs past before (idling (dwell_until ready instant)) after
     unfolding due medium_of
-    stays_step = stepped_by (idling (stay_of ready instant)) refl stayed_gots after instant (record {
+    stays_step = stepped_by (idling (dwell_until ready instant)) refl stayed_gots after instant (record {
       order = later;
       mirrors = mirrors;
-      found = due_found inputs.disk before.store (idling (stay_of ready instant)) instant (wanted tested_now) tt tt (omega arith) all_some;
+      found = due_found inputs.disk before.store (idling (dwell_until ready instant)) instant (wanted tested_now) tt tt (omega arith)
+          all_some;
       there = has_delivered.registered;
       best = tt;
-      all = due_same (medium_of inputs) before.store (idling (stay_of ready instant)) instant (wanted tested_now) tt tt
+      all = due_same (medium_of inputs) before.store (idling (dwell_until ready instant)) instant (wanted tested_now) tt tt
           (omega arith) all_some mirrors;
       rows_behind = has_delivered.rows_after;
       tells_after = has_delivered.current.tells;

@@ -10,13 +10,13 @@ use Rattle.fb_calls.specs.declared.call.Call.{Call}
 use Rattle.fb_calls.specs.declared.call.Kind.TheVariants.{Plain}
 use Rattle.fb_calls.specs.Sessions.{is_backup}
 use Rattle.fb_store.specs.Runs.{runs_of}
-use Rattle.fb_store.specs.Index.{Holding, content_in}
+use Rattle.fb_store.specs.Ranges.{Holding, content_in}
 use Rattle.fb_wanted.specs.declared.block.Block.{Block}
 use Rattle.fb_wanted.specs.declared.block.State.{State}
 use Rattle.fb_wanted.specs.declared.block.State.TheVariants.{Wanted, Aborted}
 use Rattle.fb_wanted.specs.States.{is_delivered, shares}
 use Rattle.fb_rows.specs.declared.back.BackRow.{BackRow}
-use Rattle.fb_model.specs.Content.{Medium, contents_at, number_of}
+use Rattle.fb_model.specs.Content.{Medium, contents_at}
 use Rattle.fb_model.specs.History.{Event, called, chose, tested, Past, LogSegment, Terms, tasks, terms_of, registered, bare_state}
 use Rattle.fb_model.specs.History.{content_of, is_sealed, is_seal_of, is_open_backup, ends_block, same_block, opened_by, delivered}
 use Rattle.fb_model.specs.History.{finished}
@@ -33,7 +33,7 @@ use Rattle.std.proofs.lemmas.Bool.Decides.{nat_tests}
 use Rattle.fb_units.specs.declared.types.Request.{Request}
 use Rattle.fb_store.specs.declared.content.Content.{Content}
 use Rattle.fb_store.specs.declared.content.Content.TheVariants.{Filled}
-use Rattle.fb_store.specs.Writes.{is_within, after_write}
+use Rattle.fb_store.specs.Writes.{after_write, is_within, writer_of}
 use Rattle.fb_rows.specs.declared.back.DeliveryRow.{DeliveryRow}
 use Rattle.fb_model.specs.SoundRun.{AreFollowed, IsTested}
 use Rattle.fb_tasks.specs.Taken.{delivery_of, rows_after}
@@ -175,8 +175,8 @@ true_first medium holding = record {
   found = λ block there. absurd (nowhere block there.0 there.1);
   kept = λ block there. absurd (nowhere block there.0 there.1);
 } where
-  nowhere : (block : Block) (place : ℕ) → ◌≡◌ {A = Option Block} None (Some block) → ⊥
-  nowhere block place h = grind arith
+  nowhere : (block : Block) (index : ℕ) → ◌≡◌ {A = Option Block} None (Some block) → ⊥
+  nowhere block index h = grind arith
 
 -- the disk stays as it is in part of the time
 pub mirrors_within : (medium : Medium) (holding : Holding) (from to begin end : ℕ) → Mirrors medium holding from to → from ≤ begin
@@ -282,9 +282,9 @@ module _ (medium : Medium) (holding left : Holding) (past : Past) (request : Req
   left_in : (block : Block) → (request.write ≡ false) ⊎ (shares request.lbn request.count block ≡ false) → (lbn : ℕ) → block.lbn ≤ lbn
       → lbn < block.lbn + block.count → content_in holding lbn ≡ content_in left lbn
   left_in block (inl reads) lbn from before = sym (contents lbn ∙ ap (λ b. if b
-      then after_write request.lbn request.count (number_of request.name) lbn (content_in holding lbn) else content_in holding lbn) reads)
+      then after_write request.lbn request.count (writer_of request.name) lbn (content_in holding lbn) else content_in holding lbn) reads)
   left_in block (inr none) lbn from before =
-      sym (contents lbn ∙ either request.write (ap (λ b. if b then Filled (number_of request.name) else content_in holding lbn)
+      sym (contents lbn ∙ either request.write (ap (λ b. if b then Filled (writer_of request.name) else content_in holding lbn)
       (apart lbn request.lbn request.count block none from before))) where
         either : (write : Bool) {c : Content} → c ≡ content_in holding lbn
             → (if write then c else content_in holding lbn) ≡ content_in holding lbn

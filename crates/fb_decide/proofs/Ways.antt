@@ -12,7 +12,7 @@ use Rattle.std.proofs.lemmas.Bool.Decides.{nat_tests}
 use Rattle.fb_units.specs.declared.types.Track.{Track}
 use Rattle.fb_units.specs.Tracks.{same_track}
 use Rattle.fb_units.proofs.Waits.{wait_least}
-use Rattle.fb_sectormap.specs.Lookup.{place_at, track_at}
+use Rattle.fb_sectormap.specs.LookUp.{place_at, track_at}
 use Rattle.fb_seek.specs.Positioning.{pos}
 use Rattle.fb_service.specs.declared.disk.Disk.{Disk}
 use Rattle.fb_service.specs.Service.{passages, passage_from, media_of, finish_of}

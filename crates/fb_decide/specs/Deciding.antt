@@ -5,13 +5,13 @@ use Rattle.std.specs.List.{AllByRecursion}
 use Rattle.fb_units.specs.declared.types.Request.{Request}
 use Rattle.fb_geometry.specs.Shape.{Shape, IsTrackOf}
 use Rattle.fb_geometry.specs.Places.{places}
-use Rattle.fb_sectormap.specs.Lookup.{place_at}
+use Rattle.fb_sectormap.specs.LookUp.{place_at}
 use Rattle.fb_service.specs.Passing.{length_of}
 use Rattle.fb_service.specs.declared.disk.Disk.{Disk}
 use Rattle.fb_service.specs.Service.{passages}
 use Rattle.fb_calls.specs.declared.call.Call.{Call}
 use Rattle.fb_store.specs.Writes.{unwritten}
-use Rattle.fb_store.specs.Index.{content_in}
+use Rattle.fb_store.specs.Ranges.{content_in}
 use Rattle.fb_tasks.specs.Telling.{Tells}
 use Rattle.fb_rows.specs.declared.fore.ForeRow.{ForeRow}
 use Rattle.fb_rows.specs.declared.gap.Dwell.{Dwell}
@@ -32,7 +32,7 @@ abbrev pub PassagesTakeTime : Shape → Type 0
 PassagesTakeTime disk = (lbn : ℕ) → lbn < length (places disk) → 0 < length_of disk (place_at disk lbn)
 
 -- no sector was written, no task opened, nothing served
-pub record IsAtBegin (latent : List ℕ) (course : Course) : Type 0 where
+pub record IsInitial (latent : List ℕ) (course : Course) : Type 0 where
   pub unwritten_yet : (lbn : ℕ) → content_in course.store lbn ≡ unwritten latent lbn
   pub none_opened : (disk : Shape) → Tells disk [] course.background.sessions []
   pub none_wanted : course.background.wanted ≡ []
@@ -67,14 +67,14 @@ pub record HasServedNext (disk : Disk) (request : Request) (before after : Cours
   pub same_called : after.called ≡ before.called
 
 -- the stay from now until an instant
-abbrev pub stay_of : Course → ℕ → Dwell
-stay_of course instant = record { track = course.head; begin = course.now; end = instant }
+abbrev pub dwell_until : Course → ℕ → Dwell
+dwell_until course instant = record { track = course.head; begin = course.now; end = instant }
 
 -- the head stayed until an instant
 pub record HasStayed (disk : Disk) (instant : ℕ) (before after : Course) : Type 0 where
   pub delivered : (past : Past) → TellsUpToDate disk.map past before.background
-      → HasDelivered disk.map past (caught_rows disk (held_now before.store) ByIdle (stay_of before instant) (wanted past))
-      (before.background.rows ++ IdleLine (stay_of before instant) ∷ []) after.background
+      → HasDelivered disk.map past (caught_rows disk (held_now before.store) ByIdle (dwell_until before instant) (wanted past))
+      (before.background.rows ++ IdleLine (dwell_until before instant) ∷ []) after.background
   pub until : after.now ≡ instant
   pub same_store : after.store ≡ before.store
   pub same_fore : after.fore ≡ before.fore

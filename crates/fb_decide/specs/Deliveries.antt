@@ -3,7 +3,7 @@ use Rattle.std.specs.Prelude.{◌≡◌, ℕ, List, [], ◌∷◌, ◌++◌, fal
 use Rattle.std.specs.List.{AllByRecursion, flat_map, fold, range_with_len}
 use Rattle.fb_geometry.specs.Shape.{Shape}
 use Rattle.fb_service.specs.declared.disk.Disk.{Disk}
-use Rattle.fb_store.specs.Index.{Holding, content_in}
+use Rattle.fb_store.specs.Ranges.{Holding, content_in}
 use Rattle.fb_wanted.specs.declared.block.Block.{Block}
 use Rattle.fb_rows.specs.declared.gap.Plan.{Plan}
 use Rattle.fb_rows.specs.declared.gap.How.{How}
@@ -45,7 +45,7 @@ rows_of deliveries = flat_map (λ delivery. GotLine delivery.got ∷ delivery.af
 
 -- the block is registered
 abbrev pub IsRegistered : Past → Block → Type 0
-IsRegistered past block = (place : ℕ) × (slice_get (registered past) place ≡ Some block)
+IsRegistered past block = (index : ℕ) × (slice_get (registered past) index ≡ Some block)
 
 -- the sessions and the wanted set tell the history, and all of it was tested
 pub record TellsUpToDate (disk : Shape) (past : Past) (background : Background) : Type 0 where
@@ -59,7 +59,7 @@ AreDistinct (block ∷ blocks) = AllByRecursion (λ other. same_block block othe
 
 -- the block stands in the list
 abbrev pub IsOneOf : List Block → Block → Type 0
-IsOneOf blocks block = (place : ℕ) × (slice_get blocks place ≡ Some block)
+IsOneOf blocks block = (index : ℕ) × (slice_get blocks index ≡ Some block)
 
 -- the block that is delivered
 abbrev pub block_in : DeliveryRow → Block

@@ -9,7 +9,7 @@ use Rattle.fb_geometry.specs.Sound.{IsSound}
 use Rattle.fb_calls.specs.Allowed as allowed
 use Rattle.fb_store.specs.declared.content.Content.{Content}
 use Rattle.fb_store.specs.Writes.{unwritten}
-use Rattle.fb_store.specs.Index.{Holding, content_in}
+use Rattle.fb_store.specs.Ranges.{Holding, content_in}
 use Rattle.fb_rows.specs.Tasks.{HasNamedTask}
 use Rattle.fb_rows.specs.declared.fore.ForeRow.{ForeRow}
 use Rattle.fb_rows.specs.declared.back.BackRow.{BackRow}

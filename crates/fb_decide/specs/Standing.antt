@@ -2,7 +2,7 @@
 use Rattle.std.specs.Prelude.{◌≡◌, ◌≤◌, ℕ, true, map}
 use Rattle.std.specs.List.{range_with_len}
 use Rattle.fb_store.specs.Runs.{runs_of}
-use Rattle.fb_store.specs.Index.{Holding, content_in}
+use Rattle.fb_store.specs.Ranges.{Holding, content_in}
 use Rattle.fb_wanted.specs.declared.block.Block.{Block}
 use Rattle.fb_wanted.specs.States.{is_delivered}
 use Rattle.fb_rows.specs.declared.back.DeliveryRow.{DeliveryRow}

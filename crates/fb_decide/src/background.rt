@@ -39,10 +39,10 @@ impl Background {
         how: How,
         catch: Catch,
     ) -> Result<(), NoMemory>
-        requires wanted { (disk : Shape) × (past : Past) × (place : ℕ) × TellsUpToDate disk past self.old
-            × (slice_get (wanted past) place ≡ Some catch.block) }
-        ensures { OnOk result ((disk : Shape) (past : Past) (place : ℕ) → TellsUpToDate disk past self.old
-            → slice_get (wanted past) place ≡ Some catch.block
+        requires wanted { (disk : Shape) × (past : Past) × (index : ℕ) × TellsUpToDate disk past self.old
+            × (slice_get (wanted past) index ≡ Some catch.block) }
+        ensures { OnOk result ((disk : Shape) (past : Past) (index : ℕ) → TellsUpToDate disk past self.old
+            → slice_get (wanted past) index ≡ Some catch.block
             → HasDelivered disk past (delivery (held_now store.now) how catch.block catch.begin catch.end ∷ []) self.old.rows self.new) }
     {
         runs_are_fewest();
@@ -83,7 +83,7 @@ impl Background {
     /// Delivers all that the head catches in a dwell.
     ///
     /// The only error is out of memory.
-    pub fn deliver_in_stay(
+    pub fn deliver_in_dwell(
         &mut self,
         alloc: Global,
         disk: &Disk,
@@ -120,6 +120,6 @@ impl Background {
             (self.old.rows ++ BackRow.Idle dwell ∷ []) self.new) }
     {
         self.rows.push(BackRow::Idle(dwell))?;
-        self.deliver_in_stay(alloc, disk, store, How::Idle, dwell)
+        self.deliver_in_dwell(alloc, disk, store, How::Idle, dwell)
     }
 }

@@ -15,7 +15,7 @@ ghost use Rattle.fb_decide.specs.RunInputs.{inputs_of};
 ghost use Rattle.fb_decide.specs.Waiting.{IsWaiting};
 ghost use Rattle.fb_decide.specs.Calls.{IsCalled};
 ghost use Rattle.fb_decide.specs.Deliveries.{TellsUpToDate};
-ghost use Rattle.fb_decide.specs.Deciding.{IsAtBegin, MayDecide, next_of, HasServedNext, HasStayed, HasActed, HasDecided};
+ghost use Rattle.fb_decide.specs.Deciding.{IsInitial, MayDecide, next_of, HasServedNext, HasStayed, HasActed, HasDecided};
 ghost use Rattle.fb_decide.specs.Making.{HasMade, HasMadeOne, RowFits};
 
 use crate::background::Background;
@@ -90,7 +90,7 @@ impl<'a, Q: Queue> Decider<'a, Q> {
         foreground_lists_ascend();
         disk_is_sound(inputs.disk);
         let requests = foreground(alloc, inputs.trace.requests.as_slice(), inputs.calls)?;
-        let course = at_begin(alloc, inputs.latent)?;
+        let course = initial_course(alloc, inputs.latent)?;
         Ok(Decider {
             requests,
             queue,
@@ -184,8 +184,8 @@ impl<'a, Q: Queue> Decider<'a, Q> {
 }
 
 // The state in which nothing has happened yet. The only error is out of memory.
-fn at_begin(alloc: Global, latent: &[u64]) -> Result<Course, NoMemory>
-    ensures begin { IfOk result (λ course. IsAtBegin latent.now course) }
+fn initial_course(alloc: Global, latent: &[u64]) -> Result<Course, NoMemory>
+    ensures initial { IfOk result (λ course. IsInitial latent.now course) }
     ensures no_fore { IfOk result (λ course. course.fore ≡ []) }
     ensures no_back { IfOk result (λ course. course.background.rows ≡ []) }
 {
@@ -217,7 +217,7 @@ fn advance<Q: Queue, P: Planner>(
     queue: &mut Q,
     course: &mut Course,
 ) -> Result<bool, NoMemory>
-    requires ready { MayDecide inputs.disk.now requests.now inputs.calls.now.calls.items course.old (Q.joined queue.old)
+    requires may_decide { MayDecide inputs.disk.now requests.now inputs.calls.now.calls.items course.old (Q.joined queue.old)
         (Q.pending queue.old) }
     requires serves { Q.serves queue.old inputs.disk.now }
     requires called { (past : Past) × IsCalled inputs.disk.now.map inputs.calls.now.calls.items past course.old.called

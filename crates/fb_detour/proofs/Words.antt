@@ -24,8 +24,8 @@ pub use Rattle.fb_geometry.specs.Places.{places}
 pub use Rattle.fb_geometry.specs.Shape.{IsTrackOf, Shape, cylinders_of, offset_at, slots_at, turn_position}
 pub use Rattle.fb_geometry.specs.Sound.{HasOwnPlaces, IsSound}
 pub use Rattle.fb_geometry.specs.declared.zone.Zone.{Zone}
-pub use Rattle.fb_sectormap.specs.Lookup.{IsAt, neighbour, track_at}
-unfoldable pub use Rattle.fb_sectormap.specs.Lookup.{place_at}
+pub use Rattle.fb_sectormap.specs.LookUp.{IsAt, neighbour, track_at}
+unfoldable pub use Rattle.fb_sectormap.specs.LookUp.{place_at}
 pub use Rattle.fb_seek.specs.Positioning.{distance_of, seek}
 unfoldable pub use Rattle.fb_seek.specs.Positioning.{pos}
 pub use Rattle.fb_service.proofs.Turning.{in-turn, later-after, over, slot-is, within-turn}

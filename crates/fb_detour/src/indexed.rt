@@ -20,8 +20,8 @@ use fb_wanted::Wanted;
 #[derive(Clone, Copy)]
 pub struct IndexedPlanner;
 
-// True only if no block is wanted. Then the direct plan that leaves at once is the best of each gap, as the
-// first in the order of ties.
+// True only if no wanted block weighs anything. Then the direct plan that leaves at once is the best of each
+// gap, as the first in the order of ties.
 fn wants_nothing(disk: &Disk, wanted: &Wanted) -> bool
     ensures { result ≡ true → (gap : Gap) → IsGap disk.now gap → IsBest disk.now gap (wanted_of wanted.now) (Plan.Direct gap.now) }
 {

@@ -116,8 +116,8 @@ fn caught_in(rate: u64, weight: u64, time: Ns) -> u64
     if LONG <= time {
         return weight;
     }
-    let passing = time * rate / UNIT;
-    weight.min(passing)
+    let passed = time * rate / UNIT;
+    weight.min(passed)
 }
 
 // The most that a track of this weight and the target give by plans that reach the target before

@@ -15,12 +15,12 @@ use Rattle.fb_model.specs.FullRun.{IsFull}
 use Rattle.fb_decide.specs.declared.deciding.Course.{Course}
 use Rattle.fb_decide.specs.Making.{RowFits, HasMade, HasMadeOne, decisions_left}
 use Rattle.fb_decide.specs.FullRuns.{DecisionsMakeARun}
-use Rattle.fb_engine.specs.Gone.{HasGone}
+use Rattle.fb_engine.specs.Progress.{HasAdvanced}
 
 -- at first
 pub at_first : {inputs : Inputs} {list : List Request} {course : Course} {pending : List Request} {count : ℕ}
     → HasMade inputs true [] list course pending count → course.fore ≡ [] → course.background.rows ≡ []
-    → HasGone inputs true list course pending count
+    → HasAdvanced inputs true list course pending count
 at_first {inputs} made no_fore no_back = record {
   steps = [];
   made = made;
@@ -30,21 +30,23 @@ at_first {inputs} made no_fore no_back = record {
 
 -- where another decision follows, and where none does
 pub gone_on : {inputs : Inputs} {more goes_on : Bool} {list : List Request} {course : Course} {pending : List Request} {count : ℕ}
-    → more ≡ goes_on → HasGone inputs more list course pending count → HasGone inputs goes_on list course pending count
-gone_on {inputs} {more} {goes_on} {list} {course} {pending} {count} e gone = subst (λ b. HasGone inputs b list course pending count) e gone
+    → more ≡ goes_on → HasAdvanced inputs more list course pending count → HasAdvanced inputs goes_on list course pending count
+gone_on {inputs} {more} {goes_on} {list} {course} {pending} {count} e advanced =
+    subst (λ b. HasAdvanced inputs b list course pending count) e advanced
 
 -- after one more decision
 pub one_on : {inputs : Inputs} {more : Bool} {list now_list : List Request} {before after : Course} {pending pending_after : List Request}
     {count count_after : ℕ}
-    → DecisionsMakeARun → (gone : HasGone inputs true list before pending count) → now_list ≡ list
-    → HasMadeOne inputs gone.steps more list before pending after pending_after count_after
-    → HasGone inputs more now_list after pending_after count_after
-one_on {inputs} {more} {list} {now_list} {before} {after} {pending} {pending_after} {count} {count_after} law gone same one =
-    subst (λ list. HasGone inputs more list after pending_after count_after) (sym same) (record {
-      steps = gone.steps ++ one.step ∷ [];
+    → DecisionsMakeARun → (advanced : HasAdvanced inputs true list before pending count) → now_list ≡ list
+    → HasMadeOne inputs advanced.steps more list before pending after pending_after count_after
+    → HasAdvanced inputs more now_list after pending_after count_after
+one_on {inputs} {more} {list} {now_list} {before} {after} {pending} {pending_after} {count} {count_after} law advanced same one =
+    subst (λ list. HasAdvanced inputs more list after pending_after count_after) (sym same) (record {
+      steps = advanced.steps ++ one.step ∷ [];
       made = one.made;
-      rows = rw (one.fore, one.back) (law.go_on inputs gone.steps one.step before.fore before.background.rows gone.rows one.is_made);
-      fit = rw one.back (all_append (RowFits (length (allowed.tasks inputs.calls))) before.background.rows _ gone.fit one.back_fits);
+      rows = rw (one.fore, one.back)
+          (law.go_on inputs advanced.steps one.step before.fore before.background.rows advanced.rows one.is_made);
+      fit = rw one.back (all_append (RowFits (length (allowed.tasks inputs.calls))) before.background.rows _ advanced.fit one.back_fits);
     })
 
 -- and fewer are left
@@ -58,26 +60,27 @@ less_by {inputs} {steps} {more} {was} {list} {before} {after} {pending} {pending
 -- ---- where no decision follows
 
 module _ {inputs : Inputs} {list : List Request} {course : Course} {pending : List Request} {count : ℕ}
-    (gone : HasGone inputs false list course pending count) where
+    (advanced : HasAdvanced inputs false list course pending count) where
   pub is_full : (fore : List ForeRow) (back : List BackRow) → fore ≡ course.fore
-      → back ≡ course.background.rows ++ task_rows (history inputs gone.steps)
+      → back ≡ course.background.rows ++ task_rows (history inputs advanced.steps)
       → (end : ℕ) → DecisionsMakeARun → end ≡ run_end (decisions inputs)
       → IsFull inputs (record { fore = fore; back = back; passed_over = inputs.passed_over; end = end })
   is_full fore back same rows end law ends =
-      rw (same, rows, ends) (law.full inputs gone.steps list course pending count course.fore course.background.rows gone.made gone.rows)
+      rw (same, rows, ends)
+      (law.full inputs advanced.steps list course pending count course.fore course.background.rows advanced.made advanced.rows)
 
   pub is_few : (fore : List ForeRow) → fore ≡ course.fore → DecisionsMakeARun → length fore ≤ 10 ^ 6
   unfolding fore_rows
   is_few fore same law = omega (
     arith,
     ap length same,
-    ap length (law.end inputs gone.steps list course pending count course.fore course.background.rows gone.made gone.rows),
+    ap length (law.end inputs advanced.steps list course pending count course.fore course.background.rows advanced.made advanced.rows),
     length-map (served inputs) (fore_row (medium_of inputs)),
-    gone.made.come_to.few,
+    advanced.made.come_to.few,
   )
 
-  pub rows_fit : (back : List BackRow) → back ≡ course.background.rows ++ task_rows (history inputs gone.steps)
-      → AllByRecursion (RowFits (length (allowed.tasks inputs.calls))) (task_rows (history inputs gone.steps))
+  pub rows_fit : (back : List BackRow) → back ≡ course.background.rows ++ task_rows (history inputs advanced.steps)
+      → AllByRecursion (RowFits (length (allowed.tasks inputs.calls))) (task_rows (history inputs advanced.steps))
       → AllByRecursion (RowFits (length (allowed.tasks inputs.calls))) back
   rows_fit back rows fits = rw rows (all_append (RowFits (length (allowed.tasks inputs.calls))) course.background.rows
-      (task_rows (history inputs gone.steps)) gone.fit fits)
+      (task_rows (history inputs advanced.steps)) advanced.fit fits)

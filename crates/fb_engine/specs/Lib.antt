@@ -1,1 +1,1 @@
-pub mod Gone
+pub mod Progress

@@ -6,7 +6,7 @@ ghost use Rattle.fb_calls.specs.Allowed.{tasks};
 ghost use Rattle.fb_model.specs.Accepted.{IsAccepted};
 ghost use Rattle.fb_model.specs.FullRun.{IsFull};
 ghost use Rattle.fb_decide.specs.RunInputs.{inputs_of};
-ghost use Rattle.fb_engine.specs.Gone.{HasGone, IsWhole};
+ghost use Rattle.fb_engine.specs.Progress.{HasAdvanced, IsWhole};
 
 use fb_decide::{Decider, RunInputs, decisions_make_a_run};
 use fb_plan::Planner;
@@ -45,7 +45,7 @@ fn run_of<Q: Queue, P: Planner>(
     planner: &P,
     decider: &mut Decider<'_, Q>,
 ) -> Result<Run, NoMemory>
-    requires gone { HasGone (inputs_of inputs Q.key) true decider.old.requests decider.old.course (Q.pending decider.old.queue)
+    requires advanced { HasAdvanced (inputs_of inputs Q.key) true decider.old.requests decider.old.course (Q.pending decider.old.queue)
         (Q.joined decider.old.queue) }
     requires serves { Q.serves decider.old.queue inputs.disk.now }
     ensures { IfOk result (IsWhole (inputs_of inputs.entry Q.key)) }
@@ -70,10 +70,10 @@ fn decide_all<Q: Queue, P: Planner>(
     planner: &P,
     decider: &mut Decider<'_, Q>,
 ) -> Result<(), NoMemory>
-    requires gone { HasGone (inputs_of inputs Q.key) true decider.old.requests decider.old.course (Q.pending decider.old.queue)
+    requires advanced { HasAdvanced (inputs_of inputs Q.key) true decider.old.requests decider.old.course (Q.pending decider.old.queue)
         (Q.joined decider.old.queue) }
     requires serves { Q.serves decider.old.queue inputs.disk.now }
-    ensures gone { OnOk result (HasGone (inputs_of inputs.entry Q.key) false decider.new.requests decider.new.course
+    ensures advanced { OnOk result (HasAdvanced (inputs_of inputs.entry Q.key) false decider.new.requests decider.new.course
         (Q.pending decider.new.queue) (Q.joined decider.new.queue)) }
 {
     decisions_make_a_run();

@@ -1,19 +1,19 @@
 -- Requests that are divided among a map and rows.
 use Rattle.fb_fastq.proofs.Words.{◌≡◌, ◌≢◌, ℕ, ◌+◌, ◌-◌, ◌^◌, ◌<◌, ◌≤◌, List, [], ◌∷◌, ◌++◌, sym, subst, arith, inl, inr, length}
 use Rattle.fb_fastq.proofs.Words.{AllByRecursion, BTreeMap, cases_lt, Track, Request, Disk, sptf, Candidate, Waiting, number_of, pending_of}
-use Rattle.fb_fastq.proofs.Words.{AreNumbered, HaveOwnNumbers, IsNoLater, IsFirst, IsFirstHeld, IsCandidate, IsBefore, ComesNoLater, IsMore}
-use Rattle.fb_fastq.proofs.Words.{Row, all_of_rows, AreRows, RulesOut, RulesOutAll, IsDivided, length-append, nil_from_length, all_weaker}
-use Rattle.fb_fastq.proofs.Words.{all_append, all_left}
+use Rattle.fb_fastq.proofs.Words.{NumbersDiffer, HaveOwnNumbers, IsNoLater, IsFirst, IsFirstHeld, IsCandidate, IsBefore, ComesNoLater}
+use Rattle.fb_fastq.proofs.Words.{IsMore, Row, all_of_rows, AreRows, RulesOut, RulesOutAll, IsDivided, length-append, nil_from_length}
+use Rattle.fb_fastq.proofs.Words.{all_weaker, all_append, all_left}
 use Rattle.fb_fastq.proofs.{Least.first_listed, Least.length_pending, Sweeps.no_later_trans, OneMore.more_left, OneMore.more_right}
 use Rattle.fb_fastq.proofs.{OneMore.numbers_more, OneMore.numbers_less, OneMore.length_more}
 
-pub numbered_left : (xs ys : List Waiting) → AreNumbered (xs ++ ys) → AreNumbered xs
+pub numbered_left : (xs ys : List Waiting) → NumbersDiffer (xs ++ ys) → NumbersDiffer xs
 numbered_left [] ys h = tt
 numbered_left (x ∷ xs) ys h = (all_left (λ y. number_of y ≢ number_of x) xs ys h.0, numbered_left xs ys h.1)
 
 module _ (disk : Disk) (head : Track) (now : ℕ) (map : BTreeMap (ℕ × ℕ) Request) (rows : List Row) where
   -- what is no later than the first of the map is no later than any of it
-  pub no_later_than_map : (limit best : Candidate) → AreNumbered map.entries
+  pub no_later_than_map : (limit best : Candidate) → NumbersDiffer map.entries
       → (0 < length map.entries → IsCandidate disk head now map limit)
       → (0 < length map.entries → IsFirstHeld (sptf disk head now) map limit.key) → IsBefore best limit
       → AllByRecursion (λ w. ComesNoLater disk head now best w.0 w.1) map.entries

@@ -3,7 +3,7 @@ use Rattle.fb_fastq.proofs.Words.{◌≡◌, ◌≢◌, ℕ, zero, suc, ◌+◌,
 use Rattle.fb_fastq.proofs.Words.{false, inl, inr, ◌⊎◌, Option, Some, None, IsSome, length, nat_lt, nat_le, ◌==◌, if◌then◌else◌, IfSome}
 use Rattle.fb_fastq.proofs.Words.{cond, AllByRecursion, lookup, BTreeMap, get, is_at, cases_Bool, true≢false, nat_tests, Request}
 use Rattle.fb_fastq.proofs.Words.{first_least, better, order, Waits, Holds, AllHeld, Waiting, number_of, join_in, in_order, pending_of}
-use Rattle.fb_fastq.proofs.Words.{AreNumbered, IsNoLater, IsFirst, IsFirstHeld}
+use Rattle.fb_fastq.proofs.Words.{NumbersDiffer, IsNoLater, IsFirst, IsFirstHeld}
 use Rattle.fb_queue.proofs.FirstLeast.{later_better}
 use Rattle.fb_fastq.proofs.{Swept.some_injective, Swept.IsIn, Swept.all_of, Swept.all_from, Swept.all_unmapped, Keys.here_equal}
 use Rattle.fb_fastq.proofs.{Keys.equal_keys, Joins.all_join, Joins.all_in_order}
@@ -25,7 +25,7 @@ join_rising w (x ∷ ws) apart h = elim (cases_Bool (nat_lt (number_of w) (numbe
       rw more (all_join (λ y. number_of x < number_of y) w ws lt h.0, join_rising w ws apart.1 h.1)
 ]
 
-pub in_order_rising : (ws : List Waiting) → AreNumbered ws → IsRising (in_order ws)
+pub in_order_rising : (ws : List Waiting) → NumbersDiffer ws → IsRising (in_order ws)
 in_order_rising [] h = tt
 in_order_rising (w ∷ ws) h = join_rising w (in_order ws) (all_in_order (λ x. number_of x ≢ number_of w) ws h.0) (in_order_rising ws h.1)
 
@@ -170,7 +170,7 @@ at_key ws q has = go (lookup (is_at (order q)) ws) refl has
     go (Some r) e h = (r, held_is_in q.0 q.1 r ws e)
 
 -- two of one number are the same
-only_one : (a b : Waiting) (ws : List Waiting) → AreNumbered ws → IsIn a ws → IsIn b ws → number_of a ≡ number_of b → a ≡ b
+only_one : (a b : Waiting) (ws : List Waiting) → NumbersDiffer ws → IsIn a ws → IsIn b ws → number_of a ≡ number_of b → a ≡ b
 only_one a b [] h e f same = elim e [ ]
 only_one a b (w ∷ ws) h (inl e) (inl f) same = e ∙ sym f
 only_one a b (w ∷ ws) h (inl e) (inr f) same = let other = all_of (λ y. number_of y ≢ number_of w) b ws h.0 f in
@@ -180,7 +180,7 @@ only_one a b (w ∷ ws) h (inr e) (inl f) same = let other = all_of (λ y. numbe
 only_one a b (w ∷ ws) h (inr e) (inr f) same = only_one a b ws h.1 e f same
 
 -- the map holds what its entries say
-held_value : (w : Waiting) (ws : List Waiting) → AreNumbered ws → IsIn w ws → lookup (is_at (order w.0)) ws ≡ Some w.1
+held_value : (w : Waiting) (ws : List Waiting) → NumbersDiffer ws → IsIn w ws → lookup (is_at (order w.0)) ws ≡ Some w.1
 held_value w ws apart there = go (lookup (is_at (order w.0)) ws) refl (is_held w ws there)
   where
     go : (o : Option Request) → lookup (is_at (order w.0)) ws ≡ o → IsSome o → o ≡ Some w.1
@@ -188,7 +188,7 @@ held_value w ws apart there = go (lookup (is_at (order w.0)) ws) refl (is_held w
     go (Some r) e h = let same = only_one (w.0, r) w ws apart (held_is_in w.0.0 w.0.1 r ws e) there refl in ap (λ x. Some x.1) same
 
 -- the first of all that are held is the first of all entries
-pub first_listed : (rank : Request → ℕ) (key : ℕ × ℕ) (r : Request) (waiting : BTreeMap (ℕ × ℕ) Request) → AreNumbered waiting.entries
+pub first_listed : (rank : Request → ℕ) (key : ℕ × ℕ) (r : Request) (waiting : BTreeMap (ℕ × ℕ) Request) → NumbersDiffer waiting.entries
     → Holds waiting key r → IsFirstHeld rank waiting key → IsFirst rank (key, r) waiting.entries
 first_listed rank key r waiting apart e first =
     all_from (λ x. IsNoLater (rank r) key.1 (rank x.1) (number_of x)) waiting.entries

@@ -4,7 +4,7 @@ use Rattle.fb_fastq.proofs.Words.{subst, ◌∙◌, arith, inl, inr, ◌⊎◌, 
 use Rattle.fb_fastq.proofs.Words.{Option, None, IsSome, Result, Ok, Err, OnErr, true, false, remove, option_and_then, AllByRecursion}
 use Rattle.fb_fastq.proofs.Words.{match_ordering, nat_cmp, Ordering, Less, Equal, Greater, insert_entry, is_at, BTreeSet, contains}
 use Rattle.fb_fastq.proofs.Words.{remove_entry, true≢false, cases_Bool, nat_tests, slice_get_within, Request, first_least, order, Waiting}
-use Rattle.fb_fastq.proofs.Words.{number_of, join_in, in_order, pending_of, AreNumbered, HaveOwnNumbers, IsFirst, Position, IsMore, Row}
+use Rattle.fb_fastq.proofs.Words.{number_of, join_in, in_order, pending_of, NumbersDiffer, HaveOwnNumbers, IsFirst, Position, IsMore, Row}
 use Rattle.fb_fastq.proofs.Words.{all_of_rows}
 use Rattle.fb_fastq.proofs.Words.{at_position, IsOnCylinder, AreRows, AreOccupied, lookup, none-some, length-append, map-append, all_weaker}
 use Rattle.fb_fastq.proofs.{Swept.some_injective, Swept.IsIn, Swept.all_of, Keys.same_number, Keys.here_equal, Keys.same_key}
@@ -27,7 +27,7 @@ in_order_put w [] behind h = joins_last w (in_order behind) (all_in_order (λ x.
 in_order_put w (x ∷ before) behind h =
     ap (join_in x) (in_order_put w before behind h.1) ∙ join_before_last x w (in_order (before ++ behind)) h.0
 
-in_order_drawn : (w : Waiting) (before behind : List Waiting) → AreNumbered (before ++ w ∷ behind)
+in_order_drawn : (w : Waiting) (before behind : List Waiting) → NumbersDiffer (before ++ w ∷ behind)
     → in_order (before ++ behind) ≡ without (number_of w) (in_order (before ++ w ∷ behind))
 in_order_drawn w [] behind h = sym (without_joined w (in_order behind) (all_in_order (λ y. number_of y ≢ number_of w) behind h.0))
 in_order_drawn w (x ∷ before) behind h =
@@ -36,7 +36,7 @@ in_order_drawn w (x ∷ before) behind h =
     (λ s. other (sym s)) (in_order_rising (before ++ w ∷ behind) h.1))
 
 numbered_put : (w : Waiting) (before behind : List Waiting) → AllByRecursion (λ x. number_of x < number_of w) (before ++ behind)
-    → AreNumbered (before ++ behind) → AreNumbered (before ++ w ∷ behind)
+    → NumbersDiffer (before ++ behind) → NumbersDiffer (before ++ w ∷ behind)
 numbered_put w [] behind h apart = (
   all_weaker (λ x. number_of x < number_of w) (λ x. number_of x ≢ number_of w)
       (λ x under e. omega (arith, under, e)) behind h,
@@ -48,7 +48,7 @@ numbered_put w (x ∷ before) behind h apart = (
   numbered_put w before behind h.1 apart.1,
 )
 
-numbered_drawn : (w : Waiting) (before behind : List Waiting) → AreNumbered (before ++ w ∷ behind) → AreNumbered (before ++ behind)
+numbered_drawn : (w : Waiting) (before behind : List Waiting) → NumbersDiffer (before ++ w ∷ behind) → NumbersDiffer (before ++ behind)
 numbered_drawn w [] behind h = h.1
 numbered_drawn w (x ∷ before) behind h =
     ((all_drawn (λ y. number_of y ≢ number_of x) w before behind h.0).1, numbered_drawn w before behind h.1)
@@ -75,22 +75,22 @@ module _ (w : Waiting) (less more : List Waiting) (is : IsMore w less more) wher
   numbers_more h = record {
     given = all_more (λ x. number_of x < number_of w + 1) (omega arith)
         (all_weaker (λ x. number_of x < number_of w) (λ x. number_of x < number_of w + 1) (λ x under. omega (arith, under)) less h.given);
-    numbered = subst AreNumbered (sym is.more_is)
+    numbered = subst NumbersDiffer (sym is.more_is)
         (numbered_put w is.before is.behind (subst (AllByRecursion (λ x. number_of x < number_of w)) is.less_is h.given)
-        (subst AreNumbered is.less_is h.numbered));
+        (subst NumbersDiffer is.less_is h.numbered));
   }
 
   pub numbers_less : (joined : ℕ) → HaveOwnNumbers more joined → HaveOwnNumbers less joined
   numbers_less joined h = record {
     given = all_less (λ x. number_of x < joined) h.given;
-    numbered = subst AreNumbered (sym is.less_is) (numbered_drawn w is.before is.behind (subst AreNumbered is.more_is h.numbered));
+    numbered = subst NumbersDiffer (sym is.less_is) (numbered_drawn w is.before is.behind (subst NumbersDiffer is.more_is h.numbered));
   }
 
   -- the first of least rank is what the plain replay takes
-  pub least_more : (rank : Request → ℕ) → AreNumbered more → IsFirst rank w more
+  pub least_more : (rank : Request → ℕ) → NumbersDiffer more → IsFirst rank w more
       → first_least rank (pending_of more) ≡ Some (w.1, pending_of less)
   least_more rank apart first =
-      let own = subst AreNumbered is.more_is apart in
+      let own = subst NumbersDiffer is.more_is apart in
       let ws = is.before ++ w ∷ is.behind in
       let its = subst (IsFirst rank w) is.more_is first in
       ap (λ xs. first_least rank (pending_of xs)) is.more_is
@@ -133,7 +133,7 @@ insert_more l n r (w ∷ ws) h = at (insert_more l n r ws h.1) (order (l, n) w.0
     }
 
 -- and is taken out of it
-pub remove_more : (w : Waiting) (ws : List Waiting) → AreNumbered ws → IsIn w ws → IsMore w (remove_entry (is_at (order w.0)) ws) ws
+pub remove_more : (w : Waiting) (ws : List Waiting) → NumbersDiffer ws → IsIn w ws → IsMore w (remove_entry (is_at (order w.0)) ws) ws
 remove_more w [] h e = elim e [ ]
 remove_more w (x ∷ ws) h (inl e) = subst (λ y. IsMore w (remove_entry (is_at (order w.0)) (y ∷ ws)) (y ∷ ws)) e
     (let t = here_equal w.0.0 w.0.1 in rw t (record { before = []; behind = ws; less_is = refl; more_is = refl }))
@@ -148,7 +148,7 @@ remove_more w (x ∷ ws) h (inr e) =
       more_is = ap (λ xs. x ∷ xs) rest.more_is;
     })
 
-pub taken_more : (ws : List Waiting) (key : ℕ × ℕ) → AreNumbered ws → IsSome (lookup (is_at (order key)) ws)
+pub taken_more : (ws : List Waiting) (key : ℕ × ℕ) → NumbersDiffer ws → IsSome (lookup (is_at (order key)) ws)
     → (r : Request) × IsMore (key, r) (remove_entry (is_at (order key)) ws) ws
 taken_more ws key apart has = let there = at_key ws key has in (there.0, remove_more (key, there.0) ws apart there.1)
 

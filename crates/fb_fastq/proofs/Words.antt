@@ -21,7 +21,7 @@ pub use Rattle.fb_units.proofs.Lists.{all_get, all_weaker, all_append, all_filte
 pub use Rattle.fb_units.specs.declared.types.Request.{Request}
 pub use Rattle.fb_units.specs.declared.types.Track.{Track}
 pub use Rattle.fb_geometry.specs.Shape.{cylinders_of}
-pub use Rattle.fb_sectormap.specs.Lookup.{place_at, track_at}
+pub use Rattle.fb_sectormap.specs.LookUp.{place_at, track_at}
 pub use Rattle.fb_seek.specs.Positioning.{distance_of, seek}
 unfoldable pub use Rattle.fb_seek.specs.Positioning.{pos}
 pub use Rattle.fb_seek.specs.Rising.{SeeksRise}
@@ -34,7 +34,7 @@ pub use Rattle.fb_fastq.specs.ByCylinder.{AreOccupied, AreRows, IsArrival, IsAt,
 pub use Rattle.fb_fastq.specs.ByCylinder.{RulesOutAll}
 pub use Rattle.fb_fastq.specs.ByCylinder.{all_of_rows, at_position}
 pub use Rattle.fb_fastq.specs.Candidates.{ComesNoLater, ComesNoLaterBetween, ComesNoLaterOn, ComesNoLaterUntil, IsBefore, IsCandidate}
-pub use Rattle.fb_fastq.specs.Joining.{AllHeld, AreNumbered, HaveOwnNumbers, Holds, IsFirst, IsFirstHeld, IsNoLater, Waiting, Waits}
+pub use Rattle.fb_fastq.specs.Joining.{AllHeld, NumbersDiffer, HaveOwnNumbers, Holds, IsFirst, IsFirstHeld, IsNoLater, Waiting, Waits}
 pub use Rattle.fb_fastq.specs.Joining.{in_order, join_in, number_of, order, pending_of}
 pub use Rattle.fb_fastq.specs.Lanes.{IsAlong, IsLane, lane_start}
 pub use Rattle.fb_fastq.specs.More.{IsMore}

@@ -44,14 +44,14 @@ abbrev pub pending_of : List Waiting → List Request
 pending_of ws = map (λ w. w.1) (in_order ws)
 
 -- no two have the same number
-abbrev pub AreNumbered : List Waiting → Type 0
-AreNumbered [] = Unit {0}
-AreNumbered (w ∷ ws) = AllByRecursion (λ x. number_of x ≢ number_of w) ws × AreNumbered ws
+abbrev pub NumbersDiffer : List Waiting → Type 0
+NumbersDiffer [] = Unit {0}
+NumbersDiffer (w ∷ ws) = AllByRecursion (λ x. number_of x ≢ number_of w) ws × NumbersDiffer ws
 
 -- each has a number of its own that was given already
 pub record HaveOwnNumbers (ws : List Waiting) (joined : ℕ) : Type 0 where
   pub given : AllByRecursion (λ w. number_of w < joined) ws
-  pub numbered : AreNumbered ws
+  pub numbered : NumbersDiffer ws
 
 -- of two requests, by rank and then by number of joining, the first comes no later than the second
 abbrev pub IsNoLater : ℕ → ℕ → ℕ → ℕ → Type 0
@@ -67,6 +67,6 @@ IsFirstHeld rank waiting key = (request : Request) → Holds waiting key request
     → AllHeld (λ other_key other. IsNoLater (rank request) key.1 (rank other) other_key.1) waiting
 
 -- what a queue keeps: the requests that wait, and how many joined
-pub record Pending : Type 0 where
+pub record QueueState : Type 0 where
   pub waiting : List Waiting
   pub joined : ℕ

@@ -24,9 +24,9 @@ pub struct CylinderMap<C: Choice> {
 }
 
 impl<C: Choice> Model for CylinderMap<C> {
-    ghost use Rattle.fb_fastq.specs.Joining.{Pending, HaveOwnNumbers};
+    ghost use Rattle.fb_fastq.specs.Joining.{QueueState, HaveOwnNumbers};
 
-    ghost Value = { Pending };
+    ghost Value = { QueueState };
 
     ghost view = { λ q. record { waiting = q.waiting.entries; joined = q.joined } };
 

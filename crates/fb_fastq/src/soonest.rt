@@ -2,7 +2,7 @@
 ghost use Rattle.std.specs.Prelude.{◌≡◌, ℕ, ◌+◌, ◌*◌, ◌<◌, ◌≤◌, ◌^◌, ◌⊎◌, true, IfSome, ◌-◌, length};
 ghost use Rattle.fb_units.specs.declared.types.Request.{Request};
 ghost use Rattle.fb_geometry.specs.Shape.{IsTrackOf};
-ghost use Rattle.fb_sectormap.specs.Lookup.{track_at};
+ghost use Rattle.fb_sectormap.specs.LookUp.{track_at};
 ghost use Rattle.fb_seek.specs.Positioning.{distance_of};
 ghost use Rattle.fb_service.specs.declared.approach.Departure.{Departure};
 ghost use Rattle.fb_service.specs.Approaching.{IsDeparture};

@@ -36,10 +36,10 @@ pub struct SptfLanes {
 
 impl Model for SptfLanes {
     ghost use Rattle.std.specs.Prelude.{◌++◌};
-    ghost use Rattle.fb_fastq.specs.Joining.{Pending};
+    ghost use Rattle.fb_fastq.specs.Joining.{QueueState};
     ghost use Rattle.fb_fastq.specs.ByCylinder.{all_of_rows, IsDivided, AreOccupied};
 
-    ghost Value = { Pending };
+    ghost Value = { QueueState };
 
     ghost view = { λ q. record { waiting = q.waiting.entries ++ all_of_rows q.rows.items; joined = q.joined } };
 

@@ -180,7 +180,7 @@ impl Geometry {
         self.outline.zones.len() as u32
     }
 
-    /// The zone with an index, counted from 0 in the order of cylinders.
+    /// The zone at this index, counted from 0 in the order of cylinders.
     pub fn zone(&self, i: u32) -> Zone
         requires { i < length self.now.zones }
         ensures { slice_get self.now.zones i ≡ Some result }

@@ -9,7 +9,7 @@ use Rattle.fb_geometry.specs.Angles.{slot_begin}
 use Rattle.fb_geometry.specs.Places.{places}
 use Rattle.fb_geometry.specs.Shape.{Shape, slots_at}
 use Rattle.fb_geometry.specs.Sound.{IsSound}
-use Rattle.fb_sectormap.specs.Lookup.{place_at}
+use Rattle.fb_sectormap.specs.LookUp.{place_at}
 use Rattle.fb_sectormap.specs.Sweeps.{begin_angle, end_angle, sweep_of}
 use Rattle.fb_sectormap.proofs.ByCylinder.{has_place}
 use Rattle.fb_service.specs.declared.disk.Disk.{Disk}

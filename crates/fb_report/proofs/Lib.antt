@@ -14,4 +14,4 @@ pub mod Fields
 pub mod PrintedForms
 pub mod ShownForms
 pub mod PrintedRows
-pub mod Places
+pub mod InPlace

@@ -34,7 +34,7 @@ module _ (grammar : Grammar) where
   unfolding lines_behind
   stops before line row last = rw (row, last) refl
 
-  -- the lines from a place on, with those before it
+  -- the lines from an index on, with those before it
   pub record IsReadOn (before lines : List (List ℕ)) : Type 0 where
     pub parts : List (List ℕ)
     pub are : map ended parts ≡ lines
@@ -49,21 +49,21 @@ module _ (grammar : Grammar) where
       ∙ ap (lines_behind grammar before) (feed_at part (flat_map (λ x. x) lines) whole)
 
   -- the last line stands where no row may
-  last_is : (line : List ℕ) (many place : ℕ) → 2 ≤ many → place + 1 ≡ many → is_in_place grammar many place line ≡ true
+  last_is : (line : List ℕ) (many index : ℕ) → 2 ≤ many → index + 1 ≡ many → is_in_place grammar many index line ≡ true
       → (is_line_of grammar.last line ≡ true) × (is_row grammar line ≡ false)
-  last_is line many place ends at is =
-      let later : (place == 0) ≡ false = grind (arith, nat_tests) in
-      let here : (place + 1 == many) ≡ true = grind (arith, nat_tests) in
+  last_is line many index ends at is =
+      let later : (index == 0) ≡ false = grind (arith, nat_tests) in
+      let here : (index + 1 == many) ≡ true = grind (arith, nat_tests) in
       let last : is_last grammar line ≡ true = rw (later, here) at is in
       let both = and_parts (is_line_of grammar.last line) (not (is_row grammar line)) last in
       (both.0, not-true (is_row grammar line) both.1)
 
-  row_is : (line : List ℕ) (many place : ℕ) (before : List (List ℕ)) → place + 2 ≤ many → length before ≡ place
-      → is_in_place grammar many place line ≡ true → may_follow grammar before line ≡ true
-  row_is line many place [] inside e is = let here : (place == 0) ≡ true = grind (arith, nat_tests) in rw here at is
-  row_is line many place (first ∷ rows) inside e is =
-      let later : (place == 0) ≡ false = grind (arith, nat_tests) in
-      let more : (place + 1 == many) ≡ false = grind (arith, nat_tests) in
+  row_is : (line : List ℕ) (many index : ℕ) (before : List (List ℕ)) → index + 2 ≤ many → length before ≡ index
+      → is_in_place grammar many index line ≡ true → may_follow grammar before line ≡ true
+  row_is line many index [] inside e is = let here : (index == 0) ≡ true = grind (arith, nat_tests) in rw here at is
+  row_is line many index (first ∷ rows) inside e is =
+      let later : (index == 0) ≡ false = grind (arith, nat_tests) in
+      let more : (index + 1 == many) ≡ false = grind (arith, nat_tests) in
       rw (later, more) at is
 
   no_row : (before : List (List ℕ)) (line : List ℕ) → 0 < length before → (is_line_of grammar.last line ≡ true)
@@ -86,24 +86,24 @@ module _ (grammar : Grammar) where
       }
 
   -- the rest is read behind the lines before it
-  read_on : (many place : ℕ) (before lines : List (List ℕ)) → 2 ≤ many → length before ≡ place → place + length lines ≡ many
+  read_on : (many index : ℕ) (before lines : List (List ℕ)) → 2 ≤ many → length before ≡ index → index + length lines ≡ many
       → 0 < length lines
-      → ((k at : ℕ) (line : List ℕ) → at ≡ place + k → slice_get lines k ≡ Some line → IsLine (is_in_place grammar many at) line)
+      → ((k at : ℕ) (line : List ℕ) → at ≡ index + k → slice_get lines k ≡ Some line → IsLine (is_in_place grammar many at) line)
       → IsReadOn before lines
-  read_on many place before [] ends e all some h = absurd (omega arith)
-  read_on many place before (line ∷ []) ends e all some h =
-      let this = h 0 place line (omega arith) refl in
-      let last = no_row before this.part (omega arith) (last_is this.part many place ends (omega arith) this.passes) in
+  read_on many index before [] ends e all some h = absurd (omega arith)
+  read_on many index before (line ∷ []) ends e all some h =
+      let this = h 0 index line (omega arith) refl in
+      let last = no_row before this.part (omega arith) (last_is this.part many index ends (omega arith) this.passes) in
       record {
         parts = this.part ∷ [];
         are = ap (λ x. x ∷ []) (sym this.is_ended);
         read = joined before [] line this.part this.is_ended this.whole ∙ stops before this.part last.0 last.1;
       }
-  read_on many place before (line ∷ next ∷ lines) ends e all some h =
-      let this = h 0 place line (omega arith) refl in
-      read_more (is_in_place grammar many place) before (next ∷ lines) line this
-      (row_is this.part many place before (omega arith) e this.passes)
-      (read_on many (place + 1) (before ++ this.part ∷ []) (next ∷ lines) ends (omega (arith, length-append before (this.part ∷ [])))
+  read_on many index before (line ∷ next ∷ lines) ends e all some h =
+      let this = h 0 index line (omega arith) refl in
+      read_more (is_in_place grammar many index) before (next ∷ lines) line this
+      (row_is this.part many index before (omega arith) e this.passes)
+      (read_on many (index + 1) (before ++ this.part ∷ []) (next ∷ lines) ends (omega (arith, length-append before (this.part ∷ [])))
       (omega arith) (omega arith)
       (λ k at line same is. h (suc k) at line (omega arith) is))
 

@@ -47,11 +47,11 @@ is_row grammar line = list_any (λ forms. is_line_of forms line) grammar.rows
 abbrev pub is_last : Grammar → List ℕ → Bool
 is_last grammar line = is_line_of grammar.last line && not (is_row grammar line)
 
--- the line may stand at this place of so many, counted from 0: the first line, then rows, then the last line
+-- the line may stand at this index, from 0, among so many: the first line, then rows, then the last line
 abbrev pub is_in_place : Grammar → ℕ → ℕ → List ℕ → Bool
-is_in_place grammar many place line =
-    if place == 0 then is_first grammar line
-    else if place + 1 == many then is_last grammar line
+is_in_place grammar many index line =
+    if index == 0 then is_first grammar line
+    else if index + 1 == many then is_last grammar line
     else is_row grammar line
 
 -- ---- reports
@@ -59,7 +59,7 @@ is_in_place grammar many place line =
 -- the lines of a report, each with its line feed and in its place
 pub record IsPrinted (grammar : Grammar) (lines : List (List ℕ)) : Type 0 where
   pub ends : 2 ≤ length lines
-  pub in_place : (place : ℕ) (line : List ℕ) → slice_get lines place ≡ Some line → IsLine (is_in_place grammar (length lines) place) line
+  pub in_place : (index : ℕ) (line : List ℕ) → slice_get lines index ≡ Some line → IsLine (is_in_place grammar (length lines) index) line
 
 -- the reader accepts these lines one after another, and gives each without its line feed
 pub record IsReadBack (grammar : Grammar) (lines : List (List ℕ)) : Type 0 where

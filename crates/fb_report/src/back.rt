@@ -23,7 +23,7 @@ pub fn back_line_count(run: &Run) -> u64
     run.back.len() as u64 + 2
 }
 
-/// The k-th line of the background report, from 0, with its line feed.
+/// The line at this index, counted from 0, of the background report, with its line feed.
 ///
 /// `sector_bytes` is the size of a sector, a multiple of 16, and `names` are the tasks' names.
 pub fn back_line_at(
@@ -32,20 +32,20 @@ pub fn back_line_at(
     names: &TaskNames,
     sector_bytes: u32,
     bytes: Bytes,
-    k: u64,
+    index: u64,
 ) -> Result<Vec<u8>, NoMemory>
     requires whole { sector_bytes % 16 ≡ 0 }
     requires named { AllByRecursion (HasNamedTask names.now) run.now.back }
-    requires line { k < length run.now.back + 2 }
-    ensures value { IfOk result (λ line. slice_get (back_lines names.now sector_bytes bytes run.now) k ≡ Some line.items) }
+    requires line { index < length run.now.back + 2 }
+    ensures value { IfOk result (λ line. slice_get (back_lines names.now sector_bytes bytes run.now) index ≡ Some line.items) }
     ensures form { IfOk result (λ line. 0 < sector_bytes → AreNames names.now → AllByRecursion CountsSectors run.now.back
-        → IsLine (is_in_place back_grammar (length run.now.back + 2) k) line.items) }
+        → IsLine (is_in_place back_grammar (length run.now.back + 2) index) line.items) }
 {
     let rows = run.back.len() as u64;
-    if k == 0 {
+    if index == 0 {
         Ok(back_first(alloc)?)
-    } else if k <= rows {
-        let row = run.back.get(k as usize - 1);
+    } else if index <= rows {
+        let row = run.back.get(index as usize - 1);
         Ok(back_line(alloc, row, names, sector_bytes, bytes)?)
     } else {
         Ok(back_last(alloc, run.end)?)

@@ -22,7 +22,7 @@ pub fn fore_line_count(run: &Run) -> u64
     run.fore.len() as u64 + 2
 }
 
-/// The k-th line of the foreground report, from 0, with its line feed.
+/// The line at this index, counted from 0, of the foreground report, with its line feed.
 ///
 /// `sector_bytes` is the size of a sector, a multiple of 16.
 pub fn fore_line_at(
@@ -30,19 +30,19 @@ pub fn fore_line_at(
     run: &Run,
     sector_bytes: u32,
     bytes: Bytes,
-    k: u64,
+    index: u64,
 ) -> Result<Vec<u8>, NoMemory>
     requires whole { sector_bytes % 16 ≡ 0 }
-    requires line { k < length run.now.fore + 2 }
-    ensures value { IfOk result (λ line. slice_get (fore_lines sector_bytes bytes run.now) k ≡ Some line.items) }
+    requires line { index < length run.now.fore + 2 }
+    ensures value { IfOk result (λ line. slice_get (fore_lines sector_bytes bytes run.now) index ≡ Some line.items) }
     ensures form { IfOk result (λ line. 0 < sector_bytes → AllByRecursion ReadsSectors run.now.fore
-        → IsLine (is_in_place fore_grammar (length run.now.fore + 2) k) line.items) }
+        → IsLine (is_in_place fore_grammar (length run.now.fore + 2) index) line.items) }
 {
     let rows = run.fore.len() as u64;
-    if k == 0 {
+    if index == 0 {
         Ok(fore_first(alloc)?)
-    } else if k <= rows {
-        let row = run.fore.get(k as usize - 1);
+    } else if index <= rows {
+        let row = run.fore.get(index as usize - 1);
         Ok(fore_line(alloc, row, sector_bytes, bytes)?)
     } else {
         Ok(fore_last(alloc, rows, run.passed_over)?)

@@ -58,7 +58,7 @@ impl<'a> ReportLines<'a> {
         self.lines.len()
     }
 
-    /// The line with an index, counted from 0, without its line feed.
+    /// The line at this index, counted from 0, without its line feed.
     pub fn get(&self, i: usize) -> &[u8]
         requires { i < length self.now }
         ensures { slice_get self.now i ≡ Some result.now }

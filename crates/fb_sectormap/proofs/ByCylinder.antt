@@ -10,7 +10,7 @@ use Rattle.fb_geometry.specs.declared.zone.Zone.{Zone}
 use Rattle.fb_geometry.specs.Shape.{Shape, cylinders_of}
 use Rattle.fb_geometry.specs.Places.{places, data_list, data_list_at}
 use Rattle.fb_geometry.specs.Sound.{IsSound, IsCylinderOf, LiesOn, cylinder_size}
-use Rattle.fb_sectormap.specs.Lookup.{IsAt, place_at, track_at}
+use Rattle.fb_sectormap.specs.LookUp.{IsAt, place_at, track_at}
 use Rattle.fb_sectormap.specs.Cylinders.{IsFirstOf, CylindersRise, IsSectorOf, sectors_before}
 use Rattle.fb_sectormap.proofs.Parts.{length-most, length-same, before-upto, before-more, before-rises, in_part, some_part, IsIn}
 use Rattle.fb_sectormap.proofs.Zones.{AreFollowing, following, list_in_zone, some_zone, by_cylinder, size_most, upto_end}

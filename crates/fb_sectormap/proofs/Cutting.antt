@@ -6,7 +6,7 @@ use Rattle.std.proofs.lemmas.Bool.{or_from, or_left, or_right, eq-eqb, ne_eqb, c
 use Rattle.std.proofs.Math.Nat.{mod-add-mod, mod-eq_of_lt, mod-lt, mod_self}
 use Rattle.fb_geometry.specs.Shape.{Shape}
 use Rattle.fb_sectormap.specs.declared.cut.Cut.{Cut}
-use Rattle.fb_sectormap.specs.Lookup.{place_at}
+use Rattle.fb_sectormap.specs.LookUp.{place_at}
 use Rattle.fb_sectormap.specs.Cutting.{IsOneTurn, cut_of, cutting, with_sector, is_cut_before, is_later}
 
 -- a sector whose block ends with it is a block of its own

@@ -6,7 +6,7 @@ use Rattle.fb_units.specs.declared.types.Place.{Place}
 use Rattle.fb_geometry.specs.Shape.{Shape, slots_at, cylinders_of, IsTrackOf}
 use Rattle.fb_geometry.specs.Places.{places, data_list_at}
 use Rattle.fb_geometry.specs.Sound.{IsSound}
-use Rattle.fb_sectormap.specs.Lookup.{IsAt, place_at, track_at}
+use Rattle.fb_sectormap.specs.LookUp.{IsAt, place_at, track_at}
 use Rattle.fb_sectormap.specs.Cylinders.{IsSectorOf, sectors_before}
 use Rattle.fb_sectormap.proofs.ByCylinder.{placed, place_is, own-at, size-few, count-few, some_get}
 

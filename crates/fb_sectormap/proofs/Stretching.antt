@@ -7,7 +7,7 @@ use Rattle.fb_geometry.specs.Shape.{Shape, slots_at}
 use Rattle.fb_geometry.specs.Places.{places, data_list_at}
 use Rattle.fb_geometry.specs.Sound.{IsSound}
 use Rattle.fb_geometry.specs.Stretches.{IsStretch}
-use Rattle.fb_sectormap.specs.Lookup.{IsAt, place_at, neighbour}
+use Rattle.fb_sectormap.specs.LookUp.{IsAt, place_at, neighbour}
 use Rattle.fb_sectormap.specs.Cylinders.{IsSectorOf}
 use Rattle.fb_sectormap.proofs.ByCylinder.{at_sector, own-at, place_is}
 

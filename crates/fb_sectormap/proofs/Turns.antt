@@ -1,7 +1,7 @@
 -- The sectors of a stretch come by one after another in one turn.
-use Rattle.std.proofs.Common.{◌≡◌, ℕ, ◌+◌, ◌-◌, ◌%◌, ◌<◌, ◌≤◌, List, [], ◌∷◌, true, refl, ap, sym, ◌∙◌, arith, inl, inr}
-use Rattle.std.specs.Prelude.{◌==◌, nat_le, nat_lt}
-use Rattle.std.proofs.lemmas.Bool.{and_from, eq-eqb, lt-ltb, cases_lt, cases_Bool}
+use Rattle.std.proofs.Common.{◌≡◌, ℕ, ◌+◌, ◌-◌, ◌%◌, ◌<◌, ◌≤◌, List, [], ◌∷◌, true, ap, sym, ◌∙◌, arith, inl, inr}
+use Rattle.std.specs.Prelude.{nat_le, nat_lt}
+use Rattle.std.proofs.lemmas.Bool.{and_from, lt-ltb, cases_lt, cases_Bool}
 use Rattle.std.proofs.Math.Nat.{mod-add-mod, mod-eq_of_lt, mod-lt}
 use Rattle.fb_units.proofs.Tracks.{track_itself}
 use Rattle.fb_units.specs.declared.types.Place.{Place}
@@ -9,7 +9,7 @@ use Rattle.fb_units.specs.declared.types.Track.{Track}
 use Rattle.fb_units.specs.Tracks.{same_track}
 use Rattle.fb_geometry.specs.declared.zone.Zone.{Zone}
 use Rattle.fb_geometry.specs.Shape.{Shape, slots_at, offset_at, turn_position}
-use Rattle.fb_sectormap.specs.Lookup.{place_at, neighbour}
+use Rattle.fb_sectormap.specs.LookUp.{place_at, neighbour}
 use Rattle.fb_sectormap.specs.Cutting.{is_later}
 
 -- a track's offset is one of its slots

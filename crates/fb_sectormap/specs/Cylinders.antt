@@ -6,7 +6,7 @@ use Rattle.fb_geometry.specs.Shape.{Shape, cylinders_of}
 use Rattle.fb_geometry.specs.Places.{places, data_list_at}
 use Rattle.fb_geometry.specs.Sound.{IsSound, cylinder_size}
 use Rattle.fb_sectormap.specs.declared.numbering.ZoneStart.{ZoneStart}
-use Rattle.fb_sectormap.specs.Lookup.{track_at}
+use Rattle.fb_sectormap.specs.LookUp.{track_at}
 
 -- the sector is the first one of the cylinder
 pub record IsFirstOf (disk : Shape) (cylinder lbn : ℕ) : Type 0 where

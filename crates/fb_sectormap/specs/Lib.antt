@@ -1,4 +1,4 @@
-pub mod Lookup
+pub mod LookUp
 pub mod Sweeps
 pub mod Cutting
 pub mod Cylinders

@@ -5,7 +5,7 @@ use Rattle.fb_geometry.specs.Places.{places, data_list_at}
 use Rattle.fb_geometry.specs.Even.{IsLookedUp}
 use Rattle.fb_sectormap.specs.declared.run.Run.{Run}
 use Rattle.fb_sectormap.specs.declared.span.Span.{Span}
-use Rattle.fb_sectormap.specs.Lookup.{place_at, track_at, neighbour}
+use Rattle.fb_sectormap.specs.LookUp.{place_at, track_at, neighbour}
 use Rattle.fb_sectormap.specs.Cylinders.{sectors_before}
 
 -- the run has all sectors of its cylinder, and no others

@@ -5,7 +5,7 @@ use Rattle.fb_units.specs.declared.types.Sweep.{Sweep}
 use Rattle.fb_units.specs.Wait.{wait}
 use Rattle.fb_geometry.specs.Shape.{Shape, slots_at}
 use Rattle.fb_geometry.specs.Angles.{slot_begin}
-use Rattle.fb_sectormap.specs.Lookup.{place_at}
+use Rattle.fb_sectormap.specs.LookUp.{place_at}
 
 -- the angle at which a slot begins
 abbrev pub begin_angle : Shape → Place → ℕ

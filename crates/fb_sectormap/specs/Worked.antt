@@ -7,7 +7,7 @@ use Rattle.fb_geometry.specs.declared.layout.Layout.{Layout}
 use Rattle.fb_geometry.specs.declared.layout.Layout.TheVariants.{PerTrack, PerCylinder}
 use Rattle.fb_geometry.specs.Shape.{Shape}
 use Rattle.fb_sectormap.specs.declared.cut.Cut.{Cut}
-use Rattle.fb_sectormap.specs.Lookup.{IsAt}
+use Rattle.fb_sectormap.specs.LookUp.{IsAt}
 use Rattle.fb_sectormap.specs.Cutting.{cutting}
 
 -- such a disk, with a layout, spares per track and per cylinder, defects and grown defects

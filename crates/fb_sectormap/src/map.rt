@@ -2,7 +2,7 @@
 ghost use Rattle.std.specs.Prelude.{◌≡◌, ℕ, ◌+◌, ◌<◌, ◌≤◌, ◌^◌, length, map, IfOk, MatchOption};
 ghost use Rattle.fb_geometry.specs.Shape.{slots_at, cylinders_of, turn_position, IsTrackOf};
 ghost use Rattle.fb_geometry.specs.Places.{places};
-ghost use Rattle.fb_sectormap.specs.Lookup.{IsAt, place_at, track_at, neighbour};
+ghost use Rattle.fb_sectormap.specs.LookUp.{IsAt, place_at, track_at, neighbour};
 ghost use Rattle.fb_sectormap.specs.Runs.{IsRun};
 ghost use Rattle.fb_sectormap.specs.Cylinders.{IsFirstOf, CylindersRise, IsSectorOf, TellsSector, TellsFirst};
 

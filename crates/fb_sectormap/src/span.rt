@@ -2,7 +2,7 @@
 ghost use Rattle.std.specs.Prelude.{◌≡◌, ◌↔◌, ◌+◌, ◌-◌, ◌*◌, ◌%◌, ◌<◌, ◌≤◌, length, true};
 ghost use Rattle.fb_geometry.specs.Shape.{slots_at, IsTrackOf};
 ghost use Rattle.fb_geometry.specs.Places.{places};
-ghost use Rattle.fb_sectormap.specs.Lookup.{place_at};
+ghost use Rattle.fb_sectormap.specs.LookUp.{place_at};
 ghost use Rattle.fb_sectormap.specs.Runs.{IsSpan};
 
 use crate::SectorMap;

@@ -1,4 +1,4 @@
 mod Times
-pub mod Lookup
+pub mod LookUp
 pub mod Rises
 pub mod Far

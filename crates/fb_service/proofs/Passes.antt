@@ -5,7 +5,7 @@ use Rattle.fb_units.proofs.Waits.{wait_least, least_unique, least_of}
 use Rattle.fb_units.specs.declared.types.Place.{Place}
 use Rattle.fb_geometry.specs.Shape.{Shape}
 use Rattle.fb_service.specs.Passing.{begin_from, begin_angle, end_angle}
-use Rattle.fb_sectormap.specs.Lookup.{place_at}
+use Rattle.fb_sectormap.specs.LookUp.{place_at}
 use Rattle.fb_service.specs.Service.{passage_from}
 
 pub begins_at : (shape : Shape) (place : Place) (t waited : ℕ) → waited ≡ wait shape.rotation (begin_angle shape place) t

@@ -6,7 +6,7 @@ use Rattle.fb_units.specs.Wait.{wait}
 use Rattle.fb_units.proofs.Waits.{wait_least}
 use Rattle.fb_geometry.specs.Shape.{Shape, slots_at}
 use Rattle.fb_geometry.specs.Angles.{slot_begin}
-use Rattle.fb_sectormap.specs.Lookup.{place_at, neighbour}
+use Rattle.fb_sectormap.specs.LookUp.{place_at, neighbour}
 use Rattle.fb_service.specs.declared.passage.Passage.{Passage}
 use Rattle.fb_service.specs.declared.passage.Extent.{Extent}
 use Rattle.fb_service.specs.Passing.{begin_from, begin_angle, length_of, turned, ArePassing}

@@ -3,7 +3,7 @@ ghost use Rattle.std.specs.Prelude.{◌≡◌, ℕ, ◌+◌, ◌-◌, ◌*◌, �
 ghost use Rattle.fb_units.specs.Wait.{wait};
 ghost use Rattle.fb_geometry.specs.Shape.{IsTrackOf};
 ghost use Rattle.fb_geometry.specs.Places.{places};
-ghost use Rattle.fb_sectormap.specs.Lookup.{place_at, track_at};
+ghost use Rattle.fb_sectormap.specs.LookUp.{place_at, track_at};
 ghost use Rattle.fb_seek.specs.Positioning.{pos};
 ghost use Rattle.fb_service.specs.Passing.{begin_from};
 ghost use Rattle.fb_service.specs.Approaching.{IsDeparture, IsApproach};

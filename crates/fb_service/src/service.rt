@@ -5,7 +5,7 @@ ghost use Rattle.fb_geometry.specs.Places.{places};
 ghost use Rattle.fb_seek.specs.Positioning.{pos};
 ghost use Rattle.fb_service.specs.Passing.{begin_angle, begin_from, turned, ArePassing};
 ghost use Rattle.std.specs.List.{AllByRecursion};
-ghost use Rattle.fb_sectormap.specs.Lookup.{place_at};
+ghost use Rattle.fb_sectormap.specs.LookUp.{place_at};
 ghost use Rattle.fb_service.specs.Service.{passage_from, IsAccess, accessed, media_of, finish_of};
 ghost use Rattle.fb_service.specs.Extents.{passages_of, all_passages_of, IsUnbroken};
 

@@ -6,7 +6,7 @@ use Rattle.std.specs.BTreeMap.{is_at}
 use Rattle.std.proofs.lemmas.Bool.{cases_lt}
 use Rattle.std.proofs.lemmas.Bool.Decides.{nat_tests}
 use Rattle.fb_store.specs.declared.content.Content.{Content}
-use Rattle.fb_store.specs.Index.{held_of}
+use Rattle.fb_store.specs.Ranges.{held_of}
 
 abbrev Begins : Type 0
 Begins = ℕ → Option (Option Content)

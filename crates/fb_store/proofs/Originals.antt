@@ -12,7 +12,7 @@ use Rattle.fb_store.specs.declared.content.Content.TheVariants.{Filled, Unreadab
 use Rattle.fb_store.specs.declared.content.ContentRun.{ContentRun}
 use Rattle.fb_store.specs.Runs.{IsRun}
 use Rattle.fb_store.specs.Writes.{unwritten, is_within, after_write}
-use Rattle.fb_store.specs.Index.{held_of, begins_at, content_in}
+use Rattle.fb_store.specs.Ranges.{held_of, begins_at, content_in}
 use Rattle.fb_store.proofs.Held.{steady, none_there, none_held}
 
 same_key : (lbn bad : ℕ) → is_at (nat_cmp lbn) bad ≡ (bad == lbn)

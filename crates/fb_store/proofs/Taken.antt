@@ -4,14 +4,13 @@ use Rattle.std.proofs.Common.{arith, sym, ap, ap₂, ◌∙◌, ◌==◌, suc, z
 use Rattle.std.specs.Option.{IsSome}
 use Rattle.std.specs.List.{range_with_len, AllByRecursion}
 use Rattle.std.proofs.lemmas.Bool.{cases_lt}
-use Rattle.std.proofs.lemmas.Bool.Decides.{nat_tests}
 use Rattle.std.proofs.lemmas.Option.{same_Some}
 use Rattle.fb_units.proofs.Comparing.{less_differs, same_number as here, more_differs}
 use Rattle.fb_store.specs.declared.content.Content.{Content}
 use Rattle.fb_store.specs.declared.content.ContentRun.{ContentRun}
 use Rattle.fb_store.specs.Runs.{runs_of, sectors_of, sectors_in}
 use Rattle.fb_store.specs.Writes.{is_within}
-use Rattle.fb_store.specs.Index.{held_at, begins_at}
+use Rattle.fb_store.specs.Ranges.{held_at, begins_at}
 use Rattle.fb_store.specs.Sparse.{after_taking, after_take, after_dropping, held_sector, held_in, EndsBy}
 use Rattle.fb_store.proofs.Held.{none_held}
 use Rattle.fb_store.proofs.Originals.{inside, before, after, goes_on}

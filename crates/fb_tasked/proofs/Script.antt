@@ -66,10 +66,10 @@ follows-first disk calls sessions script tells = record {
 
 -- a registered block stands where its entry does, in the entry's state
 pub registered-at : {disk : Shape} {past : Past} {sessions : List Session} {held : List Entry} (tells : Tells disk past sessions held)
-    (place : ℕ) (entry : Entry) → slice_get held place ≡ Some entry
-    → (slice_get (registered past) place ≡ Some entry.block) × (state past entry.block ≡ entry.state)
+    (index : ℕ) (entry : Entry) → slice_get held index ≡ Some entry
+    → (slice_get (registered past) index ≡ Some entry.block) × (state past entry.block ≡ entry.state)
 unfolding view
-registered-at {past} tells place entry at = back (registered past) place (ap (λ es. slice_get es place) (sym tells.entries) ∙ at) where
+registered-at {past} tells index entry at = back (registered past) index (ap (λ es. slice_get es index) (sym tells.entries) ∙ at) where
   back : (blocks : List Block) (n : ℕ) → slice_get (map (entry_of past) blocks) n ≡ Some entry
       → (slice_get blocks n ≡ Some entry.block) × (state past entry.block ≡ entry.state)
   back [] n there = absurd (grind arith)
@@ -78,27 +78,27 @@ registered-at {past} tells place entry at = back (registered past) place (ap (λ
   back (b ∷ bs) (suc n) there = back bs n there
 
 pub within-at : {disk : Shape} {past : Past} {sessions : List Session} {held : List Entry} (tells : Tells disk past sessions held)
-    (place : ℕ) (entry : Entry) → slice_get held place ≡ Some entry → entry.block.lbn + entry.block.count ≤ 10 ^ 12
-within-at {disk} {past} tells place entry at = (all_at (IsBlockOf disk (length (tasks past)))
-    (registered past) place entry.block tells.on_disk (registered-at tells place entry at).0).within
+    (index : ℕ) (entry : Entry) → slice_get held index ≡ Some entry → entry.block.lbn + entry.block.count ≤ 10 ^ 12
+within-at {disk} {past} tells index entry at = (all_at (IsBlockOf disk (length (tasks past)))
+    (registered past) index entry.block tells.on_disk (registered-at tells index entry at).0).within
 
 -- a block is wanted where its entry says so
-wanted-at : {disk : Shape} {past : Past} {sessions : List Session} {held : List Entry} (tells : Tells disk past sessions held) (place : ℕ)
-    (entry : Entry) → slice_get held place ≡ Some entry → entry.state ≡ Wanted
+wanted-at : {disk : Shape} {past : Past} {sessions : List Session} {held : List Entry} (tells : Tells disk past sessions held) (index : ℕ)
+    (entry : Entry) → slice_get held index ≡ Some entry → entry.state ≡ Wanted
     → (i : ℕ) × (slice_get (wanted past) i ≡ Some entry.block)
 unfolding wanted
-wanted-at {past} tells place entry at is =
-    let there = registered-at tells place entry at in
-    filter_to (λ block. is_wanted (state past block)) (registered past) place entry.block there.0 (ap is_wanted (there.1 ∙ is))
+wanted-at {past} tells index entry at is =
+    let there = registered-at tells index entry at in
+    filter_to (λ block. is_wanted (state past block)) (registered past) index entry.block there.0 (ap is_wanted (there.1 ∙ is))
 
 -- and may be delivered then
 pub follows-may-deliver : {disk : Shape} {calls : List Call} {next : ℕ} {sessions : List Session} {held : List Entry}
-    (h : Follows true disk calls next sessions held) (got : DeliveryRow) (place : ℕ) (content_at : ℕ → Content)
-    → slice_get held place ≡ Some (record { block = got.block; state = Wanted })
+    (h : Follows true disk calls next sessions held) (got : DeliveryRow) (index : ℕ) (content_at : ℕ → Content)
+    → slice_get held index ≡ Some (record { block = got.block; state = Wanted })
     → Gives got.content content_at got.block.lbn got.block.count → MayDeliver disk h.past sessions held got
-follows-may-deliver h got place content_at at gives =
-    let there = wanted-at h.tells place (record { block = got.block; state = Wanted }) at refl in
-    record { tells = h.tells; up_to_date = h.tested refl; place = there.0; wanted = there.1; content_at = content_at; content = gives }
+follows-may-deliver h got index content_at at gives =
+    let there = wanted-at h.tells index (record { block = got.block; state = Wanted }) at refl in
+    record { tells = h.tells; up_to_date = h.tested refl; index = there.0; wanted = there.1; content_at = content_at; content = gives }
 
 -- each task has its row
 pub rows-there : {disk : Shape} {past : Past} {sessions : List Session} {held : List Entry} (tells : Tells disk past sessions held)

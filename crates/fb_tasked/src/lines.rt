@@ -77,9 +77,9 @@ fn task_line(alloc: Global, calls: &Calls, row: &TaskRow) -> Result<String, Allo
 
 // The first letter of a task's name.
 fn name(calls: &Calls, task: u32) -> char {
-    let place = task as usize;
-    if place < calls.names.len() && calls.names.get(place).len() > 0 {
-        char::from(*calls.names.get(place).get(0))
+    let index = task as usize;
+    if index < calls.names.len() && calls.names.get(index).len() > 0 {
+        char::from(*calls.names.get(index).get(0))
     } else {
         '?'
     }

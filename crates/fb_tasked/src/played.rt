@@ -158,7 +158,7 @@ impl PlayedScript {
     // The task's block of that number.
     fn entry(&self, task: u32, number: u32) -> Option<Entry>
         requires { Follows self.now.up_to_date self.now.map self.now.calls.calls.items self.now.called self.now.sessions self.now.wanted }
-        ensures { IfSome result (λ entry. (place : ℕ) × (slice_get self.now.wanted place ≡ Some entry)) }
+        ensures { IfSome result (λ entry. (index : ℕ) × (slice_get self.now.wanted index ≡ Some entry)) }
     {
         if number < self.wanted.counts(task).registered {
             Some(self.wanted.entry(task, number))
@@ -170,8 +170,8 @@ impl PlayedScript {
     // The task's block of that number, if it may be delivered.
     fn wanted_block(&self, task: u32, number: u32) -> Result<Block, Fail>
         requires { Follows self.now.up_to_date self.now.map self.now.calls.calls.items self.now.called self.now.sessions self.now.wanted }
-        ensures { IfOk result (λ block. (self.now.up_to_date ≡ true) × (place : ℕ)
-            × (slice_get self.now.wanted place ≡ Some (record { block = block; state = State.Wanted }))) }
+        ensures { IfOk result (λ block. (self.now.up_to_date ≡ true) × (index : ℕ)
+            × (slice_get self.now.wanted index ≡ Some (record { block = block; state = State.Wanted }))) }
     {
         match self.entry(task, number) {
             Some(entry) => match entry.state {
@@ -192,7 +192,7 @@ impl PlayedScript {
         end: Ns,
     ) -> Result<(), NoMemory>
         requires follows { Follows true self.old.map self.old.calls.calls.items self.old.called self.old.sessions self.old.wanted }
-        requires wanted { (place : ℕ) × (slice_get self.old.wanted place ≡ Some (record { block = block; state = State.Wanted })) }
+        requires wanted { (index : ℕ) × (slice_get self.old.wanted index ≡ Some (record { block = block; state = State.Wanted })) }
         ensures { OnOk result
             (Follows self.new.up_to_date self.new.map self.new.calls.calls.items self.new.called self.new.sessions self.new.wanted) }
     {

@@ -36,11 +36,11 @@ flat_one f k a (suc n) from to others = elim (cases_Bool (a == k)) [
 module _ {disk : Shape} {past : Past} {sessions : List Session} {held : List Entry} (got : DeliveryRow)
     (may : MayDeliver disk past sessions held got) where
   pub placed : WasWanted past got.block
-  placed = was_wanted past got.block may.place may.wanted
+  placed = was_wanted past got.block may.index may.wanted
 
   pub opened : got.block.task < length (tasks past)
   opened = (all_at (IsBlockOf disk (length (tasks past)))
-      (registered past) placed.place got.block may.tells.on_disk placed.registered_there).task
+      (registered past) placed.index got.block may.tells.on_disk placed.registered_there).task
 
   pub within_sessions : got.block.task < length sessions
   within_sessions = omega (arith, opened, may.tells.as_many)
@@ -151,9 +151,9 @@ module _ {disk : Shape} {past : Past} {sessions : List Session} {held : List Ent
   wanted-entry =
       let was = placed got may in (
         entry_of past got.block,
-        was.place,
-        ap (λ es. slice_get es was.place) may.tells.entries
-            ∙ map_at (entry_of past) (registered past) was.place got.block was.registered_there,
+        was.index,
+        ap (λ es. slice_get es was.index) may.tells.entries
+            ∙ map_at (entry_of past) (registered past) was.index got.block was.registered_there,
         ap₂ (λ a b. a && b) (number_same got.block.task got.block.task refl) (number_same got.block.number got.block.number refl),
         was.shown_wanted,
       )

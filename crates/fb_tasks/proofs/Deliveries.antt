@@ -143,8 +143,8 @@ module _ (past : Past) (got : DeliveryRow) where
 
 -- the block that is delivered stands among its task's, and was wanted
 pub record WasWanted (past : Past) (block : Block) : Type 0 where
-  pub place : ℕ
-  pub registered_there : slice_get (registered past) place ≡ Some block
+  pub index : ℕ
+  pub registered_there : slice_get (registered past) index ≡ Some block
   pub shown_wanted : state_in (view past block.task) block ≡ Wanted
   pub bare : (view past block.task).bare block ≡ Wanted
   pub own_place : ℕ
@@ -156,7 +156,7 @@ was_wanted past block i at =
     let found = filter_from (λ b. is_wanted (state past b)) (registered past) i block at in
     let mine = filter_to (λ b. b.task == block.task) (registered past) found.0 block found.1 (number_same block.task block.task refl) in
     record {
-      place = found.0;
+      index = found.0;
       registered_there = found.1;
       shown_wanted = grind (arith, found.2);
       bare = grind (arith, found.2);
@@ -175,10 +175,10 @@ module _ (disk : Shape) (past : Past) (got : DeliveryRow) where
   }
 
 -- the task's own view
-module _ (v : TaskView) (got : DeliveryRow) (place : ℕ) (there : slice_get v.blocks place ≡ Some got.block)
+module _ (v : TaskView) (got : DeliveryRow) (index : ℕ) (there : slice_get v.blocks index ≡ Some got.block)
     (bare : v.bare got.block ≡ Wanted) where
   single : AreNumbered 0 v.blocks → AllByRecursion (λ b. b.number ≡ got.block.number → b ≡ got.block) v.blocks
-  single are_numbered = only_one 0 v.blocks place got.block are_numbered there
+  single are_numbered = only_one 0 v.blocks index got.block are_numbered there
 
   cleaned_still : (cs : List Choice) → AllByRecursion (λ choice. is_cleaned v.work choice ≡ true) cs
       → AllByRecursion (λ choice. is_cleaned (delivered_view got v).work choice ≡ true) cs
@@ -193,7 +193,7 @@ module _ (v : TaskView) (got : DeliveryRow) (place : ℕ) (there : slice_get v.b
   pub at_work_now : (log : clean.Cleaning) → Cleans v.work log → log.unfinished ≡ None → ⊥
   at_work_now log h idle = none_there h.current h.by where
     none_there : (current : Option Choice) → CleansBy v.work log h.done current → ⊥
-    none_there None by = none-some got.block (in_current v got h.done [] place (rw (by.blocks, by.chosen) at there) by.cleaned bare).1
+    none_there None by = none-some got.block (in_current v got h.done [] index (rw (by.blocks, by.chosen) at there) by.cleaned bare).1
     none_there (Some choice) by = none-some choice.segment.number (sym idle ∙ by.unfinished)
 
   delivered-cleans : (content_at : ℕ → Content) (old : clean.Cleaning) (now : List (List (ℕ × Option Content))) → AreNumbered 0 v.blocks
@@ -213,7 +213,7 @@ module _ (v : TaskView) (got : DeliveryRow) (place : ℕ) (there : slice_get v.b
         taken_now None by = tt
         taken_now (Some choice) by =
             let whole = rw by.chosen at by.blocks in
-            let there_now = in_current v got h.done (choice ∷ []) place (rw whole at there) by.cleaned bare in
+            let there_now = in_current v got h.done (choice ∷ []) index (rw whole at there) by.cleaned bare in
             let only =
             all_right (λ (c : Choice). AllByRecursion (λ b. b.number ≡ got.block.number → b ≡ got.block) c.blocks) h.done (choice ∷ [])
             (all_flat (λ b. b.number ≡ got.block.number → b ≡ got.block) (λ (c : Choice). c.blocks) (h.done ++ choice ∷ [])
@@ -232,9 +232,9 @@ module _ (v : TaskView) (got : DeliveryRow) (place : ℕ) (there : slice_get v.b
       let backup : is_backup old.kind ≡ true = ap (λ t. is_backup t.kind) (sym h.terms)
       ∙ (and_parts (is_backup v.terms.kind) (not v.sealed) is_open).0 in
       let image = h.image is_open in record {
-        each = taken-holds v got (held_at old.image) (held_at new.image) content_at 0 place v.blocks (takes.image backup) gives
+        each = taken-holds v got (held_at old.image) (held_at new.image) content_at 0 index v.blocks (takes.image backup) gives
             (h.ascend backup) there (single are_numbered) image.each;
-        only = taken-only v got (held_at old.image) (held_at new.image) content_at place v.blocks (takes.image backup) there image.only;
+        only = taken-only v got (held_at old.image) (held_at new.image) content_at index v.blocks (takes.image backup) there image.only;
       } in
       let log = λ (cleans : is_clean old.kind ≡ true).
       delivered-cleans content_at old.log new.log.taken are_numbered gives (takes.log cleans) (h.log cleans) in

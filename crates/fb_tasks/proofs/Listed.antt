@@ -50,9 +50,9 @@ module _ {sessions : List Session} {listed_touched checked_by_writes : BTreeSet 
   listed_there task session is at = slice_get-get_or sessions task session (listed_within task is) ∙ ap Some (sym at)
 
   -- a task is noted
-  module _ {task : ℕ} {more more_checked : BTreeSet ℕ} (less : task < length sessions)
-      (is : IsNoted task listed_touched checked_by_writes more more_checked) where
-    pub listed_more : AreListed sessions more more_checked
+  module _ {task : ℕ} {more_touched more_checked : BTreeSet ℕ} (less : task < length sessions)
+      (is : IsNoted task listed_touched checked_by_writes more_touched more_checked) where
+    pub listed_more : AreListed sessions more_touched more_checked
     listed_more = record {
       room = h.room;
       listed = λ k session at now. is.stay k (h.listed k session at now);
@@ -62,8 +62,8 @@ module _ {sessions : List Session} {listed_touched checked_by_writes : BTreeSet 
     }
 
     -- and its session changes
-    pub listed_noted : contains nat_cmp more task ≡ true → contains nat_cmp more_checked task ≡ true → (new : Session)
-        → AreListed (set sessions task new) more more_checked
+    pub listed_noted : contains nat_cmp more_touched task ≡ true → contains nat_cmp more_checked task ≡ true → (new : Session)
+        → AreListed (set sessions task new) more_touched more_checked
     listed_noted noted checked_noted new = listed_changed listed_more task new (λ _. noted) (λ _. checked_noted)
 
   -- a session that isn't touched is opened, and is listed as checked by writes if it is a backup

@@ -1,6 +1,6 @@
 -- What is held of sectors and of blocks that ascend; a backup is sealed: its image has the delivered blocks alone.
 use Rattle.fb_store.proofs.Taken.{held_none}
-use Rattle.fb_tasks.proofs.Words.{◌≡◌, ℕ, zero, suc, ◌+◌, ◌<◌, ◌≤◌, List, [], ◌∷◌, true, false, Some, Option, map, refl, arith, append-nil}
+use Rattle.fb_tasks.proofs.Words.{◌≡◌, ℕ, zero, suc, ◌+◌, ◌<◌, ◌≤◌, List, [], ◌∷◌, true, false, Some, Option, refl, arith, append-nil}
 use Rattle.fb_tasks.proofs.Words.{◌-◌, ◌==◌, ◌&&◌, ◌^◌, not, nat_lt, if◌then◌else◌, ◌++◌, Bool, None, length, filter, take, slice_get}
 use Rattle.fb_tasks.proofs.Words.{ap, ap₂, sym, ◌∙◌, subst, inl, inr, AllByRecursion, range_with_len, flat_map, list_any, list_all}
 use Rattle.fb_tasks.proofs.Words.{Content, held_in, EndsBy, is_within, Block, Ascend, entry_of, entry_in, AreNumbered, IsBlockOf}
@@ -170,8 +170,8 @@ numbered_at n (suc k) (b ∷ bs) block h at = omega (arith, numbered_at (n + 1) 
 
 -- the entry of a task's block
 pub record HasEntry (held : List Entry) (task number : ℕ) (entry : Entry) : Type 0 where
-  pub place : ℕ
-  pub at : slice_get held place ≡ Some entry
+  pub index : ℕ
+  pub at : slice_get held index ≡ Some entry
   pub is_block : is_block task number entry ≡ true
   pub within : entry.block.lbn + entry.block.count ≤ 10 ^ 12
 
@@ -179,17 +179,17 @@ module _ {disk : Shape} {past : Past} {held : List Entry} (h : HoldsBlocks disk 
   pub entry_at : (number : ℕ) (block : Block) → slice_get (view past task).blocks number ≡ Some block
       → HasEntry held task number (entry_in (view past task) block)
   entry_at number block at =
-      let place = filter_from (λ (b : Block). b.task == task) (registered past) number block (rw (sym (seen past task).blocks) at) in
+      let index = filter_from (λ (b : Block). b.task == task) (registered past) number block (rw (sym (seen past task).blocks) at) in
       let mine = all_at (λ (b : Block). b.task ≡ task) (view past task).blocks number block (own past task) at in
       subst (HasEntry held task number) (ap (λ t. entry_in (view past t) block) mine) (record {
-        place = place.0;
-        at = rw h.entries (map_at (entry_of past) (registered past) place.0 block place.1);
+        index = index.0;
+        at = rw h.entries (map_at (entry_of past) (registered past) index.0 block index.1);
         is_block = rw (
           number_same block.task task mine,
           number_same block.number number (numbered_at 0 number (view past task).blocks block (h.placed task).numbered at
               ∙ (let e : 0 + number ≡ number = omega arith in e)),
         ) refl;
-        within = (all_at (IsBlockOf disk (length (tasks past))) (registered past) place.0 block h.on_disk place.1).within;
+        within = (all_at (IsBlockOf disk (length (tasks past))) (registered past) index.0 block h.on_disk index.1).within;
       })
 
   pub block_at : (number n : ℕ) → n ≡ (counts_of task held).registered → number < n

@@ -9,7 +9,7 @@ use Rattle.fb_calls.specs.Sessions.{is_backup, is_clean}
 use Rattle.fb_sectormap.specs.declared.cut.Cut.{Cut}
 use Rattle.fb_sectormap.specs.Cutting.{cutting}
 use Rattle.fb_store.specs.declared.content.Content.{Content}
-use Rattle.fb_store.specs.Index.{held_at}
+use Rattle.fb_store.specs.Ranges.{held_at}
 use Rattle.fb_store.specs.Sparse.{after_take}
 use Rattle.fb_store.specs.Writes.{is_within}
 use Rattle.fb_wanted.specs.declared.block.Block.{Block}

@@ -16,10 +16,10 @@ pub record AreListed (sessions : List Session) (listed_touched checked_by_writes
       → (is_backup session.kind && not session.sealed) ≡ true → contains nat_cmp checked_by_writes task ≡ true
   pub within : (task : ℕ) → contains nat_cmp checked_by_writes task ≡ true → task < length sessions
 
--- at most this task was added to the lists, to the first one not before the second
-pub record IsNoted (task : ℕ) (listed_touched checked_by_writes more more_checked : BTreeSet ℕ) : Type 0 where
-  pub stay : (k : ℕ) → contains nat_cmp listed_touched k ≡ true → contains nat_cmp more k ≡ true
+-- at most this task was added to the lists, and to the first list only if it is on the second
+pub record IsNoted (task : ℕ) (listed_touched checked_by_writes more_touched more_checked : BTreeSet ℕ) : Type 0 where
+  pub stay : (k : ℕ) → contains nat_cmp listed_touched k ≡ true → contains nat_cmp more_touched k ≡ true
   pub checked_stay : (k : ℕ) → contains nat_cmp checked_by_writes k ≡ true → contains nat_cmp more_checked k ≡ true
   pub checked_only : (k : ℕ) → contains nat_cmp more_checked k ≡ true → (k ≡ task) ⊎ (contains nat_cmp checked_by_writes k ≡ true)
-  pub covers : (k : ℕ) → contains nat_cmp more k ≡ true
+  pub covers : (k : ℕ) → contains nat_cmp more_touched k ≡ true
       → (contains nat_cmp more_checked k ≡ true) ⊎ (contains nat_cmp listed_touched k ≡ true)

@@ -7,7 +7,7 @@ use Rattle.fb_geometry.specs.Places.{places}
 use Rattle.fb_calls.specs.Blocks.{live_cuts}
 use Rattle.fb_calls.specs.Sessions.{is_backup, is_clean}
 use Rattle.fb_store.specs.declared.content.Content.{Content}
-use Rattle.fb_store.specs.Index.{held_at}
+use Rattle.fb_store.specs.Ranges.{held_at}
 use Rattle.fb_store.specs.Sparse.{held_in}
 use Rattle.fb_store.specs.Runs.{sectors_of}
 use Rattle.fb_store.specs.Writes.{is_within}

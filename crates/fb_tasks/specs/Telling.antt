@@ -57,8 +57,8 @@ tested_at disk past now = tested (test_rows_found (with_choices disk past) now) 
 pub record MayDeliver (disk : Shape) (past : Past) (sessions : List Session) (entries : List Entry) (got : DeliveryRow) : Type 0 where
   pub tells : Tells disk past sessions entries
   pub up_to_date : IsUpToDate past
-  pub place : ℕ
-  pub wanted : slice_get (wanted past) place ≡ Some got.block
+  pub index : ℕ
+  pub wanted : slice_get (wanted past) index ≡ Some got.block
   pub content_at : ℕ → Content
   pub content : Gives got.content content_at got.block.lbn got.block.count
 

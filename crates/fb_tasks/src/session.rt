@@ -1,7 +1,7 @@
 // One session.
 ghost use Rattle.std.specs.Prelude.{◌≡◌, ℕ, [], ◌&&◌, not, None, false, ◌+◌, ◌<◌, ◌^◌};
 ghost use Rattle.fb_calls.specs.Sessions.{is_backup};
-ghost use Rattle.fb_store.specs.Index.{held_at};
+ghost use Rattle.fb_store.specs.Ranges.{held_at};
 ghost use Rattle.fb_tasks.specs.Keeping.{complete_by};
 
 use fb_backup::Image;

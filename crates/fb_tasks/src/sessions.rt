@@ -34,7 +34,7 @@ use std::alloc::Global;
 use std::collections::BTreeSet;
 use std::marker::Model;
 
-/// The sessions in order of opening: a session's place is its task's number.
+/// The sessions in order of opening: a session's index is its task's number.
 ///
 /// To choose and test costs time for each task that was touched since that was last done; a delivery
 /// or a call costs time for its own task. A write costs time for each task of which a block was ever

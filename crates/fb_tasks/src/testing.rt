@@ -3,7 +3,7 @@ ghost use Rattle.std.specs.Prelude.{◌≡◌, ℕ, List, [], ◌∷◌, ◌++�
 ghost use Rattle.std.specs.Prelude.{length, slice_get, OnOk, OnErr, IfOk, IfSome};
 ghost use Rattle.fb_geometry.specs.Shape.{Shape};
 ghost use Rattle.fb_calls.specs.Sessions.{is_backup, is_clean};
-ghost use Rattle.fb_store.specs.Index.{held_at};
+ghost use Rattle.fb_store.specs.Ranges.{held_at};
 ghost use Rattle.fb_wanted.specs.declared.block.Entry.{Entry};
 ghost use Rattle.fb_wanted.specs.Counting.{counts_of};
 ghost use Rattle.fb_wanted.specs.States.{is_block, is_delivered};

@@ -55,7 +55,7 @@ impl Lines for ArrayLines<'_> {
 }
 
 impl ArrayLines<'_> {
-    // The line with an index, counted from 0, in the section of a device.
+    // The line at this index, counted from 0, in the section of a device.
     fn section_line(&self, alloc: Global, device: usize, index: u64) -> Result<Vec<u8>, NoMemory>
         requires size { self.now.sector_bytes % 16 ≡ 0 }
         requires told { AllByRecursion CanTellFore self.now.runs.now }

@@ -29,7 +29,7 @@ pub trait Lines {
         ensures value { result ≡ length (lines self.now) }
         ensures ends { 2 ≤ result };
 
-    /// The line with an index, counted from 0, with its line feed.
+    /// The line at this index, counted from 0, with its line feed.
     ///
     /// The only error is out of memory.
     fn line(&self, alloc: Global, index: u64) -> Result<Vec<u8>, NoMemory>

@@ -67,7 +67,7 @@ impl<T> Items<T> {
         self.items.len()
     }
 
-    /// The item with an index, counted from 0.
+    /// The item at this index, counted from 0.
     pub fn get(&self, i: usize) -> &T
         requires { i < length self.now }
         ensures { slice_get self.now i ≡ Some result.now }

@@ -123,7 +123,7 @@ fn add_to_look_up(
 
 impl Wanted {
     // How many blocks of the task are registered.
-    fn registered_by(&self, task: u32) -> u32
+    fn registered_count(&self, task: u32) -> u32
         ensures { result ≡ length (filter (is_of_task task) self.now) }
     {
         self.counts(task).registered
@@ -137,7 +137,7 @@ impl Wanted {
         *self.tasks[task as usize].indexes.get(number as usize)
     }
 
-    // The entry with an index among all registered blocks.
+    // The entry at this index among all registered blocks.
     fn entry_at(&self, index: u32) -> Entry
         requires { index < length self.now }
         ensures { slice_get self.now index ≡ Some result }
@@ -145,7 +145,7 @@ impl Wanted {
         self.entries[index as usize]
     }
 
-    // The task's block with this number.
+    // The entry of the task's block with this number.
     fn entry_of(&self, task: u32, number: u32) -> Entry
         requires { number < length (filter (is_of_task task) self.now) }
         ensures { slice_get (filter (is_of_task task) self.now) number ≡ Some result }
@@ -203,7 +203,7 @@ impl Wanted {
     fn change(&mut self, task: u32, change: Change)
         ensures { self.new ≡ after task change self.old }
     {
-        for number in 0..self.registered_by(task) {
+        for number in 0..self.registered_count(task) {
             self.change_block(task, number, change);
         }
     }
@@ -249,7 +249,7 @@ impl Wanted {
             → HasChanged task change streak es chosen self.new }
     {
         let _ = &self.entries;
-        for number in streak.number..self.registered_by(task) {
+        for number in streak.number..self.registered_count(task) {
             let block = self.entry_of(task, number).block;
             if region_of(block.lbn) != streak.region {
                 return;

@@ -1,7 +1,7 @@
 -- What an answer unfolds to compute a run on a small disk, and short words for the steps of runs.
 use Rattle.std.specs.Prelude.{⊤, List, [], ◌∷◌}
 use Rattle.fb_geometry.specs.Places.{places}
-use Rattle.fb_sectormap.specs.Lookup.{place_at}
+use Rattle.fb_sectormap.specs.LookUp.{place_at}
 use Rattle.fb_sectormap.specs.Sweeps.{sweep_of}
 use Rattle.fb_sectormap.specs.Cutting.{cutting}
 use Rattle.fb_seek.specs.Positioning.{pos}

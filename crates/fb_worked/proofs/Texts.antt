@@ -3,7 +3,7 @@ use Rattle.std.proofs.Common.{refl}
 use Rattle.std.specs.Fmt.{digits}
 use Rattle.hex.specs.Hex.{encode_with}
 use Rattle.fb_geometry.specs.Places.{places}
-use Rattle.fb_sectormap.specs.Lookup.{place_at}
+use Rattle.fb_sectormap.specs.LookUp.{place_at}
 use Rattle.fb_seek.specs.Positioning.{pos}
 use Rattle.fb_service.specs.Passing.{begin_from}
 use Rattle.fb_service.specs.Service.{passages}

@@ -2,7 +2,7 @@
 use Rattle.std.specs.Prelude.{◌≡◌, ℕ, ◌*◌, [], ◌∷◌, length, false}
 use Rattle.fb_units.specs.declared.types.Place.{Place}
 use Rattle.fb_geometry.specs.Places.{places}
-use Rattle.fb_sectormap.specs.Lookup.{IsAt}
+use Rattle.fb_sectormap.specs.LookUp.{IsAt}
 use Rattle.fb_sectormap.specs.Cutting.{cutting}
 use Rattle.fb_sectormap.specs.declared.cut.Cut.{Cut}
 use Rattle.fb_service.specs.declared.passage.Passage.{Passage}

@@ -13,7 +13,7 @@ returns-clause-part c =
       share = c.requires.share;
       most = λ track low high leave is.
           let spill : Spill = record { track = track; leave = leave } in
-          let time = c.most_passing-passing.ensures entries spill blocks low high is in
+          let time = c.most_passing-slots.ensures entries spill blocks low high is in
           elim c.unless_lighter-most.ensures [
             | inl same ↦ omega (arith, time, same)
             | inr light ↦ omega (arith, by_weight search.disk.now search.gap.now entries blocks track leave, light.1 track low high)

@@ -31,7 +31,7 @@ try_cylinder-requires-clause-part c =
       most = λ track low high leave is.
           let spill : Spill = record { track = track; leave = leave } in
           let before : part.from ≤ track.cylinder = omega (arith, low, short.ensures.after, c.if-end-part.false) in
-          let passing = c.most_passing-passing.ensures search.pending.now spill c.requires.search.blocks before high is in
+          let passing = c.most_passing-slots.ensures search.pending.now spill c.requires.search.blocks before high is in
           let few = whole.most track before (omega (arith, high, short.ensures.within)) leave is in
           omega (arith, passing, few, c.min-most.ensures);
     }
@@ -49,7 +49,7 @@ returns-clause-rest c =
           (omega (arith, short.ensures.within));
       most = λ track low high leave is.
           let spill : Spill = record { track = track; leave = leave } in
-          let passing = c.most_passing-passing.ensures search.pending.now spill c.requires.search.blocks low (omega (arith, high)) is in
+          let passing = c.most_passing-slots.ensures search.pending.now spill c.requires.search.blocks low (omega (arith, high)) is in
           let few = whole.most track low (omega (arith, high, short.ensures.within)) leave is in
           omega (arith, passing, few, c.min-most.ensures);
     }

@@ -5,7 +5,7 @@ use Rattle.fb_decide.proofs.deciding.advance.Goals as goal
 pub act-requires-clause-waiting : goal.act-requires-clause-waiting
 act-requires-clause-waiting g c =
     let joined = c.in_ok-course-2.ensures in
-    join_waiting c.requires.ready.waiting joined.within joined.joined joined.left joined.arrived
+    join_waiting c.requires.may_decide.waiting joined.within joined.joined joined.left joined.arrived
 
 pub returns-clause-decided : goal.returns-clause-decided
 returns-clause-decided g c = if_ok_with _ _ _ c.act.result (λ goes_on acted waits past called tells.

@@ -7,23 +7,24 @@ use Rattle.fb_engine.proofs.Looping.{is_full, is_few, rows_fit}
 use Rattle.fb_engine.proofs.engine.run_of.Goals as goal
 
 pub decide_all-requires : goal.decide_all-requires
-decide_all-requires g c = record { gone = c.requires.gone; serves = c.requires.serves }
+decide_all-requires g c = record { advanced = c.requires.advanced; serves = c.requires.serves }
 
 pub add_task_rows-requires : goal.add_task_rows-requires
-add_task_rows-requires g c = let gone = c.in_ok-decide_all.ensures.gone in (_, gone.steps, gone.made)
+add_task_rows-requires g c = let advanced = c.in_ok-decide_all.ensures.advanced in (_, advanced.steps, advanced.made)
 
 pub returns : goal.returns
 returns g c =
     let law = c.decisions_make_a_run.ensures in
-    let gone = c.in_ok-decide_all.ensures.gone in
+    let advanced = c.in_ok-decide_all.ensures.advanced in
     let rows = c.take_rows-rows.result in
     let n = length (tasks c.args.inputs.calls.now.calls.items) in
     let fore = c.take_rows-rows.ensures.fore ∙ c.in_ok-add_task_rows.ensures.fore in
-    let back = c.take_rows-rows.ensures.back ∙ c.in_ok-add_task_rows.ensures.rows _ gone.steps gone.made in
-    let fit = rows_fit gone rows.back back (c.in_ok-add_task_rows.ensures.fits _ gone.steps gone.made) in
+    let back = c.take_rows-rows.ensures.back ∙ c.in_ok-add_task_rows.ensures.rows _ advanced.steps advanced.made in
+    let fit = rows_fit advanced rows.back back (c.in_ok-add_task_rows.ensures.fits _ advanced.steps advanced.made) in
     record {
-      full = is_full gone rows.fore rows.back fore back c.instant-end.result law (c.instant-end.ensures.end _ gone.steps gone.made);
-      few = is_few gone rows.fore fore law;
-      early = c.instant-end.ensures.early _ gone.steps gone.made;
+      full = is_full advanced rows.fore rows.back fore back c.instant-end.result law
+          (c.instant-end.ensures.end _ advanced.steps advanced.made);
+      few = is_few advanced rows.fore fore law;
+      early = c.instant-end.ensures.early _ advanced.steps advanced.made;
       named = λ names e. all_weaker (RowFits n) (HasNamedTask names) (λ row fits. fits names e) rows.back fit;
     }

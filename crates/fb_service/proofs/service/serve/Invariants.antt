@@ -1,7 +1,7 @@
 use Rattle.std.proofs.Common.{◌≡◌, ℕ, ◌+◌, ◌-◌, ◌*◌, ◌<◌, ◌≤◌, ◌^◌, ◌++◌}
 use Rattle.std.specs.List.{AllByRecursion}
 use Rattle.fb_geometry.specs.Shape.{IsTrackOf}
-use Rattle.fb_sectormap.specs.Lookup.{place_at}
+use Rattle.fb_sectormap.specs.LookUp.{place_at}
 use Rattle.fb_service.specs.Passing.{length_of}
 use Rattle.fb_service.specs.Service.{passages}
 use Rattle.fb_service.specs.Extents.{passages_of, all_passages_of, IsUnbroken}

@@ -1,7 +1,7 @@
 use Rattle.std.proofs.Common.{◌+◌, ◌∙◌, arith}
 use Rattle.std.specs.Ordering.{nat_cmp}
 use Rattle.std.specs.BTreeMap.{get}
-use Rattle.fb_store.specs.Index.{held_of}
+use Rattle.fb_store.specs.Ranges.{held_of}
 use Rattle.fb_store.proofs.Taken.{taken_more, take_one}
 use Rattle.fb_store.proofs.sparse.assign_runs.Goals as goal
 

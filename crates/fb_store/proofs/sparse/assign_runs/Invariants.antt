@@ -1,7 +1,7 @@
 use Rattle.std.proofs.Common.{◌≡◌, ℕ, ◌^◌, take}
 use Rattle.std.specs.Ordering.{nat_cmp}
 use Rattle.std.specs.BTreeMap.{get}
-use Rattle.fb_store.specs.Index.{held_of, AreCut}
+use Rattle.fb_store.specs.Ranges.{held_of, AreCut}
 use Rattle.fb_store.specs.Sparse.{after_taking, EndsBy}
 use Rattle.fb_store.specs.Runs.{sectors_of}
 use Rattle.fb_store.proofs.sparse.assign_runs.Given as goal

@@ -1,7 +1,7 @@
 use Rattle.std.proofs.Common.{◌≡◌, ◌∙◌, ap, arith, length, sym, refl}
 use Rattle.std.specs.Prelude.{Some, slice_get}
 use Rattle.fb_report.specs.Printed.{IsLine, is_in_place}
-use Rattle.fb_report.proofs.Places.{all_in_place, one_place_more}
+use Rattle.fb_report.proofs.InPlace.{all_in_place, one_line_more}
 use Rattle.fb_top.proofs.Pieces.{output_on}
 use Rattle.fb_top.proofs.Fronts.{front_of, front_more, holds_more, holds_all, holds_none, rose_since, same_name}
 use Rattle.fb_top.proofs.writing.write_lines.Goals as goal
@@ -74,7 +74,7 @@ loop-index-preserved g c =
       name = same_name c.args.name.now (now.outputs which).name (new.outputs which).name told.name c.loop-index.invariant.name;
       lines = holds_more (now.outputs which).written
           (new.outputs which).written lines c.loop-index.index c.as_slice.result.now c.loop-index.invariant.lines line told.whole;
-      in_place = λ can. one_place_more (λ index line. IsLine (is_in_place (g.L.Lines.grammar c.args.lines.now) (length lines) index) line)
+      in_place = λ can. one_line_more (λ index line. IsLine (is_in_place (g.L.Lines.grammar c.args.lines.now) (length lines) index) line)
           lines c.loop-index.index c.in-Ok-line.line.items c.in-Ok-line.ensures.value
           (c.loop-index.invariant.in_place can) (c.in-Ok-line.ensures.form can);
     }

@@ -11,7 +11,7 @@ write_block-requires-clause-pending c =
     let old = c.args.self.now in
     let row = c.args.row.now in
     let l = c.loop-catch in
-    let stay = c.stay_of-stay in
+    let stay = c.dwell_of-stay in
     let items = c.deref-catch-items.result.now in
     let start : Track = record { cylinder = 0; head = 0 } in
     let still : Sweep = record { begin = 0; length = 0 } in

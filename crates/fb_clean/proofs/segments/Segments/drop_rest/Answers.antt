@@ -8,6 +8,6 @@ pub invariant_of-self : goal.invariant_of-self
 invariant_of-self c =
     sound_left c.self.inside.block c.self.inside.segments.items _ c.self.inside.unfinished
     (length c.self.inside.taken.items) c.self.invariant
-    (take_at c.stop_all.new.segments _ c.self.inside.segments.len
-    (ap length c.stop_all.ensures ∙ (length-map c.deref_mut.result.now no_longer_waiting ∙ c.deref_mut.ensures.len))
-    ∙ (c.stop_all.ensures ∙ ap (map no_longer_waiting) c.deref_mut.ensures.value))
+    (take_at c.stop_all_waiting.new.segments _ c.self.inside.segments.len
+    (ap length c.stop_all_waiting.ensures ∙ (length-map c.deref_mut.result.now no_longer_waiting ∙ c.deref_mut.ensures.len))
+    ∙ (c.stop_all_waiting.ensures ∙ ap (map no_longer_waiting) c.deref_mut.ensures.value))

@@ -2,7 +2,7 @@ use Rattle.std.proofs.Common.{ap, ◌∙◌, map}
 use Rattle.std.specs.List.{range_with_len}
 use Rattle.std.proofs.lemmas.Result.{on_ok_weaker}
 use Rattle.fb_rows.specs.declared.back.DeliveryRow.{DeliveryRow}
-use Rattle.fb_store.specs.Index.{content_in}
+use Rattle.fb_store.specs.Ranges.{content_in}
 use Rattle.fb_store.specs.Runs.{sectors_of}
 use Rattle.fb_tasks.proofs.Leaving.{on_ok_both}
 use Rattle.fb_decide.proofs.Delivering.{wanted-on_disk, may-deliver, delivered-one, row-is}
@@ -32,7 +32,7 @@ deliver-requires c =
     )
 
 pub returns : goal.returns
-returns c = on_ok_weaker c.deliver.result (λ all disk past place current at.
+returns c = on_ok_weaker c.deliver.result (λ all disk past index current at.
     let block = c.args.catch.block in
     let gives = ap sectors_of c.in_ok-content.ensures.fewest
     ∙ (c.runs_are_fewest.ensures (map (λ lbn. (lbn, content_in c.args.store.now lbn)) (range_with_len block.lbn block.count))).contents in
@@ -44,8 +44,8 @@ returns c = on_ok_weaker c.deliver.result (λ all disk past place current at.
       bad = c.bad.result;
       content = c.in_ok-content.content;
     } in
-    let may = may-deliver disk past place got c.args.self.now (content_in c.args.store.now) current at gives in
-    delivered-one disk past place got _ c.args.self.now
+    let may = may-deliver disk past index got c.args.self.now (content_in c.args.store.now) current at gives in
+    delivered-one disk past index got _ c.args.self.now
     (record { sessions = c.deliver.new.self; wanted = c.deliver.new.wanted; rows = c.deliver.new.rows })
     (row-is c.args.store.now c.args.how block c.args.catch.begin c.args.catch.end c.bad.result c.in_ok-content.content
     c.in_ok-content.ensures.fewest c.bad.ensures.value)

@@ -8,7 +8,7 @@ use Rattle.fb_decide.proofs.Placing.{delivered-both, left-both}
 use Rattle.fb_decide.proofs.background.Background.go_through.Goals as goal
 
 pub returns-clause-delivered : goal.returns-clause-delivered
-returns-clause-delivered c = on_ok_weaker c.deliver_in_stay-2.result (λ next past current.
+returns-clause-delivered c = on_ok_weaker c.deliver_in_dwell-2.result (λ next past current.
     let disk = c.args.disk.now in
     let holding = c.args.store.now in
     let pushed : TellsUpToDate disk.map past (record {
@@ -17,18 +17,18 @@ returns-clause-delivered c = on_ok_weaker c.deliver_in_stay-2.result (λ next pa
       rows = c.push.new.self;
     }) = record { tells = current.tells; up_to_date = current.up_to_date } in
     subst (λ rows. HasDelivered disk.map past
-    (caught_in_gap disk (held_now holding) c.args.row.gap c.args.row.plan (wanted past)) rows c.deliver_in_stay-2.new.self)
+    (caught_in_gap disk (held_now holding) c.args.row.gap c.args.row.plan (wanted past)) rows c.deliver_in_dwell-2.new.self)
     c.in_ok-push.ensures.ok
     (subst₂ (λ early late. HasDelivered disk.map past (caught_rows disk (held_now holding) ByGap early (wanted past)
-    ++ caught_rows disk (held_now holding) ByGap late (missed disk early (wanted past))) c.push.new.self c.deliver_in_stay-2.new.self)
+    ++ caught_rows disk (held_now holding) ByGap late (missed disk early (wanted past))) c.push.new.self c.deliver_in_dwell-2.new.self)
     c.dwells-pair.ensures.early c.dwells-pair.ensures.late
-    (delivered-both disk holding ByGap c.dwells-pair.result.early c.dwells-pair.result.late past c.push.new.self c.deliver_in_stay.new.self
-    c.deliver_in_stay-2.new.self
-    (c.in_ok-deliver_in_stay.ensures.left past pushed) (c.in_ok-deliver_in_stay.ensures.delivered past pushed) next)))
-    c.deliver_in_stay-2.ensures.delivered
+    (delivered-both disk holding ByGap c.dwells-pair.result.early c.dwells-pair.result.late past c.push.new.self c.deliver_in_dwell.new.self
+    c.deliver_in_dwell-2.new.self
+    (c.in_ok-deliver_in_dwell.ensures.left past pushed) (c.in_ok-deliver_in_dwell.ensures.delivered past pushed) next)))
+    c.deliver_in_dwell-2.ensures.delivered
 
 pub returns-clause-left : goal.returns-clause-left
-returns-clause-left c = on_ok_weaker c.deliver_in_stay-2.result (λ next past current.
+returns-clause-left c = on_ok_weaker c.deliver_in_dwell-2.result (λ next past current.
     let disk = c.args.disk.now in
     let holding = c.args.store.now in
     let pushed : TellsUpToDate disk.map past (record {
@@ -36,10 +36,10 @@ returns-clause-left c = on_ok_weaker c.deliver_in_stay-2.result (λ next past cu
       wanted = c.args.self.now.wanted;
       rows = c.push.new.self;
     }) = record { tells = current.tells; up_to_date = current.up_to_date } in
-    let first = c.in_ok-deliver_in_stay.ensures.delivered past pushed in
+    let first = c.in_ok-deliver_in_dwell.ensures.delivered past pushed in
     subst₂ (λ early late. wanted (past_with past (caught_rows disk (held_now holding) ByGap early (wanted past)
     ++ caught_rows disk (held_now holding) ByGap late (missed disk early (wanted past))))
     ≡ missed disk late (missed disk early (wanted past)))
     c.dwells-pair.ensures.early c.dwells-pair.ensures.late
     (left-both disk holding ByGap c.dwells-pair.result.early c.dwells-pair.result.late past
-    (c.in_ok-deliver_in_stay.ensures.left past pushed) (next _ first.current))) c.deliver_in_stay-2.ensures.left
+    (c.in_ok-deliver_in_dwell.ensures.left past pushed) (next _ first.current))) c.deliver_in_dwell-2.ensures.left

@@ -1,10 +1,10 @@
 use Rattle.fb_decide.proofs.Delivering.{if_ok_with}
-use Rattle.fb_decide.proofs.Looping.{now_ready, now_called, made_one}
+use Rattle.fb_decide.proofs.Looping.{now_may_decide, now_called, made_one}
 use Rattle.fb_decide.proofs.deciding.Decider.decide.Goals as goal
 
 pub advance-requires : goal.advance-requires
 advance-requires g c = record {
-  ready = now_ready _ c.requires.made.0 _ _ _ _ c.requires.made.1 _ c.as_slice.ensures.value;
+  may_decide = now_may_decide _ c.requires.made.0 _ _ _ _ c.requires.made.1 _ c.as_slice.ensures.value;
   serves = c.requires.serves;
   called = now_called _ c.requires.made.0 _ _ _ _ c.requires.made.1 _ c.as_slice.ensures.value;
 }

@@ -11,7 +11,7 @@ returns-clause-made g c =
       known = known;
       list_is = c.in_ok-requests.ensures ∙ ap (λ trace. foreground_list trace c.args.inputs.calls.now.calls.items) c.as_slice.ensures.value;
       come_to = begins _ c.in_ok-course.course (g.Q.Queue.pending c.args.queue)
-          (g.Q.Queue.joined c.args.queue) known c.in_ok-course.ensures.begin c.requires.empty c.requires.fresh;
+          (g.Q.Queue.joined c.args.queue) known c.in_ok-course.ensures.initial c.requires.empty c.requires.fresh;
     }
 
 pub returns-clause-serves : goal.returns-clause-serves

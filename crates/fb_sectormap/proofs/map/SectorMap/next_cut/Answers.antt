@@ -2,7 +2,7 @@ use Rattle.std.proofs.Common.{◌≡◌, ◌-◌, ◌%◌, ◌≤◌, arith, ap,
 use Rattle.fb_units.specs.declared.types.Place.{Place}
 use Rattle.fb_units.specs.declared.types.Sweep.{Sweep}
 use Rattle.fb_units.specs.declared.types.Track.{Track}
-use Rattle.fb_sectormap.specs.Lookup.{place_at, track_at}
+use Rattle.fb_sectormap.specs.LookUp.{place_at, track_at}
 use Rattle.fb_sectormap.specs.Sweeps.{swept, sweep_of}
 use Rattle.fb_sectormap.specs.Cutting.{cutting}
 use Rattle.fb_sectormap.proofs.Cutting.{first_cut-is, one_turn-from}

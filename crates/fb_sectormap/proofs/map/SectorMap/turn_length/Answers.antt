@@ -1,5 +1,5 @@
 use Rattle.std.proofs.Common.{◌≡◌, ◌+◌, ◌-◌, ap, sym, ◌∙◌, arith}
-use Rattle.fb_sectormap.specs.Lookup.{place_at}
+use Rattle.fb_sectormap.specs.LookUp.{place_at}
 use Rattle.fb_sectormap.specs.Cutting.{is_later}
 use Rattle.fb_sectormap.proofs.Turns.{later-inside, later-through}
 use Rattle.fb_sectormap.proofs.map.SectorMap.turn_length.Goals as goal

@@ -1,10 +1,9 @@
-use Rattle.std.proofs.Common.{◌≡◌, ℕ, List, Option, None, ap, sym, ◌∙◌}
+use Rattle.std.proofs.Common.{◌≡◌, List, None, sym}
 use Rattle.fb_seek.specs.declared.point.SeekPoint.{SeekPoint}
-use Rattle.fb_seek.specs.declared.fault.SeekFault.{SeekFault}
 use Rattle.fb_seek.specs.Mechanics.{Mechanics}
 use Rattle.fb_seek.specs.Faults.{first_fault}
 use Rattle.fb_seek.specs.Table.{IsTable}
-use Rattle.fb_seek.proofs.Lookup.{table_of}
+use Rattle.fb_seek.proofs.LookUp.{table_of}
 use Rattle.fb_seek.proofs.Times.{none_yet}
 use Rattle.fb_seek.proofs.mechanism.Mechanism.new.Goals as goal
 

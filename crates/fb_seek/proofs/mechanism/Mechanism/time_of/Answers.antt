@@ -1,7 +1,7 @@
 use Rattle.std.proofs.Common.{◌≡◌, ap, ◌∙◌, subst}
 use Rattle.fb_seek.specs.Mechanics.{Mechanics}
 use Rattle.fb_seek.specs.Table.{IsTable}
-use Rattle.fb_seek.proofs.Lookup.{seek_from, seek_one, within_table}
+use Rattle.fb_seek.proofs.LookUp.{seek_from, seek_one, within_table}
 use Rattle.fb_seek.proofs.mechanism.Mechanism.time_of.Goals as goal
 
 pub returns-then-next-eq0-clause-value : goal.returns-then-next-eq0-clause-value

@@ -1,6 +1,6 @@
 use Rattle.std.proofs.Common.{ap, ◌∙◌, ◌++◌, ◌-◌, sym}
 use Rattle.std.specs.List.{range_with_len}
-use Rattle.fb_store.specs.Index.{held_at}
+use Rattle.fb_store.specs.Ranges.{held_at}
 use Rattle.fb_store.specs.Sparse.{held_in}
 use Rattle.fb_store.specs.Runs.{runs_of, sectors_of}
 use Rattle.fb_store.proofs.Taken.{held_range, held_gap, none_added}

@@ -1,6 +1,6 @@
 use Rattle.std.proofs.Common.{◌≡◌, ◌≤◌, ◌+◌, ◌-◌, ◌++◌}
 use Rattle.std.specs.List.{range_with_len}
-use Rattle.fb_store.specs.Index.{held_at}
+use Rattle.fb_store.specs.Ranges.{held_at}
 use Rattle.fb_store.specs.Sparse.{held_in}
 use Rattle.fb_store.specs.Runs.{runs_of, sectors_of}
 use Rattle.fb_store.proofs.sparse.SparseContents.add_runs.Given as goal

@@ -1,7 +1,7 @@
-use Rattle.std.proofs.Common.{ap, ◌∙◌, Result, Ok, Err, OnErr}
+use Rattle.std.proofs.Common.{ap, ◌∙◌}
 use Rattle.fb_units.proofs.Lists.{on_err}
 use Rattle.fb_store.specs.Sparse.{after_taking}
-use Rattle.fb_store.specs.Index.{held_at}
+use Rattle.fb_store.specs.Ranges.{held_at}
 use Rattle.fb_store.specs.Runs.{sectors_of}
 use Rattle.fb_store.proofs.Taken.{taken_block}
 use Rattle.fb_store.proofs.sparse.SparseContents.take.Goals as goal

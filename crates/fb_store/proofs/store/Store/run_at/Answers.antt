@@ -1,5 +1,5 @@
 use Rattle.std.proofs.Common.{sym, ◌∙◌}
-use Rattle.fb_store.specs.Index.{content_in}
+use Rattle.fb_store.specs.Ranges.{content_in}
 use Rattle.fb_store.proofs.Longest.{IsRun-joined}
 use Rattle.fb_store.proofs.store.Store.run_at.Goals as goal
 

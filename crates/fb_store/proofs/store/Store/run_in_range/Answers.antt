@@ -1,5 +1,5 @@
 use Rattle.std.proofs.Common.{subst, ◌-◌}
-use Rattle.fb_store.specs.Index.{content_in}
+use Rattle.fb_store.specs.Ranges.{content_in}
 use Rattle.fb_store.specs.Runs.{IsRun}
 use Rattle.fb_store.proofs.Originals.{IsRun-written, IsRun-unwritten}
 use Rattle.fb_store.proofs.store.Store.run_in_range.Goals as goal

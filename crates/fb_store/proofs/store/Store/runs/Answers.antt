@@ -1,7 +1,7 @@
 use Rattle.std.proofs.Common.{◌+◌, ap, ◌∙◌, arith}
 use Rattle.std.specs.List.{sum_by}
 use Rattle.fb_store.specs.declared.content.ContentRun.{ContentRun}
-use Rattle.fb_store.specs.Index.{content_in}
+use Rattle.fb_store.specs.Ranges.{content_in}
 use Rattle.fb_store.proofs.Longest.{one_more, all_runs, sum_by-runs_of-held}
 use Rattle.fb_store.proofs.store.Store.runs.Goals as goal
 

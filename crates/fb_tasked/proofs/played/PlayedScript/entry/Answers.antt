@@ -8,7 +8,7 @@ entry-requires c =
     let block = block_at h c.args.task c.args.number c.counts.result.registered (ap (λ (x : Counts). x.registered)
     c.counts.ensures) c.if-number-counts.true in
     let entry = entry_at h c.args.task c.args.number block.0 block.1 in
-    (entry_in (view c.requires.past c.args.task) block.0, entry.place, entry.at, entry.is_block)
+    (entry_in (view c.requires.past c.args.task) block.0, entry.index, entry.at, entry.is_block)
 
 pub returns-then-number-counts : goal.returns-then-number-counts
 returns-then-number-counts c =
@@ -16,6 +16,6 @@ returns-then-number-counts c =
     let block = block_at h c.args.task c.args.number c.counts.result.registered (ap (λ (x : Counts). x.registered)
     c.counts.ensures) c.if-number-counts.true in
     let entry = entry_at h c.args.task c.args.number block.0 block.1 in (
-      entry.place,
-      entry.at ∙ ap Some (c.entry.ensures (entry_in (view c.requires.past c.args.task) block.0) entry.place entry.at entry.is_block),
+      entry.index,
+      entry.at ∙ ap Some (c.entry.ensures (entry_in (view c.requires.past c.args.task) block.0) entry.index entry.at entry.is_block),
     )

@@ -11,7 +11,7 @@ drop_aborted-requires c =
     let holds = c.requires.blocks.2 in
     let block = block_at holds c.args.task c.loop-number.number c.args.registered c.requires.registered c.loop-number-test.true in
     let entry = entry_at holds c.args.task c.loop-number.number block.0 block.1 in
-    (entry_in (view past c.args.task) block.0, entry.place, entry.at, entry.is_block, entry.within)
+    (entry_in (view past c.args.task) block.0, entry.index, entry.at, entry.is_block, entry.within)
 
 pub loop-number-preserved : goal.loop-number-preserved
 loop-number-preserved c = record {
@@ -23,7 +23,7 @@ loop-number-preserved c = record {
   image = λ disk past holds lbn.
       let block = block_at holds c.args.task c.loop-number.number c.args.registered c.requires.registered c.loop-number-test.true in
       let entry = entry_at holds c.args.task c.loop-number.number block.0 block.1 in
-      c.in_ok-drop_aborted.ensures.image (entry_in (view past c.args.task) block.0) entry.place lbn entry.at entry.is_block
+      c.in_ok-drop_aborted.ensures.image (entry_in (view past c.args.task) block.0) entry.index lbn entry.at entry.is_block
       ∙ (ap (without_aborted (entry_in (view past c.args.task) block.0) lbn) (c.loop-number.invariant.image disk past holds lbn)
       ∙ dropped_next (view past c.args.task) lbn (held_at c.args.self.now.image lbn)
       (view past c.args.task).blocks c.loop-number.number block.0 block.1);

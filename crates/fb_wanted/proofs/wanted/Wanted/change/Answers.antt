@@ -14,7 +14,7 @@ change_block-requires c =
     let step = entry_after c.args.task c.args.change in
     let count = ap (λ es. length (filter test es)) c.loop-number.invariant
     ∙ passing-first test step (λ e. refl) c.args.self.now c.loop-number.number in
-    omega (arith, count, c.loop-number-test.true, c.registered_by-number-end.ensures)
+    omega (arith, count, c.loop-number-test.true, c.registered_count-number-end.ensures)
 
 pub loop-number-preserved : goal.loop-number-preserved
 loop-number-preserved c =
@@ -30,4 +30,4 @@ returns c =
     let test = is_of_task c.args.task in
     let step = entry_after c.args.task c.args.change in
     c.loop-number.invariant ∙ first_all test step (others_after c.args.task c.args.change) c.args.self.now c.loop-number.number
-    (omega (arith, c.loop-number-test.false, c.registered_by-number-end.ensures))
+    (omega (arith, c.loop-number-test.false, c.registered_count-number-end.ensures))

@@ -20,10 +20,10 @@ loop-number-init c = record {
 }
 
 pub entry_of-requires : goal.entry_of-requires
-entry_of-requires c = omega (arith, c.loop-number.invariant.size, c.loop-number-test.true, c.registered_by-number-end.ensures)
+entry_of-requires c = omega (arith, c.loop-number.invariant.size, c.loop-number-test.true, c.registered_count-number-end.ensures)
 
 pub change_block-requires : goal.change_block-requires
-change_block-requires c = omega (arith, c.loop-number.invariant.size, c.loop-number-test.true, c.registered_by-number-end.ensures)
+change_block-requires c = omega (arith, c.loop-number.invariant.size, c.loop-number-test.true, c.registered_count-number-end.ensures)
 
 pub loop-number-preserved : goal.loop-number-preserved
 loop-number-preserved c =
@@ -91,6 +91,6 @@ returns c = λ es chosen same.
             length-now,
             length-es,
             c.loop-number-test.false,
-            c.registered_by-number-end.ensures,
+            c.registered_count-number-end.ensures,
           ));
     }

@@ -13,7 +13,7 @@ use Rattle.fb_decide.specs.Making.{RowFits, HasMade}
 use Rattle.fb_decide.specs.FullRuns.{AreRowsOf}
 
 -- these decisions have been made, none of their rows has been taken, and perhaps more follow
-pub record HasGone (inputs : Inputs) (more : Bool) (list : List Request) (course : Course) (pending : List Request)
+pub record HasAdvanced (inputs : Inputs) (more : Bool) (list : List Request) (course : Course) (pending : List Request)
     (count : ℕ) : Type 0 where
   pub steps : List Step
   pub made : HasMade inputs more steps list course pending count

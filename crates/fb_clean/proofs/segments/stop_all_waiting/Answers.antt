@@ -2,7 +2,7 @@ use Rattle.std.proofs.Common.{ap, ◌∙◌, set, get_or, arith}
 use Rattle.std.proofs.lemmas.List.{get_or_default}
 use Rattle.std.proofs.lemmas.List.Edits.{map_over_more}
 use Rattle.fb_clean.specs.Segments.{no_longer_waiting}
-use Rattle.fb_clean.proofs.segments.stop_all.Goals as goal
+use Rattle.fb_clean.proofs.segments.stop_all_waiting.Goals as goal
 
 pub loop-i-preserved : goal.loop-i-preserved
 loop-i-preserved c =

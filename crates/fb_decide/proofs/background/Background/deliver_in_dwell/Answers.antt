@@ -3,7 +3,7 @@ use Rattle.std.proofs.lemmas.Result.{on_ok_weaker}
 use Rattle.fb_decide.specs.Deliveries.{HasDelivered, AreDue}
 use Rattle.fb_decide.proofs.Placing.{wanted-distinct, due-caught, left-caught, rows-of_catches}
 use Rattle.fb_decide.proofs.Delivering.{fits-told}
-use Rattle.fb_decide.proofs.background.Background.deliver_in_stay.Goals as goal
+use Rattle.fb_decide.proofs.background.Background.deliver_in_dwell.Goals as goal
 
 pub caught-requires-clause-blocks : goal.caught-requires-clause-blocks
 caught-requires-clause-blocks c =
