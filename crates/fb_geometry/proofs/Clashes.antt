@@ -1,23 +1,20 @@
 -- Places that are given twice, the marks of places that are given once, and tracks with more of them than spares.
 use Rattle.fb_units.proofs.Lists.{none_of_any, all_filter}
-use Rattle.fb_geometry.proofs.Words.{All-from_get_or, AllByRecursion, AreInOrder, AreSorted, Bool}
-use Rattle.fb_geometry.proofs.Words.{Contains-permutation, HasZones, IsDistinct, IsDistinct-IsPermutation}
-use Rattle.fb_geometry.proofs.Words.{IsPartitionPoint, IsPartitionedBy, IsPermutation, IsPermutation-map}
-use Rattle.fb_geometry.proofs.Words.{IsPermutation-sym, IsSortedBy, IsStrictWeakOrder, List, Mark, Pairwise, Place}
-use Rattle.fb_geometry.proofs.Words.{Shape, Some, [], ap, arith, cases_Bool, cases_lt, cond, drop, false, filter}
-use Rattle.fb_geometry.proofs.Words.{filter-append, find, get_or, get_or_from_slice_get, inl, inr, is_among}
-use Rattle.fb_geometry.proofs.Words.{is_mark_before, is_outside, is_place_before, least, length, length-append}
-use Rattle.fb_geometry.proofs.Words.{length-filter, list_any, list_any-IsPermutation, lt-ltb, ltb-true, map, mark_of}
-use Rattle.fb_geometry.proofs.Words.{nat_lt, nat_tests, none-some, option_map, recursion_from_All, refl, repeated}
-use Rattle.fb_geometry.proofs.Words.{same_Some, same_mark, same_place, slice_get, slice_get-get_or, slice_get_within}
-use Rattle.fb_geometry.proofs.Words.{sorted_far, subst, suc, sum_by-IsPermutation, sym, true, true≢false}
-use Rattle.fb_geometry.proofs.Words.{with_repeated, zero, ℕ, ◌++◌, ◌+◌, ◌-◌, ◌<◌, ◌∙◌, ◌∷◌, ◌≡◌, ◌≤◌, ◌⊎◌}
-use Rattle.fb_geometry.proofs.{Grid.count_cons, Faultless.all_get, Laws.same_places}
-use Rattle.fb_geometry.proofs.{Marking.mark_of-same, Marking.same_marks, Marking.same_mark-refl}
-use Rattle.fb_geometry.proofs.{Marking.point-is, Marking.pairwise_at, Leasts.place_order, Leasts.Among}
-use Rattle.fb_geometry.proofs.{Leasts.among-tail, Leasts.among-left, Leasts.among-right, Leasts.among-append}
-use Rattle.fb_geometry.proofs.{Leasts.among-filter, Leasts.among-filtered, Leasts.among-mapped, Leasts.among-map}
-use Rattle.fb_geometry.proofs.{Leasts.among-any, Leasts.any-among, Leasts.least-head, Leasts.IsOrder}
+use Rattle.fb_geometry.proofs.Words.{All-from_get_or, AllByRecursion, AreInOrder, AreSorted, Bool, Contains-permutation, HasZones}
+use Rattle.fb_geometry.proofs.Words.{IsDistinct, IsDistinct-IsPermutation, IsPartitionPoint, IsPartitionedBy, IsPermutation}
+use Rattle.fb_geometry.proofs.Words.{IsPermutation-map, IsPermutation-sym, IsSortedBy, IsStrictWeakOrder, List, Mark, Pairwise, Place}
+use Rattle.fb_geometry.proofs.Words.{Shape, Some, [], ap, arith, cases_Bool, cases_lt, cond, drop, false, filter, filter-append, find}
+use Rattle.fb_geometry.proofs.Words.{get_or, get_or_from_slice_get, inl, inr, is_among, is_mark_before, is_outside, is_place_before}
+use Rattle.fb_geometry.proofs.Words.{least, length, length-append, length-filter, list_any, list_any-IsPermutation, lt-ltb, ltb-true, map}
+use Rattle.fb_geometry.proofs.Words.{mark_of, nat_lt, nat_tests, none-some, option_map, recursion_from_All, refl, repeated, same_Some}
+use Rattle.fb_geometry.proofs.Words.{same_mark, same_place, slice_get, slice_get-get_or, slice_get_within, sorted_far, subst, suc}
+use Rattle.fb_geometry.proofs.Words.{sum_by-IsPermutation, sym, true, true≢false, with_repeated, zero, ℕ, ◌++◌, ◌+◌, ◌-◌, ◌<◌, ◌∙◌, ◌∷◌}
+use Rattle.fb_geometry.proofs.Words.{◌≡◌, ◌≤◌, ◌⊎◌}
+use Rattle.fb_geometry.proofs.{Grid.count_cons, Faultless.all_get, Laws.same_places, Marking.mark_of-same, Marking.same_marks}
+use Rattle.fb_geometry.proofs.{Marking.same_mark-refl, Marking.point-is, Marking.pairwise_at, Leasts.place_order, Leasts.Among}
+use Rattle.fb_geometry.proofs.{Leasts.among-tail, Leasts.among-left, Leasts.among-right, Leasts.among-append, Leasts.among-filter}
+use Rattle.fb_geometry.proofs.{Leasts.among-filtered, Leasts.among-mapped, Leasts.among-map, Leasts.among-any, Leasts.any-among}
+use Rattle.fb_geometry.proofs.{Leasts.least-head, Leasts.IsOrder}
 
 -- ---- pairs
 

@@ -1,17 +1,15 @@
 -- What holds of an outline without a fault.
 pub use Rattle.fb_units.proofs.Lists.{all_get}
 use Rattle.fb_units.proofs.Lists.{element_at, none_of_any}
-use Rattle.fb_geometry.proofs.Words.{AllByRecursion, AreZoneNumbers, Bool, GeometryFault, HasZones, IsCylinderOf}
-use Rattle.fb_geometry.proofs.Words.{IsFaultless, IsNonDecreasingBy, IsPartitionPoint, IsZone, IsZoneAt, IsZoneOf}
-use Rattle.fb_geometry.proofs.Words.{List, None, Option, Shape, Some, Track, Zone, [], ap, arith, cases_Bool}
-use Rattle.fb_geometry.proofs.Words.{cases_lt, cond, cylinder_spares_at, cylinders_of, data_list, eqb-true}
-use Rattle.fb_geometry.proofs.Words.{fails_before_first, false, fault_at, filter, find, find_at, first_apart, get_or}
-use Rattle.fb_geometry.proofs.Words.{has_no_data, inl, inr, is_bad_zone, is_too_skewed, le-leb, least, leb-true}
-use Rattle.fb_geometry.proofs.Words.{length, lesser, list_among, list_any, lt-leb, lt-ltb, ltb-false, ltb-true}
-use Rattle.fb_geometry.proofs.Words.{nat_le, nat_lt, nat_tests, none-some, offset_at, offset_in, or_else, or_parts}
-use Rattle.fb_geometry.proofs.Words.{position, position_or_len, recursion_from_All, refl, same_Some, slice_get}
-use Rattle.fb_geometry.proofs.Words.{slice_get-get_or, slice_index_or, slots_at, spares_at, subst, suc, sym, true}
-use Rattle.fb_geometry.proofs.Words.{zero, zone_at, zone_tells, ℕ, ◌+◌, ◌<◌, ◌==◌, ◌^◌, ◌||◌, ◌∙◌, ◌∷◌, ◌≡◌, ◌≤◌}
+use Rattle.fb_geometry.proofs.Words.{AllByRecursion, AreZoneNumbers, Bool, GeometryFault, HasZones, IsCylinderOf, IsFaultless}
+use Rattle.fb_geometry.proofs.Words.{IsNonDecreasingBy, IsPartitionPoint, IsZone, IsZoneAt, IsZoneOf, List, None, Option, Shape, Some}
+use Rattle.fb_geometry.proofs.Words.{Track, Zone, [], ap, arith, cases_Bool, cases_lt, cylinder_spares_at, cylinders_of, data_list}
+use Rattle.fb_geometry.proofs.Words.{eqb-true, fails_before_first, false, fault_at, find, find_at, first_apart, get_or, has_no_data, inl}
+use Rattle.fb_geometry.proofs.Words.{inr, is_bad_zone, is_too_skewed, le-leb, least, leb-true, length, lesser, list_among, list_any}
+use Rattle.fb_geometry.proofs.Words.{lt-leb, lt-ltb, ltb-false, ltb-true, nat_le, nat_lt, nat_tests, none-some, offset_at, offset_in}
+use Rattle.fb_geometry.proofs.Words.{or_else, or_parts, position, position_or_len, recursion_from_All, refl, same_Some, slice_get}
+use Rattle.fb_geometry.proofs.Words.{slice_get-get_or, slice_index_or, slots_at, spares_at, subst, suc, sym, true, zero, zone_at}
+use Rattle.fb_geometry.proofs.Words.{zone_tells, ℕ, ◌+◌, ◌<◌, ◌==◌, ◌^◌, ◌||◌, ◌∙◌, ◌∷◌, ◌≡◌, ◌≤◌}
 
 -- ---- chains
 
@@ -60,23 +58,8 @@ module _ (disk : Shape) (sound : HasZones disk) where
       (or_parts ((disk.rotation == 0) || nat_lt (10 ^ 9) disk.rotation || (disk.heads == 0) || nat_lt 64
       disk.heads || (length disk.zones == 0) || nat_lt 64 (length disk.zones)) (list_any (is_bad_zone disk) disk.zones) sound.in_range).1
 
-  pub some_rotation : 0 < disk.rotation
-  some_rotation = grind (arith, nat_tests, sound.in_range)
-
-  pub short_rotation : disk.rotation ≤ 10 ^ 9
-  short_rotation = grind (arith, nat_tests, sound.in_range)
-
-  pub some_heads : 0 < disk.heads
-  some_heads = grind (arith, nat_tests, sound.in_range)
-
-  pub few_heads : disk.heads ≤ 64
-  few_heads = grind (arith, nat_tests, sound.in_range)
-
   pub some_zones : 0 < length disk.zones
   some_zones = grind (arith, nat_tests, sound.in_range)
-
-  pub few_zones : length disk.zones ≤ 64
-  few_zones = grind (arith, nat_tests, sound.in_range)
 
   good_zone : (zone : Zone) → is_bad_zone disk zone ≡ false → is_too_skewed zone ≡ false → IsZone zone
   good_zone zone h k = record {
@@ -288,10 +271,7 @@ point_zone cylinder (zone ∷ other ∷ zones) (suc i) d at h below =
 -- the disk ends where the last zone ends
 pub last_cylinder : (zones : List Zone) (n : ℕ) (d : Zone) → n + 1 ≡ length zones → (get_or zones n d).last + 1 ≡ cylinders_of zones
 last_cylinder [] n d h = absurd (omega arith)
-last_cylinder (zone ∷ []) n d h = ap (λ k. (get_or (zone ∷ []) k d).last + 1) (only n h)
-  where
-    only : (n : ℕ) → n + 1 ≡ length (zone ∷ []) → n ≡ 0
-    only n h = omega arith
+last_cylinder (zone ∷ []) n d h = let only : n ≡ 0 = omega arith in rw only refl
 last_cylinder (zone ∷ other ∷ zones) zero d h = absurd (omega arith)
 last_cylinder (zone ∷ other ∷ zones) (suc n) d h = last_cylinder (other ∷ zones) n d (omega arith)
 

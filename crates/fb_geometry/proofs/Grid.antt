@@ -1,8 +1,7 @@
 -- Reading a list that is made of parts of one length.
 use Rattle.fb_units.proofs.Lists.{get_right, get_left}
-use Rattle.fb_geometry.proofs.Words.{AllByRecursion, Bool, List, Some, [], ap, arith, cases_Bool, cond, filter}
-use Rattle.fb_geometry.proofs.Words.{flat_map, inl, inr, length, length-append, none-some, range_with_len, refl}
-use Rattle.fb_geometry.proofs.Words.{same_Some, slice_get, subst, suc, zero, ℕ, ◌*◌, ◌++◌, ◌+◌, ◌<◌, ◌∙◌, ◌∷◌, ◌≡◌}
+use Rattle.fb_geometry.proofs.Words.{Bool, List, Some, [], ap, arith, cases_Bool, cond, filter, flat_map, inl, inr, length, length-append}
+use Rattle.fb_geometry.proofs.Words.{range_with_len, refl, same_Some, slice_get, suc, zero, ℕ, ◌*◌, ◌+◌, ◌<◌, ◌∙◌, ◌∷◌, ◌≡◌}
 
 pub add_zero : (a : ℕ) → a + 0 ≡ a
 add_zero a = omega arith

@@ -1,22 +1,18 @@
 -- The marks of an accepted outline are its index of bad slots.
 use Rattle.fb_units.proofs.Lists.{all_dropped}
-use Rattle.fb_geometry.proofs.Words.{AllByRecursion, AreInOrder, AreMarksOf, Bool, HasZones, IsAscending, IsIndexed}
-use Rattle.fb_geometry.proofs.Words.{IsZoneAt, IsZoneOf, List, Mark, Place, Shape, Some, Zone, [], among_unmarked, ap}
-use Rattle.fb_geometry.proofs.Words.{arith, by_head, cases_order, cylinder_slots, eq-eqb, false, filter, good_track}
-use Rattle.fb_geometry.proofs.Words.{indexes, inl, inr, is_among, is_mark_before, is_outside, list_any, map, mark_of}
-use Rattle.fb_geometry.proofs.Words.{marks_on, nat_tests, not, or_left, position_in, positions, rank, refl, same_Some}
-use Rattle.fb_geometry.proofs.Words.{same_mark, same_place, slice_get, slice_get_within, slot_at, subst, suc, sym}
-use Rattle.fb_geometry.proofs.Words.{true, true≢false, zone_at, ℕ, ◌*◌, ◌+◌, ◌-◌, ◌<◌, ◌==◌, ◌∙◌, ◌∷◌, ◌≡◌}
-use Rattle.fb_geometry.proofs.{Slips.all_over, Slips.not_among_later, Slips.indexes-ascend, Slips.is_marked_at}
-use Rattle.fb_geometry.proofs.{Slips.index_of, Slips.goes, Slips.rank_free, Slips.rank-below}
-use Rattle.fb_geometry.proofs.{Turns.get-cylinder_slots, Turns.length-cylinder_slots, Turns.good_cylinder-is}
-use Rattle.fb_geometry.proofs.{Faultless.slots_at-zone, Faultless.all_get, Laws.same_places}
-use Rattle.fb_geometry.proofs.{Lookups.slot_of, Lookups.good_lies, Lookups.defects_of, Lookups.good_of}
-use Rattle.fb_geometry.proofs.{Marking.marks_on-ascend, Marking.position_is, Marking.mark_of-slot_at, Marking.on_disk}
-use Rattle.fb_geometry.proofs.{Marking.among-on, Marking.same_marks, Marking.same_mark-refl, Leasts.Among}
-use Rattle.fb_geometry.proofs.{Leasts.among-map, Leasts.among-mapped, Leasts.among-any, Leasts.any-among}
-use Rattle.fb_geometry.proofs.{Clashes.same_place-refl, Clashes.mark_among, Clashes.place_among, Clashes.inside_of}
-use Rattle.fb_geometry.proofs.{Clashes.among_others}
+use Rattle.fb_geometry.proofs.Words.{AllByRecursion, AreInOrder, AreMarksOf, Bool, HasZones, IsAscending, IsIndexed, IsZoneAt, IsZoneOf}
+use Rattle.fb_geometry.proofs.Words.{List, Mark, Place, Shape, Some, Zone, [], among_unmarked, ap, arith, by_head, cases_order}
+use Rattle.fb_geometry.proofs.Words.{cylinder_slots, eq-eqb, false, filter, good_track, indexes, inl, inr, is_among, is_mark_before}
+use Rattle.fb_geometry.proofs.Words.{is_outside, list_any, map, mark_of, marks_on, nat_tests, not, or_left, position_in, positions, rank}
+use Rattle.fb_geometry.proofs.Words.{refl, same_Some, same_mark, same_place, slice_get, slice_get_within, slot_at, subst, suc, sym, true}
+use Rattle.fb_geometry.proofs.Words.{true≢false, zone_at, ℕ, ◌*◌, ◌+◌, ◌-◌, ◌<◌, ◌==◌, ◌∙◌, ◌∷◌, ◌≡◌}
+use Rattle.fb_geometry.proofs.{Slips.all_over, Slips.not_among_later, Slips.indexes-ascend, Slips.is_marked_at, Slips.index_of}
+use Rattle.fb_geometry.proofs.{Slips.goes, Slips.rank_free, Slips.rank-below, Turns.get-cylinder_slots, Turns.length-cylinder_slots}
+use Rattle.fb_geometry.proofs.{Turns.good_cylinder-is, Faultless.slots_at-zone, Faultless.all_get, Laws.same_places, Lookups.slot_of}
+use Rattle.fb_geometry.proofs.{Lookups.good_lies, Lookups.defects_of, Lookups.good_of, Marking.marks_on-ascend, Marking.position_is}
+use Rattle.fb_geometry.proofs.{Marking.mark_of-slot_at, Marking.on_disk, Marking.among-on, Marking.same_marks, Marking.same_mark-refl}
+use Rattle.fb_geometry.proofs.{Leasts.Among, Leasts.among-map, Leasts.among-mapped, Leasts.among-any, Leasts.any-among}
+use Rattle.fb_geometry.proofs.{Clashes.same_place-refl, Clashes.mark_among, Clashes.place_among, Clashes.inside_of, Clashes.among_others}
 
 -- ---- ascending numbers that have the same members
 
@@ -183,7 +179,7 @@ module _ (disk : Shape) (zones : HasZones disk) (defects grown : List Mark) (are
 
       whole-is : by_head disk cylinder (good_track disk zone) ≡ filter (λ place. not (is_among disk.defects place))
           (cylinder_slots zone disk.heads cylinder)
-      whole-is = good_cylinder-is zone disk.heads some disk cylinder refl
+      whole-is = good_cylinder-is disk zone some cylinder
 
       -- the index of a good place, by its mark
       index_is : (place : Place) → place.track.cylinder ≡ cylinder → (mark_of disk place).position ≡ position_in zone disk.heads place

@@ -1,43 +1,30 @@
 -- What the parts of a judgement say of the whole.
-use Rattle.fb_geometry.proofs.Words.{All, All-append, All-from_recursion, All-permutation, Answers, AreSorted, Bool}
-use Rattle.fb_geometry.proofs.Words.{DefectOutside, DefectTwice, Err, Fault, ReadError, GeometryFault}
-use Rattle.fb_geometry.proofs.Words.{GrownOutside, GrownTwice, HasZones, IsFaultless, Judges, JudgesSpares, Layout}
-use Rattle.fb_geometry.proofs.Words.{List, NoMemory, None, Ok, Option, OutOfRange, PerCylinder, PerTrack, Place}
-use Rattle.fb_geometry.proofs.Words.{Result, Shape, SkewTooLarge, Some, TooManyDefects, TooManyInCylinder}
-use Rattle.fb_geometry.proofs.Words.{ZonesNotContiguous, [], ap, append-nil, arith, defect_fault, false, fault_at}
-use Rattle.fb_geometry.proofs.Words.{filter, find, first_apart, first_fault, grown_fault, if◌then◌else◌, is_among}
-use Rattle.fb_geometry.proofs.Words.{is_full_cylinder, is_full_track, is_out_of_range, is_outside, is_place_before}
-use Rattle.fb_geometry.proofs.Words.{is_too_skewed, is_track_before, least, length, nat_lt, nat_tests, none-some}
-use Rattle.fb_geometry.proofs.Words.{option_map, or_else, position, range_fault, refl, repeated, slice_get}
-use Rattle.fb_geometry.proofs.Words.{spare_fault, subst, sym, true, zone_fault, ◌++◌, ◌∙◌, ◌∷◌, ◌≡◌}
-use Rattle.fb_geometry.proofs.{Faultless.or_else-none, Faultless.fault_at-none, Faultless.least-none}
-use Rattle.fb_geometry.proofs.{Faultless.find-none, Leasts.track_order, Leasts.number_order, Clashes.least_repeated}
-use Rattle.fb_geometry.proofs.{Clashes.least_clash, Clashes.least_full}
+use Rattle.fb_geometry.proofs.Words.{All, All-append, All-from_recursion, All-permutation, Answers, AreSorted, Bool, DefectTwice, Err}
+use Rattle.fb_geometry.proofs.Words.{Fault, GeometryFault, GrownOutside, GrownTwice, HasZones, IsFaultless, Judges, JudgesSpares, Layout}
+use Rattle.fb_geometry.proofs.Words.{List, NoMemory, None, Ok, Option, OutOfRange, PerCylinder, PerTrack, Place, ReadError, Result, Shape}
+use Rattle.fb_geometry.proofs.Words.{Some, TooManyDefects, TooManyInCylinder, [], ap, append-nil, arith, defect_fault, false, fault_at}
+use Rattle.fb_geometry.proofs.Words.{filter, find, first_fault, grown_fault, if◌then◌else◌, is_among, is_full_cylinder, is_full_track}
+use Rattle.fb_geometry.proofs.Words.{is_outside, is_place_before, is_track_before, least, nat_lt, nat_tests, none-some, option_map}
+use Rattle.fb_geometry.proofs.Words.{or_else, refl, repeated, slice_get, spare_fault, subst, sym, true, zone_fault, ◌++◌, ◌∙◌, ◌∷◌, ◌≡◌}
+use Rattle.fb_geometry.proofs.{Faultless.or_else-none, Faultless.fault_at-none, Faultless.least-none, Faultless.find-none}
+use Rattle.fb_geometry.proofs.{Leasts.track_order, Leasts.number_order, Clashes.least_repeated, Clashes.least_clash, Clashes.least_full}
 
 -- ---- what holds where there is no fault
 
 pub good_defects : (disk : Shape) → defect_fault disk ≡ None → (find (is_outside disk) disk.defects ≡ None) × (repeated disk.defects ≡ [])
-good_defects disk h =
-    let parts = or_else-none (fault_at DefectOutside (find (is_outside disk) disk.defects))
-    (fault_at DefectTwice (least is_place_before (repeated disk.defects))) h in (
-      fault_at-none DefectOutside (find (is_outside disk) disk.defects) parts.0,
-      least-none is_place_before (repeated disk.defects)
-          (fault_at-none DefectTwice (least is_place_before (repeated disk.defects)) parts.1),
-    )
+good_defects disk h = let parts = or_else-none _ _ h in
+    (fault_at-none _ _ parts.0, least-none is_place_before _ (fault_at-none _ _ parts.1))
 
 pub good_grown : (disk : Shape) → grown_fault disk ≡ None → (find (is_outside disk) disk.grown ≡ None) × (repeated disk.grown ≡ [])
     × (filter (is_among disk.defects) disk.grown ≡ [])
 good_grown disk h =
-    let clash = repeated disk.grown ++ filter (is_among disk.defects) disk.grown in
-    let parts = or_else-none (fault_at GrownOutside (find (is_outside disk) disk.grown))
-    (fault_at GrownTwice (least is_place_before clash)) h in
-    let none : clash ≡ [] = least-none is_place_before clash (fault_at-none GrownTwice (least is_place_before clash) parts.1) in
-    let lists = nil_left (repeated disk.grown) (filter (is_among disk.defects) disk.grown) none in
-    (fault_at-none GrownOutside (find (is_outside disk) disk.grown) parts.0, lists.0, lists.1)
+    let parts = or_else-none _ _ h in
+    let lists = both_empty (repeated disk.grown) _ (least-none is_place_before _ (fault_at-none _ _ parts.1)) in
+    (fault_at-none _ _ parts.0, lists.0, lists.1)
   where
-    nil_left : (xs ys : List Place) → xs ++ ys ≡ [] → (xs ≡ []) × (ys ≡ [])
-    nil_left [] ys h = (refl, h)
-    nil_left (x ∷ xs) ys h = absurd (omega (arith, ap length h))
+    both_empty : (xs ys : List Place) → xs ++ ys ≡ [] → (xs ≡ []) × (ys ≡ [])
+    both_empty [] ys h = (refl, h)
+    both_empty (x ∷ xs) ys h = cc
 
 -- ---- places that are listed twice
 
@@ -80,16 +67,7 @@ or_else-assoc (Some fault) b c = refl
 pub first_fault-is : (disk : Shape)
     → first_fault disk ≡ or_else (zone_fault disk) (or_else (defect_fault disk) (spare_fault disk.layout disk))
 unfolding first_fault
-first_fault-is disk =
-    let range = range_fault disk in
-    let apart = fault_at ZonesNotContiguous (first_apart 0 0 disk.zones) in
-    let skewed = fault_at SkewTooLarge (position is_too_skewed disk.zones) in
-    let outside = fault_at DefectOutside (find (is_outside disk) disk.defects) in
-    let twice = fault_at DefectTwice (least is_place_before (repeated disk.defects)) in
-    let spares = spare_fault disk.layout disk in
-    sym (or_else-assoc range (or_else apart skewed) (or_else (or_else outside twice) spares)
-    ∙ ap (or_else range) (or_else-assoc apart skewed (or_else (or_else outside twice) spares)
-    ∙ ap (λ rest. or_else apart (or_else skewed rest)) (or_else-assoc outside twice spares)))
+first_fault-is disk = simp or_else-assoc
 
 pub fault_of_zones : (disk : Shape) (fault : GeometryFault) → zone_fault disk ≡ Some fault → first_fault disk ≡ Some fault
 fault_of_zones disk fault e = first_fault-is disk ∙ rw e refl
@@ -119,15 +97,9 @@ in_range false h = refl
 
 pub has_zones : (disk : Shape) → zone_fault disk ≡ None → HasZones disk
 has_zones disk h =
-    let a = or_else-none (range_fault disk) (or_else (fault_at ZonesNotContiguous (first_apart 0 0 disk.zones))
-    (fault_at SkewTooLarge (position is_too_skewed disk.zones))) h in
-    let b = or_else-none (fault_at ZonesNotContiguous (first_apart 0 0 disk.zones))
-    (fault_at SkewTooLarge (position is_too_skewed disk.zones)) a.1 in
-    record {
-      in_range = in_range (is_out_of_range disk) a.0;
-      contiguous = fault_at-none ZonesNotContiguous (first_apart 0 0 disk.zones) b.0;
-      skews = fault_at-none SkewTooLarge (position is_too_skewed disk.zones) b.1;
-    }
+    let a = or_else-none _ _ h in
+    let b = or_else-none _ _ a.1 in
+    record { in_range = in_range _ a.0; contiguous = fault_at-none _ _ b.0; skews = fault_at-none _ _ b.1 }
 
 pub faultless : (disk : Shape) → HasZones disk → defect_fault disk ≡ None → spare_fault disk.layout disk ≡ None → IsFaultless disk
 faultless disk zones h k =
@@ -148,8 +120,7 @@ pub cylinder_spares : (disk : Shape) (sorted : List Place) → disk.layout ≡ P
     (find (λ place. is_full_cylinder disk place.track.cylinder) sorted))
 cylinder_spares disk sorted layout h are =
     let outside = fault_at GrownOutside (find (is_outside disk) disk.grown) in
-    let twice = fault_at GrownTwice (least is_place_before (repeated disk.grown ++ filter (is_among disk.defects) disk.grown)) in
-    let parts = or_else-none outside twice h in
+    let parts = or_else-none outside (fault_at GrownTwice (least is_place_before (repeated disk.grown ++ filter (is_among disk.defects) disk.grown))) h in
     rw (layout, parts.0, parts.1) (ap (fault_at TooManyInCylinder)
     (least_full nat_lt number_order (λ place. place.track.cylinder) (λ a b h. grind (arith, nat_tests)) (is_full_cylinder disk)
     (disk.defects ++ disk.grown) sorted are))

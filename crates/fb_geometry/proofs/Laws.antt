@@ -1,23 +1,17 @@
 -- How many slots are good, and how many sectors a cylinder has.
 use Rattle.fb_units.proofs.Tracks.{same_tracks}
 use Rattle.fb_units.proofs.Lists.{all_dropped, all_append}
-use Rattle.fb_geometry.proofs.Words.{All-append, All-filter, All-from_recursion, AllByRecursion, Bool, GrownOutside}
-use Rattle.fb_geometry.proofs.Words.{GrownTwice, IsZoneAt, Layout, List, None, PerCylinder, PerTrack, Place, Shape}
-use Rattle.fb_geometry.proofs.Words.{TooManyDefects, TooManyInCylinder, Track, Zone, [], and_parts, ap, arith}
-use Rattle.fb_geometry.proofs.Words.{by_head, cases_Bool, cond, cylinder_size_by, cylinder_slots, cylinder_spares_at}
-use Rattle.fb_geometry.proofs.Words.{data_list_by, drop, eq-eqb, eqb-true, false, fault_at, filter, filter-append}
-use Rattle.fb_geometry.proofs.Words.{find, flat_map, good_track, has_no_data, inl, inr, is_among, is_full_cylinder}
-use Rattle.fb_geometry.proofs.Words.{is_full_track, is_outside, is_place_before, is_track_before, least, length}
-use Rattle.fb_geometry.proofs.Words.{length-append, length-filter_both, length-map-range_with_len}
-use Rattle.fb_geometry.proofs.Words.{length-range_with_len, length-take-le, list_any, map, mul-le, nat_lt, nat_tests}
-use Rattle.fb_geometry.proofs.Words.{not, or_else, per_cylinder, per_track, position_in, range_with_len}
-use Rattle.fb_geometry.proofs.Words.{recursion_from_All, refl, repeated, replaced, same_place, same_track, slot_at}
-use Rattle.fb_geometry.proofs.Words.{spare_fault, spares_at, stand_in, subst, suc, sym, take, true, zero, ℕ, ◌*◌}
-use Rattle.fb_geometry.proofs.Words.{◌++◌, ◌+◌, ◌-◌, ◌<◌, ◌==◌, ◌||◌, ◌∙◌, ◌∷◌, ◌≡◌, ◌≤◌, ◌⊎◌}
-use Rattle.fb_geometry.proofs.{Grid.length-parts, Grid.add_zero, Grid.add_one, Grid.count_cons}
-use Rattle.fb_geometry.proofs.{Turns.good_cylinder-is, Turns.position_in-slot_at, Turns.length-cylinder_slots}
-use Rattle.fb_geometry.proofs.{Turns.good_track-is, Turns.slot_on, Faultless.fault_at-none, Faultless.or_else-none}
-use Rattle.fb_geometry.proofs.{Faultless.least-none, Faultless.spares_at-zone}
+use Rattle.fb_geometry.proofs.Words.{AllByRecursion, Bool, IsZoneAt, Layout, List, None, PerCylinder, PerTrack, Place, Shape}
+use Rattle.fb_geometry.proofs.Words.{TooManyDefects, TooManyInCylinder, Track, Zone, [], and_parts, ap, arith, by_head, cases_Bool, cond}
+use Rattle.fb_geometry.proofs.Words.{cylinder_size_by, cylinder_slots, cylinder_spares_at, data_list_by, drop, eq-eqb, eqb-true, false}
+use Rattle.fb_geometry.proofs.Words.{filter, filter-append, flat_map, good_track, has_no_data, inl, inr, is_among, is_full_cylinder}
+use Rattle.fb_geometry.proofs.Words.{is_full_track, is_track_before, length, length-append, length-filter_both, length-map-range_with_len}
+use Rattle.fb_geometry.proofs.Words.{length-range_with_len, length-take-le, list_any, map, mul-le, nat_lt, nat_tests, not, position_in}
+use Rattle.fb_geometry.proofs.Words.{range_with_len, refl, replaced, same_place, same_track, slot_at, spare_fault, spares_at, stand_in}
+use Rattle.fb_geometry.proofs.Words.{subst, suc, sym, take, true, zero, ℕ, ◌*◌, ◌++◌, ◌+◌, ◌-◌, ◌<◌, ◌==◌, ◌||◌, ◌∙◌, ◌∷◌, ◌≡◌, ◌≤◌, ◌⊎◌}
+use Rattle.fb_geometry.proofs.{Grid.length-parts, Grid.add_zero, Grid.add_one, Grid.count_cons, Turns.good_cylinder-is}
+use Rattle.fb_geometry.proofs.{Turns.position_in-slot_at, Turns.length-cylinder_slots, Turns.good_track-is, Turns.slot_on}
+use Rattle.fb_geometry.proofs.{Faultless.fault_at-none, Faultless.or_else-none, Faultless.least-none, Faultless.spares_at-zone}
 use Rattle.fb_geometry.proofs.{Faultless.cylinder_spares_at-zone, Marking.length-filter-map}
 
 -- ---- counts
@@ -30,11 +24,8 @@ kept_and_dropped bad xs = length-filter_both bad (λ x. not (bad x)) (λ x. refl
 -- one test or another
 either : {A : Type 0} (p q : A → Bool) (xs : List A) → length (filter (λ x. p x || q x) xs) ≤ length (filter p xs) + length (filter q xs)
 either p q [] = omega arith
-either p q (x ∷ xs) = omega (arith, count_cons (λ x. p x || q x) x xs, count_cons p x xs, count_cons q x xs, one (p x) (q x), either p q xs)
-  where
-    one : (a b : Bool) → cond (a || b) 1 0 ≤ cond a 1 0 + cond b 1 0
-    one true b = omega arith
-    one false b = omega arith
+either p q (x ∷ xs) =
+    grind (arith, nat_tests, count_cons (λ x. p x || q x) x xs, count_cons p x xs, count_cons q x xs, either p q xs)
 
 nothing : {A : Type 0} (xs : List A) → length (filter (λ _. false) xs) ≡ 0
 nothing [] = refl
@@ -69,14 +60,9 @@ once_in test can q a (suc n) h =
       | inr off ↦ rw off (once_in test can q (a + 1) n (λ i l t. ((later i l t).0, omega (arith, (later i l t).1))))
     ]
 
-same_slot : (a b : Place) → same_place a b ≡ true → (same_track a.track b.track ≡ true) × (a.slot ≡ b.slot)
-same_slot a b h = let parts = and_parts (same_track a.track b.track) (a.slot == b.slot) h in (parts.0, eqb-true a.slot b.slot parts.1)
-
 pub same_places : (a b : Place) → same_place a b ≡ true → a ≡ b
-same_places a b h =
-    let parts = same_slot a b h in
-    ap (λ track. record { track = track; slot = a.slot }) (same_tracks a.track b.track parts.0)
-    ∙ ap (λ slot. record { track = b.track; slot = slot }) parts.1
+same_places a b h = let parts = and_parts (same_track a.track b.track) (a.slot == b.slot) h in
+    rw (same_tracks a.track b.track parts.0, eqb-true a.slot b.slot parts.1) refl
 
 module _ (zone : Zone) (some : 0 < zone.sectors) where
   -- a place is no more than once among slots that follow one another, and only where it can be
@@ -100,7 +86,7 @@ module _ (zone : Zone) (some : 0 < zone.sectors) where
       let own : same_track track track ≡ true = grind (arith, nat_tests) in
       omega (
         arith,
-        ap length (good_track-is zone disk.heads some disk track refl),
+        ap length (good_track-is disk zone some track),
         length-map-range_with_len (slot_at zone disk.heads track.cylinder) first zone.sectors,
         kept_and_dropped (is_among disk.defects) slots,
         at_most_each same_place (λ place. same_track track place.track) slots disk.defects (λ d. once_among disk.heads track.cylinder first
@@ -114,18 +100,6 @@ module _ (zone : Zone) (some : 0 < zone.sectors) where
       → length (filter (λ place. same_place place d) (cylinder_slots zone heads cylinder)) ≤ cond (d.track.cylinder == cylinder) 1 0
   once_on_cylinder heads cylinder d = once_among heads cylinder 0 (heads * zone.sectors) d (d.track.cylinder == cylinder)
       (λ i l same. eq-eqb d.track.cylinder cylinder (sym (ap (λ place. place.track.cylinder) same)))
-
-  pub length-good_cylinder : (disk : Shape) (heads cylinder : ℕ)
-      → heads * zone.sectors ≤ length (filter (λ place. not (is_among disk.defects place)) (cylinder_slots zone heads cylinder)) + length
-      (filter (λ place. place.track.cylinder == cylinder) disk.defects)
-  length-good_cylinder disk heads cylinder =
-      omega (
-        arith,
-        length-cylinder_slots zone heads some cylinder,
-        kept_and_dropped (is_among disk.defects) (cylinder_slots zone heads cylinder),
-        at_most_each same_place (λ place. place.track.cylinder == cylinder) (cylinder_slots zone heads cylinder) disk.defects
-            (once_on_cylinder heads cylinder),
-      )
 
 -- ---- spares are enough
 
@@ -146,11 +120,8 @@ few_from spares count (inr few) = grind (arith, nat_tests)
 pub few_on_track : (disk : Shape) (track : Track) → spare_fault PerTrack disk ≡ None
     → length (filter (λ place. same_track track place.track) disk.defects) ≤ spares_at disk.zones track.cylinder
 few_on_track disk track h =
-    let none = all_dropped (is_full_track disk) (map (λ place. place.track) disk.defects)
-    (least-none is_track_before (filter (is_full_track disk) (map (λ place. place.track) disk.defects))
-    (fault_at-none TooManyDefects (least is_track_before (filter (is_full_track disk) (map (λ place. place.track) disk.defects))) h)) in
-    few_from (spares_at disk.zones track.cylinder) (length (filter (λ place. same_track track place.track) disk.defects))
-    (none_or_not (same_track track) (is_full_track disk) (λ place. place.track) track (same_tracks track) disk.defects none)
+    few_from (spares_at disk.zones track.cylinder) _ (none_or_not (same_track track) (is_full_track disk) (λ place. place.track) track
+    (same_tracks track) disk.defects (all_dropped (is_full_track disk) _ (least-none is_track_before _ (fault_at-none TooManyDefects _ h))))
 
 -- what an outline with spares per cylinder keeps
 pub record HasSpares (disk : Shape) : Type 0 where
@@ -159,18 +130,11 @@ pub record HasSpares (disk : Shape) : Type 0 where
 
 pub has_spares : (disk : Shape) → spare_fault PerCylinder disk ≡ None → HasSpares disk
 has_spares disk h =
-    let full = filter (is_full_cylinder disk) (map (λ place. place.track.cylinder) (disk.defects ++ disk.grown)) in
-    let clash = repeated disk.grown ++ filter (is_among disk.defects) disk.grown in
-    let a = or_else-none (fault_at GrownOutside (find (is_outside disk) disk.grown))
-    (or_else (fault_at GrownTwice (least is_place_before clash)) (fault_at TooManyInCylinder (least nat_lt full))) h in
-    let b = or_else-none (fault_at GrownTwice (least is_place_before clash)) (fault_at TooManyInCylinder (least nat_lt full)) a.1 in
-    let none = all_dropped (is_full_cylinder disk) (map (λ place. place.track.cylinder) (disk.defects ++ disk.grown))
-    (least-none nat_lt full (fault_at-none TooManyInCylinder (least nat_lt full) b.1)) in
+    let full = or_else-none _ _ (or_else-none _ _ h).1 in
     record {
-      few = λ cylinder. few_from (cylinder_spares_at disk.zones cylinder)
-          (length (filter (λ place. place.track.cylinder == cylinder) (disk.defects ++ disk.grown)))
-          (none_or_not (λ k. k == cylinder) (is_full_cylinder disk) (λ place. place.track.cylinder) cylinder
-          (λ k e. sym (eqb-true k cylinder e)) (disk.defects ++ disk.grown) none);
+      few = λ cylinder. few_from (cylinder_spares_at disk.zones cylinder) _ (none_or_not (λ k. k == cylinder) (is_full_cylinder disk)
+          (λ place. place.track.cylinder) cylinder (λ k e. sym (eqb-true k cylinder e)) (disk.defects ++ disk.grown)
+          (all_dropped (is_full_cylinder disk) _ (least-none nat_lt _ (fault_at-none TooManyInCylinder _ full.1))));
     }
 
 -- ---- each cylinder of a zone holds as many
@@ -187,26 +151,22 @@ module _ (disk : Shape) (zone : Zone) (cylinder : ℕ) (at : IsZoneAt disk cylin
       → length (take (zone.sectors - zone.spares) (good_track disk zone (record { cylinder = cylinder; head = head })))
       ≡ zone.sectors - zone.spares
   length-track head h =
-      length-take-le (zone.sectors - zone.spares) (good_track disk zone (record { cylinder = cylinder; head = head }))
-      (length-good_track zone some_sectors disk (record { cylinder = cylinder; head = head })
-      (omega (arith, few_on_track disk (record { cylinder = cylinder; head = head }) h, spares_at-zone disk.zones cylinder zone at.found)))
-
-  pub length-per_track : spare_fault PerTrack disk ≡ None → length (per_track disk zone cylinder)
-      ≡ disk.heads * (zone.sectors - zone.spares)
-  length-per_track h =
-      length-parts (λ head. take (zone.sectors - zone.spares) (good_track disk zone (record { cylinder = cylinder; head = head })))
-      (zone.sectors - zone.spares) (λ head. length-track head h) (range_with_len 0 disk.heads)
-      ∙ ap (λ n. n * (zone.sectors - zone.spares)) (length-range_with_len 0 disk.heads)
+      let track : Track = record { cylinder = cylinder; head = head } in
+      length-take-le (zone.sectors - zone.spares) (good_track disk zone track) (length-good_track zone some_sectors disk track
+      (omega (arith, few_on_track disk track h, spares_at-zone disk.zones cylinder zone at.found)))
 
   -- the good list reaches over the base list
-  pub length-good : HasSpares disk → disk.heads * zone.sectors ≤ length (by_head disk cylinder (good_track disk zone)) + length
+  pub length-good : disk.heads * zone.sectors ≤ length (by_head disk cylinder (good_track disk zone)) + length
       (filter (λ place. place.track.cylinder == cylinder) disk.defects)
-  length-good h = omega (
-    arith,
-    ap length (good_cylinder-is zone disk.heads some_sectors disk cylinder refl),
-    length-good_cylinder zone
-        some_sectors disk disk.heads cylinder,
-  )
+  length-good = let slots = cylinder_slots zone disk.heads cylinder in
+      omega (
+        arith,
+        ap length (good_cylinder-is disk zone some_sectors cylinder),
+        length-cylinder_slots zone disk.heads some_sectors cylinder,
+        kept_and_dropped (is_among disk.defects) slots,
+        at_most_each same_place (λ place. place.track.cylinder == cylinder) slots disk.defects
+            (once_on_cylinder zone some_sectors disk.heads cylinder),
+      )
 
   pub few_flaws : HasSpares disk → length (filter (λ place. place.track.cylinder == cylinder) disk.defects) + length
       (filter (λ place. place.track.cylinder == cylinder) disk.grown) ≤ zone.cylinder_spares
@@ -219,22 +179,17 @@ module _ (disk : Shape) (zone : Zone) (cylinder : ℕ) (at : IsZoneAt disk cylin
         (filter (λ place. place.track.cylinder == cylinder) disk.grown),
   )
 
-  pub length-base : HasSpares disk
-      → length (take (disk.heads * zone.sectors - zone.cylinder_spares) (by_head disk cylinder (good_track disk zone)))
-      ≡ disk.heads * zone.sectors - zone.cylinder_spares
-  length-base h = length-take-le (disk.heads * zone.sectors - zone.cylinder_spares) (by_head disk cylinder (good_track disk zone))
-      (omega (arith, length-good h, few_flaws h))
-
-  pub length-per_cylinder : HasSpares disk → length (per_cylinder disk zone cylinder) ≡ disk.heads * zone.sectors - zone.cylinder_spares
-  length-per_cylinder h =
-      let good = by_head disk cylinder (good_track disk zone) in
-      let base = disk.heads * zone.sectors - zone.cylinder_spares in
-      length-replaced disk (take base good) (filter (λ place. not (is_among disk.grown place)) (drop base good)) ∙ length-base h
-
   pub length_data_list : (layout : Layout) → spare_fault layout disk ≡ None → length (data_list_by layout disk zone cylinder)
       ≡ cylinder_size_by layout disk zone
-  length_data_list PerTrack h = length-per_track h
-  length_data_list PerCylinder h = length-per_cylinder (has_spares disk h)
+  length_data_list PerTrack h =
+      length-parts (λ head. take (zone.sectors - zone.spares) (good_track disk zone (record { cylinder = cylinder; head = head })))
+      (zone.sectors - zone.spares) (λ head. length-track head h) (range_with_len 0 disk.heads)
+      ∙ ap (λ n. n * (zone.sectors - zone.spares)) (length-range_with_len 0 disk.heads)
+  length_data_list PerCylinder h =
+      let good = by_head disk cylinder (good_track disk zone) in
+      let base = disk.heads * zone.sectors - zone.cylinder_spares in
+      length-replaced disk (take base good) (filter (λ place. not (is_among disk.grown place)) (drop base good))
+      ∙ length-take-le base good (omega (arith, length-good, few_flaws (has_spares disk h)))
 
 pub some_size : (layout : Layout) (disk : Shape) (zone : Zone) → 0 < disk.heads → has_no_data layout disk zone ≡ false
     → 0 < cylinder_size_by layout disk zone

@@ -1,11 +1,10 @@
 -- Orders of places and tracks, and the least of a list.
 use Rattle.fb_units.proofs.Tracks.{same_tracks}
-use Rattle.fb_units.proofs.Lists.{all_get, get_left, get_right}
-use Rattle.fb_geometry.proofs.Words.{Bool, IsStrictWeakOrder, List, None, Option, Pairwise, Some, [], ap, arith}
-use Rattle.fb_geometry.proofs.Words.{cases_Bool, cases_lt, false, filter, get_or_from_slice_get, inl, inr}
-use Rattle.fb_geometry.proofs.Words.{is_mark_before, is_place_before, is_track_before, least, length, lesser}
-use Rattle.fb_geometry.proofs.Words.{list_any, list_any_at, map, nat_lt, nat_tests, none-some, option_map, or_cases}
-use Rattle.fb_geometry.proofs.Words.{refl, same_Some, slice_get, slice_get-map, slice_get_within, suc, sym, true}
+use Rattle.fb_units.proofs.Lists.{all_get, append_at, filter_to, get_left, get_right, map_at}
+use Rattle.fb_geometry.proofs.Words.{AllByRecursion, Bool, IsStrictWeakOrder, List, None, Option, Pairwise, Some, [], ap, arith}
+use Rattle.fb_geometry.proofs.Words.{cases_Bool, cases_lt, false, filter, get_or_from_slice_get, inl, inr, is_mark_before}
+use Rattle.fb_geometry.proofs.Words.{is_place_before, is_track_before, least, length, lesser, list_any, list_any_at, map, nat_lt}
+use Rattle.fb_geometry.proofs.Words.{nat_tests, none-some, or_cases, refl, same_Some, slice_get, slice_get_within, suc, sym, true}
 use Rattle.fb_geometry.proofs.Words.{true≢false, zero, ℕ, ◌++◌, ◌+◌, ◌-◌, ◌∙◌, ◌∷◌, ◌≡◌, ◌⊎◌}
 use Rattle.fb_geometry.proofs.{Laws.same_places}
 
@@ -88,7 +87,7 @@ least-head {A = A} before order xs (y ∷ ys) to from up = least-is before order
 -- ---- what is among a list that is made of others
 
 pub among-left : {A : Type 0} (xs ys : List A) (x : A) → Among xs x → Among (xs ++ ys) x
-among-left xs ys x one = (one.0, get_left xs ys one.0 (slice_get_within xs one.0 x one.1) ∙ one.1)
+among-left xs ys x one = (one.0, append_at xs ys one.0 x one.1)
 
 pub among-right : {A : Type 0} (xs ys : List A) (x : A) → Among ys x → Among (xs ++ ys) x
 among-right xs ys x one = (length xs + one.0, get_right xs ys one.0 (length xs + one.0) refl ∙ one.1)
@@ -100,29 +99,19 @@ among-append xs ys x one = elim (cases_lt one.0 (length xs)) [
 ]
 
 pub among-filter : {A : Type 0} (test : A → Bool) (xs : List A) (x : A) → Among xs x → test x ≡ true → Among (filter test xs) x
-among-filter test [] x one e = absurd (none-some x one.1)
-among-filter test (y ∷ xs) x (zero, at) e = rw (ap test (same_Some y x at) ∙ e) (0, at)
-among-filter test (y ∷ xs) x (suc k, at) e = elim (cases_Bool (test y)) [
-  | inl in_ ↦ rw in_ (among-tail y x (filter test xs) (among-filter test xs x (k, at) e))
-  | inr out ↦ rw out (among-filter test xs x (k, at) e)
-]
-
-among-cons : {A : Type 0} (x y : A) (xs : List A) → Among (y ∷ xs) x → (y ≡ x) ⊎ Among xs x
-among-cons x y xs (zero, at) = inl (same_Some y x at)
-among-cons x y xs (suc k, at) = inr (k, at)
+among-filter test xs x one e = filter_to test xs one.0 x one.1 e
 
 pub among-filtered : {A : Type 0} (test : A → Bool) (xs : List A) (x : A) → Among (filter test xs) x → Among xs x × (test x ≡ true)
-among-filtered test [] x one = absurd (none-some x one.1)
-among-filtered test (y ∷ xs) x one = elim (cases_Bool (test y)) [
-  | inl in_ ↦ elim (among-cons x y (filter test xs) (rw in_ at one)) [
-    | inl here ↦ ((0, ap Some here), sym (ap test here) ∙ in_)
-    | inr later ↦ let found = among-filtered test xs x later in (among-tail y x xs found.0, found.1)
-  ]
-  | inr out ↦ let found = among-filtered test xs x (rw out at one) in (among-tail y x xs found.0, found.1)
-]
+among-filtered {A = A} test xs x one = all_get (λ y. Among xs y × (test y ≡ true)) (filter test xs) one.0 x (kept xs (λ y one. one)) one.1
+  where
+    kept : (ys : List A) → ((y : A) → Among ys y → Among xs y)
+        → AllByRecursion (λ y. Among xs y × (test y ≡ true)) (filter test ys)
+    kept [] within = tt
+    kept (y ∷ ys) within = let rest = kept ys (λ z one. within z (among-tail y z ys one)) in
+        elim (cases_Bool (test y)) [ inl in_ ↦ rw in_ ((within y (0, refl), in_), rest) | inr out ↦ rw out rest ]
 
 pub among-map : {A B : Type 0} (f : A → B) (xs : List A) (x : A) → Among xs x → Among (map f xs) (f x)
-among-map f xs x one = (one.0, slice_get-map f xs one.0 ∙ ap (option_map f) one.1)
+among-map f xs x one = (one.0, map_at f xs one.0 x one.1)
 
 pub among-mapped : {A B : Type 0} (f : A → B) (xs : List A) (y : B) → Among (map f xs) y → (x : A) × Among xs x × (f x ≡ y)
 among-mapped f [] y one = absurd (none-some y one.1)

@@ -1,29 +1,24 @@
 -- Where the sectors of a cylinder are.
 use Rattle.fb_units.proofs.Comparing.{zero_add}
 use Rattle.fb_units.proofs.Lists.{element_at, get_left, get_right, all_filter, all_map_any}
-use Rattle.fb_geometry.proofs.Words.{AllByRecursion, Bool, HoldsNone, HoldsSector, IfNone, IfSome, IsAscending}
-use Rattle.fb_geometry.proofs.Words.{IsGoodOf, IsZone, IsZoneAt, Layout, LiesOn, List, MatchOption, None, Option}
-use Rattle.fb_geometry.proofs.Words.{PerCylinder, PerTrack, Place, Shape, Some, Track, Zone, [], ap, arith, by_head}
-use Rattle.fb_geometry.proofs.Words.{cases_Bool, cylinder_size_by, cylinder_slots, data_list, data_list_at}
-use Rattle.fb_geometry.proofs.Words.{data_list_by, div-add-mod', div_below, drop, entry_of_sector, false, filter}
-use Rattle.fb_geometry.proofs.Words.{filter-append, good_track, has_no_data, indexes, inl, inr, is_among, length}
-use Rattle.fb_geometry.proofs.Words.{length-append, length-take, length-take-le, map, map-append, mod-lt, mul-le}
-use Rattle.fb_geometry.proofs.Words.{nat_tests, none-some, not, offset_in, position_in, range_with_len, rank, refl}
-use Rattle.fb_geometry.proofs.Words.{replaced, same_Some, same_place, slice_get, slice_get_within, slipped, slot_at}
-use Rattle.fb_geometry.proofs.Words.{spare_fault, stand_in, subst, suc, sym, take, take-append-drop}
-use Rattle.fb_geometry.proofs.Words.{take-map-range_with_len, take-take, true, true≢false, turn, zero, ℕ, ◌%◌, ◌*◌}
-use Rattle.fb_geometry.proofs.Words.{◌++◌, ◌+◌, ◌-◌, ◌/◌, ◌<◌, ◌==◌, ◌∙◌, ◌∷◌, ◌≡◌, ◌≤◌}
-use Rattle.fb_geometry.proofs.{Grid.get_part, Grid.get_range}
-use Rattle.fb_geometry.proofs.{Slips.has, Slips.indexes-ascend, Slips.slipped_to, Slips.is_marked_at}
-use Rattle.fb_geometry.proofs.{Slips.length_front, Slips.goes, Slips.kth, Slips.rank_marked, Slips.rank-below}
-use Rattle.fb_geometry.proofs.{Slips.rank-step, Slips.length-kept, Slips.entry_holds, Slips.one_entry, Slips.held}
-use Rattle.fb_geometry.proofs.{Turns.good_track-is, Turns.good_cylinder-is, Turns.range-append}
-use Rattle.fb_geometry.proofs.{Turns.length-cylinder_slots, Turns.get-cylinder_slots, Turns.position_in-slot_at}
-use Rattle.fb_geometry.proofs.{Turns.slot_at-position_in, Turns.position_below, Faultless.all_get}
-use Rattle.fb_geometry.proofs.{Faultless.slots_at-zone, Faultless.list_among-zone, Laws.HasSpares, Laws.has_spares}
-use Rattle.fb_geometry.proofs.{Laws.length-track, Laws.length-good, Laws.few_flaws, Laws.length_data_list}
-use Rattle.fb_geometry.proofs.{Laws.kept_and_dropped, Laws.at_most_each, Laws.fewer}
-use Rattle.fb_geometry.proofs.{Laws.once_on_cylinder}
+use Rattle.fb_geometry.proofs.Words.{Bool, HoldsNone, HoldsSector, IfNone, IfSome, IsAscending, IsGoodOf, IsZone, IsZoneAt, Layout}
+use Rattle.fb_geometry.proofs.Words.{LiesOn, List, MatchOption, None, Option, PerCylinder, PerTrack, Place, Shape, Some, Track, Zone, []}
+use Rattle.fb_geometry.proofs.Words.{ap, arith, by_head, cases_Bool, cylinder_size_by, cylinder_slots, data_list, data_list_at}
+use Rattle.fb_geometry.proofs.Words.{data_list_by, div-add-mod', div_below, drop, entry_of_sector, false, filter, filter-append}
+use Rattle.fb_geometry.proofs.Words.{good_track, has_no_data, indexes, inl, inr, is_among, length, length-append, length-take}
+use Rattle.fb_geometry.proofs.Words.{length-take-le, map, map-append, mod-lt, mul-le, nat_tests, none-some, not, offset_in, position_in}
+use Rattle.fb_geometry.proofs.Words.{range_with_len, rank, refl, replaced, same_Some, same_place, slice_get, slice_get_within, slipped}
+use Rattle.fb_geometry.proofs.Words.{slot_at, spare_fault, stand_in, subst, suc, sym, take, take-append-drop, take-map-range_with_len}
+use Rattle.fb_geometry.proofs.Words.{take-take, true, true≢false, turn, zero, ℕ, ◌%◌, ◌*◌, ◌++◌, ◌+◌, ◌-◌, ◌/◌, ◌<◌, ◌==◌, ◌∙◌, ◌∷◌, ◌≡◌}
+use Rattle.fb_geometry.proofs.Words.{◌≤◌}
+use Rattle.fb_geometry.proofs.{Grid.get_part, Grid.get_range, Slips.has, Slips.indexes-ascend, Slips.slipped_to, Slips.is_marked_at}
+use Rattle.fb_geometry.proofs.{Slips.length_front, Slips.goes, Slips.kth, Slips.rank_marked, Slips.rank-below, Slips.rank-step}
+use Rattle.fb_geometry.proofs.{Slips.length-kept, Slips.entry_holds, Slips.one_entry, Slips.held, Turns.good_track-is}
+use Rattle.fb_geometry.proofs.{Turns.good_cylinder-is, Turns.range-append, Turns.length-cylinder_slots, Turns.get-cylinder_slots}
+use Rattle.fb_geometry.proofs.{Turns.position_in-slot_at, Turns.slot_at-position_in, Turns.position_below, Faultless.all_get}
+use Rattle.fb_geometry.proofs.{Faultless.slots_at-zone, Faultless.list_among-zone, Laws.HasSpares, Laws.has_spares, Laws.length-track}
+use Rattle.fb_geometry.proofs.{Laws.length-good, Laws.few_flaws, Laws.length_data_list, Laws.kept_and_dropped, Laws.at_most_each}
+use Rattle.fb_geometry.proofs.{Laws.fewer, Laws.once_on_cylinder}
 
 -- the bad slots of a cylinder by their positions, its good slots, and the grown defects by their indexes among these
 abbrev pub defects_of : Shape → Zone → ℕ → List ℕ
@@ -199,7 +194,7 @@ module _ (disk : Shape) (zone : Zone) (cylinder : ℕ) (at : IsZoneAt disk cylin
       let fits : first + n ≤ disk.heads * n = omega (arith, mul-le (head + 1) n disk.heads n (omega arith) (omega arith)) in
       let front = filter is_good (map slot (range_with_len 0 first)) in
       let rest = filter is_good (map slot (range_with_len (first + n) (disk.heads * n - first - n))) in
-      let own = good_track-is zone disk.heads some disk (record { cylinder = cylinder; head = head }) refl in
+      let own = good_track-is disk zone some (record { cylinder = cylinder; head = head }) in
       let whole : disk.heads * n ≡ first + (n + (disk.heads * n - first - n)) = omega arith in
       let cut : good ≡ front ++ (on_track head ++ rest) =
       ap (λ m. filter is_good (map slot (range_with_len 0 m))) whole
@@ -286,7 +281,7 @@ module _ (disk : Shape) (zone : Zone) (cylinder : ℕ) (at : IsZoneAt disk cylin
     spares = filter (λ place. not (is_among disk.grown place)) (drop base (by_head disk cylinder (good_track disk zone)))
 
     whole-is : whole ≡ good
-    whole-is = good_cylinder-is zone disk.heads some disk cylinder refl
+    whole-is = good_cylinder-is disk zone some cylinder
 
     enough_slots : HasSpares disk
     enough_slots = has_spares disk (spares_by PerCylinder layout)
@@ -295,7 +290,7 @@ module _ (disk : Shape) (zone : Zone) (cylinder : ℕ) (at : IsZoneAt disk cylin
     grown_ascend = indexes-ascend (is_among disk.grown) 0 whole
 
     base_inside : base ≤ length whole
-    base_inside = omega (arith, length-good disk zone cylinder at enough_slots, few_flaws disk zone cylinder at enough_slots)
+    base_inside = omega (arith, length-good disk zone cylinder at, few_flaws disk zone cylinder at enough_slots)
 
     few_grown : length grown ≤ length (filter (λ place. place.track.cylinder == cylinder) disk.grown)
     few_grown = omega (
@@ -329,7 +324,7 @@ module _ (disk : Shape) (zone : Zone) (cylinder : ℕ) (at : IsZoneAt disk cylin
       length-append (filter clean (take base whole)) spares,
       length-kept (is_among disk.grown) 0 whole,
       few_grown,
-      length-good disk zone cylinder at enough_slots,
+      length-good disk zone cylinder at,
       few_flaws disk zone cylinder at enough_slots,
     )
 

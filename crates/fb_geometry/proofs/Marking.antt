@@ -1,19 +1,16 @@
 -- Marks: what binary searches find among marks in order, and the marks of places.
-use Rattle.fb_units.proofs.Lists.{all_get, all_at}
-use Rattle.fb_geometry.proofs.Words.{AllByRecursion, AreInOrder, Bool, HasZones, IsAscending, IsNonDecreasingBy}
-use Rattle.fb_geometry.proofs.Words.{IsNonDecreasingBy-drop, IsPartitionPoint, IsZoneOf, List, Mark, None, Pairwise}
-use Rattle.fb_geometry.proofs.Words.{Place, Shape, Some, Zone, [], and_parts, ap, arith, cases_Bool, cases_lt}
-use Rattle.fb_geometry.proofs.Words.{cylinders_of, drop, eqb-true, false, filter, find, get_or, get_or-map, inl, inr}
-use Rattle.fb_geometry.proofs.Words.{is_lt, is_mark_before, is_outside, le-ltb, length, length-map, list_any, lt-ltb}
-use Rattle.fb_geometry.proofs.Words.{ltb-true, map, mark_of, marks_on, nat_cmp, nat_le, nat_lt, nat_tests, not-false}
-use Rattle.fb_geometry.proofs.Words.{offset_at, option_map, ordering_then, position_in, positions, rank, refl}
-use Rattle.fb_geometry.proofs.Words.{same_mark, slice_get, slice_get-get_or, slice_get-map, slipped, slot_at}
-use Rattle.fb_geometry.proofs.Words.{slots_at, subst, suc, sym, take, true, zero, zone_at, ℕ, ◌%◌, ◌&&◌, ◌*◌, ◌+◌}
-use Rattle.fb_geometry.proofs.Words.{◌-◌, ◌<◌, ◌==◌, ◌||◌, ◌∙◌, ◌∷◌, ◌≡◌, ◌≤◌}
-use Rattle.fb_geometry.proofs.{Slips.rank-at, Slips.rank_marked, Slips.rank-step, Slips.rank-below}
-use Rattle.fb_geometry.proofs.{Slips.has, Slips.rank-le_length, Slips.free_behind, Slips.next_marked}
-use Rattle.fb_geometry.proofs.{Turns.position_in-slot_at, Turns.slot_at-position_in, Faultless.slots_at-zone}
-use Rattle.fb_geometry.proofs.{Faultless.offset_at_zone, Faultless.find-none, Faultless.found_zone}
+use Rattle.fb_units.proofs.Lists.{all_at}
+use Rattle.fb_geometry.proofs.Words.{AllByRecursion, AreInOrder, Bool, HasZones, IsAscending, IsNonDecreasingBy, IsNonDecreasingBy-drop}
+use Rattle.fb_geometry.proofs.Words.{IsPartitionPoint, IsZoneOf, List, Mark, None, Pairwise, Place, Shape, Some, Zone, [], and_parts, ap}
+use Rattle.fb_geometry.proofs.Words.{arith, cases_Bool, cases_lt, cylinders_of, drop, eqb-true, false, filter, find, get_or, get_or-map}
+use Rattle.fb_geometry.proofs.Words.{inl, inr, is_lt, is_mark_before, is_outside, le-ltb, length, length-map, length-take-le, list_any}
+use Rattle.fb_geometry.proofs.Words.{lt-ltb, ltb-true, map, mark_of, marks_on, nat_cmp, nat_le, nat_lt, nat_tests, ne_eqb, not, not-false}
+use Rattle.fb_geometry.proofs.Words.{offset_at, option_map, ordering_then, position_in, positions, rank, refl, same_mark, slice_get}
+use Rattle.fb_geometry.proofs.Words.{slice_get-get_or, slice_get-map, slipped, slot_at, slots_at, subst, suc, sym, take, true, zero}
+use Rattle.fb_geometry.proofs.Words.{zone_at, ℕ, ◌%◌, ◌*◌, ◌+◌, ◌-◌, ◌<◌, ◌==◌, ◌||◌, ◌∙◌, ◌∷◌, ◌≡◌, ◌≤◌}
+use Rattle.fb_geometry.proofs.{Slips.rank-at, Slips.rank_marked, Slips.rank-step, Slips.rank-below, Slips.has, Slips.rank-le_length}
+use Rattle.fb_geometry.proofs.{Slips.free_behind, Slips.next_marked, Turns.position_in-slot_at, Turns.slot_at-position_in}
+use Rattle.fb_geometry.proofs.{Faultless.slots_at-zone, Faultless.offset_at_zone, Faultless.find-none, Faultless.found_zone}
 use Rattle.fb_geometry.proofs.{Faultless.some_zone}
 
 pub position_at : (marks : List Mark) (i : ℕ) (d : Mark) → i < length marks → get_or (positions marks) i 0 ≡ (get_or marks i d).position
@@ -71,18 +68,28 @@ marks_on-ascend cylinder (mark ∷ marks) up = let rest = marks_on-ascend cylind
 
 -- ---- what searches find
 
+-- before the point of a partition are the elements that pass, and behind it those that don't
+at_point : {X : Type 0} (p : X → Bool) (xs : List X) (i : ℕ) → IsPartitionPoint (λ y. p y ≡ true) (λ y. p y ≡ false) xs i
+    → (take i xs ≡ filter p xs) × (drop i xs ≡ filter (λ y. not (p y)) xs)
+at_point p [] zero at = (refl, refl)
+at_point p [] (suc i) at = (refl, refl)
+at_point p (x ∷ xs) zero at =
+    let out : p x ≡ false = at.1 0 x (omega arith) (omega arith) in
+    let rest = at_point p xs 0 (λ k d low high. absurd (omega arith), λ k d low high. at.1 (suc k) d (omega arith) (omega arith)) in
+    rw out (rest.0, ap (λ ys. x ∷ ys) rest.1)
+at_point p (x ∷ xs) (suc i) at =
+    let in_ : p x ≡ true = at.0 0 x (omega arith) (omega arith) in
+    let rest = at_point p xs i (
+      λ k d low high. at.0 (suc k) d (omega arith) (omega arith),
+      λ k d low high. at.1 (suc k) d (omega arith)
+          (omega arith),
+    ) in
+    rw in_ (ap (λ ys. x ∷ ys) rest.0, rest.1)
+
 -- as many as pass come before the point
 pub point-is : {X : Type 0} (p : X → Bool) (xs : List X) (i : ℕ) → i ≤ length xs
     → IsPartitionPoint (λ y. p y ≡ true) (λ y. p y ≡ false) xs i → length (filter p xs) ≡ i
-point-is p [] i h at = omega arith
-point-is p (x ∷ xs) zero h at =
-    let out : p x ≡ false = at.1 0 x (omega arith) (omega arith) in
-    rw out (point-is p xs 0 (omega arith)
-    (λ k d low high. absurd (omega arith), λ k d low high. at.1 (suc k) d (omega arith) (omega arith)))
-point-is p (x ∷ xs) (suc i) h at =
-    let in_ : p x ≡ true = at.0 0 x (omega arith) (omega arith) in
-    rw in_ (ap suc (point-is p xs i (omega arith)
-    (λ k d low high. at.0 (suc k) d (omega arith) (omega arith), λ k d low high. at.1 (suc k) d (omega arith) (omega arith))))
+point-is p xs i h at = ap length (sym (at_point p xs i at).0) ∙ length-take-le i xs h
 
 pub length-filter-map : {X Y : Type 0} (p : Y → Bool) (f : X → Y) (xs : List X) → length (filter p (map f xs))
     ≡ length (filter (λ x. p (f x)) xs)
@@ -99,38 +106,22 @@ rank-is number marks i h at = sym (length-filter-map (λ passed. nat_lt passed n
     ∙ point-is (λ mark. nat_lt mark.position number) marks i h at)
 
 -- the part of a cylinder, from the point before it to the point behind
-pub part-is : (cylinder : ℕ) (marks : List Mark) (from n : ℕ) → from ≤ length marks → n ≤ length (drop from marks)
-    → IsPartitionPoint (λ mark. nat_lt mark.cylinder cylinder ≡ true) (λ mark. nat_lt mark.cylinder cylinder ≡ false) marks from
-    → IsPartitionPoint (λ mark. nat_le mark.cylinder cylinder ≡ true) (λ mark. nat_le mark.cylinder cylinder ≡ false) (drop from marks) n
-    → take n (drop from marks) ≡ marks_on cylinder marks
-part-is cylinder [] zero zero h m low high = refl
-part-is cylinder [] (suc from) n h m low high = absurd (omega arith)
-part-is cylinder [] zero (suc n) h m low high = absurd (omega arith)
-part-is cylinder (mark ∷ marks) zero zero h m low high =
-    let off : (mark.cylinder == cylinder) ≡ false = grind (arith, nat_tests, high.1 0 mark (omega arith) (omega arith)) in
-    rw off (part-is cylinder marks zero zero (omega arith) (omega arith)
-    (λ k d l m. absurd (omega arith), λ k d l m. low.1 (suc k) d (omega arith) (omega arith))
-    (λ k d l m. absurd (omega arith), λ k d l m. high.1 (suc k) d (omega arith) (omega arith)))
-part-is cylinder (mark ∷ marks) zero (suc n) h m low high =
-    let here : (mark.cylinder == cylinder) ≡ true =
-    grind (arith, nat_tests, low.1 0 mark (omega arith) (omega arith), high.0 0 mark (omega arith) (omega arith)) in
-    rw here (ap (λ xs. mark ∷ xs) (part-is cylinder marks zero n (omega arith) (omega arith)
-    (λ k d l m. absurd (omega arith), λ k d l m. low.1 (suc k) d (omega arith) (omega arith))
-    (λ k d l m. high.0 (suc k) d (omega arith) (omega arith), λ k d l m. high.1 (suc k) d (omega arith) (omega arith))))
-part-is cylinder (mark ∷ marks) (suc from) n h m low high =
-    let off : (mark.cylinder == cylinder) ≡ false = grind (arith, nat_tests, low.0 0 mark (omega arith) (omega arith)) in
-    rw off (part-is cylinder marks from n (omega arith) m
-    (λ k d l m. low.0 (suc k) d (omega arith) (omega arith), λ k d l m. low.1 (suc k) d (omega arith) (omega arith)) high)
-
--- the same, where the rest is known by an equation
-pub part-of : (cylinder : ℕ) (marks rest : List Mark) (from n : ℕ) → rest ≡ drop from marks → from ≤ length marks → n ≤ length rest
+pub part-of : (cylinder : ℕ) (marks rest : List Mark) (from n : ℕ) → rest ≡ drop from marks
     → IsPartitionPoint (λ mark. nat_lt mark.cylinder cylinder ≡ true) (λ mark. nat_lt mark.cylinder cylinder ≡ false) marks from
     → IsPartitionPoint (λ mark. nat_le mark.cylinder cylinder ≡ true) (λ mark. nat_le mark.cylinder cylinder ≡ false) rest n
     → take n rest ≡ marks_on cylinder marks
-part-of cylinder marks rest from n e h m low high = subst
-    (λ rest. n ≤ length rest → IsPartitionPoint (λ mark. nat_le mark.cylinder cylinder ≡ true) (λ mark. nat_le mark.cylinder cylinder
-    ≡ false) rest n → take n rest ≡ marks_on cylinder marks)
-    (sym e) (λ m high. part-is cylinder marks from n h m low high) m high
+part-of cylinder marks rest from n e low high = (at_point (λ mark. nat_le mark.cylinder cylinder) rest n high).0
+    ∙ (ap (filter (λ mark. nat_le mark.cylinder cylinder)) (e ∙ (at_point (λ mark. nat_lt mark.cylinder cylinder) marks from low).1)
+    ∙ both marks)
+  where
+    both : (marks : List Mark) → filter (λ mark. nat_le mark.cylinder cylinder) (filter (λ mark. not (nat_lt mark.cylinder cylinder)) marks)
+        ≡ marks_on cylinder marks
+    both [] = refl
+    both (mark ∷ marks) = elim (cases_lt mark.cylinder cylinder) [
+      | inl less ↦ rw (lt-ltb mark.cylinder cylinder less, ne_eqb mark.cylinder cylinder (λ e. omega arith)) (both marks)
+      | inr from ↦ let same : nat_le mark.cylinder cylinder ≡ (mark.cylinder == cylinder) = grind (arith, nat_tests) in
+          rw (le-ltb mark.cylinder cylinder from, same, both marks) refl
+    ]
 
 pub rest-rises : (marks rest : List Mark) (from : ℕ) → AreInOrder marks → rest ≡ drop from marks
     → IsNonDecreasingBy (λ mark. mark.cylinder) rest
@@ -144,10 +135,9 @@ pub gaps : (numbers : List ℕ) (i j : ℕ) → IsAscending numbers → i ≤ j 
 gaps numbers i j up le h =
     let first = rank-at i numbers (get_or numbers i 0) up (slice_get-get_or numbers i 0 (omega arith)) in
     let last = rank-at j numbers (get_or numbers j 0) up (slice_get-get_or numbers j 0 h) in
-    elim (cases_lt (get_or numbers j 0) (get_or numbers i 0)) [
-      | inl less ↦ absurd (omega (arith, first.0, last.0, rank_marked numbers up (get_or numbers j 0) (get_or numbers i 0) last.1 less))
-      | inr from ↦ omega (arith, first.0, last.0, (rank-step (get_or numbers i 0) (get_or numbers j 0) numbers up from).1)
-    ]
+    let from : get_or numbers i 0 ≤ get_or numbers j 0 =
+    grind (arith, first.0, last.0, rank_marked numbers up (get_or numbers j 0) (get_or numbers i 0) last.1) in
+    omega (arith, first.0, last.0, (rank-step (get_or numbers i 0) (get_or numbers j 0) numbers up from).1)
 
 pub slipped-is : (number : ℕ) (numbers : List ℕ) (r : ℕ) → r ≤ length numbers → ((i : ℕ) → i < r → get_or numbers i 0 ≤ number + i)
     → ((i : ℕ) → r ≤ i → i < length numbers → number + i < get_or numbers i 0)
@@ -233,16 +223,9 @@ sorted_by a b = grind (arith, nat_tests)
 pub on_disk : (disk : Shape) (place : Place) → is_outside disk place ≡ false → (place.track.cylinder < cylinders_of disk.zones)
     × (place.track.head < disk.heads) × (place.slot < slots_at disk.zones place.track.cylinder)
 on_disk disk place h =
-    let all = not-false (nat_lt place.track.cylinder (cylinders_of disk.zones) && nat_lt place.track.head disk.heads && nat_lt place.slot
-    (slots_at disk.zones place.track.cylinder)) h in
-    let parts = and_parts (nat_lt place.track.cylinder (cylinders_of disk.zones) && nat_lt place.track.head disk.heads)
-    (nat_lt place.slot (slots_at disk.zones place.track.cylinder)) all in
-    let first = and_parts (nat_lt place.track.cylinder (cylinders_of disk.zones)) (nat_lt place.track.head disk.heads) parts.0 in (
-      ltb-true place.track.cylinder (cylinders_of disk.zones) first.0,
-      ltb-true place.track.head disk.heads first.1,
-      ltb-true place.slot
-          (slots_at disk.zones place.track.cylinder) parts.1,
-    )
+    let all = and_parts _ _ (not-false _ h) in
+    let track = and_parts _ _ all.0 in
+    (ltb-true _ _ track.0, ltb-true _ _ track.1, ltb-true _ _ all.1)
 
 pub mark_of-slot_at : (disk : Shape) (zone : Zone) (cylinder position : ℕ) → IsZoneOf disk cylinder zone
     → mark_of disk (slot_at zone disk.heads cylinder position) ≡ record { cylinder = cylinder; position = position }
@@ -279,10 +262,8 @@ mark_of-same disk a b zones h k e =
 -- ---- the others of a clash
 
 pub same_marks : (a b : Mark) → same_mark a b ≡ true → a ≡ b
-same_marks a b h =
-    let parts = and_parts (a.cylinder == b.cylinder) (a.position == b.position) h in
-    ap (λ c. record { cylinder = c; position = a.position }) (eqb-true a.cylinder b.cylinder parts.0)
-    ∙ ap (λ p. record { cylinder = b.cylinder; position = p }) (eqb-true a.position b.position parts.1)
+same_marks a b h = let parts = and_parts (a.cylinder == b.cylinder) (a.position == b.position) h in
+    rw (eqb-true a.cylinder b.cylinder parts.0, eqb-true a.position b.position parts.1) refl
 
 pub same_mark-refl : (a : Mark) → same_mark a a ≡ true
 same_mark-refl a = grind (arith, nat_tests)

@@ -1,17 +1,13 @@
 -- An accepted outline is sound: no place is twice among its places, and no bad one is among them.
 use Rattle.fb_units.proofs.Lists.{all_weaker, all_append, all_from_index}
-use Rattle.fb_geometry.proofs.Words.{AllByRecursion, HasOwnPlaces, IsCylinderOf, IsFaultless, IsSound, LiesOn, List}
-use Rattle.fb_geometry.proofs.Words.{None, PerTrack, Place, Shape, Some, Zone, [], ap, arith, data_list, false}
-use Rattle.fb_geometry.proofs.Words.{first_apart, flat_map, is_among, none-some, places, range_with_len, refl}
-use Rattle.fb_geometry.proofs.Words.{same_Some, slice_get, subst, suc, sym, zero, zone_places, ℕ, ◌++◌, ◌+◌, ◌-◌, ◌<◌}
-use Rattle.fb_geometry.proofs.Words.{◌∙◌, ◌∷◌, ◌≡◌, ◌≢◌, ◌≤◌}
-use Rattle.fb_geometry.proofs.{Grid.add_zero, Grid.add_one, Faultless.all_get, Faultless.next}
-use Rattle.fb_geometry.proofs.{Faultless.zones_from, Faultless.zone_by_bounds, Faultless.ranges_of}
-use Rattle.fb_geometry.proofs.{Faultless.some_rotation, Faultless.short_rotation, Faultless.some_heads}
-use Rattle.fb_geometry.proofs.{Faultless.few_heads, Faultless.some_zones, Faultless.few_zones}
-use Rattle.fb_geometry.proofs.{Faultless.few_cylinders, Faultless.data_of, Faultless.short_slots}
-use Rattle.fb_geometry.proofs.{Laws.all-parts, Laws.length_data_list, Laws.some_size, Lookups.entry_of}
-use Rattle.fb_geometry.proofs.{Lookups.one_index_on}
+use Rattle.fb_geometry.proofs.Words.{AllByRecursion, HasOwnPlaces, IsCylinderOf, IsFaultless, IsSound, LiesOn, List, None, PerTrack}
+use Rattle.fb_geometry.proofs.Words.{Place, Shape, Some, Zone, [], ap, arith, data_list, false, first_apart, flat_map, is_among}
+use Rattle.fb_geometry.proofs.Words.{nat_tests, none-some, places, range_with_len, refl, same_Some, slice_get, subst, suc, sym, zero}
+use Rattle.fb_geometry.proofs.Words.{zone_places, ℕ, ◌++◌, ◌+◌, ◌-◌, ◌<◌, ◌∙◌, ◌∷◌, ◌≡◌, ◌≢◌, ◌≤◌}
+use Rattle.fb_geometry.proofs.{Grid.add_zero, Grid.add_one, Faultless.all_get, Faultless.next, Faultless.zones_from}
+use Rattle.fb_geometry.proofs.{Faultless.zone_by_bounds, Faultless.ranges_of, Faultless.some_zones, Faultless.few_cylinders}
+use Rattle.fb_geometry.proofs.{Faultless.data_of, Faultless.short_slots, Laws.all-parts, Laws.length_data_list, Laws.some_size}
+use Rattle.fb_geometry.proofs.{Lookups.entry_of, Lookups.one_index_on}
 
 -- each element differs from all that follow
 abbrev pub Distinct : {A : Type 0} → List A → Type 0
@@ -146,17 +142,17 @@ own_places disk h fits = record {
 
 pub sound : (disk : Shape) → IsFaultless disk → IsSound disk
 sound disk h = record {
-  some_rotation = some_rotation disk h.zones_hold;
-  short_rotation = short_rotation disk h.zones_hold;
-  some_heads = some_heads disk h.zones_hold;
-  few_heads = few_heads disk h.zones_hold;
+  some_rotation = grind (arith, nat_tests, h.zones_hold.in_range);
+  short_rotation = grind (arith, nat_tests, h.zones_hold.in_range);
+  some_heads = grind (arith, nat_tests, h.zones_hold.in_range);
+  few_heads = grind (arith, nat_tests, h.zones_hold.in_range);
   some_zones = some_zones disk h.zones_hold;
-  few_zones = few_zones disk h.zones_hold;
+  few_zones = grind (arith, nat_tests, h.zones_hold.in_range);
   contiguous = h.zones_hold.contiguous;
   some_cylinders = λ i zone at. (ranges_of disk h.zones_hold i zone at).some_cylinders;
   few_cylinders = few_cylinders disk h.zones_hold;
   equal = λ i zone cylinder at. length_data_list disk zone cylinder (zone_by_bounds disk h i zone cylinder at) disk.layout h.spares;
-  some_data = λ i zone at. some_size disk.layout disk zone (some_heads disk h.zones_hold) (data_of disk h.zones_hold i zone at);
+  some_data = λ i zone at. some_size disk.layout disk zone (grind (arith, nat_tests, h.zones_hold.in_range)) (data_of disk h.zones_hold i zone at);
   few_slots = λ i zone at. (ranges_of disk h.zones_hold i zone at).few_sectors;
   short_slots = short_slots disk h.zones_hold;
   own = λ i zone cylinder j place at found. (entry_of disk zone cylinder (zone_by_bounds disk h i zone cylinder at) j place found).0;

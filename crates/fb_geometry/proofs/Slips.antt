@@ -1,13 +1,12 @@
 -- Ascending numbers, and what is left of a list when the elements that pass a test are dropped.
 use Rattle.fb_units.proofs.Comparing.{zero_add}
 use Rattle.fb_units.proofs.Lists.{all_weaker, all_get, element_at}
-use Rattle.fb_geometry.proofs.Words.{AllByRecursion, Bool, HoldsSector, IsAscending, List, Some, [], ap, arith}
-use Rattle.fb_geometry.proofs.Words.{cases_Bool, cases_lt, cases_order, cond, count_by-le-length, entry_of_sector}
-use Rattle.fb_geometry.proofs.Words.{eq-eqb, false, filter, get_or, get_or_from_slice_get, indexes, inl, inr, le-ltb}
-use Rattle.fb_geometry.proofs.Words.{length, length-filter, length-filter_more, list_any, lt-ltb, map, nat_lt}
-use Rattle.fb_geometry.proofs.Words.{nat_tests, ne_eqb, none-some, not, option_map, rank, refl, same_Some, slice_get}
-use Rattle.fb_geometry.proofs.Words.{slice_get-map, slice_get_within, slipped, subst, suc, sym, take, true}
-use Rattle.fb_geometry.proofs.Words.{true≢false, zero, ℕ, ◌+◌, ◌-◌, ◌<◌, ◌==◌, ◌∙◌, ◌∷◌, ◌≡◌, ◌≤◌}
+use Rattle.fb_geometry.proofs.Words.{AllByRecursion, Bool, HoldsSector, IsAscending, List, Some, [], ap, arith, cases_Bool, cases_lt}
+use Rattle.fb_geometry.proofs.Words.{cond, count_by-le-length, entry_of_sector, eq-eqb, false, filter, get_or, get_or_from_slice_get}
+use Rattle.fb_geometry.proofs.Words.{indexes, inl, inr, le-ltb, length, length-filter, length-filter_more, list_any, lt-ltb, map, nat_lt}
+use Rattle.fb_geometry.proofs.Words.{nat_tests, ne_eqb, none-some, not, option_map, rank, refl, same_Some, slice_get, slice_get-map}
+use Rattle.fb_geometry.proofs.Words.{slice_get_within, slipped, subst, suc, sym, take, true, true≢false, zero, ℕ, ◌+◌, ◌-◌, ◌<◌, ◌==◌}
+use Rattle.fb_geometry.proofs.Words.{◌∙◌, ◌∷◌, ◌≡◌, ◌≤◌}
 use Rattle.fb_geometry.proofs.{Grid.count_cons, Grid.add_zero}
 
 -- ---- ascending numbers
@@ -53,10 +52,8 @@ rank_on a zero numbers up = let same : rank (a + 0) numbers ≡ rank a numbers =
 rank_on a (suc n) numbers up =
     let next : rank (a + suc n) numbers ≡ rank (a + n + 1) numbers = ap (λ b. rank b numbers) (omega arith) in
     let rest = rank_on a n numbers up in
-    elim (cases_Bool (has numbers (a + n))) [
-      | inl in_ ↦ let more = rw in_ at (rank_next (a + n) numbers up) in (omega arith, omega arith)
-      | inr out ↦ let more = rw out at (rank_next (a + n) numbers up) in (omega arith, omega arith)
-    ]
+    let more = rank_next (a + n) numbers up in
+    (grind (arith, nat_tests), grind (arith, nat_tests))
 
 pub rank-step : (a b : ℕ) (numbers : List ℕ) → IsAscending numbers → a ≤ b → (rank a numbers ≤ rank b numbers)
     × (rank b numbers ≤ rank a numbers + (b - a))
@@ -96,27 +93,18 @@ module _ (numbers : List ℕ) (up : IsAscending numbers) where
   pub next_marked : (start next : ℕ) → slice_get numbers (rank start numbers) ≡ Some next
       → (start ≤ next) × ((q : ℕ) → start ≤ q → q < next → has numbers q ≡ false) × (has numbers start ≡ (next == start))
       × (has numbers next ≡ true)
-  next_marked start next at = (
-    upto,
-    free,
-    elim (cases_lt start next) [
-      | inl less ↦ free start (omega arith) less ∙ sym (ne_eqb next start (λ e. omega arith))
-      | inr from ↦ let same : next ≡ start = omega (arith, upto) in ap (has numbers) (sym same) ∙ (one.1 ∙ sym (eq-eqb next start same))
-    ],
-    one.1,
-  )
-    where
-      one : (rank next numbers ≡ rank start numbers) × (has numbers next ≡ true)
-      one = rank-at (rank start numbers) numbers next up at
-
-      upto : start ≤ next
-      upto = elim (cases_lt next start) [ inl less ↦ absurd (omega (arith, rank_marked next start one.1 less, one.0)) | inr more ↦ more ]
-
-      free : (q : ℕ) → start ≤ q → q < next → has numbers q ≡ false
-      free q from below = elim (cases_Bool (has numbers q)) [
+  next_marked start next at =
+      let one = rank-at (rank start numbers) numbers next up at in
+      let upto : start ≤ next = grind (arith, rank_marked next start one.1, one.0) in
+      let free : (q : ℕ) → start ≤ q → q < next → has numbers q ≡ false = λ q from below. elim (cases_Bool (has numbers q)) [
         | inl among ↦ absurd (omega (arith, rank_marked q next among below, one.0, (rank-step start q numbers up from).0))
         | inr off ↦ off
-      ]
+      ] in
+      let here : has numbers start ≡ (next == start) = elim (cases_lt start next) [
+        | inl less ↦ free start (omega arith) less ∙ sym (ne_eqb next start (λ e. omega arith))
+        | inr from ↦ let same : next ≡ start = omega (arith, upto) in ap (has numbers) (sym same) ∙ (one.1 ∙ sym (eq-eqb next start same))
+      ] in
+      (upto, free, here, one.1)
 
   -- none is marked behind the last one
   pub free_behind : (position q : ℕ) → length numbers ≤ rank position numbers → position ≤ q → has numbers q ≡ false
@@ -155,13 +143,7 @@ module _ (numbers : List ℕ) (up : IsAscending numbers) where
   pub slipped_only : (k q : ℕ) → rank q numbers + k ≡ q → has numbers q ≡ false → slipped k numbers ≡ q
   slipped_only k q e free =
       let other = slipped_to k numbers up in
-      elim (cases_order (slipped k numbers) q) [
-        | inl same ↦ same
-        | inr apart ↦ elim apart [
-          | inl less ↦ absurd (omega (arith, other.0, rank_free numbers up (slipped k numbers) q other.1 less))
-          | inr more ↦ absurd (omega (arith, other.0, rank_free numbers up q (slipped k numbers) free more))
-        ]
-      ]
+      grind (arith, other.0, rank_free numbers up (slipped k numbers) q other.1, rank_free numbers up q (slipped k numbers) free)
 
   -- numbers go on with the positions as long as none is marked
   pub slipped_on : (k i : ℕ) → ((q : ℕ) → slipped k numbers ≤ q → q < slipped k numbers + i + 1 → has numbers q ≡ false)
@@ -184,17 +166,10 @@ module _ (marked : List ℕ) (up : IsAscending marked) (sectors : ℕ) where
   moves_to sector h among =
       let start = sectors - rank sectors marked + rank sector marked in
       let to = slipped_to start marked up in
-      let few = rank_marked marked up sector sectors among h in (
-        slipped start marked,
-        rw among refl,
-        to.1,
-        omega arith,
-        few,
-        elim (cases_lt (slipped start marked) sectors) [
-          | inl less ↦ absurd (omega (arith, rank_free marked up (slipped start marked) sectors to.1 less, rank-below sectors marked up))
-          | inr from ↦ from
-        ],
-      )
+      let few = rank_marked marked up sector sectors among h in
+      let behind : sectors ≤ slipped start marked =
+      grind (arith, rank_free marked up (slipped start marked) sectors to.1, rank-below sectors marked up, to.0) in
+      (slipped start marked, rw among refl, to.1, omega arith, few, behind)
 
   pub stays_at : (sector : ℕ) → has marked sector ≡ false → entry_of_sector marked sectors sector ≡ sector
   stays_at sector stays = rw stays refl
@@ -217,13 +192,7 @@ module _ (marked : List ℕ) (up : IsAscending marked) (sectors : ℕ) where
     | inl moves ↦
         let other = moves_to j k moves in
         let ranks : rank i marked ≡ rank j marked = omega (arith, ap (λ entry. entry - rank entry marked) (sym to.1 ∙ (same ∙ other.1))) in
-        elim (cases_order i j) [
-          | inl is ↦ is
-          | inr apart ↦ elim apart [
-            | inl less ↦ absurd (omega (arith, rank_marked marked up i j gone less))
-            | inr more ↦ absurd (omega (arith, rank_marked marked up j i moves more))
-          ]
-        ]
+        grind (arith, rank_marked marked up i j gone, rank_marked marked up j i moves)
     | inr stays ↦ absurd (omega (arith, to.5, to.1, stays_at j stays))
   ]
 
@@ -245,10 +214,7 @@ module _ (marked : List ℕ) (up : IsAscending marked) (sectors : ℕ) where
       let at = rank-at (entry - rank entry marked - (sectors - rank sectors marked)) marked sector up stead.2 in
       let low = rank-below sectors marked up in
       let more = rank-step sectors entry marked up stead.0 in
-      let below : sector < sectors = elim (cases_lt sector sectors) [
-        | inl l ↦ l
-        | inr back ↦ absurd (omega (arith, (rank-step sectors sector marked up back).0, at.0, stead.1))
-      ] in (
+      let below : sector < sectors = grind (arith, rank-step sectors sector marked up, at.0, stead.1) in (
         below,
         rw at.1 (slipped_only marked up (sectors - rank sectors marked + rank sector marked) entry
             (omega (arith, at.0, rank-below entry marked up)) free),

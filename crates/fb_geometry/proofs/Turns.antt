@@ -1,22 +1,18 @@
 -- The slots of a cylinder in the order of their turns, as one list.
 use Rattle.fb_units.proofs.Comparing.{zero_add}
 use Rattle.fb_units.proofs.Lists.{flat_map_same}
-use Rattle.fb_geometry.proofs.Words.{Bool, List, Place, Shape, Some, Track, Zone, [], add-mod_left, ap, arith}
-use Rattle.fb_geometry.proofs.Words.{by_head, cases_lt, cylinder_slots, div-add-mod', div-mul-add, filter}
-use Rattle.fb_geometry.proofs.Words.{filter-append, flat_map, good_track, inl, inr, is_among, length}
-use Rattle.fb_geometry.proofs.Words.{length-map-range_with_len, map, map-append, mod-eq_of_lt, mod-lt, mod-mul-add}
-use Rattle.fb_geometry.proofs.Words.{mul-add-lt, not, offset_in, option_map, position_in, range_with_len, refl}
-use Rattle.fb_geometry.proofs.Words.{slice_get, slice_get-map, slot_at, suc, sym, turn, zero, ℕ, ◌%◌, ◌*◌, ◌++◌, ◌+◌}
-use Rattle.fb_geometry.proofs.Words.{◌-◌, ◌/◌, ◌<◌, ◌∙◌, ◌∷◌, ◌≡◌, ◌≤◌}
+use Rattle.fb_geometry.proofs.Words.{Bool, List, Place, Shape, Some, Track, Zone, [], add-mod_left, ap, arith, by_head, cases_lt}
+use Rattle.fb_geometry.proofs.Words.{cylinder_slots, div-add-mod', div-mul-add, filter, filter-append, flat_map, good_track, inl, inr}
+use Rattle.fb_geometry.proofs.Words.{is_among, length, length-map-range_with_len, map, map-append, mod-eq_of_lt, mod-lt, mod-mul-add}
+use Rattle.fb_geometry.proofs.Words.{mul-add-lt, not, offset_in, option_map, position_in, range_with_len, refl, slice_get, slice_get-map}
+use Rattle.fb_geometry.proofs.Words.{slot_at, suc, sym, turn, zero, ℕ, ◌%◌, ◌*◌, ◌++◌, ◌+◌, ◌-◌, ◌/◌, ◌<◌, ◌∙◌, ◌∷◌, ◌≡◌, ◌≤◌}
 use Rattle.fb_geometry.proofs.{Grid.get_range, Grid.add_zero, Grid.add_one}
 
 -- ---- once round
 
 pub round_behind : (a n : ℕ) → n ≤ a → a < n + n → a % n ≡ a - n
-round_behind a n from upto = ap (λ x. x % n) (turned a n from) ∙ (add-mod_left n (a - n) ∙ mod-eq_of_lt (omega arith))
-  where
-    turned : (a n : ℕ) → n ≤ a → a ≡ n + (a - n)
-    turned a n h = omega arith
+round_behind a n from upto = let turned : a ≡ n + (a - n) = omega arith in
+    ap (λ x. x % n) turned ∙ (add-mod_left n (a - n) ∙ mod-eq_of_lt (omega arith))
 
 -- forward by an offset, and back again
 pub round-back : (offset i n : ℕ) → offset < n → i < n → ((offset + i) % n + n - offset) % n ≡ i
@@ -48,11 +44,9 @@ map-ranges f g a b (suc n) same =
 
 pub range-append : (a m n : ℕ) → range_with_len a (m + n) ≡ range_with_len a m ++ range_with_len (a + m) n
 range-append a zero n = ap (range_with_len a) (zero_add n) ∙ ap (λ x. range_with_len x n) (sym (add_zero a))
-range-append a (suc m) n = ap (range_with_len a) (suc_add m n) ∙ ap (λ xs. a ∷ xs) (range-append (a + 1) m n
+range-append a (suc m) n = let longer : suc m + n ≡ suc (m + n) = omega arith in
+    ap (range_with_len a) longer ∙ ap (λ xs. a ∷ xs) (range-append (a + 1) m n
     ∙ ap (λ x. range_with_len (a + 1) m ++ range_with_len x n) (omega arith))
-  where
-    suc_add : (m n : ℕ) → suc m + n ≡ suc (m + n)
-    suc_add m n = omega arith
 
 -- ---- positions and places
 
@@ -79,16 +73,7 @@ module _ (zone : Zone) (heads : ℕ) (some : 0 < zone.sectors) where
         track = record { cylinder = cylinder; head = head };
         slot = (offset_in zone heads (record { cylinder = cylinder; head = head }) + i) % zone.sectors;
       }
-  slot_on cylinder head i h =
-      ap (λ k. record {
-        track = record { cylinder = cylinder; head = k };
-        slot = (offset_in zone heads (record { cylinder = cylinder; head = k }) + (head * zone.sectors + i) % zone.sectors)
-            % zone.sectors;
-      }) (div-mul-add head zone.sectors i h)
-      ∙ ap (λ r. record {
-        track = record { cylinder = cylinder; head = head };
-        slot = (offset_in zone heads (record { cylinder = cylinder; head = head }) + r) % zone.sectors;
-      }) (mod-mul-add head zone.sectors i h)
+  slot_on cylinder head i h = rw (div-mul-add head zone.sectors i h, mod-mul-add head zone.sectors i h) refl
 
   pub offset_below : (track : Track) → offset_in zone heads track < zone.sectors
   offset_below track =
@@ -97,27 +82,21 @@ module _ (zone : Zone) (heads : ℕ) (some : 0 < zone.sectors) where
   -- the position of the place at a position
   pub position_in-slot_at : (cylinder position : ℕ) → position_in zone heads (slot_at zone heads cylinder position) ≡ position
   position_in-slot_at cylinder position =
-      ap (λ x. position / zone.sectors * zone.sectors + x)
-      (round-back (offset_in zone heads (record { cylinder = cylinder; head = position / zone.sectors })) (position % zone.sectors)
-      zone.sectors (offset_below (record { cylinder = cylinder; head = position / zone.sectors })) (mod-lt position some))
-      ∙ div-add-mod' position zone.sectors
+      let track : Track = record { cylinder = cylinder; head = position / zone.sectors } in
+      rw (round-back (offset_in zone heads track) (position % zone.sectors) zone.sectors (offset_below track) (mod-lt position some))
+      (div-add-mod' position zone.sectors)
 
   -- the place at the position of a place
   pub slot_at-position_in : (place : Place) → place.slot < zone.sectors
       → slot_at zone heads place.track.cylinder (position_in zone heads place) ≡ place
   slot_at-position_in place h =
-      slot_on place.track.cylinder place.track.head ((place.slot + zone.sectors - offset_in zone heads place.track) % zone.sectors)
-      (mod-lt (place.slot + zone.sectors - offset_in zone heads place.track) some)
-      ∙ ap (λ slot. record { track = place.track; slot = slot }) (round-forward (offset_in zone heads place.track) place.slot zone.sectors
-      (offset_below place.track) h)
+      let turned = place.slot + zone.sectors - offset_in zone heads place.track in
+      slot_on place.track.cylinder place.track.head (turned % zone.sectors) (mod-lt turned some)
+      ∙ rw (round-forward (offset_in zone heads place.track) place.slot zone.sectors (offset_below place.track) h) refl
 
   pub position_below : (place : Place) → place.track.head < heads → position_in zone heads place < heads * zone.sectors
-  position_below place h = omega (
-    arith,
-    mul-add-lt place.track.head zone.sectors
-        ((place.slot + zone.sectors - offset_in zone heads place.track) % zone.sectors) heads h
-        (mod-lt (place.slot + zone.sectors - offset_in zone heads place.track) some),
-  )
+  position_below place h = let turned = place.slot + zone.sectors - offset_in zone heads place.track in
+      omega (arith, mul-add-lt place.track.head zone.sectors (turned % zone.sectors) heads h (mod-lt turned some))
 
   -- the turn of a track
   turn_slots : (track : Track) → map (λ slot. record { track = track; slot = slot }) (turn zone.sectors (offset_in zone heads track))
@@ -141,29 +120,6 @@ module _ (zone : Zone) (heads : ℕ) (some : 0 < zone.sectors) where
       ∙ sym (ap (λ m. map slot (range_with_len first m)) whole ∙ (ap (map slot) (range-append first (n - offset) offset)
       ∙ map-append slot (range_with_len first (n - offset)) (range_with_len (first + (n - offset)) offset)))))
 
-  -- the good slots of a track are those of its part of the cylinder
-  pub good_track-is : (disk : Shape) (track : Track) → disk.heads ≡ heads → good_track disk zone track
-      ≡ filter (λ place. not (is_among disk.defects place)) (map (slot_at zone heads track.cylinder)
-      (range_with_len (track.head * zone.sectors) zone.sectors))
-  good_track-is disk track e = ap (λ h. filter (λ place. not (is_among disk.defects place))
-      (map (λ slot. record { track = track; slot = slot }) (turn zone.sectors (offset_in zone h track)))) e
-      ∙ ap (filter (λ place. not (is_among disk.defects place))) (turn_slots track)
-
-  -- the good slots of a cylinder
-  pub good_cylinder-is : (disk : Shape) (cylinder : ℕ) → disk.heads ≡ heads → by_head disk cylinder (good_track disk zone)
-      ≡ filter (λ place. not (is_among disk.defects place)) (cylinder_slots zone heads cylinder)
-  good_cylinder-is disk cylinder e =
-      flat_map_same (λ head. good_track disk zone (record { cylinder = cylinder; head = head }))
-      (λ head. filter (λ place. not (is_among disk.defects place)) (map (slot_at zone heads cylinder)
-      (range_with_len (head * zone.sectors) zone.sectors)))
-      (λ head. good_track-is disk (record { cylinder = cylinder; head = head }) e) (range_with_len 0 disk.heads)
-      ∙ (filter-flat_map (λ place. not (is_among disk.defects place)) (λ head. map (slot_at zone heads cylinder)
-      (range_with_len (head * zone.sectors) zone.sectors)) (range_with_len 0 disk.heads)
-      ∙ ap (filter (λ place. not (is_among disk.defects place))) (flat-ranges (slot_at zone heads cylinder) zone.sectors 0 disk.heads
-      ∙ (ap (λ h. map (slot_at zone heads cylinder) (range_with_len (0 * zone.sectors) (h * zone.sectors))) e
-      ∙ ap (λ a. map (slot_at zone heads cylinder) (range_with_len a (heads * zone.sectors))) (let zero_mul : 0 * zone.sectors ≡ 0 =
-      omega arith in zero_mul))))
-
   pub length-cylinder_slots : (cylinder : ℕ) → length (cylinder_slots zone heads cylinder) ≡ heads * zone.sectors
   length-cylinder_slots cylinder = length-map-range_with_len (slot_at zone heads cylinder) 0 (heads * zone.sectors)
 
@@ -171,3 +127,24 @@ module _ (zone : Zone) (heads : ℕ) (some : 0 < zone.sectors) where
       → slice_get (cylinder_slots zone heads cylinder) position ≡ Some (slot_at zone heads cylinder position)
   get-cylinder_slots cylinder position h = slice_get-map (slot_at zone heads cylinder) (range_with_len 0 (heads * zone.sectors)) position
       ∙ ap (option_map (slot_at zone heads cylinder)) (get_range 0 (heads * zone.sectors) position h ∙ ap Some (omega arith))
+
+module _ (disk : Shape) (zone : Zone) (some : 0 < zone.sectors) where
+  abbrev pub is_good : Place → Bool
+  is_good place = not (is_among disk.defects place)
+
+  -- the good slots of a track are those of its part of the cylinder
+  pub good_track-is : (track : Track) → good_track disk zone track
+      ≡ filter is_good (map (slot_at zone disk.heads track.cylinder) (range_with_len (track.head * zone.sectors) zone.sectors))
+  good_track-is track = ap (filter is_good) (turn_slots zone disk.heads some track)
+
+  -- the good slots of a cylinder
+  pub good_cylinder-is : (cylinder : ℕ) → by_head disk cylinder (good_track disk zone)
+      ≡ filter is_good (cylinder_slots zone disk.heads cylinder)
+  good_cylinder-is cylinder =
+      let slot = slot_at zone disk.heads cylinder in
+      let slots = λ (head : ℕ). map slot (range_with_len (head * zone.sectors) zone.sectors) in
+      let none : 0 * zone.sectors ≡ 0 = omega arith in
+      flat_map_same (λ head. good_track disk zone (record { cylinder = cylinder; head = head })) (λ head. filter is_good (slots head))
+      (λ head. good_track-is (record { cylinder = cylinder; head = head })) (range_with_len 0 disk.heads)
+      ∙ (filter-flat_map is_good slots (range_with_len 0 disk.heads) ∙ ap (filter is_good) (flat-ranges slot zone.sectors 0 disk.heads
+      ∙ ap (λ first. map slot (range_with_len first (disk.heads * zone.sectors))) none))

@@ -1,5 +1,5 @@
-use Rattle.fb_geometry.proofs.Words.{arith, if◌then◌else◌, list_any, positions, rank, slipped, subst, sym, true, ◌+◌}
-use Rattle.fb_geometry.proofs.Words.{◌-◌, ◌<◌, ◌==◌, ◌^◌, ◌∙◌, ◌≡◌}
+use Rattle.fb_geometry.proofs.Words.{arith, if◌then◌else◌, list_any, positions, rank, slipped, subst, sym, true, ◌+◌, ◌-◌, ◌<◌, ◌==◌, ◌^◌}
+use Rattle.fb_geometry.proofs.Words.{◌∙◌, ◌≡◌}
 use Rattle.fb_geometry.proofs.{Slips.slipped_to}
 use Rattle.fb_geometry.proofs.marks.entry_of_sector.Goals as goal
 

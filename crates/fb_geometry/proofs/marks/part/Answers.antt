@@ -1,6 +1,5 @@
-use Rattle.fb_geometry.proofs.Words.{IsAscending, IsPartitionPoint-from_clause, IsPartitionedBy-leb}
-use Rattle.fb_geometry.proofs.Words.{IsPartitionedBy-ltb, drop, marks_on, nat_le, nat_lt, positions, rules, subst}
-use Rattle.fb_geometry.proofs.Words.{sym, ◌∙◌, ◌≡◌}
+use Rattle.fb_geometry.proofs.Words.{IsAscending, IsPartitionPoint-from_clause, IsPartitionedBy-leb, IsPartitionedBy-ltb, drop, marks_on}
+use Rattle.fb_geometry.proofs.Words.{nat_le, nat_lt, positions, rules, subst, sym, ◌∙◌, ◌≡◌}
 use Rattle.fb_geometry.proofs.{Marking.part-of, Marking.rest-rises, Marking.cylinders-rise, Marking.marks_on-ascend}
 use Rattle.fb_geometry.proofs.marks.part.Goals as goal
 
@@ -12,7 +11,7 @@ found c =
     let n = c.partition_point-2.result in
     let rest = c.split_at.result.1.now in
     let cut : rest ≡ drop from marks = c.split_at.ensures.back in
-    c.split_at-2.ensures.front ∙ part-of cylinder marks rest from n cut c.partition_point.ensures.bound c.partition_point-2.ensures.bound
+    c.split_at-2.ensures.front ∙ part-of cylinder marks rest from n cut
     (IsPartitionPoint-from_clause (λ mark. nat_lt mark.cylinder cylinder) marks from c.partition_point.ensures.partitioned
     (IsPartitionedBy-ltb (λ mark. mark.cylinder) marks cylinder (cylinders-rise marks c.requires)) (λ a r f called. search rules))
     (IsPartitionPoint-from_clause (λ mark. nat_le mark.cylinder cylinder) rest n c.partition_point-2.ensures.partitioned

@@ -1,5 +1,4 @@
-use Rattle.fb_geometry.proofs.Words.{IsPartitionPoint-from_clause, IsPartitionedBy-ltb, arith, nat_lt, positions}
-use Rattle.fb_geometry.proofs.Words.{rank, rules, ◌≡◌}
+use Rattle.fb_geometry.proofs.Words.{IsPartitionPoint-from_clause, IsPartitionedBy-ltb, arith, nat_lt, positions, rank, rules, ◌≡◌}
 use Rattle.fb_geometry.proofs.{Slips.rank-below, Marking.rank-is, Marking.positions-rise}
 use Rattle.fb_geometry.proofs.marks.rank.Goals as goal
 

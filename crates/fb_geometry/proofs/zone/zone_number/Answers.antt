@@ -1,5 +1,5 @@
-use Rattle.fb_geometry.proofs.Words.{IsPartitionPoint-from_clause, IsPartitionedBy-ltb, Some, Zone, get_or, length}
-use Rattle.fb_geometry.proofs.Words.{nat_lt, rules, slice_get-get_or, sym, zone_at, ◌<◌, ◌∙◌, ◌≡◌}
+use Rattle.fb_geometry.proofs.Words.{IsPartitionPoint-from_clause, IsPartitionedBy-ltb, Some, Zone, get_or, length, nat_lt, rules}
+use Rattle.fb_geometry.proofs.Words.{slice_get-get_or, sym, zone_at, ◌<◌, ◌∙◌, ◌≡◌}
 use Rattle.fb_geometry.proofs.{Faultless.point_zone}
 use Rattle.fb_geometry.proofs.zone.zone_number.Goals as goal
 

@@ -1,7 +1,6 @@
-use Rattle.fb_geometry.proofs.Words.{IsGoodOf, PerCylinder, PerTrack, ap, arith, rank, subst, sym, ◌%◌, ◌*◌, ◌+◌, ◌-◌}
-use Rattle.fb_geometry.proofs.Words.{◌/◌, ◌∙◌}
-use Rattle.fb_geometry.proofs.{Slips.slipped_to, Lookups.few_slots, Lookups.split_by_track, Lookups.placed}
-use Rattle.fb_geometry.proofs.{Lookups.defects_ascend, Lookups.good_number, Lookups.defects_of}
+use Rattle.fb_geometry.proofs.Words.{IsGoodOf, PerCylinder, PerTrack, ap, arith, rank, subst, sym, ◌%◌, ◌*◌, ◌+◌, ◌-◌, ◌/◌, ◌∙◌}
+use Rattle.fb_geometry.proofs.{Slips.slipped_to, Lookups.few_slots, Lookups.split_by_track, Lookups.placed, Lookups.defects_ascend}
+use Rattle.fb_geometry.proofs.{Lookups.good_number, Lookups.defects_of}
 use Rattle.fb_geometry.proofs.geometry.Geometry.good_of_sector.Goals as goal
 
 pub overflow_mul-first : goal.overflow_mul-first

@@ -1,6 +1,6 @@
 use Rattle.fb_geometry.proofs.Words.{AreMarksOf, IsFaultless, ap, refl, sym, ◌∙◌}
-use Rattle.fb_geometry.proofs.{Indexing.indexed, Indexing.grown_in_order, Judging.good_grown, Judging.faultless}
-use Rattle.fb_geometry.proofs.{Judging.cylinder_spares, Judging.fits_per_cylinder, Once.sound}
+use Rattle.fb_geometry.proofs.{Indexing.indexed, Indexing.grown_in_order, Judging.good_grown, Judging.faultless, Judging.cylinder_spares}
+use Rattle.fb_geometry.proofs.{Judging.fits_per_cylinder, Once.sound}
 use Rattle.fb_geometry.proofs.geometry.Geometry.per_cylinder.Goals as goal
 
 pub returns-in-Some : goal.returns-in-Some

@@ -1,4 +1,4 @@
-use Rattle.fb_geometry.proofs.Words.{arith, cases_lt, inl, inr, ◌⊎◌, ◌≡◌}
+use Rattle.fb_geometry.proofs.Words.{arith, cases_lt, inl, inr, ◌≡◌, ◌⊎◌}
 use Rattle.fb_geometry.proofs.{Stretched.stretched_by, Stretched.lies}
 use Rattle.fb_geometry.proofs.geometry.Geometry.stretch.Goals as goal
 

@@ -1,5 +1,4 @@
-use Rattle.fb_geometry.proofs.Words.{YieldsList-from_slice, is_too_skewed, position_from_yields_List, rules, sym}
-use Rattle.fb_geometry.proofs.Words.{tests, ◌∙◌}
+use Rattle.fb_geometry.proofs.Words.{YieldsList-from_slice, is_too_skewed, position_from_yields_List, rules, sym, tests, ◌∙◌}
 use Rattle.fb_geometry.proofs.outline.Outline.first_skewed.Goals as goal
 
 pub returns-in-Some : goal.returns-in-Some

@@ -1,5 +1,5 @@
-use Rattle.fb_geometry.proofs.Words.{IsPartitionPoint-from_clause, Place, arith, filter, length, nat_le, nat_lt}
-use Rattle.fb_geometry.proofs.Words.{nat_tests, refl, rules, ◌++◌, ◌+◌, ◌-◌, ◌==◌, ◌≡◌}
+use Rattle.fb_geometry.proofs.Words.{IsPartitionPoint-from_clause, Place, arith, filter, length, nat_le, nat_lt, nat_tests, refl, rules}
+use Rattle.fb_geometry.proofs.Words.{◌++◌, ◌+◌, ◌-◌, ◌==◌, ◌≡◌}
 use Rattle.fb_geometry.proofs.{Faultless.cylinder_spares_at-zone, Clashes.between, Clashes.partitioned}
 use Rattle.fb_geometry.proofs.outline.Outline.is_full_cylinder.Goals as goal
 

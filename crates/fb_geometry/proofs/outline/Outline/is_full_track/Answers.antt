@@ -1,5 +1,5 @@
-use Rattle.fb_geometry.proofs.Words.{IsPartitionPoint-from_clause, Place, arith, filter, is_track_before, length}
-use Rattle.fb_geometry.proofs.Words.{nat_tests, not, refl, rules, same_track, ◌+◌, ◌-◌, ◌≡◌}
+use Rattle.fb_geometry.proofs.Words.{IsPartitionPoint-from_clause, Place, arith, filter, is_track_before, length, nat_tests, not, refl}
+use Rattle.fb_geometry.proofs.Words.{rules, same_track, ◌+◌, ◌-◌, ◌≡◌}
 use Rattle.fb_geometry.proofs.{Faultless.spares_at-zone, Clashes.between, Clashes.partitioned}
 use Rattle.fb_geometry.proofs.outline.Outline.is_full_track.Goals as goal
 

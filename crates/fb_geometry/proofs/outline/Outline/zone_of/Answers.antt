@@ -1,5 +1,4 @@
-use Rattle.fb_geometry.proofs.Words.{Some, ap, length, slice_get, slice_get-get_or, subst, sym, zone_at, ◌<◌, ◌∙◌}
-use Rattle.fb_geometry.proofs.Words.{◌≡◌}
+use Rattle.fb_geometry.proofs.Words.{Some, ap, length, slice_get, slice_get-get_or, subst, sym, zone_at, ◌<◌, ◌∙◌, ◌≡◌}
 use Rattle.fb_geometry.proofs.{Faultless.found_zone, Faultless.slots_at-zone}
 use Rattle.fb_geometry.proofs.outline.Outline.zone_of.Goals as goal
 
