@@ -11,7 +11,7 @@ use Rattle.fb_geometry.proofs.Words.{same_mark, same_place, slice_get, slice_get
 use Rattle.fb_geometry.proofs.Words.{sum_by-IsPermutation, sym, true, true≢false, with_repeated, zero, ℕ, ◌++◌, ◌+◌, ◌-◌, ◌<◌, ◌∙◌, ◌∷◌}
 use Rattle.fb_geometry.proofs.Words.{◌≡◌, ◌≤◌, ◌⊎◌}
 use Rattle.fb_geometry.proofs.{Grid.count_cons, Faultless.all_get, Laws.same_places, Marking.mark_of-same, Marking.same_marks}
-use Rattle.fb_geometry.proofs.{Marking.same_mark-refl, Marking.point-is, Marking.pairwise_at, Leasts.place_order, Leasts.Among}
+use Rattle.fb_geometry.proofs.{Marking.same_mark-refl, Marking.point-is, Slips.pairwise_upto, Leasts.place_order, Leasts.Among}
 use Rattle.fb_geometry.proofs.{Leasts.among-tail, Leasts.among-left, Leasts.among-right, Leasts.among-append, Leasts.among-filter}
 use Rattle.fb_geometry.proofs.{Leasts.among-filtered, Leasts.among-mapped, Leasts.among-map, Leasts.among-any, Leasts.any-among}
 use Rattle.fb_geometry.proofs.{Leasts.least-head, Leasts.IsOrder}
@@ -334,11 +334,8 @@ least_full {K = K} before order key so full places sorted are =
 pub partitioned : (test : Place → Bool) → ((a b : Place) → is_place_before b a ≡ false → test b ≡ true
     → test a ≡ true) → (sorted : List Place)
     → Pairwise (λ place later. is_place_before later place ≡ false) sorted → IsPartitionedBy test sorted
-partitioned test so sorted up i j d le h passes = elim (cases_lt i j) [
-  | inl less ↦ so (get_or sorted i d) (get_or sorted j d) (pairwise_at (λ place later. is_place_before later place ≡ false)
-      sorted i j d up less h) passes
-  | inr upto ↦ let same : i ≡ j = omega arith in subst (λ i. test (get_or sorted i d) ≡ true) (sym same) passes
-]
+partitioned test so sorted up = pairwise_upto (λ place later. is_place_before later place ≡ false) (λ a b. test b ≡ true → test a ≡ true)
+    so (λ a passes. passes) sorted up
 
 -- a test passes where one of two does, and never both
 sum_of : {A : Type 0} (p q r : A → Bool) (xs : List A) → ((x : A) → cond {A = ℕ} (p x) 1 0 ≡ cond (q x) 1 0 + cond (r x) 1 0)

@@ -1,9 +1,10 @@
 -- What holds of an outline without a fault.
 pub use Rattle.fb_units.proofs.Lists.{all_get}
-use Rattle.fb_units.proofs.Lists.{element_at, none_of_any}
+use Rattle.fb_units.proofs.Lists.{all_from_index, all_weaker, element_at, none_of_any}
+use Rattle.fb_geometry.proofs.{Slips.rises}
 use Rattle.fb_geometry.proofs.Words.{AllByRecursion, AreZoneNumbers, Bool, GeometryFault, HasZones, IsCylinderOf, IsFaultless}
-use Rattle.fb_geometry.proofs.Words.{IsNonDecreasingBy, IsPartitionPoint, IsZone, IsZoneAt, IsZoneOf, List, None, Option, Shape, Some}
-use Rattle.fb_geometry.proofs.Words.{Track, Zone, [], ap, arith, cases_Bool, cases_lt, cylinder_spares_at, cylinders_of, data_list}
+use Rattle.fb_geometry.proofs.Words.{IsNonDecreasingBy, IsPartitionPoint, IsZone, IsZoneAt, IsZoneOf, List, None, Option, Pairwise, Shape}
+use Rattle.fb_geometry.proofs.Words.{Some, Track, Zone, [], ap, arith, cases_Bool, cases_lt, cylinder_spares_at, cylinders_of, data_list}
 use Rattle.fb_geometry.proofs.Words.{eqb-true, fails_before_first, false, fault_at, find, find_at, first_apart, get_or, has_no_data, inl}
 use Rattle.fb_geometry.proofs.Words.{inr, is_bad_zone, is_too_skewed, le-leb, least, leb-true, length, lesser, list_among, list_any}
 use Rattle.fb_geometry.proofs.Words.{lt-leb, lt-ltb, ltb-false, ltb-true, nat_le, nat_lt, nat_tests, none-some, offset_at, offset_in}
@@ -86,8 +87,9 @@ module _ (disk : Shape) (sound : HasZones disk) where
 
 -- ---- the zone of a cylinder
 
-abbrev Ascends : List Zone → Type 0
-Ascends zones = (i : ℕ) (zone : Zone) → slice_get zones i ≡ Some zone → zone.first ≤ zone.last
+-- the later zone begins behind the other one
+abbrev pub Follow : Zone → Zone → Type 0
+Follow zone later = (zone.last < later.first) × (later.first ≤ later.last)
 
 pub next : (index begin : ℕ) (zone : Zone) (zones : List Zone) → first_apart index begin (zone ∷ zones) ≡ None → (zone.first ≡ begin)
     × (first_apart (index + 1) (zone.last + 1) zones ≡ None)
@@ -96,46 +98,30 @@ next index begin zone zones h = elim (cases_Bool (zone.first == begin)) [
   | inr off ↦ absurd (none-some index (sym (rw off at h)))
 ]
 
--- no zone begins before this one
-pub zones_from : (index begin i : ℕ) (zones : List Zone) (zone : Zone) → first_apart index begin zones ≡ None → Ascends zones
-    → slice_get zones i ≡ Some zone → begin ≤ zone.first
-zones_from index begin i [] zone h up at = absurd (none-some zone at)
-zones_from index begin zero (other ∷ zones) zone h up at = let here = (next index begin other zones h).0 in
-    omega (arith, ap (λ zone. zone.first) (same_Some other zone at))
-zones_from index begin (suc i) (other ∷ zones) zone h up at =
-    let parts = next index begin other zones h in
-    omega (arith, parts.0, up 0 other refl, zones_from (index + 1) (other.last + 1) i zones zone parts.1 (λ j zone. up (suc j) zone) at)
-
--- the last cylinders rise from zone to zone
-pub lasts-rise : (index begin i j : ℕ) (zones : List Zone) (a b : Zone) → first_apart index begin zones ≡ None → Ascends zones
-    → slice_get zones i ≡ Some a → slice_get zones j ≡ Some b → i ≤ j → a.last ≤ b.last
-lasts-rise index begin i j [] a b h up at_a at_b le = absurd (none-some a at_a)
-lasts-rise index begin zero zero (zone ∷ zones) a b h up at_a at_b le =
-    omega (arith, ap (λ zone. zone.last) (same_Some zone a at_a), ap (λ zone. zone.last) (same_Some zone b at_b))
-lasts-rise index begin zero (suc j) (zone ∷ zones) a b h up at_a at_b le =
-    omega (
-      arith,
-      ap (λ zone. zone.last) (same_Some zone a at_a),
-      up (suc j) b at_b,
-      zones_from (index + 1) (zone.last + 1) j zones b
-          (next index begin zone zones h).1 (λ j zone. up (suc j) zone) at_b,
+-- no zone begins before the first has to, and each begins behind the ones before it
+follow : (index begin : ℕ) (zones : List Zone) → first_apart index begin zones ≡ None → AllByRecursion (λ zone. zone.first ≤ zone.last) zones
+    → AllByRecursion (λ zone. (begin ≤ zone.first) × (zone.first ≤ zone.last)) zones × Pairwise Follow zones
+follow index begin [] h up = (tt, tt)
+follow index begin (zone ∷ zones) h up =
+    let parts = next index begin zone zones h in
+    let rest = follow (index + 1) (zone.last + 1) zones parts.1 up.1 in
+    let later = all_weaker (λ later. (zone.last + 1 ≤ later.first) × (later.first ≤ later.last)) in (
+      (
+        (omega (arith, parts.0), up.0),
+        later (λ later. (begin ≤ later.first) × (later.first ≤ later.last))
+            (λ later on. (omega (arith, parts.0, up.0, on.0), on.1)) zones rest.0,
+      ),
+      (later (Follow zone) (λ later on. (omega (arith, on.0), on.1)) zones rest.0, rest.1),
     )
-lasts-rise index begin (suc i) zero (zone ∷ zones) a b h up at_a at_b le = absurd (omega arith)
-lasts-rise index begin (suc i) (suc j) (zone ∷ zones) a b h up at_a at_b le =
-    lasts-rise (index + 1) (zone.last + 1) i j zones a b (next index begin zone zones h).1
-    (λ j zone. up (suc j) zone) at_a at_b (omega arith)
 
 -- a cylinder between the first and the last of a zone is that zone's
-zone_of : (index begin i cylinder : ℕ) (zones : List Zone) (zone : Zone) → first_apart index begin zones ≡ None → Ascends zones
-    → slice_get zones i ≡ Some zone → zone.first ≤ cylinder → cylinder ≤ zone.last → zone_at zones cylinder ≡ Some zone
-zone_of index begin i cylinder [] zone h up at from upto = absurd (none-some zone at)
-zone_of index begin zero cylinder (other ∷ zones) zone h up at from upto =
+zone_of : (i cylinder : ℕ) (zones : List Zone) (zone : Zone) → Pairwise Follow zones → slice_get zones i ≡ Some zone
+    → zone.first ≤ cylinder → cylinder ≤ zone.last → zone_at zones cylinder ≡ Some zone
+zone_of i cylinder [] zone up at from upto = absurd (none-some zone at)
+zone_of zero cylinder (other ∷ zones) zone up at from upto =
     rw (le-leb cylinder other.last (omega (arith, ap (λ zone. zone.last) (same_Some other zone at)))) at
-zone_of index begin (suc i) cylinder (other ∷ zones) zone h up at from upto =
-    let rest = (next index begin other zones h).1 in
-    let after = zones_from (index + 1) (other.last + 1) i zones zone rest (λ j zone. up (suc j) zone) at in
-    rw (lt-leb cylinder other.last (omega arith)) (zone_of (index + 1) (other.last + 1) i cylinder zones zone rest
-    (λ j zone. up (suc j) zone) at from upto)
+zone_of (suc i) cylinder (other ∷ zones) zone up at from upto = let after = all_get (Follow other) zones i zone up.0 at in
+    rw (lt-leb cylinder other.last (omega (arith, after.0))) (zone_of i cylinder zones zone up.1 at from upto)
 
 -- a zone that was found is one of them
 pub find-some : {X : Type 0} (test : X → Bool) (xs : List X) (x : X) → find test xs ≡ Some x
@@ -209,19 +195,19 @@ cylinders-le n (zone ∷ []) all some = omega (arith, all 0 zone refl)
 cylinders-le n (zone ∷ other ∷ zones) all some = cylinders-le n (other ∷ zones) (λ i. all (suc i)) (omega arith)
 
 module _ (disk : Shape) (sound : HasZones disk) where
-  ascends : Ascends disk.zones
-  ascends i zone at = (ranges_of disk sound i zone at).some_cylinders
+  pub zones_follow : Pairwise Follow disk.zones
+  zones_follow = (follow 0 0 disk.zones sound.contiguous (all_from_index (λ zone. zone.first ≤ zone.last) disk.zones
+      (λ i zone at. (ranges_of disk sound i zone at).some_cylinders))).1
 
   pub few_cylinders : cylinders_of disk.zones ≤ 10 ^ 6
   few_cylinders = cylinders-le (10 ^ 6) disk.zones (λ i zone at. (ranges_of disk sound i zone at).few_cylinders) (some_zones disk sound)
 
   pub zones_rise : IsNonDecreasingBy (λ zone. zone.last) disk.zones
-  zones_rise i j d le h = lasts-rise 0 0 i j disk.zones (get_or disk.zones i d) (get_or disk.zones j d) sound.contiguous ascends
-      (slice_get-get_or disk.zones i d (omega arith)) (slice_get-get_or disk.zones j d h) le
+  zones_rise = rises Follow (λ zone. zone.last) (λ zone later on. omega (arith, on.0, on.1)) disk.zones zones_follow
 
   -- the zone that a cylinder has by its bounds
   by_bounds : (i : ℕ) (zone : Zone) (cylinder : ℕ) → IsCylinderOf disk i zone cylinder → zone_at disk.zones cylinder ≡ Some zone
-  by_bounds i zone cylinder h = zone_of 0 0 i cylinder disk.zones zone sound.contiguous ascends h.zone_is h.from h.upto
+  by_bounds i zone cylinder h = zone_of i cylinder disk.zones zone zones_follow h.zone_is h.from h.upto
 
   -- the zone that is found for a cylinder
   pub found_zone : (cylinder : ℕ) (zone : Zone) → zone_at disk.zones cylinder ≡ Some zone → IsZoneOf disk cylinder zone

@@ -199,9 +199,8 @@ some_size PerCylinder disk zone some h = grind (arith, nat_tests)
 
 -- ---- each entry is a slot of its cylinder
 
-pub all-parts : {A : Type 0} (P : A → Type 0) (f : ℕ → List A) (a n : ℕ) → ((i : ℕ) → i < n → AllByRecursion P (f (a + i)))
+pub all-parts : {A : Type 0} (P : A → Type 0) (f : ℕ → List A) (a n : ℕ) → ((k : ℕ) → a ≤ k → k < a + n → AllByRecursion P (f k))
     → AllByRecursion P (flat_map f (range_with_len a n))
 all-parts P f a zero h = tt
-all-parts P f a (suc n) h = all_append P (f a) (flat_map f (range_with_len (a + 1) n)) (subst (λ x. AllByRecursion P (f x))
-    (add_zero a) (h 0 (omega arith)))
-    (all-parts P f (a + 1) n (λ i l. subst (λ x. AllByRecursion P (f x)) (add_one a i) (h (i + 1) (omega arith))))
+all-parts P f a (suc n) h = all_append P (f a) (flat_map f (range_with_len (a + 1) n)) (h a (omega arith) (omega arith))
+    (all-parts P f (a + 1) n (λ k from upto. h k (omega arith) (omega arith)))

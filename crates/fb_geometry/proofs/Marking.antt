@@ -1,35 +1,20 @@
 -- Marks: what binary searches find among marks in order, and the marks of places.
 use Rattle.fb_units.proofs.Lists.{all_at}
 use Rattle.fb_geometry.proofs.Words.{AllByRecursion, AreInOrder, Bool, HasZones, IsAscending, IsNonDecreasingBy, IsNonDecreasingBy-drop}
-use Rattle.fb_geometry.proofs.Words.{IsPartitionPoint, IsZoneOf, List, Mark, None, Pairwise, Place, Shape, Some, Zone, [], and_parts, ap}
-use Rattle.fb_geometry.proofs.Words.{arith, cases_Bool, cases_lt, cylinders_of, drop, eqb-true, false, filter, find, get_or, get_or-map}
-use Rattle.fb_geometry.proofs.Words.{inl, inr, is_lt, is_mark_before, is_outside, le-ltb, length, length-map, length-take-le, list_any}
-use Rattle.fb_geometry.proofs.Words.{lt-ltb, ltb-true, map, mark_of, marks_on, nat_cmp, nat_le, nat_lt, nat_tests, ne_eqb, not, not-false}
+use Rattle.fb_geometry.proofs.Words.{IsPartitionPoint, IsZoneOf, List, Mark, None, Place, Shape, Some, Zone, [], and_parts, ap, arith}
+use Rattle.fb_geometry.proofs.Words.{cases_Bool, cases_lt, cylinders_of, drop, eqb-true, false, filter, find, get_or, get_or-map, inl}
+use Rattle.fb_geometry.proofs.Words.{inr, is_lt, is_mark_before, is_outside, le-ltb, length, length-map, length-take-le, list_any, lt-ltb}
+use Rattle.fb_geometry.proofs.Words.{ltb-true, map, mark_of, marks_on, nat_cmp, nat_le, nat_lt, nat_tests, ne_eqb, not, not-false}
 use Rattle.fb_geometry.proofs.Words.{offset_at, option_map, ordering_then, position_in, positions, rank, refl, same_mark, slice_get}
 use Rattle.fb_geometry.proofs.Words.{slice_get-get_or, slice_get-map, slipped, slot_at, slots_at, subst, suc, sym, take, true, zero}
 use Rattle.fb_geometry.proofs.Words.{zone_at, ℕ, ◌%◌, ◌*◌, ◌+◌, ◌-◌, ◌<◌, ◌==◌, ◌||◌, ◌∙◌, ◌∷◌, ◌≡◌, ◌≤◌}
-use Rattle.fb_geometry.proofs.{Slips.rank-at, Slips.rank_marked, Slips.rank-step, Slips.rank-below, Slips.has, Slips.rank-le_length}
-use Rattle.fb_geometry.proofs.{Slips.free_behind, Slips.next_marked, Turns.position_in-slot_at, Turns.slot_at-position_in}
-use Rattle.fb_geometry.proofs.{Faultless.slots_at-zone, Faultless.offset_at_zone, Faultless.find-none, Faultless.found_zone}
-use Rattle.fb_geometry.proofs.{Faultless.some_zone}
+use Rattle.fb_geometry.proofs.{Slips.rises, Slips.rank-at, Slips.rank_marked, Slips.rank-step, Slips.rank-below, Slips.has}
+use Rattle.fb_geometry.proofs.{Slips.rank-le_length, Slips.free_behind, Slips.next_marked, Turns.position_in-slot_at}
+use Rattle.fb_geometry.proofs.{Turns.slot_at-position_in, Faultless.slots_at-zone, Faultless.offset_at_zone, Faultless.find-none}
+use Rattle.fb_geometry.proofs.{Faultless.found_zone, Faultless.some_zone}
 
 pub position_at : (marks : List Mark) (i : ℕ) (d : Mark) → i < length marks → get_or (positions marks) i 0 ≡ (get_or marks i d).position
 position_at marks i d h = get_or-map (λ mark. mark.position) marks i d 0 h
-
-pub pairwise_at : {A : Type 0} (R : A → A → Type 0) (xs : List A) (i j : ℕ) (d : A) → Pairwise R xs → i < j → j < length xs
-    → R (get_or xs i d) (get_or xs j d)
-pairwise_at R [] i j d up l m = absurd (omega arith)
-pairwise_at R (x ∷ xs) i zero d up l m = absurd (omega arith)
-pairwise_at R (x ∷ xs) zero (suc j) d up l m = all_at (R x) xs j d up.0 (omega arith)
-pairwise_at R (x ∷ xs) (suc i) (suc j) d up l m = pairwise_at R xs i j d up.1 (omega arith) (omega arith)
-
--- elements that stand so to all that follow don't fall
-rises : {A : Type 0} (R : A → A → Type 0) (key : A → ℕ) → ((a b : A) → R a b → key a ≤ key b) → (xs : List A) → Pairwise R xs
-    → IsNonDecreasingBy key xs
-rises R key so xs up i j d le h = elim (cases_lt i j) [
-  | inl less ↦ so (get_or xs i d) (get_or xs j d) (pairwise_at R xs i j d up less h)
-  | inr upto ↦ let same : i ≡ j = omega arith in omega (arith, ap (λ k. key (get_or xs k d)) same)
-]
 
 pub cylinders-rise : (marks : List Mark) → AreInOrder marks → IsNonDecreasingBy (λ mark. mark.cylinder) marks
 cylinders-rise = rises (λ mark later. is_mark_before mark later ≡ true) (λ mark. mark.cylinder) (λ a b h. grind (arith, nat_tests))

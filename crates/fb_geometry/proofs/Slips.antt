@@ -1,13 +1,35 @@
 -- Ascending numbers, and what is left of a list when the elements that pass a test are dropped.
 use Rattle.fb_units.proofs.Comparing.{zero_add}
-use Rattle.fb_units.proofs.Lists.{all_weaker, all_get, element_at}
-use Rattle.fb_geometry.proofs.Words.{AllByRecursion, Bool, HoldsSector, IsAscending, List, Some, [], ap, arith, cases_Bool, cases_lt}
-use Rattle.fb_geometry.proofs.Words.{cond, count_by-le-length, entry_of_sector, eq-eqb, false, filter, get_or, get_or_from_slice_get}
-use Rattle.fb_geometry.proofs.Words.{indexes, inl, inr, le-ltb, length, length-filter, length-filter_more, list_any, lt-ltb, map, nat_lt}
-use Rattle.fb_geometry.proofs.Words.{nat_tests, ne_eqb, none-some, not, option_map, rank, refl, same_Some, slice_get, slice_get-map}
-use Rattle.fb_geometry.proofs.Words.{slice_get_within, slipped, subst, suc, sym, take, true, true≢false, zero, ℕ, ◌+◌, ◌-◌, ◌<◌, ◌==◌}
-use Rattle.fb_geometry.proofs.Words.{◌∙◌, ◌∷◌, ◌≡◌, ◌≤◌}
+use Rattle.fb_units.proofs.Lists.{all_weaker, all_get, all_at, element_at}
+use Rattle.fb_geometry.proofs.Words.{AllByRecursion, Bool, HoldsSector, IsAscending, IsNonDecreasingBy, List, Pairwise, Some, [], ap}
+use Rattle.fb_geometry.proofs.Words.{arith, cases_Bool, cases_lt, cond, count_by-le-length, entry_of_sector, eq-eqb, false, filter}
+use Rattle.fb_geometry.proofs.Words.{get_or, get_or_from_slice_get, indexes, inl, inr, le-ltb, length, length-filter, length-filter_more}
+use Rattle.fb_geometry.proofs.Words.{list_any, lt-ltb, map, nat_lt, nat_tests, ne_eqb, none-some, not, option_map, rank, refl, same_Some}
+use Rattle.fb_geometry.proofs.Words.{slice_get, slice_get-map, slice_get_within, slipped, subst, suc, sym, take, true, true≢false, zero}
+use Rattle.fb_geometry.proofs.Words.{ℕ, ◌+◌, ◌-◌, ◌<◌, ◌==◌, ◌∙◌, ◌∷◌, ◌≡◌, ◌≤◌}
 use Rattle.fb_geometry.proofs.{Grid.count_cons, Grid.add_zero}
+
+-- ---- elements that stand so to all that follow
+
+pub pairwise_at : {A : Type 0} (R : A → A → Type 0) (xs : List A) (i j : ℕ) (d : A) → Pairwise R xs → i < j → j < length xs
+    → R (get_or xs i d) (get_or xs j d)
+pairwise_at R [] i j d up l m = absurd (omega arith)
+pairwise_at R (x ∷ xs) i zero d up l m = absurd (omega arith)
+pairwise_at R (x ∷ xs) zero (suc j) d up l m = all_at (R x) xs j d up.0 (omega arith)
+pairwise_at R (x ∷ xs) (suc i) (suc j) d up l m = pairwise_at R xs i j d up.1 (omega arith) (omega arith)
+
+-- what follows from it, and is so of each element and itself
+pub pairwise_upto : {A : Type 0} (R S : A → A → Type 0) → ((a b : A) → R a b → S a b) → ((a : A) → S a a) → (xs : List A)
+    → Pairwise R xs → (i j : ℕ) (d : A) → i ≤ j → j < length xs → S (get_or xs i d) (get_or xs j d)
+pairwise_upto R S so self xs up i j d le h = elim (cases_lt i j) [
+  | inl less ↦ so (get_or xs i d) (get_or xs j d) (pairwise_at R xs i j d up less h)
+  | inr upto ↦ let same : i ≡ j = omega arith in subst (λ k. S (get_or xs i d) (get_or xs k d)) same (self (get_or xs i d))
+]
+
+-- they don't fall
+pub rises : {A : Type 0} (R : A → A → Type 0) (key : A → ℕ) → ((a b : A) → R a b → key a ≤ key b) → (xs : List A) → Pairwise R xs
+    → IsNonDecreasingBy key xs
+rises R key so = pairwise_upto R (λ a b. key a ≤ key b) so (λ a. omega arith)
 
 -- ---- ascending numbers
 
