@@ -6,11 +6,11 @@ use Rattle.fb_geometry.proofs.Words.{AllByRecursion, AreZoneNumbers, Bool, Geome
 use Rattle.fb_geometry.proofs.Words.{IsNonDecreasingBy, IsPartitionPoint, IsZone, IsZoneAt, IsZoneOf, List, None, Option, Pairwise, Shape}
 use Rattle.fb_geometry.proofs.Words.{Some, Track, Zone, [], ap, arith, cases_Bool, cases_lt, cylinder_spares_at, cylinders_of, data_list}
 use Rattle.fb_geometry.proofs.Words.{eqb-true, fails_before_first, false, fault_at, find, find_at, first_apart, get_or, has_no_data, inl}
-use Rattle.fb_geometry.proofs.Words.{inr, is_bad_zone, is_too_skewed, le-leb, least, leb-true, length, lesser, list_among, list_any}
-use Rattle.fb_geometry.proofs.Words.{lt-leb, lt-ltb, ltb-false, ltb-true, nat_le, nat_lt, nat_tests, none-some, offset_at, offset_in}
-use Rattle.fb_geometry.proofs.Words.{or_else, or_parts, position, position_or_len, recursion_from_All, refl, same_Some, slice_get}
-use Rattle.fb_geometry.proofs.Words.{slice_get-get_or, slice_index_or, slots_at, spares_at, subst, suc, sym, true, zero, zone_at}
-use Rattle.fb_geometry.proofs.Words.{zone_tells, ℕ, ◌+◌, ◌<◌, ◌==◌, ◌^◌, ◌||◌, ◌∙◌, ◌∷◌, ◌≡◌, ◌≤◌}
+use Rattle.fb_geometry.proofs.Words.{inr, is_bad_zone, is_too_skewed, le-leb, least, leb-true, length, lesser, list_among, lt-leb, lt-ltb}
+use Rattle.fb_geometry.proofs.Words.{ltb-false, ltb-true, nat_le, nat_lt, nat_tests, none-some, offset_at, offset_in, or_else, or_parts}
+use Rattle.fb_geometry.proofs.Words.{position, position_or_len, recursion_from_All, refl, same_Some, slice_get, slice_get-get_or}
+use Rattle.fb_geometry.proofs.Words.{slice_index_or, slots_at, spares_at, subst, suc, sym, true, zero, zone_at, zone_tells, ℕ, ◌+◌, ◌<◌}
+use Rattle.fb_geometry.proofs.Words.{◌==◌, ◌^◌, ◌∙◌, ◌∷◌, ◌≡◌, ◌≤◌}
 
 -- ---- chains
 
@@ -54,36 +54,32 @@ least-none {X = X} is_before (x ∷ xs) h = absurd (lesser_some (least is_before
 -- ---- zones
 
 module _ (disk : Shape) (sound : HasZones disk) where
-  good_zones : AllByRecursion (λ zone. is_bad_zone disk zone ≡ false) disk.zones
-  good_zones = none_of_any (is_bad_zone disk) disk.zones
-      (or_parts ((disk.rotation == 0) || nat_lt (10 ^ 9) disk.rotation || (disk.heads == 0) || nat_lt 64
-      disk.heads || (length disk.zones == 0) || nat_lt 64 (length disk.zones)) (list_any (is_bad_zone disk) disk.zones) sound.in_range).1
+  good_zone : (i : ℕ) (zone : Zone) → slice_get disk.zones i ≡ Some zone → is_bad_zone disk zone ≡ false
+  good_zone i zone at = all_get (λ zone. is_bad_zone disk zone ≡ false) disk.zones i zone
+      (none_of_any (is_bad_zone disk) disk.zones (or_parts _ _ sound.in_range).1) at
 
   pub some_zones : 0 < length disk.zones
   some_zones = grind (arith, nat_tests, sound.in_range)
 
-  good_zone : (zone : Zone) → is_bad_zone disk zone ≡ false → is_too_skewed zone ≡ false → IsZone zone
-  good_zone zone h k = record {
-    some_sectors = grind (arith, nat_tests, h);
-    few_sectors = grind (arith, nat_tests, h);
-    some_cylinders = grind (arith, nat_tests, h);
-    few_cylinders = grind (arith, nat_tests, h);
-    track_skew = grind (arith, nat_tests, k);
-    cylinder_skew = grind (arith, nat_tests, k);
-  }
-
   -- the numbers of each zone are in their ranges
   pub ranges_of : (i : ℕ) (zone : Zone) → slice_get disk.zones i ≡ Some zone → IsZone zone
-  ranges_of i zone at = good_zone zone (all_get (λ zone. is_bad_zone disk zone ≡ false) disk.zones i zone good_zones at)
-      (all_get (λ zone. is_too_skewed zone ≡ false) disk.zones i zone (position-none is_too_skewed disk.zones sound.skews) at)
+  ranges_of i zone at =
+      let good = good_zone i zone at in
+      let flat = all_get (λ zone. is_too_skewed zone ≡ false) disk.zones i zone (position-none is_too_skewed disk.zones sound.skews) at in
+      record {
+        some_sectors = grind (arith, nat_tests, good);
+        few_sectors = grind (arith, nat_tests, good);
+        some_cylinders = grind (arith, nat_tests, good);
+        few_cylinders = grind (arith, nat_tests, good);
+        track_skew = grind (arith, nat_tests, flat);
+        cylinder_skew = grind (arith, nat_tests, flat);
+      }
 
   pub short_slots : (i : ℕ) (zone : Zone) → slice_get disk.zones i ≡ Some zone → zone.sectors ≤ disk.rotation
-  short_slots i zone at = grind (arith, nat_tests, all_get (λ zone. is_bad_zone disk zone ≡ false) disk.zones i zone good_zones at)
+  short_slots i zone at = grind (arith, nat_tests, good_zone i zone at)
 
   pub data_of : (i : ℕ) (zone : Zone) → slice_get disk.zones i ≡ Some zone → has_no_data disk.layout disk zone ≡ false
-  data_of i zone at = (or_parts (nat_lt zone.last zone.first || nat_lt 999999 zone.last || (zone.sectors == 0) || nat_lt 10000
-      zone.sectors || nat_lt disk.rotation zone.sectors) (has_no_data disk.layout disk zone)
-      (all_get (λ zone. is_bad_zone disk zone ≡ false) disk.zones i zone good_zones at)).1
+  data_of i zone at = (or_parts _ _ (good_zone i zone at)).1
 
 -- ---- the zone of a cylinder
 
@@ -105,13 +101,13 @@ follow index begin [] h up = (tt, tt)
 follow index begin (zone ∷ zones) h up =
     let parts = next index begin zone zones h in
     let rest = follow (index + 1) (zone.last + 1) zones parts.1 up.1 in
-    let later = all_weaker (λ later. (zone.last + 1 ≤ later.first) × (later.first ≤ later.last)) in (
+    let over = λ (later : Zone). (zone.last + 1 ≤ later.first) × (later.first ≤ later.last) in (
       (
         (omega (arith, parts.0), up.0),
-        later (λ later. (begin ≤ later.first) × (later.first ≤ later.last))
+        all_weaker over (λ later. (begin ≤ later.first) × (later.first ≤ later.last))
             (λ later on. (omega (arith, parts.0, up.0, on.0), on.1)) zones rest.0,
       ),
-      (later (Follow zone) (λ later on. (omega (arith, on.0), on.1)) zones rest.0, rest.1),
+      (all_weaker over (Follow zone) (λ later on. (omega (arith, on.0), on.1)) zones rest.0, rest.1),
     )
 
 -- a cylinder between the first and the last of a zone is that zone's

@@ -19,13 +19,11 @@ module _ (zone : Zone) (heads : ℕ) (some : 0 < zone.sectors) (cylinder p : ℕ
       ≡ record { track = (slot_at zone heads cylinder p).track; slot = ((slot_at zone heads cylinder p).slot + i) % zone.sectors }
   next_slot i inside =
       let n = zone.sectors in
+      let offset = offset_in zone heads (slot_at zone heads cylinder p).track in
       let whole : p + i ≡ p / n * n + (p % n + i) = omega (arith, div-add-mod' p n) in
-      ap (slot_at zone heads cylinder) whole
-      ∙ (slot_on zone heads some cylinder (p / n) (p % n + i) inside
-      ∙ ap (λ s. record { track = (slot_at zone heads cylinder p).track; slot = s })
-      (ap (λ x. x % n) (let sums : offset_in zone heads (slot_at zone heads cylinder p).track + (p % n + i) ≡ offset_in zone heads
-      (slot_at zone heads cylinder p).track + p % n + i = omega arith in sums)
-      ∙ sym (mod-add-mod (offset_in zone heads (slot_at zone heads cylinder p).track + p % n) n i)))
+      let sums : offset + (p % n + i) ≡ offset + p % n + i = omega arith in
+      ap (slot_at zone heads cylinder) whole ∙ (slot_on zone heads some cylinder (p / n) (p % n + i) inside
+      ∙ rw (mod-add-mod (offset + p % n) n i, sums) refl)
 
   -- how many slots of the turn come before
   pub turned : ((slot_at zone heads cylinder p).slot + zone.sectors - offset_in zone heads (slot_at zone heads cylinder p).track)
@@ -148,11 +146,8 @@ module _ (disk : Shape) (zone : Zone) (cylinder : ℕ) (at : IsZoneAt disk cylin
 
 -- from the first track's offset on to that of another
 turned_on : (a s h i n : ℕ) → ((a + 0 * s) % n + h * s + i) % n ≡ ((a + h * s) % n + i) % n
-turned_on a s h i n = sym (mod-add-mod ((a + 0 * s) % n + h * s) n i) ∙ ap (λ x. (x + i) % n) (mod-add-mod (a + 0 * s) n (h * s)
-    ∙ ap (λ x. x % n) (same a s h))
-  where
-    same : (a s h : ℕ) → a + 0 * s + h * s ≡ a + h * s
-    same a s h = omega arith
+turned_on a s h i n = let same : a + 0 * s + h * s ≡ a + h * s = omega arith in
+    sym (mod-add-mod ((a + 0 * s) % n + h * s) n i) ∙ ap (λ x. (x + i) % n) (mod-add-mod (a + 0 * s) n (h * s) ∙ ap (λ x. x % n) same)
 
 module _ (disk : Shape) (zone : Zone) (cylinder : ℕ) (at : IsZoneAt disk cylinder zone) (clean : HasNoBad disk zone cylinder) where
   -- each sector is on the slot that its number says
