@@ -1,11 +1,11 @@
 -- The marks of an accepted outline are its index of bad slots.
 use Rattle.fb_units.proofs.Lists.{all_dropped}
-use Rattle.fb_geometry.proofs.Words.{AllByRecursion, AreInOrder, AreMarksOf, Bool, HasZones, IsAscending, IsIndexed, IsZoneAt, IsZoneOf}
-use Rattle.fb_geometry.proofs.Words.{List, Mark, Place, Shape, Some, Zone, [], among_unmarked, ap, arith, by_head, cases_order}
-use Rattle.fb_geometry.proofs.Words.{cylinder_slots, eq-eqb, false, filter, good_track, indexes, inl, inr, is_among, is_mark_before}
-use Rattle.fb_geometry.proofs.Words.{is_outside, list_any, map, mark_of, marks_on, nat_tests, not, or_left, position_in, positions, rank}
-use Rattle.fb_geometry.proofs.Words.{refl, same_Some, same_mark, same_place, slice_get, slice_get_within, slot_at, subst, suc, sym, true}
-use Rattle.fb_geometry.proofs.Words.{true≢false, zone_at, ℕ, ◌*◌, ◌+◌, ◌-◌, ◌<◌, ◌==◌, ◌∙◌, ◌∷◌, ◌≡◌}
+use Rattle.fb_geometry.proofs.Words.{AllByRecursion, AreInOrder, AreMarksOf, Bool, HasZones, IsAscending, IsIndexed, IsZoneAt, List, Mark}
+use Rattle.fb_geometry.proofs.Words.{Place, Shape, Some, Zone, [], among_unmarked, ap, arith, by_head, cases_order, cylinder_slots}
+use Rattle.fb_geometry.proofs.Words.{eq-eqb, false, filter, good_track, indexes, inl, inr, is_among, is_mark_before, is_outside, list_any}
+use Rattle.fb_geometry.proofs.Words.{map, mark_of, marks_on, nat_tests, or_left, position_in, positions, rank, refl, same_Some, same_mark}
+use Rattle.fb_geometry.proofs.Words.{same_place, slice_get, slice_get_within, slot_at, subst, suc, sym, true, true≢false, zone_at, ℕ, ◌*◌}
+use Rattle.fb_geometry.proofs.Words.{◌+◌, ◌-◌, ◌<◌, ◌==◌, ◌∙◌, ◌∷◌, ◌≡◌}
 use Rattle.fb_geometry.proofs.{Slips.all_over, Slips.not_among_later, Slips.indexes-ascend, Slips.is_marked_at, Slips.index_of}
 use Rattle.fb_geometry.proofs.{Slips.goes, Slips.rank_free, Slips.rank-below, Turns.get-cylinder_slots, Turns.length-cylinder_slots}
 use Rattle.fb_geometry.proofs.{Turns.good_cylinder-is, Faultless.slots_at-zone, Faultless.all_get, Laws.same_places, Lookups.slot_of}
@@ -47,21 +47,29 @@ ascending_same (x ∷ xs) (y ∷ ys) a b same = elim (cases_order x y) [
 
 -- ---- members
 
-module _ {A : Type 0} (test : A → Bool) where
-  -- marks in order are the indexes of the elements that pass, if each is the index of one, and each of them has its mark
-  marks_indexed : (cylinder : ℕ) (marks : List Mark) (xs : List A) → AreInOrder marks
-      → ((q : ℕ) → Among marks (record { cylinder = cylinder; position = q }) → (x : A) × (slice_get xs q ≡ Some x) × (test x ≡ true))
-      → ((q : ℕ) (x : A) → slice_get xs q ≡ Some x → test x ≡ true → Among marks (record { cylinder = cylinder; position = q }))
-      → positions (marks_on cylinder marks) ≡ indexes test 0 xs
-  marks_indexed cylinder marks xs ordered to from = ascending_same (positions (marks_on cylinder marks)) (indexes test 0 xs)
-      (marks_on-ascend cylinder marks ordered) (indexes-ascend test 0 xs)
-      (λ q. let mark : Mark = record { cylinder = cylinder; position = q } in
-      iff_same (list_any (λ other. other == q) (positions (marks_on cylinder marks))) (list_any (λ other. other == q) (indexes test 0 xs))
-      (λ on. let one = any-among (same_mark mark) marks (sym (among-on mark marks) ∙ on) in
-      let found = to q (one.1.0, one.1.1 ∙ ap Some (sym (same_marks mark one.0 one.2))) in
-      is_marked_at test xs q found.0 found.1 ∙ found.2)
-      (λ on. let found = index_of test xs q on in among-on mark marks ∙ among-any (same_mark mark) marks mark
-      (from q found.0 found.1 found.2) (same_mark-refl mark)))
+-- marks in order are the indexes of these places in a list, if they are the marks of the places, each with the index of its place
+marks_indexed : (cylinder : ℕ) (places xs : List Place) (marks : List Mark) (mark : Place → Mark) → AreInOrder marks
+    → ((place : Place) → Among places place → Among marks (mark place))
+    → ((other : Mark) → Among marks other → (place : Place) × Among places place × (mark place ≡ other))
+    → ((place : Place) → Among places place → (mark place).cylinder ≡ cylinder → slice_get xs (mark place).position ≡ Some place)
+    → ((q : ℕ) (place : Place) → slice_get xs q ≡ Some place → Among places place → mark place
+    ≡ record { cylinder = cylinder; position = q })
+    → positions (marks_on cylinder marks) ≡ indexes (is_among places) 0 xs
+marks_indexed cylinder places xs marks mark ordered to from here back =
+    ascending_same (positions (marks_on cylinder marks)) (indexes (is_among places) 0 xs) (marks_on-ascend cylinder marks ordered)
+    (indexes-ascend (is_among places) 0 xs) (λ q. let own : Mark = record { cylinder = cylinder; position = q } in
+    iff_same (list_any (λ other. other == q) (positions (marks_on cylinder marks)))
+    (list_any (λ other. other == q) (indexes (is_among places) 0 xs))
+    (λ on. let one = any-among (same_mark own) marks (sym (among-on own marks) ∙ on) in
+    let found = from own (one.1.0, one.1.1 ∙ ap Some (sym (same_marks own one.0 one.2))) in
+    is_marked_at (is_among places) xs q found.0 (ap (λ (other : Mark). slice_get xs other.position) (sym found.2)
+    ∙ here found.0 found.1 (ap (λ (other : Mark). other.cylinder) found.2))
+    ∙ among-any (same_place found.0) places found.0 found.1 (same_place-refl found.0))
+    (λ on. let found = index_of (is_among places) xs q on in
+    let one = any-among (same_place found.0) places found.2 in
+    let listed : Among places found.0 = (one.1.0, one.1.1 ∙ ap Some (sym (same_places found.0 one.0 one.2))) in
+    among-on own marks ∙ among-any (same_mark own) marks own (subst (Among marks) (back q found.0 found.1 listed) (to found.0 listed))
+    (same_mark-refl own)))
 
 mark_by : (mark : Mark) (cylinder position : ℕ) → mark.cylinder ≡ cylinder → mark.position ≡ position
     → mark ≡ record { cylinder = cylinder; position = position }
@@ -80,50 +88,26 @@ module _ (disk : Shape) (zones : HasZones disk) (defects : List Mark) (are : Are
 
   pub defects_indexed : (zone : Zone) (cylinder : ℕ) → IsZoneAt disk cylinder zone → positions (marks_on cylinder defects)
       ≡ indexes (is_among disk.defects) 0 (cylinder_slots zone disk.heads cylinder)
-  defects_indexed zone cylinder at = marks_indexed (is_among disk.defects) cylinder defects (cylinder_slots zone disk.heads
-      cylinder) are.ordered to from
+  defects_indexed zone cylinder at =
+      marks_indexed cylinder disk.defects (cylinder_slots zone disk.heads cylinder) defects (mark_of disk) are.ordered
+      (mark_among disk zones disk.defects defects are.inside are.same) (place_among disk zones disk.defects defects are.inside are.same)
+      here back
     where
-      some : 0 < zone.sectors
-      some = at.ranges.some_sectors
+      here : (place : Place) → Among disk.defects place → place.track.cylinder ≡ cylinder
+          → slice_get (cylinder_slots zone disk.heads cylinder) (mark_of disk place).position ≡ Some place
+      here place one c =
+          let slot = place_slot zone cylinder place at c (inside_of disk zones disk.defects defects are.inside are.same place one) in
+          ap (slice_get (cylinder_slots zone disk.heads cylinder)) slot.2 ∙ (slot_of disk zone cylinder at place c slot.0 slot.1).1
 
-      of : IsZoneOf disk cylinder zone
-      of = record { found = at.found; ranges = at.ranges; from = at.from; upto = at.upto }
-
-      -- any numbers will do for the search of a slot
-      to : (q : ℕ) → Among defects (record { cylinder = cylinder; position = q }) → (place : Place)
-          × (slice_get (cylinder_slots zone disk.heads cylinder) q ≡ Some place) × (is_among disk.defects place ≡ true)
-      to q h =
-          let one = place_among disk zones disk.defects defects are.inside are.same (record { cylinder = cylinder; position = q }) h in
-          let place = one.0 in
-          let inside = inside_of disk zones disk.defects defects are.inside are.same place one.1 in
-          let c : place.track.cylinder ≡ cylinder = ap (λ mark. mark.cylinder) one.2 in
-          let slot = place_slot zone cylinder place at c inside in
-          let here = (slot_of disk zone cylinder at place c slot.0 slot.1).1 in
-          let position : position_in zone disk.heads place ≡ q = sym slot.2 ∙ ap (λ mark. mark.position) one.2 in (
-            place,
-            ap (slice_get (cylinder_slots zone disk.heads cylinder)) (sym position) ∙ here,
-            among-any (same_place place) disk.defects
-                place one.1 (same_place-refl place),
-          )
-
-      from : (q : ℕ) (place : Place) → slice_get (cylinder_slots zone disk.heads cylinder) q ≡ Some place → is_among disk.defects place
-          ≡ true → Among defects (record { cylinder = cylinder; position = q })
-      from q place at_q bad =
-          let inside : q < disk.heads * zone.sectors =
-          omega (
-            arith,
-            slice_get_within (cylinder_slots zone disk.heads cylinder) q place at_q,
-            length-cylinder_slots zone
-                disk.heads some cylinder,
-          ) in
-          let is : slot_at zone disk.heads cylinder q ≡ place = same_Some (slot_at zone disk.heads cylinder q) place
-          (sym (get-cylinder_slots zone disk.heads some cylinder q inside) ∙ at_q) in
-          let defect = any-among (same_place place) disk.defects bad in
-          let found = mark_among disk zones disk.defects defects are.inside are.same defect.0 defect.1 in (
-            found.0,
-            found.1 ∙ ap Some (ap (mark_of disk) (sym (is ∙ same_places place defect.0 defect.2))
-                ∙ mark_of-slot_at disk zone cylinder q of),
-          )
+      back : (q : ℕ) (place : Place) → slice_get (cylinder_slots zone disk.heads cylinder) q ≡ Some place → Among disk.defects place
+          → mark_of disk place ≡ record { cylinder = cylinder; position = q }
+      back q place at_q one =
+          let some = at.ranges.some_sectors in
+          let within_ = slice_get_within (cylinder_slots zone disk.heads cylinder) q place at_q in
+          let inside : q < disk.heads * zone.sectors = omega (arith, within_, length-cylinder_slots zone disk.heads some cylinder) in
+          ap (mark_of disk) (same_Some place (slot_at zone disk.heads cylinder q) (sym at_q
+          ∙ get-cylinder_slots zone disk.heads some cylinder q inside))
+          ∙ mark_of-slot_at disk zone cylinder q (record { found = at.found; ranges = at.ranges; from = at.from; upto = at.upto })
 
 -- ---- grown defects
 
@@ -171,15 +155,16 @@ module _ (disk : Shape) (zones : HasZones disk) (defects grown : List Mark) (are
       → positions (marks_on cylinder (map (among_unmarked defects) grown))
       ≡ indexes (is_among disk.grown) 0 (by_head disk cylinder (good_track disk zone))
   grown_indexed zone cylinder at =
-      marks_indexed (is_among disk.grown) cylinder (map (among_unmarked defects) grown)
-      (by_head disk cylinder (good_track disk zone)) grown_in_order to from
+      marks_indexed cylinder disk.grown (by_head disk cylinder (good_track disk zone)) (map (among_unmarked defects) grown)
+      (λ place. among_unmarked defects (mark_of disk place)) grown_in_order
+      (λ place one. among-map (among_unmarked defects) grown (mark_of disk place)
+      (mark_among disk zones disk.grown grown those.inside those.same place one))
+      (λ other one. let found = among-mapped (among_unmarked defects) grown other one in
+      let own = place_among disk zones disk.grown grown those.inside those.same found.0 found.1 in
+      (own.0, own.1, ap (among_unmarked defects) own.2 ∙ found.2)) here back
     where
-      some : 0 < zone.sectors
-      some = at.ranges.some_sectors
-
-      whole-is : by_head disk cylinder (good_track disk zone) ≡ filter (λ place. not (is_among disk.defects place))
-          (cylinder_slots zone disk.heads cylinder)
-      whole-is = good_cylinder-is disk zone some cylinder
+      whole-is : by_head disk cylinder (good_track disk zone) ≡ good_of disk zone cylinder
+      whole-is = good_cylinder-is disk zone at.ranges.some_sectors cylinder
 
       -- the index of a good place, by its mark
       index_is : (place : Place) → place.track.cylinder ≡ cylinder → (mark_of disk place).position ≡ position_in zone disk.heads place
@@ -190,38 +175,26 @@ module _ (disk : Shape) (zones : HasZones disk) (defects grown : List Mark) (are
           ∙ ap (λ ns. position_in zone disk.heads place - rank (position_in zone disk.heads place) ns)
           (defects_indexed disk zones defects are zone cylinder at))
 
-      to : (q : ℕ) → Among (map (among_unmarked defects) grown) (record { cylinder = cylinder; position = q })
-          → (place : Place) × (slice_get (by_head disk cylinder (good_track disk zone)) q ≡ Some place) × (is_among disk.grown place ≡ true)
-      to q h =
-          let found = among-mapped (among_unmarked defects) grown (record { cylinder = cylinder; position = q }) h in
-          let one = place_among disk zones disk.grown grown those.inside those.same found.0 found.1 in
-          let place = one.0 in
-          let inside = inside_of disk zones disk.grown grown those.inside those.same place one.1 in
-          let c : place.track.cylinder ≡ cylinder = ap (λ mark. mark.cylinder) one.2 ∙ ap (λ mark. mark.cylinder) found.2 in
-          let slot = place_slot disk zones defects are zone cylinder place at c inside in
-          let index = sym (index_is place c slot.2) ∙ (ap (λ mark. (among_unmarked defects mark).position) one.2
-          ∙ ap (λ mark. mark.position) found.2) in
-          let here = goes (is_among disk.defects) (cylinder_slots zone disk.heads cylinder) (position_in zone disk.heads place) place
-          (slot_of disk zone cylinder at place c slot.0 slot.1).1 (good_place place one.1) in (
-            place,
-            ap (λ xs. slice_get xs q) whole-is ∙ subst (λ k. slice_get (good_of disk zone cylinder) k ≡ Some place) index here,
-            among-any (same_place place) disk.grown place one.1 (same_place-refl place),
-          )
+      slot : (place : Place) → Among disk.grown place → place.track.cylinder ≡ cylinder → (place.track.head < disk.heads)
+          × (place.slot < zone.sectors) × ((mark_of disk place).position ≡ position_in zone disk.heads place)
+      slot place one c = place_slot disk zones defects are zone cylinder place at c
+          (inside_of disk zones disk.grown grown those.inside those.same place one)
 
-      from : (q : ℕ) (place : Place) → slice_get (by_head disk cylinder (good_track disk zone)) q ≡ Some place
-          → is_among disk.grown place ≡ true
-          → Among (map (among_unmarked defects) grown) (record { cylinder = cylinder; position = q })
-      from q place at_q bad =
+      here : (place : Place) → Among disk.grown place → place.track.cylinder ≡ cylinder
+          → slice_get (by_head disk cylinder (good_track disk zone)) (among_unmarked defects (mark_of disk place)).position ≡ Some place
+      here place one c =
+          let on = slot place one c in
+          ap (λ xs. slice_get xs (among_unmarked defects (mark_of disk place)).position) whole-is
+          ∙ (ap (slice_get (good_of disk zone cylinder)) (index_is place c on.2)
+          ∙ goes (is_among disk.defects) (cylinder_slots zone disk.heads cylinder) (position_in zone disk.heads place) place
+          (slot_of disk zone cylinder at place c on.0 on.1).1 (good_place place one))
+
+      back : (q : ℕ) (place : Place) → slice_get (by_head disk cylinder (good_track disk zone)) q ≡ Some place → Among disk.grown place
+          → among_unmarked defects (mark_of disk place) ≡ record { cylinder = cylinder; position = q }
+      back q place at_q one =
           let good = good_lies disk zone cylinder at q place (ap (λ xs. slice_get xs q) (sym whole-is) ∙ at_q) in
-          let on = good.lies in
-          let gone = any-among (same_place place) disk.grown bad in
-          let listed : Among disk.grown place = (gone.1.0, gone.1.1 ∙ ap Some (sym (same_places place gone.0 gone.2))) in
-          let inside = inside_of disk zones disk.grown grown those.inside those.same place listed in
-          let slot = place_slot disk zones defects are zone cylinder place at on.cylinder_is inside in
-          let index : (among_unmarked defects (mark_of disk place)).position ≡ q = index_is place on.cylinder_is slot.2 ∙ sym good.index in
-          let marked_ = among-map (among_unmarked defects) grown (mark_of disk place) (mark_among disk zones disk.grown grown those.inside
-          those.same place listed) in
-          (marked_.0, marked_.1 ∙ ap Some (mark_by (among_unmarked defects (mark_of disk place)) cylinder q on.cylinder_is index))
+          let c = good.lies.cylinder_is in
+          mark_by (among_unmarked defects (mark_of disk place)) cylinder q c (index_is place c (slot place one c).2 ∙ sym good.index)
 
   pub indexed : IsIndexed disk defects (map (among_unmarked defects) grown)
   indexed = record { defects_at = defects_indexed disk zones defects are; grown_at = grown_indexed }
