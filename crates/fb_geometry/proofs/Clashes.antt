@@ -1,5 +1,5 @@
 -- Places that are given twice, the marks of places that are given once, and tracks with more of them than spares.
-use Rattle.fb_units.proofs.Lists.{none_of_any, all_filter}
+use Rattle.fb_units.proofs.Lists.{none_of_any}
 use Rattle.fb_geometry.proofs.Words.{All-from_get_or, AllByRecursion, AreInOrder, AreSorted, Bool, Contains-permutation, HasZones}
 use Rattle.fb_geometry.proofs.Words.{IsDistinct, IsDistinct-IsPermutation, IsPartitionPoint, IsPartitionedBy, IsPermutation}
 use Rattle.fb_geometry.proofs.Words.{IsPermutation-map, IsPermutation-sym, IsSortedBy, IsStrictWeakOrder, List, Mark, Pairwise, Place}
@@ -11,10 +11,10 @@ use Rattle.fb_geometry.proofs.Words.{same_mark, same_place, slice_get, slice_get
 use Rattle.fb_geometry.proofs.Words.{sum_by-IsPermutation, sym, true, true≢false, with_repeated, zero, ℕ, ◌++◌, ◌+◌, ◌-◌, ◌<◌, ◌∙◌, ◌∷◌}
 use Rattle.fb_geometry.proofs.Words.{◌≡◌, ◌≤◌, ◌⊎◌}
 use Rattle.fb_geometry.proofs.{Grid.count_cons, Faultless.all_get, Laws.same_places, Marking.mark_of-same, Marking.same_marks}
-use Rattle.fb_geometry.proofs.{Marking.same_mark-refl, Marking.point-is, Slips.pairwise_upto, Leasts.place_order, Leasts.Among}
-use Rattle.fb_geometry.proofs.{Leasts.among-tail, Leasts.among-left, Leasts.among-right, Leasts.among-append, Leasts.among-filter}
-use Rattle.fb_geometry.proofs.{Leasts.among-filtered, Leasts.among-mapped, Leasts.among-map, Leasts.among-any, Leasts.any-among}
-use Rattle.fb_geometry.proofs.{Leasts.least-head, Leasts.IsOrder}
+use Rattle.fb_geometry.proofs.{Marking.same_mark-refl, Marking.point-is, Slips.pairwise_upto, Slips.pairwise-filter, Slips.pairwise-map}
+use Rattle.fb_geometry.proofs.{Leasts.place_order, Leasts.Among, Leasts.among-tail, Leasts.among-left, Leasts.among-right}
+use Rattle.fb_geometry.proofs.{Leasts.among-append, Leasts.among-filter, Leasts.among-filtered, Leasts.among-mapped, Leasts.among-map}
+use Rattle.fb_geometry.proofs.{Leasts.among-any, Leasts.any-among, Leasts.least-head, Leasts.IsOrder}
 
 -- ---- pairs
 
@@ -25,23 +25,6 @@ pairwise_from R (x ∷ xs) d h = (
   recursion_from_All (R x) xs (All-from_get_or (R x) xs d (λ j l. h 0 (suc j) (omega arith) (omega arith))),
   pairwise_from R xs d (λ i j l m. h (suc i) (suc j) (omega arith) (omega arith)),
 )
-
-pub pairwise-filter : {A : Type 0} (R : A → A → Type 0) (test : A → Bool) (xs : List A) → Pairwise R xs → Pairwise R (filter test xs)
-pairwise-filter R test [] h = tt
-pairwise-filter R test (x ∷ xs) h = elim (cases_Bool (test x)) [
-  | inl in_ ↦ rw in_ (all_filter (R x) test xs h.0, pairwise-filter R test xs h.1)
-  | inr out ↦ rw out (pairwise-filter R test xs h.1)
-]
-
--- what elements say of each other is so of what they are mapped to
-pub pairwise-map : {A B : Type 0} (R : A → A → Type 0) (S : B → B → Type 0) (f : A → B) → ((x y : A) → R x y → S (f x) (f y))
-    → (xs : List A) → Pairwise R xs → Pairwise S (map f xs)
-pairwise-map R S f so [] h = tt
-pairwise-map {A = A} R S f so (x ∷ xs) h = (each xs h.0, pairwise-map R S f so xs h.1)
-  where
-    each : (ys : List A) → AllByRecursion (R x) ys → AllByRecursion (S (f x)) (map f ys)
-    each [] all = tt
-    each (y ∷ ys) all = (so x y all.0, each ys all.1)
 
 -- a list that was sorted is in order
 pub sorted-rise : {A : Type 0} (before : A → A → Bool) → IsStrictWeakOrder before → (xs : List A) (d : A) → IsSortedBy before xs
@@ -319,7 +302,8 @@ pub least_full : {K : Type 0} (before : K → K → Bool) → IsOrder before →
 least_full {K = K} before order key so full places sorted are =
     least-head before order (filter full (map key places)) (filter full (map key sorted)) (kept (map key places) (map key sorted) same)
     (kept (map key sorted) (map key places) (IsPermutation-sym (map key places) (map key sorted) same))
-    (pairwise-filter (λ x later. before later x ≡ false) full (map key sorted) (pairwise-map (λ place later. is_place_before later place
+    (pairwise-filter (λ x later. before later x ≡ false) (λ x later. before later x ≡ false) full (λ x later here there h. h)
+    (map key sorted) (pairwise-map (λ place later. is_place_before later place
     ≡ false) (λ x later. before later x ≡ false) key so sorted are.rise))
     ∙ first_full key full sorted
   where

@@ -1,18 +1,19 @@
 -- The marks of an accepted outline are its index of bad slots.
-use Rattle.fb_units.proofs.Lists.{all_dropped}
-use Rattle.fb_geometry.proofs.Words.{AllByRecursion, AreInOrder, AreMarksOf, Bool, HasZones, IsAscending, IsIndexed, IsZoneAt, List, Mark}
+use Rattle.fb_units.proofs.Lists.{all_dropped, all_weaker}
+use Rattle.fb_geometry.proofs.Words.{AreInOrder, AreMarksOf, Bool, HasZones, IsAscending, IsIndexed, IsZoneAt, List, Mark, Pairwise}
 use Rattle.fb_geometry.proofs.Words.{Place, Shape, Some, Zone, [], among_unmarked, ap, arith, by_head, cases_order, cylinder_slots}
 use Rattle.fb_geometry.proofs.Words.{eq-eqb, false, filter, good_track, indexes, inl, inr, is_among, is_mark_before, is_outside, list_any}
 use Rattle.fb_geometry.proofs.Words.{map, mark_of, marks_on, nat_tests, or_left, position_in, positions, rank, refl, same_Some, same_mark}
 use Rattle.fb_geometry.proofs.Words.{same_place, slice_get, slice_get_within, slot_at, subst, suc, sym, true, true≢false, zone_at, ℕ, ◌*◌}
 use Rattle.fb_geometry.proofs.Words.{◌+◌, ◌-◌, ◌<◌, ◌==◌, ◌∙◌, ◌∷◌, ◌≡◌}
-use Rattle.fb_geometry.proofs.{Slips.all_over, Slips.not_among_later, Slips.indexes-ascend, Slips.is_marked_at, Slips.index_of}
-use Rattle.fb_geometry.proofs.{Slips.goes, Slips.rank_free, Slips.rank-below, Turns.get-cylinder_slots, Turns.length-cylinder_slots}
-use Rattle.fb_geometry.proofs.{Turns.good_cylinder-is, Faultless.slots_at-zone, Faultless.all_get, Laws.same_places, Lookups.slot_of}
-use Rattle.fb_geometry.proofs.{Lookups.good_lies, Lookups.defects_of, Lookups.good_of, Marking.marks_on-ascend, Marking.position_is}
-use Rattle.fb_geometry.proofs.{Marking.mark_of-slot_at, Marking.on_disk, Marking.among-on, Marking.same_marks, Marking.same_mark-refl}
-use Rattle.fb_geometry.proofs.{Leasts.Among, Leasts.among-map, Leasts.among-mapped, Leasts.among-any, Leasts.any-among}
-use Rattle.fb_geometry.proofs.{Clashes.same_place-refl, Clashes.mark_among, Clashes.place_among, Clashes.inside_of, Clashes.among_others}
+use Rattle.fb_geometry.proofs.{Slips.pairwise-map, Slips.all_over, Slips.not_among_later, Slips.indexes-ascend, Slips.is_marked_at}
+use Rattle.fb_geometry.proofs.{Slips.index_of, Slips.goes, Slips.rank_free, Slips.rank-below, Turns.get-cylinder_slots}
+use Rattle.fb_geometry.proofs.{Turns.length-cylinder_slots, Turns.good_cylinder-is, Faultless.slots_at-zone, Faultless.all_get}
+use Rattle.fb_geometry.proofs.{Laws.same_places, Lookups.slot_of, Lookups.good_lies, Lookups.defects_of, Lookups.good_of}
+use Rattle.fb_geometry.proofs.{Marking.marks_on-ascend, Marking.position_is, Marking.mark_of-slot_at, Marking.on_disk, Marking.among-on}
+use Rattle.fb_geometry.proofs.{Marking.same_marks, Marking.same_mark-refl, Leasts.Among, Leasts.among-map, Leasts.among-mapped}
+use Rattle.fb_geometry.proofs.{Leasts.among-any, Leasts.any-among, Clashes.same_place-refl, Clashes.mark_among, Clashes.place_among}
+use Rattle.fb_geometry.proofs.{Clashes.inside_of, Clashes.among_others}
 
 -- ---- ascending numbers that have the same members
 
@@ -138,18 +139,19 @@ module _ (disk : Shape) (zones : HasZones disk) (defects grown : List Mark) (are
       λ e. ap (λ c. rank b.position (positions (marks_on c defects))) (sym e) in
       grind (arith, nat_tests, h, step, same, rank-below a.position numbers ascend, rank-below b.position numbers ascend)
 
-  in_order_on : (marks : List Mark) → AreInOrder marks → ((mark : Mark) → Among marks mark → Among grown mark)
-      → AreInOrder (map (among_unmarked defects) marks)
-  in_order_on [] h within_ = tt
-  in_order_on (mark ∷ marks) h within_ = (later marks h.0, in_order_on marks h.1 (λ other one. within_ other (suc one.0, one.1)))
-    where
-      later : (marks : List Mark) → AllByRecursion (λ later. is_mark_before mark later ≡ true) marks
-          → AllByRecursion (λ later. is_mark_before (among_unmarked defects mark) later ≡ true) (map (among_unmarked defects) marks)
-      later [] all = tt
-      later (other ∷ marks) all = (unmarked_before mark other (within_ mark (0, refl)) all.0, later marks all.1)
-
   pub grown_in_order : AreInOrder (map (among_unmarked defects) grown)
-  grown_in_order = in_order_on grown those.ordered (λ mark one. one)
+  grown_in_order = pairwise-map (λ mark later. Among grown mark × (is_mark_before mark later ≡ true))
+      (λ mark later. is_mark_before mark later ≡ true) (among_unmarked defects) (λ mark later h. unmarked_before mark later h.0 h.1) grown
+      (each grown (λ mark one. one) those.ordered)
+    where
+      each : (marks : List Mark) → ((mark : Mark) → Among marks mark → Among grown mark) → AreInOrder marks
+          → Pairwise (λ mark later. Among grown mark × (is_mark_before mark later ≡ true)) marks
+      each [] within_ up = tt
+      each (mark ∷ marks) within_ up = (
+        all_weaker (λ later. is_mark_before mark later ≡ true)
+            (λ later. Among grown mark × (is_mark_before mark later ≡ true)) (λ later h. (within_ mark (0, refl), h)) marks up.0,
+        each marks (λ other one. within_ other (suc one.0, one.1)) up.1,
+      )
 
   pub grown_indexed : (zone : Zone) (cylinder : ℕ) → IsZoneAt disk cylinder zone
       → positions (marks_on cylinder (map (among_unmarked defects) grown))

@@ -1,17 +1,17 @@
 -- Marks: what binary searches find among marks in order, and the marks of places.
 use Rattle.fb_units.proofs.Lists.{all_at}
-use Rattle.fb_geometry.proofs.Words.{AllByRecursion, AreInOrder, Bool, HasZones, IsAscending, IsNonDecreasingBy, IsNonDecreasingBy-drop}
-use Rattle.fb_geometry.proofs.Words.{IsPartitionPoint, IsZoneOf, List, Mark, None, Place, Shape, Some, Zone, [], and_parts, ap, arith}
-use Rattle.fb_geometry.proofs.Words.{cases_Bool, cases_lt, cylinders_of, drop, eqb-true, false, filter, find, get_or, get_or-map, inl}
-use Rattle.fb_geometry.proofs.Words.{inr, is_lt, is_mark_before, is_outside, le-ltb, length, length-map, length-take-le, list_any, lt-ltb}
-use Rattle.fb_geometry.proofs.Words.{ltb-true, map, mark_of, marks_on, nat_cmp, nat_le, nat_lt, nat_tests, ne_eqb, not, not-false}
-use Rattle.fb_geometry.proofs.Words.{offset_at, option_map, ordering_then, position_in, positions, rank, refl, same_mark, slice_get}
+use Rattle.fb_geometry.proofs.Words.{AreInOrder, Bool, HasZones, IsAscending, IsNonDecreasingBy, IsNonDecreasingBy-drop, IsPartitionPoint}
+use Rattle.fb_geometry.proofs.Words.{IsZoneOf, List, Mark, None, Place, Shape, Some, Zone, [], and_parts, ap, arith, cases_Bool, cases_lt}
+use Rattle.fb_geometry.proofs.Words.{cylinders_of, drop, eqb-true, false, filter, find, get_or, get_or-map, inl, inr, is_lt}
+use Rattle.fb_geometry.proofs.Words.{is_mark_before, is_outside, le-ltb, length, length-map, length-take-le, list_any, lt-ltb, ltb-true}
+use Rattle.fb_geometry.proofs.Words.{map, mark_of, marks_on, nat_cmp, nat_le, nat_lt, nat_tests, ne_eqb, not, not-false, offset_at}
+use Rattle.fb_geometry.proofs.Words.{option_map, ordering_then, position_in, positions, rank, refl, same_mark, slice_get}
 use Rattle.fb_geometry.proofs.Words.{slice_get-get_or, slice_get-map, slipped, slot_at, slots_at, subst, suc, sym, take, true, zero}
 use Rattle.fb_geometry.proofs.Words.{zone_at, ℕ, ◌%◌, ◌*◌, ◌+◌, ◌-◌, ◌<◌, ◌==◌, ◌||◌, ◌∙◌, ◌∷◌, ◌≡◌, ◌≤◌}
-use Rattle.fb_geometry.proofs.{Slips.rises, Slips.rank-at, Slips.rank_marked, Slips.rank-step, Slips.rank-below, Slips.has}
-use Rattle.fb_geometry.proofs.{Slips.rank-le_length, Slips.free_behind, Slips.next_marked, Turns.position_in-slot_at}
-use Rattle.fb_geometry.proofs.{Turns.slot_at-position_in, Faultless.slots_at-zone, Faultless.offset_at_zone, Faultless.find-none}
-use Rattle.fb_geometry.proofs.{Faultless.found_zone, Faultless.some_zone}
+use Rattle.fb_geometry.proofs.{Slips.pairwise-filter, Slips.pairwise-map, Slips.rises, Slips.rank-at, Slips.rank_marked, Slips.rank-step}
+use Rattle.fb_geometry.proofs.{Slips.rank-below, Slips.has, Slips.rank-le_length, Slips.free_behind, Slips.next_marked}
+use Rattle.fb_geometry.proofs.{Turns.position_in-slot_at, Turns.slot_at-position_in, Faultless.slots_at-zone, Faultless.offset_at_zone}
+use Rattle.fb_geometry.proofs.{Faultless.find-none, Faultless.found_zone, Faultless.some_zone}
 
 pub position_at : (marks : List Mark) (i : ℕ) (d : Mark) → i < length marks → get_or (positions marks) i 0 ≡ (get_or marks i d).position
 position_at marks i d h = get_or-map (λ mark. mark.position) marks i d 0 h
@@ -31,25 +31,12 @@ positions-rise marks up i j d le h =
 
 -- ---- the marks of one cylinder
 
-later_on : (mark : Mark) (marks : List Mark) → AllByRecursion (λ later. is_mark_before mark later ≡ true) marks
-    → AllByRecursion (λ later. mark.position < later) (positions (marks_on mark.cylinder marks))
-later_on mark [] all = tt
-later_on mark (other ∷ marks) all = let rest = later_on mark marks all.1 in elim (cases_Bool (other.cylinder == mark.cylinder)) [
-  | inl here ↦ let less : mark.position < other.position = grind (arith, nat_tests, all.0) in rw here (less, rest)
-  | inr off ↦ rw off rest
-]
-
 pub marks_on-ascend : (cylinder : ℕ) (marks : List Mark) → AreInOrder marks → IsAscending (positions (marks_on cylinder marks))
-marks_on-ascend cylinder [] up = tt
-marks_on-ascend cylinder (mark ∷ marks) up = let rest = marks_on-ascend cylinder marks up.1 in
-    elim (cases_Bool (mark.cylinder == cylinder)) [
-      | inl here ↦ rw here (
-        subst (λ c. AllByRecursion (λ later. mark.position < later) (positions (marks_on c marks)))
-            (eqb-true mark.cylinder cylinder here) (later_on mark marks up.0),
-        rest,
-      )
-      | inr off ↦ rw off rest
-    ]
+marks_on-ascend cylinder marks up =
+    pairwise-map (λ mark later. mark.position < later.position) (λ a b. a < b) (λ mark. mark.position) (λ mark later less. less)
+    (marks_on cylinder marks) (pairwise-filter (λ mark later. is_mark_before mark later ≡ true)
+    (λ mark later. mark.position < later.position) (λ mark. mark.cylinder == cylinder) (λ mark later here there h.
+    grind (arith, nat_tests)) marks up)
 
 -- ---- what searches find
 

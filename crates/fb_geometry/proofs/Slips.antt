@@ -18,6 +18,28 @@ pairwise_at R (x ∷ xs) i zero d up l m = absurd (omega arith)
 pairwise_at R (x ∷ xs) zero (suc j) d up l m = all_at (R x) xs j d up.0 (omega arith)
 pairwise_at R (x ∷ xs) (suc i) (suc j) d up l m = pairwise_at R xs i j d up.1 (omega arith) (omega arith)
 
+-- what those that pass a test say of each other
+pub pairwise-filter : {A : Type 0} (R S : A → A → Type 0) (test : A → Bool)
+    → ((x y : A) → test x ≡ true → test y ≡ true → R x y → S x y) → (xs : List A) → Pairwise R xs → Pairwise S (filter test xs)
+pairwise-filter R S test so [] h = tt
+pairwise-filter {A = A} R S test so (x ∷ xs) h = let rest = pairwise-filter R S test so xs h.1 in
+    elim (cases_Bool (test x)) [ inl in_ ↦ rw in_ (each in_ xs h.0, rest) | inr out ↦ rw out rest ]
+  where
+    each : test x ≡ true → (ys : List A) → AllByRecursion (R x) ys → AllByRecursion (S x) (filter test ys)
+    each in_ [] all = tt
+    each in_ (y ∷ ys) all = let rest = each in_ ys all.1 in
+        elim (cases_Bool (test y)) [ inl passes ↦ rw passes (so x y in_ passes all.0, rest) | inr out ↦ rw out rest ]
+
+-- what elements say of each other is so of what they are mapped to
+pub pairwise-map : {A B : Type 0} (R : A → A → Type 0) (S : B → B → Type 0) (f : A → B) → ((x y : A) → R x y → S (f x) (f y))
+    → (xs : List A) → Pairwise R xs → Pairwise S (map f xs)
+pairwise-map R S f so [] h = tt
+pairwise-map {A = A} R S f so (x ∷ xs) h = (each xs h.0, pairwise-map R S f so xs h.1)
+  where
+    each : (ys : List A) → AllByRecursion (R x) ys → AllByRecursion (S (f x)) (map f ys)
+    each [] all = tt
+    each (y ∷ ys) all = (so x y all.0, each ys all.1)
+
 -- what follows from it, and is so of each element and itself
 pub pairwise_upto : {A : Type 0} (R S : A → A → Type 0) → ((a b : A) → R a b → S a b) → ((a : A) → S a a) → (xs : List A)
     → Pairwise R xs → (i j : ℕ) (d : A) → i ≤ j → j < length xs → S (get_or xs i d) (get_or xs j d)
