@@ -3,13 +3,13 @@ use Rattle.fb_units.proofs.Lists.{none_of_any}
 use Rattle.fb_geometry.proofs.Words.{All-from_get_or, AllByRecursion, AreInOrder, AreSorted, Bool, Contains-permutation, HasZones}
 use Rattle.fb_geometry.proofs.Words.{IsDistinct, IsDistinct-IsPermutation, IsPartitionPoint, IsPartitionedBy, IsPermutation}
 use Rattle.fb_geometry.proofs.Words.{IsPermutation-map, IsPermutation-sym, IsSortedBy, IsStrictWeakOrder, List, Mark, Pairwise, Place}
-use Rattle.fb_geometry.proofs.Words.{Shape, Some, [], ap, arith, cases_Bool, cases_lt, cond, drop, false, filter, filter-append, find}
-use Rattle.fb_geometry.proofs.Words.{get_or, get_or_from_slice_get, inl, inr, is_among, is_mark_before, is_outside, is_place_before}
-use Rattle.fb_geometry.proofs.Words.{least, length, length-append, length-filter, list_any, list_any-IsPermutation, lt-ltb, ltb-true, map}
-use Rattle.fb_geometry.proofs.Words.{mark_of, nat_lt, nat_tests, none-some, option_map, recursion_from_All, refl, repeated, same_Some}
-use Rattle.fb_geometry.proofs.Words.{same_mark, same_place, slice_get, slice_get-get_or, slice_get_within, sorted_far, subst, suc}
-use Rattle.fb_geometry.proofs.Words.{sum_by-IsPermutation, sym, true, true≢false, with_repeated, zero, ℕ, ◌++◌, ◌+◌, ◌-◌, ◌<◌, ◌∙◌, ◌∷◌}
-use Rattle.fb_geometry.proofs.Words.{◌≡◌, ◌≤◌, ◌⊎◌}
+use Rattle.fb_geometry.proofs.Words.{Shape, Some, [], ap, arith, cases_Bool, cases_lt, cond, drop, false, false_from_ne_true, filter}
+use Rattle.fb_geometry.proofs.Words.{filter-append, find, get_or, get_or_from_slice_get, inl, inr, is_among, is_mark_before, is_outside}
+use Rattle.fb_geometry.proofs.Words.{is_place_before, least, length, length-append, length-filter, list_any, list_any-IsPermutation}
+use Rattle.fb_geometry.proofs.Words.{lt-ltb, ltb-true, map, mark_of, nat_lt, nat_tests, none-some, option_map, recursion_from_All, refl}
+use Rattle.fb_geometry.proofs.Words.{repeated, same_Some, same_mark, same_place, slice_get, slice_get-get_or, slice_get_within}
+use Rattle.fb_geometry.proofs.Words.{sorted_far, subst, suc, sum_by-IsPermutation, sym, true, true≢false, with_repeated, zero, ℕ, ◌++◌}
+use Rattle.fb_geometry.proofs.Words.{◌+◌, ◌-◌, ◌<◌, ◌∙◌, ◌∷◌, ◌≡◌, ◌≤◌, ◌⊎◌}
 use Rattle.fb_geometry.proofs.{Grid.count_cons, Faultless.all_get, Laws.same_places, Marking.mark_of-same, Marking.same_marks}
 use Rattle.fb_geometry.proofs.{Marking.same_mark-refl, Marking.point-is, Slips.pairwise_upto, Slips.pairwise-filter, Slips.pairwise-map}
 use Rattle.fb_geometry.proofs.{Leasts.place_order, Leasts.Among, Leasts.among-tail, Leasts.among-left, Leasts.among-right}
@@ -37,10 +37,7 @@ sorted-rise before rank xs d up = pairwise_from (λ x later. before later x ≡ 
 -- an element passes if some number does
 pub any_count : {A : Type 0} (test : A → Bool) (xs : List A) → list_any test xs ≡ nat_lt 0 (length (filter test xs))
 any_count test [] = refl
-any_count test (x ∷ xs) = elim (cases_Bool (test x)) [
-  | inl in_ ↦ rw in_ (sym (lt-ltb 0 (suc (length (filter test xs))) (omega arith)))
-  | inr out ↦ rw out (any_count test xs)
-]
+any_count test (x ∷ xs) = grind (arith, nat_tests, any_count test xs)
 
 pub same_count : {A : Type 0} (test : A → Bool) (xs ys : List A) → IsPermutation xs ys → length (filter test ys) ≡ length (filter test xs)
 same_count test xs ys h = length-filter test ys ∙ (sum_by-IsPermutation (λ x. cond (test x) 1 0) xs ys h ∙ sym (length-filter test xs))
@@ -221,12 +218,9 @@ marks_same : (disk : Shape) → HasZones disk → (a b : Place) → is_outside d
 marks_same disk zones a b h k = elim (cases_Bool (same_place a b)) [
   | inl same ↦ ap (λ p. same_mark (mark_of disk a) (mark_of disk p)) (sym (same_places a b same))
       ∙ (same_mark-refl (mark_of disk a) ∙ sym same)
-  | inr apart ↦ elim (cases_Bool (same_mark (mark_of disk a) (mark_of disk b))) [
-    | inl same ↦ absurd (true≢false
-        (sym (ap (same_place a) (sym (mark_of-same disk a b zones h k (same_marks (mark_of disk a) (mark_of disk b) same)))
-        ∙ same_place-refl a) ∙ apart))
-    | inr off ↦ off ∙ sym apart
-  ]
+  | inr apart ↦ false_from_ne_true (same_mark (mark_of disk a) (mark_of disk b)) (λ same. true≢false
+      (sym (ap (same_place a) (sym (mark_of-same disk a b zones h k (same_marks (mark_of disk a) (mark_of disk b) same)))
+      ∙ same_place-refl a) ∙ apart)) ∙ sym apart
 ]
 
 module _ (disk : Shape) (zones : HasZones disk) (xs : List Place) (marks : List Mark)
@@ -289,10 +283,7 @@ module _ (disk : Shape) (zones : HasZones disk) (xs : List Place) (marks : List 
 first_full : {K : Type 0} (key : Place → K) (full : K → Bool) (places : List Place) → slice_get (filter full (map key places)) 0
     ≡ option_map key (find (λ place. full (key place)) places)
 first_full key full [] = refl
-first_full key full (place ∷ places) = elim (cases_Bool (full (key place))) [
-  | inl here ↦ rw here refl
-  | inr off ↦ rw off (first_full key full places)
-]
+first_full key full (place ∷ places) = grind (arith, first_full key full places)
 
 -- the least full track or cylinder is that of the first place in order that is on one
 pub least_full : {K : Type 0} (before : K → K → Bool) → IsOrder before → (key : Place → K) → ((a b : Place) → is_place_before b a ≡ false

@@ -145,10 +145,7 @@ found_from index begin cylinder (other ∷ zones) zone h from at =
 said_by_zone : {A : Type 0} (none : A) (f : Zone → A) (zones : List Zone) (cylinder : ℕ) (zone : Zone)
     → zone_at zones cylinder ≡ Some zone → zone_tells none f zones cylinder ≡ f zone
 said_by_zone none f [] cylinder zone h = absurd (none-some zone h)
-said_by_zone none f (other ∷ zones) cylinder zone h = elim (cases_Bool (nat_le cylinder other.last)) [
-  | inl here ↦ rw here (ap f (same_Some other zone (rw here at h)))
-  | inr on ↦ rw on (said_by_zone none f zones cylinder zone (rw on at h))
-]
+said_by_zone none f (other ∷ zones) cylinder zone h = grind (arith, said_by_zone none f zones cylinder zone)
 
 pub slots_at-zone : (zones : List Zone) (cylinder : ℕ) (zone : Zone) → zone_at zones cylinder ≡ Some zone
     → slots_at zones cylinder ≡ zone.sectors

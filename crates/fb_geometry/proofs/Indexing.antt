@@ -172,10 +172,7 @@ module _ (disk : Shape) (zones : HasZones disk) (defects grown : List Mark) (are
       index_is : (place : Place) → place.track.cylinder ≡ cylinder → (mark_of disk place).position ≡ position_in zone disk.heads place
           → (among_unmarked defects (mark_of disk place)).position
           ≡ position_in zone disk.heads place - rank (position_in zone disk.heads place) (defects_of disk zone cylinder)
-      index_is place c e = ap (λ c. (mark_of disk place).position - rank (mark_of disk place).position (positions (marks_on c defects))) c
-          ∙ (ap (λ p. p - rank p (positions (marks_on cylinder defects))) e
-          ∙ ap (λ ns. position_in zone disk.heads place - rank (position_in zone disk.heads place) ns)
-          (defects_indexed disk zones defects are zone cylinder at))
+      index_is place c e = rw (e, c, defects_indexed disk zones defects are zone cylinder at) refl
 
       slot : (place : Place) → Among disk.grown place → place.track.cylinder ≡ cylinder → (place.track.head < disk.heads)
           × (place.slot < zone.sectors) × ((mark_of disk place).position ≡ position_in zone disk.heads place)

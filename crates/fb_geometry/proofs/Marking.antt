@@ -4,10 +4,10 @@ use Rattle.fb_geometry.proofs.Words.{AreInOrder, Bool, HasZones, IsAscending, Is
 use Rattle.fb_geometry.proofs.Words.{IsZoneOf, List, Mark, None, Place, Shape, Some, Zone, [], and_parts, ap, arith, cases_Bool, cases_lt}
 use Rattle.fb_geometry.proofs.Words.{cylinders_of, drop, eqb-true, false, filter, find, get_or, get_or-map, inl, inr, is_lt}
 use Rattle.fb_geometry.proofs.Words.{is_mark_before, is_outside, le-ltb, length, length-map, length-take-le, list_any, lt-ltb, ltb-true}
-use Rattle.fb_geometry.proofs.Words.{map, mark_of, marks_on, nat_cmp, nat_le, nat_lt, nat_tests, ne_eqb, not, not-false, offset_at}
-use Rattle.fb_geometry.proofs.Words.{option_map, ordering_then, position_in, positions, rank, refl, same_mark, slice_get}
-use Rattle.fb_geometry.proofs.Words.{slice_get-get_or, slice_get-map, slipped, slot_at, slots_at, subst, suc, sym, take, true, zero}
-use Rattle.fb_geometry.proofs.Words.{zone_at, ℕ, ◌%◌, ◌*◌, ◌+◌, ◌-◌, ◌<◌, ◌==◌, ◌||◌, ◌∙◌, ◌∷◌, ◌≡◌, ◌≤◌}
+use Rattle.fb_geometry.proofs.Words.{map, mark_of, marks_on, nat_cmp, nat_le, nat_lt, nat_tests, ne_eqb, not, not-false, option_map}
+use Rattle.fb_geometry.proofs.Words.{ordering_then, position_in, positions, rank, refl, same_mark, slice_get, slice_get-get_or}
+use Rattle.fb_geometry.proofs.Words.{slice_get-map, slipped, slot_at, slots_at, subst, suc, sym, take, true, zero, zone_at, ℕ, ◌+◌, ◌-◌}
+use Rattle.fb_geometry.proofs.Words.{◌<◌, ◌==◌, ◌||◌, ◌∙◌, ◌∷◌, ◌≡◌, ◌≤◌}
 use Rattle.fb_geometry.proofs.{Slips.pairwise-filter, Slips.pairwise-map, Slips.rises, Slips.rank-at, Slips.rank_marked, Slips.rank-step}
 use Rattle.fb_geometry.proofs.{Slips.rank-below, Slips.has, Slips.rank-le_length, Slips.free_behind, Slips.next_marked}
 use Rattle.fb_geometry.proofs.{Turns.position_in-slot_at, Turns.slot_at-position_in, Faultless.slots_at-zone, Faultless.offset_at_zone}
@@ -66,10 +66,7 @@ point-is p xs i h at = ap length (sym (at_point p xs i at).0) ∙ length-take-le
 pub length-filter-map : {X Y : Type 0} (p : Y → Bool) (f : X → Y) (xs : List X) → length (filter p (map f xs))
     ≡ length (filter (λ x. p (f x)) xs)
 length-filter-map p f [] = refl
-length-filter-map p f (x ∷ xs) = elim (cases_Bool (p (f x))) [
-  | inl in_ ↦ rw in_ (ap suc (length-filter-map p f xs))
-  | inr out ↦ rw out (length-filter-map p f xs)
-]
+length-filter-map p f (x ∷ xs) = grind (arith, length-filter-map p f xs)
 
 pub rank-is : (number : ℕ) (marks : List Mark) (i : ℕ) → i ≤ length marks
     → IsPartitionPoint (λ mark. nat_lt mark.position number ≡ true) (λ mark. nat_lt mark.position number ≡ false) marks i
@@ -176,10 +173,7 @@ module _ (marks : List Mark) (up : IsAscending (positions marks)) (start next : 
 pub position_is : (disk : Shape) (zone : Zone) (place : Place) → zone_at disk.zones place.track.cylinder ≡ Some zone
     → (mark_of disk place).position ≡ position_in zone disk.heads place
 position_is disk zone place at =
-    ap (λ n. place.track.head * n + (place.slot + n - offset_at disk.zones disk.heads place.track) % n)
-    (slots_at-zone disk.zones place.track.cylinder zone at)
-    ∙ ap (λ offset. place.track.head * zone.sectors + (place.slot + zone.sectors - offset) % zone.sectors)
-    (offset_at_zone disk.zones disk.heads place.track zone at)
+    rw (slots_at-zone disk.zones place.track.cylinder zone at, offset_at_zone disk.zones disk.heads place.track zone at) refl
 
 pub inside_at : (disk : Shape) (places : List Place) (i : ℕ) (d : Place) → find (is_outside disk) places ≡ None → i < length places
     → is_outside disk (get_or places i d) ≡ false

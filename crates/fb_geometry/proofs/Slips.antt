@@ -2,11 +2,11 @@
 use Rattle.fb_units.proofs.Comparing.{zero_add}
 use Rattle.fb_units.proofs.Lists.{all_weaker, all_get, all_at, element_at}
 use Rattle.fb_geometry.proofs.Words.{AllByRecursion, Bool, HoldsSector, IsAscending, IsNonDecreasingBy, List, Pairwise, Some, [], ap}
-use Rattle.fb_geometry.proofs.Words.{arith, cases_Bool, cases_lt, cond, count_by-le-length, entry_of_sector, eq-eqb, false, filter}
-use Rattle.fb_geometry.proofs.Words.{get_or, get_or_from_slice_get, indexes, inl, inr, le-ltb, length, length-filter, length-filter_more}
-use Rattle.fb_geometry.proofs.Words.{list_any, lt-ltb, map, nat_lt, nat_tests, ne_eqb, none-some, not, option_map, rank, refl, same_Some}
-use Rattle.fb_geometry.proofs.Words.{slice_get, slice_get-map, slice_get_within, slipped, subst, suc, sym, take, true, true≢false, zero}
-use Rattle.fb_geometry.proofs.Words.{ℕ, ◌+◌, ◌-◌, ◌<◌, ◌==◌, ◌∙◌, ◌∷◌, ◌≡◌, ◌≤◌}
+use Rattle.fb_geometry.proofs.Words.{arith, cases_Bool, cases_lt, cond, count_by-le-length, entry_of_sector, eq-eqb, false}
+use Rattle.fb_geometry.proofs.Words.{false_from_ne_true, filter, get_or, get_or_from_slice_get, indexes, inl, inr, le-ltb, length}
+use Rattle.fb_geometry.proofs.Words.{length-filter, length-filter_more, list_any, lt-ltb, map, nat_lt, nat_tests, ne_eqb, none-some, not}
+use Rattle.fb_geometry.proofs.Words.{option_map, rank, refl, same_Some, slice_get, slice_get-map, slice_get_within, slipped, subst, suc}
+use Rattle.fb_geometry.proofs.Words.{sym, take, true, true≢false, zero, ℕ, ◌+◌, ◌-◌, ◌<◌, ◌==◌, ◌∙◌, ◌∷◌, ◌≡◌, ◌≤◌}
 use Rattle.fb_geometry.proofs.{Grid.count_cons, Grid.add_zero}
 
 -- ---- elements that stand so to all that follow
@@ -140,10 +140,8 @@ module _ (numbers : List ℕ) (up : IsAscending numbers) where
   next_marked start next at =
       let one = rank-at (rank start numbers) numbers next up at in
       let upto : start ≤ next = grind (arith, rank_marked next start one.1, one.0) in
-      let free : (q : ℕ) → start ≤ q → q < next → has numbers q ≡ false = λ q from below. elim (cases_Bool (has numbers q)) [
-        | inl among ↦ absurd (omega (arith, rank_marked q next among below, one.0, (rank-step start q numbers up from).0))
-        | inr off ↦ off
-      ] in
+      let free : (q : ℕ) → start ≤ q → q < next → has numbers q ≡ false = λ q from below. false_from_ne_true (has numbers q)
+      (λ among. omega (arith, rank_marked q next among below, one.0, (rank-step start q numbers up from).0)) in
       let here : has numbers start ≡ (next == start) = elim (cases_lt start next) [
         | inl less ↦ free start (omega arith) less ∙ sym (ne_eqb next start (λ e. omega arith))
         | inr from ↦ let same : next ≡ start = omega (arith, upto) in ap (has numbers) (sym same) ∙ (one.1 ∙ sym (eq-eqb next start same))
@@ -152,15 +150,8 @@ module _ (numbers : List ℕ) (up : IsAscending numbers) where
 
   -- none is marked behind the last one
   pub free_behind : (position q : ℕ) → length numbers ≤ rank position numbers → position ≤ q → has numbers q ≡ false
-  free_behind position q none from = elim (cases_Bool (has numbers q)) [
-    | inl among ↦ absurd (omega (
-      arith,
-      rank_marked q (q + 1) among (omega arith),
-      rank-le_length (q + 1) numbers,
-      (rank-step position q numbers up from).0,
-    ))
-    | inr free ↦ free
-  ]
+  free_behind position q none from = let low = (rank-step position q numbers up from).0 in false_from_ne_true (has numbers q)
+      (λ among. omega (arith, rank_marked q (q + 1) among (omega arith), rank-le_length (q + 1) numbers, low))
 
 -- ---- slipping
 
@@ -310,10 +301,7 @@ kept_to keep (suc i) (y ∷ xs) x at stays = let rest = kept_to keep i xs x at s
 pub length-kept : {A : Type 0} (test : A → Bool) (a : ℕ) (xs : List A)
     → length (filter (λ x. not (test x)) xs) + length (indexes test a xs) ≡ length xs
 length-kept test a [] = refl
-length-kept test a (x ∷ xs) = let rest = length-kept test (a + 1) xs in elim (cases_Bool (test x)) [
-  | inl out ↦ rw out (omega arith)
-  | inr stays ↦ rw stays (omega arith)
-]
+length-kept test a (x ∷ xs) = grind (arith, length-kept test (a + 1) xs)
 
 module _ {A : Type 0} (test : A → Bool) (xs : List A) where
   abbrev pub numbers : List ℕ

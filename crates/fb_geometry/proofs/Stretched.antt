@@ -2,9 +2,9 @@
 use Rattle.fb_geometry.proofs.Words.{Bool, Cylinder, HasNoBad, IsEven, IsGoodOf, IsStretch, IsZoneAt, KeepsOrder, Layout, LiesOn}
 use Rattle.fb_geometry.proofs.Words.{PerCylinder, PerTrack, Place, Shape, Some, Track, Zone, ap, arith, cases_lt, cylinder_slots}
 use Rattle.fb_geometry.proofs.Words.{data_list_at, div-add-mod', div_below, entry_of_sector, even_place, false, indexes, inl, inr}
-use Rattle.fb_geometry.proofs.Words.{is_among, length, max, mod-add-mod, mod-lt, offset_at, offset_in, position_in, rank, refl, same_Some}
-use Rattle.fb_geometry.proofs.Words.{sectors_by, slice_get, slipped, slot_at, slots_at, subst, sym, true, true≢false, turn_position}
-use Rattle.fb_geometry.proofs.Words.{zone_at, ℕ, ◌%◌, ◌*◌, ◌+◌, ◌-◌, ◌/◌, ◌<◌, ◌∙◌, ◌≡◌, ◌≤◌, ◌⊎◌}
+use Rattle.fb_geometry.proofs.Words.{is_among, length, max, mod-add-mod, mod-lt, offset_in, position_in, rank, refl, same_Some}
+use Rattle.fb_geometry.proofs.Words.{sectors_by, slice_get, slipped, slot_at, subst, sym, true, true≢false, turn_position, zone_at, ℕ}
+use Rattle.fb_geometry.proofs.Words.{◌%◌, ◌*◌, ◌+◌, ◌-◌, ◌/◌, ◌<◌, ◌∙◌, ◌≡◌, ◌≤◌, ◌⊎◌}
 use Rattle.fb_geometry.proofs.{Grid.add_zero, Slips.has, Slips.stays_at, Slips.slipped_to, Slips.slipped_on, Turns.slot_on}
 use Rattle.fb_geometry.proofs.{Turns.round-back, Turns.offset_below, Turns.position_in-slot_at, Faultless.slots_at-zone}
 use Rattle.fb_geometry.proofs.{Faultless.offset_at_zone, Lookups.defects_of, Lookups.grown_of, Lookups.grown_ascend}
@@ -102,12 +102,10 @@ module _ (disk : Shape) (zone : Zone) (cylinder : ℕ) (at : IsZoneAt disk cylin
 
   turned-by : turn_position disk place ≡ position % zone.sectors
   turned-by =
-      let offset = offset_at_zone disk.zones disk.heads place.track zone (ap (zone_at disk.zones) lies.cylinder_is ∙ at.found) in
-      ap (λ n. (place.slot + n - offset_at disk.zones disk.heads place.track) % n) (ap (slots_at disk.zones) lies.cylinder_is
-      ∙ slots_at-zone disk.zones cylinder zone at.found)
-      ∙ (ap (λ o. (place.slot + zone.sectors - o) % zone.sectors) offset
-      ∙ (ap (λ (p : Place). (p.slot + zone.sectors - offset_in zone disk.heads p.track) % zone.sectors) place-is
-      ∙ turned zone disk.heads some_slots cylinder position))
+      let found = ap (zone_at disk.zones) lies.cylinder_is ∙ at.found in
+      rw (slots_at-zone disk.zones place.track.cylinder zone found, offset_at_zone disk.zones disk.heads place.track zone found)
+      (ap (λ (p : Place). (p.slot + zone.sectors - offset_in zone disk.heads p.track) % zone.sectors) place-is
+      ∙ turned zone disk.heads some_slots cylinder position)
 
   -- the slots before the next defect and the end of the turn, and no more than the sectors in order
   pub stretched_by : (pos good n : ℕ) → pos ≡ position_in zone disk.heads place → ((q : ℕ) → pos ≤ q → q < pos + good

@@ -3,11 +3,12 @@ pub use Rattle.std.proofs.Common.{Bool, Err, List, None, Ok, Option, Result, Som
 pub use Rattle.std.proofs.Common.{length, map, max, not, refl, rules, subst, suc, sym, take, tests, true, zero, ℕ, ◌%◌, ◌*◌, ◌++◌, ◌+◌}
 pub use Rattle.std.proofs.Common.{◌-◌, ◌/◌, ◌<◌, ◌^◌, ◌∙◌, ◌∷◌, ◌≡◌, ◌≢◌, ◌≤◌, ◌⊎◌}
 pub use Rattle.std.proofs.Math.Nat.{add-mod_left, mod-add-mod, mod-eq_of_lt, mod-lt}
-pub use Rattle.std.proofs.lemmas.Bool.{and_parts, cases_Bool, cases_lt, cases_order, eq-eqb, eqb-true, le-leb, le-ltb, leb-true, lt-leb}
-pub use Rattle.std.proofs.lemmas.Bool.{lt-ltb, ltb-false, ltb-true, ne_eqb, not-false, or_cases, or_left, or_parts, true≢false}
-pub use Rattle.std.proofs.lemmas.Bool.Decides.{nat_tests}
-pub use Rattle.std.proofs.lemmas.Iterator.{YieldsList-from_slice}
-pub use Rattle.std.proofs.lemmas.Iterator.Search.{any_from_yields_List, position_from_yields_List}
+pub use Rattle.std.proofs.lemmas.Bool.{and_parts, cases_Bool, cases_lt, cases_order, eq-eqb, eqb-true, false_from_ne_true, le-leb, le-ltb}
+pub use Rattle.std.proofs.lemmas.Bool.{leb-true, lt-leb, lt-ltb, ltb-false, ltb-true, ne_eqb, not-false, or_cases, or_left, or_parts}
+pub use Rattle.std.proofs.lemmas.Bool.{true≢false}
+pub use Rattle.std.proofs.lemmas.{Bool.Decides.nat_tests, Iterator.YieldsList-from_slice, Iterator.Search.any_from_yields_List}
+pub use Rattle.std.proofs.lemmas.{Iterator.Search.position_from_yields_List, Map.Keys.IsDistinct-IsPermutation}
+pub use Rattle.std.proofs.lemmas.{Result.err_from_is_err_and}
 pub use Rattle.std.proofs.lemmas.List.{append-nil, get_or-map, length-append, length-map, length-take, length-take-le, map-append}
 pub use Rattle.std.proofs.lemmas.List.{take-append-drop, take-take}
 pub use Rattle.std.proofs.lemmas.List.Elements.{All-append, All-from_get_or, All-from_recursion, filter-append, recursion_from_All}
@@ -18,47 +19,33 @@ pub use Rattle.std.proofs.lemmas.List.Sorted.{All-permutation, Contains-permutat
 pub use Rattle.std.proofs.lemmas.List.Sorted.{IsPartitionedBy-leb, IsPartitionedBy-ltb, IsPermutation-map, IsPermutation-sym}
 pub use Rattle.std.proofs.lemmas.List.Sorted.{list_any-IsPermutation, sorted_far, sum_by-IsPermutation}
 pub use Rattle.std.proofs.lemmas.List.Sums.{count_by-le-length, fails_before_first, length-filter}
-pub use Rattle.std.proofs.lemmas.Map.Keys.{IsDistinct-IsPermutation}
 pub use Rattle.std.proofs.lemmas.Nat.{div-add-mod', div-mul-add, div_below, le-div, mod-mul-add, mul-add-lt, mul-le}
 pub use Rattle.std.proofs.lemmas.Option.{get_or_from_slice_get, none-some, same_Some, slice_get-get_or, slice_get-map, slice_get_within}
-pub use Rattle.std.proofs.lemmas.Result.{err_from_is_err_and}
-pub use Rattle.std.specs.Cmp.{IsStrictWeakOrder}
+pub use Rattle.std.specs.{Cmp.IsStrictWeakOrder, Ordering.is_lt, Ordering.nat_cmp, Ordering.ordering_then}
 unfoldable pub use Rattle.std.specs.List.{IsDistinct}
 pub use Rattle.std.specs.List.{AllByRecursion, flat_map, list_any, position_or_len, range_with_len, slice_index_or}
 pub use Rattle.std.specs.List.Sorted.{IsNonDecreasingBy, IsPartitionPoint, IsPartitionedBy, IsPermutation, IsSortedBy}
-pub use Rattle.std.specs.Ordering.{is_lt, nat_cmp, ordering_then}
 pub use Rattle.std.specs.Prelude.{All, IfNone, IfSome, MatchOption, filter, find, if◌then◌else◌, nat_le, nat_lt, option_map, position}
 pub use Rattle.std.specs.Prelude.{slice_get, ◌==◌, ◌||◌}
-pub use Rattle.fb_units.specs.Tracks.{same_track}
-pub use Rattle.fb_units.specs.declared.types.Place.{Place}
-pub use Rattle.fb_units.specs.declared.types.Track.{Track}
-pub use Rattle.fb_geometry.specs.Angles.{CoverRotation}
+pub use Rattle.fb_units.specs.{Tracks.same_track, declared.types.Place.Place, declared.types.Track.Track}
+pub use Rattle.fb_units.specs.declared.read_error.ReadError.{ReadError, TheVariants.Fault, TheVariants.NoMemory}
+pub use Rattle.fb_geometry.specs.{Angles.CoverRotation, Index.zone_fault, Marks.same_mark, Places.zone_places, Shape.turn_position}
+pub use Rattle.fb_geometry.specs.{Stretches.IsStretch, Stretches.KeepsOrder, Turns.zone_at}
+pub use Rattle.fb_geometry.specs.declared.{cylinder.Cylinder.Cylinder, fault.GeometryFault.GeometryFault, layout.Layout.Layout}
+pub use Rattle.fb_geometry.specs.declared.{marks.Mark.Mark, zone.Zone.Zone}
 pub use Rattle.fb_geometry.specs.Even.{HasNoBad, IsEven, even_place, sectors_by}
 pub use Rattle.fb_geometry.specs.Faults.{Judges, cylinder_spares_at, fault_at, first_apart, has_no_data, is_bad_zone, is_full_cylinder}
 pub use Rattle.fb_geometry.specs.Faults.{is_full_track, is_outside, is_place_before, is_too_skewed, is_track_before, least, lesser}
 pub use Rattle.fb_geometry.specs.Faults.{or_else, repeated, spare_fault, spares_at, with_repeated}
 unfoldable pub use Rattle.fb_geometry.specs.Faults.{first_fault}
 pub use Rattle.fb_geometry.specs.Index.{Answers, HasZones, IsFaultless, IsGoodOf, IsIndexed, JudgesSpares, defect_fault, grown_fault}
-pub use Rattle.fb_geometry.specs.Index.{zone_fault}
 pub use Rattle.fb_geometry.specs.Marks.{AreInOrder, AreMarksOf, AreSorted, among_unmarked, is_mark_before, mark_of, marks_on, positions}
-pub use Rattle.fb_geometry.specs.Marks.{same_mark}
 pub use Rattle.fb_geometry.specs.Places.{by_head, data_list, data_list_at, data_list_by, good_track, list_among, replaced, stand_in, turn}
-pub use Rattle.fb_geometry.specs.Places.{zone_places}
 unfoldable pub use Rattle.fb_geometry.specs.Places.{places}
 pub use Rattle.fb_geometry.specs.Shape.{Shape, cylinders_of, is_among, offset_at, offset_in, same_place, slots_at, zone_tells}
-pub use Rattle.fb_geometry.specs.Shape.{turn_position}
 pub use Rattle.fb_geometry.specs.Slips.{HoldsNone, HoldsSector, IsAscending, Pairwise, entry_of_sector, indexes, rank, slipped}
 pub use Rattle.fb_geometry.specs.Sound.{HasOwnPlaces, IsCylinderOf, IsSound, LiesOn, cylinder_size_by}
-pub use Rattle.fb_geometry.specs.Stretches.{IsStretch, KeepsOrder}
 pub use Rattle.fb_geometry.specs.Turns.{AreZoneNumbers, IsZone, IsZoneAt, IsZoneOf, NumbersZone, cylinder_slots, position_in, slot_at}
-pub use Rattle.fb_geometry.specs.Turns.{zone_at}
-pub use Rattle.fb_geometry.specs.declared.cylinder.Cylinder.{Cylinder}
-pub use Rattle.fb_units.specs.declared.read_error.ReadError.{ReadError}
-pub use Rattle.fb_units.specs.declared.read_error.ReadError.TheVariants.{Fault, NoMemory}
-pub use Rattle.fb_geometry.specs.declared.fault.GeometryFault.{GeometryFault}
 pub use Rattle.fb_geometry.specs.declared.fault.GeometryFault.TheVariants.{GrownOutside, DefectTwice, GrownTwice, OutOfRange}
 pub use Rattle.fb_geometry.specs.declared.fault.GeometryFault.TheVariants.{TooManyDefects, TooManyInCylinder}
-pub use Rattle.fb_geometry.specs.declared.layout.Layout.{Layout}
 pub use Rattle.fb_geometry.specs.declared.layout.Layout.TheVariants.{PerCylinder, PerTrack}
-pub use Rattle.fb_geometry.specs.declared.marks.Mark.{Mark}
-pub use Rattle.fb_geometry.specs.declared.zone.Zone.{Zone}
