@@ -5,12 +5,12 @@ use Rattle.fb_geometry.proofs.{Slips.rises}
 use Rattle.fb_geometry.proofs.Words.{AllByRecursion, AreZoneNumbers, Bool, GeometryFault, HasZones, IsCylinderOf, IsFaultless}
 use Rattle.fb_geometry.proofs.Words.{IsNonDecreasingBy, IsPartitionPoint, IsZone, IsZoneAt, IsZoneOf, List, None, Option, Pairwise, Shape}
 use Rattle.fb_geometry.proofs.Words.{Some, Track, Zone, [], ap, arith, cases_Bool, cases_lt, cylinder_spares_at, cylinders_of, data_list}
-use Rattle.fb_geometry.proofs.Words.{eqb-true, fails_before_first, false, fault_at, find, find_at, first_apart, get_or, has_no_data, inl}
-use Rattle.fb_geometry.proofs.Words.{inr, is_bad_zone, is_too_skewed, le-leb, least, leb-true, length, lesser, list_among, lt-leb, lt-ltb}
+use Rattle.fb_geometry.proofs.Words.{fails_before_first, false, fault_at, find, find_at, first_apart, get_or, has_no_data, inl, inr}
+use Rattle.fb_geometry.proofs.Words.{is_bad_zone, is_too_skewed, le-leb, least, leb-true, length, lesser, list_among, lt-leb, lt-ltb}
 use Rattle.fb_geometry.proofs.Words.{ltb-false, ltb-true, nat_le, nat_lt, nat_tests, none-some, offset_at, offset_in, or_else, or_parts}
 use Rattle.fb_geometry.proofs.Words.{position, position_or_len, recursion_from_All, refl, same_Some, slice_get, slice_get-get_or}
 use Rattle.fb_geometry.proofs.Words.{slice_index_or, slots_at, spares_at, subst, suc, sym, true, zero, zone_at, zone_tells, ℕ, ◌+◌, ◌<◌}
-use Rattle.fb_geometry.proofs.Words.{◌==◌, ◌^◌, ◌∙◌, ◌∷◌, ◌≡◌, ◌≤◌}
+use Rattle.fb_geometry.proofs.Words.{◌^◌, ◌∙◌, ◌∷◌, ◌≡◌, ◌≤◌}
 
 -- ---- chains
 
@@ -46,10 +46,7 @@ least-none {X = X} is_before (x ∷ xs) h = absurd (lesser_some (least is_before
   where
     lesser_some : (o : Option X) → lesser is_before x o ≡ None → ⊥
     lesser_some None h = none-some x (sym h)
-    lesser_some (Some y) h = elim (cases_Bool (is_before y x)) [
-      | inl before ↦ none-some y (sym (rw before at h))
-      | inr not_before ↦ none-some x (sym (rw not_before at h))
-    ]
+    lesser_some (Some y) h = grind arith
 
 -- ---- zones
 
@@ -89,10 +86,7 @@ Follow zone later = (zone.last < later.first) × (later.first ≤ later.last)
 
 pub next : (index begin : ℕ) (zone : Zone) (zones : List Zone) → first_apart index begin (zone ∷ zones) ≡ None → (zone.first ≡ begin)
     × (first_apart (index + 1) (zone.last + 1) zones ≡ None)
-next index begin zone zones h = elim (cases_Bool (zone.first == begin)) [
-  | inl here ↦ (eqb-true zone.first begin here, rw here at h)
-  | inr off ↦ absurd (none-some index (sym (rw off at h)))
-]
+next index begin zone zones h = (grind (arith, nat_tests), grind (arith, nat_tests))
 
 -- no zone begins before the first has to, and each begins behind the ones before it
 follow : (index begin : ℕ) (zones : List Zone) → first_apart index begin zones ≡ None → AllByRecursion (λ zone. zone.first ≤ zone.last) zones
@@ -134,12 +128,7 @@ found_from : (index begin cylinder : ℕ) (zones : List Zone) (zone : Zone) → 
 found_from index begin cylinder [] zone h from at = absurd (none-some zone at)
 found_from index begin cylinder (other ∷ zones) zone h from at =
     let parts = next index begin other zones h in
-    elim (cases_lt other.last cylinder) [
-      | inl behind ↦ found_from (index + 1) (other.last + 1) cylinder zones zone parts.1 (omega arith)
-          (rw (lt-leb cylinder other.last behind) at at)
-      | inr here ↦ let same : Some other ≡ Some zone = rw (le-leb cylinder other.last here) at at in
-          omega (arith, parts.0, ap (λ zone. zone.first) (same_Some other zone same))
-    ]
+    grind (arith, nat_tests, parts.0, found_from (index + 1) (other.last + 1) cylinder zones zone parts.1)
 
 -- what is said of a cylinder is what its zone says of it
 said_by_zone : {A : Type 0} (none : A) (f : Zone → A) (zones : List Zone) (cylinder : ℕ) (zone : Zone)

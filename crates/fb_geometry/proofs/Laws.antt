@@ -42,10 +42,7 @@ at_most_each same can xs (d ∷ ds) each =
 -- fewer pass two tests than the one
 pub fewer : {A : Type 0} (p q : A → Bool) (xs : List A) → length (filter p (filter q xs)) ≤ length (filter p xs)
 fewer p q [] = omega arith
-fewer p q (x ∷ xs) = elim (cases_Bool (q x)) [
-  | inl in_ ↦ rw in_ (omega (arith, count_cons p x (filter q xs), count_cons p x xs, fewer p q xs))
-  | inr out ↦ rw out (omega (arith, count_cons p x xs, fewer p q xs))
-]
+fewer p q (x ∷ xs) = grind (arith, count_cons p x (filter q xs), count_cons p x xs, fewer p q xs)
 
 -- a test that one number alone passes, or none where it can't be passed
 once_in : (test : ℕ → Bool) (can : Bool) (q a n : ℕ) → ((i : ℕ) → i < n → test (a + i) ≡ true → (can ≡ true) × (a + i ≡ q))

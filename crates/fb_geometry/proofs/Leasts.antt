@@ -42,10 +42,7 @@ lesser_is : {A : Type 0} (before : A → A → Bool) → IsOrder before → (y x
 lesser_is before order y x None all not_before (inl same) = ap Some same
 lesser_is before order y x None all not_before (inr at) = absurd (none-some x at)
 lesser_is before order y x (Some z) all not_before (inl same) = rw (ap (before z) same ∙ all z refl) (ap Some same)
-lesser_is before order y x (Some z) all not_before (inr at) = elim (cases_Bool (before z y)) [
-  | inl less ↦ rw less at
-  | inr more ↦ rw more (ap Some (order.total y x not_before (ap (λ z. before z y) (sym (same_Some z x at)) ∙ more)))
-]
+lesser_is before order y x (Some z) all not_before (inr at) = grind (arith, order.total y x not_before)
 
 lesser_from : {A : Type 0} (before : A → A → Bool) (y z : A) (o : Option A) → lesser before y o ≡ Some z → (y ≡ z) ⊎ (o ≡ Some z)
 lesser_from before y z None e = inl (same_Some y z e)

@@ -79,10 +79,8 @@ module _ (disk : Shape) where
   replaced-moves (other ∷ places) [] j place spare at moves stand = absurd (none-some spare stand)
   replaced-moves (other ∷ places) (first ∷ spares) zero place spare at moves stand =
       ap (λ b. Some (stand_in b other (first ∷ spares)).0) (ap (is_among disk.grown) (same_Some other place at) ∙ moves) ∙ stand
-  replaced-moves (other ∷ places) (first ∷ spares) (suc j) place spare at moves stand = elim (cases_Bool (is_among disk.grown other)) [
-    | inl gone ↦ rw gone (replaced-moves places spares j place spare at moves (rw gone at stand))
-    | inr stays ↦ rw stays (replaced-moves places (first ∷ spares) j place spare at moves (rw stays at stand))
-  ]
+  replaced-moves (other ∷ places) (first ∷ spares) (suc j) place spare at moves stand =
+      grind (arith, replaced-moves places spares j place spare at moves, replaced-moves places (first ∷ spares) j place spare at moves)
 
 module _ (disk : Shape) (zone : Zone) (cylinder : ℕ) (at : IsZoneAt disk cylinder zone) where
   abbrev pub defects : List ℕ

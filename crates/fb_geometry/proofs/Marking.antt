@@ -1,17 +1,17 @@
 -- Marks: what binary searches find among marks in order, and the marks of places.
 use Rattle.fb_units.proofs.Lists.{all_at}
 use Rattle.fb_geometry.proofs.Words.{AreInOrder, Bool, HasZones, IsAscending, IsNonDecreasingBy, IsNonDecreasingBy-drop, IsPartitionPoint}
-use Rattle.fb_geometry.proofs.Words.{IsZoneOf, List, Mark, None, Place, Shape, Some, Zone, [], and_parts, ap, arith, cases_Bool, cases_lt}
-use Rattle.fb_geometry.proofs.Words.{cylinders_of, drop, eqb-true, false, filter, find, get_or, get_or-map, inl, inr, is_lt}
-use Rattle.fb_geometry.proofs.Words.{is_mark_before, is_outside, le-ltb, length, length-map, length-take-le, list_any, lt-ltb, ltb-true}
-use Rattle.fb_geometry.proofs.Words.{map, mark_of, marks_on, nat_cmp, nat_le, nat_lt, nat_tests, ne_eqb, not, not-false, option_map}
-use Rattle.fb_geometry.proofs.Words.{ordering_then, position_in, positions, rank, refl, same_mark, slice_get, slice_get-get_or}
-use Rattle.fb_geometry.proofs.Words.{slice_get-map, slipped, slot_at, slots_at, subst, suc, sym, take, true, zero, zone_at, ℕ, ◌+◌, ◌-◌}
-use Rattle.fb_geometry.proofs.Words.{◌<◌, ◌==◌, ◌||◌, ◌∙◌, ◌∷◌, ◌≡◌, ◌≤◌}
-use Rattle.fb_geometry.proofs.{Slips.pairwise-filter, Slips.pairwise-map, Slips.rises, Slips.rank-at, Slips.rank_marked, Slips.rank-step}
-use Rattle.fb_geometry.proofs.{Slips.rank-below, Slips.has, Slips.rank-le_length, Slips.free_behind, Slips.next_marked}
-use Rattle.fb_geometry.proofs.{Turns.position_in-slot_at, Turns.slot_at-position_in, Faultless.slots_at-zone, Faultless.offset_at_zone}
-use Rattle.fb_geometry.proofs.{Faultless.find-none, Faultless.found_zone, Faultless.some_zone}
+use Rattle.fb_geometry.proofs.Words.{IsZoneOf, List, Mark, None, Place, Shape, Some, Zone, [], and_parts, ap, arith, cases_lt}
+use Rattle.fb_geometry.proofs.Words.{cylinders_of, drop, eqb-true, false, false_from_ne_true, filter, find, get_or, get_or-map, inl, inr}
+use Rattle.fb_geometry.proofs.Words.{is_lt, is_mark_before, is_outside, length, length-map, length-take-le, list_any, ltb-true, map}
+use Rattle.fb_geometry.proofs.Words.{mark_of, marks_on, nat_cmp, nat_le, nat_lt, nat_tests, not, not-false, option_map, ordering_then}
+use Rattle.fb_geometry.proofs.Words.{position_in, positions, rank, refl, same_mark, slice_get, slice_get-get_or, slice_get-map, slipped}
+use Rattle.fb_geometry.proofs.Words.{slot_at, slots_at, subst, suc, sym, take, true, zero, zone_at, ℕ, ◌+◌, ◌-◌, ◌<◌, ◌==◌, ◌∙◌, ◌∷◌, ◌≡◌}
+use Rattle.fb_geometry.proofs.Words.{◌≤◌}
+use Rattle.fb_geometry.proofs.{Slips.slipped_only, Slips.pairwise-filter, Slips.pairwise-map, Slips.rises, Slips.rank-at}
+use Rattle.fb_geometry.proofs.{Slips.rank_marked, Slips.rank-step, Slips.rank-below, Slips.has, Slips.rank-le_length, Slips.free_behind}
+use Rattle.fb_geometry.proofs.{Slips.next_marked, Turns.position_in-slot_at, Turns.slot_at-position_in, Faultless.slots_at-zone}
+use Rattle.fb_geometry.proofs.{Faultless.offset_at_zone, Faultless.find-none, Faultless.found_zone, Faultless.some_zone}
 
 pub position_at : (marks : List Mark) (i : ℕ) (d : Mark) → i < length marks → get_or (positions marks) i 0 ≡ (get_or marks i d).position
 position_at marks i d h = get_or-map (λ mark. mark.position) marks i d 0 h
@@ -86,11 +86,7 @@ part-of cylinder marks rest from n e low high = (at_point (λ mark. nat_le mark.
     both : (marks : List Mark) → filter (λ mark. nat_le mark.cylinder cylinder) (filter (λ mark. not (nat_lt mark.cylinder cylinder)) marks)
         ≡ marks_on cylinder marks
     both [] = refl
-    both (mark ∷ marks) = elim (cases_lt mark.cylinder cylinder) [
-      | inl less ↦ rw (lt-ltb mark.cylinder cylinder less, ne_eqb mark.cylinder cylinder (λ e. omega arith)) (both marks)
-      | inr from ↦ let same : nat_le mark.cylinder cylinder ≡ (mark.cylinder == cylinder) = grind (arith, nat_tests) in
-          rw (le-ltb mark.cylinder cylinder from, same, both marks) refl
-    ]
+    both (mark ∷ marks) = grind (arith, nat_tests, both marks)
 
 pub rest-rises : (marks rest : List Mark) (from : ℕ) → AreInOrder marks → rest ≡ drop from marks
     → IsNonDecreasingBy (λ mark. mark.cylinder) rest
@@ -99,26 +95,6 @@ rest-rises marks rest from up e = subst (λ rest. IsNonDecreasingBy (λ mark. ma
 
 -- ---- slipping
 
-pub gaps : (numbers : List ℕ) (i j : ℕ) → IsAscending numbers → i ≤ j → j < length numbers
-    → get_or numbers i 0 + (j - i) ≤ get_or numbers j 0
-gaps numbers i j up le h =
-    let first = rank-at i numbers (get_or numbers i 0) up (slice_get-get_or numbers i 0 (omega arith)) in
-    let last = rank-at j numbers (get_or numbers j 0) up (slice_get-get_or numbers j 0 h) in
-    let from : get_or numbers i 0 ≤ get_or numbers j 0 =
-    grind (arith, first.0, last.0, rank_marked numbers up (get_or numbers j 0) (get_or numbers i 0) last.1) in
-    omega (arith, first.0, last.0, (rank-step (get_or numbers i 0) (get_or numbers j 0) numbers up from).1)
-
-pub slipped-is : (number : ℕ) (numbers : List ℕ) (r : ℕ) → r ≤ length numbers → ((i : ℕ) → i < r → get_or numbers i 0 ≤ number + i)
-    → ((i : ℕ) → r ≤ i → i < length numbers → number + i < get_or numbers i 0)
-    → slipped number numbers ≡ number + r
-slipped-is number [] r h low high = omega arith
-slipped-is number (x ∷ numbers) zero h low high = let here : number < x = omega (arith, high 0 (omega arith) (omega arith)) in
-    rw (lt-ltb number x here) (omega arith)
-slipped-is number (x ∷ numbers) (suc r) h low high =
-    let on : x ≤ number = omega (arith, low 0 (omega arith)) in
-    rw (le-ltb number x on) (slipped-is (number + 1) numbers r (omega arith) (λ i l. omega (arith, low (suc i) (omega arith)))
-    (λ i l m. omega (arith, high (suc i) (omega arith) (omega arith))) ∙ omega arith)
-
 -- where a number comes to stand, by the passed one before and the one behind
 pub slipped_at : (number : ℕ) (marks : List Mark) (r : ℕ) → IsAscending (positions marks) → r ≤ length marks
     → ((i : ℕ) → i + 1 ≡ r → get_or (positions marks) i 0 ≤ number + i)
@@ -126,9 +102,23 @@ pub slipped_at : (number : ℕ) (marks : List Mark) (r : ℕ) → IsAscending (p
 slipped_at number marks r up h low high =
     let numbers = positions marks in
     let many : length numbers ≡ length marks = length-map marks (λ mark. mark.position) in
-    slipped-is number numbers r (omega arith)
-    (λ i l. omega (arith, gaps numbers i (r - 1) up (omega arith) (omega arith), low (r - 1) (omega arith)))
-    (λ i l m. omega (arith, gaps numbers r i up l m, high (omega arith)))
+    let at = λ (i : ℕ) (l : i < length numbers). rank-at i numbers (get_or numbers i 0) up (slice_get-get_or numbers i 0 l) in
+    let from : r ≤ rank (number + r) numbers = elim (cases_lt 0 r) [
+      | inl some ↦ let one = at (r - 1) (omega arith) in
+          let before : get_or numbers (r - 1) 0 < number + r = omega (arith, low (r - 1) (omega arith)) in
+          omega (arith, one.0, rank_marked numbers up (get_or numbers (r - 1) 0) (number + r) one.1 before)
+      | inr none ↦ omega arith
+    ] in
+    elim (cases_lt r (length marks)) [
+      | inl more ↦
+          let one = at r (omega arith) in
+          let behind = high more in
+          let upto = (rank-step (number + r) (get_or numbers r 0) numbers up (omega arith)).0 in
+          slipped_only numbers up number (number + r) (omega (arith, from, one.0, upto)) (false_from_ne_true (has numbers (number + r))
+          (λ among. omega (arith, from, one.0, rank_marked numbers up (number + r) (get_or numbers r 0) among behind)))
+      | inr all ↦ slipped_only numbers up number (number + r) (omega (arith, from, rank-le_length (number + r) numbers))
+          (free_behind numbers up (number + r) (number + r) (omega (arith, from)) (omega arith))
+    ]
 
 -- the position at an index
 pub position_get : (marks : List Mark) (i : ℕ) (d : Mark) → i < length marks → slice_get (positions marks) i
@@ -237,13 +227,4 @@ same_mark-refl a = grind (arith, nat_tests)
 pub among-on : (mark : Mark) (others : List Mark) → list_any (λ other. other == mark.position) (positions (marks_on mark.cylinder others))
     ≡ list_any (same_mark mark) others
 among-on mark [] = refl
-among-on mark (other ∷ others) = elim (cases_Bool (other.cylinder == mark.cylinder)) [
-  | inl here ↦ rw (here, turned mark.cylinder other.cylinder ∙ here)
-      (ap (λ b. b || list_any (λ other. other == mark.position) (positions (marks_on mark.cylinder others)))
-      (turned other.position mark.position)
-      ∙ ap (λ b. (mark.position == other.position) || b) (among-on mark others))
-  | inr off ↦ rw (off, turned mark.cylinder other.cylinder ∙ off) (among-on mark others)
-]
-  where
-    turned : (a b : ℕ) → (a == b) ≡ (b == a)
-    turned a b = grind (arith, nat_tests)
+among-on mark (other ∷ others) = grind (arith, nat_tests, among-on mark others)

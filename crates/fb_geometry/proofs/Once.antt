@@ -21,11 +21,15 @@ one_index (y ∷ xs) zero (suc j) x apart at again = absurd (all_get (λ z. y �
 one_index (y ∷ xs) (suc i) zero x apart at again = absurd (all_get (λ z. y ≢ z) xs i x apart.0 at (same_Some y x again))
 one_index (y ∷ xs) (suc i) (suc j) x apart at again = ap suc (one_index xs i j x apart.1 at again)
 
--- lists that have nothing in common
-distinct-append : {A : Type 0} (xs ys : List A) → Distinct xs → Distinct ys
-    → AllByRecursion (λ x. AllByRecursion (λ y. x ≢ y) ys) xs → Distinct (xs ++ ys)
-distinct-append [] ys h k apart = k
-distinct-append (x ∷ xs) ys h k apart = (all_append (λ y. x ≢ y) xs ys h.0 apart.0, distinct-append xs ys h.1 k apart.1)
+-- lists that a key tells apart
+distinct-append : {A : Type 0} (key : A → ℕ) (b : ℕ) (xs ys : List A) → Distinct xs → Distinct ys → AllByRecursion (λ x. key x ≤ b) xs
+    → AllByRecursion (λ y. b < key y) ys → Distinct (xs ++ ys)
+distinct-append key b [] ys h k low high = k
+distinct-append key b (x ∷ xs) ys h k low high = (
+  all_append (λ y. x ≢ y) xs ys h.0
+      (all_weaker (λ y. b < key y) (λ y. x ≢ y) (λ y more same. absurd (omega (arith, low.0, more, ap key same))) ys high),
+  distinct-append key b xs ys h.1 k low.1 high,
+)
 
 -- parts that a key tells apart
 module _ {A : Type 0} (key : A → ℕ) (f : ℕ → List A) where
@@ -38,10 +42,8 @@ module _ {A : Type 0} (key : A → ℕ) (f : ℕ → List A) where
       let rest : AllByRecursion (λ x. a < key x) (flat_map f (range_with_len (a + 1) n)) =
       all-parts (λ x. a < key x) f (a + 1) n (λ k from upto. all_weaker (λ x. key x ≡ k) (λ x. a < key x) (λ x e. omega arith)
       (f k) (later k from upto).1) in
-      distinct-append (f a) (flat_map f (range_with_len (a + 1) n)) first.0 (distinct-parts (a + 1) n later)
-      (all_weaker (λ x. key x ≡ a) (λ x. AllByRecursion (λ y. x ≢ y) (flat_map f (range_with_len (a + 1) n)))
-      (λ x e. all_weaker (λ y. a < key y) (λ y. x ≢ y) (λ y less same. absurd (omega (arith, ap key same)))
-      (flat_map f (range_with_len (a + 1) n)) rest) (f a) first.1)
+      distinct-append key a (f a) (flat_map f (range_with_len (a + 1) n)) first.0 (distinct-parts (a + 1) n later)
+      (all_weaker (λ x. key x ≡ a) (λ x. key x ≤ a) (λ x e. omega arith) (f a) first.1) rest
 
 distinct_from : {A : Type 0} (xs : List A) → ((i j : ℕ) (x : A) → slice_get xs i ≡ Some x → slice_get xs j ≡ Some x → i ≡ j) → Distinct xs
 distinct_from [] one = tt
@@ -97,15 +99,14 @@ module _ (disk : Shape) (h : IsFaultless disk) where
       → Distinct (flat_map (zone_places disk) zones)
   distinct_zones [] up each = tt
   distinct_zones (zone ∷ zones) up each =
-      let rest = flat_map (zone_places disk) zones in
       let here = each 0 zone refl in
       let behind : AllByRecursion (λ place. zone.last < place.track.cylinder) (flat_map (zone_places disk) zones) =
       all_zones (λ place. zone.last < place.track.cylinder) zones (λ i other at.
       all_weaker (OnZone other) (λ place. zone.last < place.track.cylinder)
       (λ place on. omega (arith, on.0, (all_get (Follow zone) zones i other up.0 at).0)) (zone_places disk other) (each (suc i) other at).1) in
-      distinct-append (zone_places disk zone) rest here.0 (distinct_zones zones up.1 (λ i. each (suc i)))
-      (all_weaker (OnZone zone) (λ x. AllByRecursion (λ y. x ≢ y) rest) (λ x on. all_weaker (λ y. zone.last < y.track.cylinder) (λ y. x ≢ y)
-      (λ y less same. absurd (omega (arith, on.1, less, ap (λ place. place.track.cylinder) same))) rest behind) (zone_places disk zone) here.1)
+      distinct-append (λ place. place.track.cylinder) zone.last (zone_places disk zone) (flat_map (zone_places disk) zones) here.0
+      (distinct_zones zones up.1 (λ i. each (suc i)))
+      (all_weaker (OnZone zone) (λ place. place.track.cylinder ≤ zone.last) (λ place on. on.1) (zone_places disk zone) here.1) behind
 
   pub distinct_places : Distinct (places disk)
   unfolding places

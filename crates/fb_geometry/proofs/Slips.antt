@@ -142,11 +142,7 @@ module _ (numbers : List ℕ) (up : IsAscending numbers) where
       let upto : start ≤ next = grind (arith, rank_marked next start one.1, one.0) in
       let free : (q : ℕ) → start ≤ q → q < next → has numbers q ≡ false = λ q from below. false_from_ne_true (has numbers q)
       (λ among. omega (arith, rank_marked q next among below, one.0, (rank-step start q numbers up from).0)) in
-      let here : has numbers start ≡ (next == start) = elim (cases_lt start next) [
-        | inl less ↦ free start (omega arith) less ∙ sym (ne_eqb next start (λ e. omega arith))
-        | inr from ↦ let same : next ≡ start = omega (arith, upto) in ap (has numbers) (sym same) ∙ (one.1 ∙ sym (eq-eqb next start same))
-      ] in
-      (upto, free, here, one.1)
+      (upto, free, grind (arith, nat_tests, free start), one.1)
 
   -- none is marked behind the last one
   pub free_behind : (position q : ℕ) → length numbers ≤ rank position numbers → position ≤ q → has numbers q ≡ false
@@ -194,17 +190,17 @@ module _ (numbers : List ℕ) (up : IsAscending numbers) where
 -- ---- the entry of a sector
 
 module _ (marked : List ℕ) (up : IsAscending marked) (sectors : ℕ) where
+  abbrev moved : ℕ → ℕ
+  moved sector = slipped (sectors - rank sectors marked + rank sector marked) marked
+
   -- where a marked sector moves to: behind all that are in use, to an entry that isn't marked
-  moves_to : (sector : ℕ) → sector < sectors → has marked sector ≡ true → (entry : ℕ) × (entry_of_sector marked sectors sector ≡ entry)
-      × (has marked entry ≡ false) × (entry - rank entry marked ≡ sectors - rank sectors marked + rank sector marked)
-      × (rank sector marked < rank sectors marked) × (sectors ≤ entry)
+  moves_to : (sector : ℕ) → sector < sectors → has marked sector ≡ true → (has marked (moved sector) ≡ false)
+      × (moved sector - rank (moved sector) marked ≡ sectors - rank sectors marked + rank sector marked)
+      × (rank sector marked < rank sectors marked) × (sectors ≤ moved sector)
   moves_to sector h among =
-      let start = sectors - rank sectors marked + rank sector marked in
-      let to = slipped_to start marked up in
+      let to = slipped_to (sectors - rank sectors marked + rank sector marked) marked up in
       let few = rank_marked marked up sector sectors among h in
-      let behind : sectors ≤ slipped start marked =
-      grind (arith, rank_free marked up (slipped start marked) sectors to.1, rank-below sectors marked up, to.0) in
-      (slipped start marked, rw among refl, to.1, omega arith, few, behind)
+      (to.1, omega arith, few, grind (arith, rank_free marked up (moved sector) sectors to.1, rank-below sectors marked up, to.0))
 
   pub stays_at : (sector : ℕ) → has marked sector ≡ false → entry_of_sector marked sectors sector ≡ sector
   stays_at sector stays = rw stays refl
@@ -213,11 +209,8 @@ module _ (marked : List ℕ) (up : IsAscending marked) (sectors : ℕ) where
   pub entry_holds : (sector : ℕ) → sector < sectors → (has marked (entry_of_sector marked sectors sector) ≡ false)
       × (entry_of_sector marked sectors sector - rank (entry_of_sector marked sectors sector) marked < sectors)
   entry_holds sector h = elim (cases_Bool (has marked sector)) [
-    | inl among ↦ let to = moves_to sector h among in
-        subst (λ entry. (has marked entry ≡ false) × (entry - rank entry marked < sectors)) (sym to.1)
-        (to.2, omega (arith, rank-below sectors marked up))
-    | inr stays ↦ subst (λ entry. (has marked entry ≡ false) × (entry - rank entry marked < sectors))
-        (sym (stays_at sector stays)) (stays, omega arith)
+    | inl among ↦ let to = moves_to sector h among in rw among (to.0, omega (arith, to.1, to.2, rank-below sectors marked up))
+    | inr stays ↦ rw stays (stays, omega arith)
   ]
 
   -- no two sectors have one entry
@@ -225,20 +218,13 @@ module _ (marked : List ℕ) (up : IsAscending marked) (sectors : ℕ) where
       ≡ entry_of_sector marked sectors j → i ≡ j
   one_moved i j h k gone same = let to = moves_to i h gone in elim (cases_Bool (has marked j)) [
     | inl moves ↦
-        let other = moves_to j k moves in
-        let ranks : rank i marked ≡ rank j marked = omega (arith, ap (λ entry. entry - rank entry marked) (sym to.1 ∙ (same ∙ other.1))) in
-        grind (arith, rank_marked marked up i j gone, rank_marked marked up j i moves)
-    | inr stays ↦ absurd (omega (arith, to.5, to.1, stays_at j stays))
+        let both = ap (λ entry. entry - rank entry marked) (rw (gone, moves) at same) in
+        grind (arith, both, to.1, (moves_to j k moves).1, rank_marked marked up i j gone, rank_marked marked up j i moves)
+    | inr stays ↦ absurd (omega (arith, to.3, rw (gone, stays) at same))
   ]
 
   pub one_entry : (i j : ℕ) → i < sectors → j < sectors → entry_of_sector marked sectors i ≡ entry_of_sector marked sectors j → i ≡ j
-  one_entry i j h k same = elim (cases_Bool (has marked i)) [
-    | inl gone ↦ one_moved i j h k gone same
-    | inr rests ↦ elim (cases_Bool (has marked j)) [
-      | inl moves ↦ sym (one_moved j i k h moves (sym same))
-      | inr stays ↦ sym (stays_at i rests) ∙ (same ∙ stays_at j stays)
-    ]
-  ]
+  one_entry i j h k same = grind (arith, one_moved i j h k, one_moved j i k h, stays_at i, stays_at j)
 
   -- what an entry holds has that entry
   pub held : (entry sector : ℕ) → HoldsSector marked sectors entry sector → (sector < sectors)
@@ -292,10 +278,7 @@ kept_to : {A : Type 0} (keep : A → Bool) (i : ℕ) (xs : List A) (x : A) → s
     → slice_get (filter keep xs) (length (filter keep (take i xs))) ≡ Some x
 kept_to keep i [] x at stays = absurd (none-some x at)
 kept_to keep zero (y ∷ xs) x at stays = rw (ap keep (same_Some y x at) ∙ stays) at
-kept_to keep (suc i) (y ∷ xs) x at stays = let rest = kept_to keep i xs x at stays in elim (cases_Bool (keep y)) [
-  | inl in_ ↦ rw in_ rest
-  | inr out ↦ rw out rest
-]
+kept_to keep (suc i) (y ∷ xs) x at stays = grind (arith, kept_to keep i xs x at stays)
 
 -- the elements that are kept and those that are dropped are all together
 pub length-kept : {A : Type 0} (test : A → Bool) (a : ℕ) (xs : List A)
