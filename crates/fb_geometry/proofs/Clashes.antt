@@ -1,5 +1,5 @@
 -- Places that are given twice, the marks of places that are given once, and tracks with more of them than spares.
-use Rattle.fb_units.proofs.Lists.{none_of_any}
+use Rattle.fb_units.proofs.Lists.{append_at, all_weaker, filter_to, map_at, none_of_any}
 use Rattle.fb_geometry.proofs.Words.{All-from_get_or, AllByRecursion, AreInOrder, AreSorted, Bool, Contains-permutation, HasZones}
 use Rattle.fb_geometry.proofs.Words.{IsDistinct, IsDistinct-IsPermutation, IsPartitionPoint, IsPartitionedBy, IsPermutation}
 use Rattle.fb_geometry.proofs.Words.{IsPermutation-map, IsPermutation-sym, IsSortedBy, IsStrictWeakOrder, List, Mark, Pairwise, Place}
@@ -7,14 +7,13 @@ use Rattle.fb_geometry.proofs.Words.{Shape, Some, [], ap, arith, cases_Bool, cas
 use Rattle.fb_geometry.proofs.Words.{filter-append, find, get_or, get_or_from_slice_get, inl, inr, is_among, is_mark_before, is_outside}
 use Rattle.fb_geometry.proofs.Words.{is_place_before, least, length, length-append, length-filter, list_any, list_any-IsPermutation}
 use Rattle.fb_geometry.proofs.Words.{lt-ltb, ltb-true, map, mark_of, nat_lt, nat_tests, none-some, option_map, recursion_from_All, refl}
-use Rattle.fb_geometry.proofs.Words.{repeated, same_Some, same_mark, same_place, slice_get, slice_get-get_or, slice_get_within}
-use Rattle.fb_geometry.proofs.Words.{sorted_far, subst, suc, sum_by-IsPermutation, sym, true, true≢false, with_repeated, zero, ℕ, ◌++◌}
-use Rattle.fb_geometry.proofs.Words.{◌+◌, ◌-◌, ◌<◌, ◌∙◌, ◌∷◌, ◌≡◌, ◌≤◌, ◌⊎◌}
+use Rattle.fb_geometry.proofs.Words.{repeated, same_mark, same_place, slice_get, slice_get-get_or, slice_get_within, sorted_far, suc}
+use Rattle.fb_geometry.proofs.Words.{sum_by-IsPermutation, sym, true, true≢false, zero, ℕ, ◌++◌, ◌+◌, ◌-◌, ◌<◌, ◌∙◌, ◌∷◌, ◌≡◌, ◌≤◌, ◌⊎◌}
 use Rattle.fb_geometry.proofs.{Grid.count_cons, Faultless.all_get, Laws.same_places, Marking.mark_of-same, Marking.same_marks}
 use Rattle.fb_geometry.proofs.{Marking.same_mark-refl, Marking.point-is, Slips.pairwise_upto, Slips.pairwise-filter, Slips.pairwise-map}
-use Rattle.fb_geometry.proofs.{Leasts.place_order, Leasts.Among, Leasts.among-tail, Leasts.among-left, Leasts.among-right}
-use Rattle.fb_geometry.proofs.{Leasts.among-append, Leasts.among-filter, Leasts.among-filtered, Leasts.among-mapped, Leasts.among-map}
-use Rattle.fb_geometry.proofs.{Leasts.among-any, Leasts.any-among, Leasts.least-head, Leasts.IsOrder}
+use Rattle.fb_geometry.proofs.{Leasts.place_order, Leasts.Among, Leasts.among-tail, Leasts.among-right, Leasts.among-append}
+use Rattle.fb_geometry.proofs.{Leasts.among-filtered, Leasts.among-mapped, Leasts.among-any, Leasts.any-among, Leasts.least-head}
+use Rattle.fb_geometry.proofs.{Leasts.IsOrder}
 
 -- ---- pairs
 
@@ -55,39 +54,40 @@ count place places = length (filter (same_place place) places)
 pub same_place-refl : (a : Place) → same_place a a ≡ true
 same_place-refl a = grind (arith, nat_tests)
 
+-- a place is among these if some number of them are the same
+some_same : (places : List Place) (place : Place) → is_among places place ≡ true → 0 < count place places
+some_same places place h = ltb-true 0 (count place places) (sym (any_count (same_place place) places) ∙ h)
+
+listed : (places : List Place) (place : Place) → 0 < count place places → is_among places place ≡ true
+listed places place h = any_count (same_place place) places ∙ lt-ltb 0 (count place places) h
+
+all_counted : (places : List Place) → AllByRecursion (λ place. 2 ≤ count place places) (repeated places)
+all_counted [] = tt
+all_counted (first ∷ places) =
+    let rest = all_weaker (λ place. 2 ≤ count place places) (λ place. 2 ≤ count place (first ∷ places))
+    (λ place more. omega (arith, count_cons (same_place place) first places)) (repeated places) (all_counted places) in
+    elim (cases_Bool (is_among places first)) [
+      | inl again ↦
+          let own : cond {A = ℕ} (same_place first first) 1 0 ≡ 1 = rw (same_place-refl first) refl in
+          rw again (omega (arith, count_cons (same_place first) first places, some_same places first again), rest)
+      | inr once ↦ rw once rest
+    ]
+
 repeated_counted : (places : List Place) (place : Place) → Among (repeated places) place → 2 ≤ count place places
-repeated_counted [] place one = absurd (none-some place one.1)
-repeated_counted (first ∷ places) place one = step (is_among places first) refl one (repeated_counted places place)
-  where
-    step : (b : Bool) → is_among places first ≡ b → Among (with_repeated b first (repeated places)) place → (Among (repeated places) place
-        → 2 ≤ count place places) → 2 ≤ count place (first ∷ places)
-    step false e one more = omega (arith, count_cons (same_place place) first places, more one)
-    step true e (suc k, at) more = omega (arith, count_cons (same_place place) first places, more (k, at))
-    step true e (zero, at) more =
-        let same : first ≡ place = same_Some first place at in
-        let again : 0 < count place places = subst (λ place. 0 < count place places) same (ltb-true 0 (count first places)
-        (sym (any_count (same_place first) places) ∙ e)) in
-        omega (
-          arith,
-          count_cons (same_place place) first places,
-          ap {B = ℕ} (λ b. cond b 1 0) (ap (same_place place) same
-              ∙ same_place-refl place),
-        )
+repeated_counted places place one = all_get (λ place. 2 ≤ count place places) (repeated places) one.0 place (all_counted places) one.1
 
 counted_repeated : (places : List Place) (place : Place) → 2 ≤ count place places → Among (repeated places) place
 counted_repeated [] place h = absurd (omega arith)
 counted_repeated (first ∷ places) place h = elim (cases_Bool (same_place place first)) [
   | inl here ↦
       let same : place ≡ first = same_places place first here in
-      let again : is_among places first ≡ true = ap (is_among places) (sym same) ∙ (any_count (same_place place) places
-      ∙ lt-ltb 0 (count place places) (omega (arith, rw here at h))) in
+      let again : is_among places first ≡ true = ap (is_among places) (sym same) ∙ listed places place (omega (arith, rw here at h)) in
       rw again (0, ap Some (sym same))
-  | inr off ↦ behind (is_among places first) (counted_repeated places place (rw off at h))
+  | inr off ↦ let one = counted_repeated places place (rw off at h) in elim (cases_Bool (is_among places first)) [
+    | inl again ↦ rw again (among-tail first place (repeated places) one)
+    | inr once ↦ rw once one
+  ]
 ]
-  where
-    behind : (b : Bool) → Among (repeated places) place → Among (with_repeated b first (repeated places)) place
-    behind true one = among-tail first place (repeated places) one
-    behind false one = one
 
 all-repeated : (P : Place → Type 0) (places : List Place) → AllByRecursion P places → AllByRecursion P (repeated places)
 all-repeated P [] all = tt
@@ -128,9 +128,6 @@ least_clash defects grown sorted once are = least-head is_place_before place_ord
         ∙ (ap length (filter-append (same_place place) defects grown) ∙ length-append (filter (same_place place) defects)
         (filter (same_place place) grown))
 
-    some : (places : List Place) (place : Place) → is_among places place ≡ true → 0 < count place places
-    some places place h = ltb-true 0 (count place places) (sym (any_count (same_place place) places) ∙ h)
-
     twice : (place : Place) → Among (repeated grown) place ⊎ Among (filter (is_among defects) grown) place
         → 2 ≤ count place defects + count place grown
     twice place (inl rep) = omega (arith, repeated_counted grown place rep)
@@ -138,24 +135,22 @@ least_clash defects grown sorted once are = least-head is_place_before place_ord
         let parts = among-filtered (is_among defects) grown place both in
         omega (
           arith,
-          some defects place parts.1,
-          some grown place (among-any (same_place place) grown place parts.0
+          some_same defects place parts.1,
+          some_same grown place (among-any (same_place place) grown place parts.0
               (same_place-refl place)),
         )
 
-    listed : (places : List Place) (place : Place) → 0 < count place places → is_among places place ≡ true
-    listed places place h = any_count (same_place place) places ∙ lt-ltb 0 (count place places) h
-
     either : (place : Place) → 2 ≤ count place defects + count place grown → Among (repeated grown ++ filter (is_among defects) grown) place
     either place h = elim (cases_lt 1 (count place grown)) [
-      | inl two ↦ among-left (repeated grown) (filter (is_among defects) grown) place (counted_repeated grown place (omega arith))
+      | inl two ↦ let one = counted_repeated grown place (omega arith) in
+          (one.0, append_at (repeated grown) (filter (is_among defects) grown) one.0 place one.1)
       | inr few ↦ elim (cases_lt 1 (count place defects)) [
         | inl two ↦ absurd (none-some place (ap (λ xs. slice_get xs (counted_repeated defects place two).0) (sym once)
             ∙ (counted_repeated defects place two).1))
         | inr one ↦
             let found = any-among (same_place place) grown (listed grown place (omega arith)) in
             among-right (repeated grown) (filter (is_among defects) grown) place
-            (among-filter (is_among defects) grown place (found.1.0, found.1.1 ∙ ap Some (sym (same_places place found.0 found.2)))
+            (filter_to (is_among defects) grown found.1.0 place (found.1.1 ∙ ap Some (sym (same_places place found.0 found.2)))
             (listed defects place (omega arith)))
       ]
     ]
@@ -229,7 +224,7 @@ module _ (disk : Shape) (zones : HasZones disk) (xs : List Place) (marks : List 
   inside_of place one = all_get (λ place. is_outside disk place ≡ false) xs one.0 place inside one.1
 
   pub mark_among : (place : Place) → Among xs place → Among marks (mark_of disk place)
-  mark_among place one = permuted (map (mark_of disk) xs) marks (mark_of disk place) same (among-map (mark_of disk) xs place one)
+  mark_among place one = permuted (map (mark_of disk) xs) marks (mark_of disk place) same (one.0, map_at (mark_of disk) xs one.0 place one.1)
 
   pub place_among : (mark : Mark) → Among marks mark → (place : Place) × Among xs place × (mark_of disk place ≡ mark)
   place_among mark one = among-mapped (mark_of disk) xs mark (permuted marks (map (mark_of disk) xs) mark
@@ -302,7 +297,8 @@ least_full {K = K} before order key so full places sorted are =
     same = IsPermutation-map key places sorted are.same
 
     kept : (xs ys : List K) → IsPermutation xs ys → (x : K) → Among (filter full xs) x → Among (filter full ys) x
-    kept xs ys h x one = let parts = among-filtered full xs x one in among-filter full ys x (permuted xs ys x h parts.0) parts.1
+    kept xs ys h x one = let parts = among-filtered full xs x one in
+        let found = permuted xs ys x h parts.0 in filter_to full ys found.0 x found.1 parts.1
 
 -- ---- how many are on a track or cylinder
 
@@ -327,10 +323,6 @@ pub between : (upto under same : Place → Bool)
     → IsPartitionPoint (λ place. upto place ≡ true) (λ place. upto place ≡ false) sorted behind
     → behind ≡ first + length (filter same places)
 between upto under same sum places sorted are first behind h k low high =
-    omega (
-      arith,
-      point-is under sorted first h low,
-      point-is upto sorted behind k high,
-      sum_of upto under same sorted sum,
-      same_count same places sorted are.same,
-    )
+    let before = point-is under sorted first h low in
+    let through = point-is upto sorted behind k high in
+    omega (arith, before, through, sum_of upto under same sorted sum, same_count same places sorted are.same)

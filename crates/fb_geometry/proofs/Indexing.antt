@@ -1,5 +1,5 @@
 -- The marks of an accepted outline are its index of bad slots.
-use Rattle.fb_units.proofs.Lists.{all_dropped, all_weaker}
+use Rattle.fb_units.proofs.Lists.{all_dropped, all_weaker, map_at}
 use Rattle.fb_geometry.proofs.Words.{AreInOrder, AreMarksOf, Bool, HasZones, IsAscending, IsIndexed, IsZoneAt, List, Mark, Pairwise}
 use Rattle.fb_geometry.proofs.Words.{Place, Shape, Some, Zone, [], among_unmarked, ap, arith, by_head, cases_order, cylinder_slots}
 use Rattle.fb_geometry.proofs.Words.{eq-eqb, false, filter, good_track, indexes, inl, inr, is_among, is_mark_before, is_outside, list_any}
@@ -11,9 +11,9 @@ use Rattle.fb_geometry.proofs.{Slips.index_of, Slips.goes, Slips.rank_free, Slip
 use Rattle.fb_geometry.proofs.{Turns.length-cylinder_slots, Turns.good_cylinder-is, Faultless.slots_at-zone, Faultless.all_get}
 use Rattle.fb_geometry.proofs.{Laws.same_places, Lookups.slot_of, Lookups.good_lies, Lookups.defects_of, Lookups.good_of}
 use Rattle.fb_geometry.proofs.{Marking.marks_on-ascend, Marking.position_is, Marking.mark_of-slot_at, Marking.on_disk, Marking.among-on}
-use Rattle.fb_geometry.proofs.{Marking.same_marks, Marking.same_mark-refl, Leasts.Among, Leasts.among-map, Leasts.among-mapped}
-use Rattle.fb_geometry.proofs.{Leasts.among-any, Leasts.any-among, Clashes.same_place-refl, Clashes.mark_among, Clashes.place_among}
-use Rattle.fb_geometry.proofs.{Clashes.inside_of, Clashes.among_others}
+use Rattle.fb_geometry.proofs.{Marking.same_marks, Marking.same_mark-refl, Leasts.Among, Leasts.among-mapped, Leasts.among-any}
+use Rattle.fb_geometry.proofs.{Leasts.any-among, Clashes.same_place-refl, Clashes.mark_among, Clashes.place_among, Clashes.inside_of}
+use Rattle.fb_geometry.proofs.{Clashes.among_others}
 
 -- ---- ascending numbers that have the same members
 
@@ -159,8 +159,8 @@ module _ (disk : Shape) (zones : HasZones disk) (defects grown : List Mark) (are
   grown_indexed zone cylinder at =
       marks_indexed cylinder disk.grown (by_head disk cylinder (good_track disk zone)) (map (among_unmarked defects) grown)
       (λ place. among_unmarked defects (mark_of disk place)) grown_in_order
-      (λ place one. among-map (among_unmarked defects) grown (mark_of disk place)
-      (mark_among disk zones disk.grown grown those.inside those.same place one))
+      (λ place one. let found = mark_among disk zones disk.grown grown those.inside those.same place one in
+      (found.0, map_at (among_unmarked defects) grown found.0 (mark_of disk place) found.1))
       (λ other one. let found = among-mapped (among_unmarked defects) grown other one in
       let own = place_among disk zones disk.grown grown those.inside those.same found.0 found.1 in
       (own.0, own.1, ap (among_unmarked defects) own.2 ∙ found.2)) here back

@@ -48,14 +48,12 @@ inside disk places none = All-from_recursion (λ place. is_outside disk place �
 
 pub defects_inside : (disk : Shape) (sorted : List Place) → defect_fault disk ≡ None → AreSorted disk.defects sorted
     → All (λ place. is_outside disk place ≡ false) sorted
-defects_inside disk sorted h are = All-permutation (λ place. is_outside disk place ≡ false) disk.defects sorted are.same
-    (inside disk disk.defects (good_defects disk h).0)
+defects_inside disk sorted h are = All-permutation (λ place. is_outside disk place ≡ false) _ _ are.same (inside disk disk.defects (good_defects disk h).0)
 
 pub bad_inside : (disk : Shape) (sorted : List Place) → defect_fault disk ≡ None → grown_fault disk ≡ None
     → AreSorted (disk.defects ++ disk.grown) sorted → All (λ place. is_outside disk place ≡ false) sorted
-bad_inside disk sorted h k are = All-permutation (λ place. is_outside disk place ≡ false) (disk.defects ++ disk.grown) sorted are.same
-    (All-append (λ place. is_outside disk place ≡ false) disk.defects disk.grown (inside disk disk.defects (good_defects disk h).0)
-    (inside disk disk.grown (good_grown disk k).0))
+bad_inside disk sorted h k are = All-permutation (λ place. is_outside disk place ≡ false) _ _ are.same
+    (All-append (λ place. is_outside disk place ≡ false) _ _ (inside disk disk.defects (good_defects disk h).0) (inside disk disk.grown (good_grown disk k).0))
 
 -- ---- the whole
 

@@ -105,10 +105,8 @@ none_or_not : {K : Type 0} (same : K → Bool) (full : K → Bool) (key : Place 
     → ((k : K) → same k ≡ true → at ≡ k) → (places : List Place)
     → AllByRecursion (λ k. full k ≡ false) (map key places) → (length (filter (λ place. same (key place)) places) ≡ 0) ⊎ (full at ≡ false)
 none_or_not same full key at is [] all = inl refl
-none_or_not same full key at is (place ∷ places) all = elim (cases_Bool (same (key place))) [
-  | inl here ↦ inr (ap full (is (key place) here) ∙ all.0)
-  | inr off ↦ rw off (none_or_not same full key at is places all.1)
-]
+none_or_not same full key at is (place ∷ places) all =
+    grind (arith, is (key place), all.0, none_or_not same full key at is places all.1)
 
 few_from : (spares count : ℕ) → (count ≡ 0) ⊎ (nat_lt spares count ≡ false) → count ≤ spares
 few_from spares count (inl none) = omega arith
@@ -120,19 +118,13 @@ few_on_track disk track h =
     few_from (spares_at disk.zones track.cylinder) _ (none_or_not (same_track track) (is_full_track disk) (λ place. place.track) track
     (same_tracks track) disk.defects (all_dropped (is_full_track disk) _ (least-none is_track_before _ (fault_at-none TooManyDefects _ h))))
 
--- what an outline with spares per cylinder keeps
-pub record HasSpares (disk : Shape) : Type 0 where
-  pub few : (cylinder : ℕ) → length (filter (λ place. place.track.cylinder == cylinder) (disk.defects ++ disk.grown))
-      ≤ cylinder_spares_at disk.zones cylinder
-
-pub has_spares : (disk : Shape) → spare_fault PerCylinder disk ≡ None → HasSpares disk
-has_spares disk h =
+pub few_on_cylinder : (disk : Shape) (cylinder : ℕ) → spare_fault PerCylinder disk ≡ None
+    → length (filter (λ place. place.track.cylinder == cylinder) (disk.defects ++ disk.grown)) ≤ cylinder_spares_at disk.zones cylinder
+few_on_cylinder disk cylinder h =
     let full = or_else-none _ _ (or_else-none _ _ h).1 in
-    record {
-      few = λ cylinder. few_from (cylinder_spares_at disk.zones cylinder) _ (none_or_not (λ k. k == cylinder) (is_full_cylinder disk)
-          (λ place. place.track.cylinder) cylinder (λ k e. sym (eqb-true k cylinder e)) (disk.defects ++ disk.grown)
-          (all_dropped (is_full_cylinder disk) _ (least-none nat_lt _ (fault_at-none TooManyInCylinder _ full.1))));
-    }
+    few_from (cylinder_spares_at disk.zones cylinder) _ (none_or_not (λ k. k == cylinder) (is_full_cylinder disk)
+    (λ place. place.track.cylinder) cylinder (λ k e. sym (eqb-true k cylinder e)) (disk.defects ++ disk.grown)
+    (all_dropped (is_full_cylinder disk) _ (least-none nat_lt _ (fault_at-none TooManyInCylinder _ full.1))))
 
 -- ---- each cylinder of a zone holds as many
 
@@ -165,16 +157,12 @@ module _ (disk : Shape) (zone : Zone) (cylinder : ℕ) (at : IsZoneAt disk cylin
             (once_on_cylinder zone some_sectors disk.heads cylinder),
       )
 
-  pub few_flaws : HasSpares disk → length (filter (λ place. place.track.cylinder == cylinder) disk.defects) + length
+  pub few_flaws : spare_fault PerCylinder disk ≡ None → length (filter (λ place. place.track.cylinder == cylinder) disk.defects) + length
       (filter (λ place. place.track.cylinder == cylinder) disk.grown) ≤ zone.cylinder_spares
-  few_flaws h = omega (
-    arith,
-    h.few cylinder,
-    cylinder_spares_at-zone disk.zones cylinder zone at.found,
-    ap length (filter-append (λ place. place.track.cylinder == cylinder) disk.defects disk.grown),
-    length-append (filter (λ place. place.track.cylinder == cylinder) disk.defects)
-        (filter (λ place. place.track.cylinder == cylinder) disk.grown),
-  )
+  few_flaws h =
+      let on = λ (place : Place). place.track.cylinder == cylinder in
+      let both = ap length (filter-append on disk.defects disk.grown) ∙ length-append (filter on disk.defects) (filter on disk.grown) in
+      omega (arith, both, few_on_cylinder disk cylinder h, cylinder_spares_at-zone disk.zones cylinder zone at.found)
 
   pub length_data_list : (layout : Layout) → spare_fault layout disk ≡ None → length (data_list_by layout disk zone cylinder)
       ≡ cylinder_size_by layout disk zone
@@ -186,7 +174,7 @@ module _ (disk : Shape) (zone : Zone) (cylinder : ℕ) (at : IsZoneAt disk cylin
       let good = by_head disk cylinder (good_track disk zone) in
       let base = disk.heads * zone.sectors - zone.cylinder_spares in
       length-replaced disk (take base good) (filter (λ place. not (is_among disk.grown place)) (drop base good))
-      ∙ length-take-le base good (omega (arith, length-good, few_flaws (has_spares disk h)))
+      ∙ length-take-le base good (omega (arith, length-good, few_flaws h))
 
 pub some_size : (layout : Layout) (disk : Shape) (zone : Zone) → 0 < disk.heads → has_no_data layout disk zone ≡ false
     → 0 < cylinder_size_by layout disk zone

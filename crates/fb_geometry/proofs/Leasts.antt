@@ -1,6 +1,6 @@
 -- Orders of places and tracks, and the least of a list.
 use Rattle.fb_units.proofs.Tracks.{same_tracks}
-use Rattle.fb_units.proofs.Lists.{all_get, append_at, filter_to, get_left, get_right, map_at}
+use Rattle.fb_units.proofs.Lists.{all_get, get_left, get_right}
 use Rattle.fb_geometry.proofs.Words.{AllByRecursion, Bool, IsStrictWeakOrder, List, None, Option, Pairwise, Some, [], ap, arith}
 use Rattle.fb_geometry.proofs.Words.{cases_Bool, cases_lt, false, filter, get_or_from_slice_get, inl, inr, is_mark_before}
 use Rattle.fb_geometry.proofs.Words.{is_place_before, is_track_before, least, length, lesser, list_any, list_any_at, map, nat_lt}
@@ -46,10 +46,7 @@ lesser_is before order y x (Some z) all not_before (inr at) = grind (arith, orde
 
 lesser_from : {A : Type 0} (before : A → A → Bool) (y z : A) (o : Option A) → lesser before y o ≡ Some z → (y ≡ z) ⊎ (o ≡ Some z)
 lesser_from before y z None e = inl (same_Some y z e)
-lesser_from before y z (Some x) e = elim (cases_Bool (before x y)) [
-  | inl less ↦ inr (rw less at e)
-  | inr more ↦ inl (same_Some y z (rw more at e))
-]
+lesser_from before y z (Some x) e = grind arith
 
 least_among : {A : Type 0} (before : A → A → Bool) (xs : List A) (z : A) → least before xs ≡ Some z → Among xs z
 least_among before [] z e = absurd (none-some z e)
@@ -83,9 +80,6 @@ least-head {A = A} before order xs (y ∷ ys) to from up = least-is before order
 
 -- ---- what is among a list that is made of others
 
-pub among-left : {A : Type 0} (xs ys : List A) (x : A) → Among xs x → Among (xs ++ ys) x
-among-left xs ys x one = (one.0, append_at xs ys one.0 x one.1)
-
 pub among-right : {A : Type 0} (xs ys : List A) (x : A) → Among ys x → Among (xs ++ ys) x
 among-right xs ys x one = (length xs + one.0, get_right xs ys one.0 (length xs + one.0) refl ∙ one.1)
 
@@ -95,9 +89,6 @@ among-append xs ys x one = elim (cases_lt one.0 (length xs)) [
   | inr behind ↦ inr (one.0 - length xs, sym (get_right xs ys (one.0 - length xs) one.0 (omega arith)) ∙ one.1)
 ]
 
-pub among-filter : {A : Type 0} (test : A → Bool) (xs : List A) (x : A) → Among xs x → test x ≡ true → Among (filter test xs) x
-among-filter test xs x one e = filter_to test xs one.0 x one.1 e
-
 pub among-filtered : {A : Type 0} (test : A → Bool) (xs : List A) (x : A) → Among (filter test xs) x → Among xs x × (test x ≡ true)
 among-filtered {A = A} test xs x one = all_get (λ y. Among xs y × (test y ≡ true)) (filter test xs) one.0 x (kept xs (λ y one. one)) one.1
   where
@@ -106,9 +97,6 @@ among-filtered {A = A} test xs x one = all_get (λ y. Among xs y × (test y ≡ 
     kept [] within = tt
     kept (y ∷ ys) within = let rest = kept ys (λ z one. within z (among-tail y z ys one)) in
         elim (cases_Bool (test y)) [ inl in_ ↦ rw in_ ((within y (0, refl), in_), rest) | inr out ↦ rw out rest ]
-
-pub among-map : {A B : Type 0} (f : A → B) (xs : List A) (x : A) → Among xs x → Among (map f xs) (f x)
-among-map f xs x one = (one.0, map_at f xs one.0 x one.1)
 
 pub among-mapped : {A B : Type 0} (f : A → B) (xs : List A) (y : B) → Among (map f xs) y → (x : A) × Among xs x × (f x ≡ y)
 among-mapped f [] y one = absurd (none-some y one.1)

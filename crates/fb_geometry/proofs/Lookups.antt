@@ -16,9 +16,8 @@ use Rattle.fb_geometry.proofs.{Slips.length_front, Slips.goes, Slips.kth, Slips.
 use Rattle.fb_geometry.proofs.{Slips.length-kept, Slips.entry_holds, Slips.one_entry, Slips.held, Turns.good_track-is}
 use Rattle.fb_geometry.proofs.{Turns.good_cylinder-is, Turns.range-append, Turns.length-cylinder_slots, Turns.get-cylinder_slots}
 use Rattle.fb_geometry.proofs.{Turns.position_in-slot_at, Turns.slot_at-position_in, Turns.position_below, Faultless.all_get}
-use Rattle.fb_geometry.proofs.{Faultless.slots_at-zone, Faultless.list_among-zone, Laws.HasSpares, Laws.has_spares, Laws.length-track}
-use Rattle.fb_geometry.proofs.{Laws.length-good, Laws.few_flaws, Laws.length_data_list, Laws.kept_and_dropped, Laws.at_most_each}
-use Rattle.fb_geometry.proofs.{Laws.fewer, Laws.once_on_cylinder}
+use Rattle.fb_geometry.proofs.{Faultless.slots_at-zone, Faultless.list_among-zone, Laws.length-track, Laws.length-good, Laws.few_flaws}
+use Rattle.fb_geometry.proofs.{Laws.length_data_list, Laws.kept_and_dropped, Laws.at_most_each, Laws.fewer, Laws.once_on_cylinder}
 
 -- the bad slots of a cylinder by their positions, its good slots, and the grown defects by their indexes among these
 abbrev pub defects_of : Shape → Zone → ℕ → List ℕ
@@ -143,11 +142,8 @@ module _ (disk : Shape) (zone : Zone) (cylinder : ℕ) (at : IsZoneAt disk cylin
         lies = record {
           cylinder_is = refl;
           head = div_below q zone.sectors disk.heads some inside;
-          slot = omega (
-            arith,
-            slots_at-zone disk.zones cylinder zone at.found,
-            mod-lt (offset_in zone disk.heads place.track + q % zone.sectors) some,
-          );
+          slot = let turned = mod-lt (offset_in zone disk.heads place.track + q % zone.sectors) some in
+              omega (arith, turned, slots_at-zone disk.zones cylinder zone at.found);
         };
         index = index ∙ ap (λ q. q - rank q defects) (sym (position_in-slot_at zone disk.heads some cylinder q));
         listed = ap (slice_get good) index ∙ goes (is_among disk.defects) slots q place here clean;
@@ -281,14 +277,11 @@ module _ (disk : Shape) (zone : Zone) (cylinder : ℕ) (at : IsZoneAt disk cylin
     whole-is : whole ≡ good
     whole-is = good_cylinder-is disk zone some cylinder
 
-    enough_slots : HasSpares disk
-    enough_slots = has_spares disk (spares_by PerCylinder layout)
-
     pub grown_ascend : IsAscending grown
     grown_ascend = indexes-ascend (is_among disk.grown) 0 whole
 
     base_inside : base ≤ length whole
-    base_inside = omega (arith, length-good disk zone cylinder at, few_flaws disk zone cylinder at enough_slots)
+    base_inside = omega (arith, length-good disk zone cylinder at, few_flaws disk zone cylinder at (spares_by PerCylinder layout))
 
     few_grown : length grown ≤ length (filter (λ place. place.track.cylinder == cylinder) disk.grown)
     few_grown = omega (
@@ -323,7 +316,7 @@ module _ (disk : Shape) (zone : Zone) (cylinder : ℕ) (at : IsZoneAt disk cylin
       length-kept (is_among disk.grown) 0 whole,
       few_grown,
       length-good disk zone cylinder at,
-      few_flaws disk zone cylinder at enough_slots,
+      few_flaws disk zone cylinder at (spares_by PerCylinder layout),
     )
 
     -- how many grown entries come before one of the base list
@@ -386,14 +379,8 @@ module _ (disk : Shape) (zone : Zone) (cylinder : ℕ) (at : IsZoneAt disk cylin
   one_index PerTrack e i j place found again =
       let same : i / size ≡ j / size = sym (head_by_track e i place found) ∙ head_by_track e j place again in
       let index = (found_at PerTrack e i place found).index ∙ sym (found_at PerTrack e j place again).index in
-      omega (
-        arith,
-        index,
-        div-add-mod' i size,
-        div-add-mod' j size,
-        ap (λ q. q * size) same,
-        ap (λ q. q * zone.sectors - rank (q * zone.sectors) defects) same,
-      )
+      let before = ap (λ q. q * zone.sectors - rank (q * zone.sectors) defects) same in
+      omega (arith, index, before, div-add-mod' i size, div-add-mod' j size, ap (λ q. q * size) same)
   one_index PerCylinder e i j place found again =
       one_entry grown (grown_ascend e) base i j (base_of e i place found) (base_of e j place again)
       ((found_at PerCylinder e i place found).index ∙ sym (found_at PerCylinder e j place again).index)
@@ -446,12 +433,8 @@ module _ (disk : Shape) (zone : Zone) (cylinder : ℕ) (at : IsZoneAt disk cylin
       none_by_track layout late = λ j found.
           let head = head_by_track layout j place found in
           let split = split_by_track layout j (slice_get_within sectors j place found) in
-          absurd (omega (
-            arith,
-            (found_at PerTrack layout j place found).index,
-            split.1,
-            ap (λ q. q * zone.sectors - rank (q * zone.sectors) defects) head,
-          ))
+          let first = ap (λ q. q * zone.sectors - rank (q * zone.sectors) defects) head in
+          absurd (omega (arith, (found_at PerTrack layout j place found).index, split.1, first))
 
       on_slot : (j i : ℕ) → i ≡ k → IsGoodOf disk zone cylinder j i → slice_get sectors j ≡ Some place
       on_slot j i e on = holds j i place on c h l stays (e ∙ is)

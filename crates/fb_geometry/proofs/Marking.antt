@@ -21,13 +21,9 @@ cylinders-rise = rises (λ mark later. is_mark_before mark later ≡ true) (λ m
 
 pub positions-rise : (marks : List Mark) → IsAscending (positions marks) → IsNonDecreasingBy (λ mark. mark.position) marks
 positions-rise marks up i j d le h =
-    omega (
-      arith,
-      rises (λ a b. a < b) (λ a. a) (λ a b less. omega arith) (positions marks) up i j 0 le
-          (omega (arith, length-map marks (λ mark. mark.position))),
-      position_at marks i d (omega arith),
-      position_at marks j d h,
-    )
+    let inside : j < length (positions marks) = omega (arith, length-map marks (λ mark. mark.position)) in
+    let up_to = rises (λ a b. a < b) (λ a. a) (λ a b less. omega arith) (positions marks) up i j 0 le inside in
+    omega (arith, up_to, position_at marks i d (omega arith), position_at marks j d h)
 
 -- ---- the marks of one cylinder
 
@@ -133,13 +129,8 @@ module _ (marks : List Mark) (up : IsAscending (positions marks)) (sectors entry
 
   pub few_spares : sectors ≤ entry → entry - rank entry (positions marks) < sectors
       → entry - rank entry (positions marks) - (sectors - rank sectors (positions marks)) < length marks
-  few_spares h few = omega (
-    arith,
-    fewer_unmarked h,
-    rank-le_length sectors (positions marks),
-    rank-below sectors (positions marks) up,
-    length-map marks (λ mark. mark.position),
-  )
+  few_spares h few = let many = length-map marks (λ mark. mark.position) in
+      omega (arith, many, fewer_unmarked h, rank-le_length sectors (positions marks), rank-below sectors (positions marks) up)
 
 -- the next mark, by how many come before a position
 module _ (marks : List Mark) (up : IsAscending (positions marks)) (start next : ℕ) (e : next ≡ rank start (positions marks)) where

@@ -25,14 +25,9 @@ entry_of_sector-requires-clause-fits c =
     let good = good_number PerCylinder disk zone c.args.cylinder c.args.j in
     let inside = (placed disk zone c.args.cylinder c.requires.zone PerCylinder (sym c.in-PerCylinder.ensures) c.args.j
     c.requires.sector).inside in
+    let to = slipped_to good (defects_of disk zone c.args.cylinder) (defects_ascend disk zone c.args.cylinder c.requires.zone) in
     rw (c.grown_on.ensures.marks c.args.zone c.requires.zone, c.heads-heads.ensures.value)
-    (omega (
-      arith,
-      inside,
-      (slipped_to good (defects_of disk zone c.args.cylinder) (defects_ascend disk zone c.args.cylinder
-          c.requires.zone)).0,
-      few_slots disk zone (omega arith) c.requires.zone.ranges,
-    ))
+    (omega (arith, inside, to.0, few_slots disk zone (omega arith) c.requires.zone.ranges))
 
 pub returns-in-PerCylinder : goal.returns-in-PerCylinder
 returns-in-PerCylinder c =

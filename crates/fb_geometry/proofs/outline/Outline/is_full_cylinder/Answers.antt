@@ -9,17 +9,14 @@ counted : (c : goal.After-partition_point-behind)
     (c.args.self.now.defects ++ c.args.self.now.grown))
 counted c =
     let cylinder = c.args.place.track.cylinder in
-    let sorted = c.args.bad.now in
     let under = λ (place : Place). nat_lt place.track.cylinder cylinder in
     let upto = λ (place : Place). nat_le place.track.cylinder cylinder in
-    between upto under (λ place. place.track.cylinder == cylinder) (λ place. grind (arith, nat_tests)) (c.args.self.now.defects
-    ++ c.args.self.now.grown) sorted c.requires.sorted
-    c.partition_point-first.result c.partition_point-behind.result c.partition_point-first.ensures.bound
-    c.partition_point-behind.ensures.bound
-    (IsPartitionPoint-from_clause under sorted c.partition_point-first.result c.partition_point-first.ensures.partitioned
-    (partitioned under (λ a b h k. grind (arith, nat_tests)) sorted c.requires.sorted.rise) (λ a r f called. search rules))
-    (IsPartitionPoint-from_clause upto sorted c.partition_point-behind.result c.partition_point-behind.ensures.partitioned
-    (partitioned upto (λ a b h k. grind (arith, nat_tests)) sorted c.requires.sorted.rise) (λ a r f called. search rules))
+    between upto under (λ place. place.track.cylinder == cylinder) (λ place. grind (arith, nat_tests)) _ _ c.requires.sorted _ _
+    c.partition_point-first.ensures.bound c.partition_point-behind.ensures.bound
+    (IsPartitionPoint-from_clause under _ _ c.partition_point-first.ensures.partitioned
+    (partitioned under (λ a b h k. grind (arith, nat_tests)) _ c.requires.sorted.rise) (λ a r f called. search rules))
+    (IsPartitionPoint-from_clause upto _ _ c.partition_point-behind.ensures.partitioned
+    (partitioned upto (λ a b h k. grind (arith, nat_tests)) _ c.requires.sorted.rise) (λ a r f called. search rules))
 
 pub overflow_sub-result : goal.overflow_sub-result
 overflow_sub-result c = omega (arith, counted c)

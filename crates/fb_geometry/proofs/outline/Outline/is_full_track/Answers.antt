@@ -8,17 +8,14 @@ counted : (c : goal.After-partition_point-behind) → c.partition_point-behind.r
     (filter (λ (place : Place). same_track c.args.place.track place.track) c.args.self.now.defects)
 counted c =
     let track = c.args.place.track in
-    let sorted = c.args.defects.now in
     let under = λ (place : Place). is_track_before place.track track in
     let upto = λ (place : Place). not (is_track_before track place.track) in
-    between upto under (λ place. same_track track place.track) (λ place. grind (arith, nat_tests))
-    c.args.self.now.defects sorted c.requires.sorted
-    c.partition_point-first.result c.partition_point-behind.result c.partition_point-first.ensures.bound
-    c.partition_point-behind.ensures.bound
-    (IsPartitionPoint-from_clause under sorted c.partition_point-first.result c.partition_point-first.ensures.partitioned
-    (partitioned under (λ a b h k. grind (arith, nat_tests)) sorted c.requires.sorted.rise) (λ a r f called. search rules))
-    (IsPartitionPoint-from_clause upto sorted c.partition_point-behind.result c.partition_point-behind.ensures.partitioned
-    (partitioned upto (λ a b h k. grind (arith, nat_tests)) sorted c.requires.sorted.rise) (λ a r f called. search rules))
+    between upto under (λ place. same_track track place.track) (λ place. grind (arith, nat_tests)) _ _ c.requires.sorted _ _
+    c.partition_point-first.ensures.bound c.partition_point-behind.ensures.bound
+    (IsPartitionPoint-from_clause under _ _ c.partition_point-first.ensures.partitioned
+    (partitioned under (λ a b h k. grind (arith, nat_tests)) _ c.requires.sorted.rise) (λ a r f called. search rules))
+    (IsPartitionPoint-from_clause upto _ _ c.partition_point-behind.ensures.partitioned
+    (partitioned upto (λ a b h k. grind (arith, nat_tests)) _ c.requires.sorted.rise) (λ a r f called. search rules))
 
 pub overflow_sub-result : goal.overflow_sub-result
 overflow_sub-result c = omega (arith, counted c)
