@@ -133,12 +133,8 @@ least_clash defects grown sorted once are = least-head is_place_before place_ord
     twice place (inl rep) = omega (arith, repeated_counted grown place rep)
     twice place (inr both) =
         let parts = among-filtered (is_among defects) grown place both in
-        omega (
-          arith,
-          some_same defects place parts.1,
-          some_same grown place (among-any (same_place place) grown place parts.0
-              (same_place-refl place)),
-        )
+        let own = among-any (same_place place) grown place parts.0 (same_place-refl place) in
+        omega (arith, some_same defects place parts.1, some_same grown place own)
 
     either : (place : Place) → 2 ≤ count place defects + count place grown → Among (repeated grown ++ filter (is_among defects) grown) place
     either place h = elim (cases_lt 1 (count place grown)) [

@@ -67,13 +67,10 @@ module _ (zone : Zone) (some : 0 < zone.sectors) where
       → length (filter (λ place. same_place place d) (map (slot_at zone heads cylinder) (range_with_len a n))) ≤ cond can 1 0
   once_among heads cylinder a n d can so =
       let slot = slot_at zone heads cylinder in
-      omega (
-        arith,
-        length-filter-map (λ place. same_place place d) slot (range_with_len a n),
-        once_in (λ p. same_place (slot p) d) can (position_in zone heads d) a n
-            (λ i l t. let same = same_places (slot (a + i)) d t in
-            (so i l same, sym (position_in-slot_at zone heads some cylinder (a + i)) ∙ ap (position_in zone heads) same)),
-      )
+      let once = once_in (λ p. same_place (slot p) d) can (position_in zone heads d) a n (λ i l t.
+      let same = same_places (slot (a + i)) d t in
+      (so i l same, sym (position_in-slot_at zone heads some cylinder (a + i)) ∙ ap (position_in zone heads) same)) in
+      omega (arith, once, length-filter-map (λ place. same_place place d) slot (range_with_len a n))
 
   pub length-good_track : (disk : Shape) (track : Track) → length (filter (λ place. same_track track place.track) disk.defects)
       ≤ zone.spares → zone.sectors - zone.spares ≤ length (good_track disk zone track)
@@ -81,16 +78,13 @@ module _ (zone : Zone) (some : 0 < zone.sectors) where
       let first = track.head * zone.sectors in
       let slots = map (slot_at zone disk.heads track.cylinder) (range_with_len first zone.sectors) in
       let own : same_track track track ≡ true = grind (arith, nat_tests) in
-      omega (
-        arith,
-        ap length (good_track-is disk zone some track),
-        length-map-range_with_len (slot_at zone disk.heads track.cylinder) first zone.sectors,
-        kept_and_dropped (is_among disk.defects) slots,
-        at_most_each same_place (λ place. same_track track place.track) slots disk.defects (λ d. once_among disk.heads track.cylinder first
-            zone.sectors d (same_track track d.track)
-            (λ i l same. subst (λ d. same_track track d.track ≡ true)
-            (sym (slot_on zone disk.heads some track.cylinder track.head i l) ∙ same) own)),
-      )
+      let each = λ (d : Place). once_among disk.heads track.cylinder first zone.sectors d (same_track track d.track)
+      (λ i l same. subst (λ d. same_track track d.track ≡ true)
+      (sym (slot_on zone disk.heads some track.cylinder track.head i l) ∙ same) own) in
+      let bad = at_most_each same_place (λ place. same_track track place.track) slots disk.defects each in
+      let whole = ap length (good_track-is disk zone some track) in
+      let many = length-map-range_with_len (slot_at zone disk.heads track.cylinder) first zone.sectors in
+      omega (arith, bad, whole, many, kept_and_dropped (is_among disk.defects) slots)
 
   -- one slot of a cylinder
   pub once_on_cylinder : (heads cylinder : ℕ) (d : Place)
@@ -148,14 +142,10 @@ module _ (disk : Shape) (zone : Zone) (cylinder : ℕ) (at : IsZoneAt disk cylin
   pub length-good : disk.heads * zone.sectors ≤ length (by_head disk cylinder (good_track disk zone)) + length
       (filter (λ place. place.track.cylinder == cylinder) disk.defects)
   length-good = let slots = cylinder_slots zone disk.heads cylinder in
-      omega (
-        arith,
-        ap length (good_cylinder-is disk zone some_sectors cylinder),
-        length-cylinder_slots zone disk.heads some_sectors cylinder,
-        kept_and_dropped (is_among disk.defects) slots,
-        at_most_each same_place (λ place. place.track.cylinder == cylinder) slots disk.defects
-            (once_on_cylinder zone some_sectors disk.heads cylinder),
-      )
+      let bad = at_most_each same_place (λ place. place.track.cylinder == cylinder) slots disk.defects
+      (once_on_cylinder zone some_sectors disk.heads cylinder) in
+      let whole = ap length (good_cylinder-is disk zone some_sectors cylinder) in
+      omega (arith, bad, whole, kept_and_dropped (is_among disk.defects) slots, length-cylinder_slots zone disk.heads some_sectors cylinder)
 
   pub few_flaws : spare_fault PerCylinder disk ≡ None → length (filter (λ place. place.track.cylinder == cylinder) disk.defects) + length
       (filter (λ place. place.track.cylinder == cylinder) disk.grown) ≤ zone.cylinder_spares

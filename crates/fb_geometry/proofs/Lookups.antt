@@ -3,7 +3,7 @@ use Rattle.fb_units.proofs.Comparing.{zero_add}
 use Rattle.fb_units.proofs.Lists.{element_at, get_left, get_right, all_filter, all_map_any}
 use Rattle.fb_geometry.proofs.Words.{Bool, HoldsNone, HoldsSector, IfNone, IfSome, IsAscending, IsGoodOf, IsZone, IsZoneAt, Layout}
 use Rattle.fb_geometry.proofs.Words.{LiesOn, List, MatchOption, None, Option, PerCylinder, PerTrack, Place, Shape, Some, Track, Zone, []}
-use Rattle.fb_geometry.proofs.Words.{ap, arith, by_head, cases_Bool, cylinder_size_by, cylinder_slots, data_list, data_list_at}
+use Rattle.fb_geometry.proofs.Words.{ap, arith, by_head, cases_Bool, cond, cylinder_size_by, cylinder_slots, data_list, data_list_at}
 use Rattle.fb_geometry.proofs.Words.{data_list_by, div-add-mod', div_below, drop, entry_of_sector, false, filter, filter-append}
 use Rattle.fb_geometry.proofs.Words.{good_track, has_no_data, indexes, inl, inr, is_among, length, length-append, length-take}
 use Rattle.fb_geometry.proofs.Words.{length-take-le, map, map-append, mod-lt, mul-le, nat_tests, none-some, not, offset_in, position_in}
@@ -194,11 +194,9 @@ module _ (disk : Shape) (zone : Zone) (cylinder : ℕ) (at : IsZoneAt disk cylin
       ap (λ m. filter is_good (map slot (range_with_len 0 m))) whole
       ∙ rw (own, range-append 0 first (n + (disk.heads * n - first - n)), zero_add first)
       (simp (range-append, map-append, filter-append)) in
-      let before : length front ≡ first - rank first defects = omega (
-        arith,
-        ap (λ xs. length (filter is_good xs)) (take-map-range_with_len slot 0 (disk.heads * n) first (omega arith)),
-        length_front (is_among disk.defects) slots first (omega (arith, length-cylinder_slots zone disk.heads some cylinder)),
-      ) in
+      let taken = ap (λ xs. length (filter is_good xs)) (take-map-range_with_len slot 0 (disk.heads * n) first (omega arith)) in
+      let inside : first ≤ length slots = omega (arith, length-cylinder_slots zone disk.heads some cylinder) in
+      let before : length front ≡ first - rank first defects = omega (arith, taken, length_front (is_among disk.defects) slots first inside) in
       ap (λ xs. slice_get xs (first - rank first defects + i)) cut
       ∙ (get_right front (on_track head ++ rest) i (first - rank first defects + i) (omega (arith, before))
       ∙ get_left (on_track head) rest i l)
@@ -284,19 +282,13 @@ module _ (disk : Shape) (zone : Zone) (cylinder : ℕ) (at : IsZoneAt disk cylin
     base_inside = omega (arith, length-good disk zone cylinder at, few_flaws disk zone cylinder at (spares_by PerCylinder layout))
 
     few_grown : length grown ≤ length (filter (λ place. place.track.cylinder == cylinder) disk.grown)
-    few_grown = omega (
-      arith,
-      length-kept (is_among disk.grown) 0 whole,
-      kept_and_dropped (is_among disk.grown) whole,
-      at_most_each same_place (λ place. place.track.cylinder == cylinder) whole disk.grown
-          (λ d. omega (
-            arith,
-            ap (λ xs. length (filter (λ place. same_place place d) xs)) whole-is,
-            fewer (λ place. same_place place d)
-                (λ place. not (is_among disk.defects place)) slots,
-            once_on_cylinder zone some disk.heads cylinder d,
-          )),
-    )
+    few_grown =
+        let each : (d : Place) → length (filter (λ place. same_place place d) whole) ≤ cond (d.track.cylinder == cylinder) 1 0 = λ d.
+        let same = ap (λ xs. length (filter (λ place. same_place place d) xs)) whole-is in
+        let kept = fewer (λ place. same_place place d) (λ place. not (is_among disk.defects place)) slots in
+        omega (arith, same, kept, once_on_cylinder zone some disk.heads cylinder d) in
+        let few = at_most_each same_place (λ place. place.track.cylinder == cylinder) whole disk.grown each in
+        omega (arith, few, length-kept (is_among disk.grown) 0 whole, kept_and_dropped (is_among disk.grown) whole)
 
     -- what is left of the base list, before the spares
     clean_parts : (filter clean whole ≡ filter clean (take base whole) ++ spares)
@@ -308,27 +300,19 @@ module _ (disk : Shape) (zone : Zone) (cylinder : ℕ) (at : IsZoneAt disk cylin
 
     -- there are as many spares as there are grown entries
     enough : rank base grown ≤ length spares
-    enough = omega (
-      arith,
-      ap length clean_parts.0,
-      clean_parts.1,
-      length-append (filter clean (take base whole)) spares,
-      length-kept (is_among disk.grown) 0 whole,
-      few_grown,
-      length-good disk zone cylinder at,
-      few_flaws disk zone cylinder at (spares_by PerCylinder layout),
-    )
+    enough =
+        let all = ap length clean_parts.0 ∙ length-append (filter clean (take base whole)) spares in
+        let kept = length-kept (is_among disk.grown) 0 whole in
+        let few = few_flaws disk zone cylinder at (spares_by PerCylinder layout) in
+        omega (arith, all, kept, few, clean_parts.1, few_grown, length-good disk zone cylinder at)
 
     -- how many grown entries come before one of the base list
     grown_before : (j : ℕ) → j ≤ base → length (filter (is_among disk.grown) (take j (take base whole))) ≡ rank j grown
-    grown_before j l = ap (λ xs. length (filter (is_among disk.grown) xs)) (take-take j base whole l)
-        ∙ omega (
-          arith,
-          length_front (is_among disk.grown) whole j (omega (arith, base_inside)),
-          kept_and_dropped (is_among disk.grown)
-              (take j whole),
-          length-take-le j whole (omega (arith, base_inside)),
-        )
+    grown_before j l =
+        let inside : j ≤ length whole = omega (arith, base_inside) in
+        let front = length_front (is_among disk.grown) whole j inside in
+        ap (λ xs. length (filter (is_among disk.grown) xs)) (take-take j base whole l)
+        ∙ omega (arith, front, kept_and_dropped (is_among disk.grown) (take j whole), length-take-le j whole inside)
 
     -- a sector stays, or moves to the spare that stands in for it
     pub place_by_cylinder : (j : ℕ) → j < length sectors → IsGoodOf disk zone cylinder j (entry_of_sector grown base j)

@@ -5,11 +5,9 @@ use Rattle.fb_geometry.proofs.marks.unmarked_from.Goals as goal
 pub overflow_sub-result-2 : goal.overflow_sub-result-2
 overflow_sub-result-2 c = let upto = next_upto c.args.marks.now c.requires.ascending c.args.position c.rank-next.result
     c.rank-next.ensures.value in
-    omega (
-      arith,
-      (next_mark c.args.marks.now c.requires.ascending c.args.position c.rank-next.result c.rank-next.ensures.value
-          (record { cylinder = 0; position = 0 }) (omega arith)).0,
-    )
+    let one = next_mark c.args.marks.now c.requires.ascending c.args.position c.rank-next.result c.rank-next.ensures.value
+    (record { cylinder = 0; position = 0 }) (omega arith) in
+    omega (arith, one.0)
 
 pub returns-clause-free : goal.returns-clause-free
 returns-clause-free c = λ q from below. let upto = next_upto c.args.marks.now c.requires.ascending c.args.position c.rank-next.result

@@ -4,17 +4,14 @@ use Rattle.fb_geometry.proofs.geometry.Geometry.sector_of_good.Goals as goal
 
 pub returns-else-sector-sectors : goal.returns-else-sector-sectors
 returns-else-sector-sectors c =
+    let first = c.args.place.track.head * c.args.zone.sectors in
+    let ranks = ap (rank first) (c.defects_on-defects.ensures.marks c.args.zone c.requires.zone) in
     let fewer = before_good c.args.self.now c.args.zone c.args.place.track.cylinder c.requires.zone c.args.place refl c.requires.head
     c.requires.slot c.requires.good c.args.good c.requires.index in
     some_by_head c.args.self.now c.args.zone c.args.place.track.cylinder c.requires.zone c.args.place refl c.requires.head c.requires.slot
     c.requires.good c.args.good c.requires.index (sym c.in-PerTrack.ensures)
     (c.args.good - c.unmarked_before.result)
-    (omega (
-      arith,
-      ap (rank (c.args.place.track.head * c.args.zone.sectors)) (c.defects_on-defects.ensures.marks c.args.zone
-          c.requires.zone),
-      fewer,
-    )) (omega arith)
+    (omega (arith, ranks, fewer)) (omega arith)
 
 pub returns-in-PerCylinder : goal.returns-in-PerCylinder
 returns-in-PerCylinder c =

@@ -5,11 +5,9 @@ use Rattle.fb_geometry.proofs.geometry.Geometry.stretch.Goals as goal
 pub position-position-requires-clause-head : goal.position-position-requires-clause-head
 position-position-requires-clause-head c =
     let o = c.in_order-in_order in
-    omega (
-      arith,
-      (lies c.args.self.now c.zone_of-zone.result c.args.cylinder c.zone_of-zone.ensures.zone c.args.j o.result
-          c.sector_place-place.result o.ensures.order o.ensures.some c.sector_place-place.ensures).head,
-    )
+    let on = lies c.args.self.now c.zone_of-zone.result c.args.cylinder c.zone_of-zone.ensures.zone c.args.j o.result
+    c.sector_place-place.result o.ensures.order o.ensures.some c.sector_place-place.ensures in
+    omega (arith, on.head)
 
 pub returns : goal.returns
 returns c =
