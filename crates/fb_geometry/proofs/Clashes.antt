@@ -20,10 +20,9 @@ use Rattle.fb_geometry.proofs.{Leasts.IsOrder}
 pub pairwise_from : {A : Type 0} (R : A → A → Type 0) (xs : List A) (d : A) → ((i j : ℕ) → i < j → j < length xs
     → R (get_or xs i d) (get_or xs j d)) → Pairwise R xs
 pairwise_from R [] d h = tt
-pairwise_from R (x ∷ xs) d h = (
-  recursion_from_All (R x) xs (All-from_get_or (R x) xs d (λ j l. h 0 (suc j) (omega arith) (omega arith))),
-  pairwise_from R xs d (λ i j l m. h (suc i) (suc j) (omega arith) (omega arith)),
-)
+pairwise_from R (x ∷ xs) d h =
+    let first = recursion_from_All (R x) xs (All-from_get_or (R x) xs d (λ j l. h 0 (suc j) (omega arith) (omega arith))) in
+    (first, pairwise_from R xs d (λ i j l m. h (suc i) (suc j) (omega arith) (omega arith)))
 
 -- a list that was sorted is in order
 pub sorted-rise : {A : Type 0} (before : A → A → Bool) → IsStrictWeakOrder before → (xs : List A) (d : A) → IsSortedBy before xs

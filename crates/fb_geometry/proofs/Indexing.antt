@@ -147,11 +147,10 @@ module _ (disk : Shape) (zones : HasZones disk) (defects grown : List Mark) (are
       each : (marks : List Mark) → ((mark : Mark) → Among marks mark → Among grown mark) → AreInOrder marks
           → Pairwise (λ mark later. Among grown mark × (is_mark_before mark later ≡ true)) marks
       each [] within_ up = tt
-      each (mark ∷ marks) within_ up = (
-        all_weaker (λ later. is_mark_before mark later ≡ true)
-            (λ later. Among grown mark × (is_mark_before mark later ≡ true)) (λ later h. (within_ mark (0, refl), h)) marks up.0,
-        each marks (λ other one. within_ other (suc one.0, one.1)) up.1,
-      )
+      each (mark ∷ marks) within_ up =
+          let first = all_weaker (λ later. is_mark_before mark later ≡ true)
+          (λ later. Among grown mark × (is_mark_before mark later ≡ true)) (λ later h. (within_ mark (0, refl), h)) marks up.0 in
+          (first, each marks (λ other one. within_ other (suc one.0, one.1)) up.1)
 
   pub grown_indexed : (zone : Zone) (cylinder : ℕ) → IsZoneAt disk cylinder zone
       → positions (marks_on cylinder (map (among_unmarked defects) grown))

@@ -242,12 +242,9 @@ module _ (disk : Shape) (zone : Zone) (cylinder : ℕ) (at : IsZoneAt disk cylin
     pub split_by_track : (j : ℕ) → j < length sectors → (j / size < disk.heads) × (j % size < size) × (j / size * size + j % size ≡ j)
         × (j / size * zone.sectors + zone.sectors ≤ disk.heads * zone.sectors)
     split_by_track j h =
-        let on : j / size < disk.heads = div_below j size disk.heads some_by_track (omega (arith, length_by PerTrack layout)) in (
-          on,
-          mod-lt j some_by_track,
-          div-add-mod' j size,
-          omega (arith, mul-le (j / size + 1) zone.sectors disk.heads zone.sectors (omega arith) (omega arith)),
-        )
+        let on : j / size < disk.heads = div_below j size disk.heads some_by_track (omega (arith, length_by PerTrack layout)) in
+        let upto = mul-le (j / size + 1) zone.sectors disk.heads zone.sectors (omega arith) (omega arith) in
+        (on, mod-lt j some_by_track, div-add-mod' j size, omega (arith, upto))
 
     pub head_by_track : (j : ℕ) (place : Place) → slice_get sectors j ≡ Some place → place.track.head ≡ j / size
     head_by_track j place found =

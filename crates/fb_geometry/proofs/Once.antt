@@ -25,11 +25,9 @@ one_index (y ∷ xs) (suc i) (suc j) x apart at again = ap suc (one_index xs i j
 distinct-append : {A : Type 0} (key : A → ℕ) (b : ℕ) (xs ys : List A) → Distinct xs → Distinct ys → AllByRecursion (λ x. key x ≤ b) xs
     → AllByRecursion (λ y. b < key y) ys → Distinct (xs ++ ys)
 distinct-append key b [] ys h k low high = k
-distinct-append key b (x ∷ xs) ys h k low high = (
-  all_append (λ y. x ≢ y) xs ys h.0
-      (all_weaker (λ y. b < key y) (λ y. x ≢ y) (λ y more same. absurd (omega (arith, low.0, more, ap key same))) ys high),
-  distinct-append key b xs ys h.1 k low.1 high,
-)
+distinct-append key b (x ∷ xs) ys h k low high =
+    let apart = all_weaker (λ y. b < key y) (λ y. x ≢ y) (λ y more same. absurd (omega (arith, low.0, more, ap key same))) ys high in
+    (all_append (λ y. x ≢ y) xs ys h.0 apart, distinct-append key b xs ys h.1 k low.1 high)
 
 -- parts that a key tells apart
 module _ {A : Type 0} (key : A → ℕ) (f : ℕ → List A) where
@@ -47,10 +45,9 @@ module _ {A : Type 0} (key : A → ℕ) (f : ℕ → List A) where
 
 distinct_from : {A : Type 0} (xs : List A) → ((i j : ℕ) (x : A) → slice_get xs i ≡ Some x → slice_get xs j ≡ Some x → i ≡ j) → Distinct xs
 distinct_from [] one = tt
-distinct_from (x ∷ xs) one = (
-  all_from_index (λ y. x ≢ y) xs (λ k y at same. absurd (omega (arith, one 0 (suc k) x refl (at ∙ ap Some (sym same))))),
-  distinct_from xs (λ i j y at again. omega (arith, one (suc i) (suc j) y at again)),
-)
+distinct_from (x ∷ xs) one =
+    let first = all_from_index (λ y. x ≢ y) xs (λ k y at same. absurd (omega (arith, one 0 (suc k) x refl (at ∙ ap Some (sym same))))) in
+    (first, distinct_from xs (λ i j y at again. omega (arith, one (suc i) (suc j) y at again)))
 
 -- ---- the whole disk
 
@@ -88,11 +85,10 @@ module _ (disk : Shape) (h : IsFaultless disk) where
 
   distinct_zone : (i : ℕ) (zone : Zone) → slice_get disk.zones i ≡ Some zone → Distinct (zone_places disk zone)
   distinct_zone i zone at = distinct-parts (λ place. place.track.cylinder) (data_list disk zone) zone.first (zone.last + 1 - zone.first)
-      (λ k from upto. let here = at_cylinder i zone k at from upto in (
-        distinct_from (data_list disk zone k) (one_index_on disk zone k here),
-        all_from_index (λ place. place.track.cylinder ≡ k) (data_list disk zone k)
-            (λ j place found. (entry_of disk zone k here j place found).0.cylinder_is),
-      ))
+      (λ k from upto. let here = at_cylinder i zone k at from upto in
+      let on = all_from_index (λ place. place.track.cylinder ≡ k) (data_list disk zone k)
+      (λ j place found. (entry_of disk zone k here j place found).0.cylinder_is) in
+      (distinct_from (data_list disk zone k) (one_index_on disk zone k here), on))
 
   distinct_zones : (zones : List Zone) → Pairwise Follow zones → ((i : ℕ) (zone : Zone) → slice_get zones i ≡ Some zone
       → Distinct (zone_places disk zone) × AllByRecursion (OnZone zone) (zone_places disk zone))

@@ -235,11 +235,9 @@ module _ (marked : List ℕ) (up : IsAscending marked) (sectors : ℕ) where
       let at = rank-at (entry - rank entry marked - (sectors - rank sectors marked)) marked sector up stead.2 in
       let low = rank-below sectors marked up in
       let more = rank-step sectors entry marked up stead.0 in
-      let below : sector < sectors = grind (arith, rank-step sectors sector marked up, at.0, stead.1) in (
-        below,
-        rw at.1 (slipped_only marked up (sectors - rank sectors marked + rank sector marked) entry
-            (omega (arith, at.0, rank-below entry marked up)) free),
-      )
+      let below : sector < sectors = grind (arith, rank-step sectors sector marked up, at.0, stead.1) in
+      let start = sectors - rank sectors marked + rank sector marked in
+      (below, rw at.1 (slipped_only marked up start entry (omega (arith, at.0, rank-below entry marked up)) free))
 
 -- ---- what is left of a list where the elements that pass a test are dropped
 
@@ -327,8 +325,6 @@ module _ {A : Type 0} (test : A → Bool) (xs : List A) where
   kth k h =
       let to = slipped_to k numbers up in
       let inside : slipped k numbers < length xs = omega (arith, to.0, rank-le_length (slipped k numbers) numbers, length-kept test 0 xs) in
-      let one = element_at xs (slipped k numbers) inside in (
-        inside,
-        ap (slice_get left) (omega (arith, to.0))
-            ∙ (goes (slipped k numbers) one.0 one.1 (sym (is_marked_at (slipped k numbers) one.0 one.1) ∙ to.1) ∙ sym one.1),
-      )
+      let one = element_at xs (slipped k numbers) inside in
+      let there = goes (slipped k numbers) one.0 one.1 (sym (is_marked_at (slipped k numbers) one.0 one.1) ∙ to.1) in
+      (inside, ap (slice_get left) (omega (arith, to.0)) ∙ (there ∙ sym one.1))

@@ -159,11 +159,9 @@ module _ (disk : Shape) (zone : Zone) (cylinder : ℕ) (at : IsZoneAt disk cylin
   plain PerCylinder e j h =
       let on = placed disk zone cylinder at PerCylinder e j h in
       let inside = rw (clean.defects, clean.grown) at on.inside in
-      let found = rw (clean.defects, clean.grown) at on.is in (
-        div_below j zone.sectors disk.heads at.ranges.some_sectors inside,
-        found ∙ ap (λ k. Some (slot_at zone disk.heads cylinder k))
-            (sym (div-add-mod' j zone.sectors)),
-      )
+      let found = rw (clean.defects, clean.grown) at on.is in
+      let same = ap (λ k. Some (slot_at zone disk.heads cylinder k)) (sym (div-add-mod' j zone.sectors)) in
+      (div_below j zone.sectors disk.heads at.ranges.some_sectors inside, found ∙ same)
 
   -- the cylinder as it is looked up
   abbrev on : Bool → Cylinder

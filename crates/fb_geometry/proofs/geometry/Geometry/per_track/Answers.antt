@@ -24,8 +24,7 @@ invariant_of-result c =
     })
 
 pub returns : goal.returns
-returns c = (
-  refl,
-  rw (sym (rw c.deref.ensures.value at c.first_on_full_track.ensures) ∙ c.in_default.is) at
-      (track_spares c.args.outline c.args.defects.items c.requires.layout c.requires.defects.are),
-)
+returns c =
+    let spares = rw (sym (rw c.deref.ensures.value at c.first_on_full_track.ensures) ∙ c.in_default.is) at
+    (track_spares c.args.outline c.args.defects.items c.requires.layout c.requires.defects.are) in
+    (refl, spares)
