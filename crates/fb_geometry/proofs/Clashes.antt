@@ -219,7 +219,8 @@ module _ (disk : Shape) (zones : HasZones disk) (xs : List Place) (marks : List 
   inside_of place one = all_get (λ place. is_outside disk place ≡ false) xs one.0 place inside one.1
 
   pub mark_among : (place : Place) → Among xs place → Among marks (mark_of disk place)
-  mark_among place one = permuted (map (mark_of disk) xs) marks (mark_of disk place) same (one.0, map_at (mark_of disk) xs one.0 place one.1)
+  mark_among place one = permuted (map (mark_of disk) xs) marks (mark_of disk place) same
+      (one.0, map_at (mark_of disk) xs one.0 place one.1)
 
   pub place_among : (mark : Mark) → Among marks mark → (place : Place) × Among xs place × (mark_of disk place ≡ mark)
   place_among mark one = among-mapped (mark_of disk) xs mark (permuted marks (map (mark_of disk) xs) mark

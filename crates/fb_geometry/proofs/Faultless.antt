@@ -89,20 +89,18 @@ pub next : (index begin : ℕ) (zone : Zone) (zones : List Zone) → first_apart
 next index begin zone zones h = (grind (arith, nat_tests), grind (arith, nat_tests))
 
 -- no zone begins before the first has to, and each begins behind the ones before it
-follow : (index begin : ℕ) (zones : List Zone) → first_apart index begin zones ≡ None → AllByRecursion (λ zone. zone.first ≤ zone.last) zones
+follow : (index begin : ℕ) (zones : List Zone) → first_apart index begin zones ≡ None
+    → AllByRecursion (λ zone. zone.first ≤ zone.last) zones
     → AllByRecursion (λ zone. (begin ≤ zone.first) × (zone.first ≤ zone.last)) zones × Pairwise Follow zones
 follow index begin [] h up = (tt, tt)
 follow index begin (zone ∷ zones) h up =
     let parts = next index begin zone zones h in
     let rest = follow (index + 1) (zone.last + 1) zones parts.1 up.1 in
-    let over = λ (later : Zone). (zone.last + 1 ≤ later.first) × (later.first ≤ later.last) in (
-      (
-        (omega (arith, parts.0), up.0),
-        all_weaker over (λ later. (begin ≤ later.first) × (later.first ≤ later.last))
-            (λ later on. (omega (arith, parts.0, up.0, on.0), on.1)) zones rest.0,
-      ),
-      (all_weaker over (Follow zone) (λ later on. (omega (arith, on.0), on.1)) zones rest.0, rest.1),
-    )
+    let over = λ (later : Zone). (zone.last + 1 ≤ later.first) × (later.first ≤ later.last) in
+    let from_begin = all_weaker over (λ later. (begin ≤ later.first) × (later.first ≤ later.last))
+    (λ later on. (omega (arith, parts.0, up.0, on.0), on.1)) zones rest.0 in
+    let behind = all_weaker over (Follow zone) (λ later on. (omega (arith, on.0), on.1)) zones rest.0 in
+    (((omega (arith, parts.0), up.0), from_begin), (behind, rest.1))
 
 -- a cylinder between the first and the last of a zone is that zone's
 zone_of : (i cylinder : ℕ) (zones : List Zone) (zone : Zone) → Pairwise Follow zones → slice_get zones i ≡ Some zone

@@ -48,12 +48,14 @@ inside disk places none = All-from_recursion (λ place. is_outside disk place �
 
 pub defects_inside : (disk : Shape) (sorted : List Place) → defect_fault disk ≡ None → AreSorted disk.defects sorted
     → All (λ place. is_outside disk place ≡ false) sorted
-defects_inside disk sorted h are = All-permutation (λ place. is_outside disk place ≡ false) _ _ are.same (inside disk disk.defects (good_defects disk h).0)
+defects_inside disk sorted h are = All-permutation (λ place. is_outside disk place ≡ false) _ _ are.same
+    (inside disk disk.defects (good_defects disk h).0)
 
 pub bad_inside : (disk : Shape) (sorted : List Place) → defect_fault disk ≡ None → grown_fault disk ≡ None
     → AreSorted (disk.defects ++ disk.grown) sorted → All (λ place. is_outside disk place ≡ false) sorted
 bad_inside disk sorted h k are = All-permutation (λ place. is_outside disk place ≡ false) _ _ are.same
-    (All-append (λ place. is_outside disk place ≡ false) _ _ (inside disk disk.defects (good_defects disk h).0) (inside disk disk.grown (good_grown disk k).0))
+    (All-append (λ place. is_outside disk place ≡ false) _ _ (inside disk disk.defects (good_defects disk h).0)
+    (inside disk disk.grown (good_grown disk k).0))
 
 -- ---- the whole
 
@@ -118,7 +120,8 @@ pub cylinder_spares : (disk : Shape) (sorted : List Place) → disk.layout ≡ P
     (find (λ place. is_full_cylinder disk place.track.cylinder) sorted))
 cylinder_spares disk sorted layout h are =
     let outside = fault_at GrownOutside (find (is_outside disk) disk.grown) in
-    let parts = or_else-none outside (fault_at GrownTwice (least is_place_before (repeated disk.grown ++ filter (is_among disk.defects) disk.grown))) h in
+    let twice = fault_at GrownTwice (least is_place_before (repeated disk.grown ++ filter (is_among disk.defects) disk.grown)) in
+    let parts = or_else-none outside twice h in
     rw (layout, parts.0, parts.1) (ap (fault_at TooManyInCylinder)
     (least_full nat_lt number_order (λ place. place.track.cylinder) (λ a b h. grind (arith, nat_tests)) (is_full_cylinder disk)
     (disk.defects ++ disk.grown) sorted are))

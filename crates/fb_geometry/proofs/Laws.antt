@@ -110,7 +110,8 @@ pub few_on_track : (disk : Shape) (track : Track) → spare_fault PerTrack disk 
     → length (filter (λ place. same_track track place.track) disk.defects) ≤ spares_at disk.zones track.cylinder
 few_on_track disk track h =
     few_from (spares_at disk.zones track.cylinder) _ (none_or_not (same_track track) (is_full_track disk) (λ place. place.track) track
-    (same_tracks track) disk.defects (all_dropped (is_full_track disk) _ (least-none is_track_before _ (fault_at-none TooManyDefects _ h))))
+    (same_tracks track) disk.defects
+    (all_dropped (is_full_track disk) _ (least-none is_track_before _ (fault_at-none TooManyDefects _ h))))
 
 pub few_on_cylinder : (disk : Shape) (cylinder : ℕ) → spare_fault PerCylinder disk ≡ None
     → length (filter (λ place. place.track.cylinder == cylinder) (disk.defects ++ disk.grown)) ≤ cylinder_spares_at disk.zones cylinder
@@ -145,7 +146,8 @@ module _ (disk : Shape) (zone : Zone) (cylinder : ℕ) (at : IsZoneAt disk cylin
       let bad = at_most_each same_place (λ place. place.track.cylinder == cylinder) slots disk.defects
       (once_on_cylinder zone some_sectors disk.heads cylinder) in
       let whole = ap length (good_cylinder-is disk zone some_sectors cylinder) in
-      omega (arith, bad, whole, kept_and_dropped (is_among disk.defects) slots, length-cylinder_slots zone disk.heads some_sectors cylinder)
+      let many = length-cylinder_slots zone disk.heads some_sectors cylinder in
+      omega (arith, bad, whole, many, kept_and_dropped (is_among disk.defects) slots)
 
   pub few_flaws : spare_fault PerCylinder disk ≡ None → length (filter (λ place. place.track.cylinder == cylinder) disk.defects) + length
       (filter (λ place. place.track.cylinder == cylinder) disk.grown) ≤ zone.cylinder_spares

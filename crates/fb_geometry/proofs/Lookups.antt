@@ -196,7 +196,8 @@ module _ (disk : Shape) (zone : Zone) (cylinder : ℕ) (at : IsZoneAt disk cylin
       (simp (range-append, map-append, filter-append)) in
       let taken = ap (λ xs. length (filter is_good xs)) (take-map-range_with_len slot 0 (disk.heads * n) first (omega arith)) in
       let inside : first ≤ length slots = omega (arith, length-cylinder_slots zone disk.heads some cylinder) in
-      let before : length front ≡ first - rank first defects = omega (arith, taken, length_front (is_among disk.defects) slots first inside) in
+      let kept = length_front (is_among disk.defects) slots first inside in
+      let before : length front ≡ first - rank first defects = omega (arith, taken, kept) in
       ap (λ xs. slice_get xs (first - rank first defects + i)) cut
       ∙ (get_right front (on_track head ++ rest) i (first - rank first defects + i) (omega (arith, before))
       ∙ get_left (on_track head) rest i l)

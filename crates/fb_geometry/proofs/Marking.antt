@@ -79,7 +79,8 @@ part-of cylinder marks rest from n e low high = (at_point (λ mark. nat_le mark.
     ∙ (ap (filter (λ mark. nat_le mark.cylinder cylinder)) (e ∙ (at_point (λ mark. nat_lt mark.cylinder cylinder) marks from low).1)
     ∙ both marks)
   where
-    both : (marks : List Mark) → filter (λ mark. nat_le mark.cylinder cylinder) (filter (λ mark. not (nat_lt mark.cylinder cylinder)) marks)
+    both : (marks : List Mark)
+        → filter (λ mark. nat_le mark.cylinder cylinder) (filter (λ mark. not (nat_lt mark.cylinder cylinder)) marks)
         ≡ marks_on cylinder marks
     both [] = refl
     both (mark ∷ marks) = grind (arith, nat_tests, both marks)

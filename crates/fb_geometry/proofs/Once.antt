@@ -99,14 +99,16 @@ module _ (disk : Shape) (h : IsFaultless disk) where
       let behind : AllByRecursion (λ place. zone.last < place.track.cylinder) (flat_map (zone_places disk) zones) =
       all_zones (λ place. zone.last < place.track.cylinder) zones (λ i other at.
       all_weaker (OnZone other) (λ place. zone.last < place.track.cylinder)
-      (λ place on. omega (arith, on.0, (all_get (Follow zone) zones i other up.0 at).0)) (zone_places disk other) (each (suc i) other at).1) in
+      (λ place on. omega (arith, on.0, (all_get (Follow zone) zones i other up.0 at).0)) (zone_places disk other)
+      (each (suc i) other at).1) in
       distinct-append (λ place. place.track.cylinder) zone.last (zone_places disk zone) (flat_map (zone_places disk) zones) here.0
       (distinct_zones zones up.1 (λ i. each (suc i)))
       (all_weaker (OnZone zone) (λ place. place.track.cylinder ≤ zone.last) (λ place on. on.1) (zone_places disk zone) here.1) behind
 
   pub distinct_places : Distinct (places disk)
   unfolding places
-  distinct_places = distinct_zones disk.zones (zones_follow disk h.zones_hold) (λ i zone at. (distinct_zone i zone at, zone_cylinders i zone at))
+  distinct_places = distinct_zones disk.zones (zones_follow disk h.zones_hold)
+      (λ i zone at. (distinct_zone i zone at, zone_cylinders i zone at))
 
   -- no entry is a defect, or a grown one
   pub clean_places : (disk.layout ≡ PerTrack → disk.grown ≡ []) → AllByRecursion IsClean (places disk)
@@ -133,7 +135,8 @@ sound disk h = record {
   some_cylinders = λ i zone at. (ranges_of disk h.zones_hold i zone at).some_cylinders;
   few_cylinders = few_cylinders disk h.zones_hold;
   equal = λ i zone cylinder at. length_data_list disk zone cylinder (zone_by_bounds disk h i zone cylinder at) disk.layout h.spares;
-  some_data = λ i zone at. some_size disk.layout disk zone (grind (arith, nat_tests, h.zones_hold.in_range)) (data_of disk h.zones_hold i zone at);
+  some_data = λ i zone at. some_size disk.layout disk zone (grind (arith, nat_tests, h.zones_hold.in_range))
+      (data_of disk h.zones_hold i zone at);
   few_slots = λ i zone at. (ranges_of disk h.zones_hold i zone at).few_sectors;
   short_slots = short_slots disk h.zones_hold;
   own = λ i zone cylinder j place at found. (entry_of disk zone cylinder (zone_by_bounds disk h i zone cylinder at) j place found).0;

@@ -202,9 +202,7 @@ module _ (disk : Shape) (zone : Zone) (cylinder : ℕ) (at : IsZoneAt disk cylin
         some_slots = at.ranges.some_sectors;
         few_slots = at.ranges.few_sectors;
         few_sectors = size.1;
-        offset = mod-lt
-            ((cylinder - zone.first) * (zone.cylinder_skew + (disk.heads - 1) * zone.track_skew) + 0 * zone.track_skew)
-            at.ranges.some_sectors;
+        offset = offset_below zone disk.heads at.ranges.some_sectors (record { cylinder = cylinder; head = 0 });
         skew = at.ranges.track_skew;
         heads = λ j h. let on_track = (plain disk.layout refl j h).0 in omega (arith, on_track, few);
         each = λ j h. let inside : j % n < n = mod-lt j size.0 in (plain disk.layout refl j h).1

@@ -40,6 +40,7 @@ invariant_of-result c =
 
 pub returns : goal.returns
 returns c =
-    let spares = rw (sym (rw c.deref.ensures.value at c.first_on_full_cylinder.ensures) ∙ c.in_default.is) at (cylinder_spares c.args.outline
-    c.in_ok-bad.bad.items c.requires.layout c.in_ok-bad.ensures.sorted.faultless c.in_ok-bad.ensures.sorted.are) in
+    let spares = rw (sym (rw c.deref.ensures.value at c.first_on_full_cylinder.ensures) ∙ c.in_default.is) at
+    (cylinder_spares c.args.outline c.in_ok-bad.bad.items c.requires.layout c.in_ok-bad.ensures.sorted.faultless
+    c.in_ok-bad.ensures.sorted.are) in
     (refl, spares)
