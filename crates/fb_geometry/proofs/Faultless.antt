@@ -185,10 +185,6 @@ module _ (disk : Shape) (sound : HasZones disk) where
   pub zones_rise : IsNonDecreasingBy (λ zone. zone.last) disk.zones
   zones_rise = rises Follow (λ zone. zone.last) (λ zone later on. omega (arith, on.0, on.1)) disk.zones zones_follow
 
-  -- the zone that a cylinder has by its bounds
-  by_bounds : (i : ℕ) (zone : Zone) (cylinder : ℕ) → IsCylinderOf disk i zone cylinder → zone_at disk.zones cylinder ≡ Some zone
-  by_bounds i zone cylinder h = zone_of i cylinder disk.zones zone zones_follow h.zone_is h.from h.upto
-
   -- the zone that is found for a cylinder
   pub found_zone : (cylinder : ℕ) (zone : Zone) → zone_at disk.zones cylinder ≡ Some zone → IsZoneOf disk cylinder zone
   found_zone cylinder zone at =
@@ -217,7 +213,8 @@ zone_by_search disk h cylinder zone at =
 
 pub zone_by_bounds : (disk : Shape) → IsFaultless disk → (i : ℕ) (zone : Zone) (cylinder : ℕ) → IsCylinderOf disk i zone cylinder
     → IsZoneAt disk cylinder zone
-zone_by_bounds disk h i zone cylinder at = zone_by_search disk h cylinder zone (by_bounds disk h.zones_hold i zone cylinder at)
+zone_by_bounds disk h i zone cylinder at =
+    zone_by_search disk h cylinder zone (zone_of i cylinder disk.zones zone (zones_follow disk h.zones_hold) at.zone_is at.from at.upto)
 
 -- ---- a search by the last cylinders
 

@@ -102,24 +102,22 @@ none_or_not same full key at is [] all = inl refl
 none_or_not same full key at is (place ∷ places) all =
     grind (arith, is (key place), all.0, none_or_not same full key at is places all.1)
 
-few_from : (spares count : ℕ) → (count ≡ 0) ⊎ (nat_lt spares count ≡ false) → count ≤ spares
-few_from spares count (inl none) = omega arith
-few_from spares count (inr few) = grind (arith, nat_tests)
-
 pub few_on_track : (disk : Shape) (track : Track) → spare_fault PerTrack disk ≡ None
     → length (filter (λ place. same_track track place.track) disk.defects) ≤ spares_at disk.zones track.cylinder
 few_on_track disk track h =
-    few_from (spares_at disk.zones track.cylinder) _ (none_or_not (same_track track) (is_full_track disk) (λ place. place.track) track
-    (same_tracks track) disk.defects
-    (all_dropped (is_full_track disk) _ (least-none is_track_before _ (fault_at-none TooManyDefects _ h))))
+    let full = all_dropped (is_full_track disk) _ (least-none is_track_before _ (fault_at-none TooManyDefects _ h)) in
+    let one = none_or_not (same_track track) (is_full_track disk) (λ place. place.track) track (same_tracks track) disk.defects full in
+    grind (arith, nat_tests, one)
 
 pub few_on_cylinder : (disk : Shape) (cylinder : ℕ) → spare_fault PerCylinder disk ≡ None
     → length (filter (λ place. place.track.cylinder == cylinder) (disk.defects ++ disk.grown)) ≤ cylinder_spares_at disk.zones cylinder
 few_on_cylinder disk cylinder h =
-    let full = or_else-none _ _ (or_else-none _ _ h).1 in
-    few_from (cylinder_spares_at disk.zones cylinder) _ (none_or_not (λ k. k == cylinder) (is_full_cylinder disk)
-    (λ place. place.track.cylinder) cylinder (λ k e. sym (eqb-true k cylinder e)) (disk.defects ++ disk.grown)
-    (all_dropped (is_full_cylinder disk) _ (least-none nat_lt _ (fault_at-none TooManyInCylinder _ full.1))))
+    let full : AllByRecursion (λ k. is_full_cylinder disk k ≡ false) (map (λ place. place.track.cylinder) (disk.defects ++ disk.grown)) =
+    all_dropped (is_full_cylinder disk) _ (least-none nat_lt _
+    (fault_at-none TooManyInCylinder _ (or_else-none _ _ (or_else-none _ _ h).1).1)) in
+    let one = none_or_not (λ k. k == cylinder) (is_full_cylinder disk) (λ place. place.track.cylinder) cylinder
+    (λ k e. sym (eqb-true k cylinder e)) (disk.defects ++ disk.grown) full in
+    grind (arith, nat_tests, one)
 
 -- ---- each cylinder of a zone holds as many
 

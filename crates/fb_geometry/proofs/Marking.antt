@@ -1,13 +1,12 @@
 -- Marks: what binary searches find among marks in order, and the marks of places.
-use Rattle.fb_units.proofs.Lists.{all_at}
+use Rattle.fb_units.proofs.Lists.{map_at, all_at}
 use Rattle.fb_geometry.proofs.Words.{AreInOrder, Bool, HasZones, IsAscending, IsNonDecreasingBy, IsNonDecreasingBy-drop, IsPartitionPoint}
 use Rattle.fb_geometry.proofs.Words.{IsZoneOf, List, Mark, None, Place, Shape, Some, Zone, [], and_parts, ap, arith, cases_lt}
 use Rattle.fb_geometry.proofs.Words.{cylinders_of, drop, eqb-true, false, false_from_ne_true, filter, find, get_or, get_or-map, inl, inr}
 use Rattle.fb_geometry.proofs.Words.{is_lt, is_mark_before, is_outside, length, length-map, length-take-le, list_any, ltb-true, map}
-use Rattle.fb_geometry.proofs.Words.{mark_of, marks_on, nat_cmp, nat_le, nat_lt, nat_tests, not, not-false, option_map, ordering_then}
-use Rattle.fb_geometry.proofs.Words.{position_in, positions, rank, refl, same_mark, slice_get, slice_get-get_or, slice_get-map, slipped}
-use Rattle.fb_geometry.proofs.Words.{slot_at, slots_at, subst, suc, sym, take, true, zero, zone_at, ℕ, ◌+◌, ◌-◌, ◌<◌, ◌==◌, ◌∙◌, ◌∷◌, ◌≡◌}
-use Rattle.fb_geometry.proofs.Words.{◌≤◌}
+use Rattle.fb_geometry.proofs.Words.{mark_of, marks_on, nat_cmp, nat_le, nat_lt, nat_tests, not, not-false, ordering_then, position_in}
+use Rattle.fb_geometry.proofs.Words.{positions, rank, refl, same_mark, slice_get, slice_get-get_or, slipped, slot_at, slots_at, subst}
+use Rattle.fb_geometry.proofs.Words.{suc, sym, take, true, zero, zone_at, ℕ, ◌+◌, ◌-◌, ◌<◌, ◌==◌, ◌∙◌, ◌∷◌, ◌≡◌, ◌≤◌}
 use Rattle.fb_geometry.proofs.{Slips.slipped_only, Slips.pairwise-filter, Slips.pairwise-map, Slips.rises, Slips.rank-at}
 use Rattle.fb_geometry.proofs.{Slips.rank_marked, Slips.rank-step, Slips.rank-below, Slips.has, Slips.rank-le_length, Slips.free_behind}
 use Rattle.fb_geometry.proofs.{Slips.next_marked, Turns.position_in-slot_at, Turns.slot_at-position_in, Faultless.slots_at-zone}
@@ -120,8 +119,7 @@ slipped_at number marks r up h low high =
 -- the position at an index
 pub position_get : (marks : List Mark) (i : ℕ) (d : Mark) → i < length marks → slice_get (positions marks) i
     ≡ Some (get_or marks i d).position
-position_get marks i d h = slice_get-map (λ mark. mark.position) marks i ∙ ap (option_map (λ mark. mark.position))
-    (slice_get-get_or marks i d h)
+position_get marks i d h = map_at (λ mark. mark.position) marks i (get_or marks i d) (slice_get-get_or marks i d h)
 
 -- the unmarked entries behind the sectors are no more than the marked ones among them
 module _ (marks : List Mark) (up : IsAscending (positions marks)) (sectors entry : ℕ) where
@@ -182,27 +180,20 @@ mark_of-slot_at disk zone cylinder position at =
     (position_is disk zone (slot_at zone disk.heads cylinder position) at.found ∙ position_in-slot_at zone
     disk.heads at.ranges.some_sectors cylinder position)
 
--- a cylinder of the disk has a zone
-pub zone_exists : (disk : Shape) (cylinder : ℕ) → HasZones disk → cylinder < cylinders_of disk.zones → (zone : Zone)
-    × IsZoneOf disk cylinder zone
-zone_exists disk cylinder zones h =
-    let one = some_zone 0 0 cylinder disk.zones zones.contiguous (omega arith) h in
-    (one.0, found_zone disk zones cylinder one.0 one.1)
-
 -- a mark has one place
 pub mark_of-same : (disk : Shape) (a b : Place) → HasZones disk → is_outside disk a ≡ false → is_outside disk b ≡ false
     → mark_of disk a ≡ mark_of disk b → a ≡ b
 mark_of-same disk a b zones h k e =
     let on_a = on_disk disk a h in
     let on_b = on_disk disk b k in
-    let one = zone_exists disk a.track.cylinder zones on_a.0 in
+    let one = some_zone 0 0 a.track.cylinder disk.zones zones.contiguous (omega arith) on_a.0 in
     let zone = one.0 in
-    let some = one.1.ranges.some_sectors in
+    let some = (found_zone disk zones a.track.cylinder zone one.1).ranges.some_sectors in
     let cylinder : a.track.cylinder ≡ b.track.cylinder = ap (λ mark. mark.cylinder) e in
-    let at_b : zone_at disk.zones b.track.cylinder ≡ Some zone = subst (λ c. zone_at disk.zones c ≡ Some zone) cylinder one.1.found in
+    let at_b : zone_at disk.zones b.track.cylinder ≡ Some zone = subst (λ c. zone_at disk.zones c ≡ Some zone) cylinder one.1 in
     let position : position_in zone disk.heads a ≡ position_in zone disk.heads b =
-    sym (position_is disk zone a one.1.found) ∙ (ap (λ mark. mark.position) e ∙ position_is disk zone b at_b) in
-    sym (slot_at-position_in zone disk.heads some a (omega (arith, on_a.2, slots_at-zone disk.zones a.track.cylinder zone one.1.found)))
+    sym (position_is disk zone a one.1) ∙ (ap (λ mark. mark.position) e ∙ position_is disk zone b at_b) in
+    sym (slot_at-position_in zone disk.heads some a (omega (arith, on_a.2, slots_at-zone disk.zones a.track.cylinder zone one.1)))
     ∙ (ap (λ c. slot_at zone disk.heads c (position_in zone disk.heads a)) cylinder
     ∙ (ap (slot_at zone disk.heads b.track.cylinder) position
     ∙ slot_at-position_in zone disk.heads some b (omega (arith, on_b.2, slots_at-zone disk.zones b.track.cylinder zone at_b))))
