@@ -8,7 +8,7 @@ pub mod Lookups
 pub mod Marking
 pub mod Leasts
 pub mod Clashes
-pub mod Indexing
+pub mod OwnMarks
 pub mod Judging
 pub mod Once
 pub mod Rotation

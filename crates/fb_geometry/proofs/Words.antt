@@ -29,7 +29,7 @@ pub use Rattle.std.specs.Prelude.{All, IfNone, IfSome, MatchOption, filter, find
 pub use Rattle.std.specs.Prelude.{slice_get, ◌==◌, ◌||◌}
 pub use Rattle.fb_units.specs.{Tracks.same_track, declared.types.Place.Place, declared.types.Track.Track}
 pub use Rattle.fb_units.specs.declared.read_error.ReadError.{ReadError, TheVariants.Fault, TheVariants.NoMemory}
-pub use Rattle.fb_geometry.specs.{Angles.CoverRotation, Index.zone_fault, Marks.same_mark, Places.zone_places, Shape.turn_position}
+pub use Rattle.fb_geometry.specs.{Angles.CoverRotation, Kept.zone_fault, Marks.same_mark, Places.zone_places, Shape.turn_position}
 pub use Rattle.fb_geometry.specs.{Stretches.IsStretch, Stretches.KeepsOrder, Turns.zone_at}
 pub use Rattle.fb_geometry.specs.declared.{cylinder.Cylinder.Cylinder, fault.GeometryFault.GeometryFault, layout.Layout.Layout}
 pub use Rattle.fb_geometry.specs.declared.{marks.Mark.Mark, zone.Zone.Zone}
@@ -38,7 +38,7 @@ pub use Rattle.fb_geometry.specs.Faults.{Judges, cylinder_spares_at, fault_at, f
 pub use Rattle.fb_geometry.specs.Faults.{is_full_track, is_outside, is_place_before, is_too_skewed, is_track_before, least, lesser}
 pub use Rattle.fb_geometry.specs.Faults.{or_else, repeated, spare_fault, spares_at}
 unfoldable pub use Rattle.fb_geometry.specs.Faults.{first_fault}
-pub use Rattle.fb_geometry.specs.Index.{Answers, HasZones, IsFaultless, IsGoodOf, IsIndexed, JudgesSpares, defect_fault, grown_fault}
+pub use Rattle.fb_geometry.specs.Kept.{Answers, HasZones, IsFaultless, IsGoodOf, AreOwnMarks, JudgesSpares, defect_fault, grown_fault}
 pub use Rattle.fb_geometry.specs.Marks.{AreInOrder, AreMarksOf, AreSorted, among_unmarked, is_mark_before, mark_of, marks_on, positions}
 pub use Rattle.fb_geometry.specs.Places.{by_head, data_list, data_list_at, data_list_by, good_track, list_among, replaced, stand_in, turn}
 unfoldable pub use Rattle.fb_geometry.specs.Places.{places}

@@ -5,7 +5,7 @@ pub mod Faults
 pub mod Sound
 pub mod Slips
 pub mod Marks
-pub mod Index
+pub mod Kept
 pub mod Turns
 pub mod Stretches
 pub mod Even

@@ -7,7 +7,7 @@ ghost use Rattle.fb_geometry.specs.Faults.{Judges, FitsLayout};
 ghost use Rattle.fb_geometry.specs.Sound.{IsSound, HasOwnPlaces, cylinder_size};
 ghost use Rattle.fb_geometry.specs.Turns.{IsZoneAt, cylinder_slots};
 ghost use Rattle.fb_geometry.specs.Slips.{IsAscending, indexes};
-ghost use Rattle.fb_geometry.specs.Index.{HasZones, AreJudged, defect_fault, JudgesSpares, IsGoodOf, good_before};
+ghost use Rattle.fb_geometry.specs.Kept.{HasZones, AreJudged, defect_fault, JudgesSpares, IsGoodOf, good_before};
 ghost use Rattle.fb_geometry.specs.Marks.{positions};
 ghost use Rattle.fb_geometry.specs.declared.layout.Layout.TheVariants.{PerTrack, PerCylinder};
 ghost use Rattle.fb_geometry.specs.declared.zone.Zone.{Zone};
@@ -34,7 +34,7 @@ pub struct Geometry {
 
 impl Model for Geometry {
     ghost use Rattle.fb_geometry.specs.Shape.{Shape};
-    ghost use Rattle.fb_geometry.specs.Index.{IsKept};
+    ghost use Rattle.fb_geometry.specs.Kept.{IsKept};
 
     ghost Value = { Shape };
 

@@ -8,7 +8,7 @@ ghost use Rattle.fb_geometry.specs.Faults.{is_place_before, is_track_before, rep
 ghost use Rattle.fb_geometry.specs.Turns.{IsZoneOf, AreZoneNumbers, zone_at};
 ghost use Rattle.fb_geometry.specs.Slips.{Pairwise};
 ghost use Rattle.fb_geometry.specs.Marks.{mark_of, AreMarksOf, AreSorted};
-ghost use Rattle.fb_geometry.specs.Index.{HasZones, zone_fault, defect_fault, grown_fault, Answers, AreJudged};
+ghost use Rattle.fb_geometry.specs.Kept.{HasZones, zone_fault, defect_fault, grown_fault, Answers, AreJudged};
 
 use crate::marks::Mark;
 use crate::zone::zone_number;

@@ -15,7 +15,7 @@ use Rattle.fb_geometry.specs.Angles.{slot_begin}
 use Rattle.fb_geometry.specs.Places.{places, zone_places, data_list}
 use Rattle.fb_geometry.specs.Faults.{FitsLayout, spare_fault}
 use Rattle.fb_geometry.specs.Sound.{IsSound, HasOwnPlaces, LiesOn, cylinder_size}
-use Rattle.fb_geometry.specs.Index.{IsFaultless, zone_fault, defect_fault}
+use Rattle.fb_geometry.specs.Kept.{IsFaultless, zone_fault, defect_fault}
 use Rattle.fb_geometry.proofs.Faultless.{or_else-none, zone_by_bounds, slots_at-zone}
 use Rattle.fb_geometry.proofs.Judging.{first_fault-is, has_zones, faultless}
 use Rattle.fb_geometry.proofs.Once.{sound, own_places}

@@ -1,5 +1,5 @@
 use Rattle.fb_geometry.proofs.Words.{AreMarksOf, IsFaultless, ap, refl, sym, ◌∙◌}
-use Rattle.fb_geometry.proofs.{Indexing.indexed, Indexing.grown_in_order, Judging.good_grown, Judging.faultless, Judging.cylinder_spares}
+use Rattle.fb_geometry.proofs.{OwnMarks.own_marks, OwnMarks.grown_in_order, Judging.good_grown, Judging.faultless, Judging.cylinder_spares}
 use Rattle.fb_geometry.proofs.{Judging.fits_per_cylinder, Once.sound}
 use Rattle.fb_geometry.proofs.geometry.Geometry.per_cylinder.Goals as goal
 
@@ -33,7 +33,7 @@ invariant_of-result c =
       faultless = good;
       numbered = c.in_ok-zone_numbers.ensures;
       sound = sound disk good;
-      indexed = indexed disk c.requires.zones c.in_ok-defects.defects.items c.in_ok-grown.grown.items are those
+      own_marks = own_marks disk c.requires.zones c.in_ok-defects.defects.items c.in_ok-grown.grown.items are those
           (good_grown disk judged.faultless).2;
       fits = fits_per_cylinder disk.layout disk.grown c.requires.layout;
     })

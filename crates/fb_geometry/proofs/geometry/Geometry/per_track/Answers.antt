@@ -1,5 +1,5 @@
 use Rattle.fb_geometry.proofs.Words.{AreMarksOf, IsFaultless, ap, refl, sym, ◌∙◌}
-use Rattle.fb_geometry.proofs.{Indexing.indexed_alone, Judging.faultless, Judging.track_spares, Once.sound}
+use Rattle.fb_geometry.proofs.{OwnMarks.own_marks_alone, Judging.faultless, Judging.track_spares, Once.sound}
 use Rattle.fb_geometry.proofs.geometry.Geometry.per_track.Goals as goal
 
 pub returns-in-Some : goal.returns-in-Some
@@ -19,7 +19,7 @@ invariant_of-result c =
       faultless = good;
       numbered = c.in_ok-zone_numbers.ensures;
       sound = sound disk good;
-      indexed = indexed_alone disk c.requires.zones marks are c.requires.grown;
+      own_marks = own_marks_alone disk c.requires.zones marks are c.requires.grown;
       fits = λ layout. c.requires.grown;
     })
 

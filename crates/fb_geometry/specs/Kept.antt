@@ -1,4 +1,4 @@
--- What holds of a geometry in memory: its outline has no fault, and its index of bad slots agrees with it.
+-- What holds of a geometry in memory: its outline has no fault, and its marks of bad slots agree with it.
 use Rattle.std.specs.Prelude.{◌≡◌, ℕ, List, [], ◌++◌, Option, Some, None, Result, Ok, Err, false, find, filter, position, ◌-◌, ◌*◌, ◌<◌}
 use Rattle.std.specs.Prelude.{slice_get}
 use Rattle.fb_units.specs.declared.types.Place.{Place}
@@ -58,18 +58,18 @@ pub record AreJudged (fault : Option GeometryFault) (places sorted : List Place)
   pub are : AreSorted places sorted
 
 -- the marks of each cylinder are the positions of its defects, and among its slots without defects those of its grown defects
-pub record IsIndexed (disk : Shape) (defects grown : List Mark) : Type 0 where
+pub record AreOwnMarks (disk : Shape) (defects grown : List Mark) : Type 0 where
   pub defects_at : (zone : Zone) (cylinder : ℕ) → IsZoneAt disk cylinder zone
       → positions (marks_on cylinder defects) ≡ indexes (is_among disk.defects) 0 (cylinder_slots zone disk.heads cylinder)
   pub grown_at : (zone : Zone) (cylinder : ℕ) → IsZoneAt disk cylinder zone
       → positions (marks_on cylinder grown) ≡ indexes (is_among disk.grown) 0 (by_head disk cylinder (good_track disk zone))
 
--- the outline has no fault, the facts that follow from it hold, the numbers are those of its zones, and the marks are its index
+-- the outline has no fault, the facts that follow from it hold, the numbers are those of its zones, and the marks are its own
 pub record IsKept (disk : Shape) (numbers : List ℕ) (defects grown : List Mark) : Type 0 where
   pub faultless : IsFaultless disk
   pub numbered : AreZoneNumbers disk.zones numbers
   pub sound : IsSound disk
-  pub indexed : IsIndexed disk defects grown
+  pub own_marks : AreOwnMarks disk defects grown
   pub fits : disk.layout ≡ PerTrack → disk.grown ≡ []
 
 -- the geometry has this outline, whose spares have no fault, or the fault is their first one, or it is out of memory

@@ -1,6 +1,6 @@
--- The marks of an accepted outline are its index of bad slots.
+-- The marks of an accepted outline say which slots of each cylinder are bad.
 use Rattle.fb_units.proofs.Lists.{all_dropped, all_weaker, map_at}
-use Rattle.fb_geometry.proofs.Words.{AreInOrder, AreMarksOf, Bool, HasZones, IsAscending, IsIndexed, IsZoneAt, List, Mark, Pairwise}
+use Rattle.fb_geometry.proofs.Words.{AreInOrder, AreMarksOf, Bool, HasZones, IsAscending, AreOwnMarks, IsZoneAt, List, Mark, Pairwise}
 use Rattle.fb_geometry.proofs.Words.{Place, Shape, Some, Zone, [], among_unmarked, ap, arith, by_head, cases_order, cylinder_slots}
 use Rattle.fb_geometry.proofs.Words.{eq-eqb, false, filter, good_track, indexes, inl, inr, is_among, is_mark_before, is_outside, list_any}
 use Rattle.fb_geometry.proofs.Words.{map, mark_of, marks_on, nat_tests, or_left, position_in, positions, rank, refl, same_Some, same_mark}
@@ -194,13 +194,13 @@ module _ (disk : Shape) (zones : HasZones disk) (defects grown : List Mark) (are
           let c = good.lies.cylinder_is in
           mark_by (among_unmarked defects (mark_of disk place)) cylinder q c (index_is place c (slot place one c).2 ∙ sym good.index)
 
-  pub indexed : IsIndexed disk defects (map (among_unmarked defects) grown)
-  indexed = record { defects_at = defects_indexed disk zones defects are; grown_at = grown_indexed }
+  pub own_marks : AreOwnMarks disk defects (map (among_unmarked defects) grown)
+  own_marks = record { defects_at = defects_indexed disk zones defects are; grown_at = grown_indexed }
 
 -- without grown defects
-pub indexed_alone : (disk : Shape) → HasZones disk → (defects : List Mark) → AreMarksOf disk disk.defects defects → disk.grown ≡ []
-    → IsIndexed disk defects []
-indexed_alone disk zones defects are none = record {
+pub own_marks_alone : (disk : Shape) → HasZones disk → (defects : List Mark) → AreMarksOf disk disk.defects defects → disk.grown ≡ []
+    → AreOwnMarks disk defects []
+own_marks_alone disk zones defects are none = record {
   defects_at = defects_indexed disk zones defects are;
   grown_at = λ zone cylinder at. sym (ap (λ grown. indexes (is_among grown) 0 (by_head disk cylinder (good_track disk zone))) none
       ∙ nothing 0 (by_head disk cylinder (good_track disk zone)));
