@@ -1,4 +1,6 @@
 -- What holds of an outline without a fault.
+use Rattle.std.proofs.Math.Seq.{get_or-append_seam}
+use Rattle.std.proofs.lemmas.List.{get_or_append_left}
 pub use Rattle.fb_units.proofs.Lists.{all_get}
 use Rattle.fb_units.proofs.Lists.{all_from_index, all_weaker, element_at, none_of_any}
 use Rattle.fb_geometry.proofs.{Slips.rises}
@@ -10,7 +12,7 @@ use Rattle.fb_geometry.proofs.Words.{is_bad_zone, is_too_skewed, le-leb, least, 
 use Rattle.fb_geometry.proofs.Words.{ltb-false, ltb-true, nat_le, nat_lt, nat_tests, none-some, offset_at, offset_in, or_else, or_parts}
 use Rattle.fb_geometry.proofs.Words.{position, position_or_len, recursion_from_All, refl, same_Some, slice_get, slice_get-get_or}
 use Rattle.fb_geometry.proofs.Words.{slice_index_or, slots_at, spares_at, subst, suc, sym, true, zero, zone_at, zone_tells, ℕ, ◌+◌, ◌<◌}
-use Rattle.fb_geometry.proofs.Words.{◌^◌, ◌∙◌, ◌∷◌, ◌≡◌, ◌≤◌}
+use Rattle.fb_geometry.proofs.Words.{◌^◌, ◌∙◌, ◌∷◌, ◌≡◌, ◌≤◌, ◌++◌, NumbersZone, NumberZones, length-append}
 
 -- ---- chains
 
@@ -240,13 +242,23 @@ last_cylinder (zone ∷ other ∷ zones) (suc n) d h = last_cylinder (other ∷ 
 
 -- ---- a search by numbers
 
+-- the number of one cylinder more
+pub numbers_next : (zones : List Zone) (numbers : List ℕ) (cylinder number : ℕ) → NumberZones zones numbers cylinder
+    → NumbersZone zones cylinder number → NumberZones zones (numbers ++ number ∷ []) (cylinder + 1)
+numbers_next zones numbers cylinder number (long, each) last =
+    (length-append numbers (number ∷ []) ∙ ap (λ n. n + 1) long, λ k d inside. elim (cases_lt k (length numbers)) [
+      | inl before ↦ rw (get_or_append_left numbers (number ∷ []) d k before) (each k d before)
+      | inr behind ↦ let here : k ≡ length numbers = omega (arith, rw (length-append numbers (number ∷ [])) at inside, behind) in
+          rw (here, get_or-append_seam numbers number [] d, long) last
+    ])
+
 pub number_inside : (zones : List Zone) (numbers : List ℕ) (cylinder : ℕ) → AreZoneNumbers zones numbers → cylinder < cylinders_of zones
     → slice_index_or numbers cylinder 0 < length zones
-number_inside zones numbers cylinder are below = (are.each cylinder 0 (omega (arith, are.all, below))).0
+number_inside zones numbers cylinder are below = (are.1 cylinder 0 (omega (arith, are.0, below))).0
 
 pub numbered_zone : (zones : List Zone) (numbers : List ℕ) (cylinder : ℕ) (zone : Zone) → AreZoneNumbers zones numbers
     → cylinder < cylinders_of zones
     → zone ≡ slice_index_or zones (slice_index_or numbers cylinder 0) zone → zone_at zones cylinder ≡ Some zone
 numbered_zone zones numbers cylinder zone are below at =
-    let is = are.each cylinder 0 (omega (arith, are.all, below)) in
+    let is = are.1 cylinder 0 (omega (arith, are.0, below)) in
     is.1 ∙ (slice_get-get_or zones (slice_index_or numbers cylinder 0) zone is.0 ∙ ap Some (sym at))

@@ -45,7 +45,7 @@ unfoldable pub use Rattle.fb_geometry.specs.Places.{places}
 pub use Rattle.fb_geometry.specs.Shape.{Shape, cylinders_of, is_among, offset_at, offset_in, same_place, slots_at, zone_tells}
 pub use Rattle.fb_geometry.specs.Slips.{HoldsNone, HoldsSector, IsAscending, Pairwise, entry_of_sector, indexes, rank, slipped}
 pub use Rattle.fb_geometry.specs.Sound.{HasOwnPlaces, IsCylinderOf, IsSound, LiesOn, cylinder_size_by}
-pub use Rattle.fb_geometry.specs.Turns.{AreZoneNumbers, IsZone, IsZoneAt, IsZoneOf, NumbersZone, cylinder_slots, position_in, slot_at}
+pub use Rattle.fb_geometry.specs.Turns.{AreZoneNumbers, IsZone, IsZoneAt, IsZoneOf, NumberZones, NumbersZone, cylinder_slots, position_in, slot_at}
 pub use Rattle.fb_geometry.specs.declared.fault.GeometryFault.TheVariants.{GrownOutside, DefectTwice, GrownTwice, OutOfRange}
 pub use Rattle.fb_geometry.specs.declared.fault.GeometryFault.TheVariants.{TooManyDefects, TooManyInCylinder}
 pub use Rattle.fb_geometry.specs.declared.layout.Layout.TheVariants.{PerCylinder, PerTrack}

@@ -25,10 +25,14 @@ zone_at zones cylinder = find (λ zone. nat_le cylinder zone.last) zones
 abbrev pub NumbersZone : List Zone → ℕ → ℕ → Type 0
 NumbersZone zones cylinder number = (number < length zones) × (zone_at zones cylinder ≡ slice_get zones number)
 
--- these are the indexes of the zones of all cylinders, in the order of cylinders
-pub record AreZoneNumbers (zones : List Zone) (numbers : List ℕ) : Type 0 where
-  pub all : length numbers ≡ cylinders_of zones
-  pub each : (cylinder d : ℕ) → cylinder < length numbers → NumbersZone zones cylinder (slice_index_or numbers cylinder d)
+-- these are the indexes of the zones of the first cylinders, in the order of cylinders
+abbrev pub NumberZones : List Zone → List ℕ → ℕ → Type 0
+NumberZones zones numbers cylinders = (length numbers ≡ cylinders)
+    × ((cylinder d : ℕ) → cylinder < length numbers → NumbersZone zones cylinder (slice_index_or numbers cylinder d))
+
+-- and these of the zones of all cylinders
+abbrev pub AreZoneNumbers : List Zone → List ℕ → Type 0
+AreZoneNumbers zones numbers = NumberZones zones numbers (cylinders_of zones)
 
 -- the zone is that of the cylinder, with its numbers in their ranges
 pub record IsZoneOf (disk : Shape) (cylinder : ℕ) (zone : Zone) : Type 0 where

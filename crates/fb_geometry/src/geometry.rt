@@ -87,7 +87,6 @@ impl Geometry {
     }
 
     // The geometry with spares at the end of each cylinder, if they are enough.
-    #[tactic(auto, using(crate::proofs::Judging::bad_inside, crate::proofs::Judging::good_defects, crate::proofs::Judging::good_grown))]
     fn per_cylinder(alloc: Global, outline: Outline) -> Result<Geometry, GeometryError>
         requires layout { outline.layout ≡ PerCylinder }
         requires zones { HasZones outline }

@@ -168,7 +168,6 @@ impl Outline {
     }
 
     // The index of the zone of each cylinder, in the order of cylinders.
-    #[tactic(auto, using(crate::proofs::Faultless::zones_rise))]
     pub(crate) fn zone_numbers(&self, alloc: Global) -> Result<Vec<u8>, NoMemory>
         requires { HasZones self.now }
         ensures { IfOk result (λ numbers. AreZoneNumbers self.now.zones numbers.items) }
@@ -265,7 +264,6 @@ impl Outline {
         Ok(marks)
     }
 
-    #[tactic(auto, using(crate::proofs::Marking::inside_at))]
     fn unsorted_marks(&self, alloc: Global, places: &[Place]) -> Result<Vec<Mark>, NoMemory>
         requires zones { HasZones self.now }
         requires inside { find (is_outside self.now) places.now ≡ None }
@@ -278,7 +276,6 @@ impl Outline {
         Ok(marks)
     }
 
-    #[tactic(auto, using(crate::proofs::Marking::position_is))]
     fn mark(&self, place: Place) -> Mark
         requires zones { HasZones self.now }
         requires inside { is_outside self.now place ≡ false }
