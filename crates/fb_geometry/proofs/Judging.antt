@@ -1,7 +1,7 @@
 -- What the parts of a judgement say of the whole.
-use Rattle.fb_geometry.proofs.Words.{All, All-append, All-from_recursion, All-permutation, Answers, AreSorted, Bool, DefectTwice, Err}
-use Rattle.fb_geometry.proofs.Words.{Fault, GeometryFault, GrownOutside, GrownTwice, HasZones, IsFaultless, Judges, JudgesSpares, Layout}
-use Rattle.fb_geometry.proofs.Words.{List, NoMemory, None, Ok, Option, OutOfRange, PerCylinder, PerTrack, Place, ReadError, Result, Shape}
+use Rattle.fb_geometry.proofs.Words.{All, All-append, All-from_recursion, All-permutation, Answers, AreSorted, Bool, DefectTwice}
+use Rattle.fb_geometry.proofs.Words.{Fault, FitsLayout, GeometryFault, GrownOutside, GrownTwice, HasZones, IsFaultless, Layout}
+use Rattle.fb_geometry.proofs.Words.{List, NoMemory, None, Option, OutOfRange, PerCylinder, PerTrack, Place, ReadError, Shape}
 use Rattle.fb_geometry.proofs.Words.{Some, TooManyDefects, TooManyInCylinder, [], ap, append-nil, arith, defect_fault, false, fault_at}
 use Rattle.fb_geometry.proofs.Words.{filter, find, first_fault, grown_fault, if◌then◌else◌, is_among, is_full_cylinder, is_full_track}
 use Rattle.fb_geometry.proofs.Words.{is_outside, is_place_before, is_track_before, least, nat_lt, nat_tests, none-some, option_map}
@@ -79,15 +79,8 @@ fault_of_defects disk fault e f = first_fault-is disk ∙ rw (e, f) refl
 pub fault_of_spares : (disk : Shape) → zone_fault disk ≡ None → defect_fault disk ≡ None → first_fault disk ≡ spare_fault disk.layout disk
 fault_of_spares disk e f = first_fault-is disk ∙ rw (e, f) refl
 
--- what is said of the spares is so of the whole, once the zones and the defects are judged
-pub judged : (disk : Shape) (result : Result Shape (ReadError GeometryFault)) → zone_fault disk ≡ None → defect_fault disk ≡ None
-    → JudgesSpares disk result → Judges disk result
-judged disk (Ok geometry) e f h = (h.0, fault_of_spares disk e f ∙ h.1)
-judged disk (Err (Fault fault)) e f h = fault_of_spares disk e f ∙ h
-judged disk (Err NoMemory) e f h = tt
-
 pub refused : (disk : Shape) (error : ReadError GeometryFault) → zone_fault disk ≡ None → Answers (defect_fault disk) error
-    → Judges disk (Err error)
+    → Answers (first_fault disk) error
 refused disk (Fault fault) e h = fault_of_defects disk fault e h
 refused disk NoMemory e h = tt
 
@@ -101,10 +94,12 @@ has_zones disk h =
     let b = or_else-none _ _ a.1 in
     record { in_range = in_range _ a.0; contiguous = fault_at-none _ _ b.0; skews = fault_at-none _ _ b.1 }
 
-pub faultless : (disk : Shape) → HasZones disk → defect_fault disk ≡ None → spare_fault disk.layout disk ≡ None → IsFaultless disk
-faultless disk zones h k =
-    let good = good_defects disk h in
-    record { zones_hold = zones; defects_inside = good.0; defects_once = ap (least is_place_before) good.1; spares = k }
+pub faultless : (disk : Shape) → first_fault disk ≡ None → IsFaultless disk
+faultless disk h =
+    let parts = or_else-none _ _ (sym (first_fault-is disk) ∙ h) in
+    let judged = or_else-none _ _ parts.1 in
+    let good = good_defects disk judged.0 in
+    record { zones_hold = has_zones disk parts.0; defects_inside = good.0; defects_once = ap (least is_place_before) good.1; spares = judged.1 }
 
 -- the fault of the spares, by the first place in order whose track or cylinder has too few
 pub track_spares : (disk : Shape) (sorted : List Place) → disk.layout ≡ PerTrack → AreSorted disk.defects sorted
@@ -126,5 +121,14 @@ cylinder_spares disk sorted layout h are =
     (least_full nat_lt number_order (λ place. place.track.cylinder) (λ a b h. grind (arith, nat_tests)) (is_full_cylinder disk)
     (disk.defects ++ disk.grown) sorted are))
 
-pub fits_per_cylinder : (layout : Layout) (grown : List Place) → layout ≡ PerCylinder → layout ≡ PerTrack → grown ≡ []
-fits_per_cylinder layout grown h k = cc
+-- the grown defects are on the disk, and each bad place is listed once
+pub grown_once : (layout : Layout) (disk : Shape) → FitsLayout layout disk → spare_fault layout disk ≡ None
+    → (find (is_outside disk) disk.grown ≡ None) × (repeated disk.grown ≡ []) × (filter (is_among disk.defects) disk.grown ≡ [])
+grown_once PerTrack disk fits h = rw fits.0 (refl, refl, refl)
+grown_once PerCylinder disk fits h =
+    let outside = or_else-none (fault_at GrownOutside (find (is_outside disk) disk.grown)) _ h in
+    good_grown disk (rw outside.0 (or_else-none _ _ outside.1).0)
+
+pub fits_per_track : (layout : Layout) (disk : Shape) → FitsLayout layout disk → layout ≡ PerTrack → disk.grown ≡ []
+fits_per_track PerTrack disk fits h = fits.0
+fits_per_track PerCylinder disk fits h = cc

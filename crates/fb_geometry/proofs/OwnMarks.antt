@@ -196,16 +196,3 @@ module _ (disk : Shape) (zones : HasZones disk) (defects grown : List Mark) (are
 
   pub own_marks : AreOwnMarks disk defects (map (among_unmarked defects) grown)
   own_marks = record { defects_at = defects_indexed disk zones defects are; grown_at = grown_indexed }
-
--- without grown defects
-pub own_marks_alone : (disk : Shape) → HasZones disk → (defects : List Mark) → AreMarksOf disk disk.defects defects → disk.grown ≡ []
-    → AreOwnMarks disk defects []
-own_marks_alone disk zones defects are none = record {
-  defects_at = defects_indexed disk zones defects are;
-  grown_at = λ zone cylinder at. sym (ap (λ grown. indexes (is_among grown) 0 (by_head disk cylinder (good_track disk zone))) none
-      ∙ nothing 0 (by_head disk cylinder (good_track disk zone)));
-}
-  where
-    nothing : (a : ℕ) (xs : List Place) → indexes (is_among []) a xs ≡ []
-    nothing a [] = refl
-    nothing a (x ∷ xs) = nothing (a + 1) xs

@@ -34,11 +34,11 @@ pub use Rattle.fb_geometry.specs.{Stretches.IsStretch, Stretches.KeepsOrder, Tur
 pub use Rattle.fb_geometry.specs.declared.{cylinder.Cylinder.Cylinder, fault.GeometryFault.GeometryFault, layout.Layout.Layout}
 pub use Rattle.fb_geometry.specs.declared.{marks.Mark.Mark, zone.Zone.Zone}
 pub use Rattle.fb_geometry.specs.Even.{HasNoBad, IsEven, even_place, sectors_by}
-pub use Rattle.fb_geometry.specs.Faults.{Judges, cylinder_spares_at, fault_at, first_apart, has_no_data, is_bad_zone, is_full_cylinder}
+pub use Rattle.fb_geometry.specs.Faults.{FitsLayout, Judges, cylinder_spares_at, fault_at, first_apart, has_no_data, is_bad_zone, is_full_cylinder}
 pub use Rattle.fb_geometry.specs.Faults.{is_full_track, is_outside, is_place_before, is_too_skewed, is_track_before, least, lesser}
 pub use Rattle.fb_geometry.specs.Faults.{or_else, repeated, spare_fault, spares_at}
 unfoldable pub use Rattle.fb_geometry.specs.Faults.{first_fault}
-pub use Rattle.fb_geometry.specs.Kept.{Answers, HasZones, IsFaultless, IsGoodOf, AreOwnMarks, JudgesSpares, defect_fault, grown_fault}
+pub use Rattle.fb_geometry.specs.Kept.{Answers, HasZones, IsFaultless, IsGoodOf, AreOwnMarks, Finds, defect_fault, grown_fault}
 pub use Rattle.fb_geometry.specs.Marks.{AreInOrder, AreMarksOf, AreSorted, among_unmarked, is_mark_before, mark_of, marks_on, positions}
 pub use Rattle.fb_geometry.specs.Places.{by_head, data_list, data_list_at, data_list_by, good_track, list_among, replaced, stand_in, turn}
 unfoldable pub use Rattle.fb_geometry.specs.Places.{places}

@@ -72,10 +72,10 @@ pub record IsKept (disk : Shape) (numbers : List ℕ) (defects grown : List Mark
   pub own_marks : AreOwnMarks disk defects grown
   pub fits : disk.layout ≡ PerTrack → disk.grown ≡ []
 
--- the geometry has this outline, whose spares have no fault, or the fault is their first one, or it is out of memory
-abbrev pub JudgesSpares : Shape → Result Shape (ReadError GeometryFault) → Type 0
-JudgesSpares disk (Ok geometry) = (geometry ≡ disk) × (spare_fault disk.layout disk ≡ None)
-JudgesSpares disk (Err error) = Answers (spare_fault disk.layout disk) error
+-- there is no fault, or the error is this one, or out of memory
+abbrev pub Finds : Option GeometryFault → Result (Unit {0}) (ReadError GeometryFault) → Type 0
+Finds fault (Ok _) = fault ≡ None
+Finds fault (Err error) = Answers fault error
 
 -- a number is the index of the slot of a cylinder's sector among the slots that are no defects
 pub record IsGoodOf (disk : Shape) (zone : Zone) (cylinder j good : ℕ) : Type 0 where

@@ -7,7 +7,7 @@ ghost use Rattle.fb_geometry.specs.Faults.{Judges, FitsLayout};
 ghost use Rattle.fb_geometry.specs.Sound.{IsSound, HasOwnPlaces, cylinder_size};
 ghost use Rattle.fb_geometry.specs.Turns.{IsZoneAt, cylinder_slots};
 ghost use Rattle.fb_geometry.specs.Slips.{IsAscending, indexes};
-ghost use Rattle.fb_geometry.specs.Kept.{HasZones, AreJudged, defect_fault, JudgesSpares, IsGoodOf, good_before};
+ghost use Rattle.fb_geometry.specs.Kept.{IsGoodOf, good_before};
 ghost use Rattle.fb_geometry.specs.Marks.{positions};
 ghost use Rattle.fb_geometry.specs.declared.layout.Layout.TheVariants.{PerTrack, PerCylinder};
 ghost use Rattle.fb_geometry.specs.declared.zone.Zone.{Zone};
@@ -17,7 +17,7 @@ use crate::marks::{
     unmarked_before,
 };
 use crate::outline::Outline;
-use crate::{GeometryError, GeometryFault, Layout, Zone};
+use crate::{GeometryError, Layout, Zone};
 use fb_units::{Ns, Place, Track};
 use std::alloc::Global;
 use std::marker::Model;
@@ -45,60 +45,11 @@ impl Model for Geometry {
 
 impl Geometry {
     /// The geometry of an outline; or the outline's first fault, or `NoMemory`.
-    #[tactic(auto, using(crate::proofs::Judging::judged))]
     pub fn new(alloc: Global, outline: Outline) -> Result<Geometry, GeometryError>
         requires fits { FitsLayout outline.layout outline }
         ensures { Judges outline result }
     {
-        if let Some(fault) = outline.zone_fault() {
-            return Err(GeometryError::Fault(fault));
-        }
-        let defects = outline.judged_defects(alloc)?;
-        match outline.layout {
-            Layout::PerTrack => Geometry::per_track(alloc, outline, defects),
-            Layout::PerCylinder => Geometry::per_cylinder(alloc, outline),
-        }
-    }
-
-    // The geometry with spares at the end of each track, if they are enough.
-    #[tactic(auto, using(crate::proofs::Judging::defects_inside, crate::proofs::Judging::good_defects))]
-    fn per_track(
-        alloc: Global,
-        outline: Outline,
-        defects: Vec<Place>,
-    ) -> Result<Geometry, GeometryError>
-        requires layout { outline.layout ≡ PerTrack }
-        requires grown { outline.grown ≡ [] }
-        requires zones { HasZones outline }
-        requires defects { AreJudged (defect_fault outline) outline.defects defects.items }
-        ensures { JudgesSpares outline result }
-    {
-        if let Some(place) = outline.first_on_full_track(&defects) {
-            return Err(GeometryError::Fault(GeometryFault::TooManyDefects(place.track)));
-        }
-        let marks = outline.marks(alloc, outline.defects.as_slice())?;
-        let zone_numbers = outline.zone_numbers(alloc)?;
-        Ok(Geometry {
-            outline,
-            zone_numbers,
-            defect_marks: Marks::of(marks),
-            grown_marks: Marks::none(alloc),
-        })
-    }
-
-    // The geometry with spares at the end of each cylinder, if they are enough.
-    fn per_cylinder(alloc: Global, outline: Outline) -> Result<Geometry, GeometryError>
-        requires layout { outline.layout ≡ PerCylinder }
-        requires zones { HasZones outline }
-        requires defects { defect_fault outline ≡ None }
-        ensures { JudgesSpares outline result }
-    {
-        let bad = outline.judged_grown(alloc)?;
-        if let Some(place) = outline.first_on_full_cylinder(&bad) {
-            return Err(GeometryError::Fault(GeometryFault::TooManyInCylinder(
-                place.track.cylinder,
-            )));
-        }
+        outline.find_fault(alloc)?;
         let defects = outline.marks(alloc, outline.defects.as_slice())?;
         let grown = outline.marks(alloc, outline.grown.as_slice())?;
         let grown = among_unmarked(alloc, &defects, &grown)?;

@@ -36,15 +36,6 @@ impl Model for Marks {
 }
 
 impl Marks {
-    // No mark.
-    pub fn none(alloc: Global) -> Marks
-        ensures { result ≡ [] }
-    {
-        Marks {
-            items: Vec::new(alloc),
-        }
-    }
-
     // These marks, which are in order.
     pub fn of(items: Vec<Mark>) -> Marks
         requires { AreInOrder items.items }

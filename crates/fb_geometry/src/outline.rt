@@ -5,10 +5,12 @@ ghost use Rattle.std.specs.List.{list_any};
 ghost use Rattle.fb_geometry.specs.Shape.{Shape, cylinders_of, slots_at};
 ghost use Rattle.fb_geometry.specs.Faults.{is_out_of_range, is_bad_zone, has_no_data, first_apart, is_too_skewed, is_outside};
 ghost use Rattle.fb_geometry.specs.Faults.{is_place_before, is_track_before, repeated, is_full_track, is_full_cylinder};
+ghost use Rattle.fb_geometry.specs.Faults.{first_fault, spare_fault};
 ghost use Rattle.fb_geometry.specs.Turns.{IsZoneOf, AreZoneNumbers, zone_at};
 ghost use Rattle.fb_geometry.specs.Slips.{Pairwise};
 ghost use Rattle.fb_geometry.specs.Marks.{mark_of, AreMarksOf, AreSorted};
-ghost use Rattle.fb_geometry.specs.Kept.{HasZones, zone_fault, defect_fault, grown_fault, Answers, AreJudged};
+ghost use Rattle.fb_geometry.specs.Kept.{HasZones, zone_fault, defect_fault, grown_fault, Answers, AreJudged, Finds};
+ghost use Rattle.fb_geometry.specs.declared.layout.Layout.TheVariants.{PerTrack, PerCylinder};
 
 use crate::marks::Mark;
 use crate::zone::zone_number;
@@ -60,8 +62,51 @@ impl Model for Outline {
 }
 
 impl Outline {
+    // The first fault, if there is one.
+    pub(crate) fn find_fault(&self, alloc: Global) -> Result<(), GeometryError>
+        ensures { Finds (first_fault self.now) result }
+    {
+        if let Some(fault) = self.zone_fault() {
+            return Err(GeometryError::Fault(fault));
+        }
+        let defects = self.judged_defects(alloc)?;
+        match self.layout {
+            Layout::PerTrack => self.find_full_track(&defects),
+            Layout::PerCylinder => self.find_full_cylinder(alloc),
+        }
+    }
+
+    // The first fault of the spares at the end of each track.
+    fn find_full_track(&self, defects: &[Place]) -> Result<(), GeometryError>
+        requires layout { self.now.layout ≡ PerTrack }
+        requires zones { HasZones self.now }
+        requires defects { AreJudged (defect_fault self.now) self.now.defects defects.now }
+        ensures { Finds (spare_fault self.now.layout self.now) result }
+    {
+        match self.first_on_full_track(defects) {
+            Some(place) => Err(GeometryError::Fault(GeometryFault::TooManyDefects(place.track))),
+            None => Ok(()),
+        }
+    }
+
+    // The first fault of the grown defects and of the spares at the end of each cylinder.
+    fn find_full_cylinder(&self, alloc: Global) -> Result<(), GeometryError>
+        requires layout { self.now.layout ≡ PerCylinder }
+        requires zones { HasZones self.now }
+        requires defects { defect_fault self.now ≡ None }
+        ensures { Finds (spare_fault self.now.layout self.now) result }
+    {
+        let bad = self.judged_grown(alloc)?;
+        match self.first_on_full_cylinder(&bad) {
+            Some(place) => Err(GeometryError::Fault(GeometryFault::TooManyInCylinder(
+                place.track.cylinder,
+            ))),
+            None => Ok(()),
+        }
+    }
+
     // The first fault of the numbers and zones.
-    pub(crate) fn zone_fault(&self) -> Option<GeometryFault>
+    fn zone_fault(&self) -> Option<GeometryFault>
         ensures { result ≡ zone_fault self.now }
     {
         if self.is_out_of_range() {
@@ -217,7 +262,7 @@ impl Outline {
 
     // The defects in order, or their first fault.
     #[tactic(auto, using(crate::proofs::Judging::defects_judged, crate::proofs::Judging::defects_sorted))]
-    pub(crate) fn judged_defects(&self, alloc: Global) -> Result<Vec<Place>, GeometryError>
+    fn judged_defects(&self, alloc: Global) -> Result<Vec<Place>, GeometryError>
         requires { HasZones self.now }
         ensures sorted { IfOk result (λ sorted. AreJudged (defect_fault self.now) self.now.defects sorted.items) }
         ensures fault { IfErr result (Answers (defect_fault self.now)) }
@@ -235,7 +280,7 @@ impl Outline {
 
     // The defects and the grown defects together in order, or the first fault of the grown ones.
     #[tactic(auto, using(crate::proofs::Judging::grown_judged))]
-    pub(crate) fn judged_grown(&self, alloc: Global) -> Result<Vec<Place>, GeometryError>
+    fn judged_grown(&self, alloc: Global) -> Result<Vec<Place>, GeometryError>
         requires zones { HasZones self.now }
         requires defects { defect_fault self.now ≡ None }
         ensures sorted { IfOk result (λ sorted. AreJudged (grown_fault self.now) (self.now.defects ++ self.now.grown) sorted.items) }
@@ -289,7 +334,7 @@ impl Outline {
     }
 
     // The first of the defects in order whose track has more of them than spares.
-    pub(crate) fn first_on_full_track(&self, defects: &[Place]) -> Option<Place>
+    fn first_on_full_track(&self, defects: &[Place]) -> Option<Place>
         requires zones { HasZones self.now }
         requires sorted { AreSorted self.now.defects defects.now }
         requires inside { All (λ place. is_outside self.now place ≡ false) defects.now }
@@ -317,7 +362,7 @@ impl Outline {
     }
 
     // The first of all bad places in order whose cylinder has more of them than spares.
-    pub(crate) fn first_on_full_cylinder(&self, bad: &[Place]) -> Option<Place>
+    fn first_on_full_cylinder(&self, bad: &[Place]) -> Option<Place>
         requires zones { HasZones self.now }
         requires sorted { AreSorted (self.now.defects ++ self.now.grown) bad.now }
         requires inside { All (λ place. is_outside self.now place ≡ false) bad.now }

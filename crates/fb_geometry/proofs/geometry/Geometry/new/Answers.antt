@@ -1,12 +1,54 @@
-use Rattle.fb_geometry.proofs.Words.{err_from_is_err_and, sym, ◌∙◌}
-use Rattle.fb_geometry.proofs.{Judging.refused, Judging.fault_of_zones}
+use Rattle.fb_geometry.proofs.Words.{AreMarksOf, ap, is_place_before, refl}
+use Rattle.fb_geometry.proofs.{Faultless.least-none, Judging.faultless, Judging.fits_per_track, Judging.grown_once, Once.sound}
+use Rattle.fb_geometry.proofs.{OwnMarks.grown_in_order, OwnMarks.own_marks}
 use Rattle.fb_geometry.proofs.geometry.Geometry.new.Goals as goal
 
-pub returns-in-Some : goal.returns-in-Some
-returns-in-Some c = fault_of_zones c.args.outline c.in-Some.fault (sym c.zone_fault.ensures ∙ c.in-Some.is)
+pub marks-requires : goal.marks-requires
+marks-requires c =
+    let good = faultless c.args.outline c.in_ok-find_fault.ensures in
+    rw (c.as_slice.ensures.value, ap (λ disk. disk.defects) c.outline.view_is) (record {
+      zones = good.zones_hold;
+      inside = good.defects_inside;
+      once = least-none is_place_before _ good.defects_once;
+    })
 
-pub returns-in_err-defects : goal.returns-in_err-defects
-returns-in_err-defects c =
-    let p = err_from_is_err_and c.from_residual.result c.from_residual.ensures.1 in
-    rw (p.1, p.2) (refused c.args.outline c.in_err-defects.field-0.0 (sym c.zone_fault.ensures ∙ c.in_default.is)
-    c.in_err-defects.ensures.fault)
+pub marks-requires-2 : goal.marks-requires-2
+marks-requires-2 c =
+    let good = faultless c.args.outline c.in_ok-find_fault.ensures in
+    let once = grown_once c.args.outline.layout c.args.outline c.requires.fits good.spares in
+    rw (c.as_slice-2.ensures.value, ap (λ disk. disk.grown) c.outline.view_is)
+    (record { zones = good.zones_hold; inside = once.0; once = once.1 })
+
+pub zone_numbers-requires : goal.zone_numbers-requires
+zone_numbers-requires c = (faultless c.args.outline c.in_ok-find_fault.ensures).zones_hold
+
+pub of-requires-2 : goal.of-requires-2
+of-requires-2 c =
+    let disk = c.args.outline in
+    let good = faultless disk c.in_ok-find_fault.ensures in
+    let are : AreMarksOf disk disk.defects c.in_ok-defects.defects.items =
+    rw (c.as_slice.ensures.value, ap (λ disk. disk.defects) c.outline.view_is) at c.in_ok-defects.ensures in
+    let those : AreMarksOf disk disk.grown c.in_ok-grown.grown.items =
+    rw (c.as_slice-2.ensures.value, ap (λ disk. disk.grown) c.outline.view_is) at c.in_ok-grown.ensures in
+    rw (rw (c.deref.ensures.value, c.deref-2.ensures.value) at c.in_ok-grown-2.ensures) (grown_in_order disk good.zones_hold
+    c.in_ok-defects.defects.items c.in_ok-grown.grown.items are those (grown_once disk.layout disk c.requires.fits good.spares).2)
+
+pub invariant_of-result : goal.invariant_of-result
+invariant_of-result c =
+    let disk = c.args.outline in
+    let good = faultless disk c.in_ok-find_fault.ensures in
+    let are : AreMarksOf disk disk.defects c.in_ok-defects.defects.items =
+    rw (c.as_slice.ensures.value, ap (λ disk. disk.defects) c.outline.view_is) at c.in_ok-defects.ensures in
+    let those : AreMarksOf disk disk.grown c.in_ok-grown.grown.items =
+    rw (c.as_slice-2.ensures.value, ap (λ disk. disk.grown) c.outline.view_is) at c.in_ok-grown.ensures in
+    rw (c.of.ensures, c.of-2.ensures, rw (c.deref.ensures.value, c.deref-2.ensures.value) at c.in_ok-grown-2.ensures) (record {
+      faultless = good;
+      numbered = c.in_ok-zone_numbers.ensures;
+      sound = sound disk good;
+      own_marks = own_marks disk good.zones_hold c.in_ok-defects.defects.items c.in_ok-grown.grown.items are those
+          (grown_once disk.layout disk c.requires.fits good.spares).2;
+      fits = fits_per_track disk.layout disk c.requires.fits;
+    })
+
+pub returns : goal.returns
+returns c = (refl, c.in_ok-find_fault.ensures)

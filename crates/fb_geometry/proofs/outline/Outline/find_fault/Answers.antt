@@ -1,0 +1,23 @@
+use Rattle.fb_geometry.proofs.Words.{err_from_is_err_and, sym, ◌∙◌}
+use Rattle.fb_geometry.proofs.{Judging.refused, Judging.fault_of_zones, Judging.fault_of_spares, Judging.has_zones}
+use Rattle.fb_geometry.proofs.outline.Outline.find_fault.Goals as goal
+
+pub returns-in-Some : goal.returns-in-Some
+returns-in-Some c = fault_of_zones c.args.self.now c.in-Some.fault (sym c.zone_fault.ensures ∙ c.in-Some.is)
+
+pub judged_defects-requires : goal.judged_defects-requires
+judged_defects-requires c = has_zones c.args.self.now (sym c.zone_fault.ensures ∙ c.in_default.is)
+
+pub returns-in_err-defects : goal.returns-in_err-defects
+returns-in_err-defects c =
+    let p = err_from_is_err_and c.from_residual.result c.from_residual.ensures.1 in
+    rw (p.1, p.2) (refused c.args.self.now c.in_err-defects.field-0.0 (sym c.zone_fault.ensures ∙ c.in_default.is)
+    c.in_err-defects.ensures.fault)
+
+pub returns-in-PerTrack : goal.returns-in-PerTrack
+returns-in-PerTrack c = rw (fault_of_spares c.args.self.now (sym c.zone_fault.ensures ∙ c.in_default.is)
+    c.in_ok-defects.ensures.sorted.faultless) c.find_full_track.ensures
+
+pub returns : goal.returns
+returns c = rw (fault_of_spares c.args.self.now (sym c.zone_fault.ensures ∙ c.in_default.is)
+    c.in_ok-defects.ensures.sorted.faultless) c.find_full_cylinder.ensures
