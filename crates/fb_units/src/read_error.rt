@@ -5,7 +5,7 @@ ghost use Rattle.fb_units.specs.declared.read_error.ReadError.TheVariants.{NoMem
 use std::alloc::{AllocError, AllocFailed};
 
 /// Why an input wasn't read.
-#[derive(Clone, Copy, Debug, PartialEq, Eq, Drop)]
+#[derive(Debug, PartialEq, Eq, Drop)]
 pub enum ReadError<F> {
     /// The input is refused.
     Fault(F),
