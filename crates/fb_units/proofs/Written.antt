@@ -60,9 +60,17 @@ last_are_digits n = rw (
   digit (n / 1 % 10) (omega arith),
 ) refl
 
+six_value : (a b c d e f front back : ℕ) → 100 * a + 10 * b + c ≡ front → 100 * d + 10 * e + f ≡ back
+    → digits_after 0 (six_of ((48 + a) ∷ (48 + b) ∷ (48 + c) ∷ (48 + d) ∷ (48 + e) ∷ (48 + f) ∷ [])) ≡ 1000 * front + back
+six_value a b c d e f front back p q = omega arith
+
 -- the last six digits of a number write its remainder by a million
 last_value : (n : ℕ) → digits_after 0 (six_of (last_six n)) ≡ n % 1000000
-last_value n = omega arith
+last_value n =
+    let front : 100 * (n / 100000 % 10) + 10 * (n / 10000 % 10) + n / 1000 % 10 ≡ n / 1000 % 1000 = omega arith in
+    let back : 100 * (n / 100 % 10) + 10 * (n / 10 % 10) + n / 1 % 10 ≡ n % 1000 = omega arith in
+    let whole : 1000 * (n / 1000 % 1000) + n % 1000 ≡ n % 1000000 = omega arith in
+    six_value _ _ _ _ _ _ _ _ front back ∙ whole
 
 pub whole_number : (n : ℕ) → n ≤ limit → number_of (decimal n) ≡ Some n
 whole_number n h = rw (
