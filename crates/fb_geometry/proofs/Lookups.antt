@@ -421,9 +421,9 @@ module _ (disk : Shape) (zone : Zone) (cylinder : ℕ) (at : IsZoneAt disk cylin
       on_slot : (j i : ℕ) → i ≡ k → IsGoodOf disk zone cylinder j i → slice_get sectors j ≡ Some place
       on_slot j i e on = holds j i place on c h l stays (e ∙ is)
 
-      pub some_by_head : disk.layout ≡ PerTrack → (i : ℕ) → before + i ≡ k → i < size → Holds (Some (place.track.head * size + i))
-      some_by_head layout i e early =
-          let j = place.track.head * size + i in on_slot j (before + i) e (place_by_track layout j place.track.head i refl h early)
+      pub some_by_head : disk.layout ≡ PerTrack → (i : ℕ) → i ≡ k - before → i < size → Holds (Some (place.track.head * size + i))
+      some_by_head layout i e early = let j = place.track.head * size + i in
+          on_slot j (before + i) (omega (arith, before_good)) (place_by_track layout j place.track.head i refl h early)
 
       -- what is said of the entry in the good list is so of the place
       pub judged_entry : disk.layout ≡ PerCylinder → (result : Option ℕ) → IfNone result (HoldsNone grown base k)

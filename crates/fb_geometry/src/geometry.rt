@@ -273,7 +273,7 @@ impl Geometry {
     }
 
     // Which sector a slot holds that is no defect, by its index among such slots of its cylinder.
-    #[tactic(auto, using(crate::proofs::Lookups::slots_upto, crate::proofs::Lookups::before_good, crate::proofs::Lookups::none_by_track))]
+    #[tactic(auto, using(crate::proofs::Lookups::slots_upto))]
     fn sector_of_good(&self, zone: Zone, place: Place, good: u32) -> Option<u32>
         requires zone { IsZoneAt self.now place.track.cylinder zone }
         requires head { place.track.head < self.now.heads }
