@@ -1,5 +1,5 @@
-use Rattle.fb_geometry.proofs.Words.{arith, cases_lt, inl, inr, ◌≡◌, ◌⊎◌}
-use Rattle.fb_geometry.proofs.{Stretched.stretched_by, Stretched.lies}
+use Rattle.fb_geometry.proofs.Words.{arith, cases_lt, inl, inr, mul-le, ◌≡◌, ◌⊎◌}
+use Rattle.fb_geometry.proofs.{Lookups.slots_upto, Stretched.stretched_by, Stretched.lies}
 use Rattle.fb_geometry.proofs.geometry.Geometry.stretch.Goals as goal
 
 pub position-position-requires-clause-head : goal.position-position-requires-clause-head
@@ -8,6 +8,14 @@ position-position-requires-clause-head c =
     let on = lies c.args.self.now c.zone_of-zone.result c.args.cylinder c.zone_of-zone.ensures.zone c.args.j o.result
     c.sector_place-place.result o.ensures.order o.ensures.some c.sector_place-place.ensures in
     omega (arith, on.head)
+
+pub overflow_add-end : goal.overflow_add-end
+overflow_add-end c =
+    let head = c.sector_place-place.result.track.head in
+    omega (arith, slots_upto, mul-le head 1 head c.zone_of-zone.result.sectors (omega arith) (omega arith))
+
+pub overflow_mul-end : goal.overflow_mul-end
+overflow_mul-end c = omega (arith, slots_upto)
 
 pub returns : goal.returns
 returns c =
