@@ -1,4 +1,4 @@
-use Rattle.fb_geometry.proofs.Words.{IsGoodOf, PerCylinder, PerTrack, ap, arith, rank, subst, sym, ◌%◌, ◌*◌, ◌+◌, ◌-◌, ◌/◌, ◌∙◌}
+use Rattle.fb_geometry.proofs.Words.{PerCylinder, PerTrack, arith, sym}
 use Rattle.fb_geometry.proofs.{Slips.slipped_to, Lookups.few_slots, Lookups.split_by_track, Lookups.placed, Lookups.defects_ascend}
 use Rattle.fb_geometry.proofs.{Lookups.good_number, Lookups.defects_of}
 use Rattle.fb_geometry.proofs.geometry.Geometry.good_of_sector.Goals as goal
@@ -9,14 +9,17 @@ overflow_mul-first c =
     c.args.j c.requires.sector in
     omega (arith, few_slots c.args.self.now c.args.zone (omega arith) c.requires.zone.ranges, split.3)
 
+pub overflow_add-result : goal.overflow_add-result
+overflow_add-result c =
+    let split = split_by_track c.args.self.now c.args.zone c.args.cylinder c.requires.zone (sym c.in-PerTrack.ensures)
+    c.args.j c.requires.sector in
+    omega (arith, few_slots c.args.self.now c.args.zone (omega arith) c.requires.zone.ranges, split.1, split.3)
+
 pub returns-in-PerTrack : goal.returns-in-PerTrack
 returns-in-PerTrack c =
-    let size = c.args.zone.sectors - c.args.zone.spares in
-    let before = c.unmarked_before.ensures ∙ ap (λ numbers. c.args.j / size * c.args.zone.sectors - rank
-    (c.args.j / size * c.args.zone.sectors) numbers)
-    (c.defects_on.ensures.marks c.args.zone c.requires.zone) in
-    subst (IsGoodOf c.args.self.now c.args.zone c.args.cylinder c.args.j) (ap (λ n. n + c.args.j % size) (sym before))
-    (placed c.args.self.now c.args.zone c.args.cylinder c.requires.zone PerTrack (sym c.in-PerTrack.ensures) c.args.j c.requires.sector)
+    rw (c.unmarked_before.ensures, c.defects_on.ensures.marks c.args.zone c.requires.zone)
+    (placed c.args.self.now c.args.zone c.args.cylinder c.requires.zone PerTrack (sym c.in-PerTrack.ensures)
+    c.args.j c.requires.sector)
 
 pub entry_of_sector-requires-clause-fits : goal.entry_of_sector-requires-clause-fits
 entry_of_sector-requires-clause-fits c =
