@@ -245,12 +245,14 @@ last_cylinder (zone ∷ other ∷ zones) (suc n) d h = last_cylinder (other ∷ 
 -- the number of one cylinder more
 pub numbers_next : (zones : List Zone) (numbers : List ℕ) (cylinder number : ℕ) → NumberZones zones numbers cylinder
     → NumbersZone zones cylinder number → NumberZones zones (numbers ++ number ∷ []) (cylinder + 1)
-numbers_next zones numbers cylinder number (long, each) last =
-    (length-append numbers (number ∷ []) ∙ ap (λ n. n + 1) long, λ k d inside. elim (cases_lt k (length numbers)) [
-      | inl before ↦ rw (get_or_append_left numbers (number ∷ []) d k before) (each k d before)
-      | inr behind ↦ let here : k ≡ length numbers = omega (arith, rw (length-append numbers (number ∷ [])) at inside, behind) in
-          rw (here, get_or-append_seam numbers number [] d, long) last
-    ])
+numbers_next zones numbers cylinder number (long, each) last = (
+  length-append numbers (number ∷ []) ∙ ap (λ n. n + 1) long,
+  λ k d inside. elim (cases_lt k (length numbers)) [
+    | inl before ↦ rw (get_or_append_left numbers (number ∷ []) d k before) (each k d before)
+    | inr behind ↦ let here : k ≡ length numbers = omega (arith, rw (length-append numbers (number ∷ [])) at inside, behind) in
+        rw (here, get_or-append_seam numbers number [] d, long) last
+  ],
+)
 
 pub number_inside : (zones : List Zone) (numbers : List ℕ) (cylinder : ℕ) → AreZoneNumbers zones numbers → cylinder < cylinders_of zones
     → slice_index_or numbers cylinder 0 < length zones

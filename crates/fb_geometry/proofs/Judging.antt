@@ -99,7 +99,12 @@ faultless disk h =
     let parts = or_else-none _ _ (sym (first_fault-is disk) ∙ h) in
     let judged = or_else-none _ _ parts.1 in
     let good = good_defects disk judged.0 in
-    record { zones_hold = has_zones disk parts.0; defects_inside = good.0; defects_once = ap (least is_place_before) good.1; spares = judged.1 }
+    record {
+      zones_hold = has_zones disk parts.0;
+      defects_inside = good.0;
+      defects_once = ap (least is_place_before) good.1;
+      spares = judged.1;
+    }
 
 -- the fault of the spares, by the first place in order whose track or cylinder has too few
 pub track_spares : (disk : Shape) (sorted : List Place) → disk.layout ≡ PerTrack → AreSorted disk.defects sorted

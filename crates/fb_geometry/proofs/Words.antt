@@ -34,9 +34,9 @@ pub use Rattle.fb_geometry.specs.{Stretches.IsStretch, Stretches.KeepsOrder, Tur
 pub use Rattle.fb_geometry.specs.declared.{cylinder.Cylinder.Cylinder, fault.GeometryFault.GeometryFault, layout.Layout.Layout}
 pub use Rattle.fb_geometry.specs.declared.{marks.Mark.Mark, zone.Zone.Zone}
 pub use Rattle.fb_geometry.specs.Even.{HasNoBad, IsEven, even_place, sectors_by}
-pub use Rattle.fb_geometry.specs.Faults.{FitsLayout, Judges, cylinder_spares_at, fault_at, first_apart, has_no_data, is_bad_zone, is_full_cylinder}
-pub use Rattle.fb_geometry.specs.Faults.{is_full_track, is_outside, is_place_before, is_too_skewed, is_track_before, least, lesser}
-pub use Rattle.fb_geometry.specs.Faults.{or_else, repeated, spare_fault, spares_at}
+pub use Rattle.fb_geometry.specs.Faults.{FitsLayout, Judges, cylinder_spares_at, fault_at, first_apart, has_no_data, is_bad_zone}
+pub use Rattle.fb_geometry.specs.Faults.{is_full_cylinder, is_full_track, is_outside, is_place_before, is_too_skewed, is_track_before, least}
+pub use Rattle.fb_geometry.specs.Faults.{lesser, or_else, repeated, spare_fault, spares_at}
 unfoldable pub use Rattle.fb_geometry.specs.Faults.{first_fault}
 pub use Rattle.fb_geometry.specs.Kept.{Answers, HasZones, IsFaultless, IsGoodOf, AreOwnMarks, Finds, defect_fault, grown_fault}
 pub use Rattle.fb_geometry.specs.Marks.{AreInOrder, AreMarksOf, AreSorted, among_unmarked, is_mark_before, mark_of, marks_on, positions}
@@ -45,7 +45,8 @@ unfoldable pub use Rattle.fb_geometry.specs.Places.{places}
 pub use Rattle.fb_geometry.specs.Shape.{Shape, cylinders_of, is_among, offset_at, offset_in, same_place, slots_at, zone_tells}
 pub use Rattle.fb_geometry.specs.Slips.{HoldsNone, HoldsSector, IsAscending, Pairwise, entry_of_sector, indexes, rank, slipped}
 pub use Rattle.fb_geometry.specs.Sound.{HasOwnPlaces, IsCylinderOf, IsSound, LiesOn, cylinder_size_by}
-pub use Rattle.fb_geometry.specs.Turns.{AreZoneNumbers, IsZone, IsZoneAt, IsZoneOf, NumberZones, NumbersZone, cylinder_slots, position_in, slot_at}
+pub use Rattle.fb_geometry.specs.Turns.{AreZoneNumbers, IsZone, IsZoneAt, IsZoneOf, NumberZones, NumbersZone, cylinder_slots}
+pub use Rattle.fb_geometry.specs.Turns.{position_in, slot_at}
 pub use Rattle.fb_geometry.specs.declared.fault.GeometryFault.TheVariants.{GrownOutside, DefectTwice, GrownTwice, OutOfRange}
 pub use Rattle.fb_geometry.specs.declared.fault.GeometryFault.TheVariants.{TooManyDefects, TooManyInCylinder}
 pub use Rattle.fb_geometry.specs.declared.layout.Layout.TheVariants.{PerCylinder, PerTrack}

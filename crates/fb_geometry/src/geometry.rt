@@ -49,7 +49,7 @@ impl Geometry {
         requires fits { FitsLayout outline.layout outline }
         ensures { Judges outline result }
     {
-        outline.find_fault(alloc)?;
+        outline.judge(alloc)?;
         let defects = outline.marks(alloc, outline.defects.as_slice())?;
         let grown = outline.marks(alloc, outline.grown.as_slice())?;
         let grown = among_unmarked(alloc, &defects, &grown)?;

@@ -62,8 +62,8 @@ impl Model for Outline {
 }
 
 impl Outline {
-    // The first fault, if there is one.
-    pub(crate) fn find_fault(&self, alloc: Global) -> Result<(), GeometryError>
+    // Refuses an outline that has a fault, by its first one.
+    pub(crate) fn judge(&self, alloc: Global) -> Result<(), GeometryError>
         ensures { Finds (first_fault self.now) result }
     {
         if let Some(fault) = self.zone_fault() {
@@ -71,13 +71,13 @@ impl Outline {
         }
         let defects = self.judged_defects(alloc)?;
         match self.layout {
-            Layout::PerTrack => self.find_full_track(&defects),
-            Layout::PerCylinder => self.find_full_cylinder(alloc),
+            Layout::PerTrack => self.judge_track_spares(&defects),
+            Layout::PerCylinder => self.judge_cylinder_spares(alloc),
         }
     }
 
-    // The first fault of the spares at the end of each track.
-    fn find_full_track(&self, defects: &[Place]) -> Result<(), GeometryError>
+    // Refuses defects that are more than the spares of their track.
+    fn judge_track_spares(&self, defects: &[Place]) -> Result<(), GeometryError>
         requires layout { self.now.layout ≡ PerTrack }
         requires zones { HasZones self.now }
         requires defects { AreJudged (defect_fault self.now) self.now.defects defects.now }
@@ -89,8 +89,8 @@ impl Outline {
         }
     }
 
-    // The first fault of the grown defects and of the spares at the end of each cylinder.
-    fn find_full_cylinder(&self, alloc: Global) -> Result<(), GeometryError>
+    // Refuses grown defects with a fault, and bad slots that are more than the spares of their cylinder.
+    fn judge_cylinder_spares(&self, alloc: Global) -> Result<(), GeometryError>
         requires layout { self.now.layout ≡ PerCylinder }
         requires zones { HasZones self.now }
         requires defects { defect_fault self.now ≡ None }

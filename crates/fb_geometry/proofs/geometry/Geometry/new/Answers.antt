@@ -5,7 +5,7 @@ use Rattle.fb_geometry.proofs.geometry.Geometry.new.Goals as goal
 
 pub marks-requires : goal.marks-requires
 marks-requires c =
-    let good = faultless c.args.outline c.in_ok-find_fault.ensures in
+    let good = faultless c.args.outline c.in_ok-judge.ensures in
     rw (c.as_slice.ensures.value, ap (λ disk. disk.defects) c.outline.view_is) (record {
       zones = good.zones_hold;
       inside = good.defects_inside;
@@ -14,18 +14,18 @@ marks-requires c =
 
 pub marks-requires-2 : goal.marks-requires-2
 marks-requires-2 c =
-    let good = faultless c.args.outline c.in_ok-find_fault.ensures in
+    let good = faultless c.args.outline c.in_ok-judge.ensures in
     let once = grown_once c.args.outline.layout c.args.outline c.requires.fits good.spares in
     rw (c.as_slice-2.ensures.value, ap (λ disk. disk.grown) c.outline.view_is)
     (record { zones = good.zones_hold; inside = once.0; once = once.1 })
 
 pub zone_numbers-requires : goal.zone_numbers-requires
-zone_numbers-requires c = (faultless c.args.outline c.in_ok-find_fault.ensures).zones_hold
+zone_numbers-requires c = (faultless c.args.outline c.in_ok-judge.ensures).zones_hold
 
 pub of-requires-2 : goal.of-requires-2
 of-requires-2 c =
     let disk = c.args.outline in
-    let good = faultless disk c.in_ok-find_fault.ensures in
+    let good = faultless disk c.in_ok-judge.ensures in
     let are : AreMarksOf disk disk.defects c.in_ok-defects.defects.items =
     rw (c.as_slice.ensures.value, ap (λ disk. disk.defects) c.outline.view_is) at c.in_ok-defects.ensures in
     let those : AreMarksOf disk disk.grown c.in_ok-grown.grown.items =
@@ -36,7 +36,7 @@ of-requires-2 c =
 pub invariant_of-result : goal.invariant_of-result
 invariant_of-result c =
     let disk = c.args.outline in
-    let good = faultless disk c.in_ok-find_fault.ensures in
+    let good = faultless disk c.in_ok-judge.ensures in
     let are : AreMarksOf disk disk.defects c.in_ok-defects.defects.items =
     rw (c.as_slice.ensures.value, ap (λ disk. disk.defects) c.outline.view_is) at c.in_ok-defects.ensures in
     let those : AreMarksOf disk disk.grown c.in_ok-grown.grown.items =
@@ -51,4 +51,4 @@ invariant_of-result c =
     })
 
 pub returns : goal.returns
-returns c = (refl, c.in_ok-find_fault.ensures)
+returns c = (refl, c.in_ok-judge.ensures)

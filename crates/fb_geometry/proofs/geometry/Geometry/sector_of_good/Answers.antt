@@ -5,8 +5,12 @@ use Rattle.fb_geometry.proofs.geometry.Geometry.sector_of_good.Goals as goal
 pub overflow_sub-sector : goal.overflow_sub-sector
 overflow_sub-sector c =
     let before = rw (c.defects_on-defects.ensures.marks c.args.zone c.requires.zone) at c.unmarked_before.ensures in
-    omega (arith, before, before_good c.args.self.now c.args.zone c.args.place.track.cylinder c.requires.zone c.args.place refl
-    c.requires.head c.requires.slot c.requires.good c.args.good c.requires.index)
+    omega (
+      arith,
+      before,
+      before_good c.args.self.now c.args.zone c.args.place.track.cylinder c.requires.zone c.args.place refl
+          c.requires.head c.requires.slot c.requires.good c.args.good c.requires.index,
+    )
 
 pub returns-then-sector-sectors : goal.returns-then-sector-sectors
 returns-then-sector-sectors c =

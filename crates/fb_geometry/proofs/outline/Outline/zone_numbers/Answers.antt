@@ -4,9 +4,9 @@ use Rattle.fb_geometry.proofs.outline.Outline.zone_numbers.Goals as goal
 
 pub zone_number-requires : goal.zone_number-requires
 zone_number-requires c = rw (c.as_slice-zones.ensures.value, ap (λ disk. disk.zones) c.self.view_is) (record {
-    rise = zones_rise c.args.self.now c.requires;
-    on_disk = omega (arith, c.cylinders-cylinders.ensures.value);
-  })
+  rise = zones_rise c.args.self.now c.requires;
+  on_disk = omega (arith, c.cylinders-cylinders.ensures.value);
+})
 
 pub loop-cylinder-preserved : goal.loop-cylinder-preserved
 loop-cylinder-preserved c =

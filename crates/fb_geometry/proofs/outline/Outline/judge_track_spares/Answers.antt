@@ -1,13 +1,13 @@
 use Rattle.fb_geometry.proofs.Words.{sym, ◌∙◌}
 use Rattle.fb_geometry.proofs.Judging.{track_spares, defects_inside}
-use Rattle.fb_geometry.proofs.outline.Outline.find_full_track.Goals as goal
+use Rattle.fb_geometry.proofs.outline.Outline.judge_track_spares.Goals as goal
 
 pub first_on_full_track-requires : goal.first_on_full_track-requires
 first_on_full_track-requires c = let judged = c.requires.defects in record {
-    zones = c.requires.zones;
-    sorted = judged.are;
-    inside = defects_inside c.args.self.now c.args.defects.now judged.faultless judged.are;
-  }
+  zones = c.requires.zones;
+  sorted = judged.are;
+  inside = defects_inside c.args.self.now c.args.defects.now judged.faultless judged.are;
+}
 
 pub returns-in-Some : goal.returns-in-Some
 returns-in-Some c = rw (sym c.first_on_full_track.ensures ∙ c.in-Some.is) at

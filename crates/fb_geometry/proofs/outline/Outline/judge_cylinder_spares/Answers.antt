@@ -1,13 +1,13 @@
 use Rattle.fb_geometry.proofs.Words.{sym, ◌∙◌}
 use Rattle.fb_geometry.proofs.Judging.{cylinder_spares, bad_inside}
-use Rattle.fb_geometry.proofs.outline.Outline.find_full_cylinder.Goals as goal
+use Rattle.fb_geometry.proofs.outline.Outline.judge_cylinder_spares.Goals as goal
 
 pub first_on_full_cylinder-requires : goal.first_on_full_cylinder-requires
 first_on_full_cylinder-requires c = let judged = c.in_ok-bad.ensures.sorted in rw c.deref.ensures.value (record {
-    zones = c.requires.zones;
-    sorted = judged.are;
-    inside = bad_inside c.args.self.now c.in_ok-bad.bad.items c.requires.defects judged.faultless judged.are;
-  })
+  zones = c.requires.zones;
+  sorted = judged.are;
+  inside = bad_inside c.args.self.now c.in_ok-bad.bad.items c.requires.defects judged.faultless judged.are;
+})
 
 pub returns-in-Some : goal.returns-in-Some
 returns-in-Some c = let judged = c.in_ok-bad.ensures.sorted in

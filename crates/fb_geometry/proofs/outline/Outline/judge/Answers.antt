@@ -1,6 +1,6 @@
 use Rattle.fb_geometry.proofs.Words.{err_from_is_err_and, sym, ◌∙◌}
 use Rattle.fb_geometry.proofs.{Judging.refused, Judging.fault_of_zones, Judging.fault_of_spares, Judging.has_zones}
-use Rattle.fb_geometry.proofs.outline.Outline.find_fault.Goals as goal
+use Rattle.fb_geometry.proofs.outline.Outline.judge.Goals as goal
 
 pub returns-in-Some : goal.returns-in-Some
 returns-in-Some c = fault_of_zones c.args.self.now c.in-Some.fault (sym c.zone_fault.ensures ∙ c.in-Some.is)
@@ -16,8 +16,8 @@ returns-in_err-defects c =
 
 pub returns-in-PerTrack : goal.returns-in-PerTrack
 returns-in-PerTrack c = rw (fault_of_spares c.args.self.now (sym c.zone_fault.ensures ∙ c.in_default.is)
-    c.in_ok-defects.ensures.sorted.faultless) c.find_full_track.ensures
+    c.in_ok-defects.ensures.sorted.faultless) c.judge_track_spares.ensures
 
 pub returns : goal.returns
 returns c = rw (fault_of_spares c.args.self.now (sym c.zone_fault.ensures ∙ c.in_default.is)
-    c.in_ok-defects.ensures.sorted.faultless) c.find_full_cylinder.ensures
+    c.in_ok-defects.ensures.sorted.faultless) c.judge_cylinder_spares.ensures
