@@ -12,7 +12,7 @@ use Rattle.fb_geometry.proofs.Words.{is_bad_zone, is_too_skewed, le-leb, least, 
 use Rattle.fb_geometry.proofs.Words.{ltb-false, ltb-true, nat_le, nat_lt, nat_tests, none-some, offset_at, offset_in, or_else, or_parts}
 use Rattle.fb_geometry.proofs.Words.{position, position_or_len, recursion_from_All, refl, same_Some, slice_get, slice_get-get_or}
 use Rattle.fb_geometry.proofs.Words.{slice_index_or, slots_at, spares_at, subst, suc, sym, true, zero, zone_at, zone_tells, ℕ, ◌+◌, ◌<◌}
-use Rattle.fb_geometry.proofs.Words.{◌^◌, ◌∙◌, ◌∷◌, ◌≡◌, ◌≤◌, ◌++◌, NumbersZone, NumberZones, length-append}
+use Rattle.fb_geometry.proofs.Words.{◌^◌, ◌∙◌, ◌∷◌, ◌≡◌, ◌≤◌, ◌++◌, IsZoneNumber, AreFirstZoneNumbers, length-append}
 
 -- ---- chains
 
@@ -242,9 +242,9 @@ last_cylinder (zone ∷ other ∷ zones) (suc n) d h = last_cylinder (other ∷ 
 
 -- ---- a search by numbers
 
--- the number of one cylinder more
-pub numbers_next : (zones : List Zone) (numbers : List ℕ) (cylinder number : ℕ) → NumberZones zones numbers cylinder
-    → NumbersZone zones cylinder number → NumberZones zones (numbers ++ number ∷ []) (cylinder + 1)
+-- with the number of the next cylinder's zone, these are the numbers of one cylinder more
+pub numbers_next : (zones : List Zone) (numbers : List ℕ) (cylinder number : ℕ) → AreFirstZoneNumbers zones numbers cylinder
+    → IsZoneNumber zones cylinder number → AreFirstZoneNumbers zones (numbers ++ number ∷ []) (cylinder + 1)
 numbers_next zones numbers cylinder number (long, each) last = (
   length-append numbers (number ∷ []) ∙ ap (λ n. n + 1) long,
   λ k d inside. elim (cases_lt k (length numbers)) [

@@ -76,8 +76,9 @@ pub fault_of_defects : (disk : Shape) (fault : GeometryFault) → zone_fault dis
     → first_fault disk ≡ Some fault
 fault_of_defects disk fault e f = first_fault-is disk ∙ rw (e, f) refl
 
-pub fault_of_spares : (disk : Shape) → zone_fault disk ≡ None → defect_fault disk ≡ None → first_fault disk ≡ spare_fault disk.layout disk
-fault_of_spares disk e f = first_fault-is disk ∙ rw (e, f) refl
+pub fault_of_spares : (disk : Shape) (layout : Layout) → disk.layout ≡ layout → zone_fault disk ≡ None → defect_fault disk ≡ None
+    → first_fault disk ≡ spare_fault layout disk
+fault_of_spares disk layout l e f = first_fault-is disk ∙ rw (e, f, l) refl
 
 pub refused : (disk : Shape) (error : ReadError GeometryFault) → zone_fault disk ≡ None → Answers (defect_fault disk) error
     → Answers (first_fault disk) error
@@ -107,26 +108,25 @@ faultless disk h =
     }
 
 -- the fault of the spares, by the first place in order whose track or cylinder has too few
-pub track_spares : (disk : Shape) (sorted : List Place) → disk.layout ≡ PerTrack → AreSorted disk.defects sorted
-    → spare_fault disk.layout disk ≡ fault_at TooManyDefects (option_map (λ place. place.track)
+pub track_spares : (disk : Shape) (sorted : List Place) → AreSorted disk.defects sorted
+    → spare_fault PerTrack disk ≡ fault_at TooManyDefects (option_map (λ place. place.track)
     (find (λ place. is_full_track disk place.track) sorted))
-track_spares disk sorted layout are =
-    rw layout (ap (fault_at TooManyDefects) (least_full is_track_before track_order (λ place. place.track)
-    (λ a b h. grind (arith, nat_tests)) (is_full_track disk) disk.defects sorted are))
+track_spares disk sorted are = ap (fault_at TooManyDefects) (least_full is_track_before track_order (λ place. place.track)
+    (λ a b h. grind (arith, nat_tests)) (is_full_track disk) disk.defects sorted are)
 
-pub cylinder_spares : (disk : Shape) (sorted : List Place) → disk.layout ≡ PerCylinder → grown_fault disk ≡ None
+pub cylinder_spares : (disk : Shape) (sorted : List Place) → grown_fault disk ≡ None
     → AreSorted (disk.defects ++ disk.grown) sorted
-    → spare_fault disk.layout disk ≡ fault_at TooManyInCylinder (option_map (λ place. place.track.cylinder)
+    → spare_fault PerCylinder disk ≡ fault_at TooManyInCylinder (option_map (λ place. place.track.cylinder)
     (find (λ place. is_full_cylinder disk place.track.cylinder) sorted))
-cylinder_spares disk sorted layout h are =
+cylinder_spares disk sorted h are =
     let outside = fault_at GrownOutside (find (is_outside disk) disk.grown) in
     let twice = fault_at GrownTwice (least is_place_before (repeated disk.grown ++ filter (is_among disk.defects) disk.grown)) in
     let parts = or_else-none outside twice h in
-    rw (layout, parts.0, parts.1) (ap (fault_at TooManyInCylinder)
+    rw (parts.0, parts.1) (ap (fault_at TooManyInCylinder)
     (least_full nat_lt number_order (λ place. place.track.cylinder) (λ a b h. grind (arith, nat_tests)) (is_full_cylinder disk)
     (disk.defects ++ disk.grown) sorted are))
 
--- the grown defects are on the disk, and each bad place is listed once
+-- the grown defects are on the disk, each is listed once, and none of them is a defect too
 pub grown_once : (layout : Layout) (disk : Shape) → FitsLayout layout disk → spare_fault layout disk ≡ None
     → (find (is_outside disk) disk.grown ≡ None) × (repeated disk.grown ≡ []) × (filter (is_among disk.defects) disk.grown ≡ [])
 grown_once PerTrack disk fits h = rw fits.0 (refl, refl, refl)

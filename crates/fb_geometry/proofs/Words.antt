@@ -1,5 +1,5 @@
 -- The names that the proofs cite, of this crate's words and of the crates below: each proof takes them from here.
-pub use Rattle.std.proofs.Common.{Bool, Err, List, None, Ok, Option, Result, Some, [], ap, arith, cond, drop, false, get_or, inl, inr}
+pub use Rattle.std.proofs.Common.{Bool, List, None, Option, Some, [], ap, arith, cond, drop, false, get_or, inl, inr}
 pub use Rattle.std.proofs.Common.{length, map, max, not, refl, rules, subst, suc, sym, take, tests, true, zero, ℕ, ◌%◌, ◌*◌, ◌++◌, ◌+◌}
 pub use Rattle.std.proofs.Common.{◌-◌, ◌/◌, ◌<◌, ◌^◌, ◌∙◌, ◌∷◌, ◌≡◌, ◌≢◌, ◌≤◌, ◌⊎◌}
 pub use Rattle.std.proofs.Math.Nat.{add-mod_left, mod-add-mod, mod-eq_of_lt, mod-lt}
@@ -34,18 +34,18 @@ pub use Rattle.fb_geometry.specs.{Stretches.IsStretch, Stretches.KeepsOrder, Tur
 pub use Rattle.fb_geometry.specs.declared.{cylinder.Cylinder.Cylinder, fault.GeometryFault.GeometryFault, layout.Layout.Layout}
 pub use Rattle.fb_geometry.specs.declared.{marks.Mark.Mark, zone.Zone.Zone}
 pub use Rattle.fb_geometry.specs.Even.{HasNoBad, IsEven, even_place, sectors_by}
-pub use Rattle.fb_geometry.specs.Faults.{FitsLayout, Judges, cylinder_spares_at, fault_at, first_apart, has_no_data, is_bad_zone}
+pub use Rattle.fb_geometry.specs.Faults.{FitsLayout, cylinder_spares_at, fault_at, first_apart, has_no_data, is_bad_zone}
 pub use Rattle.fb_geometry.specs.Faults.{is_full_cylinder, is_full_track, is_outside, is_place_before, is_too_skewed, is_track_before, least}
 pub use Rattle.fb_geometry.specs.Faults.{lesser, or_else, repeated, spare_fault, spares_at}
 unfoldable pub use Rattle.fb_geometry.specs.Faults.{first_fault}
-pub use Rattle.fb_geometry.specs.Kept.{Answers, HasZones, IsFaultless, IsGoodOf, AreOwnMarks, Finds, defect_fault, grown_fault}
+pub use Rattle.fb_geometry.specs.Kept.{Answers, HasZones, IsFaultless, IsGoodOf, AreOwnMarks, defect_fault, grown_fault}
 pub use Rattle.fb_geometry.specs.Marks.{AreInOrder, AreMarksOf, AreSorted, among_unmarked, is_mark_before, mark_of, marks_on, positions}
 pub use Rattle.fb_geometry.specs.Places.{by_head, data_list, data_list_at, data_list_by, good_track, list_among, replaced, stand_in, turn}
 unfoldable pub use Rattle.fb_geometry.specs.Places.{places}
 pub use Rattle.fb_geometry.specs.Shape.{Shape, cylinders_of, is_among, offset_at, offset_in, same_place, slots_at, zone_tells}
 pub use Rattle.fb_geometry.specs.Slips.{HoldsNone, HoldsSector, IsAscending, Pairwise, entry_of_sector, indexes, rank, slipped}
 pub use Rattle.fb_geometry.specs.Sound.{HasOwnPlaces, IsCylinderOf, IsSound, LiesOn, cylinder_size_by}
-pub use Rattle.fb_geometry.specs.Turns.{AreZoneNumbers, IsZone, IsZoneAt, IsZoneOf, NumberZones, NumbersZone, cylinder_slots}
+pub use Rattle.fb_geometry.specs.Turns.{AreZoneNumbers, IsZone, IsZoneAt, IsZoneOf, AreFirstZoneNumbers, IsZoneNumber, cylinder_slots}
 pub use Rattle.fb_geometry.specs.Turns.{position_in, slot_at}
 pub use Rattle.fb_geometry.specs.declared.fault.GeometryFault.TheVariants.{GrownOutside, DefectTwice, GrownTwice, OutOfRange}
 pub use Rattle.fb_geometry.specs.declared.fault.GeometryFault.TheVariants.{TooManyDefects, TooManyInCylinder}

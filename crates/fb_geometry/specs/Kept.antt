@@ -1,4 +1,4 @@
--- What holds of a geometry in memory: its outline has no fault, and its marks of bad slots agree with it.
+-- The parts of a judgement, and what holds of a geometry in memory: no fault, and marks that agree with its outline.
 use Rattle.std.specs.Prelude.{◌≡◌, ℕ, List, [], ◌++◌, Option, Some, None, Result, Ok, Err, false, find, filter, position, ◌-◌, ◌*◌, ◌<◌}
 use Rattle.std.specs.Prelude.{slice_get}
 use Rattle.fb_units.specs.declared.types.Place.{Place}
@@ -39,6 +39,11 @@ abbrev pub Answers : Option GeometryFault → ReadError GeometryFault → Type 0
 Answers fault (Fault first) = fault ≡ Some first
 Answers fault NoMemory = Unit {0}
 
+-- the result refuses for this fault, or accepts if there is none; or it is out of memory
+abbrev pub RefusesFor : Option GeometryFault → Result (Unit {0}) (ReadError GeometryFault) → Type 0
+RefusesFor fault (Ok _) = fault ≡ None
+RefusesFor fault (Err error) = Answers fault error
+
 -- the numbers and the zones have no fault
 pub record HasZones (disk : Shape) : Type 0 where
   pub in_range : is_out_of_range disk ≡ false
@@ -71,11 +76,6 @@ pub record IsKept (disk : Shape) (numbers : List ℕ) (defects grown : List Mark
   pub sound : IsSound disk
   pub own_marks : AreOwnMarks disk defects grown
   pub fits : disk.layout ≡ PerTrack → disk.grown ≡ []
-
--- there is no fault, or the error is this one, or out of memory
-abbrev pub Finds : Option GeometryFault → Result (Unit {0}) (ReadError GeometryFault) → Type 0
-Finds fault (Ok _) = fault ≡ None
-Finds fault (Err error) = Answers fault error
 
 -- a number is the index of the slot of a cylinder's sector among the slots that are no defects
 pub record IsGoodOf (disk : Shape) (zone : Zone) (cylinder j good : ℕ) : Type 0 where

@@ -22,17 +22,17 @@ abbrev pub zone_at : List Zone → ℕ → Option Zone
 zone_at zones cylinder = find (λ zone. nat_le cylinder zone.last) zones
 
 -- the number is the index of the cylinder's zone
-abbrev pub NumbersZone : List Zone → ℕ → ℕ → Type 0
-NumbersZone zones cylinder number = (number < length zones) × (zone_at zones cylinder ≡ slice_get zones number)
+abbrev pub IsZoneNumber : List Zone → ℕ → ℕ → Type 0
+IsZoneNumber zones cylinder number = (number < length zones) × (zone_at zones cylinder ≡ slice_get zones number)
 
--- these are the indexes of the zones of the first cylinders, in the order of cylinders
-abbrev pub NumberZones : List Zone → List ℕ → ℕ → Type 0
-NumberZones zones numbers cylinders = (length numbers ≡ cylinders)
-    × ((cylinder d : ℕ) → cylinder < length numbers → NumbersZone zones cylinder (slice_index_or numbers cylinder d))
+-- these are the indexes of the zones of so many first cylinders, in the order of cylinders
+abbrev pub AreFirstZoneNumbers : List Zone → List ℕ → ℕ → Type 0
+AreFirstZoneNumbers zones numbers cylinders = (length numbers ≡ cylinders)
+    × ((cylinder d : ℕ) → cylinder < length numbers → IsZoneNumber zones cylinder (slice_index_or numbers cylinder d))
 
--- and these of the zones of all cylinders
+-- these are the indexes of the zones of all cylinders, in the order of cylinders
 abbrev pub AreZoneNumbers : List Zone → List ℕ → Type 0
-AreZoneNumbers zones numbers = NumberZones zones numbers (cylinders_of zones)
+AreZoneNumbers zones numbers = AreFirstZoneNumbers zones numbers (cylinders_of zones)
 
 -- the zone is that of the cylinder, with its numbers in their ranges
 pub record IsZoneOf (disk : Shape) (cylinder : ℕ) (zone : Zone) : Type 0 where

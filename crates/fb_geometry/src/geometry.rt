@@ -1,5 +1,5 @@
 // The geometry of a disk.
-ghost use Rattle.std.specs.Prelude.{◌≡◌, ℕ, ◌+◌, ◌-◌, ◌*◌, ◌/◌, ◌<◌, ◌≤◌, ◌^◌, [], ◌∷◌, length, slice_get, Some, None, MatchOption, false};
+ghost use Rattle.std.specs.Prelude.{◌≡◌, ℕ, ◌+◌, ◌-◌, ◌*◌, ◌/◌, ◌<◌, ◌≤◌, ◌^◌, ◌∷◌, length, slice_get, Some, MatchOption, false};
 ghost use Rattle.fb_geometry.specs.Shape.{Shape, slots_at, cylinders_of, offset_at, is_among};
 ghost use Rattle.fb_geometry.specs.Angles.{slot_begin, CoverRotation};
 ghost use Rattle.fb_geometry.specs.Places.{data_list, data_list_at, by_head, good_track};
@@ -9,7 +9,6 @@ ghost use Rattle.fb_geometry.specs.Turns.{IsZoneAt, cylinder_slots};
 ghost use Rattle.fb_geometry.specs.Slips.{IsAscending, indexes};
 ghost use Rattle.fb_geometry.specs.Kept.{IsGoodOf, good_before};
 ghost use Rattle.fb_geometry.specs.Marks.{positions};
-ghost use Rattle.fb_geometry.specs.declared.layout.Layout.TheVariants.{PerTrack, PerCylinder};
 ghost use Rattle.fb_geometry.specs.declared.zone.Zone.{Zone};
 
 use crate::marks::{

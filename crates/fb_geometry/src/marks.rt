@@ -1,5 +1,5 @@
 // Marked positions of cylinders: bad slots, counted head by head in the order of the tracks' turns.
-ghost use Rattle.std.specs.Prelude.{◌≡◌, ℕ, true, false, ◌+◌, ◌<◌, ◌≤◌, ◌^◌, ◌==◌, [], ◌-◌, IfNone, IfSome, IfOk, length, map};
+ghost use Rattle.std.specs.Prelude.{◌≡◌, ℕ, true, false, ◌+◌, ◌<◌, ◌≤◌, ◌^◌, ◌==◌, ◌-◌, IfNone, IfSome, IfOk, length, map};
 ghost use Rattle.std.specs.List.{list_any};
 ghost use Rattle.fb_geometry.specs.Slips.{IsAscending, rank, slipped, entry_of_sector, HoldsNone, HoldsSector};
 ghost use Rattle.fb_geometry.specs.Marks.{AreInOrder, positions, marks_on, among_unmarked};

@@ -9,7 +9,7 @@ ghost use Rattle.fb_geometry.specs.Faults.{first_fault, spare_fault};
 ghost use Rattle.fb_geometry.specs.Turns.{IsZoneOf, AreZoneNumbers, zone_at};
 ghost use Rattle.fb_geometry.specs.Slips.{Pairwise};
 ghost use Rattle.fb_geometry.specs.Marks.{mark_of, AreMarksOf, AreSorted};
-ghost use Rattle.fb_geometry.specs.Kept.{HasZones, zone_fault, defect_fault, grown_fault, Answers, AreJudged, Finds};
+ghost use Rattle.fb_geometry.specs.Kept.{HasZones, zone_fault, defect_fault, grown_fault, Answers, AreJudged, RefusesFor};
 ghost use Rattle.fb_geometry.specs.declared.layout.Layout.TheVariants.{PerTrack, PerCylinder};
 
 use crate::marks::Mark;
@@ -62,9 +62,9 @@ impl Model for Outline {
 }
 
 impl Outline {
-    // Refuses an outline that has a fault, by its first one.
+    // Refuses an outline that has a fault, and names the first; or returns NoMemory.
     pub(crate) fn judge(&self, alloc: Global) -> Result<(), GeometryError>
-        ensures { Finds (first_fault self.now) result }
+        ensures { RefusesFor (first_fault self.now) result }
     {
         if let Some(fault) = self.zone_fault() {
             return Err(GeometryError::Fault(fault));
@@ -76,12 +76,11 @@ impl Outline {
         }
     }
 
-    // Refuses defects that are more than the spares of their track.
+    // Refuses an outline with more defects than spares on a track.
     fn judge_track_spares(&self, defects: &[Place]) -> Result<(), GeometryError>
-        requires layout { self.now.layout ≡ PerTrack }
         requires zones { HasZones self.now }
         requires defects { AreJudged (defect_fault self.now) self.now.defects defects.now }
-        ensures { Finds (spare_fault self.now.layout self.now) result }
+        ensures { RefusesFor (spare_fault PerTrack self.now) result }
     {
         match self.first_on_full_track(defects) {
             Some(place) => Err(GeometryError::Fault(GeometryFault::TooManyDefects(place.track))),
@@ -89,12 +88,12 @@ impl Outline {
         }
     }
 
-    // Refuses grown defects with a fault, and bad slots that are more than the spares of their cylinder.
+    // Refuses an outline whose grown defects have a fault, or with more bad slots than spares on a
+    // cylinder.
     fn judge_cylinder_spares(&self, alloc: Global) -> Result<(), GeometryError>
-        requires layout { self.now.layout ≡ PerCylinder }
         requires zones { HasZones self.now }
         requires defects { defect_fault self.now ≡ None }
-        ensures { Finds (spare_fault self.now.layout self.now) result }
+        ensures { RefusesFor (spare_fault PerCylinder self.now) result }
     {
         let bad = self.judged_grown(alloc)?;
         match self.first_on_full_cylinder(&bad) {

@@ -7,17 +7,14 @@ use Rattle.std.proofs.lemmas.List.{length-append}
 use Rattle.std.proofs.lemmas.List.Sums.{sum_by-cons}
 use Rattle.fb_units.specs.declared.types.Place.{Place}
 use Rattle.fb_units.proofs.Waits.{wait_least}
-use Rattle.fb_geometry.specs.declared.layout.Layout.{Layout}
-use Rattle.fb_geometry.specs.declared.layout.Layout.TheVariants.{PerTrack, PerCylinder}
 use Rattle.fb_geometry.specs.declared.zone.Zone.{Zone}
 use Rattle.fb_geometry.specs.Shape.{Shape, slots_at, cylinders_of}
 use Rattle.fb_geometry.specs.Angles.{slot_begin}
 use Rattle.fb_geometry.specs.Places.{places, zone_places, data_list}
-use Rattle.fb_geometry.specs.Faults.{FitsLayout, spare_fault}
 use Rattle.fb_geometry.specs.Sound.{IsSound, HasOwnPlaces, LiesOn, cylinder_size}
-use Rattle.fb_geometry.specs.Kept.{IsFaultless, zone_fault, defect_fault}
-use Rattle.fb_geometry.proofs.Faultless.{or_else-none, zone_by_bounds, slots_at-zone}
-use Rattle.fb_geometry.proofs.Judging.{first_fault-is, has_zones, faultless}
+use Rattle.fb_geometry.specs.Kept.{IsFaultless}
+use Rattle.fb_geometry.proofs.Faultless.{zone_by_bounds, slots_at-zone}
+use Rattle.fb_geometry.proofs.Judging.{faultless, fits_per_track}
 use Rattle.fb_geometry.proofs.Once.{sound, own_places}
 use Rattle.fb_sectormap.specs.LookUp.{place_at}
 use Rattle.fb_sectormap.proofs.Parts.{length-same}
@@ -26,20 +23,13 @@ use Rattle.fb_service.specs.Passing.{begin_angle, begin_from}
 use Rattle.fb_model.specs.Laws.{IsFirstAt, IsDisk, zone_size}
 
 is_faultless : (disk : Shape) → IsDisk disk → IsFaultless disk
-is_faultless disk h =
-    let zones_or_rest = or_else-none (zone_fault disk) _ (sym (first_fault-is disk) ∙ h.faultless) in
-    let rest = or_else-none (defect_fault disk) (spare_fault disk.layout disk) zones_or_rest.1 in
-    faultless disk (has_zones disk zones_or_rest.0) rest.0 rest.1
+is_faultless disk h = faultless disk h.faultless
 
 pub is_sound : (disk : Shape) → IsDisk disk → IsSound disk
 is_sound disk h = sound disk (is_faultless disk h)
 
-none_grown : (layout : Layout) (disk : Shape) → FitsLayout layout disk → layout ≡ PerTrack → disk.grown ≡ []
-none_grown PerTrack disk h e = h.0
-none_grown PerCylinder disk h e = cc
-
 pub are_own : (disk : Shape) → IsDisk disk → HasOwnPlaces disk
-are_own disk h = own_places disk (is_faultless disk h) (none_grown disk.layout disk h.fits)
+are_own disk h = own_places disk (is_faultless disk h) (fits_per_track disk.layout disk h.fits)
 
 -- ---- how many places there are
 

@@ -1,4 +1,4 @@
-use Rattle.fb_geometry.proofs.Words.{err_from_is_err_and, sym, ◌∙◌}
+use Rattle.fb_geometry.proofs.Words.{PerCylinder, PerTrack, ap, err_from_is_err_and, sym, ◌∙◌}
 use Rattle.fb_geometry.proofs.{Judging.refused, Judging.fault_of_zones, Judging.fault_of_spares, Judging.has_zones}
 use Rattle.fb_geometry.proofs.outline.Outline.judge.Goals as goal
 
@@ -15,9 +15,13 @@ returns-in_err-defects c =
     c.in_err-defects.ensures.fault)
 
 pub returns-in-PerTrack : goal.returns-in-PerTrack
-returns-in-PerTrack c = rw (fault_of_spares c.args.self.now (sym c.zone_fault.ensures ∙ c.in_default.is)
+returns-in-PerTrack c =
+    let layout = sym (ap (λ disk. disk.layout) c.self.view_is) ∙ c.in-PerTrack.is in
+    rw (fault_of_spares c.args.self.now PerTrack layout (sym c.zone_fault.ensures ∙ c.in_default.is)
     c.in_ok-defects.ensures.sorted.faultless) c.judge_track_spares.ensures
 
 pub returns : goal.returns
-returns c = rw (fault_of_spares c.args.self.now (sym c.zone_fault.ensures ∙ c.in_default.is)
+returns c =
+    let layout = sym (ap (λ disk. disk.layout) c.self.view_is) ∙ c.in-PerCylinder.is in
+    rw (fault_of_spares c.args.self.now PerCylinder layout (sym c.zone_fault.ensures ∙ c.in_default.is)
     c.in_ok-defects.ensures.sorted.faultless) c.judge_cylinder_spares.ensures

@@ -12,9 +12,9 @@ first_on_full_cylinder-requires c = let judged = c.in_ok-bad.ensures.sorted in r
 pub returns-in-Some : goal.returns-in-Some
 returns-in-Some c = let judged = c.in_ok-bad.ensures.sorted in
     rw (sym (rw c.deref.ensures.value at c.first_on_full_cylinder.ensures) ∙ c.in-Some.is) at
-    (cylinder_spares c.args.self.now c.in_ok-bad.bad.items c.requires.layout judged.faultless judged.are)
+    (cylinder_spares c.args.self.now c.in_ok-bad.bad.items judged.faultless judged.are)
 
 pub returns : goal.returns
 returns c = let judged = c.in_ok-bad.ensures.sorted in
     rw (sym (rw c.deref.ensures.value at c.first_on_full_cylinder.ensures) ∙ c.in-None.is) at
-    (cylinder_spares c.args.self.now c.in_ok-bad.bad.items c.requires.layout judged.faultless judged.are)
+    (cylinder_spares c.args.self.now c.in_ok-bad.bad.items judged.faultless judged.are)

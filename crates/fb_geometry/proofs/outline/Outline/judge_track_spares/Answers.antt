@@ -11,8 +11,8 @@ first_on_full_track-requires c = let judged = c.requires.defects in record {
 
 pub returns-in-Some : goal.returns-in-Some
 returns-in-Some c = rw (sym c.first_on_full_track.ensures ∙ c.in-Some.is) at
-    (track_spares c.args.self.now c.args.defects.now c.requires.layout c.requires.defects.are)
+    (track_spares c.args.self.now c.args.defects.now c.requires.defects.are)
 
 pub returns-in-None : goal.returns-in-None
 returns-in-None c = rw (sym c.first_on_full_track.ensures ∙ c.in-None.is) at
-    (track_spares c.args.self.now c.args.defects.now c.requires.layout c.requires.defects.are)
+    (track_spares c.args.self.now c.args.defects.now c.requires.defects.are)
