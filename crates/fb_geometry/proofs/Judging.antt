@@ -11,11 +11,11 @@ use Rattle.fb_geometry.proofs.{Leasts.track_order, Leasts.number_order, Clashes.
 
 -- ---- what holds where there is no fault
 
-pub good_defects : (disk : Shape) → defect_fault disk ≡ None → (find (is_outside disk) disk.defects ≡ None) × (repeated disk.defects ≡ [])
+good_defects : (disk : Shape) → defect_fault disk ≡ None → (find (is_outside disk) disk.defects ≡ None) × (repeated disk.defects ≡ [])
 good_defects disk h = let parts = or_else-none _ _ h in
     (fault_at-none _ _ parts.0, least-none is_place_before _ (fault_at-none _ _ parts.1))
 
-pub good_grown : (disk : Shape) → grown_fault disk ≡ None → (find (is_outside disk) disk.grown ≡ None) × (repeated disk.grown ≡ [])
+good_grown : (disk : Shape) → grown_fault disk ≡ None → (find (is_outside disk) disk.grown ≡ None) × (repeated disk.grown ≡ [])
     × (filter (is_among disk.defects) disk.grown ≡ [])
 good_grown disk h =
     let parts = or_else-none _ _ h in
@@ -64,7 +64,7 @@ or_else-assoc None b c = refl
 or_else-assoc (Some fault) b c = refl
 
 -- the first fault is that of the zones, or of the defects, or of the spares
-pub first_fault-is : (disk : Shape)
+first_fault-is : (disk : Shape)
     → first_fault disk ≡ or_else (zone_fault disk) (or_else (defect_fault disk) (spare_fault disk.layout disk))
 unfolding first_fault
 first_fault-is disk = simp or_else-assoc
@@ -72,7 +72,7 @@ first_fault-is disk = simp or_else-assoc
 pub fault_of_zones : (disk : Shape) (fault : GeometryFault) → zone_fault disk ≡ Some fault → first_fault disk ≡ Some fault
 fault_of_zones disk fault e = first_fault-is disk ∙ rw e refl
 
-pub fault_of_defects : (disk : Shape) (fault : GeometryFault) → zone_fault disk ≡ None → defect_fault disk ≡ Some fault
+fault_of_defects : (disk : Shape) (fault : GeometryFault) → zone_fault disk ≡ None → defect_fault disk ≡ Some fault
     → first_fault disk ≡ Some fault
 fault_of_defects disk fault e f = first_fault-is disk ∙ rw (e, f) refl
 

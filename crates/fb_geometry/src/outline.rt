@@ -71,21 +71,22 @@ impl Outline {
         }
         let defects = self.judged_defects(alloc)?;
         match self.layout {
-            Layout::PerTrack => self.judge_track_spares(&defects),
+            Layout::PerTrack => match self.track_spare_fault(&defects) {
+                Some(fault) => Err(GeometryError::Fault(fault)),
+                None => Ok(()),
+            },
             Layout::PerCylinder => self.judge_cylinder_spares(alloc),
         }
     }
 
-    // Refuses an outline with more defects than spares on a track.
-    fn judge_track_spares(&self, defects: &[Place]) -> Result<(), GeometryError>
+    // The first track with more defects than spares.
+    fn track_spare_fault(&self, defects: &[Place]) -> Option<GeometryFault>
         requires zones { HasZones self.now }
         requires defects { AreJudged (defect_fault self.now) self.now.defects defects.now }
-        ensures { RefusesFor (spare_fault PerTrack self.now) result }
+        ensures { result ≡ spare_fault PerTrack self.now }
     {
-        match self.first_on_full_track(defects) {
-            Some(place) => Err(GeometryError::Fault(GeometryFault::TooManyDefects(place.track))),
-            None => Ok(()),
-        }
+        let place = self.first_on_full_track(defects)?;
+        Some(GeometryFault::TooManyDefects(place.track))
     }
 
     // Refuses an outline whose grown defects have a fault, or with more bad slots than spares on a

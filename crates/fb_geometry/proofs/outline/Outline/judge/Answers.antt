@@ -14,11 +14,17 @@ returns-in_err-defects c =
     rw (p.1, p.2) (refused c.args.self.now c.in_err-defects.field-0.0 (sym c.zone_fault.ensures ∙ c.in_default.is)
     c.in_err-defects.ensures.fault)
 
+pub returns-in-Some-track_spare_fault : goal.returns-in-Some-track_spare_fault
+returns-in-Some-track_spare_fault c =
+    let layout = sym (ap (λ disk. disk.layout) c.self.view_is) ∙ c.in-PerTrack.is in
+    fault_of_spares c.args.self.now PerTrack layout (sym c.zone_fault.ensures ∙ c.in_default.is) c.in_ok-defects.ensures.sorted.faultless
+    ∙ (sym c.track_spare_fault.ensures ∙ c.in-Some-track_spare_fault.is)
+
 pub returns-in-PerTrack : goal.returns-in-PerTrack
 returns-in-PerTrack c =
     let layout = sym (ap (λ disk. disk.layout) c.self.view_is) ∙ c.in-PerTrack.is in
-    rw (fault_of_spares c.args.self.now PerTrack layout (sym c.zone_fault.ensures ∙ c.in_default.is)
-    c.in_ok-defects.ensures.sorted.faultless) c.judge_track_spares.ensures
+    fault_of_spares c.args.self.now PerTrack layout (sym c.zone_fault.ensures ∙ c.in_default.is) c.in_ok-defects.ensures.sorted.faultless
+    ∙ (sym c.track_spare_fault.ensures ∙ c.in-None.is)
 
 pub returns : goal.returns
 returns c =
