@@ -4,15 +4,17 @@ use Rattle.std.proofs.lemmas.List.{get_or_append_left}
 pub use Rattle.fb_units.proofs.Lists.{all_get}
 use Rattle.fb_units.proofs.Lists.{all_from_index, all_weaker, element_at, none_of_any}
 use Rattle.fb_geometry.proofs.{Slips.rises}
-use Rattle.fb_geometry.proofs.Words.{AllByRecursion, AreZoneNumbers, Bool, GeometryFault, HasZones, IsCylinderOf, IsFaultless}
-use Rattle.fb_geometry.proofs.Words.{IsNonDecreasingBy, IsPartitionPoint, IsZone, IsZoneAt, IsZoneOf, List, None, Option, Pairwise, Shape}
+use Rattle.fb_geometry.proofs.Words.{AllByRecursion, AreFirstZoneNumbers, AreZoneNumbers, Bool, GeometryFault, HasZones}
+use Rattle.fb_geometry.proofs.Words.{IsCylinderOf, IsFaultless, IsNonDecreasingBy, IsPartitionPoint, IsZone, IsZoneAt}
+use Rattle.fb_geometry.proofs.Words.{IsZoneNumber, IsZoneOf, List, None, Option, Pairwise, Shape}
 use Rattle.fb_geometry.proofs.Words.{Some, Track, Zone, [], ap, arith, cases_Bool, cases_lt, cylinder_spares_at, cylinders_of, data_list}
 use Rattle.fb_geometry.proofs.Words.{fails_before_first, false, fault_at, find, find_at, first_apart, get_or, has_no_data, inl, inr}
-use Rattle.fb_geometry.proofs.Words.{is_bad_zone, is_too_skewed, le-leb, least, leb-true, length, lesser, list_among, lt-leb, lt-ltb}
+use Rattle.fb_geometry.proofs.Words.{is_bad_zone, is_too_skewed, le-leb, least, leb-true, length, length-append, lesser}
+use Rattle.fb_geometry.proofs.Words.{list_among, lt-leb, lt-ltb}
 use Rattle.fb_geometry.proofs.Words.{ltb-false, ltb-true, nat_le, nat_lt, nat_tests, none-some, offset_at, offset_in, or_else, or_parts}
 use Rattle.fb_geometry.proofs.Words.{position, position_or_len, recursion_from_All, refl, same_Some, slice_get, slice_get-get_or}
 use Rattle.fb_geometry.proofs.Words.{slice_index_or, slots_at, spares_at, subst, suc, sym, true, zero, zone_at, zone_tells, ℕ, ◌+◌, ◌<◌}
-use Rattle.fb_geometry.proofs.Words.{◌^◌, ◌∙◌, ◌∷◌, ◌≡◌, ◌≤◌, ◌++◌, IsZoneNumber, AreFirstZoneNumbers, length-append}
+use Rattle.fb_geometry.proofs.Words.{◌^◌, ◌∙◌, ◌∷◌, ◌≡◌, ◌≤◌, ◌++◌}
 
 -- ---- chains
 

@@ -35,8 +35,8 @@ pub use Rattle.fb_geometry.specs.declared.{cylinder.Cylinder.Cylinder, fault.Geo
 pub use Rattle.fb_geometry.specs.declared.{marks.Mark.Mark, zone.Zone.Zone}
 pub use Rattle.fb_geometry.specs.Even.{HasNoBad, IsEven, even_place, sectors_by}
 pub use Rattle.fb_geometry.specs.Faults.{FitsLayout, cylinder_spares_at, fault_at, first_apart, has_no_data, is_bad_zone}
-pub use Rattle.fb_geometry.specs.Faults.{is_full_cylinder, is_full_track, is_outside, is_place_before, is_too_skewed, is_track_before, least}
-pub use Rattle.fb_geometry.specs.Faults.{lesser, or_else, repeated, spare_fault, spares_at}
+pub use Rattle.fb_geometry.specs.Faults.{is_full_cylinder, is_full_track, is_outside, is_place_before, is_too_skewed, is_track_before}
+pub use Rattle.fb_geometry.specs.Faults.{least, lesser, or_else, repeated, spare_fault, spares_at}
 unfoldable pub use Rattle.fb_geometry.specs.Faults.{first_fault}
 pub use Rattle.fb_geometry.specs.Kept.{Answers, HasZones, IsFaultless, IsGoodOf, AreOwnMarks, defect_fault, grown_fault}
 pub use Rattle.fb_geometry.specs.Marks.{AreInOrder, AreMarksOf, AreSorted, among_unmarked, is_mark_before, mark_of, marks_on, positions}
