@@ -263,7 +263,7 @@ module _ (es : List Entry) (offer_indexes : List ℕ) (p : ℕ) (e : Entry) (s :
     own_at : slice_get offers i ≡ Some (offer_of p e.block)
     own_at = let it = h.all p e at was in ap (slice_get offers) (same_Some i it.0 (sym index_is ∙ it.1)) ∙ it.2
 
-    own_within : i < length offers
+    pub own_within : i < length offers
     own_within = slice_get_within offers i (offer_of p e.block) own_at
 
     moved_at : slice_get offers (length offers - 1) ≡ Some moved

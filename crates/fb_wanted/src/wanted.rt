@@ -2,16 +2,18 @@
 // band of cylinders, by chunk and by region of LBNs.
 ghost use Rattle.std.specs.Prelude.{◌≡◌, List, suc, Bool, true, false, ◌+◌, ◌-◌, ◌<◌, ◌≤◌, ℕ, [], ◌∷◌, ◌++◌, ◌*◌, ◌/◌, length, filter, map};
 ghost use Rattle.std.specs.Prelude.{OnOk, OnErr, IfSome, IfNone, Some, slice_get, get_or, ◌==◌, if◌then◌else◌};
+ghost use Rattle.std.specs.BTreeSet.{contains};
 ghost use Rattle.fb_wanted.specs.declared.block.Block.{Block};
 ghost use Rattle.fb_wanted.specs.declared.block.Entry.{Entry};
 ghost use Rattle.fb_wanted.specs.States.{after, shares, entry_after, is_abortable, is_wanted, wanted_unless, on_track, is_block};
 ghost use Rattle.fb_wanted.specs.Numbering.{AreInOrder, blocks_of, registered_count};
 ghost use Rattle.fb_wanted.specs.Counting.{counts_of, sum_of, Fit};
-ghost use Rattle.fb_wanted.specs.Tracks.{wanted_weight};
-ghost use Rattle.fb_wanted.specs.Depth.{depth_at};
+ghost use Rattle.fb_wanted.specs.Tracks.{band_of, wanted_weight};
+ghost use Rattle.fb_wanted.specs.Depth.{depth_at, no_depth};
 ghost use Rattle.fb_wanted.specs.Near.{near_of, SharesNone};
 ghost use Rattle.fb_wanted.specs.LookUp.{indexes_of, is_of_task, lbns, region_of, HasChanged, IsStable, IsWithin, changed_where};
-ghost use Rattle.fb_wanted.specs.LookUp.{with_state, change_nth, track_at, grown, no_blocks, grown_task, IsChanged, IsTaskChanged};
+ghost use Rattle.fb_wanted.specs.LookUp.{with_state, change_nth, track_at, grown, no_blocks, grown_task, pair_cmp};
+ghost use Rattle.fb_wanted.specs.LookUp.{IsChanged, IsTaskChanged};
 ghost use Rattle.fb_units.specs.declared.types.Track.{Track};
 ghost use Rattle.fb_units.specs.Tracks.{same_track};
 
@@ -119,6 +121,29 @@ fn add_to_look_up(
             Err(error)
         }
     }
+}
+
+// Makes room for a block that is to be registered in what is noted of chunks and in the bounds of
+// cylinders and of bands; notes it by its chunk if it `is_new` there. All that was noted is still
+// noted and the bounds stay as they are, also out of memory.
+fn add_room(
+    near: &mut BTreeSet<(u32, u32)>,
+    greatest: &mut Greatest,
+    depths: &mut Vec<Depth>,
+    block: Block,
+    is_new: bool,
+) -> Result<(), NoMemory>
+    ensures near { (k : ℕ × ℕ) → contains pair_cmp near.old k ≡ true → contains pair_cmp near.new k ≡ true }
+    ensures noted { OnOk result (is_new ≡ true → contains pair_cmp near.new (near_of block) ≡ true) }
+    ensures greatest { (c : ℕ) → get_or greatest.new c 0 ≡ get_or greatest.old c 0 }
+    ensures longer { length greatest.old ≤ length greatest.new }
+    ensures cylinder { OnOk result (block.track.cylinder < length greatest.new) }
+    ensures depths { (k : ℕ) → get_or depths.new.items k no_depth ≡ get_or depths.old.items k no_depth }
+    ensures band { OnOk result (band_of block < length depths.new.items) }
+{
+    note(near, chunk_of(block.lbn), block.task, is_new)?;
+    greatest.add_room(block.track.cylinder)?;
+    add_bands(depths, band_of(block), NO_DEPTH)
 }
 
 impl Wanted {
@@ -303,21 +328,23 @@ impl Wanted {
             number: block.number,
         };
         let is_new = self.is_new_near(block);
-        let chunk = chunk_of(block.lbn);
         let index = self.entries.len() as u32;
-        let band = band_of(block);
         self.entries.reserve(1)?;
         self.offer_indexes.reserve(1)?;
-        note(&mut self.near, chunk, block.task, is_new)?;
-        self.greatest.add_room(block.track.cylinder)?;
-        add_bands(&mut self.depths, band, NO_DEPTH)?;
+        add_room(
+            &mut self.near,
+            &mut self.greatest,
+            &mut self.depths,
+            block,
+            is_new,
+        )?;
         note_streak(&mut self.streaks, block.task, streak, begins_streak)?;
         match add_to_look_up(&mut self.tasks, &mut self.tracks, self.alloc, index, entry) {
             Ok(()) => {
-                deepen(&mut self.depths, band, block);
+                deepen(&mut self.depths, band_of(block), block);
                 self.longest = self.longest.max(block.count);
-                self.offer_indexes.push(0)?;
-                self.entries.push(entry)?;
+                self.offer_indexes.push_reserved(0);
+                self.entries.push_reserved(entry);
                 Ok(())
             }
             Err(error) => {

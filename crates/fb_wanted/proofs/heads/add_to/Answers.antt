@@ -1,12 +1,38 @@
-use Rattle.std.proofs.Common.{ap, ◌∙◌, get_or, set}
+use Rattle.std.proofs.Common.{ap, ◌∙◌, get_or, set, arith}
 use Rattle.std.proofs.lemmas.List.{set-get_or}
+use Rattle.std.proofs.lemmas.Result.{IfOk-from_err}
 use Rattle.fb_units.proofs.Lists.{on_err}
-use Rattle.fb_wanted.specs.LookUp.{no_block_on}
+use Rattle.fb_wanted.specs.LookUp.{no_block_on, grown}
+use Rattle.fb_wanted.proofs.Blanks.{one_blank_more, one_longer, one_changed}
 use Rattle.fb_wanted.proofs.heads.add_to.Goals as goal
 
-pub returns-in_err-add-clause-err : goal.returns-in_err-add-clause-err
-returns-in_err-add-clause-err c =
+pub loop-preserved : goal.loop-preserved
+loop-preserved c =
+    let items = c.loop.tracks.items in
+    let new = c.push.new.self.items in
+    let pushed = c.in_ok-push.ensures.items in (
+      one_blank_more c.args.tracks.now.items items new c.new.result no_block_on c.loop.invariant.0 pushed c.new.ensures,
+      omega (arith, one_longer items new c.new.result pushed),
+    )
+
+pub returns-in_err-push : goal.returns-in_err-push
+returns-in_err-push c =
+    let as_before = c.in_err-push.ensures.items in record {
+      ok = IfOk-from_err c.from_residual.result _ c.from_residual.ensures.0;
+      err = on_err c.from_residual.result (rw as_before c.loop.invariant.0);
+    }
+
+pub returns-in_err-add : goal.returns-in_err-add
+returns-in_err-add c =
     let items = c.loop.tracks.items in
     let was = c.index_mut.result.now in
     let same = ap (set items c.args.head) (c.in_err-add.ensures.err ∙ c.index_mut.ensures.value) ∙ set-get_or items c.args.head was in
-    on_err c.from_residual-in_err-add.result (λ h. ap (λ xs. get_or xs h no_block_on) same ∙ c.loop.invariant.0 h)
+    record {
+      ok = IfOk-from_err c.from_residual-in_err-add.result _ c.from_residual-in_err-add.ensures.0;
+      err = on_err c.from_residual-in_err-add.result (λ h. ap (λ xs. get_or xs h no_block_on) same ∙ c.loop.invariant.0 h);
+    }
+
+pub returns-clause-ok : goal.returns-clause-ok
+returns-clause-ok c =
+    one_changed c.args.tracks.now.items c.loop.tracks.items c.args.head c.index_mut.result.now c.add.new.self no_block_on
+    (grown c.args.index) c.loop.invariant.0 (omega arith) c.index_mut.ensures.value c.in_ok-add.ensures.ok

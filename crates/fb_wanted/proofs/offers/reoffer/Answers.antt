@@ -2,20 +2,27 @@ use Rattle.std.proofs.Common.{◌<◌, ◌∙◌, ap, sym, subst, refl, length, 
 use Rattle.std.proofs.lemmas.Option.{slice_get-get_or, slice_get_read}
 use Rattle.fb_wanted.specs.LookUp.{offers_at, with_state, AreOffered}
 use Rattle.fb_wanted.proofs.Numbers.{small_at}
-use Rattle.fb_wanted.proofs.Offering.{moved_there, offered_taken, offered_given, offered_alike, offers-few, offers-room, no_entry}
+use Rattle.fb_wanted.proofs.Offering.{own_within, moved_there, offered_taken, offered_given, offered_alike}
+use Rattle.fb_wanted.proofs.Offering.{offers-few, offers-room, no_entry}
 use Rattle.fb_wanted.proofs.offers.reoffer.Goals as goal
 
-pub take_away-requires-clause-moved : goal.take_away-requires-clause-moved
-take_away-requires-clause-moved c =
+pub take_away-requires : goal.take_away-requires
+take_away-requires c =
     let es = c.args.entries.now in
     let offer_indexes = c.args.offer_indexes.now.items in
     let p = c.args.index in
+    let e = get_or es p no_entry in
     let h = c.requires.offered in
+    let at = slice_get-get_or es p no_entry c.requires.there in
+    let was = sym c.is_wanted.ensures ∙ c.if-is_wanted.true in
     let room : p < length offer_indexes = omega (arith, c.requires.there, h.one_each) in
-    let index = slice_get_read offer_indexes (length offer_indexes) p c.index.result.now refl room c.index.ensures in
-    moved_there es offer_indexes p (get_or es p no_entry) c.args.state
-    (slice_get-get_or es p no_entry c.requires.there) c.args.tracks.now c.index.result.now h (sym c.is_wanted.ensures
-    ∙ c.if-is_wanted.true) index
+    let i = c.index.result.now in
+    let index = slice_get_read offer_indexes (length offer_indexes) p i refl room c.index.ensures in
+    record {
+      there = c.requires.tracks e at;
+      index = own_within es offer_indexes p e c.args.state at c.args.tracks.now i h was index;
+      moved = moved_there es offer_indexes p e c.args.state at c.args.tracks.now i h was index;
+    }
 
 pub give-requires : goal.give-requires
 give-requires c =

@@ -33,9 +33,50 @@ pub deepen-requires-clause-room : goal.deepen-requires-clause-room
 deepen-requires-clause-room c =
     let self = c.self.inside in
     let items = self.entries.items in
-    let kept = deep_still items self.depths.items c.add_bands.new.bands.items c.self.invariant.3 c.in_ok-add_bands.ensures.stay in
+    let kept = deep_still items self.depths.items c.add_room.new.depths.items c.self.invariant.3 c.in_ok-add_room.ensures.depths in
     let room = subst (λ es. length es < 16000000) (sym c.self.view_is) c.requires.room in
-    deep_room items c.add_bands.new.bands.items c.band_of-band.result c.args.block.weight kept room c.requires.light
+    deep_room items c.add_room.new.depths.items c.band_of.result c.args.block.weight kept room c.requires.light
+
+-- out of memory before anything is noted of the block but that it may be near: the entries stay
+pub invariant_of-self : goal.invariant_of-self
+invariant_of-self c = rw c.in_err-reserve.ensures.items c.self.invariant
+
+pub invariant_of-self-in_err-reserve-2 : goal.invariant_of-self-in_err-reserve-2
+invariant_of-self-in_err-reserve-2 c = rw (c.in_ok-reserve.ensures.items, c.in_err-reserve-2.ensures.items) c.self.invariant
+
+pub invariant_of-self-in_err-add_room : goal.invariant_of-self-in_err-add_room
+invariant_of-self-in_err-add_room c =
+    let self = c.self.inside in
+    let items = self.entries.items in
+    let held = c.self.invariant in
+    let stay = c.in_err-add_room.ensures in
+    let new = c.add_room.new in
+    rw (c.in_ok-reserve.ensures.items, c.in_ok-reserve-2.ensures.items) (
+      held.0,
+      held.1,
+      greatest_still self.tracks self.greatest new.greatest held.2 stay.greatest stay.longer,
+      deep_still items self.depths.items new.depths.items held.3 stay.depths,
+      near_still items self.near new.near held.4 stay.near,
+      held.5,
+      held.6,
+    )
+
+pub invariant_of-self-in_err-note_streak : goal.invariant_of-self-in_err-note_streak
+invariant_of-self-in_err-note_streak c =
+    let self = c.self.inside in
+    let items = self.entries.items in
+    let held = c.self.invariant in
+    let stay = c.in_ok-add_room.ensures in
+    let new = c.add_room.new in
+    rw (c.in_ok-reserve.ensures.items, c.in_ok-reserve-2.ensures.items, c.in_err-note_streak.ensures.err) (
+      held.0,
+      held.1,
+      greatest_still self.tracks self.greatest new.greatest held.2 stay.greatest stay.longer,
+      deep_still items self.depths.items new.depths.items held.3 stay.depths,
+      near_still items self.near new.near held.4 stay.near,
+      held.5,
+      held.6,
+    )
 
 pub invariant_of-self-in-Ok : goal.invariant_of-self-in-Ok
 invariant_of-self-in-Ok c =
@@ -45,14 +86,14 @@ invariant_of-self-in-Ok c =
     let entry : Entry = record { block = c.args.block; state = Suspended } in
     let free = c.requires.numbered ∙ ap (λ es. registered_count task (blocks_of es)) (sym c.self.view_is) in
     let room = subst (λ es. length es < 16000000) (sym c.self.view_is) c.requires.room in
-    let list = c.in_ok-push-in-Ok-2.ensures.items ∙ ap (λ l. l ++ entry ∷ []) c.in_ok-reserve.ensures.items in
-    let offer_indexes = c.in_ok-push-in-Ok.ensures.items ∙ ap (λ l. l ++ 0 ∷ []) c.in_ok-reserve-2.ensures.items in
+    let list = c.push_reserved-in-Ok.ensures.items ∙ ap (λ l. l ++ entry ∷ []) c.in_ok-reserve.ensures.items in
+    let offer_indexes = c.push_reserved.ensures.items ∙ ap (λ l. l ++ 0 ∷ []) c.in_ok-reserve-2.ensures.items in
     let index = c.len-index.ensures ∙ self.entries.ok.0 in
     let next = its_number c.args.block items free in
-    let roomy = greatest_still self.tracks self.greatest c.add_room.new.self c.self.invariant.2 c.in_ok-add_room.ensures.stay
+    let roomy = greatest_still self.tracks self.greatest c.add_room.new.greatest c.self.invariant.2 c.in_ok-add_room.ensures.greatest
     c.in_ok-add_room.ensures.longer in (
       kept_pushed entry items self.tasks.items c.add_to_look_up.new.tasks.items self.tracks c.add_to_look_up.new.tracks
-          c.push-in-Ok.new.self.items c.len-index.result list index c.self.invariant.0 free room c.requires.light c.requires.short
+          c.push_reserved-in-Ok.new.self.items c.len-index.result list index c.self.invariant.0 free room c.requires.light c.requires.short
           refl c.in-Ok.ensures.tasks c.in-Ok.ensures.tracks,
       subst (λ l. AreNoted l c.note_streak.new.streaks) (sym list)
           (noted_more items task c.region_of.result c.args.block.number self.streaks c.note_streak.new.streaks
@@ -68,23 +109,23 @@ invariant_of-self-in-Ok c =
           ))
           (λ new i before to at same. c.begins_streak-begins_streak.ensures.new new i before to
           (ap (λ es. slice_get (lbns task es) i) (sym c.self.view_is) ∙ at) (same ∙ c.region_of.ensures))),
-      greatest_same self.tracks c.add_to_look_up.new.tracks c.add_room.new.self roomy
+      greatest_same self.tracks c.add_to_look_up.new.tracks c.add_room.new.greatest roomy
           (changed_weight self.tracks c.add_to_look_up.new.tracks c.args.block.track (grown c.len-index.result) (λ o. refl)
           c.in-Ok.ensures.tracks)
-          (c.in-Ok.ensures.no_longer (length c.add_room.new.self) roomy.there c.in_ok-add_room.ensures.there),
-      deep_pushed items c.push-in-Ok.new.self.items entry c.band_of-band.result c.add_bands.new.bands.items c.deepen.new.depths.items list
-          c.band_of-band.ensures c.requires.light
-          (deep_still items self.depths.items c.add_bands.new.bands.items c.self.invariant.3 c.in_ok-add_bands.ensures.stay)
+          (c.in-Ok.ensures.no_longer (length c.add_room.new.greatest) roomy.there c.in_ok-add_room.ensures.cylinder),
+      deep_pushed items c.push_reserved-in-Ok.new.self.items entry c.band_of.result c.add_room.new.depths.items
+          c.deepen.new.depths.items list c.band_of.ensures c.requires.light
+          (deep_still items self.depths.items c.add_room.new.depths.items c.self.invariant.3 c.in_ok-add_room.ensures.depths)
           c.deepen.ensures,
-      near_pushed items c.push-in-Ok.new.self.items entry self.near c.note.new.notes c.chunk_of-chunk.result c.is_new_near-is_new.result
-          list c.self.invariant.4 c.in_ok-note.ensures.stay c.chunk_of-chunk.ensures
-          c.in_ok-note.ensures.noted (subst (λ es. c.is_new_near-is_new.result ≡ false
+      near_pushed items c.push_reserved-in-Ok.new.self.items entry self.near c.add_room.new.near c.is_new_near-is_new.result
+          list c.self.invariant.4 c.in_ok-add_room.ensures.near
+          c.in_ok-add_room.ensures.noted (subst (λ es. c.is_new_near-is_new.result ≡ false
           → (i : ℕ) × (before : Block) × (slice_get (blocks_of es) i ≡ Some before) × (near_of before ≡ near_of c.args.block))
           (sym c.self.view_is) c.is_new_near-is_new.ensures),
       subst (AreShort c.max-self-inside.result) (sym list)
           (short_more items entry self.longest c.max-self-inside.result c.self.invariant.5 (omega (arith, c.max-self-inside.ensures))
           (omega (arith, c.max-self-inside.ensures))),
-      subst (λ l. AreOffered l (offers_at c.add_to_look_up.new.tracks) c.push.new.self.items) (sym list)
+      subst (λ l. AreOffered l (offers_at c.add_to_look_up.new.tracks) c.push_reserved.new.self.items) (sym list)
           (subst (λ l. AreOffered (items ++ entry ∷ []) (offers_at c.add_to_look_up.new.tracks) l) (sym offer_indexes)
           (offered_pushed items (offers_at c.add_to_look_up.new.tracks) self.offer_indexes.items entry 0
           (offered_still items (offers_at self.tracks) (offers_at c.add_to_look_up.new.tracks) self.offer_indexes.items c.self.invariant.6
@@ -102,7 +143,7 @@ invariant_of-self-in-Err c =
     let stay = c.in-Err.ensures in
     let free = c.requires.numbered ∙ ap (λ es. registered_count c.args.block.task (blocks_of es)) (sym c.self.view_is) in
     let next = its_number c.args.block items free in
-    let roomy = greatest_still self.tracks self.greatest c.add_room.new.self c.self.invariant.2 c.in_ok-add_room.ensures.stay
+    let roomy = greatest_still self.tracks self.greatest c.add_room.new.greatest c.self.invariant.2 c.in_ok-add_room.ensures.greatest
     c.in_ok-add_room.ensures.longer in (
       subst (λ es. IsKept es c.add_to_look_up.new.tasks.items c.add_to_look_up.new.tracks) list (record {
         in_order = old.in_order;
@@ -118,12 +159,12 @@ invariant_of-self-in-Err c =
           (noted_back items c.args.block.task c.region_of.result c.args.block.number self.streaks c.note_streak.new.streaks
           c.begins_streak-begins_streak.result c.self.invariant.1 next c.in_ok-note_streak.ensures.stay c.in_ok-note_streak.ensures.more
           c.forget_streak.new.streaks c.forget_streak.ensures.gone c.forget_streak.ensures.only c.forget_streak.ensures.others),
-      greatest_same self.tracks c.add_to_look_up.new.tracks c.add_room.new.self roomy (λ t. ap (λ o. o.weight) (stay.tracks_stay t))
-          (stay.no_longer (length c.add_room.new.self) roomy.there c.in_ok-add_room.ensures.there),
-      subst (λ es. AreDeep es c.add_bands.new.bands.items) list
-          (deep_still items self.depths.items c.add_bands.new.bands.items c.self.invariant.3 c.in_ok-add_bands.ensures.stay),
-      subst (λ es. AreNear es c.note.new.notes) list
-          (near_still items self.near c.note.new.notes c.self.invariant.4 c.in_ok-note.ensures.stay),
+      greatest_same self.tracks c.add_to_look_up.new.tracks c.add_room.new.greatest roomy (λ t. ap (λ o. o.weight) (stay.tracks_stay t))
+          (stay.no_longer (length c.add_room.new.greatest) roomy.there c.in_ok-add_room.ensures.cylinder),
+      subst (λ es. AreDeep es c.add_room.new.depths.items) list
+          (deep_still items self.depths.items c.add_room.new.depths.items c.self.invariant.3 c.in_ok-add_room.ensures.depths),
+      subst (λ es. AreNear es c.add_room.new.near) list
+          (near_still items self.near c.add_room.new.near c.self.invariant.4 c.in_ok-add_room.ensures.near),
       subst (AreShort self.longest) list c.self.invariant.5,
       subst (λ es. AreOffered es (offers_at c.add_to_look_up.new.tracks) c.reserve-2.new.self.items) list
           (subst (λ l. AreOffered items (offers_at c.add_to_look_up.new.tracks) l) (sym c.in_ok-reserve-2.ensures.items)
