@@ -384,7 +384,6 @@ impl Sessions {
     }
 
     // Lets each touched session choose, in order of opening: no other would choose anything.
-    #[tactic(auto, using(crate::proofs::Listed::listed_set, crate::proofs::Listed::listed_within))]
     fn choose_all(
         &mut self,
         map: &SectorMap,

@@ -1,9 +1,10 @@
-use Rattle.std.proofs.Common.{◌≡◌, ◌+◌, ◌≤◌, ◌++◌, refl, ap, sym, ◌∙◌, arith, append_assoc}
+use Rattle.std.proofs.Common.{◌≡◌, ◌+◌, ◌≤◌, [], ◌++◌, refl, ap, sym, ◌∙◌, subst, arith, append_assoc, append-nil}
+use Rattle.std.specs.List.{AllByRecursion}
 use Rattle.std.proofs.lemmas.Bool.{true≢false, eqb-true}
-use Rattle.fb_units.proofs.Tracks.{same_tracks}
+use Rattle.fb_units.proofs.{Tracks.same_tracks, Lists.all_push}
 use Rattle.fb_geometry.specs.Shape.{Shape}
-use Rattle.fb_service.specs.Extents.{passages_of, all_passages_of}
-use Rattle.fb_service.proofs.Joining.{joined-passages, joined-unbroken}
+use Rattle.fb_service.specs.Extents.{passages_of, all_passages_of, IsUnbroken}
+use Rattle.fb_service.proofs.{Joining.joined-passages, Joining.joined-unbroken, Serving.all_served}
 use Rattle.fb_service.proofs.service.add_extent.Goals as goal
 use Rattle.fb_service.proofs.service.add_extent.Goals.{then-eq, else-eq}
 
@@ -38,3 +39,12 @@ returns-then-next-last c =
       forward = omega (arith, c.requires.takes_time, c.requires.after);
       end = refl;
     }
+
+pub returns-in_ok-push-clause-passages : goal.returns-in_ok-push-clause-passages
+returns-in_ok-push-clause-passages c = ap (λ ps. ps ++ passages_of c.args.disk.now.map c.args.next)
+    (all_served c.args.disk.now.map c.args.extents.now.items c.push.new.self.items c.args.last.now [] _ c.in_ok-push.ensures.ok refl
+    (append-nil _))
+
+pub returns-in_ok-push-clause-extents : goal.returns-in_ok-push-clause-extents
+returns-in_ok-push-clause-extents c = subst (AllByRecursion (IsUnbroken c.args.disk.now.map)) (sym c.in_ok-push.ensures.ok)
+    (all_push (IsUnbroken c.args.disk.now.map) c.args.extents.now.items c.args.last.now c.requires.extents c.requires.unbroken)

@@ -71,3 +71,27 @@ returns-in_err-choose-clause-stay_sessions c =
     let there = listed_there inv.kept c.in-Some.task c.index_mut.result.now c.in-Some.ensures.found c.index_mut.ensures.value in
     touched_set c.args.self.now c.loop-task.self-inside.sessions.items c.in-Some.task c.index_mut.result.now c.choose.new.self there
     ((rw c.deref.ensures.value at c.in-Some.ensures.touched) c.index_mut.result.now there) c.choose.ensures.same.0 inv.stay
+
+pub index_mut-requires : goal.index_mut-requires
+index_mut-requires c =
+    let kept = c.loop-task.invariant.kept in
+    omega (arith, listed_within kept c.in-Some.task c.in-Some.ensures.found, c.loop-task.self-inside.sessions.ok.0)
+
+pub overflow_add-from : goal.overflow_add-from
+overflow_add-from c =
+    let kept = c.loop-task.invariant.kept in omega (arith, listed_within kept c.in-Some.task c.in-Some.ensures.found, kept.room)
+
+pub loop-task-smaller : goal.loop-task-smaller
+loop-task-smaller c = omega (
+  arith,
+  listed_within c.loop-task.invariant.kept c.in-Some.task c.in-Some.ensures.found,
+  c.in-Some.ensures.from,
+  length-set c.loop-task.self-inside.sessions.items c.in-Some.task c.choose.new.self,
+)
+
+pub returns-in_err-choose-clause-stay_rows : goal.returns-in_err-choose-clause-stay_rows
+returns-in_err-choose-clause-stay_rows c = grown_more c.args.rows.now c.loop-task.rows c.choose.new.rows c.loop-task.invariant.grown
+    c.choose.ensures.grown
+
+pub invariant_of-self : goal.invariant_of-self
+invariant_of-self c = listed_set c.loop-task.invariant.kept c.in-Some.task c.choose.new.self c.in-Some.ensures.found
