@@ -301,7 +301,6 @@ impl Sessions {
     }
 
     // Aborts what is left of the task, and drops the segments that it has not chosen.
-    #[tactic(auto, using(crate::proofs::Listed::listed_more, crate::proofs::Listed::listed_noted))]
     fn close(&mut self, map: &SectorMap, wanted: &mut Wanted, task: u32) -> Result<(), NoMemory>
         requires { task < length self.old }
         ensures ok { OnOk result ((past : Past) (call : Call) → IsCall task Close call → Tells map.now past self.old wanted.old
@@ -318,7 +317,6 @@ impl Sessions {
     }
 
     // Adds a segment to a task's log.
-    #[tactic(auto, using(crate::proofs::Listed::listed_more, crate::proofs::Listed::listed_noted))]
     fn add_segment(
         &mut self,
         task: u32,
@@ -343,7 +341,6 @@ impl Sessions {
     }
 
     // Something was done to a task that may change what it chooses or what its test gives.
-    #[tactic(auto, using(crate::proofs::Listed::listed_more, crate::proofs::Listed::listed_noted))]
     fn touch(&mut self, task: u32) -> Result<(), NoMemory>
         requires { task < length self.old }
         ensures ok { OnOk result ((session : Session) → slice_get self.old task ≡ Some session
@@ -410,7 +407,6 @@ impl Sessions {
     }
 
     // Tests each touched session, in order of opening: no other would give a row.
-    #[tactic(auto, using(crate::proofs::Listed::listed_set, crate::proofs::Leaving::grown_more, crate::proofs::Listed::listed_within))]
     fn test_all(&mut self, wanted: &Wanted, now: Ns, rows: &mut BackRows) -> Result<(), NoMemory>
         requires { (disk : Shape) × (past : Past) × HaveChosen disk past self.old wanted.now }
         ensures tested { OnOk result ((disk : Shape) (past : Past) → HaveChosen disk past self.old wanted.now

@@ -1,4 +1,6 @@
-use Rattle.fb_tasks.proofs.Words.{Some, ap, sym, ◌∙◌, arith, slice_get-get_or}
+use Rattle.std.proofs.lemmas.List.{set-get_or}
+use Rattle.fb_tasks.proofs.Words.{Some, length, set, ap, sym, ◌∙◌, arith, slice_get-get_or, on_err}
+use Rattle.fb_tasks.proofs.Listed.{listed_more, listed_noted}
 use Rattle.fb_tasks.proofs.Additions.{may_add, added-tells}
 use Rattle.fb_tasks.proofs.sessions.Sessions.add_segment.Goals as goal
 
@@ -16,3 +18,24 @@ returns-clause-ok c = λ disk past call held is h. rw c.self.view_is
     (added-tells disk past call c.args.task c.args.first
     c.args.blocks c.args.age c.args.live.now c.args.self.now c.index_mut-cleaner.result.now c.add.new.self held is c.requires.opened
     (rw c.self.view_is at c.index_mut-cleaner.ensures.value) c.in_ok-add.ensures.ok h)
+
+pub index_mut-cleaner-requires : goal.index_mut-cleaner-requires
+index_mut-cleaner-requires c = omega (arith, c.requires.opened, ap length c.self.view_is, c.self.inside.sessions.ok.0)
+
+pub invariant_of-self : goal.invariant_of-self
+invariant_of-self c = listed_more c.self.invariant (rw c.self.view_is c.requires.opened) c.note_touch.ensures.stay
+
+pub invariant_of-self-in_err-add : goal.invariant_of-self-in_err-add
+invariant_of-self-in_err-add c = listed_noted c.self.invariant (rw c.self.view_is c.requires.opened) c.note_touch.ensures.stay
+    c.in_ok-note_touch.ensures.noted c.in_ok-note_touch.ensures.checked_noted _
+
+pub invariant_of-self-2 : goal.invariant_of-self-2
+invariant_of-self-2 c = listed_noted c.self.invariant (rw c.self.view_is c.requires.opened) c.note_touch.ensures.stay
+    c.in_ok-note_touch.ensures.noted c.in_ok-note_touch.ensures.checked_noted _
+
+pub returns-in_err-add-clause-err : goal.returns-in_err-add-clause-err
+returns-in_err-add-clause-err c =
+    let items = c.self.inside.sessions.items in
+    let session = c.index_mut-cleaner.result.now in
+    on_err c.from_residual-in_err-add.result (ap (λ log. set items c.args.task (record session { log = log })) c.in_err-add.ensures.err
+    ∙ (ap (set items c.args.task) c.index_mut-cleaner.ensures.value ∙ (set-get_or items c.args.task session ∙ c.self.view_is)))

@@ -1,7 +1,7 @@
 use Rattle.fb_tasks.proofs.Words.{◌<◌, false, length, ap, sym, ◌∙◌, subst, arith, refl, contains, nat_cmp, length-set, HaveChosen}
 use Rattle.fb_tasks.proofs.Words.{OnlyTouched}
 use Rattle.fb_tasks.proofs.Leaving.{grown_not, grown_more, touched_none, touched_set}
-use Rattle.fb_tasks.proofs.Listed.{listed_less, listed_there, listed_within}
+use Rattle.fb_tasks.proofs.Listed.{listed_less, listed_set, listed_there, listed_within}
 use Rattle.fb_tasks.proofs.Tested.{none_tested, chosen_at, one_tested, tested-to, all-tested}
 use Rattle.fb_tasks.proofs.sessions.Sessions.test_all.Goals as goal
 
@@ -69,3 +69,27 @@ returns-in_err-test-clause-stay_sessions c =
     let there = listed_there inv.kept c.in-Some.task session c.in-Some.ensures.found c.index_mut-session.ensures.value in
     touched_set c.args.self.now c.loop-task.self-inside.sessions.items c.in-Some.task session c.test.new.self there
     ((rw c.deref.ensures.value at c.in-Some.ensures.touched) session there) c.test.ensures.same inv.stay
+
+pub index_mut-session-requires : goal.index_mut-session-requires
+index_mut-session-requires c =
+    let kept = c.loop-task.invariant.kept in
+    omega (arith, listed_within kept c.in-Some.task c.in-Some.ensures.found, c.loop-task.self-inside.sessions.ok.0)
+
+pub overflow_add-from : goal.overflow_add-from
+overflow_add-from c =
+    let kept = c.loop-task.invariant.kept in omega (arith, listed_within kept c.in-Some.task c.in-Some.ensures.found, kept.room)
+
+pub loop-task-smaller : goal.loop-task-smaller
+loop-task-smaller c = omega (
+  arith,
+  listed_within c.loop-task.invariant.kept c.in-Some.task c.in-Some.ensures.found,
+  c.in-Some.ensures.from,
+  length-set c.loop-task.self-inside.sessions.items c.in-Some.task (record c.test.new.self { touched = false }),
+)
+
+pub returns-in_err-test-clause-stay_rows : goal.returns-in_err-test-clause-stay_rows
+returns-in_err-test-clause-stay_rows c = grown_more c.args.rows.now c.loop-task.rows c.test.new.rows c.loop-task.invariant.grown
+    c.test.ensures.grown
+
+pub invariant_of-self : goal.invariant_of-self
+invariant_of-self c = listed_set c.loop-task.invariant.kept c.in-Some.task c.test.new.self c.in-Some.ensures.found

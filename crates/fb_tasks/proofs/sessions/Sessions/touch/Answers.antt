@@ -1,4 +1,6 @@
 use Rattle.fb_tasks.proofs.Words.{◌<◌, Some, length, ap, sym, ◌∙◌, subst, true, set, slice_get, slice_get-get_or, Session, some_same}
+use Rattle.fb_tasks.proofs.Words.{arith}
+use Rattle.fb_tasks.proofs.Listed.{listed_more, listed_noted}
 use Rattle.fb_tasks.proofs.sessions.Sessions.touch.Goals as goal
 
 pub returns-clause-ok : goal.returns-clause-ok
@@ -10,3 +12,13 @@ returns-clause-ok c = λ session at.
     let same = some_same c.index_mut.result.now session (sym there ∙ (ap (λ xs. slice_get xs c.args.task) c.self.view_is ∙ at)) in
     ap (λ (s : Session). set c.self.inside.sessions.items c.args.task (record s { touched = true })) same
     ∙ ap (λ xs. set xs c.args.task (record session { touched = true })) c.self.view_is
+
+pub index_mut-requires : goal.index_mut-requires
+index_mut-requires c = omega (arith, c.requires, ap length c.self.view_is, c.self.inside.sessions.ok.0)
+
+pub invariant_of-self : goal.invariant_of-self
+invariant_of-self c = listed_more c.self.invariant (rw c.self.view_is c.requires) c.note_touch.ensures.stay
+
+pub invariant_of-self-2 : goal.invariant_of-self-2
+invariant_of-self-2 c = listed_noted c.self.invariant (rw c.self.view_is c.requires) c.note_touch.ensures.stay
+    c.in_ok-note_touch.ensures.noted c.in_ok-note_touch.ensures.checked_noted _
