@@ -1,7 +1,9 @@
 -- Limits: from each of them on the target gives no more than the part that it belongs to.
 use Rattle.fb_detour.proofs.Words.{List, ap, arith, false, get_or, if◌then◌else◌, inl, inr, length, nat_le, subst, ℕ, ◌*◌, ◌+◌, ◌-◌, ◌/◌}
 use Rattle.fb_detour.proofs.Words.{◌<◌, ◌≡◌, ◌≤◌, div-mul-le_self, mod-lt, cases_lt, cases_order, nat_tests, get_or-set_other}
-use Rattle.fb_detour.proofs.Words.{get_or-set_same, div-add-mod', mul-le, slice_set, Offer, Gap, end_of, Turning, late_gain}
+use Rattle.fb_detour.proofs.Words.{get_or-set_same, div-add-mod', mul-le, slice_set, Offer, Gap, end_of, passes_by, Turning, late_gain}
+use Rattle.fb_detour.proofs.Words.{true, turned_to, ◌∙◌}
+use Rattle.fb_detour.proofs.Offers.{added-worth}
 
 -- the quotient of a number below so many steps is less than that
 pub steps_below : (n step m : ℕ) → n < m * step → n / step < m
@@ -36,13 +38,29 @@ module _ (xs : List ℕ) (i v : ℕ) (within : i < length xs) (more : get_or xs 
         absurd (omega (arith, far, div-mul-le_self (last - begin) step, order, part))
   ]
 
--- what is behind the last instant at which an offer can be caught adds nothing
-pub behind_last : (turning : Turning) (gap : Gap) (offer : Offer) (last from : ℕ)
-    → ((t : ℕ) → gap.now ≤ t → end_of turning.rotation offer.sweep t ≤ gap.deadline → t ≤ last) → gap.now ≤ from → last < from
+-- an offer that doesn't pass whole from an instant on adds nothing
+pub none-late : (turning : Turning) (gap : Gap) (offer : Offer) (from : ℕ) → gap.deadline < end_of turning.rotation offer.sweep from
     → late_gain turning gap from offer ≡ 0
-behind_last turning gap offer last from catches after behind = elim (cases_lt gap.deadline (end_of turning.rotation offer.sweep from)) [
-  | inl late ↦
-      let missed : nat_le (end_of turning.rotation offer.sweep from) gap.deadline ≡ false = grind (arith, nat_tests) in
-      ap (λ b. if b then offer.worth else 0) missed
-  | inr caught ↦ absurd (omega (arith, catches from after caught, behind))
-]
+none-late turning gap offer from late =
+    let missed : nat_le (end_of turning.rotation offer.sweep from) gap.deadline ≡ false = grind (arith, nat_tests) in
+    ap (λ b. if b then offer.worth else 0) missed
+
+module _ (turning : Turning) (gap : Gap) (offer : Offer) (last from : ℕ)
+    (catches : (t : ℕ) → gap.now ≤ t → end_of turning.rotation offer.sweep t ≤ gap.deadline → t ≤ last) (after : gap.now ≤ from) where
+  -- what is behind the last instant at which an offer can be caught adds nothing
+  pub behind_last : last < from → late_gain turning gap from offer ≡ 0
+  behind_last behind = elim (cases_lt gap.deadline (end_of turning.rotation offer.sweep from)) [
+    | inl late ↦ none-late turning gap offer from late
+    | inr caught ↦ absurd (omega (arith, catches from after caught, behind))
+  ]
+
+  -- a part that begins no later than the last instant has its worth; any other has a limit behind that instant
+  pub part_grown : (begin old new : ℕ) → (last < begin → last < from) → new ≡ old + (if nat_le begin last then offer.worth else 0)
+      → old + late_gain turning gap from offer ≤ new
+  part_grown begin old new behind is = elim (cases_lt last begin) [
+    | inl before ↦ omega (arith, is, behind_last (behind before))
+    | inr on ↦
+        let by : nat_le begin last ≡ true = grind (arith, nat_tests) in
+        let grown : new ≡ old + offer.worth = is ∙ ap (λ b. old + (if b then offer.worth else 0)) by in
+        omega (arith, grown, added-worth (passes_by (turned_to turning from) gap.deadline) offer)
+  ]

@@ -1,24 +1,54 @@
-use Rattle.fb_detour.proofs.Words.{ap, arith, get_or, if◌then◌else◌, inl, inr, nat_le, true, ◌*◌, ◌+◌, ◌∙◌, ◌≡◌, ◌≤◌, cases_lt, nat_tests}
-use Rattle.fb_detour.proofs.Words.{passes_by, late_step, turned_to}
-use Rattle.fb_detour.proofs.Limits.{behind_last}
-use Rattle.fb_detour.proofs.Offers.{added-worth}
+use Rattle.fb_detour.proofs.Words.{arith, get_or, nat_le, ◌*◌, ◌+◌, late_step}
+use Rattle.fb_detour.proofs.Ceilings.{if-le-n}
+use Rattle.fb_detour.proofs.Limits.{behind_last, none-late, part_grown}
 use Rattle.fb_detour.proofs.parts.add_late.Goals as goal
+
+pub add_last-requires-clause-step : goal.add_last-requires-clause-step
+add_last-requires-clause-step c = omega (arith, c.requires.gap.early_enough)
+
+pub add_limit-requires-clause-inside : goal.add_limit-requires-clause-inside
+add_limit-requires-clause-inside c = omega (arith, c.in-Some.ensures.within.1)
+
+pub returns-in-Some-clause-most : goal.returns-in-Some-clause-most
+returns-in-Some-clause-most c = λ k less.
+    let gap = c.args.gap.now in
+    let begin = gap.now + k * late_step gap in
+    part_grown c.args.turning.now gap c.args.offer c.in-Some.last begin c.in-Some.ensures.some (omega arith) begin
+    (get_or c.args.parts.now k 0) _ (λ behind. behind) (c.add_last.ensures k less)
+
+pub returns-in-Some-clause-small : goal.returns-in-Some-clause-small
+returns-in-Some-clause-small c = λ k less.
+    let gap = c.args.gap.now in
+    omega (arith, c.add_last.ensures k less, if-le-n (nat_le (gap.now + k * late_step gap) c.in-Some.last) c.args.offer.worth)
 
 pub returns-in-Some-clause-limits : goal.returns-in-Some-clause-limits
 returns-in-Some-clause-limits c = λ k less.
     let gap = c.args.gap.now in
-    let offer = c.args.offer in
-    let turning = c.args.turning.now in
     let limit = get_or c.add_limit.new.limits k 0 in
-    let now : gap.now ≤ limit = omega (arith, c.add_limit.ensures.grow k, c.requires.spread k (omega (arith, less))) in
-    elim (cases_lt c.in-Some.last (gap.now + k * late_step gap)) [
-      | inl before ↦
-          let none = behind_last turning gap offer c.in-Some.last limit c.in-Some.ensures.some now
-          (c.add_limit.ensures.behind k (omega (arith, less)) before) in
-          omega (arith, c.add_last.ensures k less, none)
-      | inr on ↦
-          let by : nat_le (gap.now + k * late_step gap) c.in-Some.last ≡ true = grind (arith, nat_tests) in
-          let grown : get_or c.add_last.new.parts k 0 ≡ get_or c.args.parts.now k 0 + offer.worth = c.add_last.ensures k less
-          ∙ ap (λ b. get_or c.args.parts.now k 0 + (if b then offer.worth else 0)) by in
-          omega (arith, grown, added-worth (passes_by (turned_to turning limit) gap.deadline) offer)
-    ]
+    part_grown c.args.turning.now gap c.args.offer c.in-Some.last limit c.in-Some.ensures.some
+    (omega (arith, c.add_limit.ensures.grow k, c.requires.spread k (omega (arith, less)))) (gap.now + k * late_step gap)
+    (get_or c.args.parts.now k 0) _ (c.add_limit.ensures.behind k (omega (arith, less))) (c.add_last.ensures k less)
+
+pub returns-in-Some-clause-end : goal.returns-in-Some-clause-end
+returns-in-Some-clause-end c =
+    let limit = get_or c.add_limit.new.limits 32 0 in
+    behind_last c.args.turning.now c.args.gap.now c.args.offer c.in-Some.last limit c.in-Some.ensures.some
+    (omega (arith, c.add_limit.ensures.grow 32, c.requires.spread 32 (omega arith)))
+    (c.add_limit.ensures.behind 32 (omega arith) (omega (arith, c.in-Some.ensures.within.1)))
+
+pub returns-in_default-clause-most : goal.returns-in_default-clause-most
+returns-in_default-clause-most c = λ k less.
+    let begin = c.args.gap.now.now + k * late_step c.args.gap.now in
+    omega (arith, none-late c.args.turning.now c.args.gap.now c.args.offer begin (c.in_default.ensures.none begin (omega arith)))
+
+pub returns-in_default-clause-limits : goal.returns-in_default-clause-limits
+returns-in_default-clause-limits c = λ k less.
+    let limit = get_or c.args.limits.now k 0 in
+    omega (arith, none-late c.args.turning.now c.args.gap.now c.args.offer limit
+    (c.in_default.ensures.none limit (omega (arith, c.requires.spread k (omega (arith, less))))))
+
+pub returns-in_default-clause-end : goal.returns-in_default-clause-end
+returns-in_default-clause-end c =
+    let limit = get_or c.args.limits.now 32 0 in
+    none-late c.args.turning.now c.args.gap.now c.args.offer limit
+    (c.in_default.ensures.none limit (omega (arith, c.requires.spread 32 (omega arith))))

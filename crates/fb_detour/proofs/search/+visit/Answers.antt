@@ -1,7 +1,41 @@
-use Rattle.fb_detour.proofs.Words.{arith, ◌≡◌}
-use Rattle.fb_detour.proofs.Found.{itself, through}
+use Rattle.fb_detour.proofs.Words.{arith, inl, inr, ℕ, ◌%◌, ◌*◌, ◌+◌, ◌-◌, ◌<◌, ◌^◌, ◌≡◌, ◌≤◌, mul-le}
+use Rattle.fb_detour.proofs.Found.{itself, not_better, through}
 use Rattle.fb_detour.proofs.Keys.{part-more, parts-no_better, parts-done}
 use Rattle.fb_detour.proofs.search.+visit.Goals as goal
+
+-- where a part of the cylinders ends, even one that begins behind them
+ends-soon : (from end cylinders width part : ℕ) → from < end → end ≤ cylinders → cylinders ≤ 10 ^ 6 → width < end - from
+    → from + (7 - part) * width + width ≤ 9 * 10 ^ 6
+ends-soon from end cylinders width part some within few less = omega (arith, mul-le (7 - part) width 7 width (omega arith) (omega arith))
+
+pub returns-then-end-from-clause-keeps : goal.returns-then-end-from-clause-keeps
+returns-then-end-from-clause-keeps n c = itself c.args.search.now c.args.best.plan
+
+pub returns-then-end-from-clause-tried : goal.returns-then-end-from-clause-tried
+returns-then-end-from-clause-tried n c = λ track low high. absurd (omega (arith, c.if-end-from.true, low, high))
+
+pub returns-then-is_enough-clause-keeps : goal.returns-then-is_enough-clause-keeps
+returns-then-is_enough-clause-keeps n c = itself c.args.search.now c.args.best.plan
+
+pub returns-then-is_enough-clause-tried : goal.returns-then-is_enough-clause-tried
+returns-then-is_enough-clause-tried n c = λ track low high leave is.
+    not_better c.args.search.now c.args.best c.args.most (record { cylinder = c.args.from; head = 0 }) track leave c.requires.best
+    (c.is_enough.ensures c.if-is_enough.true)
+    (λ before. elim before [ inl less ↦ absurd (omega (arith, less, low)) | inr same ↦ absurd (omega (arith, same.1)) ])
+    (c.requires.most track leave low high is)
+
+pub try_cylinder-requires-clause-rate : goal.try_cylinder-requires-clause-rate
+try_cylinder-requires-clause-rate n c = λ track low high. c.requires.rate track low (omega (arith, high, c.if-end-from-eq1.true))
+
+pub returns-then-end-from-eq1-clause-tried : goal.returns-then-end-from-eq1-clause-tried
+returns-then-end-from-eq1-clause-tried n c = λ track low high.
+    c.try_cylinder.ensures.tried track low (omega (arith, high, c.if-end-from-eq1.true))
+
+pub width_of-width-requires-clause-few : goal.width_of-width-requires-clause-few
+width_of-width-requires-clause-few n c = omega (arith, c.requires.within, c.requires.few)
+
+pub keys_of-keys-requires-clause-width : goal.keys_of-keys-requires-clause-width
+keys_of-keys-requires-clause-width n c = omega (arith, c.width_of-width.ensures.less, c.requires.within, c.requires.few)
 
 pub loop-key-init : goal.loop-key-init
 loop-key-init n c = record {
@@ -14,6 +48,24 @@ loop-key-init n c = record {
   ));
   among = c.next_below-key.ensures.its;
 }
+
+pub overflow_mul-begin : goal.overflow_mul-begin
+overflow_mul-begin n c =
+    let part = (c.loop-key.key - 1) % 8 in
+    omega (arith, ends-soon c.args.from c.args.end c.args.search.now.disk.now.mechanism.cylinders c.width_of-width.result part
+    c.if-end-from.false c.requires.within c.requires.few c.width_of-width.ensures.less)
+
+pub overflow_add-begin : goal.overflow_add-begin
+overflow_add-begin n c =
+    let part = (c.loop-key.key - 1) % 8 in
+    omega (arith, ends-soon c.args.from c.args.end c.args.search.now.disk.now.mechanism.cylinders c.width_of-width.result part
+    c.if-end-from.false c.requires.within c.requires.few c.width_of-width.ensures.less)
+
+pub overflow_add-behind : goal.overflow_add-behind
+overflow_add-behind n c =
+    let part = (c.loop-key.key - 1) % 8 in
+    omega (arith, ends-soon c.args.from c.args.end c.args.search.now.disk.now.mechanism.cylinders c.width_of-width.result part
+    c.if-end-from.false c.requires.within c.requires.few c.width_of-width.ensures.less)
 
 pub loop-key-preserved : goal.loop-key-preserved
 loop-key-preserved n c =
