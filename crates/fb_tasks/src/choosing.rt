@@ -18,7 +18,6 @@ use std::alloc::Global;
 
 impl Session {
     /// Chooses segments until one has live blocks or none is left; one without live blocks is finished at once.
-    #[tactic(auto, using(crate::proofs::Leaving::registers_none))]
     pub fn choose(
         &mut self,
         alloc: Global,

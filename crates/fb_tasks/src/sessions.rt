@@ -136,7 +136,6 @@ impl Sessions {
     ///
     /// If memory runs out, all rows and blocks that stood before are unchanged, and so is each session that
     /// was not touched; what was registered are blocks of open clean tasks.
-    #[tactic(auto, using(crate::proofs::Leaving::grown_more, crate::proofs::Leaving::touched_more))]
     pub fn choose_and_test(
         &mut self,
         map: &SectorMap,
@@ -250,7 +249,6 @@ impl Sessions {
     }
 
     // Wants the blocks of a range.
-    #[tactic(auto, using(crate::proofs::Additions::wanted_begun))]
     fn want(
         &mut self,
         map: &SectorMap,

@@ -1,4 +1,4 @@
-use Rattle.fb_tasks.proofs.Words.{◌≡◌, not, refl, ap, sym, ◌∙◌, arith, and_parts, is_clean, choose_up_to, not-true}
+use Rattle.fb_tasks.proofs.Words.{◌≡◌, not, refl, ap, sym, ◌∙◌, arith, and_parts, is_clean, choose_up_to, not-true, true≢false}
 use Rattle.fb_tasks.proofs.Leaving.{grown_not, grown_more, registers_none, registers_more}
 use Rattle.fb_tasks.proofs.AllChoices.{up_to_split, still-chosen, idle-chosen, chosen-on, choices_in}
 use Rattle.fb_tasks.proofs.session.Session.choose.Goals as goal
@@ -65,3 +65,36 @@ pub returns-then-not-branch-clause-own : goal.returns-then-not-branch-clause-own
 returns-then-not-branch-clause-own c =
     registers_more (λ other. other ≡ c.args.stamp.task) c.args.wanted.now c.loop-choice.wanted c.choose_one.new.wanted
     c.loop-choice.invariant.own c.choose_one.ensures.own
+
+pub returns-in_err-choose_one-clause-same : goal.returns-in_err-choose_one-clause-same
+returns-in_err-choose_one-clause-same c =
+    let inv = c.loop-choice.invariant in (c.choose_one.ensures.same.0 ∙ inv.same.0, c.choose_one.ensures.same.1 ∙ inv.same.1)
+
+pub returns-in_err-choose_one-clause-grown : goal.returns-in_err-choose_one-clause-grown
+returns-in_err-choose_one-clause-grown c = grown_more c.args.rows.now c.loop-choice.rows c.choose_one.new.rows
+    c.loop-choice.invariant.grown c.choose_one.ensures.grown
+
+pub returns-in_err-choose_one-clause-idle : goal.returns-in_err-choose_one-clause-idle
+returns-in_err-choose_one-clause-idle c = λ idle.
+    absurd (true≢false (sym (sym c.may_choose.ensures ∙ c.if-not-may_choose.false) ∙ idle))
+
+pub returns-then-not-branch-clause-same : goal.returns-then-not-branch-clause-same
+returns-then-not-branch-clause-same c =
+    let inv = c.loop-choice.invariant in (c.choose_one.ensures.same.0 ∙ inv.same.0, c.choose_one.ensures.same.1 ∙ inv.same.1)
+
+pub returns-then-not-branch-clause-grown : goal.returns-then-not-branch-clause-grown
+returns-then-not-branch-clause-grown c = grown_more c.args.rows.now c.loop-choice.rows c.choose_one.new.rows
+    c.loop-choice.invariant.grown c.choose_one.ensures.grown
+
+pub returns-then-not-branch-clause-idle : goal.returns-then-not-branch-clause-idle
+returns-then-not-branch-clause-idle c = λ idle.
+    absurd (true≢false (sym (sym c.may_choose.ensures ∙ c.if-not-may_choose.false) ∙ idle))
+
+pub returns-clause-idle : goal.returns-clause-idle
+returns-clause-idle c = λ idle. absurd (true≢false (sym (sym c.may_choose.ensures ∙ c.if-not-may_choose.false) ∙ idle))
+
+pub returns-then-not-may_choose-clause-own : goal.returns-then-not-may_choose-clause-own
+returns-then-not-may_choose-clause-own c = registers_none (λ other. other ≡ c.args.stamp.task) c.args.wanted.now
+
+pub returns-then-not-may_choose-clause-grown : goal.returns-then-not-may_choose-clause-grown
+returns-then-not-may_choose-clause-grown c = grown_not c.args.rows.now

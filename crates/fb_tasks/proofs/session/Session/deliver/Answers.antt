@@ -1,5 +1,6 @@
 use Rattle.fb_tasks.proofs.Words.{◌∷◌, ◌∙◌, delivered, on_ok_weaker, on_err_weaker, on_err}
 use Rattle.fb_tasks.proofs.AfterDelivery.{busy-own, has-chosen, has-delivered, begun-findings, begun-segment, begun-ends}
+use Rattle.fb_tasks.proofs.Leaving.{begun_not, begun_same}
 use Rattle.fb_tasks.proofs.session.Session.deliver.Goals as goal
 
 pub take-requires-clause-chosen : goal.take-requires-clause-chosen
@@ -32,3 +33,16 @@ pub returns-in_err-test_segment-clause-err_rows : goal.returns-in_err-test_segme
 returns-in_err-test_segment-clause-err_rows c = on_err c.from_residual-in_err-test_segment.result (λ disk past sessions held t.
     begun-segment t c.in_ok-take.ensures c.args.rows.now (c.deref.ensures.value ∙ c.in_ok-findings.ensures)
     c.in_ok-push.ensures.ok c.in_ok-push_findings.ensures.ok c.in_err-test_segment.ensures.err)
+
+pub take-requires-clause-covers : goal.take-requires-clause-covers
+take-requires-clause-covers c = (c.requires.4.may.content_at, c.requires.4.may.content)
+
+pub returns-in_err-take-clause-err_rows : goal.returns-in_err-take-clause-err_rows
+returns-in_err-take-clause-err_rows c = on_err c.from_residual.result (λ disk past sessions held t. begun_not)
+
+pub returns-in_err-findings-clause-err_rows : goal.returns-in_err-findings-clause-err_rows
+returns-in_err-findings-clause-err_rows c = on_err c.from_residual-in_err-findings.result (λ disk past sessions held t. begun_not)
+
+pub returns-in_err-push-clause-err_rows : goal.returns-in_err-push-clause-err_rows
+returns-in_err-push-clause-err_rows c = on_err c.from_residual-in_err-push.result
+    (λ disk past sessions held t. begun_same c.in_err-push.ensures.err)

@@ -2,6 +2,7 @@ use Rattle.fb_tasks.proofs.Words.{◌++◌, [], ap, ◌∙◌, append_assoc, on_
 use Rattle.fb_tasks.proofs.Words.{segment_rows_found, ends_of}
 use Rattle.fb_tasks.proofs.Words.{with_choices}
 use Rattle.fb_tasks.proofs.{RowsOf.rows-given, RowsOf.nothing-mute, Tested.up_to_date-tested}
+use Rattle.fb_tasks.proofs.Leaving.{grown_more, touched_more}
 use Rattle.fb_tasks.proofs.sessions.Sessions.choose_and_test.Goals as goal
 
 pub test_all-requires : goal.test_all-requires
@@ -28,3 +29,11 @@ returns-clause-rows c = on_ok_weaker c.test_all.result (λ tested past may.
     ∙ (ap (λ rows. rows ++ flat_map (ends_of new c.args.now) (task_numbers new)) chosen.1
     ∙ append_assoc c.args.rows.now (flat_map (segment_rows_found new c.args.now) (task_numbers new))
     (flat_map (ends_of new c.args.now) (task_numbers new)))) c.test_all.ensures.tested
+
+pub returns-clause-stay_sessions : goal.returns-clause-stay_sessions
+returns-clause-stay_sessions c = touched_more c.args.self.now c.choose_all.new.self c.test_all.new.self c.choose_all.ensures.stay_sessions
+    c.test_all.ensures.stay_sessions
+
+pub returns-clause-stay_rows : goal.returns-clause-stay_rows
+returns-clause-stay_rows c = grown_more c.args.rows.now c.choose_all.new.rows c.test_all.new.rows c.choose_all.ensures.stay_rows
+    c.test_all.ensures.stay_rows

@@ -1,5 +1,5 @@
 use Rattle.fb_tasks.proofs.Words.{Some, length, ap, sym, ◌∙◌, arith, slice_get-get_or, on_ok_weaker}
-use Rattle.fb_tasks.proofs.Additions.{may_want, wanted-tells}
+use Rattle.fb_tasks.proofs.Additions.{may_want, wanted-tells, wanted_begun}
 use Rattle.fb_tasks.proofs.sessions.Sessions.want.Goals as goal
 
 pub index-requires : goal.index-requires
@@ -21,3 +21,15 @@ returns-clause-ok c =
     c.args.wanted.now c.want_range.new.wanted
     (omega (arith, c.count-sectors.ensures.value, c.count-sectors.ensures.bound)) is c.requires.opened
     (rw c.self.view_is at c.index.ensures) c.in_ok-want_range.ensures.all flagged h) c.touch.ensures.ok
+
+pub returns-in_err-want_range-clause-blocks : goal.returns-in_err-want_range-clause-blocks
+returns-in_err-want_range-clause-blocks c = λ past call is h. wanted_begun c.args.map.now past call c.args.task c.args.first c.args.count
+    c.args.self.now c.index.result.now c.args.wanted.now c.want_range.new.wanted
+    (omega (arith, c.count-sectors.ensures.value, c.count-sectors.ensures.bound)) is c.requires.opened
+    (rw c.self.view_is at c.index.ensures) h c.want_range.ensures.begun
+
+pub returns-clause-blocks : goal.returns-clause-blocks
+returns-clause-blocks c = λ past call is h. wanted_begun c.args.map.now past call c.args.task c.args.first c.args.count
+    c.args.self.now c.index.result.now c.args.wanted.now c.want_range.new.wanted
+    (omega (arith, c.count-sectors.ensures.value, c.count-sectors.ensures.bound)) is c.requires.opened
+    (rw c.self.view_is at c.index.ensures) h c.want_range.ensures.begun
