@@ -61,10 +61,10 @@ pub room_for_one : (disk : Shape) (past : Past) (sessions : List Session) (held 
 room_for_one disk past sessions held call h = omega (arith, h.few_calls, tasks_few past, h.tells.as_many)
 
 -- a call whose rules want an open session
-pub session_there : (disk : Shape) (past : Past) (sessions : List Session) (held : List Entry) (call : Call)
+pub session_there : {disk : Shape} {past : Past} {sessions : List Session} {held : List Entry} {call : Call}
     → (MayAsk disk (calls_of past) call.task call.action → allowed.IsOpen (calls_of past) call.task) → MayTake disk past sessions held call
     → call.task < length sessions
-session_there disk past sessions held call opens h = omega (arith, (open_there past call.task (opens h.asks)).0, h.tells.as_many)
+session_there {disk} {past} {sessions} {held} {call} opens h = omega (arith, (open_there past call.task (opens h.asks)).0, h.tells.as_many)
 
 -- a call that registers nothing
 pub takes_none : (disk : Shape) (past : Past) (call : Call) (sessions : List Session) (held : List Entry)

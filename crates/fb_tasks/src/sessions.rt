@@ -83,7 +83,6 @@ impl Sessions {
     ///
     /// If memory runs out, all sessions and blocks are as before, except that the first blocks of a want
     /// may be registered.
-    #[tactic(auto, using(crate::proofs::Rules::session_there, crate::proofs::Leaving::begun_not))]
     pub fn apply(
         &mut self,
         map: &SectorMap,

@@ -15,7 +15,6 @@ use fb_units::NoMemory;
 use fb_wanted::{Block, Wanted};
 
 /// Registers the blocks of a range for the session's task.
-#[tactic(auto, using(crate::proofs::Leaving::begun_not, crate::proofs::Leaving::begun_by))]
 pub fn want_range(
     map: &SectorMap,
     wanted: &mut Wanted,

@@ -1,7 +1,7 @@
 use Rattle.fb_tasks.proofs.Words.{◌≡◌, ℕ, ◌+◌, ◌-◌, List, [], ◌∷◌, ◌++◌, length, length-append, refl, ap, sym, subst, ◌∙◌, append-nil}
 use Rattle.fb_tasks.proofs.Words.{arith, Shape, cutting, blocks_of, Entry, numbered, Session, new_entries, HasBegun, wanted_unless}
 use Rattle.fb_tasks.proofs.Complete.{counts_registered, registered_few}
-use Rattle.fb_tasks.proofs.Leaving.{grown_not, grown_more, begun_by, cut_registered, one_counted}
+use Rattle.fb_tasks.proofs.Leaving.{grown_not, grown_more, begun_not, begun_by, cut_registered, one_counted}
 use Rattle.fb_wanted.specs.Numbering.{registered_count}
 use Rattle.fb_tasks.proofs.wanting.want_range.Goals as goal
 
@@ -61,3 +61,18 @@ loop-left-preserved c =
           omega (arith, c.loop-left.invariant.few, ap length is, length-append before (entry ∷ []), ap length c.next_cut-cut.ensures.first);
       grown = grown_more c.args.wanted.now before now c.loop-left.invariant.grown (record { added = entry ∷ []; is = is });
     }
+
+pub returns-then-count-eq0-clause-begun : goal.returns-then-count-eq0-clause-begun
+returns-then-count-eq0-clause-begun c = begun_not
+
+pub returns-clause-begun : goal.returns-clause-begun
+returns-clause-begun c = begun_by _ c.loop-left.invariant.grown c.loop-left.invariant.all
+
+pub next_cut-cut-requires-clause-on_disk : goal.next_cut-cut-requires-clause-on_disk
+next_cut-cut-requires-clause-on_disk c = omega (arith, c.loop-left.invariant.within, c.requires.on_disk)
+
+pub register-requires-clause-numbered : goal.register-requires-clause-numbered
+register-requires-clause-numbered c = rw c.block_of.ensures c.loop-left.invariant.next
+
+pub register-requires-clause-room : goal.register-requires-clause-room
+register-requires-clause-room c = omega (arith, c.loop-left.invariant.few, ap length c.next_cut-cut.ensures.first)

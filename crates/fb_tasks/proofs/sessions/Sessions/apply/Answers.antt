@@ -1,5 +1,6 @@
-use Rattle.fb_tasks.proofs.Words.{ap, refl, on_ok_weaker, on_err_weaker, blocks_by, arith}
-use Rattle.fb_tasks.proofs.{Leaving.begun_same, Changes.promoted-tells, Changes.call-aborts, Rules.room_for_one, Rules.takes_none}
+use Rattle.fb_tasks.proofs.Words.{ap, refl, on_ok_weaker, on_err_weaker, on_err, blocks_by, arith}
+use Rattle.fb_tasks.proofs.{Leaving.begun_not, Leaving.begun_same, Changes.promoted-tells, Changes.call-aborts}
+use Rattle.fb_tasks.proofs.Rules.{room_for_one, session_there, takes_none}
 use Rattle.fb_tasks.proofs.sessions.Sessions.apply.Goals as goal
 
 pub open-requires : goal.open-requires
@@ -65,3 +66,33 @@ returns-in-Segment-clause-ok c = on_ok_weaker c.add_segment.result (λ says past
     c.add_segment.new.self c.args.wanted.now (ap (blocks_by c.args.map.now past c.args.call.now.task) c.in-Segment.is)
     (says c.args.map.now past c.args.call.now c.args.wanted.now (record { task = refl; action = c.in-Segment.is }) h))
     c.add_segment.ensures.ok
+
+pub want-requires-clause-opened : goal.want-requires-clause-opened
+want-requires-clause-opened c = session_there (λ asks. (rw c.in-Want.is at asks).0) c.requires.1
+
+pub want-requires-clause-call : goal.want-requires-clause-call
+want-requires-clause-call c = (c.requires.0, c.args.call.now, record { task = refl; action = c.in-Want.is }, c.requires.1)
+
+pub touch-requires : goal.touch-requires
+touch-requires c = session_there (λ asks. (rw c.in-Abort.is at asks).0) c.requires.1
+
+pub suspend-requires : goal.suspend-requires
+suspend-requires c = session_there (λ asks. rw c.in-Suspend.is at asks) c.requires.1
+
+pub resume-requires : goal.resume-requires
+resume-requires c = session_there (λ asks. rw c.in-Resume.is at asks) c.requires.1
+
+pub close-requires : goal.close-requires
+close-requires c = session_there (λ asks. rw c.in-Close.is at asks) c.requires.1
+
+pub add_segment-requires-clause-opened : goal.add_segment-requires-clause-opened
+add_segment-requires-clause-opened c = session_there (λ asks. (rw c.in-Segment.is at asks).0) c.requires.1
+
+pub returns-in-Open-clause-err_blocks : goal.returns-in-Open-clause-err_blocks
+returns-in-Open-clause-err_blocks c = on_err c.open.result (λ past may. begun_not)
+
+pub returns-in-Segment-clause-err_blocks : goal.returns-in-Segment-clause-err_blocks
+returns-in-Segment-clause-err_blocks c = on_err c.add_segment.result (λ past may. begun_not)
+
+pub returns-in_err-touch-in-Abort-clause-err_blocks : goal.returns-in_err-touch-in-Abort-clause-err_blocks
+returns-in_err-touch-in-Abort-clause-err_blocks c = on_err c.from_residual.result (λ past may. begun_not)
