@@ -1,7 +1,20 @@
 use Rattle.fb_detour.proofs.Words.{arith, get_or, refl, subst, sym, ◌∙◌, slice_get-get_or, wanted_of, offers-in-turn, bounds, offers-more}
 use Rattle.fb_detour.proofs.Words.{way_done, plan_by, IsNoBetter, IsNoWorseIn}
-use Rattle.fb_detour.proofs.Found.{through}
+use Rattle.fb_detour.proofs.Found.{itself, through}
 use Rattle.fb_detour.proofs.candidates.try_each.Goals as goal
+
+pub try_once-best-requires-clause-soon : goal.try_once-best-requires-clause-soon
+try_once-best-requires-clause-soon c =
+    let ceilings = c.requires.trial.ceilings in
+    omega (arith, ceilings.close, ceilings.some, c.requires.trial.search.gap.early_enough)
+
+pub loop-offer-init : goal.loop-offer-init
+loop-offer-init c = record {
+  scored = c.try_once-best.ensures.scored;
+  keeps = itself c.args.trial.now.search.now c.try_once-best.result.plan;
+  tried = λ k o less. absurd (omega (arith, less));
+  notes = c.try_once-best.ensures.notes;
+}
 
 pub end-end-requires-clause-sweep : goal.end-end-requires-clause-sweep
 end-end-requires-clause-sweep c =
