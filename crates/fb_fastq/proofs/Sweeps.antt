@@ -3,7 +3,7 @@ use Rattle.fb_fastq.proofs.Words.{◌≡◌, ℕ, ◌+◌, ◌-◌, ◌*◌, ◌
 use Rattle.fb_fastq.proofs.Words.{Track, Request, track_at, pos, distance_of, Disk, sptf, Lane, Candidate, Holds, AllHeld, IsNoLater}
 use Rattle.fb_fastq.proofs.Words.{IsFirstHeld, turn, IsLane, IsAlong, IsCandidate, IsBefore, ComesNoLater, ComesNoLaterOn}
 use Rattle.fb_fastq.proofs.Words.{ComesNoLaterBetween, Side, Above, Below}
-use Rattle.fb_fastq.proofs.Words.{IsNoFarther, IsOn}
+use Rattle.fb_fastq.proofs.Words.{IsNoFarther, IsOn, Waits}
 use Rattle.fb_fastq.proofs.{Swept.some_injective, Least.waits_there, Turns.ComesFirst, OnLanes.on_cylinder, OnLanes.on_lane, OnLanes.begins}
 use Rattle.fb_fastq.proofs.{OnLanes.waits_on_lane}
 
@@ -67,6 +67,16 @@ module _ (disk : Disk) (head : Track) (now : ℕ) (waiting : BTreeMap (ℕ × �
           subst (λ (q : ℕ × ℕ). IsNoLater candidate.wait q.1 (sptf disk head now s) k.1) (sym key)
           (subst (λ n. IsNoLater n w.0.1 (sptf disk head now s) k.1) (sym value)
           (subst (λ n. IsNoLater (way + turn length angle (w.0.0 - lane.start)) w.0.1 n k.1) (sym other_value) order))
+
+      -- where none waits round the lane, whatever candidate comes no later than the whole lane
+      pub none_on_lane : (candidate : Candidate)
+          → ((k : ℕ × ℕ) → Waits waiting k → lane.start ≤ k.0 → lane.start + length ≤ k.0)
+          → ComesNoLaterBetween disk head now waiting candidate lane.start (lane.start + 2 ^ 30)
+      none_on_lane candidate none = λ k s other inside under.
+          let its = spots k s other in
+          let there = on_lane disk s k.0 its lane is_lane inside under in
+          let within = (begins disk s k.0 its lane is_lane there.0 there.1).1 in
+          absurd (omega (arith, within, whole, none k (waits_there waiting k s other) inside))
 
   -- outwards from the head's cylinder, spots that are farther lie on cylinders that are no nearer
   module _ (x w : ℕ × ℕ) (r s : Request) (held : Holds waiting x r) (other : Holds waiting w s) where

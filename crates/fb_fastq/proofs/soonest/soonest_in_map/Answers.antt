@@ -1,4 +1,4 @@
-use Rattle.fb_fastq.proofs.Words.{ℕ, subst, Track, sptf, IsFirstHeld, IsCandidate}
+use Rattle.fb_fastq.proofs.Words.{ℕ, ap, arith, subst, Track, sptf, IsFirstHeld, IsCandidate}
 use Rattle.fb_fastq.proofs.Sweeps.{soonest_is_first}
 use Rattle.fb_fastq.proofs.soonest.soonest_in_map.Goals as goal
 
@@ -25,3 +25,32 @@ returns-clause-first c = λ some.
 pub visit_to-visit-requires-clause-spot : goal.visit_to-visit-requires-clause-spot
 visit_to-visit-requires-clause-spot c =
     (c.requires.spots c.next_or_first.result.0 c.next_or_first.result.1 c.next_or_first.ensures.found).on_disk
+
+pub wait-wait-requires : goal.wait-wait-requires
+wait-wait-requires c =
+    let visit = c.visit_to-visit.ensures in
+    record { way = visit.visit.short_way; angle = visit.visit.turned; from = visit.start; before = visit.end }
+
+pub soonest_on-first-requires : goal.soonest_on-first-requires
+soonest_on-first-requires c =
+    let from = c.departure_from-from.result in
+    let visit = c.visit_to-visit.ensures.visit in
+    let request = c.next_or_first.result.1 in
+    let held = c.next_or_first.ensures.found in
+    let along = c.requires.spots c.next_or_first.result.0 request held in
+    record {
+      spots = c.requires.spots;
+      from = c.departure_from-from.ensures.departure;
+      outside = omega (arith, c.cylinder_start-start.ensures.value, ap (λ t. t.cylinder) c.departure_from-from.ensures.track);
+      any = visit;
+      first = record { request = request; waits = held; wait = c.wait-wait.ensures.value from request visit along };
+    }
+
+pub soonest_on-requires : goal.soonest_on-requires
+soonest_on-requires c = record {
+  spots = c.requires.spots;
+  from = c.departure_from-from.ensures.departure;
+  outside = omega (arith, c.cylinder_start-start.ensures.value, ap (λ t. t.cylinder) c.departure_from-from.ensures.track);
+  any = c.visit_to-visit.ensures.visit;
+  first = c.soonest_on-first.ensures.found;
+}

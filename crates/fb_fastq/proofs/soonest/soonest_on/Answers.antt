@@ -36,13 +36,43 @@ loop-walked-preserved c =
           c.beyond-rest.ensures seen lane more.least;
     }
 
-pub walk-walked-requires-in-Some-clause-outside : goal.walk-walked-requires-in-Some-clause-outside
-walk-walked-requires-in-Some-clause-outside c =
+pub loop-walked-init : goal.loop-walked-init
+loop-walked-init c = let walked = c.walk-walked.ensures in record {
+  found = walked.found;
+  before = walked.first;
+  full = walked.full;
+  reached = walked.reached;
+  seen = walked.least;
+}
+
+pub soonest_of_lane-best-requires : goal.soonest_of_lane-best-requires
+soonest_of_lane-best-requires c =
+    let is = subst (λ full. IfSome full (IsVisit c.args.disk.now c.args.from)) c.in-Some.is c.loop-walked.invariant.full in
+    record { spots = c.requires.spots; lane = is.lane; way = is.short_way; angle = is.turned }
+
+pub beyond-rest-requires : goal.beyond-rest-requires
+beyond-rest-requires c =
+    (subst (λ full. IfSome full (IsVisit c.args.disk.now c.args.from)) c.in-Some.is c.loop-walked.invariant.full).lane.few
+
+pub walk-walked-requires-in-Some : goal.walk-walked-requires-in-Some
+walk-walked-requires-in-Some c =
     let side = c.args.ray.side in
     let start = c.args.ray.start in
+    let is = subst (λ full. IfSome full (IsVisit c.args.disk.now c.args.from)) c.in-Some.is c.loop-walked.invariant.full in
     let reached = subst (λ full. IfSome full (λ v. IsReached side start v.lane.start)) c.in-Some.is c.loop-walked.invariant.reached in
-    subst (λ (s : Ray). IsNoFarther s.side (c.args.from.track.cylinder * 2 ^ 37) s.start) (sym c.beyond-rest.ensures)
-    (still_outside side (c.args.from.track.cylinder * 2 ^ 37) start c.in-Some.visit.lane.start c.requires.outside reached)
+    record {
+      spots = c.requires.spots;
+      from = c.requires.from;
+      outside = subst (λ (s : Ray). IsNoFarther s.side (c.args.from.track.cylinder * 2 ^ 37) s.start) (sym c.beyond-rest.ensures)
+          (still_outside side (c.args.from.track.cylinder * 2 ^ 37) start c.in-Some.visit.lane.start c.requires.outside reached);
+      any = is;
+      first = c.soonest_of_lane-best.ensures.found c.args.from is c.loop-walked.invariant.found;
+    }
+
+pub returns-clause-least : goal.returns-clause-least
+returns-clause-least c = λ key request held on.
+    subst (ComesNoLaterUntil c.args.disk.now c.args.from.track c.args.from.instant c.args.waiting.now c.loop-walked.walked.best c.args.ray)
+    c.in_default.is c.loop-walked.invariant.seen key request held on tt
 
 pub loop-walked-smaller : goal.loop-walked-smaller
 loop-walked-smaller c =

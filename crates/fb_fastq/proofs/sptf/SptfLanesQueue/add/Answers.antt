@@ -1,7 +1,7 @@
-use Rattle.fb_fastq.proofs.Words.{◌≡◌, ◌++◌, ◌∷◌, [], ℕ, List, ap, sym, subst, AllByRecursion, Waiting, order, insert_entry, pending_of}
-use Rattle.fb_fastq.proofs.Words.{IsAlong}
-use Rattle.fb_fastq.proofs.Words.{IsMore, all_of_rows}
-use Rattle.fb_fastq.proofs.OneMore.{insert_more, more_left, more_right, pending_more, all_more}
+use Rattle.std.proofs.lemmas.Result.{IfOk-from_err}
+use Rattle.fb_fastq.proofs.Words.{◌≡◌, ◌++◌, ◌∷◌, ◌∙◌, [], ℕ, List, arith, ap, sym, subst, AllByRecursion, Waiting, order, insert_entry}
+use Rattle.fb_fastq.proofs.Words.{pending_of, IsAlong, IsMore, all_of_rows}
+use Rattle.fb_fastq.proofs.OneMore.{on_err, insert_more, more_left, more_right, pending_more, all_more}
 use Rattle.fb_fastq.proofs.Divided.{numbers_left, map_joined, rows_joined}
 use Rattle.fb_fastq.proofs.sptf.SptfLanesQueue.add.Goals.{After-self}
 use Rattle.fb_fastq.proofs.sptf.SptfLanesQueue.add.Goals as goal
@@ -85,3 +85,57 @@ returns-clause-serves c =
     let at = (goal.at.returns-clause-serves c).After-self in
     along_then at c.along-spot.result _ (beside_map at c.along-spot.result (all_of_rows c.put.new.rows.items) c.in_ok-put.ensures.more)
     c.along-spot.ensures
+
+pub put-requires-clause-on : goal.put-requires-clause-on
+put-requires-clause-on c = c.cylinder_around-row.ensures
+
+pub overflow_add-self : goal.overflow_add-self
+overflow_add-self c = omega (arith, ap (λ v. v.joined) c.self.view_is, c.requires.few)
+
+pub overflow_add-self-2 : goal.overflow_add-self-2
+overflow_add-self-2 c = omega (arith, ap (λ v. v.joined) c.self.view_is, c.requires.few, c.self.invariant.0.few)
+
+pub overflow_add-self-3 : goal.overflow_add-self-3
+overflow_add-self-3 c = omega (arith, ap (λ v. v.joined) c.self.view_is, c.requires.few)
+
+-- out of memory for the map
+pub invariant_of-self : goal.invariant_of-self
+invariant_of-self c = rw c.in_err-add.ensures.err c.self.invariant
+
+pub returns-in_err-add : goal.returns-in_err-add
+returns-in_err-add c =
+    let result = c.from_residual.result in
+    let rows = all_of_rows c.self.inside.rows.items in
+    let same = ap (λ (ws : List Waiting). ws ++ rows) c.in_err-add.ensures.err ∙ ap (λ v. v.waiting) c.self.view_is in record {
+      ok = IfOk-from_err result _ c.from_residual.ensures.0;
+      counted = IfOk-from_err result _ c.from_residual.ensures.0;
+      err = on_err result _ (ap pending_of same);
+      not_counted = on_err result _ (ap (λ v. v.joined) c.self.view_is);
+      serves = subst (AllByRecursion (λ (w : Waiting). IsAlong c.args.disk.now w.1 w.0.0)) (sym same) c.requires.serves;
+    }
+
+-- out of memory for a row
+pub invariant_of-self-in_err-put : goal.invariant_of-self-in_err-put
+invariant_of-self-in_err-put c =
+    let is = c.self.invariant.0 in
+    let put = c.in_err-put.ensures in (
+      record {
+        numbers = rw put.err is.numbers;
+        own_rows = put.rows is.own_rows;
+        counted = rw put.err is.counted;
+        few = is.few;
+      },
+      put.occupied,
+    )
+
+pub returns-in_err-put : goal.returns-in_err-put
+returns-in_err-put c =
+    let result = c.from_residual-in_err-put.result in
+    let entries = c.self.inside.waiting.entries in
+    let same = ap (λ (ws : List Waiting). entries ++ ws) c.in_err-put.ensures.err ∙ ap (λ v. v.waiting) c.self.view_is in record {
+      ok = IfOk-from_err result _ c.from_residual-in_err-put.ensures.0;
+      counted = IfOk-from_err result _ c.from_residual-in_err-put.ensures.0;
+      err = on_err result _ (ap pending_of same);
+      not_counted = on_err result _ (ap (λ v. v.joined) c.self.view_is);
+      serves = subst (AllByRecursion (λ (w : Waiting). IsAlong c.args.disk.now w.1 w.0.0)) (sym same) c.requires.serves;
+    }
