@@ -1,6 +1,7 @@
 pub mod Words
 pub mod Views
 pub mod Searches
+pub mod Described
 pub mod Documents
 pub mod Kept
 pub mod Numbers

@@ -1,5 +1,8 @@
-use Rattle.fb_params.proofs.Words.{◌%◌, ap, arith, ◌∙◌, table_view, cylinders_of}
+use Rattle.fb_params.proofs.Words.{◌%◌, ap, sym, arith, ◌∙◌, Ok, table_view, cylinders_of}
 use Rattle.fb_params.proofs.Fields.{seek-within, sector_bytes-number}
+use Rattle.fb_params.proofs.Described.{described}
+use Rattle.fb_params.specs.ParamsValue.{mechanics_of}
+use Rattle.fb_params.specs.Reading.{possible_arm}
 use Rattle.fb_params.proofs.parameters.params_of_table.Goals as goal
 
 pub mechanism_of-requires : goal.mechanism_of-requires
@@ -46,3 +49,19 @@ invariant_of-result-clause-short_rotation c =
 
 pub invariant_of-result-clause-few_blocks : goal.invariant_of-result-clause-few_blocks
 invariant_of-result-clause-few_blocks c = omega (arith, c.count.ensures.bound, c.count.ensures.value)
+
+pub returns-clause-value : goal.returns-clause-value
+returns-clause-value c =
+    let table = table_view c.args.table.now in
+    let map = c.in_ok-map.map in
+    let cylinders = c.cylinders.ensures.value ∙ ap (λ map. cylinders_of map.zones) c.geometry-geometry.ensures in
+    rw c.small_number_at-sector_bytes.ensures (described c.args.layout table map _ _
+    (c.in_ok-geometry_of.ensures ∙ ap Ok (sym c.in_ok-map.ensures))
+    (ap (λ n. possible_arm (mechanics_of n table)) (sym cylinders) ∙ c.in_ok-mechanism.ensures.value)
+    (rw (c.count.ensures.value, c.elements_at.ensures) at c.in_ok-latent.ensures.value))
+
+pub returns-clause-latent_rises : goal.returns-clause-latent_rises
+returns-clause-latent_rises c = c.in_ok-latent.ensures.rises
+
+pub returns-clause-latent_on_disk : goal.returns-clause-latent_on_disk
+returns-clause-latent_on_disk c = rw c.count.ensures.value at c.in_ok-latent.ensures.on_disk
