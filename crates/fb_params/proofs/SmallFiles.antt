@@ -1,12 +1,12 @@
 -- The small files are read as they have to be, by computation.
-use Rattle.fb_params.proofs.Words.{refl, is_utf8, chars, first_fault, document_of, keeps, params_of_table, params_of}
+use Rattle.fb_params.proofs.Words.{refl, is_utf8, chars, first_fault, document_of, keeps, params_of_table, params_of_document, params_of}
 use Rattle.toml.proofs.OnLiterals.{toml_on_literals}
 use Rattle.fb_geometry.specs.Places.{places}
 use Rattle.fb_seek.specs.Faults.{fault_from}
 use Rattle.fb_params.specs.SmallFiles.{Refusals, Acceptances}
 
 pub refusals : Refusals
-unfolding toml_on_literals is_utf8 chars places first_fault fault_from document_of keeps params_of_table params_of
+unfolding toml_on_literals is_utf8 chars places first_fault fault_from document_of keeps params_of_table params_of_document params_of
 refusals = record {
   empty = refl;
   unknown_key = refl;
@@ -37,7 +37,7 @@ refusals = record {
 }
 
 pub acceptances : Acceptances
-unfolding toml_on_literals is_utf8 chars places first_fault fault_from document_of keeps params_of_table params_of
+unfolding toml_on_literals is_utf8 chars places first_fault fault_from document_of keeps params_of_table params_of_document params_of
 acceptances = record {
   one = refl;
   two = refl;

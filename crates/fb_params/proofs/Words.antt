@@ -25,7 +25,7 @@ pub use Rattle.fb_geometry.specs.declared.layout.Layout.TheVariants.{PerCylinder
 pub use Rattle.fb_params.specs.Keys.{Key, back_keys, defects_key, from_to, front_keys, grown_key, key_of, must, spares_key, zone_keys}
 pub use Rattle.fb_params.specs.ParamsValue.{ascending, grown_of, nth, place_of, point_of, zone_of}
 pub use Rattle.fb_params.specs.Reading.{unless_fault}
-unfoldable pub use Rattle.fb_params.specs.Reading.{document_of, keeps, params_of, params_of_table}
+unfoldable pub use Rattle.fb_params.specs.Reading.{document_of, keeps, params_of, params_of_document, params_of_table}
 pub use Rattle.fb_params.specs.Rules.{breaks, comes_before, first_in, first_some, is_integer, is_name_of, is_of, is_row, is_row_within}
 pub use Rattle.fb_params.specs.Rules.{is_table, is_within}
 pub use Rattle.fb_params.specs.Tables.{elements, elements_at, listed, names_of, number_at, number_of, zones_of}

@@ -76,16 +76,21 @@ params_of_table layout table = do
   latent ← latent_on (length (places outline)) (listed_latent table)
   Ok (record { outline = outline; mechanics = arm; sector_bytes = number_at (codes "sector_bytes") table; latent = latent })
 
--- the value of a file, or its first fault: each kind of fault is looked for in the whole file before the next
-unfoldable pub params_of : List ℕ → Result ParamsValue ParamsFault
-params_of bytes = do
-  table ← or_fault NotToml (document_of bytes)
+-- the value of a document, or its first fault: each kind of fault is looked for in the whole document before the next
+unfoldable pub params_of_document : Members → Result ParamsValue ParamsFault
+params_of_document table = do
   let layout = layout_of table
   keeps Known layout table
   keeps Present layout table
   keeps OfKind layout table
   keeps InRange layout table
   params_of_table layout table
+
+-- the value of a file, or its first fault
+unfoldable pub params_of : List ℕ → Result ParamsValue ParamsFault
+params_of bytes = do
+  table ← or_fault NotToml (document_of bytes)
+  params_of_document table
 
 -- the value that parameters hold
 abbrev pub held : Parameters → ParamsValue

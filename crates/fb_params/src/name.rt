@@ -18,14 +18,13 @@ pub enum KeyName<'a> {
 pub fn key_text(alloc: Global, name: KeyName<'_>) -> Result<KeyText, NoMemory>
     ensures { IfOk result (λ text. text ≡ spelled name.entry) }
 {
+    let (front, key): (&[u8], &str) = match name {
+        KeyName::Plain(key) => (b"", key),
+        KeyName::InZone(key) => (b"zone.", key),
+    };
     let mut text = KeyText::new(alloc);
-    match name {
-        KeyName::Plain(key) => append(&mut text, key.as_bytes())?,
-        KeyName::InZone(key) => {
-            append(&mut text, b"zone.")?;
-            append(&mut text, key.as_bytes())?;
-        }
-    }
+    append(&mut text, front)?;
+    append(&mut text, key.as_bytes())?;
     Ok(text)
 }
 

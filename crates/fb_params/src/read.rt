@@ -4,7 +4,7 @@ ghost use Rattle.std.specs.List.{AllByRecursion};
 ghost use Rattle.std.specs.List.Sorted.{IsStrictlyIncreasing};
 ghost use Rattle.toml.specs.View.{table_view};
 ghost use Rattle.fb_geometry.specs.Places.{places};
-ghost use Rattle.fb_params.specs.Reading.{Answers, or_fault, document_of, keeps, params_of, held, fault_of};
+ghost use Rattle.fb_params.specs.Reading.{Answers, or_fault, document_of, keeps, params_of, params_of_document, held, fault_of};
 
 use crate::name::key_text;
 use crate::parameters::params_of_table;
@@ -29,12 +29,22 @@ pub fn read_params(alloc: Global, bytes: &[u8]) -> Result<Parameters, ParamsErro
     ensures latent_on_disk { IfOk result (λ params. AllByRecursion (λ lbn. lbn < length (places params.disk.map)) params.latent.items) }
 {
     let table = read_table(alloc, bytes)?;
-    let layout = layout_of(&table);
-    keep(alloc, Rule::Known, layout, &table)?;
-    keep(alloc, Rule::Present, layout, &table)?;
-    keep(alloc, Rule::OfKind, layout, &table)?;
-    keep(alloc, Rule::InRange, layout, &table)?;
-    params_of_table(alloc, layout, &table)
+    params_of_document(alloc, &table)
+}
+
+// The parameters that a document describes, or its first fault.
+#[tactic(auto, unfolding(crate::specs::Reading::params_of_document))]
+fn params_of_document(alloc: Global, table: &Table) -> Result<Parameters, ParamsError>
+    ensures value { Answers held result (params_of_document (table_view table.now)) }
+    ensures latent_rises { IfOk result (λ params. IsStrictlyIncreasing params.latent.items) }
+    ensures latent_on_disk { IfOk result (λ params. AllByRecursion (λ lbn. lbn < length (places params.disk.map)) params.latent.items) }
+{
+    let layout = layout_of(table);
+    keep(alloc, Rule::Known, layout, table)?;
+    keep(alloc, Rule::Present, layout, table)?;
+    keep(alloc, Rule::OfKind, layout, table)?;
+    keep(alloc, Rule::InRange, layout, table)?;
+    params_of_table(alloc, layout, table)
 }
 
 // The TOML document of these bytes.
