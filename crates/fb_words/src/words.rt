@@ -1,5 +1,5 @@
 // The command that the words of a command line give.
-ghost use Rattle.std.specs.Prelude.{◌≡◌, IfOk, Ok, map, not};
+ghost use Rattle.std.specs.Prelude.{◌≡◌, IfOk, map, not};
 ghost use Rattle.std.specs.Option.{option_copied, option_map};
 ghost use Rattle.std.specs.String.{string_bytes};
 ghost use Rattle.fb_units.specs.Judging.{or_refuse, refuse, refused_as};
@@ -19,6 +19,7 @@ use crate::{
     UsageReason, WordsError,
 };
 use fb_report::Bytes;
+use fb_units::NoMemory;
 use std::alloc::Global;
 
 const DEFAULT_BYTES: Bytes = Bytes::Nothing;
@@ -94,14 +95,17 @@ fn replay(alloc: Global, count: usize, given: &Given<'_>) -> Result<ReplayWords,
     let policy = required(given.policy, count, 2)?;
     together(given.calls, given.back, count, UsageReason::CallsAndBack)?;
     together(given.puts, given.spill, count, UsageReason::PutsAndSpill)?;
+    let (params, trace) = both(alloc, params, trace)?;
+    let (calls, back) = both_given(alloc, given.calls, given.back)?;
+    let (puts, spill) = both_given(alloc, given.puts, given.spill)?;
     Ok(ReplayWords {
-        params: String::from_str(alloc, params)?,
-        trace: String::from_str(alloc, trace)?,
+        params,
+        trace,
         policy,
-        calls: copied(alloc, given.calls)?,
-        back: copied(alloc, given.back)?,
-        puts: copied(alloc, given.puts)?,
-        spill: copied(alloc, given.spill)?,
+        calls,
+        back,
+        puts,
+        spill,
         until: given.until.unwrap_or(0),
         device: given.device.unwrap_or(0),
         bytes: given.bytes.unwrap_or(DEFAULT_BYTES),
@@ -118,10 +122,12 @@ fn make(alloc: Global, count: usize, given: &Given<'_>) -> Result<MakeWords, Wor
     let calls = required(given.calls, count, 2)?;
     let number = required(given.number, count, 3)?;
     let requests = required(given.requests, count, 4)?;
+    let calls = String::from_str(alloc, calls)?;
+    let (params, trace) = both(alloc, params, trace)?;
     Ok(MakeWords {
-        params: String::from_str(alloc, params)?,
-        trace: String::from_str(alloc, trace)?,
-        calls: String::from_str(alloc, calls)?,
+        params,
+        trace,
+        calls,
         number,
         requests,
         device: given.device.unwrap_or(0),
@@ -138,13 +144,16 @@ fn check(alloc: Global, count: usize, given: &Given<'_>) -> Result<CheckWords, W
     let calls = required(given.calls, count, 3)?;
     let fore = required(given.fore, count, 4)?;
     let back = required(given.back, count, 5)?;
+    let calls = String::from_str(alloc, calls)?;
+    let (params, trace) = both(alloc, params, trace)?;
+    let (fore, back) = both(alloc, fore, back)?;
     Ok(CheckWords {
-        params: String::from_str(alloc, params)?,
-        trace: String::from_str(alloc, trace)?,
+        params,
+        trace,
         policy,
-        calls: String::from_str(alloc, calls)?,
-        fore: String::from_str(alloc, fore)?,
-        back: String::from_str(alloc, back)?,
+        calls,
+        fore,
+        back,
         until: given.until.unwrap_or(0),
         device: given.device.unwrap_or(0),
         bytes: given.bytes.unwrap_or(DEFAULT_BYTES),
@@ -159,12 +168,14 @@ fn array(alloc: Global, count: usize, given: &Given<'_>) -> Result<ArrayWords, W
     let trace = required(given.trace, count, 1)?;
     let policy = required(given.policy, count, 2)?;
     let devices = required(given.devices, count, 3)?;
+    let rebuild = rebuild(alloc, count, devices, given)?;
+    let (params, trace) = both(alloc, params, trace)?;
     Ok(ArrayWords {
-        rebuild: rebuild(alloc, count, devices, given)?,
-        params: String::from_str(alloc, params)?,
-        trace: String::from_str(alloc, trace)?,
+        params,
+        trace,
         policy,
         devices,
+        rebuild,
         until: given.until.unwrap_or(0),
         bytes: given.bytes.unwrap_or(DEFAULT_BYTES),
     })
@@ -189,10 +200,11 @@ fn rebuild(
     if device >= u64::from(devices) {
         return Err(WordsError::Fault(fault_at(count, UsageReason::RebuildBeyond)));
     }
+    let (back, copy) = both(alloc, back, copy)?;
     Ok(Some(RebuildWords {
         device: device as u32,
-        back: String::from_str(alloc, back)?,
-        copy: String::from_str(alloc, copy)?,
+        back,
+        copy,
     }))
 }
 
@@ -222,8 +234,30 @@ fn together(
     Ok(())
 }
 
-fn copied(alloc: Global, text: Option<&str>) -> Result<Option<String>, WordsError>
-    ensures { Answers (λ copy. option_map string_bytes copy) result (Ok (option_copied text.entry)) }
+// Copies of two texts.
+fn both(alloc: Global, one: &str, other: &str) -> Result<(String, String), NoMemory>
+    ensures one { IfOk result (λ copies. string_bytes copies.0 ≡ one.now) }
+    ensures other { IfOk result (λ copies. string_bytes copies.1 ≡ other.now) }
+{
+    let one = String::from_str(alloc, one)?;
+    Ok((one, String::from_str(alloc, other)?))
+}
+
+// Copies of two texts, each as far as it is given.
+fn both_given(
+    alloc: Global,
+    one: Option<&str>,
+    other: Option<&str>,
+) -> Result<(Option<String>, Option<String>), NoMemory>
+    ensures one { IfOk result (λ copies. option_map string_bytes copies.0 ≡ option_copied one.entry) }
+    ensures other { IfOk result (λ copies. option_map string_bytes copies.1 ≡ option_copied other.entry) }
+{
+    let one = copied(alloc, one)?;
+    Ok((one, copied(alloc, other)?))
+}
+
+fn copied(alloc: Global, text: Option<&str>) -> Result<Option<String>, NoMemory>
+    ensures { IfOk result (λ copy. option_map string_bytes copy ≡ option_copied text.entry) }
 {
     match text {
         Some(text) => Ok(Some(String::from_str(alloc, text)?)),
