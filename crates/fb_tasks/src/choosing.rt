@@ -57,7 +57,6 @@ impl Session {
     }
 
     // Chooses a segment, if none is unfinished and one is left. Tells whether one was chosen.
-    #[tactic(auto, using(crate::proofs::Leaving::registers_none))]
     fn choose_one(
         &mut self,
         alloc: Global,

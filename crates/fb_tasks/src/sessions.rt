@@ -277,7 +277,6 @@ impl Sessions {
         self.touch(task)
     }
 
-    #[tactic(auto, using(crate::proofs::Listed::listed_kept))]
     fn suspend(&mut self, wanted: &mut Wanted, task: u32)
         requires { task < length self.old }
         ensures { (disk : Shape) (past : Past) (call : Call) → IsCall task Suspend call → Tells disk past self.old wanted.old
@@ -287,7 +286,6 @@ impl Sessions {
         wanted.suspend(task);
     }
 
-    #[tactic(auto, using(crate::proofs::Listed::listed_kept))]
     fn resume(&mut self, wanted: &mut Wanted, task: u32)
         requires { task < length self.old }
         ensures { (disk : Shape) (past : Past) (call : Call) → IsCall task Resume call → Tells disk past self.old wanted.old

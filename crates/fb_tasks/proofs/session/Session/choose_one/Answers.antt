@@ -1,4 +1,5 @@
-use Rattle.fb_tasks.proofs.Words.{sym, ◌∙◌, arith}
+use Rattle.fb_tasks.proofs.Words.{◌≡◌, ap, sym, ◌∙◌, subst, arith, true≢false, Session, HasGrown, by_calls}
+use Rattle.fb_tasks.proofs.Leaving.{grown_not, registers_none}
 use Rattle.fb_tasks.proofs.ChoiceSteps.{choice-step, none-step, none-chosen, live-on_disk, live-few, live-chosen, empty-chosen}
 use Rattle.fb_tasks.proofs.session.Session.choose_one.Goals as goal
 
@@ -37,3 +38,45 @@ returns-in-None-clause-chosen c = λ past may.
 
 pub returns-in-None-clause-none : goal.returns-in-None-clause-none
 returns-in-None-clause-none c = λ _ past may. none-step c.requires.cleans may (sym c.in-None.ensures.choice)
+
+pub returns-in-None-clause-own : goal.returns-in-None-clause-own
+returns-in-None-clause-own c = registers_none (λ other. other ≡ c.args.stamp.task) c.args.wanted.now
+
+pub returns-in_ok-finish-in-Some-clause-none : goal.returns-in_ok-finish-in-Some-clause-none
+returns-in_ok-finish-in-Some-clause-none c = λ never. absurd (true≢false never)
+
+pub returns-else-live_count-eq0-clause-none : goal.returns-else-live_count-eq0-clause-none
+returns-else-live_count-eq0-clause-none c = λ never. absurd (true≢false never)
+
+pub want_live-requires-clause-block : goal.want_live-requires-clause-block
+want_live-requires-clause-block c = c.requires.may.1.stands.block
+
+pub want_live-requires-clause-weight : goal.want_live-requires-clause-weight
+want_live-requires-clause-weight c = c.requires.may.1.stands.weight
+
+pub want_live-requires-clause-added : goal.want_live-requires-clause-added
+want_live-requires-clause-added c = c.in-Some.ensures.known
+
+pub finish-requires-clause-chosen : goal.finish-requires-clause-chosen
+finish-requires-clause-chosen c = ap (λ log. log.unfinished) c.in-Some.ensures.state
+
+pub finish-requires-clause-added : goal.finish-requires-clause-added
+finish-requires-clause-added c = c.in-Some.ensures.known
+
+pub live_count-requires : goal.live_count-requires
+live_count-requires c = c.in-Some.ensures.known
+
+pub returns-in_ok-finish-in-Some-clause-same : goal.returns-in_ok-finish-in-Some-clause-same
+returns-in_ok-finish-in-Some-clause-same c =
+    (ap by_calls c.in_ok-finish-in-Some.ensures.session, ap (λ (s : Session). s.touched) c.in_ok-finish-in-Some.ensures.session)
+
+pub returns-in_ok-finish-in-Some-clause-grown : goal.returns-in_ok-finish-in-Some-clause-grown
+returns-in_ok-finish-in-Some-clause-grown c = record { added = _; is = c.in_ok-finish-in-Some.ensures.row }
+
+pub returns-in_err-finish-in-Some-clause-same : goal.returns-in_err-finish-in-Some-clause-same
+returns-in_err-finish-in-Some-clause-same c =
+    (ap by_calls c.in_err-finish-in-Some.ensures.session, ap (λ (s : Session). s.touched) c.in_err-finish-in-Some.ensures.session)
+
+pub returns-in_err-finish-in-Some-clause-grown : goal.returns-in_err-finish-in-Some-clause-grown
+returns-in_err-finish-in-Some-clause-grown c =
+    subst (HasGrown c.args.rows.now) (sym c.in_err-finish-in-Some.ensures.err) (grown_not c.args.rows.now)

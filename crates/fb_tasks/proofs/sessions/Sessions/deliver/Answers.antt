@@ -1,6 +1,6 @@
-use Rattle.fb_tasks.proofs.Words.{on_err, length, sym, ◌∙◌, arith, ap, some_at}
+use Rattle.fb_tasks.proofs.Words.{on_err, true, length, set, sym, ◌∙◌, arith, ap, some_at}
 use Rattle.fb_tasks.proofs.Listed.{listed_more, listed_noted}
-use Rattle.fb_tasks.proofs.Frames.{set_same}
+use Rattle.fb_tasks.proofs.{Frames.set_same, Leaving.begun_not}
 use Rattle.fb_tasks.proofs.AfterDelivery.{within_sessions, delivers, wanted-entry, held-now, tells-delivered, up_to_date-delivered}
 use Rattle.fb_tasks.proofs.sessions.Sessions.deliver.Goals as goal
 
@@ -53,3 +53,15 @@ invariant_of-self-in_err-deliver c = listed_noted c.self.invariant (rw c.self.vi
 pub invariant_of-self-2 : goal.invariant_of-self-2
 invariant_of-self-2 c = listed_noted c.self.invariant (rw c.self.view_is (within_sessions c.args.got c.requires.2))
     c.note_touch.ensures.stay c.in_ok-note_touch.ensures.noted c.in_ok-note_touch.ensures.checked_noted _
+
+pub returns-in_err-note_touch-clause-err_rows : goal.returns-in_err-note_touch-clause-err_rows
+returns-in_err-note_touch-clause-err_rows c = on_err c.from_residual.result (λ disk past may. begun_not)
+
+pub returns-in_err-deliver-clause-stay_sessions : goal.returns-in_err-deliver-clause-stay_sessions
+returns-in_err-deliver-clause-stay_sessions c =
+    let session = c.deliver-2.new.self in (session, ap (λ xs. set xs c.args.got.block.task session) c.self.view_is)
+
+pub returns-clause-stay_sessions : goal.returns-clause-stay_sessions
+returns-clause-stay_sessions c =
+    let session = record c.deliver-2.new.self { touched = true } in
+    (session, ap (λ xs. set xs c.args.got.block.task session) c.self.view_is)
