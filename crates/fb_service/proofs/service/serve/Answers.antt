@@ -92,3 +92,29 @@ returns-clause-unbroken c =
     let l = c.loop-served in
     subst (AllByRecursion (IsUnbroken c.args.disk.now.map)) (sym c.in_ok-push.ensures.ok)
     (all_push (IsUnbroken c.args.disk.now.map) l.extents.items l.last l.invariant.extents l.invariant.unbroken)
+
+pub stretch_extent-next-requires : goal.stretch_extent-next-requires
+stretch_extent-next-requires c =
+    let l = c.loop-served in
+    record {
+      source = l.invariant.on_disk;
+      some = omega (arith, c.loop-served-test.true);
+      blocks = omega (arith, c.requires.access.inside, l.invariant.upto);
+      now = omega (arith, l.invariant.soon, l.invariant.upto, c.requires.now, c.requires.access.few);
+    }
+
+pub add_extent-requires : goal.add_extent-requires
+add_extent-requires c =
+    let s = c.stretch_extent-next in
+    let l = c.loop-served in
+    record {
+      next = omega (arith, l.invariant.next, s.ensures.first);
+      room = omega (arith, l.invariant.some, l.invariant.upto, s.ensures.bound, c.requires.access.few);
+      forward = l.invariant.forward;
+      after = s.ensures.after;
+      takes_time = s.ensures.takes_time;
+      unbroken = l.invariant.unbroken;
+      next_unbroken = s.ensures.unbroken;
+      timed = rw s.ensures.first s.ensures.timed;
+      extents = l.invariant.extents;
+    }
