@@ -3,7 +3,7 @@ use Rattle.std.proofs.Common.{◌≡◌, ℕ, ◌+◌, ◌<◌, List, [], ◌∷
 use Rattle.std.proofs.Common.{length, cond, take, slice_get, append-nil, zero, suc, ◌&&◌, ◌≤◌, IfSome, IfNone}
 use Rattle.std.specs.List.{best_of}
 use Rattle.std.proofs.lemmas.List.{take_all}
-use Rattle.std.proofs.lemmas.Option.{same_Some}
+use Rattle.std.proofs.lemmas.Option.{none-some, same_Some}
 use Rattle.fb_units.proofs.Lists.{element_at}
 use Rattle.fb_clean.specs.Segments.{LogSegment, is_better, first_best, waiting}
 use Rattle.fb_clean.specs.Best.{HoldsBest, beats_one, best_at, beats_best}
@@ -20,6 +20,10 @@ some_cond false s t = refl
 abbrev step : Bool → LogSegment → Option LogSegment → Bool
 step w s None = w
 step w s (Some best) = w && is_better s best
+
+idle_step : (s : LogSegment) (best : Option LogSegment) → step false s best ≡ false
+idle_step s None = refl
+idle_step s (Some best) = refl
 
 not_left : (s : LogSegment) (best : Option LogSegment) → cond (step false s best) (Some s) best ≡ best
 not_left s None = refl
@@ -43,7 +47,7 @@ waiting_cons false x xs ys zs e = e
 -- those left to choose up to one more index
 waiting_more : (segments : List LogSegment) (n : ℕ) (s : LogSegment) → slice_get segments n ≡ Some s
     → waiting (take (n + 1) segments) ≡ waiting (take n segments) ++ cond s.waits (s ∷ []) []
-waiting_more [] n s at = absurd (grind arith)
+waiting_more [] n s at = absurd (none-some s at)
 waiting_more (x ∷ segments) zero s at = ap (λ one. waiting (one ∷ [])) (same_Some x s at) ∙ waiting_one s.waits s refl
 waiting_more (x ∷ segments) (suc n) s at =
     let more : suc n + 1 ≡ suc (n + 1) = omega arith in
@@ -53,6 +57,15 @@ waiting_more (x ∷ segments) (suc n) s at =
 beats_is : (s : LogSegment) (best : Option LogSegment) → beats_one (Some s) best ≡ step s.waits s best
 beats_is s None = refl
 beats_is s (Some best) = refl
+
+-- one that doesn't wait beats none, and one that waits beats those that it is better than
+pub idle_beats : (segments : List LogSegment) (i : ℕ) (best : Option ℕ) (s : LogSegment) → slice_get segments i ≡ Some s
+    → s.waits ≡ false → beats_best segments i best ≡ false
+idle_beats segments i best s at idle = rw at (beats_is s (best_at segments best) ∙ rw idle (idle_step s (best_at segments best)))
+
+pub better_beats : (segments : List LogSegment) (i b : ℕ) (best : Option ℕ) (s other : LogSegment) → slice_get segments i ≡ Some s
+    → s.waits ≡ true → best ≡ Some b → slice_get segments b ≡ Some other → beats_best segments i best ≡ is_better s other
+better_beats segments i b best s other at waits is there = rw (is, at, there, waits) refl
 
 best_more : (segments : List LogSegment) (n : ℕ) (s : LogSegment) → slice_get segments n ≡ Some s
     → first_best (waiting (take (n + 1) segments))

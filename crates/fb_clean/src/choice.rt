@@ -29,11 +29,12 @@ fn beats(segments: &[Segment], i: usize, best: Option<usize>) -> bool
     requires before { IfSome best (λ b. b < length segments.now) }
     ensures { result ≡ beats_best segments.now i best }
 {
-    if !segments[i].waits() {
+    let segment = &segments[i];
+    if !segment.waits() {
         return false;
     }
     match best {
-        Some(b) => segments[i].is_better(&segments[b]),
+        Some(b) => segment.is_better(&segments[b]),
         None => true,
     }
 }
