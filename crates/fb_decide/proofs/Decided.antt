@@ -1,6 +1,6 @@
 -- Who has arrived and is taken, and the next instant and decision, from what stands before them.
 use Rattle.std.proofs.Common.{◌≡◌, ℕ, zero, suc, ◌+◌, ◌<◌, ◌≤◌, max, List, [], ◌∷◌, ◌++◌, length, drop, Bool, true, false, refl, ap, sym}
-use Rattle.std.proofs.Common.{◌∙◌, arith, Option, Some, None, append_assoc, inl, inr, subst, ◌⊎◌, min, map, take}
+use Rattle.std.proofs.Common.{◌∙◌, arith, Option, Some, None, append_assoc, inl, inr, subst, ◌⊎◌, min, map, take, get_or}
 use Rattle.std.specs.Prelude.{slice_get, IfSome, nat_le, ◌==◌, filter, unwrap_or}
 use Rattle.std.specs.Option.{option_map}
 use Rattle.std.specs.List.{list_any, AllByRecursion, fold}
@@ -18,7 +18,7 @@ use Rattle.fb_model.specs.Laws.{IsFirstLeast, IsPickOf}
 use Rattle.fb_model.proofs.Picks.{pick_of-first_least}
 use Rattle.fb_model.proofs.Picks.{all_without}
 use Rattle.fb_tasks.proofs.Lists.{all_weaker}
-use Rattle.std.proofs.lemmas.List.{length-append}
+use Rattle.std.proofs.lemmas.List.{length-append, drop_more}
 use Rattle.fb_model.proofs.Lists.{by_is, after_is, rising_filter}
 use Rattle.fb_units.specs.Rising.{IsRising}
 use Rattle.fb_calls.specs.declared.call.Call.{Call}
@@ -132,6 +132,23 @@ join_waiting {disk} h within counted same arrived = record {
   on_disk = subst (AllByRecursion (IsRequestOf disk.map)) (sym same) h.on_disk;
 }
 
+-- one more of them
+pub next_joined : (requests before after : List Request) (i : ℕ) (d : Request) → i < length requests
+    → after ≡ before ++ get_or requests i d ∷ [] → left requests (i + 1) after ≡ left requests i before
+next_joined requests before after i d within is =
+    ap (λ ps. ps ++ drop (i + 1) requests) is ∙ (append_assoc before (get_or requests i d ∷ []) (drop (i + 1) requests)
+    ∙ ap (λ rs. before ++ rs) (sym (drop_more requests i d within)))
+
+-- while none waits, the head may stay
+pub still_waiting : {disk : Disk} {requests pending : List Request} {now later next after joined : ℕ}
+    → IsWaiting disk requests now next joined pending → after ≡ next → pending ≡ [] → IsWaiting disk requests later after joined pending
+still_waiting {disk} {requests} {pending} {later = later} h same none = record {
+  within = subst (λ n. n ≤ length requests) (sym same) h.within;
+  counted = h.counted ∙ sym same;
+  arrived = subst (AllByRecursion (λ r. r.arrival ≤ later)) (sym none) tt;
+  on_disk = subst (λ n. AllByRecursion (IsRequestOf disk.map) (left requests n pending)) (sym same) h.on_disk;
+}
+
 -- nothing is left, so nothing follows
 pub none_served : (n : ℕ) (disk : Disk) (key : Key) (head : Track) (now : ℕ) (rs : List Request) → n ≡ 0 → plain n disk key head now rs ≡ []
 unfolding plain
@@ -142,6 +159,10 @@ none_served (suc n) disk key head now rs e = absurd (omega arith)
 pub one_more : (done : List Served) (served : Served) (before after whole : List Served) → before ≡ served ∷ after → done ++ before ≡ whole
     → (done ++ served ∷ []) ++ after ≡ whole
 one_more done served before after whole e h = append_assoc done (served ∷ []) after ∙ ap (λ xs. done ++ xs) (sym e) ∙ h
+
+pub one_waits : (ps : List Request) → false ≡ (length ps == 0) → 0 < length ps
+one_waits [] e = grind (arith, nat_tests)
+one_waits (p ∷ ps) e = omega arith
 
 pub none_waits : (ps : List Request) → true ≡ (length ps == 0) → ps ≡ []
 none_waits [] e = refl

@@ -3,8 +3,11 @@ use Rattle.std.specs.List.{AllByRecursion}
 use Rattle.fb_units.proofs.Lists.{all_weaker, all_append, all_left, all_right}
 use Rattle.fb_model.specs.Accepted.{IsRequestOf}
 use Rattle.fb_decide.specs.Deciding.{serves_pick, stays_on, stays_last, ends_here}
-use Rattle.fb_decide.proofs.Decided.{taken, none_waits}
+use Rattle.fb_decide.proofs.Decided.{taken, none_waits, one_waits, still_waiting}
 use Rattle.fb_decide.proofs.deciding.act.Goals as goal
+
+pub serve_next-requires-clause-some : goal.serve_next-requires-clause-some
+serve_next-requires-clause-some g c = one_waits (g.Q.Queue.pending c.args.queue.now) c.if-not-is_empty.ensures
 
 pub serve_next-requires-clause-on_disk : goal.serve_next-requires-clause-on_disk
 serve_next-requires-clause-on_disk g c =
@@ -44,6 +47,11 @@ pub returns-in_ok-stay_until-in-Some-clause-acted : goal.returns-in_ok-stay_unti
 returns-in_ok-stay_until-in-Some-clause-acted g c =
     stays_on c.in-Some.instant _ (none_waits (g.Q.Queue.pending c.args.queue.now) c.if-not-is_empty.ensures)
     (sym c.next_instant.ensures ∙ c.in-Some.is) c.in_ok-stay_until-in-Some.ensures
+
+pub returns-in_ok-stay_until-in-Some-clause-waiting : goal.returns-in_ok-stay_until-in-Some-clause-waiting
+returns-in_ok-stay_until-in-Some-clause-waiting g c = λ yes.
+    still_waiting c.requires.waiting c.in_ok-stay_until-in-Some.ensures.same_joined
+    (none_waits (g.Q.Queue.pending c.args.queue.now) c.if-not-is_empty.ensures)
 
 pub returns-in_ok-stay_until-in-None-clause-acted : goal.returns-in_ok-stay_until-in-None-clause-acted
 returns-in_ok-stay_until-in-None-clause-acted g c =

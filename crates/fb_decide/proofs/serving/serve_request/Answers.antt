@@ -1,6 +1,21 @@
+use Rattle.std.proofs.Common.{arith}
 use Rattle.fb_decide.specs.Start.{served_from}
 use Rattle.fb_decide.proofs.Served.{has-served}
 use Rattle.fb_decide.proofs.serving.serve_request.Goals as goal
+
+pub found-requires-clause-range : goal.found-requires-clause-range
+found-requires-clause-range g c = omega (arith, c.requires.start.request.range.inside, c.args.disk.now.few_blocks)
+
+pub finish-requires : goal.finish-requires
+finish-requires g c =
+    let delivered = c.in_ok-passing.ensures.delivered c.requires.current.0 c.requires.current.1 in
+    (c.args.disk.now.map, _, delivered.delivered.current.tells)
+
+pub write_sectors-requires : goal.write_sectors-requires
+write_sectors-requires g c = omega (arith, c.requires.start.request.range.inside, c.args.disk.now.few_blocks)
+
+pub returns-clause-soon : goal.returns-clause-soon
+returns-clause-soon g c = omega (arith, c.in_ok-passing.ensures.soon, c.requires.start.request.few)
 
 pub returns-clause-served : goal.returns-clause-served
 returns-clause-served g c = λ past current.

@@ -7,6 +7,14 @@ use Rattle.fb_decide.proofs.Delivering.{fits-told, wanted-told}
 use Rattle.fb_decide.proofs.Served.{gap_from, is-gap, extents-begin, gap-is, has-delivered-around}
 use Rattle.fb_decide.proofs.background.Background.deliver_around.Goals as goal
 
+pub serve-requires-clause-access : goal.serve-requires-clause-access
+serve-requires-clause-access g c =
+    let request = c.requires.start.request in
+    record { some = request.range.some; few = request.few; inside = request.range.inside }
+
+pub place-requires : goal.place-requires
+place-requires g c = omega (arith, c.requires.start.request.range.some, c.requires.start.request.range.inside)
+
 pub best-plan-requires-clause-gap : goal.best-plan-requires-clause-gap
 best-plan-requires-clause-gap g c = is-gap c.args.disk.now c.args.start.head c.args.start.instant c.args.start.request c.place.result.track
     c.in_ok-service.service.media c.requires.start.head c.place.ensures.track c.requires.start.request.range.some
@@ -23,12 +31,51 @@ go_through-requires-clause-gap g c = is-gap c.args.disk.now c.args.start.head c.
     (ap (λ p. p.track) c.place.ensures.value) c.in_ok-service.ensures.media
     (omega (arith, c.requires.start.instant, c.requires.start.request.few, c.in_ok-service.ensures.soon, c.in_ok-service.ensures.later))
 
+pub go_through-requires-clause-current : goal.go_through-requires-clause-current
+go_through-requires-clause-current g c = c.requires.current
+
+pub go_through-requires-clause-plan : goal.go_through-requires-clause-plan
+go_through-requires-clause-plan g c = c.best-plan.ensures.is_plan
+
+pub ride-requires-clause-current : goal.ride-requires-clause-current
+ride-requires-clause-current g c =
+    (_, (c.in_ok-go_through.ensures.delivered c.requires.current.0 c.requires.current.1).current)
+
+pub ride-requires-clause-passages : goal.ride-requires-clause-passages
+ride-requires-clause-passages g c =
+    ap (all_passages_of c.args.disk.now.map) c.as_slice.ensures ∙ c.in_ok-service.ensures.passages
+
+pub ride-requires-clause-unbroken : goal.ride-requires-clause-unbroken
+ride-requires-clause-unbroken g c =
+    subst (AllByRecursion (IsUnbroken c.args.disk.now.map)) (sym c.as_slice.ensures) c.in_ok-service.ensures.unbroken
+
 pub ride-requires-clause-early : goal.ride-requires-clause-early
 ride-requires-clause-early g c = extents-begin c.args.disk.now c.args.start.head c.args.start.instant c.args.start.request.write
     c.args.start.request.lbn c.args.start.request.count c.as_slice.result.now c.in_ok-service.service.finish (10 ^ 19)
     (subst (AllByRecursion (IsUnbroken c.args.disk.now.map)) (sym c.as_slice.ensures) c.in_ok-service.ensures.unbroken)
     (ap (all_passages_of c.args.disk.now.map) c.as_slice.ensures ∙ c.in_ok-service.ensures.passages)
     c.in_ok-service.ensures.finish (omega (arith, c.requires.start.instant, c.requires.start.request.few, c.in_ok-service.ensures.soon))
+
+pub returns-clause-media : goal.returns-clause-media
+returns-clause-media g c = c.in_ok-service.ensures.media
+
+pub returns-clause-finish : goal.returns-clause-finish
+returns-clause-finish g c = c.in_ok-service.ensures.finish
+
+pub returns-clause-head : goal.returns-clause-head
+returns-clause-head g c = c.in_ok-service.ensures.last_track
+
+pub returns-clause-on_disk : goal.returns-clause-on_disk
+returns-clause-on_disk g c = c.in_ok-service.ensures.on_disk
+
+pub returns-clause-each : goal.returns-clause-each
+returns-clause-each g c = c.in_ok-service.ensures.each
+
+pub returns-clause-later : goal.returns-clause-later
+returns-clause-later g c = omega (arith, c.in_ok-service.ensures.after, c.in_ok-service.ensures.later)
+
+pub returns-clause-soon : goal.returns-clause-soon
+returns-clause-soon g c = c.in_ok-service.ensures.soon
 
 pub returns-clause-delivered : goal.returns-clause-delivered
 returns-clause-delivered g c = λ past current.

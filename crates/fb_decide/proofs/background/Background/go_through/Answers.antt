@@ -7,6 +7,17 @@ use Rattle.fb_decide.specs.Deliveries.{TellsUpToDate, HasDelivered, past_with, h
 use Rattle.fb_decide.proofs.Placing.{delivered-both, left-both}
 use Rattle.fb_decide.proofs.background.Background.go_through.Goals as goal
 
+pub deliver_in_dwell-requires-clause-current : goal.deliver_in_dwell-requires-clause-current
+deliver_in_dwell-requires-clause-current c =
+    let current = c.requires.current.1 in
+    (c.requires.current.0, record { tells = current.tells; up_to_date = current.up_to_date })
+
+pub deliver_in_dwell-requires-2-clause-current : goal.deliver_in_dwell-requires-2-clause-current
+deliver_in_dwell-requires-2-clause-current c =
+    let current = c.requires.current.1 in
+    (_, (c.in_ok-deliver_in_dwell.ensures.delivered c.requires.current.0
+    (record { tells = current.tells; up_to_date = current.up_to_date })).current)
+
 pub returns-clause-delivered : goal.returns-clause-delivered
 returns-clause-delivered c = on_ok_weaker c.deliver_in_dwell-2.result (λ next past current.
     let disk = c.args.disk.now in

@@ -1,0 +1,44 @@
+use Rattle.std.proofs.Common.{◌+◌, ◌≤◌, ap, sym, ◌∙◌, arith, subst, take, get_or}
+use Rattle.std.specs.Prelude.{◌<◌, IfSome}
+use Rattle.std.specs.List.{AllByRecursion}
+use Rattle.std.proofs.lemmas.List.{take_more}
+use Rattle.std.proofs.lemmas.Option.{slice_get-get_or, slice_get_past}
+use Rattle.fb_units.proofs.Lists.{all_at, all_push}
+use Rattle.fb_units.specs.declared.types.Request.{Request}
+use Rattle.fb_model.specs.Accepted.{IsRequestOf}
+use Rattle.fb_decide.proofs.Decided.{next_joined}
+use Rattle.fb_decide.proofs.joining.join_arrived.Goals as goal
+
+pub add-requires-clause-few : goal.add-requires-clause-few
+add-requires-clause-few g c = omega (arith, c.loop-next.invariant.counted, c.loop-next.invariant.within, c.requires.few)
+
+pub add-requires-clause-on_disk : goal.add-requires-clause-on_disk
+add-requires-clause-on_disk g c =
+    all_at (IsRequestOf c.args.disk.now.map) c.args.requests.now c.loop-next.next _ c.requires.on_disk c.loop-next-test.true
+
+pub loop-next-preserved : goal.loop-next-preserved
+loop-next-preserved g c =
+    let requests = c.args.requests.now in
+    let next = c.loop-next.next in
+    let before = c.loop-next.invariant in
+    let waiting = g.Q.Queue.pending c.loop-next.queue in
+    let has_come = λ (r : Request). r.arrival ≤ c.args.now in
+    let added = c.in_ok-add.ensures.ok in
+    let within = c.loop-next-test.true in record {
+      within = omega (arith, within);
+      serves = c.in_ok-add.ensures.serves;
+      counted = c.in_ok-add.ensures.counted ∙ ap (λ n. n + 1) before.counted;
+      same = next_joined requests waiting (g.Q.Queue.pending c.add.new.self) next _ within added ∙ before.same;
+      arrived = subst (AllByRecursion has_come) (sym added) (all_push has_come waiting _ before.arrived c.if-requests-next.true);
+      come = subst (AllByRecursion has_come) (sym (take_more requests next _ within))
+          (all_push has_come (take next requests) _ before.come c.if-requests-next.true);
+    }
+
+pub returns-after-loop-next-clause-ahead : goal.returns-after-loop-next-clause-ahead
+returns-after-loop-next-clause-ahead g c =
+    rw (slice_get_past c.args.requests.now c.loop-next.next (omega (arith, c.loop-next-test.false))) tt
+
+pub returns-else-requests-next-clause-ahead : goal.returns-else-requests-next-clause-ahead
+returns-else-requests-next-clause-ahead g c =
+    subst (λ next. IfSome next (λ r. c.args.now < r.arrival))
+    (sym (slice_get-get_or c.args.requests.now c.loop-next.next _ c.loop-next-test.true)) c.if-requests-next.false
