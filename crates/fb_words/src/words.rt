@@ -1,5 +1,5 @@
 // The command that the words of a command line give.
-ghost use Rattle.std.specs.Prelude.{◌≡◌, IfOk, map, not};
+ghost use Rattle.std.specs.Prelude.{◌≡◌, IfOk, IfErr, Some, Err, map, not};
 ghost use Rattle.std.specs.Option.{option_copied, option_map};
 ghost use Rattle.std.specs.String.{string_bytes};
 ghost use Rattle.fb_units.specs.Judging.{or_refuse, refuse, refused_as};
@@ -90,9 +90,7 @@ fn command(
 fn replay(alloc: Global, count: usize, given: &Given<'_>) -> Result<ReplayWords, WordsError>
     ensures { Answers replay_terms result (refused_as (fault_at count) (replay_of (options given.now))) }
 {
-    let params = required(given.params, count, 0)?;
-    let trace = required(given.trace, count, 1)?;
-    let policy = required(given.policy, count, 2)?;
+    let (params, trace, policy) = run_inputs(count, given)?;
     together(given.calls, given.back, count, UsageReason::CallsAndBack)?;
     together(given.puts, given.spill, count, UsageReason::PutsAndSpill)?;
     let (params, trace) = both(alloc, params, trace)?;
@@ -138,9 +136,7 @@ fn make(alloc: Global, count: usize, given: &Given<'_>) -> Result<MakeWords, Wor
 fn check(alloc: Global, count: usize, given: &Given<'_>) -> Result<CheckWords, WordsError>
     ensures { Answers check_terms result (refused_as (fault_at count) (check_of (options given.now))) }
 {
-    let params = required(given.params, count, 0)?;
-    let trace = required(given.trace, count, 1)?;
-    let policy = required(given.policy, count, 2)?;
+    let (params, trace, policy) = run_inputs(count, given)?;
     let calls = required(given.calls, count, 3)?;
     let fore = required(given.fore, count, 4)?;
     let back = required(given.back, count, 5)?;
@@ -164,9 +160,7 @@ fn check(alloc: Global, count: usize, given: &Given<'_>) -> Result<CheckWords, W
 fn array(alloc: Global, count: usize, given: &Given<'_>) -> Result<ArrayWords, WordsError>
     ensures { Answers array_terms result (refused_as (fault_at count) (array_of (options given.now))) }
 {
-    let params = required(given.params, count, 0)?;
-    let trace = required(given.trace, count, 1)?;
-    let policy = required(given.policy, count, 2)?;
+    let (params, trace, policy) = run_inputs(count, given)?;
     let devices = required(given.devices, count, 3)?;
     let rebuild = rebuild(alloc, count, devices, given)?;
     let (params, trace) = both(alloc, params, trace)?;
@@ -206,6 +200,22 @@ fn rebuild(
         back,
         copy,
     }))
+}
+
+// The parameter file, the trace and the policy, which a replay, a check and an array require first.
+#[tactic(auto, unfolding(crate::specs::Command::replay_of, crate::specs::Command::check_of, crate::specs::Command::array_of))]
+fn run_inputs<'a>(count: usize, given: &Given<'a>) -> Result<(&'a str, &'a str, Policy), UsageFault>
+    ensures params { IfOk result (λ inputs. given.now.params ≡ Some inputs.0) }
+    ensures trace { IfOk result (λ inputs. given.now.trace ≡ Some inputs.1) }
+    ensures policy { IfOk result (λ inputs. given.now.policy ≡ Some inputs.2) }
+    ensures replay { IfErr result (λ fault. refused_as (fault_at count) (replay_of (options given.now)) ≡ Err fault) }
+    ensures check { IfErr result (λ fault. refused_as (fault_at count) (check_of (options given.now)) ≡ Err fault) }
+    ensures array { IfErr result (λ fault. refused_as (fault_at count) (array_of (options given.now)) ≡ Err fault) }
+{
+    let params = required(given.params, count, 0)?;
+    let trace = required(given.trace, count, 1)?;
+    let policy = required(given.policy, count, 2)?;
+    Ok((params, trace, policy))
 }
 
 // The value of a required option, which has this index among the required ones.
