@@ -39,6 +39,15 @@ module _ (search : Search) (from end width : ℕ) where
     part-of : (i key : ℕ) → i < 8 → get_or keys i 0 ≡ key → i ≡ 7 - (key - 1) % 8
     part-of i key less is = omega (arith, less, (are i less).part, ap (λ k. (k - 1) % 8) is)
 
+    -- the bound that a number stands for
+    pub bound-of : (key upto : ℕ) → IsAmong keys key → upto ≡ end_of_part (7 - (key - 1) % 8)
+        → IsCeiling search (from + (7 - (key - 1) % 8) * width) upto ((key - 1) / 8)
+    bound-of key upto its at =
+        let i = its.0 in
+        subst (λ u. IsCeiling search (from + (7 - (key - 1) % 8) * width) u ((key - 1) / 8)) (sym at)
+        (subst (λ j. IsCeiling search (from + j * width) (end_of_part j) ((key - 1) / 8)) (part-of i key its.1 its.2)
+        (subst (λ k. IsCeiling search (from + i * width) (end_of_part i) ((k - 1) / 8)) its.2 (are i its.1).ceiling))
+
     -- a part more, and the numbers down to the next one
     pub part-more : (best old : Plan) (key next upto : ℕ) → IsAmong keys key → upto ≡ end_of_part (7 - (key - 1) % 8)
         → ((j : ℕ) → j < 8 → get_or keys j 0 < key → get_or keys j 0 ≤ next) → IsNoWorseIn search best old → AreDone keys old key

@@ -44,8 +44,11 @@ returns-in_default-clause-most c = λ k less.
 pub returns-in_default-clause-limits : goal.returns-in_default-clause-limits
 returns-in_default-clause-limits c = λ k less.
     let limit = get_or c.args.limits.now k 0 in
-    omega (arith, none-late c.args.turning.now c.args.gap.now c.args.offer limit
-    (c.in_default.ensures.none limit (omega (arith, c.requires.spread k (omega (arith, less))))))
+    omega (
+      arith,
+      none-late c.args.turning.now c.args.gap.now c.args.offer limit
+          (c.in_default.ensures.none limit (omega (arith, c.requires.spread k (omega (arith, less))))),
+    )
 
 pub returns-in_default-clause-end : goal.returns-in_default-clause-end
 returns-in_default-clause-end c =

@@ -1,6 +1,6 @@
 use Rattle.fb_detour.proofs.Words.{arith, inl, inr, ℕ, ◌%◌, ◌*◌, ◌+◌, ◌-◌, ◌<◌, ◌^◌, ◌≡◌, ◌≤◌, mul-le}
 use Rattle.fb_detour.proofs.Found.{itself, not_better, through}
-use Rattle.fb_detour.proofs.Keys.{part-more, parts-no_better, parts-done}
+use Rattle.fb_detour.proofs.Keys.{bound-of, part-more, parts-no_better, parts-done}
 use Rattle.fb_detour.proofs.search.+visit.Goals as goal
 
 -- where a part of the cylinders ends, even one that begins behind them
@@ -52,20 +52,53 @@ loop-key-init n c = record {
 pub overflow_mul-begin : goal.overflow_mul-begin
 overflow_mul-begin n c =
     let part = (c.loop-key.key - 1) % 8 in
-    omega (arith, ends-soon c.args.from c.args.end c.args.search.now.disk.now.mechanism.cylinders c.width_of-width.result part
-    c.if-end-from.false c.requires.within c.requires.few c.width_of-width.ensures.less)
+    omega (
+      arith,
+      ends-soon c.args.from c.args.end c.args.search.now.disk.now.mechanism.cylinders c.width_of-width.result part
+          c.if-end-from.false c.requires.within c.requires.few c.width_of-width.ensures.less,
+    )
 
 pub overflow_add-begin : goal.overflow_add-begin
 overflow_add-begin n c =
     let part = (c.loop-key.key - 1) % 8 in
-    omega (arith, ends-soon c.args.from c.args.end c.args.search.now.disk.now.mechanism.cylinders c.width_of-width.result part
-    c.if-end-from.false c.requires.within c.requires.few c.width_of-width.ensures.less)
+    omega (
+      arith,
+      ends-soon c.args.from c.args.end c.args.search.now.disk.now.mechanism.cylinders c.width_of-width.result part
+          c.if-end-from.false c.requires.within c.requires.few c.width_of-width.ensures.less,
+    )
 
 pub overflow_add-behind : goal.overflow_add-behind
 overflow_add-behind n c =
     let part = (c.loop-key.key - 1) % 8 in
-    omega (arith, ends-soon c.args.from c.args.end c.args.search.now.disk.now.mechanism.cylinders c.width_of-width.result part
-    c.if-end-from.false c.requires.within c.requires.few c.width_of-width.ensures.less)
+    omega (
+      arith,
+      ends-soon c.args.from c.args.end c.args.search.now.disk.now.mechanism.cylinders c.width_of-width.result part
+          c.if-end-from.false c.requires.within c.requires.few c.width_of-width.ensures.less,
+    )
+
+pub visit-best-requires : goal.visit-best-requires
+visit-best-requires n c =
+    let upto = c.min-upto.ensures in
+    let bound = bound-of c.args.search.now c.args.from c.args.end c.width_of-width.result c.keys_of-keys.result c.keys_of-keys.ensures
+    c.loop-key.key c.min-upto.result (c.loop-key.invariant.among c.loop-key-test.true) upto in (
+      omega (arith, upto, c.width_of-width.ensures.less, c.decreases),
+      (
+        omega (arith, upto, c.requires.within),
+        (
+          c.requires.few,
+          (
+            bound,
+            (
+              c.requires.search,
+              (
+                λ track low high. c.rate_in-own.ensures track (omega (arith, low)) (omega (arith, high, upto)),
+                c.loop-key.invariant.scored,
+              ),
+            ),
+          ),
+        ),
+      ),
+    )
 
 pub loop-key-preserved : goal.loop-key-preserved
 loop-key-preserved n c =
