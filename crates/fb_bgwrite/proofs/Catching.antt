@@ -5,7 +5,7 @@ use Rattle.fb_bgwrite.proofs.Words.{AllByRecursion, fold, list_any, cases_Bool, 
 use Rattle.fb_bgwrite.proofs.Words.{all_weaker, wanted_of, Dwell, catches, Catch, is_before, place_in, catch_of, caught_of}
 use Rattle.fb_bgwrite.proofs.Words.{begin-from-le, SpillItem, SpillLine, WroteLine, SpillRow, Put, Spilling, PutBlock, is_written}
 use Rattle.fb_bgwrite.proofs.Words.{writes, entry_of, first_blocks, ArePutsOn, HasKept, IsSpilling, IsToWrite, wrote_row, all_of}
-use Rattle.fb_bgwrite.proofs.Words.{none_any}
+use Rattle.fb_bgwrite.proofs.Words.{none_any, ◌+◌, append_assoc, map-append, one_more}
 use Rattle.fb_plan.proofs.Sorted.{put_front, put_behind, all_place}
 use Rattle.fb_bgwrite.proofs.{Admitting.first_come, Admitting.first_in_order, PutBlocks.AreInOrder}
 use Rattle.fb_bgwrite.proofs.{PutBlocks.IsBefore, Writing.before_other}
@@ -137,6 +137,16 @@ module _ (disk : Disk) (puts : List Put) (n : ℕ) (items : List SpillItem) (dwe
 
 abbrev pub wrote_rows : List Catch → List SpillItem
 wrote_rows cs = map (λ catch. WroteLine (wrote_row catch)) cs
+
+-- one row more
+pub wrote_more : (old : List SpillItem) (first : SpillItem) (cs : List Catch) (i : ℕ) (catch : Catch) (before after : List SpillItem)
+    → slice_get cs i ≡ Some catch → before ≡ old ++ first ∷ wrote_rows (take i cs)
+    → after ≡ before ++ WroteLine (wrote_row catch) ∷ [] → after ≡ old ++ first ∷ wrote_rows (take (i + 1) cs)
+wrote_more old first cs i catch before after at was is =
+    let row = WroteLine (wrote_row catch) in
+    is ∙ (ap (λ items. items ++ row ∷ []) was ∙ (append_assoc old (first ∷ wrote_rows (take i cs)) (row ∷ [])
+    ∙ ap (λ items. old ++ first ∷ items)
+    (sym (map-append (λ c. WroteLine (wrote_row c)) (take i cs) (catch ∷ [])) ∙ ap wrote_rows (sym (one_more cs i catch at)))))
 
 -- the rows of the catches before one don't tell of its block
 earlier_told : (cs : List Catch) (i : ℕ) (catch : Catch) → AreDifferent cs → slice_get cs i ≡ Some catch

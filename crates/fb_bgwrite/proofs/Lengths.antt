@@ -7,7 +7,8 @@ use Rattle.fb_bgwrite.proofs.Words.{IsTrackOf, IsSound, Disk, Deliver, Entry, af
 use Rattle.fb_bgwrite.proofs.Words.{Dwell, Gap, AreOnDisk, stay_gain, stay-of, Spill, Valued, ArePending}
 use Rattle.fb_bgwrite.proofs.Words.{AreAtLeast, AreLight, IsAtLeast, IsNoShorter, dwell_of, value, all_of, some_one}
 use Rattle.fb_bgwrite.proofs.Words.{◌-◌, get_or-le-sum_by, get_or_from_slice_get, length, slice_get_within, sum_by-le-sum_by}
-use Rattle.fb_bgwrite.proofs.Words.{sum_by_more, take, AreOffers, Block, Offer}
+use Rattle.fb_bgwrite.proofs.Words.{sum_by_more, take, AreOffers, Block, Offer, ◌++◌, all_push, all_weaker, Result, Ok, Err, OnOk, OnErr}
+use Rattle.fb_bgwrite.proofs.Bounds.{no_greater_than, IsLowered}
 use Rattle.fb_bgwrite.proofs.{Values.its_sectors, Values.passes, Values.value_caught, Values.value_stay, Amended.track_on_disk}
 use Rattle.fb_bgwrite.proofs.{Choices.light_on, Choices.nothing_beaten}
 use Rattle.fb_plan.proofs.Offered.{wanted-at}
@@ -158,6 +159,33 @@ delivered_too bounds put number (e ∷ es) all =
 pub still_light : (put number : ℕ) (es : List Entry) → AreLight es → AreLight (after put (Deliver number) es)
 still_light put number [] light = tt
 still_light put number (e ∷ es) light = (light.0, still_light put number es light.1)
+
+-- the bound of a cylinder is lowered to what a block more has, if there was memory for it
+pub registered_too : {A E : Type 0} (r : Result A E) (old new : List ℕ) (es later : List Entry) (e : Entry)
+    → AllByRecursion (IsNoShorter old) es → AreLight es → e.block.weight ≡ 1
+    → IsLowered old new e.block.track.cylinder e.block.count → OnOk r (later ≡ es ++ e ∷ []) → OnErr r (later ≡ es)
+    → AllByRecursion (IsNoShorter new) later × AreLight later
+registered_too r old new es later e all light weight is = registered r where
+  cylinder : ℕ
+  cylinder = e.block.track.cylinder
+
+  own : get_or new cylinder 2049 ≤ e.block.count
+  own =
+      let here : (cylinder == cylinder) ≡ true = grind (arith, nat_tests) in
+      let bound : get_or new cylinder 2049 ≡ min (get_or old cylinder 2049) e.block.count = rw here at (is cylinder) in omega (arith, bound)
+
+  others : AllByRecursion (IsNoShorter new) es
+  others = all_weaker (IsNoShorter old) (IsNoShorter new) (λ o long wanted. omega (
+    arith,
+    long wanted,
+    no_greater_than old new cylinder e.block.count o.block.track.cylinder is,
+  )) es all
+
+  registered : {A E : Type 0} (r : Result A E) → OnOk r (later ≡ es ++ e ∷ []) → OnErr r (later ≡ es)
+      → AllByRecursion (IsNoShorter new) later × AreLight later
+  registered (Ok x) more same = subst (λ xs. AllByRecursion (IsNoShorter new) xs × AreLight xs) (sym more)
+      (all_push (IsNoShorter new) es e others (λ wanted. own), all_push (λ o. o.block.weight ≡ 1) es e light weight)
+  registered (Err x) more same = subst (λ xs. AllByRecursion (IsNoShorter new) xs × AreLight xs) (sym same) (others, light)
 
 -- the bound of a cylinder is replaced by another that holds
 pub renewed : (old new : List ℕ) (cylinder least : ℕ)

@@ -9,7 +9,7 @@ pub use Rattle.std.specs.Prelude.{nat_le, nat_lt}
 pub use Rattle.std.proofs.lemmas.Bool.{and_parts, cases_Bool, cases_lt, leb-true, ltb-true, true≢false}
 pub use Rattle.std.proofs.lemmas.Bool.Decides.{nat_tests}
 pub use Rattle.std.proofs.lemmas.List.{drop_all, length-append, length-map, length-take, length_push, map-append}
-pub use Rattle.std.proofs.lemmas.List.{take-append-drop}
+pub use Rattle.std.proofs.lemmas.List.{take-append-drop, take_all}
 pub use Rattle.std.proofs.lemmas.List.Folds.{list_any-append}
 pub use Rattle.std.proofs.lemmas.List.Sums.{count_by-le-length, get_or-le-sum_by, sum_by-append, sum_by-cons, sum_by-le-sum_by}
 pub use Rattle.std.proofs.lemmas.List.Sums.{sum_by_more, sum_by_push}

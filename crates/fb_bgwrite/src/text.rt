@@ -1,7 +1,8 @@
 // The text of spills.
-ghost use Rattle.std.specs.Prelude.{◌≡◌, ℕ, ◌+◌, ◌%◌, ◌<◌, ◌≤◌, ◌^◌, ◌++◌, length, slice_get, Some, IfOk, OnOk};
+ghost use Rattle.std.specs.Prelude.{◌≡◌, ℕ, ◌+◌, ◌%◌, ◌<◌, ◌≤◌, ◌^◌, [], ◌∷◌, ◌++◌, length, slice_get, Some, IfOk, OnOk, decimal};
 ghost use Rattle.std.specs.List.{AllByRecursion};
 ghost use Rattle.fb_report.specs.declared.bytes.Bytes.{Bytes};
+ghost use Rattle.fb_report.specs.Lines.{with_fields};
 ghost use Rattle.fb_bgwrite.specs.Text.{content_of, item_line, spill_last, spill_lines, HasRange};
 
 use crate::{SpillItem, SpillRow, SpillRun, WroteRow};
@@ -96,13 +97,21 @@ fn wrote_line(
     let content = content_of(alloc, row)?;
     let written = shown(alloc, &content, sector_bytes, bytes)?;
     let mut line = Line::new(alloc, b"wrote")?;
+    add_passage(&mut line, row)?;
+    line.word(&written)?;
+    line.end()
+}
+
+// Adds put, first LBN, count, begin and end of a written block.
+fn add_passage(line: &mut Line, row: &WroteRow) -> Result<(), NoMemory>
+    ensures { OnOk result (line.new ≡ with_fields line.old
+        (decimal row.now.put ∷ decimal row.now.lbn ∷ decimal row.now.count ∷ decimal row.now.begin ∷ decimal row.now.end ∷ [])) }
+{
     line.number(row.put)?;
     line.number(row.lbn)?;
     line.number(row.count as u64)?;
     line.number(row.begin)?;
-    line.number(row.end)?;
-    line.word(&written)?;
-    line.end()
+    line.number(row.end)
 }
 
 // What the sectors of a written block hold.
