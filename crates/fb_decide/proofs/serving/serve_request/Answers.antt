@@ -1,4 +1,4 @@
-use Rattle.std.proofs.Common.{arith}
+use Rattle.std.proofs.Common.{arith, refl}
 use Rattle.fb_decide.specs.Start.{served_from}
 use Rattle.fb_decide.proofs.Served.{has-served}
 use Rattle.fb_decide.proofs.serving.serve_request.Goals as goal
@@ -13,6 +13,16 @@ finish-requires g c =
 
 pub write_sectors-requires : goal.write_sectors-requires
 write_sectors-requires g c = omega (arith, c.requires.start.request.range.inside, c.args.disk.now.few_blocks)
+
+pub returns-clause-row : goal.returns-clause-row
+returns-clause-row g c = record {
+  request = refl;
+  start = refl;
+  media = c.in_ok-passing.ensures.media;
+  finish = c.in_ok-passing.ensures.finish;
+  bad = c.bad-bad.ensures.value;
+  content = c.in_ok-content.ensures.content;
+}
 
 pub returns-clause-soon : goal.returns-clause-soon
 returns-clause-soon g c = omega (arith, c.in_ok-passing.ensures.soon, c.requires.start.request.few)

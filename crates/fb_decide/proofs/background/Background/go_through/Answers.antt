@@ -14,9 +14,11 @@ deliver_in_dwell-requires-clause-current c =
 
 pub deliver_in_dwell-requires-2-clause-current : goal.deliver_in_dwell-requires-2-clause-current
 deliver_in_dwell-requires-2-clause-current c =
-    let current = c.requires.current.1 in
-    (_, (c.in_ok-deliver_in_dwell.ensures.delivered c.requires.current.0
-    (record { tells = current.tells; up_to_date = current.up_to_date })).current)
+    let current = c.requires.current.1 in (
+      _,
+      (c.in_ok-deliver_in_dwell.ensures.delivered c.requires.current.0
+          (record { tells = current.tells; up_to_date = current.up_to_date })).current,
+    )
 
 pub returns-clause-delivered : goal.returns-clause-delivered
 returns-clause-delivered c = on_ok_weaker c.deliver_in_dwell-2.result (λ next past current.
