@@ -15,7 +15,6 @@ pub use Rattle.std.proofs.lemmas.List.Sums.{count_by-le-length, get_or-le-sum_by
 pub use Rattle.std.proofs.lemmas.List.Sums.{sum_by_more, sum_by_push}
 pub use Rattle.std.proofs.lemmas.Option.{get_or_from_slice_get, slice_get-get_or, slice_get-map, slice_get_within, same_Some as some_one}
 pub use Rattle.std.proofs.lemmas.Result.{IfOk-weaker, on_ok_weaker}
-pub use Rattle.fb_units.proofs.Comparing.{and_false}
 pub use Rattle.fb_units.proofs.Lists.{all_push, all_weaker, all_from_index as all_of, any_of_none as none_any, all_append, all_left}
 pub use Rattle.fb_units.proofs.Lists.{all_right, all_get, drop_at as drop_got, take_at as one_more}
 pub use Rattle.fb_units.specs.Rising.{IsRising}

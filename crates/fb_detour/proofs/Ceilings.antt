@@ -1,5 +1,6 @@
 -- No plan is worth more than its two stays.
-use Rattle.fb_units.proofs.Comparing.{and_false, if_le}
+use Rattle.std.proofs.Math.Bool.{and-false}
+use Rattle.fb_units.proofs.Comparing.{if_le}
 use Rattle.fb_detour.proofs.Words.{Bool, List, [], ap, arith, false, if◌then◌else◌, inl, inr, refl, true, ℕ, ◌&&◌, ◌*◌, ◌+◌, ◌<◌, ◌||◌, ◌∙◌}
 use Rattle.fb_detour.proofs.Words.{◌∷◌, ◌≡◌, ◌≤◌, cases_Bool, nat_tests, sum_by-cons, sum_by-le-sum_by, sum_by, same_track, Disk, is_wanted}
 use Rattle.fb_detour.proofs.Words.{on_track, wanted_of, wanted_weight, Block, Entry, Dwell, Gap, Plan, block_end, catches, early_dwell}
@@ -34,7 +35,7 @@ either_adds true false true n = omega arith
 either_adds true false false n = omega arith
 
 pub elsewhere : (disk : Disk) (dwell : Dwell) (e : Entry) → same_track dwell.track e.block.track ≡ false → stay_gain disk dwell e ≡ 0
-elsewhere disk dwell e off = rw (off, and_false (is_wanted e.state)) refl
+elsewhere disk dwell e off = rw (off, and-false (is_wanted e.state)) refl
 
 -- a stay catches blocks of its own track alone
 pub stay-all : (disk : Disk) (dwell : Dwell) (es : List Entry) → sum_by (stay_gain disk dwell) es ≡ stay disk dwell es

@@ -2,11 +2,11 @@
 use Rattle.std.proofs.Common.{◌≡◌, inl, inr, ℕ, ◌+◌, ◌*◌, List, [], ◌∷◌, Bool, true, false, ◌&&◌, ◌||◌, Some, slice_get, zero}
 use Rattle.std.proofs.Common.{suc, filter, refl, arith, sym, ap, ◌∙◌, if◌then◌else◌, subst}
 use Rattle.std.specs.List.{sum_by}
+use Rattle.std.proofs.Math.Bool.{and-false}
 use Rattle.std.proofs.lemmas.Bool.{cases_Bool, true≢false}
 use Rattle.std.proofs.lemmas.Bool.Decides.{nat_tests}
 use Rattle.std.proofs.lemmas.List.Sums.{sum_by-cons}
 use Rattle.std.proofs.lemmas.Option.{same_Some}
-use Rattle.fb_units.proofs.Comparing.{and_false}
 use Rattle.fb_units.specs.declared.types.Track.{Track}
 use Rattle.fb_units.specs.Tracks.{same_track}
 use Rattle.fb_service.specs.declared.disk.Disk.{Disk}
@@ -111,7 +111,7 @@ not_caught disk gap (Detour c u) b h k = rw (h, k) refl
 
 no_gain : (disk : Disk) (gap : Gap) (plan : Plan) (e : Entry) → same_track (track_of gap plan) e.block.track ≡ false
     → same_track gap.target e.block.track ≡ false → gain disk gap plan e ≡ 0
-no_gain disk gap plan e h k = rw (not_caught disk gap plan e.block h k, and_false (is_wanted e.state)) refl
+no_gain disk gap plan e h k = rw (not_caught disk gap plan e.block h k, and-false (is_wanted e.state)) refl
 
 -- tracks are told apart by their numbers
 pub track_of_both : (a b x : Track) → same_track a x ≡ true → same_track b x ≡ true → same_track a b ≡ true

@@ -6,6 +6,7 @@ use Rattle.std.proofs.Math.Bool.{or-false, and-false, and-true}
 use Rattle.std.proofs.lemmas.Grind.{flat_map-append}
 use Rattle.std.proofs.lemmas.List.{map_push}
 use Rattle.std.proofs.lemmas.List.Folds.{list_any-append}
+use Rattle.fb_units.proofs.Changed.{get_or-push_like, get_or-push_holds, get_or-set_like, get_or-set_marked, map-set_like}
 use Rattle.fb_units.proofs.Comparing.{rising_push}
 use Rattle.fb_units.proofs.Lists.{all_push, all_weaker}
 use Rattle.fb_units.specs.Rising.{IsRising}
@@ -21,7 +22,6 @@ use Rattle.fb_script.specs.Judgement.{Progress, with_call}
 use Rattle.fb_script.specs.Sessions.{session_of, names_after, sessions_after}
 use Rattle.fb_script.proofs.Accepting.{IsPlace, Admits, same_block}
 use Rattle.fb_script.proofs.Following.{of_session, of_task, Knows, allowed_push, blocks_from-push, reads-push}
-use Rattle.fb_script.proofs.Lists.{get_or-push_like, get_or-push_holds, get_or-set_like, get_or-set_marked, map-set_like}
 
 tasks-push : (calls : List Call) (call : Call) → tasks (calls ++ call ∷ []) ≡ tasks calls ++ terms_in call.action
 tasks-push calls call = flat_map-append (λ (c : Call). terms_in c.action) calls (call ∷ [])

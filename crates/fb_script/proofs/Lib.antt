@@ -4,7 +4,6 @@ pub mod Cuttings
 pub mod Following
 pub mod Keeping
 pub mod LinesRead
-pub mod Lists
 pub mod LiveBlocks
 pub mod Positions
 pub mod Scripts

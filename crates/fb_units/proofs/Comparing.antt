@@ -1,6 +1,6 @@
 -- Tests of numbers, truth values, and numbers that rise.
 use Rattle.std.proofs.Common.{◌≡◌, ℕ, ◌+◌, ◌<◌, ◌≤◌, List, [], ◌∷◌, ◌++◌, Bool, true, false, refl, arith}
-use Rattle.std.specs.Prelude.{◌==◌, ◌&&◌, if◌then◌else◌, nat_le}
+use Rattle.std.specs.Prelude.{◌==◌, if◌then◌else◌, nat_le}
 use Rattle.std.specs.List.{AllByRecursion}
 use Rattle.std.proofs.lemmas.Bool.Decides.{nat_tests}
 use Rattle.fb_units.specs.Rising.{IsRising}
@@ -15,12 +15,11 @@ less_differs a b less = grind (arith, nat_tests)
 pub more_differs : (a b : ℕ) → b < a → (a == b) ≡ false
 more_differs a b less = grind (arith, nat_tests)
 
+pub some_number : (n : ℕ) → (n == 0) ≡ false → 0 < n
+some_number n some = grind (arith, nat_tests)
+
 pub is_after : (x t : ℕ) → nat_le x t ≡ false → t < x
 is_after x t after = grind (arith, nat_tests)
-
-pub and_false : (b : Bool) → b && false ≡ false
-and_false true = refl
-and_false false = refl
 
 pub if_le : (a b : Bool) (n : ℕ) → (a ≡ true → b ≡ true) → (if a then n else 0) ≤ (if b then n else 0)
 if_le true b n h = rw (h refl) (omega arith)

@@ -1,9 +1,11 @@
 -- Lists with one more element, or with one replaced.
-use Rattle.std.proofs.Common.{◌≡◌, ℕ, zero, suc, ◌<◌, Bool, true, false, ◌||◌, nat_eq, List, [], ◌∷◌, ◌++◌, length, get_or, set, map, inl}
-use Rattle.std.proofs.Common.{inr, refl, sym, ap, ◌∙◌, arith}
+use Rattle.std.proofs.Common.{◌≡◌, ℕ, zero, suc, ◌+◌, ◌<◌, Bool, true, false, ◌||◌, ◌==◌, nat_eq, List, [], ◌∷◌, ◌++◌, length, get_or, set}
+use Rattle.std.proofs.Common.{map, if◌then◌else◌, inl, inr, refl, sym, ap, ◌∙◌, arith}
 use Rattle.std.proofs.Math.Bool.{or-false, or-true}
 use Rattle.std.proofs.lemmas.Bool.{cases_Bool}
 use Rattle.std.proofs.lemmas.Bool.Decides.{nat_tests}
+use Rattle.std.proofs.lemmas.Grind.{get_or-set_at}
+use Rattle.std.proofs.lemmas.List.{get_or_default, get_or-set_other}
 
 -- a function has the same values at all indexes after one more element, if that has the value of the default
 pub get_or-push_like : {X Y : Type 0} (f : X → Y) (xs : List X) (x d : X) (i : ℕ) → f x ≡ f d
@@ -50,3 +52,23 @@ get_or-push_holds P [] x d all h zero = h
 get_or-push_holds P [] x d all h (suc i) = all zero
 get_or-push_holds P (y ∷ xs) x d all h zero = all zero
 get_or-push_holds P (y ∷ xs) x d all h (suc i) = get_or-push_holds P xs x d (λ j. all (suc j)) h i
+
+-- ---- lists that read as an old one at each index, where what lies behind their end reads as a blank
+
+-- with a blank more
+pub one_blank_more : {X : Type 0} (old xs new : List X) (x blank : X) → ((k : ℕ) → get_or xs k blank ≡ get_or old k blank)
+    → new ≡ xs ++ x ∷ [] → x ≡ blank → (k : ℕ) → get_or new k blank ≡ get_or old k blank
+one_blank_more old xs new x blank same more is k =
+    ap (λ ys. get_or ys k blank) more ∙ (get_or-push_like (λ y. y) xs x blank k is ∙ same k)
+
+-- with one of them changed
+pub one_changed : {X : Type 0} (old xs : List X) (n : ℕ) (was new blank : X) (change : X → X)
+    → ((k : ℕ) → get_or xs k blank ≡ get_or old k blank) → n < length xs → was ≡ get_or xs n was → new ≡ change was
+    → (k : ℕ) → get_or (set xs n new) k blank ≡ (if n == k then change (get_or old k blank) else get_or old k blank)
+one_changed old xs n was new blank change same within at is k = elim (cases_Bool (n == k)) [
+  | inl here ↦
+      let there : k ≡ n = grind (arith, nat_tests) in
+      rw here (get_or-set_at xs n k new blank there within
+      ∙ (is ∙ ap change (at ∙ (get_or_default xs n was blank within ∙ (same n ∙ ap (λ i. get_or old i blank) (sym there))))))
+  | inr other ↦ rw other (get_or-set_other xs n k new blank (grind (arith, nat_tests)) ∙ same k)
+]
