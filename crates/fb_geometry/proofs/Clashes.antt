@@ -1,18 +1,19 @@
 -- Places that are given twice, the marks of places that are given once, and tracks with more of them than spares.
-use Rattle.fb_units.proofs.Lists.{append_at, all_weaker, filter_to, map_at, none_of_any}
-use Rattle.fb_geometry.proofs.Words.{All-from_get_or, AllByRecursion, AreInOrder, AreSorted, Bool, Contains-permutation, HasZones}
-use Rattle.fb_geometry.proofs.Words.{IsDistinct, IsDistinct-IsPermutation, IsPartitionPoint, IsPartitionedBy, IsPermutation}
-use Rattle.fb_geometry.proofs.Words.{IsPermutation-map, IsPermutation-sym, IsSortedBy, IsStrictWeakOrder, List, Mark, Pairwise, Place}
-use Rattle.fb_geometry.proofs.Words.{Shape, Some, [], ap, arith, cases_Bool, cases_lt, cond, drop, false, false_from_ne_true, filter}
-use Rattle.fb_geometry.proofs.Words.{filter-append, find, get_or, get_or_from_slice_get, inl, inr, is_among, is_mark_before, is_outside}
-use Rattle.fb_geometry.proofs.Words.{is_place_before, least, length, length-append, length-filter, list_any, list_any-IsPermutation}
-use Rattle.fb_geometry.proofs.Words.{lt-ltb, ltb-true, map, mark_of, nat_lt, nat_tests, none-some, option_map, recursion_from_All, refl}
-use Rattle.fb_geometry.proofs.Words.{repeated, same_mark, same_place, slice_get, slice_get-get_or, slice_get_within, sorted_far, suc}
-use Rattle.fb_geometry.proofs.Words.{sum_by-IsPermutation, sym, true, true≢false, zero, ℕ, ◌++◌, ◌+◌, ◌-◌, ◌<◌, ◌∙◌, ◌∷◌, ◌≡◌, ◌≤◌, ◌⊎◌}
-use Rattle.fb_geometry.proofs.{Grid.count_cons, Faultless.all_get, Laws.same_places, Marking.mark_of-same, Marking.same_marks}
-use Rattle.fb_geometry.proofs.{Marking.same_mark-refl, Marking.point-is, Slips.pairwise_upto, Slips.pairwise-filter, Slips.pairwise-map}
-use Rattle.fb_geometry.proofs.{Leasts.place_order, Leasts.Among, Leasts.among-tail, Leasts.among-right, Leasts.among-append}
-use Rattle.fb_geometry.proofs.{Leasts.among-filtered, Leasts.among-mapped, Leasts.among-any, Leasts.any-among, Leasts.least-head}
+use Rattle.fb_units.proofs.Among.{Among, among-any, among-append, among-filtered, among-mapped, among-right, among-tail, any-among}
+use Rattle.fb_units.proofs.Among.{permuted}
+use Rattle.fb_units.proofs.Counts.{any_count, count_cons, same_count, sum_of}
+use Rattle.fb_units.proofs.Lists.{all_get, all_weaker, append_at, filter_to, map_at, none_of_any}
+use Rattle.fb_units.proofs.Searches.{point-is}
+use Rattle.fb_geometry.proofs.Words.{All-from_get_or, AllByRecursion, AreInOrder, AreSorted, Bool, HasZones, IsDistinct}
+use Rattle.fb_geometry.proofs.Words.{IsDistinct-IsPermutation, IsPartitionPoint, IsPartitionedBy, IsPermutation, IsPermutation-map}
+use Rattle.fb_geometry.proofs.Words.{IsPermutation-sym, IsSortedBy, IsStrictWeakOrder, List, Mark, Pairwise, Place, Shape, Some, [], ap}
+use Rattle.fb_geometry.proofs.Words.{arith, cases_Bool, cases_lt, cond, drop, false, false_from_ne_true, filter, filter-append, find}
+use Rattle.fb_geometry.proofs.Words.{get_or, inl, inr, is_among, is_mark_before, is_outside, is_place_before, least, length, length-append}
+use Rattle.fb_geometry.proofs.Words.{list_any, list_any-IsPermutation, lt-ltb, ltb-true, map, mark_of, nat_tests, none-some, option_map}
+use Rattle.fb_geometry.proofs.Words.{recursion_from_All, refl, repeated, same_mark, same_place, slice_get, sorted_far, suc, sym, true}
+use Rattle.fb_geometry.proofs.Words.{true≢false, zero, ℕ, ◌++◌, ◌+◌, ◌-◌, ◌<◌, ◌∙◌, ◌∷◌, ◌≡◌, ◌≤◌, ◌⊎◌}
+use Rattle.fb_geometry.proofs.{Laws.same_places, Marking.mark_of-same, Marking.same_marks, Marking.same_mark-refl}
+use Rattle.fb_geometry.proofs.{Slips.pairwise_upto, Slips.pairwise-filter, Slips.pairwise-map, Leasts.place_order, Leasts.least-head}
 use Rattle.fb_geometry.proofs.{Leasts.IsOrder}
 
 -- ---- pairs
@@ -31,19 +32,6 @@ sorted-rise before rank xs d up = pairwise_from (λ x later. before later x ≡ 
     up i j d (omega arith) h)
 
 -- ---- counts
-
--- an element passes if some number does
-pub any_count : {A : Type 0} (test : A → Bool) (xs : List A) → list_any test xs ≡ nat_lt 0 (length (filter test xs))
-any_count test [] = refl
-any_count test (x ∷ xs) = grind (arith, nat_tests, any_count test xs)
-
-pub same_count : {A : Type 0} (test : A → Bool) (xs ys : List A) → IsPermutation xs ys → length (filter test ys) ≡ length (filter test xs)
-same_count test xs ys h = length-filter test ys ∙ (sum_by-IsPermutation (λ x. cond (test x) 1 0) xs ys h ∙ sym (length-filter test xs))
-
-pub permuted : {A : Type 0} (xs ys : List A) (x : A) → IsPermutation xs ys → Among xs x → Among ys x
-permuted xs ys x h one =
-    let found = Contains-permutation xs ys x h (one.0, slice_get_within xs one.0 x one.1, get_or_from_slice_get xs one.0 x x one.1) in
-    (found.0, slice_get-get_or ys found.0 x found.1 ∙ ap Some found.2)
 
 -- ---- repeated places
 
@@ -303,12 +291,6 @@ pub partitioned : (test : Place → Bool) → ((a b : Place) → is_place_before
     → Pairwise (λ place later. is_place_before later place ≡ false) sorted → IsPartitionedBy test sorted
 partitioned test so sorted up = pairwise_upto (λ place later. is_place_before later place ≡ false) (λ a b. test b ≡ true → test a ≡ true)
     so (λ a passes. passes) sorted up
-
--- a test passes where one of two does, and never both
-sum_of : {A : Type 0} (p q r : A → Bool) (xs : List A) → ((x : A) → cond {A = ℕ} (p x) 1 0 ≡ cond (q x) 1 0 + cond (r x) 1 0)
-    → length (filter p xs) ≡ length (filter q xs) + length (filter r xs)
-sum_of p q r [] all = refl
-sum_of p q r (x ∷ xs) all = omega (arith, count_cons p x xs, count_cons q x xs, count_cons r x xs, all x, sum_of p q r xs all)
 
 -- between the points stand those of the track or cylinder
 pub between : (upto under same : Place → Bool)

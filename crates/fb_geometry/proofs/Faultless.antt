@@ -1,20 +1,17 @@
 -- What holds of an outline without a fault.
+use Rattle.fb_units.proofs.Lists.{all_from_index, all_get, all_weaker, none_of_any}
+use Rattle.fb_units.proofs.Searches.{find-some, position-none}
 use Rattle.std.proofs.Math.Seq.{get_or-append_seam}
 use Rattle.std.proofs.lemmas.List.{get_or_append_left}
-pub use Rattle.fb_units.proofs.Lists.{all_get}
-use Rattle.fb_units.proofs.Lists.{all_from_index, all_weaker, element_at, none_of_any}
+use Rattle.fb_geometry.proofs.Words.{AllByRecursion, AreFirstZoneNumbers, AreZoneNumbers, Bool, GeometryFault, HasZones, IsCylinderOf}
+use Rattle.fb_geometry.proofs.Words.{IsFaultless, IsNonDecreasingBy, IsPartitionPoint, IsZone, IsZoneAt, IsZoneNumber, IsZoneOf, List}
+use Rattle.fb_geometry.proofs.Words.{None, Option, Pairwise, Shape, Some, Track, Zone, [], ap, arith, cases_lt, cylinder_spares_at}
+use Rattle.fb_geometry.proofs.Words.{cylinders_of, data_list, false, fault_at, first_apart, get_or, has_no_data, inl, inr, is_bad_zone}
+use Rattle.fb_geometry.proofs.Words.{is_too_skewed, le-leb, least, leb-true, length, length-append, lesser, list_among, lt-leb, ltb-false}
+use Rattle.fb_geometry.proofs.Words.{ltb-true, nat_le, nat_lt, nat_tests, none-some, offset_at, offset_in, or_else, or_parts, refl}
+use Rattle.fb_geometry.proofs.Words.{same_Some, slice_get, slice_get-get_or, slice_index_or, slots_at, spares_at, suc, sym, true, zero}
+use Rattle.fb_geometry.proofs.Words.{zone_at, zone_tells, ℕ, ◌++◌, ◌+◌, ◌<◌, ◌^◌, ◌∙◌, ◌∷◌, ◌≡◌, ◌≤◌}
 use Rattle.fb_geometry.proofs.{Slips.rises}
-use Rattle.fb_geometry.proofs.Words.{AllByRecursion, AreFirstZoneNumbers, AreZoneNumbers, Bool, GeometryFault, HasZones}
-use Rattle.fb_geometry.proofs.Words.{IsCylinderOf, IsFaultless, IsNonDecreasingBy, IsPartitionPoint, IsZone, IsZoneAt}
-use Rattle.fb_geometry.proofs.Words.{IsZoneNumber, IsZoneOf, List, None, Option, Pairwise, Shape}
-use Rattle.fb_geometry.proofs.Words.{Some, Track, Zone, [], ap, arith, cases_Bool, cases_lt, cylinder_spares_at, cylinders_of, data_list}
-use Rattle.fb_geometry.proofs.Words.{fails_before_first, false, fault_at, find, find_at, first_apart, get_or, has_no_data, inl, inr}
-use Rattle.fb_geometry.proofs.Words.{is_bad_zone, is_too_skewed, le-leb, least, leb-true, length, length-append, lesser}
-use Rattle.fb_geometry.proofs.Words.{list_among, lt-leb, lt-ltb}
-use Rattle.fb_geometry.proofs.Words.{ltb-false, ltb-true, nat_le, nat_lt, nat_tests, none-some, offset_at, offset_in, or_else, or_parts}
-use Rattle.fb_geometry.proofs.Words.{position, position_or_len, recursion_from_All, refl, same_Some, slice_get, slice_get-get_or}
-use Rattle.fb_geometry.proofs.Words.{slice_index_or, slots_at, spares_at, subst, suc, sym, true, zero, zone_at, zone_tells, ℕ, ◌+◌, ◌<◌}
-use Rattle.fb_geometry.proofs.Words.{◌^◌, ◌∙◌, ◌∷◌, ◌≡◌, ◌≤◌, ◌++◌}
 
 -- ---- chains
 
@@ -27,22 +24,6 @@ fault_at-none fault None h = refl
 fault_at-none fault (Some a) h = absurd (none-some (fault a) (sym h))
 
 -- ---- searches that find nothing
-
-none_found : {X : Type 0} (test : X → Bool) (xs : List X) → (position_or_len test xs < length xs → ⊥)
-    → AllByRecursion (λ x. test x ≡ false) xs
-none_found test xs never = recursion_from_All (λ x. test x ≡ false) xs
-    (λ k d inside. elim (cases_lt (position_or_len test xs) (length xs)) [
-      | inl found ↦ absurd (never found)
-      | inr behind ↦ fails_before_first test xs k d (omega arith)
-    ])
-
-pub find-none : {X : Type 0} (test : X → Bool) (xs : List X) → find test xs ≡ None → AllByRecursion (λ x. test x ≡ false) xs
-find-none test xs h = none_found test xs (λ found. let one = element_at xs (position_or_len test xs) found in
-    none-some one.0 (sym h ∙ (find_at test xs ∙ one.1)))
-
-pub position-none : {X : Type 0} (test : X → Bool) (xs : List X) → position test xs ≡ None → AllByRecursion (λ x. test x ≡ false) xs
-position-none test xs h = none_found test xs (λ found. none-some (position_or_len test xs)
-    (sym (rw (lt-ltb (position_or_len test xs) (length xs) found) at h)))
 
 pub least-none : {X : Type 0} (is_before : X → X → Bool) (xs : List X) → least is_before xs ≡ None → xs ≡ []
 least-none is_before [] h = refl
@@ -114,15 +95,6 @@ zone_of zero cylinder (other ∷ zones) zone up at from upto =
     rw (le-leb cylinder other.last (omega (arith, ap (λ zone. zone.last) (same_Some other zone at)))) at
 zone_of (suc i) cylinder (other ∷ zones) zone up at from upto = let after = all_get (Follow other) zones i zone up.0 at in
     rw (lt-leb cylinder other.last (omega (arith, after.0))) (zone_of i cylinder zones zone up.1 at from upto)
-
--- a zone that was found is one of them
-pub find-some : {X : Type 0} (test : X → Bool) (xs : List X) (x : X) → find test xs ≡ Some x
-    → (i : ℕ) × (slice_get xs i ≡ Some x) × (test x ≡ true)
-find-some test [] x h = absurd (none-some x h)
-find-some test (y ∷ xs) x h = elim (cases_Bool (test y)) [
-  | inl hit ↦ let same : Some y ≡ Some x = rw hit at h in (0, same, subst (λ z. test z ≡ true) (same_Some y x same) hit)
-  | inr miss ↦ let rest = find-some test xs x (rw miss at h) in (suc rest.0, rest.1, rest.2)
-]
 
 -- and doesn't begin behind the cylinder
 found_from : (index begin cylinder : ℕ) (zones : List Zone) (zone : Zone) → first_apart index begin zones ≡ None → begin ≤ cylinder

@@ -1,4 +1,5 @@
 -- What the parts of a judgement say of the whole.
+use Rattle.fb_units.proofs.Searches.{find-none}
 use Rattle.fb_geometry.proofs.Words.{All, All-append, All-from_recursion, All-permutation, Answers, AreSorted, Bool, DefectTwice}
 use Rattle.fb_geometry.proofs.Words.{Fault, FitsLayout, GeometryFault, GrownOutside, GrownTwice, HasZones, IsFaultless, Layout}
 use Rattle.fb_geometry.proofs.Words.{List, NoMemory, None, Option, OutOfRange, PerCylinder, PerTrack, Place, ReadError, Shape}
@@ -6,7 +7,7 @@ use Rattle.fb_geometry.proofs.Words.{Some, TooManyDefects, TooManyInCylinder, []
 use Rattle.fb_geometry.proofs.Words.{filter, find, first_fault, grown_fault, if◌then◌else◌, is_among, is_full_cylinder, is_full_track}
 use Rattle.fb_geometry.proofs.Words.{is_outside, is_place_before, is_track_before, least, nat_lt, nat_tests, none-some, option_map}
 use Rattle.fb_geometry.proofs.Words.{or_else, refl, repeated, slice_get, spare_fault, subst, sym, true, zone_fault, ◌++◌, ◌∙◌, ◌∷◌, ◌≡◌}
-use Rattle.fb_geometry.proofs.{Faultless.or_else-none, Faultless.fault_at-none, Faultless.least-none, Faultless.find-none}
+use Rattle.fb_geometry.proofs.{Faultless.or_else-none, Faultless.fault_at-none, Faultless.least-none}
 use Rattle.fb_geometry.proofs.{Leasts.track_order, Leasts.number_order, Clashes.least_repeated, Clashes.least_clash, Clashes.least_full}
 
 -- ---- what holds where there is no fault

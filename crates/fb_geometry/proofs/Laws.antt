@@ -1,61 +1,21 @@
 -- How many slots are good, and how many sectors a cylinder has.
+use Rattle.fb_units.proofs.Counts.{at_most_each, kept_and_dropped, length-filter-map, once_in}
+use Rattle.fb_units.proofs.Lists.{all_dropped}
+use Rattle.fb_units.proofs.Parts.{length-parts}
 use Rattle.fb_units.proofs.Tracks.{same_tracks}
-use Rattle.fb_units.proofs.Lists.{all_dropped, all_append}
 use Rattle.fb_geometry.proofs.Words.{AllByRecursion, Bool, IsZoneAt, Layout, List, None, PerCylinder, PerTrack, Place, Shape}
-use Rattle.fb_geometry.proofs.Words.{TooManyDefects, TooManyInCylinder, Track, Zone, [], and_parts, ap, arith, by_head, cases_Bool, cond}
+use Rattle.fb_geometry.proofs.Words.{TooManyDefects, TooManyInCylinder, Track, Zone, [], and_parts, ap, arith, by_head, cond}
 use Rattle.fb_geometry.proofs.Words.{cylinder_size_by, cylinder_slots, cylinder_spares_at, data_list_by, drop, eq-eqb, eqb-true, false}
-use Rattle.fb_geometry.proofs.Words.{filter, filter-append, flat_map, good_track, has_no_data, inl, inr, is_among, is_full_cylinder}
-use Rattle.fb_geometry.proofs.Words.{is_full_track, is_track_before, length, length-append, length-filter_both, length-map-range_with_len}
-use Rattle.fb_geometry.proofs.Words.{length-range_with_len, length-take-le, list_any, map, mul-le, nat_lt, nat_tests, not, position_in}
-use Rattle.fb_geometry.proofs.Words.{range_with_len, refl, replaced, same_place, same_track, slot_at, spare_fault, spares_at, stand_in}
-use Rattle.fb_geometry.proofs.Words.{subst, suc, sym, take, true, zero, ℕ, ◌*◌, ◌++◌, ◌+◌, ◌-◌, ◌<◌, ◌==◌, ◌||◌, ◌∙◌, ◌∷◌, ◌≡◌, ◌≤◌, ◌⊎◌}
-use Rattle.fb_geometry.proofs.{Grid.length-parts, Grid.add_zero, Grid.add_one, Grid.count_cons, Turns.good_cylinder-is}
-use Rattle.fb_geometry.proofs.{Turns.position_in-slot_at, Turns.length-cylinder_slots, Turns.good_track-is, Turns.slot_on}
-use Rattle.fb_geometry.proofs.{Faultless.fault_at-none, Faultless.or_else-none, Faultless.least-none, Faultless.spares_at-zone}
-use Rattle.fb_geometry.proofs.{Faultless.cylinder_spares_at-zone, Marking.length-filter-map}
+use Rattle.fb_geometry.proofs.Words.{filter, filter-append, good_track, has_no_data, inl, is_among, is_full_cylinder, is_full_track}
+use Rattle.fb_geometry.proofs.Words.{is_track_before, length, length-append, length-map-range_with_len, length-range_with_len}
+use Rattle.fb_geometry.proofs.Words.{length-take-le, map, mul-le, nat_lt, nat_tests, not, position_in, range_with_len, refl, replaced}
+use Rattle.fb_geometry.proofs.Words.{same_place, same_track, slot_at, spare_fault, spares_at, stand_in, subst, suc, sym, take, true, ℕ}
+use Rattle.fb_geometry.proofs.Words.{◌*◌, ◌++◌, ◌+◌, ◌-◌, ◌<◌, ◌==◌, ◌∙◌, ◌∷◌, ◌≡◌, ◌≤◌, ◌⊎◌}
+use Rattle.fb_geometry.proofs.{Turns.good_cylinder-is, Turns.position_in-slot_at, Turns.length-cylinder_slots, Turns.good_track-is}
+use Rattle.fb_geometry.proofs.{Turns.slot_on, Faultless.fault_at-none, Faultless.or_else-none, Faultless.least-none}
+use Rattle.fb_geometry.proofs.{Faultless.spares_at-zone, Faultless.cylinder_spares_at-zone}
 
 -- ---- counts
-
--- the elements that pass a test and those that don't are all together
-pub kept_and_dropped : {A : Type 0} (bad : A → Bool) (xs : List A)
-    → length (filter bad xs) + length (filter (λ x. not (bad x)) xs) ≡ length xs
-kept_and_dropped bad xs = length-filter_both bad (λ x. not (bad x)) (λ x. refl) xs
-
--- one test or another
-either : {A : Type 0} (p q : A → Bool) (xs : List A) → length (filter (λ x. p x || q x) xs) ≤ length (filter p xs) + length (filter q xs)
-either p q [] = omega arith
-either p q (x ∷ xs) =
-    grind (arith, nat_tests, count_cons (λ x. p x || q x) x xs, count_cons p x xs, count_cons q x xs, either p q xs)
-
-nothing : {A : Type 0} (xs : List A) → length (filter (λ _. false) xs) ≡ 0
-nothing [] = refl
-nothing (x ∷ xs) = nothing xs
-
--- no more pass one of these tests than there are tests that one can pass
-pub at_most_each : {A B : Type 0} (same : A → B → Bool) (can : B → Bool) (xs : List A) (ds : List B)
-    → ((d : B) → length (filter (λ x. same x d) xs) ≤ cond (can d) 1 0)
-    → length (filter (λ x. list_any (same x) ds) xs) ≤ length (filter can ds)
-at_most_each same can xs [] each = omega (arith, nothing xs)
-at_most_each same can xs (d ∷ ds) each =
-    omega (arith, each d, count_cons can d ds, either (λ x. same x d) (λ x. list_any (same x) ds) xs, at_most_each same can xs ds each)
-
--- fewer pass two tests than the one
-pub fewer : {A : Type 0} (p q : A → Bool) (xs : List A) → length (filter p (filter q xs)) ≤ length (filter p xs)
-fewer p q [] = omega arith
-fewer p q (x ∷ xs) = grind (arith, count_cons p x (filter q xs), count_cons p x xs, fewer p q xs)
-
--- a test that one number alone passes, or none where it can't be passed
-once_in : (test : ℕ → Bool) (can : Bool) (q a n : ℕ) → ((i : ℕ) → i < n → test (a + i) ≡ true → (can ≡ true) × (a + i ≡ q))
-    → length (filter test (range_with_len a n)) ≤ cond can 1 0
-once_in test can q a zero h = omega arith
-once_in test can q a (suc n) h =
-    let later = λ (i : ℕ) (l : i < n) (t : test (a + 1 + i) ≡ true). h (i + 1) (omega arith) (ap test (add_one a i) ∙ t) in
-    elim (cases_Bool (test a)) [
-      | inl here ↦
-          let first = h 0 (omega arith) (ap test (add_zero a) ∙ here) in
-          rw (here, first.0) (omega (arith, once_in test false q (a + 1) n (λ i l t. absurd (omega (arith, first.1, (later i l t).1)))))
-      | inr off ↦ rw off (once_in test can q (a + 1) n (λ i l t. ((later i l t).0, omega (arith, (later i l t).1))))
-    ]
 
 pub same_places : (a b : Place) → same_place a b ≡ true → a ≡ b
 same_places a b h = let parts = and_parts (same_track a.track b.track) (a.slot == b.slot) h in
@@ -173,9 +133,3 @@ some_size PerTrack disk zone some h = let left : zone.spares < zone.sectors = gr
 some_size PerCylinder disk zone some h = grind (arith, nat_tests)
 
 -- ---- each entry is a slot of its cylinder
-
-pub all-parts : {A : Type 0} (P : A → Type 0) (f : ℕ → List A) (a n : ℕ) → ((k : ℕ) → a ≤ k → k < a + n → AllByRecursion P (f k))
-    → AllByRecursion P (flat_map f (range_with_len a n))
-all-parts P f a zero h = tt
-all-parts P f a (suc n) h = all_append P (f a) (flat_map f (range_with_len (a + 1) n)) (h a (omega arith) (omega arith))
-    (all-parts P f (a + 1) n (λ k from upto. h k (omega arith) (omega arith)))

@@ -1,11 +1,10 @@
 -- Orders of places and tracks, and the least of a list.
+use Rattle.fb_units.proofs.Among.{Among, among-tail}
+use Rattle.fb_units.proofs.Lists.{all_get}
 use Rattle.fb_units.proofs.Tracks.{same_tracks}
-use Rattle.fb_units.proofs.Lists.{all_get, get_left, get_right}
-use Rattle.fb_geometry.proofs.Words.{AllByRecursion, Bool, IsStrictWeakOrder, List, None, Option, Pairwise, Some, [], ap, arith}
-use Rattle.fb_geometry.proofs.Words.{cases_Bool, cases_lt, false, filter, get_or_from_slice_get, inl, inr, is_mark_before}
-use Rattle.fb_geometry.proofs.Words.{is_place_before, is_track_before, least, length, lesser, list_any, list_any_at, map, nat_lt}
-use Rattle.fb_geometry.proofs.Words.{nat_tests, none-some, or_cases, refl, same_Some, slice_get, slice_get_within, suc, sym, true}
-use Rattle.fb_geometry.proofs.Words.{true≢false, zero, ℕ, ◌++◌, ◌+◌, ◌-◌, ◌∙◌, ◌∷◌, ◌≡◌, ◌⊎◌}
+use Rattle.fb_geometry.proofs.Words.{Bool, IsStrictWeakOrder, List, None, Option, Pairwise, Some, [], ap, arith, false, inl, inr}
+use Rattle.fb_geometry.proofs.Words.{is_mark_before, is_place_before, is_track_before, least, lesser, nat_lt, nat_tests, none-some, refl}
+use Rattle.fb_geometry.proofs.Words.{same_Some, slice_get, suc, sym, zero, ◌∙◌, ◌∷◌, ◌≡◌, ◌⊎◌}
 use Rattle.fb_geometry.proofs.{Laws.same_places}
 
 -- what a test of an order keeps
@@ -29,13 +28,6 @@ pub marks_rank : IsStrictWeakOrder is_mark_before
 marks_rank = record { one_way = λ a b h. grind (arith, nat_tests); chain = λ a b c h k. grind (arith, nat_tests) }
 
 -- ---- elements
-
--- x is one of these
-abbrev pub Among : {A : Type 0} → List A → A → Type 0
-Among xs x = (k : ℕ) × (slice_get xs k ≡ Some x)
-
-pub among-tail : {A : Type 0} (x y : A) (xs : List A) → Among xs y → Among (x ∷ xs) y
-among-tail x y xs one = (suc one.0, one.1)
 
 lesser_is : {A : Type 0} (before : A → A → Bool) → IsOrder before → (y x : A) (o : Option A) → ((z : A) → o ≡ Some z → before z x ≡ false)
     → before y x ≡ false → (y ≡ x) ⊎ (o ≡ Some x) → lesser before y o ≡ Some x
@@ -79,37 +71,3 @@ least-head {A = A} before order xs (y ∷ ys) to from up = least-is before order
     behind z (suc k, at) = all_get (λ later. before later y ≡ false) ys k z up.0 at
 
 -- ---- what is among a list that is made of others
-
-pub among-right : {A : Type 0} (xs ys : List A) (x : A) → Among ys x → Among (xs ++ ys) x
-among-right xs ys x one = (length xs + one.0, get_right xs ys one.0 (length xs + one.0) refl ∙ one.1)
-
-pub among-append : {A : Type 0} (xs ys : List A) (x : A) → Among (xs ++ ys) x → Among xs x ⊎ Among ys x
-among-append xs ys x one = elim (cases_lt one.0 (length xs)) [
-  | inl front ↦ inl (one.0, sym (get_left xs ys one.0 front) ∙ one.1)
-  | inr behind ↦ inr (one.0 - length xs, sym (get_right xs ys (one.0 - length xs) one.0 (omega arith)) ∙ one.1)
-]
-
-pub among-filtered : {A : Type 0} (test : A → Bool) (xs : List A) (x : A) → Among (filter test xs) x → Among xs x × (test x ≡ true)
-among-filtered {A = A} test xs x one = all_get (λ y. Among xs y × (test y ≡ true)) (filter test xs) one.0 x (kept xs (λ y one. one)) one.1
-  where
-    kept : (ys : List A) → ((y : A) → Among ys y → Among xs y)
-        → AllByRecursion (λ y. Among xs y × (test y ≡ true)) (filter test ys)
-    kept [] within = tt
-    kept (y ∷ ys) within = let rest = kept ys (λ z one. within z (among-tail y z ys one)) in
-        elim (cases_Bool (test y)) [ inl in_ ↦ rw in_ ((within y (0, refl), in_), rest) | inr out ↦ rw out rest ]
-
-pub among-mapped : {A B : Type 0} (f : A → B) (xs : List A) (y : B) → Among (map f xs) y → (x : A) × Among xs x × (f x ≡ y)
-among-mapped f [] y one = absurd (none-some y one.1)
-among-mapped f (x ∷ xs) y (zero, at) = (x, (0, refl), same_Some (f x) y at)
-among-mapped f (x ∷ xs) y (suc k, at) = let found = among-mapped f xs y (k, at) in (found.0, among-tail x found.0 xs found.1, found.2)
-
-pub among-any : {A : Type 0} (test : A → Bool) (xs : List A) (x : A) → Among xs x → test x ≡ true → list_any test xs ≡ true
-among-any test xs x one e = list_any_at test xs one.0 x (slice_get_within xs one.0 x one.1)
-    (ap test (get_or_from_slice_get xs one.0 x x one.1) ∙ e)
-
-pub any-among : {A : Type 0} (test : A → Bool) (xs : List A) → list_any test xs ≡ true → (x : A) × Among xs x × (test x ≡ true)
-any-among test [] h = absurd (true≢false (sym h))
-any-among test (y ∷ xs) h = elim (or_cases (test y) (list_any test xs) h) [
-  | inl here ↦ (y, (0, refl), here)
-  | inr later ↦ let found = any-among test xs later in (found.0, among-tail y found.0 xs found.1, found.2)
-]

@@ -1,5 +1,4 @@
 pub mod Words
-pub mod Grid
 pub mod Slips
 pub mod Turns
 pub mod Faultless

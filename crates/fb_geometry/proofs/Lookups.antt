@@ -1,9 +1,11 @@
 -- Where the sectors of a cylinder are.
 use Rattle.fb_units.proofs.Comparing.{zero_add}
-use Rattle.fb_units.proofs.Lists.{element_at, get_left, get_right, all_filter, all_map_any}
-use Rattle.fb_geometry.proofs.Words.{Bool, HoldsNone, HoldsSector, IfNone, IfSome, IsAscending, IsGoodOf, IsZone, IsZoneAt, Layout}
-use Rattle.fb_geometry.proofs.Words.{LiesOn, List, MatchOption, None, Option, PerCylinder, PerTrack, Place, Shape, Some, Track, Zone, []}
-use Rattle.fb_geometry.proofs.Words.{ap, arith, by_head, cases_Bool, cond, cylinder_size_by, cylinder_slots, data_list, data_list_at}
+use Rattle.fb_units.proofs.Counts.{at_most_each, fewer, kept_and_dropped}
+use Rattle.fb_units.proofs.Lists.{all_filter, all_get, all_map_any, element_at, get_left, get_right}
+use Rattle.fb_units.proofs.Parts.{get_part, get_range, get_take, range-append}
+use Rattle.fb_geometry.proofs.Words.{Bool, HoldsNone, HoldsSector, IfNone, IfSome, IsAscending, IsGoodOf, IsZone, IsZoneAt, Layout, LiesOn}
+use Rattle.fb_geometry.proofs.Words.{List, MatchOption, None, Option, PerCylinder, PerTrack, Place, Shape, Some, Track, Zone, [], ap}
+use Rattle.fb_geometry.proofs.Words.{arith, by_head, cases_Bool, cond, cylinder_size_by, cylinder_slots, data_list, data_list_at}
 use Rattle.fb_geometry.proofs.Words.{data_list_by, div-add-mod', div_below, drop, entry_of_sector, false, filter, filter-append}
 use Rattle.fb_geometry.proofs.Words.{good_track, has_no_data, indexes, inl, inr, is_among, length, length-append, length-take}
 use Rattle.fb_geometry.proofs.Words.{length-take-le, map, map-append, mod-lt, mul-le, nat_tests, none-some, not, offset_in, position_in}
@@ -11,13 +13,12 @@ use Rattle.fb_geometry.proofs.Words.{range_with_len, rank, refl, replaced, same_
 use Rattle.fb_geometry.proofs.Words.{slot_at, spare_fault, stand_in, subst, suc, sym, take, take-append-drop, take-map-range_with_len}
 use Rattle.fb_geometry.proofs.Words.{take-take, true, true≢false, turn, zero, ℕ, ◌%◌, ◌*◌, ◌++◌, ◌+◌, ◌-◌, ◌/◌, ◌<◌, ◌==◌, ◌∙◌, ◌∷◌, ◌≡◌}
 use Rattle.fb_geometry.proofs.Words.{◌≤◌}
-use Rattle.fb_geometry.proofs.{Grid.get_part, Grid.get_range, Slips.has, Slips.indexes-ascend, Slips.slipped_to, Slips.is_marked_at}
-use Rattle.fb_geometry.proofs.{Slips.length_front, Slips.goes, Slips.kth, Slips.rank_marked, Slips.rank-below, Slips.rank-step}
-use Rattle.fb_geometry.proofs.{Slips.length-kept, Slips.entry_holds, Slips.one_entry, Slips.held, Turns.good_track-is}
-use Rattle.fb_geometry.proofs.{Turns.good_cylinder-is, Turns.range-append, Turns.length-cylinder_slots, Turns.get-cylinder_slots}
-use Rattle.fb_geometry.proofs.{Turns.position_in-slot_at, Turns.slot_at-position_in, Turns.position_below, Faultless.all_get}
-use Rattle.fb_geometry.proofs.{Faultless.slots_at-zone, Faultless.list_among-zone, Laws.length-track, Laws.length-good, Laws.few_flaws}
-use Rattle.fb_geometry.proofs.{Laws.length_data_list, Laws.kept_and_dropped, Laws.at_most_each, Laws.fewer, Laws.once_on_cylinder}
+use Rattle.fb_geometry.proofs.{Slips.has, Slips.indexes-ascend, Slips.slipped_to, Slips.is_marked_at, Slips.length_front, Slips.goes}
+use Rattle.fb_geometry.proofs.{Slips.kth, Slips.rank_marked, Slips.rank-below, Slips.rank-step, Slips.length-kept, Slips.entry_holds}
+use Rattle.fb_geometry.proofs.{Slips.one_entry, Slips.held, Turns.good_track-is, Turns.good_cylinder-is, Turns.length-cylinder_slots}
+use Rattle.fb_geometry.proofs.{Turns.get-cylinder_slots, Turns.position_in-slot_at, Turns.slot_at-position_in, Turns.position_below}
+use Rattle.fb_geometry.proofs.{Faultless.slots_at-zone, Faultless.list_among-zone, Laws.length-track, Laws.length-good}
+use Rattle.fb_geometry.proofs.{Laws.few_flaws, Laws.length_data_list, Laws.once_on_cylinder}
 
 -- the bad slots of a cylinder by their positions, its good slots, and the grown defects by their indexes among these
 abbrev pub defects_of : Shape → Zone → ℕ → List ℕ
@@ -28,12 +29,6 @@ good_of disk zone cylinder = filter (λ place. not (is_among disk.defects place)
 
 abbrev pub grown_of : Shape → Zone → ℕ → List ℕ
 grown_of disk zone cylinder = indexes (is_among disk.grown) 0 (by_head disk cylinder (good_track disk zone))
-
-get_take : {X : Type 0} (n : ℕ) (xs : List X) (i : ℕ) → i < n → slice_get (take n xs) i ≡ slice_get xs i
-get_take zero xs i h = absurd (omega arith)
-get_take (suc n) [] i h = refl
-get_take (suc n) (x ∷ xs) zero h = refl
-get_take (suc n) (x ∷ xs) (suc i) h = get_take n xs i (omega arith)
 
 -- no cylinder has more slots than there are numbers
 pub few_slots : (disk : Shape) (zone : Zone) → disk.heads ≤ 64 → IsZone zone → disk.heads * zone.sectors ≤ 640000

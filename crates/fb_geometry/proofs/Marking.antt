@@ -1,16 +1,18 @@
 -- Marks: what binary searches find among marks in order, and the marks of places.
-use Rattle.fb_units.proofs.Lists.{map_at, all_at}
-use Rattle.fb_geometry.proofs.Words.{AreInOrder, Bool, HasZones, IsAscending, IsNonDecreasingBy, IsNonDecreasingBy-drop, IsPartitionPoint}
+use Rattle.fb_units.proofs.Counts.{length-filter-map}
+use Rattle.fb_units.proofs.Lists.{all_at, map_at}
+use Rattle.fb_units.proofs.Searches.{at_point, find-none, point-is}
+use Rattle.fb_geometry.proofs.Words.{AreInOrder, HasZones, IsAscending, IsNonDecreasingBy, IsNonDecreasingBy-drop, IsPartitionPoint}
 use Rattle.fb_geometry.proofs.Words.{IsZoneOf, List, Mark, None, Place, Shape, Some, Zone, [], and_parts, ap, arith, cases_lt}
 use Rattle.fb_geometry.proofs.Words.{cylinders_of, drop, eqb-true, false, false_from_ne_true, filter, find, get_or, get_or-map, inl, inr}
-use Rattle.fb_geometry.proofs.Words.{is_lt, is_mark_before, is_outside, length, length-map, length-take-le, list_any, ltb-true, map}
-use Rattle.fb_geometry.proofs.Words.{mark_of, marks_on, nat_cmp, nat_le, nat_lt, nat_tests, not, not-false, ordering_then, position_in}
-use Rattle.fb_geometry.proofs.Words.{positions, rank, refl, same_mark, slice_get, slice_get-get_or, slipped, slot_at, slots_at, subst}
-use Rattle.fb_geometry.proofs.Words.{suc, sym, take, true, zero, zone_at, ℕ, ◌+◌, ◌-◌, ◌<◌, ◌==◌, ◌∙◌, ◌∷◌, ◌≡◌, ◌≤◌}
+use Rattle.fb_geometry.proofs.Words.{is_lt, is_mark_before, is_outside, length, length-map, list_any, ltb-true, mark_of, marks_on, nat_cmp}
+use Rattle.fb_geometry.proofs.Words.{nat_le, nat_lt, nat_tests, not, not-false, ordering_then, position_in, positions, rank, refl}
+use Rattle.fb_geometry.proofs.Words.{same_mark, slice_get, slice_get-get_or, slipped, slot_at, slots_at, subst, sym, take, true, zone_at}
+use Rattle.fb_geometry.proofs.Words.{ℕ, ◌+◌, ◌-◌, ◌<◌, ◌==◌, ◌∙◌, ◌∷◌, ◌≡◌, ◌≤◌}
 use Rattle.fb_geometry.proofs.{Slips.slipped_only, Slips.pairwise-filter, Slips.pairwise-map, Slips.rises, Slips.rank-at}
 use Rattle.fb_geometry.proofs.{Slips.rank_marked, Slips.rank-step, Slips.rank-below, Slips.has, Slips.rank-le_length, Slips.free_behind}
 use Rattle.fb_geometry.proofs.{Slips.next_marked, Turns.position_in-slot_at, Turns.slot_at-position_in, Faultless.slots_at-zone}
-use Rattle.fb_geometry.proofs.{Faultless.offset_at_zone, Faultless.find-none, Faultless.found_zone, Faultless.some_zone}
+use Rattle.fb_geometry.proofs.{Faultless.offset_at_zone, Faultless.found_zone, Faultless.some_zone}
 
 pub position_at : (marks : List Mark) (i : ℕ) (d : Mark) → i < length marks → get_or (positions marks) i 0 ≡ (get_or marks i d).position
 position_at marks i d h = get_or-map (λ mark. mark.position) marks i d 0 h
@@ -34,34 +36,6 @@ marks_on-ascend cylinder marks up =
     grind (arith, nat_tests)) marks up)
 
 -- ---- what searches find
-
--- before the point of a partition are the elements that pass, and behind it those that don't
-at_point : {X : Type 0} (p : X → Bool) (xs : List X) (i : ℕ) → IsPartitionPoint (λ y. p y ≡ true) (λ y. p y ≡ false) xs i
-    → (take i xs ≡ filter p xs) × (drop i xs ≡ filter (λ y. not (p y)) xs)
-at_point p [] zero at = (refl, refl)
-at_point p [] (suc i) at = (refl, refl)
-at_point p (x ∷ xs) zero at =
-    let out : p x ≡ false = at.1 0 x (omega arith) (omega arith) in
-    let rest = at_point p xs 0 (λ k d low high. absurd (omega arith), λ k d low high. at.1 (suc k) d (omega arith) (omega arith)) in
-    rw out (rest.0, ap (λ ys. x ∷ ys) rest.1)
-at_point p (x ∷ xs) (suc i) at =
-    let in_ : p x ≡ true = at.0 0 x (omega arith) (omega arith) in
-    let rest = at_point p xs i (
-      λ k d low high. at.0 (suc k) d (omega arith) (omega arith),
-      λ k d low high. at.1 (suc k) d (omega arith)
-          (omega arith),
-    ) in
-    rw in_ (ap (λ ys. x ∷ ys) rest.0, rest.1)
-
--- as many as pass come before the point
-pub point-is : {X : Type 0} (p : X → Bool) (xs : List X) (i : ℕ) → i ≤ length xs
-    → IsPartitionPoint (λ y. p y ≡ true) (λ y. p y ≡ false) xs i → length (filter p xs) ≡ i
-point-is p xs i h at = ap length (sym (at_point p xs i at).0) ∙ length-take-le i xs h
-
-pub length-filter-map : {X Y : Type 0} (p : Y → Bool) (f : X → Y) (xs : List X) → length (filter p (map f xs))
-    ≡ length (filter (λ x. p (f x)) xs)
-length-filter-map p f [] = refl
-length-filter-map p f (x ∷ xs) = grind (arith, length-filter-map p f xs)
 
 pub rank-is : (number : ℕ) (marks : List Mark) (i : ℕ) → i ≤ length marks
     → IsPartitionPoint (λ mark. nat_lt mark.position number ≡ true) (λ mark. nat_lt mark.position number ≡ false) marks i

@@ -1,53 +1,13 @@
 -- An accepted outline is sound: no place is twice among its places, and no bad one is among them.
-use Rattle.fb_units.proofs.Lists.{all_weaker, all_append, all_from_index}
+use Rattle.fb_units.proofs.Distinct.{Distinct, distinct-append, distinct-parts, distinct_from, one_index}
+use Rattle.fb_units.proofs.Lists.{all_append, all_from_index, all_get, all_weaker}
+use Rattle.fb_units.proofs.Parts.{all-parts}
 use Rattle.fb_geometry.proofs.Words.{AllByRecursion, HasOwnPlaces, IsFaultless, IsSound, IsZoneAt, List, Pairwise, PerTrack, Place, Shape}
-use Rattle.fb_geometry.proofs.Words.{Some, Zone, [], ap, arith, data_list, false, flat_map, is_among, nat_tests, none-some, places}
-use Rattle.fb_geometry.proofs.Words.{range_with_len, refl, same_Some, slice_get, suc, sym, zero, zone_places, ℕ, ◌++◌, ◌+◌, ◌-◌, ◌<◌, ◌∙◌}
-use Rattle.fb_geometry.proofs.Words.{◌∷◌, ◌≡◌, ◌≢◌, ◌≤◌}
-use Rattle.fb_geometry.proofs.{Faultless.all_get, Faultless.zones_follow, Faultless.Follow, Faultless.zone_by_bounds, Faultless.ranges_of}
-use Rattle.fb_geometry.proofs.{Faultless.some_zones, Faultless.few_cylinders, Faultless.data_of, Faultless.short_slots, Laws.all-parts}
+use Rattle.fb_geometry.proofs.Words.{Some, Zone, [], arith, data_list, false, flat_map, is_among, nat_tests, places, refl, slice_get, suc}
+use Rattle.fb_geometry.proofs.Words.{zone_places, ℕ, ◌+◌, ◌-◌, ◌<◌, ◌∷◌, ◌≡◌, ◌≤◌}
+use Rattle.fb_geometry.proofs.{Faultless.zones_follow, Faultless.Follow, Faultless.zone_by_bounds, Faultless.ranges_of}
+use Rattle.fb_geometry.proofs.{Faultless.some_zones, Faultless.few_cylinders, Faultless.data_of, Faultless.short_slots}
 use Rattle.fb_geometry.proofs.{Laws.length_data_list, Laws.some_size, Lookups.entry_of, Lookups.one_index_on}
-
--- each element differs from all that follow
-abbrev pub Distinct : {A : Type 0} → List A → Type 0
-Distinct [] = Unit {0}
-Distinct (x ∷ xs) = AllByRecursion (λ y. x ≢ y) xs × Distinct xs
-
--- in such a list an element has only one index
-pub one_index : {A : Type 0} (xs : List A) (i j : ℕ) (x : A) → Distinct xs → slice_get xs i ≡ Some x → slice_get xs j ≡ Some x → i ≡ j
-one_index [] i j x apart at again = absurd (none-some x at)
-one_index (y ∷ xs) zero zero x apart at again = refl
-one_index (y ∷ xs) zero (suc j) x apart at again = absurd (all_get (λ z. y ≢ z) xs j x apart.0 again (same_Some y x at))
-one_index (y ∷ xs) (suc i) zero x apart at again = absurd (all_get (λ z. y ≢ z) xs i x apart.0 at (same_Some y x again))
-one_index (y ∷ xs) (suc i) (suc j) x apart at again = ap suc (one_index xs i j x apart.1 at again)
-
--- lists that a key tells apart
-distinct-append : {A : Type 0} (key : A → ℕ) (b : ℕ) (xs ys : List A) → Distinct xs → Distinct ys → AllByRecursion (λ x. key x ≤ b) xs
-    → AllByRecursion (λ y. b < key y) ys → Distinct (xs ++ ys)
-distinct-append key b [] ys h k low high = k
-distinct-append key b (x ∷ xs) ys h k low high =
-    let apart = all_weaker (λ y. b < key y) (λ y. x ≢ y) (λ y more same. absurd (omega (arith, low.0, more, ap key same))) ys high in
-    (all_append (λ y. x ≢ y) xs ys h.0 apart, distinct-append key b xs ys h.1 k low.1 high)
-
--- parts that a key tells apart
-module _ {A : Type 0} (key : A → ℕ) (f : ℕ → List A) where
-  distinct-parts : (a n : ℕ) → ((k : ℕ) → a ≤ k → k < a + n → Distinct (f k) × AllByRecursion (λ x. key x ≡ k) (f k))
-      → Distinct (flat_map f (range_with_len a n))
-  distinct-parts a zero each = tt
-  distinct-parts a (suc n) each =
-      let first = each a (omega arith) (omega arith) in
-      let later = λ (k : ℕ) (from : a + 1 ≤ k) (upto : k < a + 1 + n). each k (omega arith) (omega arith) in
-      let rest : AllByRecursion (λ x. a < key x) (flat_map f (range_with_len (a + 1) n)) =
-      all-parts (λ x. a < key x) f (a + 1) n (λ k from upto. all_weaker (λ x. key x ≡ k) (λ x. a < key x) (λ x e. omega arith)
-      (f k) (later k from upto).1) in
-      distinct-append key a (f a) (flat_map f (range_with_len (a + 1) n)) first.0 (distinct-parts (a + 1) n later)
-      (all_weaker (λ x. key x ≡ a) (λ x. key x ≤ a) (λ x e. omega arith) (f a) first.1) rest
-
-distinct_from : {A : Type 0} (xs : List A) → ((i j : ℕ) (x : A) → slice_get xs i ≡ Some x → slice_get xs j ≡ Some x → i ≡ j) → Distinct xs
-distinct_from [] one = tt
-distinct_from (x ∷ xs) one =
-    let first = all_from_index (λ y. x ≢ y) xs (λ k y at same. absurd (omega (arith, one 0 (suc k) x refl (at ∙ ap Some (sym same))))) in
-    (first, distinct_from xs (λ i j y at again. omega (arith, one (suc i) (suc j) y at again)))
 
 -- ---- the whole disk
 

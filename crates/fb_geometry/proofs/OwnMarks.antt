@@ -1,5 +1,6 @@
 -- The marks of an accepted outline say which slots of each cylinder are bad.
-use Rattle.fb_units.proofs.Lists.{all_dropped, all_weaker, map_at}
+use Rattle.fb_units.proofs.Among.{Among, among-any, among-mapped, any-among}
+use Rattle.fb_units.proofs.Lists.{all_dropped, all_get, all_weaker, map_at}
 use Rattle.fb_geometry.proofs.Words.{AreInOrder, AreMarksOf, Bool, HasZones, IsAscending, AreOwnMarks, IsZoneAt, List, Mark, Pairwise}
 use Rattle.fb_geometry.proofs.Words.{Place, Shape, Some, Zone, [], among_unmarked, ap, arith, by_head, cases_order, cylinder_slots}
 use Rattle.fb_geometry.proofs.Words.{eq-eqb, false, filter, good_track, indexes, inl, inr, is_among, is_mark_before, is_outside, list_any}
@@ -8,11 +9,11 @@ use Rattle.fb_geometry.proofs.Words.{same_place, slice_get, slice_get_within, sl
 use Rattle.fb_geometry.proofs.Words.{◌+◌, ◌-◌, ◌<◌, ◌==◌, ◌∙◌, ◌∷◌, ◌≡◌}
 use Rattle.fb_geometry.proofs.{Slips.pairwise-map, Slips.all_over, Slips.not_among_later, Slips.indexes-ascend, Slips.is_marked_at}
 use Rattle.fb_geometry.proofs.{Slips.index_of, Slips.goes, Slips.rank_free, Slips.rank-below, Turns.get-cylinder_slots}
-use Rattle.fb_geometry.proofs.{Turns.length-cylinder_slots, Turns.good_cylinder-is, Faultless.slots_at-zone, Faultless.all_get}
+use Rattle.fb_geometry.proofs.{Turns.length-cylinder_slots, Turns.good_cylinder-is, Faultless.slots_at-zone}
 use Rattle.fb_geometry.proofs.{Laws.same_places, Lookups.slot_of, Lookups.good_lies, Lookups.defects_of, Lookups.good_of}
 use Rattle.fb_geometry.proofs.{Marking.marks_on-ascend, Marking.position_is, Marking.mark_of-slot_at, Marking.on_disk, Marking.among-on}
-use Rattle.fb_geometry.proofs.{Marking.same_marks, Marking.same_mark-refl, Leasts.Among, Leasts.among-mapped, Leasts.among-any}
-use Rattle.fb_geometry.proofs.{Leasts.any-among, Clashes.same_place-refl, Clashes.mark_among, Clashes.place_among, Clashes.inside_of}
+use Rattle.fb_geometry.proofs.{Marking.same_marks, Marking.same_mark-refl}
+use Rattle.fb_geometry.proofs.{Clashes.same_place-refl, Clashes.mark_among, Clashes.place_among, Clashes.inside_of}
 use Rattle.fb_geometry.proofs.{Clashes.among_others}
 
 -- ---- ascending numbers that have the same members

@@ -1,13 +1,13 @@
 -- Ascending numbers, and what is left of a list when the elements that pass a test are dropped.
-use Rattle.fb_units.proofs.Comparing.{zero_add}
-use Rattle.fb_units.proofs.Lists.{all_weaker, all_get, all_at, element_at}
+use Rattle.fb_units.proofs.Comparing.{add_zero, zero_add}
+use Rattle.fb_units.proofs.Counts.{count_cons}
+use Rattle.fb_units.proofs.Lists.{all_at, all_get, all_weaker, element_at}
 use Rattle.fb_geometry.proofs.Words.{AllByRecursion, Bool, HoldsSector, IsAscending, IsNonDecreasingBy, List, Pairwise, Some, [], ap}
 use Rattle.fb_geometry.proofs.Words.{arith, cases_Bool, cases_lt, cond, count_by-le-length, entry_of_sector, eq-eqb, false}
 use Rattle.fb_geometry.proofs.Words.{false_from_ne_true, filter, get_or, get_or_from_slice_get, indexes, inl, inr, le-ltb, length}
 use Rattle.fb_geometry.proofs.Words.{length-filter, length-filter_more, list_any, lt-ltb, map, nat_lt, nat_tests, ne_eqb, none-some, not}
 use Rattle.fb_geometry.proofs.Words.{option_map, rank, refl, same_Some, slice_get, slice_get-map, slice_get_within, slipped, subst, suc}
 use Rattle.fb_geometry.proofs.Words.{sym, take, true, true≢false, zero, ℕ, ◌+◌, ◌-◌, ◌<◌, ◌==◌, ◌∙◌, ◌∷◌, ◌≡◌, ◌≤◌}
-use Rattle.fb_geometry.proofs.{Grid.count_cons, Grid.add_zero}
 
 -- ---- elements that stand so to all that follow
 

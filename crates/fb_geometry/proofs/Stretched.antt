@@ -1,11 +1,12 @@
 -- Sectors on slots that follow one another, and cylinders of which no slot is bad.
+use Rattle.fb_units.proofs.Comparing.{add_zero}
 use Rattle.fb_geometry.proofs.Words.{Bool, Cylinder, HasNoBad, IsEven, IsGoodOf, IsStretch, IsZoneAt, KeepsOrder, Layout, LiesOn}
 use Rattle.fb_geometry.proofs.Words.{PerCylinder, PerTrack, Place, Shape, Some, Track, Zone, ap, arith, cases_lt, cylinder_slots}
 use Rattle.fb_geometry.proofs.Words.{data_list_at, div-add-mod', div_below, entry_of_sector, even_place, false, indexes, inl, inr}
 use Rattle.fb_geometry.proofs.Words.{is_among, length, max, mod-add-mod, mod-lt, offset_in, position_in, rank, refl, same_Some}
 use Rattle.fb_geometry.proofs.Words.{sectors_by, slice_get, slipped, slot_at, subst, sym, true, true≢false, turn_position, zone_at, ℕ}
 use Rattle.fb_geometry.proofs.Words.{◌%◌, ◌*◌, ◌+◌, ◌-◌, ◌/◌, ◌<◌, ◌∙◌, ◌≡◌, ◌≤◌, ◌⊎◌}
-use Rattle.fb_geometry.proofs.{Grid.add_zero, Slips.has, Slips.stays_at, Slips.slipped_to, Slips.slipped_on, Turns.slot_on}
+use Rattle.fb_geometry.proofs.{Slips.has, Slips.stays_at, Slips.slipped_to, Slips.slipped_on, Turns.slot_on}
 use Rattle.fb_geometry.proofs.{Turns.round-back, Turns.offset_below, Turns.position_in-slot_at, Faultless.slots_at-zone}
 use Rattle.fb_geometry.proofs.{Faultless.offset_at_zone, Lookups.defects_of, Lookups.grown_of, Lookups.grown_ascend}
 use Rattle.fb_geometry.proofs.{Lookups.defects_ascend, Lookups.split_by_track, Lookups.place_by_track, Lookups.place_by_cylinder}

@@ -1,12 +1,11 @@
 -- The slots of a cylinder in the order of their turns, as one list.
-use Rattle.fb_units.proofs.Comparing.{zero_add}
 use Rattle.fb_units.proofs.Lists.{flat_map_same}
-use Rattle.fb_geometry.proofs.Words.{Bool, List, Place, Shape, Some, Track, Zone, [], add-mod_left, ap, arith, by_head, cases_lt}
-use Rattle.fb_geometry.proofs.Words.{cylinder_slots, div-add-mod', div-mul-add, filter, filter-append, flat_map, good_track, inl, inr}
-use Rattle.fb_geometry.proofs.Words.{is_among, length, length-map-range_with_len, map, map-append, mod-eq_of_lt, mod-lt, mod-mul-add}
-use Rattle.fb_geometry.proofs.Words.{mul-add-lt, not, offset_in, option_map, position_in, range_with_len, refl, slice_get, slice_get-map}
-use Rattle.fb_geometry.proofs.Words.{slot_at, suc, sym, turn, zero, ℕ, ◌%◌, ◌*◌, ◌++◌, ◌+◌, ◌-◌, ◌/◌, ◌<◌, ◌∙◌, ◌∷◌, ◌≡◌, ◌≤◌}
-use Rattle.fb_geometry.proofs.{Grid.get_range, Grid.add_zero, Grid.add_one}
+use Rattle.fb_units.proofs.Parts.{filter-flat_map, flat-ranges, get_range, map-ranges, range-append}
+use Rattle.fb_geometry.proofs.Words.{Bool, Place, Shape, Some, Track, Zone, add-mod_left, ap, arith, by_head, cases_lt, cylinder_slots}
+use Rattle.fb_geometry.proofs.Words.{div-add-mod', div-mul-add, filter, good_track, inl, inr, is_among, length, length-map-range_with_len}
+use Rattle.fb_geometry.proofs.Words.{map, map-append, mod-eq_of_lt, mod-lt, mod-mul-add, mul-add-lt, not, offset_in, option_map}
+use Rattle.fb_geometry.proofs.Words.{position_in, range_with_len, refl, slice_get, slice_get-map, slot_at, sym, turn, ℕ, ◌%◌, ◌*◌, ◌++◌}
+use Rattle.fb_geometry.proofs.Words.{◌+◌, ◌-◌, ◌/◌, ◌<◌, ◌∙◌, ◌≡◌, ◌≤◌}
 
 -- ---- once round
 
@@ -33,38 +32,7 @@ round-forward offset slot n o h = elim (cases_lt slot offset) [
 
 -- ---- ranges
 
-map-ranges : {X : Type 0} (f g : ℕ → X) (a b n : ℕ) → ((i : ℕ) → i < n → f (a + i) ≡ g (b + i)) → map f (range_with_len a n)
-    ≡ map g (range_with_len b n)
-map-ranges f g a b zero same = refl
-map-ranges f g a b (suc n) same =
-    let head : f a ≡ g b = ap f (sym (add_zero a)) ∙ (same 0 (omega arith) ∙ ap g (add_zero b)) in
-    let tail : map f (range_with_len (a + 1) n) ≡ map g (range_with_len (b + 1) n) =
-    map-ranges f g (a + 1) (b + 1) n (λ i h. ap f (sym (add_one a i)) ∙ (same (i + 1) (omega arith) ∙ ap g (add_one b i))) in
-    ap (λ x. x ∷ map f (range_with_len (a + 1) n)) head ∙ ap (λ xs. g b ∷ xs) tail
-
-pub range-append : (a m n : ℕ) → range_with_len a (m + n) ≡ range_with_len a m ++ range_with_len (a + m) n
-range-append a zero n = ap (range_with_len a) (zero_add n) ∙ ap (λ x. range_with_len x n) (sym (add_zero a))
-range-append a (suc m) n = let longer : suc m + n ≡ suc (m + n) = omega arith in
-    ap (range_with_len a) longer ∙ ap (λ xs. a ∷ xs) (range-append (a + 1) m n
-    ∙ ap (λ x. range_with_len (a + 1) m ++ range_with_len x n) (omega arith))
-
 -- ---- positions and places
-
-pub filter-flat_map : {X A : Type 0} (p : A → Bool) (f : X → List A) (xs : List X) → flat_map (λ x. filter p (f x)) xs
-    ≡ filter p (flat_map f xs)
-filter-flat_map p f [] = refl
-filter-flat_map p f (x ∷ xs) = ap (λ ys. filter p (f x) ++ ys) (filter-flat_map p f xs) ∙ sym (filter-append p (f x) (flat_map f xs))
-
--- parts of one length, one after another
-flat-ranges : {A : Type 0} (g : ℕ → A) (n a h : ℕ) → flat_map (λ k. map g (range_with_len (k * n) n)) (range_with_len a h)
-    ≡ map g (range_with_len (a * n) (h * n))
-flat-ranges g n a zero = let none : 0 ≡ 0 * n = omega arith in ap (λ m. map g (range_with_len (a * n) m)) none
-flat-ranges g n a (suc h) =
-    let next : (a + 1) * n ≡ a * n + n = omega arith in
-    let more : n + h * n ≡ suc h * n = omega arith in
-    ap (λ xs. map g (range_with_len (a * n) n) ++ xs) (flat-ranges g n (a + 1) h ∙ ap (λ b. map g (range_with_len b (h * n))) next)
-    ∙ (sym (map-append g (range_with_len (a * n) n) (range_with_len (a * n + n) (h * n))) ∙ ap (map g) (sym (range-append (a * n) n (h * n))
-    ∙ ap (range_with_len (a * n)) more))
 
 module _ (zone : Zone) (heads : ℕ) (some : 0 < zone.sectors) where
   -- the place at a position of a track

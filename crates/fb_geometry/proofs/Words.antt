@@ -1,10 +1,10 @@
 -- The names that the proofs cite, of this crate's words and of the crates below: each proof takes them from here.
 pub use Rattle.std.proofs.Common.{Bool, List, None, Option, Some, [], ap, arith, cond, drop, false, get_or, inl, inr}
 pub use Rattle.std.proofs.Common.{length, map, max, not, refl, rules, subst, suc, sym, take, tests, true, zero, ℕ, ◌%◌, ◌*◌, ◌++◌, ◌+◌}
-pub use Rattle.std.proofs.Common.{◌-◌, ◌/◌, ◌<◌, ◌^◌, ◌∙◌, ◌∷◌, ◌≡◌, ◌≢◌, ◌≤◌, ◌⊎◌}
+pub use Rattle.std.proofs.Common.{◌-◌, ◌/◌, ◌<◌, ◌^◌, ◌∙◌, ◌∷◌, ◌≡◌, ◌≤◌, ◌⊎◌}
 pub use Rattle.std.proofs.Math.Nat.{add-mod_left, mod-add-mod, mod-eq_of_lt, mod-lt}
 pub use Rattle.std.proofs.lemmas.Bool.{and_parts, cases_Bool, cases_lt, cases_order, eq-eqb, eqb-true, false_from_ne_true, le-leb, le-ltb}
-pub use Rattle.std.proofs.lemmas.Bool.{leb-true, lt-leb, lt-ltb, ltb-false, ltb-true, ne_eqb, not-false, or_cases, or_left, or_parts}
+pub use Rattle.std.proofs.lemmas.Bool.{leb-true, lt-leb, lt-ltb, ltb-false, ltb-true, ne_eqb, not-false, or_left, or_parts}
 pub use Rattle.std.proofs.lemmas.Bool.{true≢false}
 pub use Rattle.std.proofs.lemmas.{Bool.Decides.nat_tests, Iterator.YieldsList-from_slice, Iterator.Search.any_from_yields_List}
 pub use Rattle.std.proofs.lemmas.{Iterator.Search.position_from_yields_List, Map.Keys.IsDistinct-IsPermutation}
@@ -12,21 +12,20 @@ pub use Rattle.std.proofs.lemmas.{Result.err_from_is_err_and}
 pub use Rattle.std.proofs.lemmas.List.{append-nil, get_or-map, length-append, length-map, length-take, length-take-le, map-append}
 pub use Rattle.std.proofs.lemmas.List.{take-append-drop, take-take}
 pub use Rattle.std.proofs.lemmas.List.Elements.{All-append, All-from_get_or, All-from_recursion, filter-append, recursion_from_All}
-pub use Rattle.std.proofs.lemmas.List.Filters.{length-filter_both, length-filter_more}
-pub use Rattle.std.proofs.lemmas.List.Folds.{find_at, list_any_at}
+pub use Rattle.std.proofs.lemmas.List.Filters.{length-filter_more}
 pub use Rattle.std.proofs.lemmas.List.FromFn.{length-map-range_with_len, length-range_with_len, take-map-range_with_len}
-pub use Rattle.std.proofs.lemmas.List.Sorted.{All-permutation, Contains-permutation, IsNonDecreasingBy-drop, IsPartitionPoint-from_clause}
+pub use Rattle.std.proofs.lemmas.List.Sorted.{All-permutation, IsNonDecreasingBy-drop, IsPartitionPoint-from_clause}
 pub use Rattle.std.proofs.lemmas.List.Sorted.{IsPartitionedBy-leb, IsPartitionedBy-ltb, IsPermutation-map, IsPermutation-sym}
-pub use Rattle.std.proofs.lemmas.List.Sorted.{list_any-IsPermutation, sorted_far, sum_by-IsPermutation}
-pub use Rattle.std.proofs.lemmas.List.Sums.{count_by-le-length, fails_before_first, length-filter}
+pub use Rattle.std.proofs.lemmas.List.Sorted.{list_any-IsPermutation, sorted_far}
+pub use Rattle.std.proofs.lemmas.List.Sums.{count_by-le-length, length-filter}
 pub use Rattle.std.proofs.lemmas.Nat.{div-add-mod', div-mul-add, div_below, le-div, mod-mul-add, mul-add-lt, mul-le}
 pub use Rattle.std.proofs.lemmas.Option.{get_or_from_slice_get, none-some, same_Some, slice_get-get_or, slice_get-map, slice_get_within}
 pub use Rattle.std.specs.{Cmp.IsStrictWeakOrder, Ordering.is_lt, Ordering.nat_cmp, Ordering.ordering_then}
 unfoldable pub use Rattle.std.specs.List.{IsDistinct}
-pub use Rattle.std.specs.List.{AllByRecursion, flat_map, list_any, position_or_len, range_with_len, slice_index_or}
+pub use Rattle.std.specs.List.{AllByRecursion, flat_map, list_any, range_with_len, slice_index_or}
 pub use Rattle.std.specs.List.Sorted.{IsNonDecreasingBy, IsPartitionPoint, IsPartitionedBy, IsPermutation, IsSortedBy}
-pub use Rattle.std.specs.Prelude.{All, IfNone, IfSome, MatchOption, filter, find, if◌then◌else◌, nat_le, nat_lt, option_map, position}
-pub use Rattle.std.specs.Prelude.{slice_get, ◌==◌, ◌||◌}
+pub use Rattle.std.specs.Prelude.{All, IfNone, IfSome, MatchOption, filter, find, if◌then◌else◌, nat_le, nat_lt, option_map}
+pub use Rattle.std.specs.Prelude.{slice_get, ◌==◌}
 pub use Rattle.fb_units.specs.{Tracks.same_track, declared.types.Place.Place, declared.types.Track.Track}
 pub use Rattle.fb_units.specs.declared.read_error.ReadError.{ReadError, TheVariants.Fault, TheVariants.NoMemory}
 pub use Rattle.fb_geometry.specs.{Angles.CoverRotation, Kept.zone_fault, Marks.same_mark, Places.zone_places, Shape.turn_position}

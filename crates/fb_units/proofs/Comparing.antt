@@ -28,6 +28,12 @@ if_le false b n h = omega arith
 pub zero_add : (a : ℕ) → 0 + a ≡ a
 zero_add a = omega arith
 
+pub add_zero : (a : ℕ) → a + 0 ≡ a
+add_zero a = omega arith
+
+pub add_one : (a i : ℕ) → a + (i + 1) ≡ a + 1 + i
+add_one a i = omega arith
+
 pub rising_push : (xs : List ℕ) (x : ℕ) → IsRising xs → AllByRecursion (λ y. y ≤ x) xs → IsRising (xs ++ x ∷ [])
 rising_push [] x rising all = (tt, tt)
 rising_push (y ∷ xs) x rising all = (all_push (λ later. y ≤ later) xs x rising.0 all.0, rising_push xs x rising.1 all.1)

@@ -1,5 +1,6 @@
+use Rattle.fb_units.proofs.Searches.{find-none}
 use Rattle.fb_geometry.proofs.Words.{IsPermutation, get_or, is_mark_before, is_outside, subst, sym, ◌+◌, ◌∙◌}
-use Rattle.fb_geometry.proofs.{Faultless.find-none, Marking.sorted_by, Leasts.marks_rank, Clashes.sorted-rise, Clashes.marks_in_order}
+use Rattle.fb_geometry.proofs.{Marking.sorted_by, Leasts.marks_rank, Clashes.sorted-rise, Clashes.marks_in_order}
 use Rattle.fb_geometry.proofs.outline.Outline.marks.Goals as goal
 
 pub returns : goal.returns
