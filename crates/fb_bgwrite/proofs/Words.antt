@@ -21,6 +21,8 @@ pub use Rattle.fb_units.specs.Rising.{IsRising}
 pub use Rattle.fb_units.specs.Tracks.{same_track}
 pub use Rattle.fb_units.specs.declared.types.Sweep.{Sweep}
 pub use Rattle.fb_units.specs.declared.types.Track.{Track}
+pub use Rattle.fb_units.proofs.Filtered.{none_kept}
+pub use Rattle.fb_units.proofs.Each.{all_map}
 pub use Rattle.fb_geometry.specs.Places.{places}
 pub use Rattle.fb_geometry.specs.Shape.{IsTrackOf, Shape, cylinders_of, slots_at}
 pub use Rattle.fb_geometry.specs.Sound.{HasOwnPlaces, IsSound}
@@ -66,7 +68,6 @@ pub use Rattle.fb_model.specs.Timeline.{IsPossible, Leg, arrival, can_follow, ga
 pub use Rattle.fb_model.specs.Timeline.{service_legs, stay, way}
 unfoldable pub use Rattle.fb_model.specs.Timeline.{led_to, timeline}
 pub use Rattle.fb_model.proofs.Leads.{Leads, lead_gap, lead_on, lead_stay, lead_to_target, lead_way}
-pub use Rattle.fb_model.proofs.Lists.{all_map, none_kept}
 pub use Rattle.fb_plan.specs.Order.{catch_of, is_before, place_in}
 unfoldable pub use Rattle.fb_plan.specs.Order.{caught_of}
 pub use Rattle.fb_plan.specs.Ways.{AreOnDisk}

@@ -1,11 +1,12 @@
 -- What a stay writes is what its track offers to it.
+use Rattle.fb_units.proofs.Filtered.{filter_from}
 use Rattle.fb_plan.proofs.Both.{sum-agree}
 use Rattle.fb_bgwrite.proofs.Words.{◌≡◌, ℕ, ◌+◌, ◌<◌, ◌≤◌, List, true, false, Some, slice_get, length, max, inl, inr, refl}
 use Rattle.fb_bgwrite.proofs.Words.{sym, ap, ◌∙◌, subst, arith, if◌then◌else◌, ◌⊎◌, sum_by, nat_le, cases_lt, nat_tests}
 use Rattle.fb_bgwrite.proofs.Words.{slice_get_within, same_track, Sweep, Track, Disk, Block, Entry, is_wanted, on_track, Offer, AreOffers}
 use Rattle.fb_bgwrite.proofs.Words.{Dwell, block_end, AreOnDisk, IsBlockOn, Turning, IsTurning, added, end_of, passes_by}
 use Rattle.fb_bgwrite.proofs.Words.{stay_gain, some_one, OneEndsAt, IsLastEnd}
-use Rattle.fb_plan.proofs.{Gains.adds, Gains.in_filter}
+use Rattle.fb_plan.proofs.{Gains.adds}
 use Rattle.fb_plan.proofs.{Offered.block-of, Offered.entry-of, Offered.offer-of, Offered.sum-offered, Offered.wanted-at}
 use Rattle.fb_plan.proofs.Swept.{turning-end}
 use Rattle.fb_bgwrite.proofs.Values.{passes, EndsAt, IsLast}
@@ -119,7 +120,7 @@ module _ (disk : Disk) (track : Track) (latest : ℕ) (entries blocks : List Ent
   over b o fits same = ap sweep_end same ∙ ends_as b fits
 
   here : (i : ℕ) (e : Entry) → slice_get blocks i ≡ Some e → same_track track e.block.track ≡ true
-  here i e at = (in_filter (λ (x : Entry). same_track track x.block.track) entries i e (ap (λ l. slice_get l i) (sym its) ∙ at)).2
+  here i e at = (filter_from (λ (x : Entry). same_track track x.block.track) entries i e (ap (λ l. slice_get l i) (sym its) ∙ at)).2
 
   adds_as : (e : Entry) → IsBlockOn disk.map e.block → same_track track e.block.track ≡ true
       → adds (λ b. passes_by turning latest b.sweep) e ≡ stay_gain disk stay e

@@ -5,6 +5,7 @@ use Rattle.std.specs.Prelude.{Option}
 use Rattle.std.specs.List.{AllByRecursion}
 use Rattle.std.proofs.lemmas.List.{map-append, length-map}
 use Rattle.fb_units.specs.declared.types.Request.{Request}
+use Rattle.fb_units.proofs.Lists.{all_weaker}
 use Rattle.fb_calls.specs.Allowed as allowed
 use Rattle.fb_rows.specs.Tasks.{HasNamedTask}
 use Rattle.fb_rows.specs.declared.fore.ForeRow.{ForeRow}
@@ -15,7 +16,6 @@ use Rattle.fb_model.specs.Content.{medium_of}
 use Rattle.fb_model.specs.Decisions.{decisions, run_end}
 use Rattle.fb_model.specs.Steps.{Step, decision_in, decisions_in, history, step_rows, task_rows}
 use Rattle.fb_model.specs.FullRun.{IsFull}
-use Rattle.fb_tasks.proofs.Lists.{all_weaker}
 use Rattle.fb_decide.specs.declared.deciding.Course.{Course}
 use Rattle.fb_decide.specs.Making.{RowFits, fore_row_of, decisions_by, rest_of, HasMade, HasMadeOne, decisions_left}
 use Rattle.fb_report.specs.declared.bytes.Bytes.{Bytes}

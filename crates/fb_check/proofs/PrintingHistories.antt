@@ -4,11 +4,12 @@ use Rattle.std.proofs.Common.{drop, append-nil, refl, ap, sym, ◌∙◌, subst,
 use Rattle.std.specs.Prelude.{◌&&◌, not, if◌then◌else◌}
 use Rattle.std.specs.List.{AllByRecursion, fold, best_of, slice_index_or}
 use Rattle.std.proofs.Math.Bool.{or-true}
-use Rattle.std.proofs.lemmas.Bool.{cases_Bool, cases_lt, true≢false, and_parts, or_parts}
+use Rattle.std.proofs.lemmas.Bool.{and_parts, cases_Bool, cases_lt, eqb-true as same_number, ne_eqb as number_other, or_parts, true≢false}
 use Rattle.std.proofs.lemmas.List.Elements.{filter-append}
 use Rattle.std.proofs.lemmas.List.Folds.{list_any-append}
 use Rattle.fb_tasks.proofs.ChoiceSteps.{no_backup}
 use Rattle.fb_units.proofs.Comparing.{same_number as number_same}
+use Rattle.fb_units.proofs.Lists.{all_append}
 use Rattle.fb_geometry.specs.Shape.{Shape}
 use Rattle.fb_geometry.specs.Places.{places}
 use Rattle.fb_sectormap.specs.declared.cut.Cut.{Cut}
@@ -32,7 +33,6 @@ use Rattle.fb_model.specs.Steps.{Delivery, Step, decision_in, blocks_by, take_ca
 use Rattle.fb_model.specs.Steps.{tested_past, past_after}
 use Rattle.fb_model.proofs.HistoriesUpTo.{due_first}
 use Rattle.fb_tasks.proofs.Rules.{open_there, terms_there}
-use Rattle.fb_tasks.proofs.Lists.{all_append, same_number, number_other}
 use Rattle.fb_check.proofs.PrintingSectors.{HasSector, IsSome, sectors, own, some_cut, some_live, some_numbered, numbered_have, none_other}
 use Rattle.fb_check.proofs.PrintingSectors.{some_have, cuts_have}
 

@@ -2,7 +2,7 @@
 use Rattle.std.proofs.Common.{◌≡◌, ℕ, ◌+◌, List, [], ◌∷◌, true, length, Ok, subst}
 use Rattle.std.specs.Prelude.{not, ◌&&◌}
 use Rattle.std.proofs.lemmas.Bool.{and_parts, not-false}
-use Rattle.fb_units.proofs.Lists.{same_Ok}
+use Rattle.fb_units.proofs.Lists.{all_append, same_Ok}
 use Rattle.fb_units.proofs.Judged.{both_ok, step_ok}
 use Rattle.fb_units.specs.Judging.{or_refuse}
 use Rattle.fb_units.specs.Lines.{lines_of, fields_of}
@@ -18,7 +18,6 @@ use Rattle.fb_script.specs.Judgement.{Progress, call_of, with_call}
 use Rattle.fb_script.specs.Line.{Entry, entry_of, has_its_fields, asked_by}
 use Rattle.fb_script.specs.Reading.{Accepted, at_start, at_end, line_read, fault_at, next_progress, lines_from}
 use Rattle.fb_script.proofs.Accepting.{passed}
-use Rattle.fb_tasks.proofs.Lists.{all_append}
 use Rattle.fb_report.specs.Printed.{AreNames}
 use Rattle.fb_check.specs.Printing.{ScriptsNameTasks}
 

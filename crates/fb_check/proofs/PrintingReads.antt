@@ -4,6 +4,7 @@ use Rattle.std.specs.Prelude.{Bool, map}
 use Rattle.std.specs.List.{AllByRecursion}
 use Rattle.std.proofs.lemmas.List.{length-map}
 use Rattle.fb_units.specs.declared.types.Track.{Track}
+use Rattle.fb_units.proofs.Each.{all_map}
 use Rattle.fb_service.specs.declared.disk.Disk.{Disk}
 use Rattle.fb_service.specs.declared.passage.Passage.{Passage}
 use Rattle.fb_service.specs.Service.{passages}
@@ -15,7 +16,6 @@ use Rattle.fb_model.specs.Content.{Medium, medium_of, content, fore_row, fore_ro
 use Rattle.fb_model.specs.Decisions.{Decision, serves, idles, ends, decisions}
 use Rattle.fb_model.proofs.Passages.{LiesOnDisk, requests_lie}
 use Rattle.fb_decide.proofs.Chain.{Follow, services, decisions_follow}
-use Rattle.fb_tasks.proofs.Lists.{all_map}
 use Rattle.fb_report.specs.Printed.{ReadsSectors}
 use Rattle.fb_check.proofs.PrintingSectors.{runs_have}
 

@@ -3,6 +3,8 @@ use Rattle.std.proofs.Common.{ℕ, List, [], ◌∷◌, ◌++◌, sym, subst, ar
 use Rattle.std.specs.Prelude.{◌&&◌, not, filter, map}
 use Rattle.std.specs.List.{AllByRecursion, flat_map}
 use Rattle.std.proofs.lemmas.Bool.{cases_Bool, and_parts}
+use Rattle.fb_units.proofs.Lists.{all_append, all_filter, all_weaker}
+use Rattle.fb_units.proofs.Each.{all_any, all_map, flat_all}
 use Rattle.fb_calls.specs.Sessions.{is_backup}
 use Rattle.fb_wanted.specs.declared.block.Block.{Block}
 use Rattle.fb_wanted.specs.States.{is_delivered, is_wanted}
@@ -22,7 +24,6 @@ use Rattle.fb_model.specs.Steps.{step_rows, task_row, task_rows, history}
 use Rattle.fb_model.specs.SoundRun.{AreFollowed, IsTested}
 use Rattle.fb_model.specs.FullRun.{IsAllDelivered}
 use Rattle.fb_model.proofs.Due.{HasBytes, IsDueRow, due_block, due_bytes, due_true}
-use Rattle.fb_tasks.proofs.Lists.{all_weaker, all_any, all_append, all_filter, all_map, flat_all}
 use Rattle.fb_report.specs.Printed.{HasSectors, CountsSectors}
 use Rattle.fb_check.specs.Printing.{RunsCanBePrinted}
 use Rattle.fb_check.proofs.PrintingSectors.{IsSome, runs_have, contents_have, some_have, blocks_have}

@@ -7,6 +7,7 @@ use Rattle.std.proofs.lemmas.Bool.{cases_Bool}
 use Rattle.std.proofs.lemmas.List.Sums.{sum_by-cons}
 use Rattle.std.proofs.lemmas.List.Filters.{sum_by-filter_both}
 use Rattle.std.proofs.lemmas.List.FromFn.{length-map-range_with_len}
+use Rattle.fb_units.proofs.Lists.{all_append}
 use Rattle.fb_geometry.specs.Shape.{Shape}
 use Rattle.fb_sectormap.specs.declared.cut.Cut.{Cut}
 use Rattle.fb_sectormap.specs.Cutting.{cut_of, cutting, with_sector, is_cut_before}
@@ -17,7 +18,6 @@ use Rattle.fb_store.specs.Runs.{runs_of, with_content, same_content}
 use Rattle.fb_wanted.specs.declared.block.Block.{Block}
 use Rattle.fb_model.specs.Content.{Medium, content, contents_at}
 use Rattle.fb_model.specs.Segments.{numbered}
-use Rattle.fb_tasks.proofs.Lists.{all_append}
 
 -- ---- runs
 

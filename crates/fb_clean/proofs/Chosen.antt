@@ -104,12 +104,6 @@ some_at seen segments i same within =
     let less : i < length segments = omega (arith, within, ap length same) in
     let there = element_at segments i less in (less, there.0, there.1)
 
--- the index that holds the best of all
-pub held_within : (segments : List LogSegment) (n : ℕ) (best : Option ℕ) → n ≤ length segments → HoldsBest segments n best
-    → IfSome best (λ b. b < length segments)
-held_within segments n None le holds = tt
-held_within segments n (Some b) le holds = let less = holds.0 in omega arith
-
 pub held_some : (segments : List LogSegment) (n : ℕ) (best : Option ℕ) → length segments ≤ n → HoldsBest segments n best
     → IfSome best (λ b. slice_get segments b ≡ first_best (waiting segments))
 held_some segments n None all holds = tt

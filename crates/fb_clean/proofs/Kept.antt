@@ -44,13 +44,6 @@ pub within_more : (block : ℕ) (segments : List LogSegment) (s : LogSegment) �
 within_more block [] s within here = (here, tt)
 within_more block (x ∷ segments) s within here = (within.0, within_more block segments s within.1 here)
 
-pub within_at : (block : ℕ) (segments : List LogSegment) (i : ℕ) (s : LogSegment) → AreWithin block segments → slice_get segments i ≡ Some s
-    → AllByRecursion (λ lbn. lbn + block ≤ 10 ^ 12) s.live
-within_at block [] i s within at = absurd (grind arith)
-within_at block (x ∷ segments) zero s within at =
-    subst (λ y. AllByRecursion (λ lbn. lbn + block ≤ 10 ^ 12) y.live) (same_Some x s at) within.0
-within_at block (x ∷ segments) (suc i) s within at = within_at block segments i s within.1 at
-
 -- a segment with this number no longer waits
 abbrev pub stop_at : ℕ → LogSegment → LogSegment
 stop_at number s = cond (s.number == number) (no_longer_waiting s) s

@@ -6,13 +6,14 @@ use Rattle.std.specs.List.{AllByRecursion, fold}
 use Rattle.std.proofs.lemmas.List.{drop_more, drop_all, length-drop}
 use Rattle.fb_units.specs.declared.types.Request.{Request}
 use Rattle.fb_units.specs.Rising.{IsRising}
+use Rattle.fb_units.proofs.Lists.{all_append, all_weaker}
+use Rattle.fb_units.proofs.Each.{all_any, all_unmapped}
+use Rattle.fb_units.proofs.Comparing.{after_is, by_is}
 use Rattle.fb_calls.specs.declared.call.Call.{Call}
 use Rattle.fb_calls.specs.declared.call.Action.{Action}
 use Rattle.fb_calls.specs.declared.call.Action.TheVariants.{Promote}
 use Rattle.fb_calls.specs.Promoted.{read_of, promoted_from, promoted}
 use Rattle.fb_model.specs.Foreground.{behind}
-use Rattle.fb_tasks.proofs.Lists.{all_weaker, all_any, all_append}
-use Rattle.fb_model.proofs.Lists.{all_unmapped, by_is, after_is}
 
 -- a read goes behind all of these
 pub passed_by : (early later : List Request) (read : Request) → AllByRecursion (λ r. r.arrival ≤ read.arrival) early

@@ -4,6 +4,7 @@ use Rattle.std.proofs.Common.{subst}
 use Rattle.std.specs.Prelude.{slice_get, IfSome}
 use Rattle.std.specs.List.{fold}
 use Rattle.fb_units.specs.Rising.{IsRising}
+use Rattle.fb_units.proofs.Comparing.{after_is, by_is}
 use Rattle.fb_geometry.specs.Shape.{Shape}
 use Rattle.fb_calls.specs.declared.call.Call.{Call}
 use Rattle.fb_calls.specs.Allowed.{blocks_from}
@@ -17,7 +18,6 @@ use Rattle.fb_tasks.specs.Telling.{Tells, MayTake, MayChooseAndTest}
 use Rattle.fb_tasks.proofs.Calls.{count-is, left-is, may-take, called-more, called-delivered}
 use Rattle.fb_decide.specs.Calls.{IsScriptOf, IsCalled}
 use Rattle.fb_decide.specs.Deliveries.{past_with}
-use Rattle.fb_model.proofs.Lists.{by_is, after_is}
 use Rattle.fb_model.proofs.HistoriesUpTo.{calls_by, none_come}
 use Rattle.std.proofs.lemmas.List.{drop_all}
 

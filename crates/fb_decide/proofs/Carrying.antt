@@ -5,7 +5,7 @@ use Rattle.std.specs.List.{fold, AllByRecursion}
 use Rattle.std.proofs.lemmas.Bool.{cases_Bool}
 use Rattle.std.proofs.lemmas.Bool.Decides.{nat_tests}
 use Rattle.fb_units.proofs.Tracks.{track_itself}
-use Rattle.fb_units.proofs.Lists.{take_at}
+use Rattle.fb_units.proofs.Lists.{all_get as all_at, all_weaker, take_at}
 use Rattle.fb_wanted.specs.declared.block.Block.{Block}
 use Rattle.fb_model.specs.Blocks.{IsBlockOn}
 use Rattle.fb_model.specs.History.{same_block, Past, wanted}
@@ -19,6 +19,9 @@ use Rattle.std.proofs.lemmas.List.Elements.{filter-append}
 use Rattle.std.proofs.lemmas.Option.{slice_get-get_or}
 use Rattle.fb_units.specs.declared.types.Request.{Request}
 use Rattle.fb_units.specs.Tracks.{same_track}
+use Rattle.fb_units.proofs.Filtered.{none_kept as filter_none}
+use Rattle.fb_units.proofs.Each.{all_any}
+use Rattle.fb_units.proofs.Alike.{filter_same}
 use Rattle.fb_geometry.specs.Shape.{Shape}
 use Rattle.fb_sectormap.specs.LookUp.{track_at}
 use Rattle.fb_service.specs.Extents.{IsUnbroken}
@@ -28,7 +31,6 @@ use Rattle.fb_wanted.specs.declared.block.Entry.{Entry}
 use Rattle.fb_wanted.specs.States.{on_track, wanted_of}
 use Rattle.fb_model.specs.Rides.{lies_in, begin_at, end_at, in_order, rides, delivery}
 use Rattle.fb_decide.specs.Carried.{added, ride_of, begins_in, begun_in, carried_of, AreLaid, AreExtents}
-use Rattle.fb_tasks.proofs.Lists.{filter_none, filter_same, all_any, all_at, all_weaker}
 use Rattle.fb_geometry.specs.Places.{places}
 use Rattle.fb_service.specs.declared.disk.Disk.{Disk}
 use Rattle.fb_store.specs.Ranges.{Holding}
@@ -265,10 +267,6 @@ pub due-carried : (holding : Holding) (served : Served) (past : Past) → served
     → AreDue past (rides (held_now holding) served (wanted past))
 due-carried holding served past reads distinct =
     rw reads (due-filtered past (lies_in served.request) (ride_row holding served) (λ b. refl) distinct)
-
-pub none-carried : (holding : Holding) (served : Served) (blocks : List Block) → served.request.write ≡ true
-    → rides (held_now holding) served blocks ≡ []
-none-carried holding served blocks writes = rw writes refl
 
 -- no block of a disk ends behind the last sector that a disk may have
 pub ends_within : (disk : Disk) (block : Block) → IsBlockOn disk.map block → block.lbn + block.count ≤ 10 ^ 12

@@ -6,7 +6,7 @@ use Rattle.std.specs.Option.{option_map}
 use Rattle.std.specs.List.{list_any, AllByRecursion, fold}
 use Rattle.std.proofs.lemmas.Bool.Decides.{nat_tests}
 use Rattle.std.proofs.lemmas.Bool.{cases_lt}
-use Rattle.fb_units.proofs.Lists.{all_filter}
+use Rattle.fb_units.proofs.Lists.{all_filter, all_weaker}
 use Rattle.fb_units.specs.declared.types.Track.{Track}
 use Rattle.fb_units.specs.declared.types.Request.{Request}
 use Rattle.fb_service.specs.declared.disk.Disk.{Disk}
@@ -17,10 +17,10 @@ use Rattle.fb_decide.specs.Waiting.{left, IsWaiting, AreByArrival}
 use Rattle.fb_model.specs.Laws.{IsFirstLeast, IsPickOf}
 use Rattle.fb_model.proofs.Picks.{pick_of-first_least}
 use Rattle.fb_model.proofs.Picks.{all_without}
-use Rattle.fb_tasks.proofs.Lists.{all_weaker}
 use Rattle.std.proofs.lemmas.List.{length-append, drop_more}
-use Rattle.fb_model.proofs.Lists.{by_is, after_is, rising_filter}
 use Rattle.fb_units.specs.Rising.{IsRising}
+use Rattle.fb_units.proofs.Filtered.{rising_filter}
+use Rattle.fb_units.proofs.Comparing.{after_is, by_is}
 use Rattle.fb_calls.specs.declared.call.Call.{Call}
 use Rattle.fb_model.specs.Inputs.{Inputs, requests}
 use Rattle.fb_model.specs.Decisions.{instants_of, serves, idles, idle_until, last_decision, decisions_from}
@@ -28,7 +28,7 @@ use Rattle.fb_model.proofs.Instants.{IsAmong, rising_all_among, was_all_among}
 use Rattle.fb_decide.specs.Deciding.{next_of}
 use Rattle.fb_decide.proofs.Instants.{LieApart, all_of_both, one_of_second, one_filtered, filtered_below, idle_none, idle_next, last_after}
 use Rattle.fb_decide.proofs.Instants.{last_passed}
-use Rattle.fb_model.proofs.Replays.{start_from as start_after}
+use Rattle.fb_model.proofs.Replays.{none_arrived, start_from as start_after}
 
 -- ---- who has arrived, and who is taken
 
@@ -37,14 +37,10 @@ pub none_come : (now a : ℕ) → now < a → (rs : List Request) → AllByRecur
     → AllByRecursion (λ r. now < r.arrival) rs
 none_come now a h rs all = all_weaker (λ (r : Request). a ≤ r.arrival) (λ r. now < r.arrival) (λ r le. omega (arith, h, le)) rs all
 
-none_any : (now : ℕ) (rs : List Request) → AllByRecursion (λ r. now < r.arrival) rs → list_any (has_arrived now) rs ≡ false
-none_any now [] all = refl
-none_any now (r ∷ rs) all = rw (after_is r.arrival now all.0) (none_any now rs all.1)
-
 -- the first of those ahead starts when it arrives
 pub start_ahead : (now : ℕ) (r : Request) (rs : List Request) → AreByArrival (r ∷ rs) → start_of now (r ∷ rs) ≡ max r.arrival now
 start_ahead now r rs order = elim (cases_lt now r.arrival) [
-  | inl h ↦ rw (after_is r.arrival now h, none_any now rs (none_come now r.arrival h rs order.0)) (omega arith)
+  | inl h ↦ rw (after_is r.arrival now h, none_arrived now rs (none_come now r.arrival h rs order.0)) (omega arith)
   | inr h ↦ rw (by_is r.arrival now h) (omega arith)
 ]
 

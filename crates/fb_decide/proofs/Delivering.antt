@@ -4,7 +4,9 @@ use Rattle.std.proofs.Common.{Some, length, filter, map, take, slice_get, append
 use Rattle.std.specs.Prelude.{Result, Ok, Err, IfOk}
 use Rattle.std.specs.List.{AllByRecursion, list_any, range_with_len}
 use Rattle.std.proofs.lemmas.List.Concat.{flat_map-append}
-use Rattle.fb_units.proofs.Lists.{filter_to, map_at}
+use Rattle.fb_units.proofs.Lists.{all_append, all_get as all_at, all_weaker, filter_to, map_at}
+use Rattle.fb_units.proofs.Filtered.{filter_from}
+use Rattle.fb_units.proofs.Each.{all_map}
 use Rattle.fb_model.specs.Blocks.{IsBlockOn}
 use Rattle.fb_model.specs.Rides.{delivery}
 use Rattle.fb_geometry.specs.Shape.{Shape}
@@ -30,7 +32,6 @@ use Rattle.fb_plan.specs.Ways.{AreOnDisk}
 use Rattle.fb_tasks.specs.declared.session.Session.{Session}
 use Rattle.fb_tasks.specs.Taken.{delivery_of, rows_after}
 use Rattle.fb_tasks.specs.Telling.{Tells, MayDeliver, IsUpToDate, IsBlockOf, entry_of}
-use Rattle.fb_tasks.proofs.Lists.{all_append, all_at, all_map, all_weaker, filter_from}
 use Rattle.fb_tasks.proofs.States.{shown}
 use Rattle.fb_decide.specs.declared.background.Background.{Background}
 use Rattle.fb_decide.specs.Deliveries.{TellsUpToDate, HasDelivered, IsRegistered, AreDistinct, AreDue, IsOneOf, block_in, followed}

@@ -3,6 +3,9 @@ use Rattle.std.proofs.Common.{◌≡◌, ℕ, ◌≤◌, ◌==◌, ◌&&◌, if�
 use Rattle.std.proofs.Common.{sym, ◌∙◌, arith}
 use Rattle.std.specs.List.{AllByRecursion, range_with_len}
 use Rattle.std.proofs.lemmas.Bool.{and_parts}
+use Rattle.fb_units.proofs.Lists.{all_filter}
+use Rattle.fb_units.proofs.Each.{all_any, all_pass, all_with, list_all_each}
+use Rattle.fb_units.proofs.Alike.{flat_same, map_same}
 use Rattle.fb_store.specs.declared.content.Content.{Content}
 use Rattle.fb_store.specs.declared.content.ContentRun.{ContentRun}
 use Rattle.fb_store.specs.Runs.{runs_of, sectors_of}
@@ -19,7 +22,6 @@ use Rattle.fb_model.specs.Images.{complete_rows, test_rows}
 use Rattle.fb_tasks.specs.Taken.{found_for, segment_rows_found, seal_rows_found, test_rows_found}
 use Rattle.fb_decide.specs.Deliveries.{IsRegistered}
 use Rattle.fb_decide.specs.Standing.{Mirrors, IsTrue}
-use Rattle.fb_tasks.proofs.Lists.{all_any, all_with, all_filter, all_pass, map_same, flat_same, list_all_each}
 use Rattle.fb_tasks.proofs.Registered.{own}
 use Rattle.fb_decide.proofs.RegisteredBlocks.{AreOwn, each_in, chosen_there}
 

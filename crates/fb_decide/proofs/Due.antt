@@ -1,6 +1,7 @@
 -- What is due at a decision, from the disk as it is: each delivery lies within the decision, and the medium gives the same.
 use Rattle.std.proofs.Common.{◌≡◌, ℕ, List, arith}
 use Rattle.std.specs.List.{AllByRecursion}
+use Rattle.fb_units.proofs.Lists.{all_weaker}
 use Rattle.fb_service.specs.declared.disk.Disk.{Disk}
 use Rattle.fb_store.specs.Ranges.{Holding}
 use Rattle.fb_wanted.specs.declared.block.Block.{Block}
@@ -16,7 +17,6 @@ use Rattle.fb_decide.specs.Deliveries.{held_now}
 use Rattle.fb_decide.specs.Standing.{Mirrors, IsFoundIn}
 use Rattle.fb_decide.proofs.DiskRows.{mirrored}
 use Rattle.fb_decide.proofs.Delivering.{row-is}
-use Rattle.fb_tasks.proofs.Lists.{all_weaker}
 
 -- the deliveries that are due are those that the disk gives as it is
 pub due_same : (medium : Medium) (holding : Holding) (act : Act) (to : ℕ) (blocks : List Block)

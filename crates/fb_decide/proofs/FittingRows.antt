@@ -5,7 +5,8 @@ use Rattle.std.specs.List.{AllByRecursion, flat_map, fold}
 use Rattle.std.proofs.lemmas.List.{length-append, take-append-drop}
 use Rattle.std.proofs.lemmas.List.Concat.{flat_map-append}
 use Rattle.std.proofs.lemmas.Bool.{cases_Bool}
-use Rattle.fb_units.proofs.Lists.{all_weaker, all_append, all_left}
+use Rattle.fb_units.proofs.Lists.{all_append, all_filter, all_left, all_weaker}
+use Rattle.fb_units.proofs.Each.{all_any, all_map, flat_all}
 use Rattle.fb_geometry.specs.Shape.{Shape}
 use Rattle.fb_service.specs.declared.disk.Disk.{Disk}
 use Rattle.fb_calls.specs.declared.call.Call.{Call}
@@ -30,11 +31,9 @@ use Rattle.fb_model.specs.Images.{test_rows}
 use Rattle.fb_model.specs.Steps.{Delivery, Step, decision_in, take_call, calls_due, with_delivery, with_finish, chosen_past, past_after}
 use Rattle.fb_model.specs.Steps.{opening, step_rows, task_row, task_rows}
 use Rattle.fb_model.specs.SoundRun.{AreFollowed}
-use Rattle.fb_model.proofs.Lists.{all_map}
 use Rattle.fb_tasks.specs.declared.session.Session.{Session}
 use Rattle.fb_tasks.specs.Telling.{Tells, IsBlockOf, calls_of}
 use Rattle.fb_tasks.proofs.Rules.{opened_same}
-use Rattle.fb_tasks.proofs.Lists.{all_any, all_filter, flat_all}
 use Rattle.fb_tasks.proofs.AllChoices.{all_range, by_all}
 use Rattle.fb_decide.proofs.Placing.{in_order-each}
 use Rattle.fb_decide.proofs.RegisteredBlocks.{registered_after, tasks_more}
@@ -60,10 +59,6 @@ module _ (n : ℕ) where
     few = (let few = fits.few in omega (arith, few, tasks_more past event));
   }
 
-  fits_calls : (disk : Disk) (past : Past) (calls : List Call) → PastFits n (fold (take_call disk.map) past calls) → PastFits n past
-  fits_calls disk past [] fits = fits
-  fits_calls disk past (call ∷ calls) fits = fits_before past _ (fits_calls disk (take_call disk.map past call) calls fits)
-
   fits_deliveries : (past : Past) (deliveries : List Delivery) → PastFits n (fold with_delivery past deliveries) → PastFits n past
   fits_deliveries past [] fits = fits
   fits_deliveries past (delivery ∷ deliveries) fits =
@@ -73,14 +68,6 @@ module _ (n : ℕ) where
   fits_finish past (serves served) fits = fits_before past _ fits
   fits_finish past (idles dwell) fits = fits
   fits_finish past (ends now) fits = fits
-
-  fits_chosen : (inputs : Inputs) (past : Past) (decision : Decision) → PastFits n (chosen_past inputs past decision) → PastFits n past
-  unfolding chosen_past
-  fits_chosen inputs past decision fits =
-      let called = fold (take_call inputs.disk.map) past (calls_due inputs.calls past (instant_of decision)) in
-      fits_calls inputs.disk past (calls_due inputs.calls past (instant_of decision))
-      (by_all (λ p. PastFits n p → PastFits n called) inputs.disk.map (λ p task segment blocks h now. h (fits_before p _ now)) called
-      (λ h. h) fits)
 
   fits_tested : (inputs : Inputs) (past : Past) (step : Step) → PastFits n (past_after inputs past step)
       → PastFits n (tested step.test ∷ chosen_past inputs past (decision_in step))

@@ -3,6 +3,7 @@ use Rattle.std.proofs.Common.{◌≡◌, ℕ, List, [], ◌∷◌, ◌++◌, map
 use Rattle.std.specs.List.{AllByRecursion, flat_map, fold}
 use Rattle.fb_units.specs.declared.types.Request.{Request}
 use Rattle.fb_units.specs.declared.types.Track.{Track}
+use Rattle.fb_units.proofs.Each.{all_any}
 use Rattle.fb_geometry.specs.Sound.{IsSound}
 use Rattle.fb_service.specs.declared.disk.Disk.{Disk}
 use Rattle.fb_rows.specs.declared.fore.ForeRow.{ForeRow}
@@ -31,7 +32,6 @@ use Rattle.fb_model.specs.FullRun.{IsBestPlanned, IsAllDelivered}
 use Rattle.fb_model.proofs.Steps.{AtEach-append}
 use Rattle.fb_decide.specs.Making.{IsMade, fore_row_of, rest_of, decisions_by}
 use Rattle.fb_decide.specs.FullRuns.{RowsGoOn, ForeRowsBegin, ForeRowsEnd, RowsAreFull}
-use Rattle.fb_tasks.proofs.Lists.{all_any}
 
 -- ---- the head can go the way that a run's rows tell
 

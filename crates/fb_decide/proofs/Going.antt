@@ -23,6 +23,8 @@ use Rattle.fb_decide.proofs.Stepping.{HasStepped, StepsBy, served_act, serves_st
 use Rattle.std.specs.Prelude.{nat_lt, nat_le, slice_get, filter, if◌then◌else◌}
 use Rattle.std.proofs.lemmas.Bool.Decides.{nat_tests}
 use Rattle.fb_units.specs.declared.types.Request.{Request}
+use Rattle.fb_units.proofs.Each.{all_map, all_pass}
+use Rattle.fb_units.proofs.Comparing.{is_by}
 use Rattle.fb_geometry.specs.Shape.{Shape, IsTrackOf}
 use Rattle.fb_calls.specs.declared.call.Call.{Call}
 use Rattle.fb_calls.specs.Allowed.{AreAllowed}
@@ -30,7 +32,6 @@ use Rattle.fb_store.specs.Ranges.{Holding, content_in}
 use Rattle.fb_model.specs.Accepted.{IsRequestOf}
 use Rattle.fb_model.specs.History.{Past}
 use Rattle.fb_model.proofs.Instants.{IsAmong}
-use Rattle.fb_model.proofs.Lists.{all_map, is_by}
 use Rattle.fb_decide.specs.declared.background.Background.{Background}
 use Rattle.fb_decide.specs.Waiting.{left, IsWaiting, AreByArrival}
 use Rattle.fb_decide.specs.Deciding.{next_of, dwell_until, ready_to_act, HasServedNext, HasStayed, HasActed, serves_pick, stays_on}
@@ -42,7 +43,6 @@ use Rattle.fb_decide.proofs.Replayed.{row_made, replayed_more}
 use Rattle.fb_decide.proofs.Instants.{all_of_both, at_among}
 use Rattle.fb_decide.proofs.Mirroring.{held_until, mirrors_run, all_late, served_late}
 use Rattle.fb_tasks.proofs.AllChoices.{by_all}
-use Rattle.fb_tasks.proofs.Lists.{all_pass}
 
 -- ---- one more step
 

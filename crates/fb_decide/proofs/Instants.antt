@@ -6,10 +6,11 @@ use Rattle.std.proofs.lemmas.Bool.{cases_Bool}
 use Rattle.std.proofs.lemmas.Bool.Decides.{nat_tests}
 use Rattle.fb_units.specs.declared.types.Track.{Track}
 use Rattle.fb_units.specs.Rising.{IsRising}
+use Rattle.fb_units.proofs.Lists.{all_weaker}
+use Rattle.fb_units.proofs.Each.{all_pass}
+use Rattle.fb_units.proofs.Comparing.{is_by}
 use Rattle.fb_model.specs.Decisions.{idles, among, idle_until}
 use Rattle.fb_model.proofs.Instants.{IsAmong, all_among, was_all_among}
-use Rattle.fb_tasks.proofs.Lists.{all_weaker, all_pass}
-use Rattle.fb_model.proofs.Lists.{is_by}
 
 -- ---- an instant comes among others
 

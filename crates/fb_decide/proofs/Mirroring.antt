@@ -7,6 +7,7 @@ use Rattle.std.specs.List.{AllByRecursion}
 use Rattle.fb_units.proofs.Lists.{all_weaker, all_append}
 use Rattle.fb_units.specs.declared.types.Track.{Track}
 use Rattle.fb_units.specs.declared.types.Request.{Request}
+use Rattle.fb_units.proofs.Each.{all_both, all_map}
 use Rattle.fb_service.specs.declared.disk.Disk.{Disk}
 use Rattle.fb_service.specs.declared.passage.Passage.{Passage}
 use Rattle.fb_service.specs.Service.{passages, finish_of, media_of}
@@ -17,7 +18,6 @@ use Rattle.fb_model.specs.Inputs.{Inputs, served}
 use Rattle.fb_store.specs.Writes.{writer_of}
 use Rattle.fb_model.specs.Content.{Written, medium_of, writes_of, content}
 use Rattle.fb_model.proofs.Passages.{passages_long, passed_between, passes_late, written_by}
-use Rattle.fb_model.proofs.Lists.{all_both, all_map}
 use Rattle.fb_decide.specs.Deciding.{PassagesTakeTime}
 use Rattle.fb_decide.specs.Standing.{Mirrors}
 use Rattle.fb_decide.specs.Making.{Replayed, all_writes}

@@ -6,7 +6,9 @@ use Rattle.std.proofs.lemmas.Bool.{cases_Bool}
 use Rattle.std.proofs.lemmas.Bool.Decides.{nat_tests}
 use Rattle.std.proofs.Math.Bool.{or-false}
 use Rattle.fb_tasks.proofs.Registered.{itself}
-use Rattle.fb_units.proofs.Lists.{map_at, take_at}
+use Rattle.fb_units.proofs.Lists.{all_filter, all_weaker, map_at, take_at}
+use Rattle.fb_units.proofs.Each.{all_any, all_map, all_with}
+use Rattle.fb_units.proofs.Alike.{filter_same}
 use Rattle.fb_geometry.specs.Shape.{Shape}
 use Rattle.fb_wanted.specs.declared.block.Block.{Block}
 use Rattle.fb_wanted.specs.declared.block.Entry.{Entry}
@@ -16,7 +18,6 @@ use Rattle.fb_model.specs.Completion.{view}
 use Rattle.fb_tasks.specs.declared.session.Session.{Session}
 use Rattle.fb_tasks.specs.Standing.{AreNumbered}
 use Rattle.fb_tasks.specs.Telling.{Tells}
-use Rattle.fb_tasks.proofs.Lists.{all_weaker, all_filter, all_map, filter_same, all_any, all_with}
 use Rattle.fb_tasks.proofs.Deliveries.{numbered_from}
 use Rattle.fb_decide.specs.Deliveries.{AreDistinct, AreDue, IsOneOf, block_in, row_in, past_with, TellsUpToDate, HasDelivered, held_now}
 use Rattle.fb_rows.specs.declared.gap.Dwell.{Dwell}

@@ -3,6 +3,7 @@ use Rattle.std.proofs.Common.{◌≡◌, ℕ, true, false, List, [], ◌∷◌, 
 use Rattle.std.specs.Prelude.{Bool, ◌&&◌, not, filter, if◌then◌else◌}
 use Rattle.std.specs.List.{AllByRecursion, flat_map}
 use Rattle.fb_units.proofs.Lists.{all_append}
+use Rattle.fb_units.proofs.Each.{all_any, all_flat_map, all_map}
 use Rattle.fb_service.specs.declared.disk.Disk.{Disk}
 use Rattle.fb_rows.specs.declared.fore.ForeRow.{ForeRow}
 use Rattle.fb_rows.specs.declared.back.BackRow.{BackRow}
@@ -20,8 +21,6 @@ use Rattle.fb_model.specs.Images.{test_rows}
 use Rattle.fb_model.specs.Steps.{Delivery, Step, decision_in, with_delivery, tested_past, chosen_past, task_row, task_rows}
 use Rattle.fb_model.specs.SoundRun.{AreFollowed, IsTested}
 use Rattle.fb_model.proofs.RowsUpTo.{delivered_rows}
-use Rattle.fb_model.proofs.Lists.{all_flat_map, all_map}
-use Rattle.fb_tasks.proofs.Lists.{all_any}
 
 -- no gap row and no idle row
 abbrev pub IsQuiet : BackRow → Type 0

@@ -2,9 +2,12 @@
 use Rattle.std.proofs.Common.{◌≡◌, ◌⊎◌, ℕ, zero, suc, ◌+◌, ◌<◌, ◌≤◌, ◌==◌, List, [], ◌∷◌, ◌++◌, true, false, Some, inl, inr, length}
 use Rattle.std.proofs.Common.{length-append, slice_get, append-nil, refl, ap, sym, ◌∙◌, arith, subst}
 use Rattle.std.specs.List.{AllByRecursion, list_any}
-use Rattle.std.proofs.lemmas.Bool.{cases_Bool, cases_lt, true≢false, and_parts}
+use Rattle.std.proofs.lemmas.Bool.{and_parts, cases_Bool, cases_lt, eqb-true as same_number, true≢false}
+use Rattle.std.proofs.lemmas.Option.{same_Some as some_same}
+use Rattle.fb_units.proofs.Among.{Among, among-append, among-right}
 use Rattle.fb_units.proofs.Comparing.{same_number as number_same}
-use Rattle.fb_units.proofs.Lists.{filter_to}
+use Rattle.fb_units.proofs.Lists.{all_append, all_get as all_at, all_weaker, append_at, element_at as some_at, filter_to}
+use Rattle.fb_units.proofs.Each.{all_flat}
 use Rattle.fb_geometry.specs.Shape.{Shape}
 use Rattle.fb_wanted.specs.declared.block.Block.{Block}
 use Rattle.fb_wanted.specs.declared.block.Entry.{Entry}
@@ -18,35 +21,13 @@ use Rattle.fb_tasks.specs.declared.session.Session.{Session}
 use Rattle.fb_tasks.specs.Standing.{AreNumbered, IsBlockOf}
 use Rattle.fb_tasks.specs.Telling.{Tells}
 use Rattle.fb_decide.specs.Deliveries.{IsRegistered}
-use Rattle.fb_tasks.proofs.Lists.{some_same, some_at, all_at, all_weaker, all_append, all_flat, same_number}
 use Rattle.fb_tasks.proofs.Registered.{own, itself}
 
--- an element of a list
-abbrev pub IsIn : {X : Type 0} → List X → X → Type 0
-IsIn xs x = (index : ℕ) × (slice_get xs index ≡ Some x)
-
-pub in_left : {X : Type 0} (xs ys : List X) (i : ℕ) (x : X) → slice_get xs i ≡ Some x → IsIn (xs ++ ys) x
-in_left [] ys i x h = absurd (grind arith)
-in_left (y ∷ xs) ys zero x h = (zero, h)
-in_left (y ∷ xs) ys (suc i) x h = let rest = in_left xs ys i x h in (suc rest.0, rest.1)
-
-pub in_right : {X : Type 0} (xs ys : List X) (x : X) → IsIn ys x → IsIn (xs ++ ys) x
-in_right [] ys x h = h
-in_right (y ∷ xs) ys x h = let rest = in_right xs ys x h in (suc rest.0, rest.1)
-
-pub in_either : {X : Type 0} (xs ys : List X) (i : ℕ) (x : X) → slice_get (xs ++ ys) i ≡ Some x → IsIn xs x ⊎ IsIn ys x
-in_either [] ys i x h = inr (i, h)
-in_either (y ∷ xs) ys zero x h = inl (zero, h)
-in_either (y ∷ xs) ys (suc i) x h = elim (in_either xs ys i x h) [
-  | inl first ↦ inl (suc first.0, first.1)
-  | inr second ↦ inr second
-]
-
-pub each_in : {X : Type 0} (xs : List X) → AllByRecursion (IsIn xs) xs
+pub each_in : {X : Type 0} (xs : List X) → AllByRecursion (Among xs) xs
 each_in [] = tt
-each_in (x ∷ xs) = ((zero, refl), all_weaker (IsIn xs) (IsIn (x ∷ xs)) (λ y there. (suc there.0, there.1)) xs (each_in xs))
+each_in (x ∷ xs) = ((zero, refl), all_weaker (Among xs) (Among (x ∷ xs)) (λ y there. (suc there.0, there.1)) xs (each_in xs))
 
-pub all_in : {X : Type 0} (P : X → Type 0) (xs : List X) (x : X) → AllByRecursion P xs → IsIn xs x → P x
+pub all_in : {X : Type 0} (P : X → Type 0) (xs : List X) (x : X) → AllByRecursion P xs → Among xs x → P x
 all_in P xs x all there = all_at P xs there.0 x all there.1
 
 -- a block among others is the same as one of them
@@ -67,13 +48,14 @@ registered_after past (finished request) = sym (append-nil (registered past))
 -- what was registered before stays so, and there is nothing else but what the event registers
 pub still_there : (past : Past) (event : Event) (block : Block) → IsRegistered past block → IsRegistered (event ∷ past) block
 still_there past event block there =
-    subst (λ bs. IsIn bs block) (sym (registered_after past event)) (in_left (registered past) (registered_by event) there.0 block there.1)
+    subst (λ bs. Among bs block) (sym (registered_after past event))
+    (there.0, append_at (registered past) (registered_by event) there.0 block there.1)
 
 pub there_before : (past : Past) (event : Event) (block : Block) → list_any (same_block block) (registered_by event) ≡ false
     → IsRegistered (event ∷ past) block → IsRegistered past block
 there_before past event block none there =
-    let known = subst (λ bs. IsIn bs block) (registered_after past event) there in
-    elim (in_either (registered past) (registered_by event) known.0 block known.1) [
+    let known = subst (λ bs. Among bs block) (registered_after past event) there in
+    elim (among-append (registered past) (registered_by event) block known) [
       | inl old ↦ old
       | inr new ↦ absurd (true≢false (sym (in_any (registered_by event) new.0 block new.1) ∙ none))
     ]
@@ -95,7 +77,7 @@ chosen_there (chose chooser segment blocks ∷ past) task =
     let before = still_chosen past (chose chooser segment blocks) task (chosen_there past task) in
     elim (cases_Bool (chooser == task)) [
       | inl mine ↦ rw mine (all_append (AreThere new) (choices past task) _ before (
-        all_weaker (IsIn blocks) (IsIn (registered past ++ blocks)) (in_right (registered past) blocks) blocks (each_in blocks),
+        all_weaker (Among blocks) (Among (registered past ++ blocks)) (among-right (registered past) blocks) blocks (each_in blocks),
         tt,
       ))
       | inr other ↦ rw other before

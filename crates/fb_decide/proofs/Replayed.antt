@@ -7,6 +7,7 @@ use Rattle.std.proofs.lemmas.Bool.{cases_Bool}
 use Rattle.fb_units.proofs.Lists.{all_weaker, all_append}
 use Rattle.fb_units.specs.declared.types.Track.{Track}
 use Rattle.fb_units.specs.declared.types.Request.{Request}
+use Rattle.fb_units.proofs.Each.{all_both, all_map, all_unmapped}
 use Rattle.fb_seek.specs.Positioning.{pos}
 use Rattle.fb_sectormap.specs.LookUp.{track_at}
 use Rattle.fb_service.specs.declared.disk.Disk.{Disk}
@@ -17,7 +18,6 @@ use Rattle.fb_store.specs.Writes.{writer_of, unwritten}
 use Rattle.fb_model.specs.PlainReplay.{service, finish, Served, media}
 use Rattle.fb_model.specs.Content.{Written, writes_of, content_by, Medium, content, found, fore_row}
 use Rattle.fb_model.proofs.Passages.{passed_between, written_by}
-use Rattle.fb_model.proofs.Lists.{all_map, all_both, all_unmapped}
 use Rattle.std.proofs.lemmas.List.Elements.{filter-append}
 use Rattle.std.proofs.lemmas.List.Concat.{flat_map-append}
 use Rattle.fb_store.specs.declared.content.ContentRun.{ContentRun}

@@ -2,7 +2,7 @@
 use Rattle.std.proofs.Common.{◌≡◌, ℕ, ◌<◌, ◌≤◌, List, [], ◌∷◌, ◌++◌, length, map, refl, ap, sym, subst, ◌∙◌, arith, append_assoc}
 use Rattle.std.proofs.Common.{append-nil}
 use Rattle.std.specs.List.{AllByRecursion}
-use Rattle.fb_units.proofs.Lists.{all_weaker}
+use Rattle.fb_units.proofs.Lists.{all_filter, all_weaker}
 use Rattle.fb_units.specs.declared.types.Request.{Request}
 use Rattle.fb_wanted.specs.declared.block.Block.{Block}
 use Rattle.fb_wanted.specs.States.{is_wanted}
@@ -28,7 +28,6 @@ use Rattle.fb_decide.specs.Deliveries.{HasDelivered, HasServed, IsRegistered, fo
 use Rattle.fb_decide.specs.Standing.{Mirrors, IsFoundIn, IsTrue}
 use Rattle.fb_decide.specs.Deciding.{HasServedNext, HasStayed, dwell_until, ready_to_act}
 use Rattle.fb_decide.specs.Making.{IsMade}
-use Rattle.fb_tasks.proofs.Lists.{all_filter}
 use Rattle.fb_tasks.proofs.Calls.{called-finished}
 use Rattle.fb_decide.proofs.Calling.{called_delivered}
 use Rattle.fb_decide.proofs.Truth.{LeftBy, step_by, decision_true, after_true}

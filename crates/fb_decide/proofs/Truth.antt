@@ -31,6 +31,8 @@ use Rattle.fb_decide.proofs.RegisteredBlocks.{AreOpened, all_in, there_before, t
 use Rattle.fb_decide.proofs.RegisteredBlocks.{opened-kept, opened-told, own-told, distinct-told}
 use Rattle.std.proofs.lemmas.Bool.Decides.{nat_tests}
 use Rattle.fb_units.specs.declared.types.Request.{Request}
+use Rattle.fb_units.proofs.Lists.{all_range, all_weaker}
+use Rattle.fb_units.proofs.Alike.{map_same}
 use Rattle.fb_store.specs.declared.content.Content.{Content}
 use Rattle.fb_store.specs.declared.content.Content.TheVariants.{Filled}
 use Rattle.fb_store.specs.Writes.{after_write, is_within, writer_of}
@@ -38,7 +40,6 @@ use Rattle.fb_rows.specs.declared.back.DeliveryRow.{DeliveryRow}
 use Rattle.fb_model.specs.SoundRun.{AreFollowed, IsTested}
 use Rattle.fb_tasks.specs.Taken.{delivery_of, rows_after}
 use Rattle.fb_decide.specs.Contents.{left_by}
-use Rattle.fb_tasks.proofs.Lists.{all_weaker, map_same, all_range}
 use Rattle.fb_decide.proofs.DiskRows.{mirrored, rows-true}
 use Rattle.fb_wanted.specs.declared.block.Entry.{Entry}
 use Rattle.fb_model.specs.Inputs.{Inputs}
@@ -92,10 +93,6 @@ still-then past mid new first second = record {
   more = let a = first.more in let b = second.more in omega (arith, a, b);
   backup = λ task less is_open. first.backup task less (second.backup task (let a = first.more in omega (arith, a, less)) is_open);
 }
-
-still-if : (b : Bool) (past yes no : Past) → IsStill past yes → IsStill past no → IsStill past (if b then yes else no)
-still-if true past x y first second = first
-still-if false past x y first second = second
 
 -- the first tasks keep their terms
 first_terms : (before : List Terms) (terms d : Terms) (task : ℕ) → task < length before

@@ -1,10 +1,10 @@
 -- What a track offers is what its wanted blocks can give.
+use Rattle.fb_units.proofs.Filtered.{filter_from}
 use Rattle.fb_detour.proofs.Words.{Bool, List, Some, [], ap, arith, false, get_or, if◌then◌else◌, inl, inr, length, nat_le, refl, slice_get}
 use Rattle.fb_detour.proofs.Words.{suc, take, true, ℕ, ◌*◌, ◌+◌, ◌<◌, ◌∙◌, ◌∷◌, ◌≡◌, ◌≤◌, cases_Bool, cases_lt, nat_tests, take_all}
 use Rattle.fb_detour.proofs.Words.{sum_by-cons, sum_by-le-sum_by, sum_by-take-le, sum_by_more, AllByRecursion, sum_by, same_track, Sweep}
 use Rattle.fb_detour.proofs.Words.{Disk, is_wanted, on_track, wanted_of, Block, Entry, Offer, Dwell, Gap, next-le, added, end_of, passes_by}
 use Rattle.fb_detour.proofs.Words.{IsBlockOn, Turning, IsReady, IsStop, late_gain, stay_gain, turned_to, stay, Stop}
-use Rattle.fb_plan.proofs.Gains.{in_filter}
 use Rattle.fb_plan.proofs.Swept.{end-by-sweep}
 use Rattle.fb_detour.proofs.Ceilings.{if-le-n, worth}
 
@@ -46,7 +46,7 @@ module _ (disk : Disk) (dwell : Dwell) where
   gives es stop is =
       let its = on_track dwell.track es in
       let all = all_of (λ e. stay_gain disk dwell e ≡ (if is_wanted e.state then by_sweep e.block else 0)) its
-      (λ k e at. on_its_track e (is.on_disk k e at) (in_filter (λ x. same_track dwell.track x.block.track) es k e at).2) in
+      (λ k e at. on_its_track e (is.on_disk k e at) (filter_from (λ x. same_track dwell.track x.block.track) es k e at).2) in
       ap (λ r. sum_by (added (λ sweep. nat_le (end_of r sweep dwell.begin) dwell.end)) stop.offers.now) is.turning.rotation
       ∙ (is.its (λ sweep n. if nat_le (end_of disk.map.rotation sweep dwell.begin) dwell.end then n else 0)
       ∙ over_entries by_sweep (stay_gain disk dwell) its all)

@@ -1,6 +1,7 @@
 -- Ascending numbers, and what is left of a list when the elements that pass a test are dropped.
 use Rattle.fb_units.proofs.Comparing.{add_zero, zero_add}
 use Rattle.fb_units.proofs.Counts.{count_cons}
+use Rattle.fb_units.proofs.Filtered.{kept_to}
 use Rattle.fb_units.proofs.Lists.{all_at, all_get, all_weaker, element_at}
 use Rattle.fb_geometry.proofs.Words.{AllByRecursion, Bool, HoldsSector, IsAscending, IsNonDecreasingBy, List, Pairwise, Some, [], ap}
 use Rattle.fb_geometry.proofs.Words.{arith, cases_Bool, cases_lt, cond, count_by-le-length, entry_of_sector, eq-eqb, false}
@@ -270,13 +271,6 @@ passes_at : {A : Type 0} (test : A → Bool) (i : ℕ) (xs : List A) → get_or 
 passes_at test i [] h = absurd (true≢false (sym h))
 passes_at test zero (x ∷ xs) h = (x, refl, h)
 passes_at test (suc i) (x ∷ xs) h = passes_at test i xs h
-
--- an element that is kept goes behind those that are kept before it
-kept_to : {A : Type 0} (keep : A → Bool) (i : ℕ) (xs : List A) (x : A) → slice_get xs i ≡ Some x → keep x ≡ true
-    → slice_get (filter keep xs) (length (filter keep (take i xs))) ≡ Some x
-kept_to keep i [] x at stays = absurd (none-some x at)
-kept_to keep zero (y ∷ xs) x at stays = rw (ap keep (same_Some y x at) ∙ stays) at
-kept_to keep (suc i) (y ∷ xs) x at stays = grind (arith, kept_to keep i xs x at stays)
 
 -- the elements that are kept and those that are dropped are all together
 pub length-kept : {A : Type 0} (test : A → Bool) (a : ℕ) (xs : List A)

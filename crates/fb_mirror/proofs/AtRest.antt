@@ -9,7 +9,9 @@ use Rattle.std.proofs.lemmas.List.{map-append}
 use Rattle.std.proofs.lemmas.List.Elements.{filter-append}
 use Rattle.std.proofs.lemmas.List.Concat.{flat_map-append}
 use Rattle.std.proofs.lemmas.Option.{same_Some, none-some}
-use Rattle.fb_units.proofs.Lists.{all_weaker, all_append, all_left}
+use Rattle.fb_units.proofs.Lists.{all_append, all_left, all_weaker, same_first, same_rest}
+use Rattle.fb_units.proofs.Each.{all_unmapped}
+use Rattle.fb_units.proofs.Comparing.{after_is, by_is, is_by}
 use Rattle.fb_geometry.specs.Sound.{IsSound}
 use Rattle.fb_service.specs.declared.disk.Disk.{Disk}
 use Rattle.fb_store.specs.declared.content.Content.{Content}
@@ -23,7 +25,6 @@ use Rattle.fb_model.specs.Accepted.{IsAccepted}
 use Rattle.fb_model.specs.Content.{Medium, Written, content, fore_row, fore_rows, medium_of, writes_of}
 use Rattle.fb_model.specs.FullRun.{IsFull}
 use Rattle.fb_model.specs.Laws.{ForegroundListsAscend, OnePlainReplay}
-use Rattle.fb_model.proofs.Lists.{all_unmapped, after_is, by_is, is_by, same_first, same_rest}
 use Rattle.fb_model.proofs.Passages.{served_between}
 use Rattle.fb_mirror.specs.Replacement.{Event, decided, deliveries_in, events, given, held_after, later, writes_in}
 use Rattle.fb_mirror.specs.Survivor.{IsAtRest, events_by}

@@ -6,6 +6,7 @@ use Rattle.std.proofs.lemmas.Bool.{cases_Bool}
 use Rattle.std.proofs.lemmas.Bool.Decides.{nat_tests}
 use Rattle.fb_units.proofs.Lists.{all_weaker, all_append}
 use Rattle.fb_units.specs.declared.types.Track.{Track}
+use Rattle.fb_units.proofs.Comparing.{is_by}
 use Rattle.fb_geometry.specs.Sound.{IsSound}
 use Rattle.fb_service.specs.declared.disk.Disk.{Disk}
 use Rattle.fb_wanted.specs.declared.block.Block.{Block}
@@ -14,7 +15,6 @@ use Rattle.fb_model.specs.PlainReplay.{Served, finish, last_track, media}
 use Rattle.fb_model.specs.Content.{contents_at, Medium, Written, writes_of}
 use Rattle.fb_model.specs.Decisions.{Decision, serves, idles, ends, instant_of, Act, decision_of, idle_until, last_decision, decisions_from}
 use Rattle.fb_model.specs.SoundRun.{HasPlan}
-use Rattle.fb_model.proofs.Lists.{is_by}
 use Rattle.fb_model.proofs.Due.{IsDueRow}
 use Rattle.fb_model.proofs.Passages.{IsServiceOf, LiesOnDisk, media_by}
 use Rattle.fb_model.proofs.DecisionsUpTo.{IsMade, greatest_from}

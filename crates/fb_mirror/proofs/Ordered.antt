@@ -7,6 +7,7 @@ use Rattle.std.proofs.lemmas.Bool.{cases_Bool}
 use Rattle.std.proofs.lemmas.Bool.Decides.{nat_tests}
 use Rattle.fb_units.proofs.Lists.{all_weaker, all_append, all_filter}
 use Rattle.fb_units.specs.declared.types.Track.{Track}
+use Rattle.fb_units.proofs.Each.{all_both}
 use Rattle.fb_sectormap.specs.LookUp.{track_at}
 use Rattle.fb_seek.specs.Positioning.{pos}
 use Rattle.fb_service.specs.declared.disk.Disk.{Disk}
@@ -26,7 +27,6 @@ use Rattle.fb_model.specs.Decisions.{Decision, serves, Act, serving, idling, end
 use Rattle.fb_model.specs.Decisions.{instant_of, last_decision}
 use Rattle.fb_model.specs.Rides.{begin_at, caught_rows, delivery, due, end_at, gap_of, in_order, is_before, lies_in, missed, placed, rides}
 use Rattle.fb_model.specs.SoundRun.{HasPlan}
-use Rattle.fb_model.proofs.Lists.{all_both}
 use Rattle.fb_model.proofs.Due.{IsCaughtIn, all_filtered, caught_true}
 use Rattle.fb_model.proofs.Passages.{IsServiceOf, passed_between}
 use Rattle.fb_model.proofs.Written.{begun_after}

@@ -6,6 +6,7 @@ use Rattle.std.specs.List.{AllByRecursion, fold, list_all, range_with_len, slice
 use Rattle.std.proofs.lemmas.Bool.{cases_Bool, true≢false, and_parts, eqb-true}
 use Rattle.std.proofs.lemmas.Option.{same_Some}
 use Rattle.fb_units.proofs.Lists.{all_weaker, all_filter}
+use Rattle.fb_units.proofs.Comparing.{by_is}
 use Rattle.fb_geometry.specs.Shape.{Shape}
 use Rattle.fb_geometry.specs.Places.{places}
 use Rattle.fb_sectormap.specs.declared.cut.Cut.{Cut}
@@ -29,7 +30,6 @@ use Rattle.fb_model.specs.Completion.{is_complete, is_complete_as, is_closed, is
 use Rattle.fb_model.specs.Segments.{choose_in, choose_up_to, numbered, with_choices}
 use Rattle.fb_model.specs.Steps.{Delivery, Step, decision_in, calls_due, past_after, chosen_past, take_call, tested_past, with_delivery}
 use Rattle.fb_model.specs.Steps.{with_finish}
-use Rattle.fb_model.proofs.Lists.{by_is}
 use Rattle.fb_mirror.specs.Script.{rebuild_calls}
 use Rattle.fb_mirror.proofs.CutCover.{HasSectors, cuts_some}
 

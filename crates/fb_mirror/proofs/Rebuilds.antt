@@ -8,6 +8,9 @@ use Rattle.std.proofs.lemmas.Bool.{true≢false}
 use Rattle.std.proofs.lemmas.List.Elements.{filter-append}
 use Rattle.std.proofs.lemmas.Option.{same_Some, none-some}
 use Rattle.fb_units.proofs.Lists.{all_weaker, all_range}
+use Rattle.fb_units.proofs.Each.{all_both}
+use Rattle.fb_units.proofs.Comparing.{by_is}
+use Rattle.fb_units.proofs.Alike.{same_map_where}
 use Rattle.fb_geometry.specs.Sound.{IsSound}
 use Rattle.fb_sectormap.specs.declared.cut.Cut.{Cut}
 use Rattle.fb_sectormap.specs.Cutting.{cutting}
@@ -36,7 +39,6 @@ use Rattle.fb_model.specs.Segments.{numbered}
 use Rattle.fb_model.specs.SoundRun.{IsDelivered, IsPlanned, IsTested}
 use Rattle.fb_model.specs.Steps.{AtEach, Step, decision_in, decisions_in, step_rows, past_after, chosen_past}
 use Rattle.fb_model.proofs.Due.{HasBytes, IsDueRow, due_block, delivery_true}
-use Rattle.fb_model.proofs.Lists.{all_both, by_is, same_map_where}
 use Rattle.fb_model.proofs.HistoriesUpTo.{HasSector}
 use Rattle.fb_mirror.specs.Replacement.{Event, decided, deliveries_in, events, given, held_after, later, sealed_in, writes_in}
 use Rattle.fb_mirror.specs.Script.{rebuild_calls}

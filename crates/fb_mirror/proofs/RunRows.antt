@@ -4,6 +4,7 @@ use Rattle.std.specs.Prelude.{◌&&◌, filter, not, if◌then◌else◌}
 use Rattle.std.specs.List.{AllByRecursion, flat_map}
 use Rattle.std.proofs.lemmas.Bool.{and_parts}
 use Rattle.fb_units.proofs.Lists.{all_weaker, all_append, all_left, all_right, all_map_any}
+use Rattle.fb_units.proofs.Each.{all_flat_map}
 use Rattle.fb_service.specs.declared.disk.Disk.{Disk}
 use Rattle.fb_rows.specs.declared.back.BackRow.{BackRow}
 use Rattle.fb_rows.specs.declared.back.BackRow.TheVariants.{Gap as GapLine, Idle as IdleLine, Got as GotLine, Bad as BadLine}
@@ -21,7 +22,6 @@ use Rattle.fb_model.specs.Images.{segment_row, test_rows}
 use Rattle.fb_model.specs.Steps.{AtEach, Delivery, Step, decision_in, history, opening, step_rows, past_after, chosen_past, task_row}
 use Rattle.fb_model.specs.Steps.{task_rows, tested_past, with_delivery}
 use Rattle.fb_model.specs.SoundRun.{AreFollowed, IsSoundBy, IsTested}
-use Rattle.fb_model.proofs.Lists.{all_flat_map}
 
 -- a row is a delivery with a property, or a seal whose instant a fact comes with, or another row
 abbrev pub RowFits : (DeliveryRow → Type 0) → (ℕ → Type 0) → BackRow → Type 0

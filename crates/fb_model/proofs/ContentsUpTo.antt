@@ -5,6 +5,10 @@ use Rattle.std.specs.List.{AllByRecursion, flat_map, last_or, range_with_len}
 use Rattle.std.proofs.lemmas.Bool.{and_right}
 use Rattle.std.proofs.lemmas.List.Elements.{filter-append}
 use Rattle.fb_units.proofs.Lists.{all_weaker, all_append}
+use Rattle.fb_units.proofs.Filtered.{none_kept}
+use Rattle.fb_units.proofs.Each.{all_map}
+use Rattle.fb_units.proofs.Comparing.{after_is, by_is}
+use Rattle.fb_units.proofs.Alike.{same_map, same_map_where}
 use Rattle.fb_service.specs.declared.disk.Disk.{Disk}
 use Rattle.fb_service.specs.declared.passage.Passage.{Passage}
 use Rattle.fb_store.specs.declared.content.Content.{Content}
@@ -14,7 +18,6 @@ use Rattle.fb_rows.specs.declared.fore.ForeRow.{ForeRow}
 use Rattle.fb_model.specs.PlainReplay.{Served, media, finish}
 use Rattle.fb_model.specs.Content.{Written, writes_of, Medium, content, content_by, contents_at, fore_row}
 use Rattle.fb_model.specs.Known.{fore_known}
-use Rattle.fb_model.proofs.Lists.{all_map, same_map, same_map_where, none_kept, by_is, after_is}
 use Rattle.fb_model.proofs.Passages.{WritesLate, IsServiceOf, pass_by}
 use Rattle.fb_model.proofs.ReplaysUpTo.{StartsBehind, AlikeBy, both, rest}
 

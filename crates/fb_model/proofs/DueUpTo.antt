@@ -8,6 +8,8 @@ use Rattle.std.proofs.lemmas.Bool.Decides.{nat_tests}
 use Rattle.fb_units.proofs.Lists.{all_weaker, all_filter}
 use Rattle.fb_units.specs.declared.types.Track.{Track}
 use Rattle.fb_units.specs.Tracks.{same_track}
+use Rattle.fb_units.proofs.Comparing.{by_is}
+use Rattle.fb_units.proofs.Alike.{same_kept}
 use Rattle.fb_service.specs.declared.disk.Disk.{Disk}
 use Rattle.fb_service.specs.Passing.{begin_from}
 use Rattle.fb_store.specs.Runs.{runs_of, bad_of}
@@ -24,7 +26,6 @@ use Rattle.fb_model.specs.Plans.{IsPlan, block_begin, block_end, catches, early_
 use Rattle.fb_model.specs.Decisions.{Decision, serves, idles, ends, instant_of, end_of, Act, serving, idling, ending, decision_of}
 use Rattle.fb_model.specs.Rides.{gap_of, due, delivery, is_before, placed, in_order, caught_rows, missed, lies_in, begin_at, end_at}
 use Rattle.fb_model.specs.SoundRun.{HasPlan}
-use Rattle.fb_model.proofs.Lists.{same_kept, by_is}
 use Rattle.fb_model.proofs.Due.{IsCaughtIn, IsDueRow, all_placed, ride_of}
 use Rattle.fb_model.proofs.Passages.{IsServiceOf, block_passes, media_by}
 use Rattle.fb_model.proofs.DecisionsUpTo.{IsMade}

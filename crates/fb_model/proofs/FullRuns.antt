@@ -2,6 +2,7 @@
 use Rattle.std.proofs.Common.{◌≡◌, ◌⊎◌, ℕ, ◌≤◌, List, [], ◌∷◌, ◌++◌, map, refl, ap, ap₂, sym, subst, ◌∙◌, arith, inl, inr}
 use Rattle.std.specs.List.{flat_map}
 use Rattle.fb_units.specs.declared.types.Track.{Track}
+use Rattle.fb_units.proofs.Lists.{not_none, same_first, same_rest}
 use Rattle.fb_service.specs.declared.disk.Disk.{Disk}
 use Rattle.fb_wanted.specs.declared.block.Block.{Block}
 use Rattle.fb_rows.specs.declared.gap.Gap.{Gap}
@@ -22,7 +23,6 @@ use Rattle.fb_model.specs.Steps.{Delivery, Step, decision_in, decisions_in, chos
 use Rattle.fb_model.specs.Steps.{history, step_rows, task_rows}
 use Rattle.fb_model.specs.SoundRun.{AreFollowed, IsTested}
 use Rattle.fb_model.specs.FullRun.{HasBestPlan, IsBestPlanned, IsAllDelivered, IsFull}
-use Rattle.fb_model.proofs.Lists.{same_first, same_rest, not_none}
 
 -- ---- the best plan
 

@@ -5,8 +5,9 @@ use Rattle.std.specs.Prelude.{filter, drop, ◌&&◌, not, if◌then◌else◌}
 use Rattle.std.specs.List.{AllByRecursion, fold, best_of}
 use Rattle.std.proofs.lemmas.Bool.{cases_Bool}
 use Rattle.std.proofs.lemmas.List.{drop_all}
-use Rattle.fb_units.proofs.Comparing.{is_after}
+use Rattle.fb_units.proofs.Comparing.{after_is, by_later, is_after}
 use Rattle.fb_units.proofs.Lists.{all_weaker, all_append, all_filter}
+use Rattle.fb_units.proofs.Filtered.{kept_twice}
 use Rattle.fb_geometry.specs.Shape.{Shape}
 use Rattle.fb_sectormap.specs.declared.cut.Cut.{Cut}
 use Rattle.fb_sectormap.specs.Cutting.{cutting, with_sector, is_cut_before}
@@ -27,7 +28,6 @@ use Rattle.fb_model.specs.Segments.{numbered, is_better, is_busy, unchosen, choo
 use Rattle.fb_model.specs.Steps.{Delivery, Step, decision_in, blocks_by, take_call, calls_left, calls_due, chosen_past, with_delivery}
 use Rattle.fb_model.specs.Steps.{with_finish, tested_past, past_after}
 use Rattle.fb_model.specs.Accepted.{IsRising}
-use Rattle.fb_model.proofs.Lists.{kept_twice, by_later, after_is}
 
 -- ---- each block has a sector
 

@@ -5,13 +5,13 @@ use Rattle.std.specs.Prelude.{filter}
 use Rattle.std.specs.List.{AllByRecursion, fold}
 use Rattle.std.proofs.lemmas.Bool.{cases_Bool}
 use Rattle.std.proofs.lemmas.Bool.Decides.{nat_tests}
-use Rattle.fb_units.proofs.Comparing.{is_after}
+use Rattle.fb_units.proofs.Comparing.{after_is, is_after}
 use Rattle.fb_units.proofs.Lists.{all_weaker}
 use Rattle.fb_units.specs.declared.types.Request.{Request}
 use Rattle.fb_units.specs.Rising.{IsRising}
+use Rattle.fb_units.proofs.Filtered.{kept_map, none_kept}
 use Rattle.fb_calls.specs.declared.call.Call.{Call}
 use Rattle.fb_model.specs.Decisions.{among}
-use Rattle.fb_model.proofs.Lists.{kept_map, none_kept, after_is}
 
 abbrev pub is_by_then : ℕ → ℕ → Bool
 is_by_then t instant = nat_le instant t

@@ -3,9 +3,11 @@ use Rattle.std.proofs.Common.{◌≡◌, ℕ, ◌<◌, ◌≤◌, List, [], ◌�
 use Rattle.std.proofs.Common.{false}
 use Rattle.std.specs.Prelude.{filter}
 use Rattle.std.specs.List.{AllByRecursion, fold, flat_map}
-use Rattle.fb_units.proofs.Lists.{all_weaker}
+use Rattle.fb_units.proofs.Lists.{all_weaker, not_none, same_first, same_rest}
 use Rattle.fb_units.specs.declared.types.Track.{Track}
 use Rattle.fb_units.specs.declared.types.Request.{Request}
+use Rattle.fb_units.proofs.Filtered.{kept_map}
+use Rattle.fb_units.proofs.Comparing.{after_is}
 use Rattle.fb_geometry.specs.Sound.{IsSound}
 use Rattle.fb_calls.specs.declared.call.Call.{Call}
 use Rattle.fb_service.specs.declared.disk.Disk.{Disk}
@@ -29,7 +31,6 @@ use Rattle.fb_model.specs.Accepted.{IsAccepted, IsRising}
 use Rattle.fb_model.specs.SoundRun.{AreFollowed}
 use Rattle.fb_model.specs.FullRun.{HasBestPlan, IsFull}
 use Rattle.fb_model.specs.Known.{only_if, known_from, fore_known, AgreeUpTo, SameKnown, without_line}
-use Rattle.fb_model.proofs.Lists.{after_is, kept_map, same_first, same_rest, not_none}
 use Rattle.fb_model.proofs.Joined.{in_order}
 use Rattle.fb_model.proofs.Due.{IsDueRow, due_block, due_true}
 use Rattle.fb_model.proofs.Replays.{Rises, plain_turns}

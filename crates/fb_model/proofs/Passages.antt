@@ -9,6 +9,7 @@ use Rattle.fb_units.proofs.Lists.{all_weaker, all_append}
 use Rattle.fb_units.specs.declared.types.Track.{Track}
 use Rattle.fb_units.specs.declared.types.Place.{Place}
 use Rattle.fb_units.specs.declared.types.Request.{Request}
+use Rattle.fb_units.proofs.Each.{all_both, all_map}
 use Rattle.fb_geometry.specs.declared.zone.Zone.{Zone}
 use Rattle.fb_geometry.specs.Shape.{Shape, slots_at}
 use Rattle.fb_geometry.specs.Places.{places}
@@ -33,7 +34,6 @@ use Rattle.fb_model.specs.Accepted.{IsAccepted, IsRequestOf}
 use Rattle.fb_store.specs.Writes.{writer_of}
 use Rattle.fb_model.specs.Content.{Written, writes_of}
 use Rattle.fb_model.specs.Rides.{begin_at, end_at, lies_in}
-use Rattle.fb_model.proofs.Lists.{all_both, all_map}
 use Rattle.fb_model.proofs.Picks.{all_picked}
 use Rattle.fb_model.proofs.Replays.{AreTurns, IsTurn}
 
@@ -118,13 +118,6 @@ module _ (until : ℕ) where
   abbrev PassBy : List Passage → Type 0
   PassBy ps = AllByRecursion (λ (p : Passage). (p.begin ≤ until) × (p.end ≤ until)) ps
 
-  begin_at-by : (ps : List Passage) (lbn : ℕ) → PassBy ps → begin_at ps lbn ≤ until
-  begin_at-by [] lbn all = omega arith
-  begin_at-by (p ∷ ps) lbn all = elim (cases_Bool (p.lbn == lbn)) [
-    | inl here ↦ rw here (all.0.0)
-    | inr behind ↦ rw behind (begin_at-by ps lbn all.1)
-  ]
-
   end_at-by : (ps : List Passage) (lbn : ℕ) → PassBy ps → end_at ps lbn ≤ until
   end_at-by [] lbn all = omega arith
   end_at-by (p ∷ ps) lbn all = elim (cases_Bool (p.lbn == lbn)) [
@@ -141,9 +134,6 @@ module _ (disk : Disk) (served : Served) (is : IsServiceOf disk served) where
   pass_by = all_weaker (λ (p : Passage). (served.start ≤ p.begin) × (p.begin ≤ p.end) × (p.end ≤ finish served))
       (λ (p : Passage). (p.begin ≤ finish served) × (p.end ≤ finish served))
       (λ p h. (omega (arith, h.1, h.2), h.2)) served.passages (served_between disk served is).1
-
-  pub begins_by : (lbn : ℕ) → begin_at served.passages lbn ≤ finish served
-  begins_by lbn = begin_at-by (finish served) served.passages lbn pass_by
 
   pub ends_by : (lbn : ℕ) → end_at served.passages lbn ≤ finish served
   ends_by lbn = end_at-by (finish served) served.passages lbn pass_by

@@ -54,7 +54,7 @@ start_arrived now request requests = elim (cases_Bool (list_any (has_arrived now
 ]
 
 -- none has arrived
-none_arrived : (t : ℕ) (requests : List Request) → AllByRecursion (λ request. t < request.arrival) requests
+pub none_arrived : (t : ℕ) (requests : List Request) → AllByRecursion (λ request. t < request.arrival) requests
     → list_any (has_arrived t) requests ≡ false
 none_arrived t [] late = refl
 none_arrived t (request ∷ requests) late =

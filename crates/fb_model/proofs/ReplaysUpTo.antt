@@ -9,10 +9,10 @@ use Rattle.std.proofs.lemmas.List.Elements.{filter-append}
 use Rattle.fb_units.proofs.Lists.{all_weaker, all_filter}
 use Rattle.fb_units.specs.declared.types.Track.{Track}
 use Rattle.fb_units.specs.declared.types.Request.{Request}
+use Rattle.fb_units.proofs.Comparing.{by_is}
 use Rattle.fb_service.specs.declared.disk.Disk.{Disk}
 use Rattle.fb_model.specs.PlainReplay.{Key, Served, finish, last_track, service, has_arrived, first_ready}
 use Rattle.fb_model.specs.Laws.{IsFirstReady, IsReadyAt}
-use Rattle.fb_model.proofs.Lists.{by_is}
 use Rattle.fb_model.proofs.Picks.{one_pick}
 use Rattle.fb_model.proofs.Replays.{IsTurn, AreTurns, Rises, turn_start, turns_end, all_from, rest_rises}
 

@@ -5,8 +5,10 @@ use Rattle.std.proofs.Common.{false, inl, inr, nat_le}
 use Rattle.std.specs.Prelude.{filter, ◌&&◌, not, if◌then◌else◌}
 use Rattle.std.specs.List.{AllByRecursion, flat_map}
 use Rattle.std.proofs.lemmas.Bool.{cases_Bool}
-use Rattle.fb_units.proofs.Comparing.{is_after}
-use Rattle.fb_units.proofs.Lists.{all_append, all_dropped, flat_map_same}
+use Rattle.fb_units.proofs.Comparing.{after_is, is_after, is_by}
+use Rattle.fb_units.proofs.Lists.{all_append, all_dropped, flat_map_same, not_none, same_first, same_rest}
+use Rattle.fb_units.proofs.Each.{all_any, all_flat_map, all_map}
+use Rattle.fb_units.proofs.Alike.{same_map}
 use Rattle.fb_store.specs.Runs.{runs_of}
 use Rattle.fb_wanted.specs.declared.block.Block.{Block}
 use Rattle.fb_wanted.specs.States.{is_delivered}
@@ -23,7 +25,6 @@ use Rattle.fb_model.specs.Images.{segment_row, seal_rows, complete_rows, test_ro
 use Rattle.fb_model.specs.Steps.{Delivery, with_delivery, task_row, task_rows}
 use Rattle.fb_model.specs.SoundRun.{AreFollowed}
 use Rattle.fb_model.specs.Known.{is_known, follows_known, only_if, known_from}
-use Rattle.fb_model.proofs.Lists.{all_any, all_map, all_flat_map, same_map, is_by, after_is, same_first, same_rest, not_none}
 use Rattle.fb_model.proofs.FullRuns.{gots}
 use Rattle.fb_model.proofs.ContentsUpTo.{HoldSame, same_contents}
 use Rattle.fb_model.proofs.HistoriesUpTo.{AreFine, HasBegun}

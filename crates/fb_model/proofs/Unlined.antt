@@ -6,6 +6,8 @@ use Rattle.std.specs.List.{fold, flat_map, list_any, range_with_len, best_of}
 use Rattle.std.proofs.lemmas.List.{drop-map}
 use Rattle.std.proofs.lemmas.List.Elements.{filter_agree}
 use Rattle.fb_units.proofs.Lists.{flat_map_same}
+use Rattle.fb_units.proofs.Filtered.{kept_map}
+use Rattle.fb_units.proofs.Alike.{same_map}
 use Rattle.fb_geometry.specs.Shape.{Shape}
 use Rattle.fb_calls.specs.declared.call.Action.{Action}
 use Rattle.fb_calls.specs.declared.call.Action.TheVariants.{Want}
@@ -42,7 +44,6 @@ use Rattle.fb_model.specs.Steps.{tested_past, past_after, AtEach}
 use Rattle.fb_model.specs.SoundRun.{AreFollowed}
 use Rattle.fb_model.specs.FullRun.{HasBestPlan}
 use Rattle.fb_model.specs.Known.{without_line}
-use Rattle.fb_model.proofs.Lists.{same_map, kept_map}
 use Rattle.fb_model.proofs.FullRuns.{IsFullStep}
 
 abbrev unlined : Event → Event
@@ -202,10 +203,6 @@ same_held medium (tested rows ∷ past) block = same_held medium past block
 same_held medium (finished request ∷ past) block = same_held medium past block
 
 -- ---- calls and choices
-
-same_next : (past : Past) (task : ℕ) (cuts : List Cut) → next_blocks (unlined_past past) task cuts ≡ next_blocks past task cuts
-same_next past task cuts = ap₂ (λ (terms : Terms) (blocks : List Block). numbered task terms.weight (length blocks) cuts)
-    (same_terms past task) (same_blocks past task)
 
 same_by : (disk : Shape) (past : Past) (task : ℕ) (action : Action)
     → blocks_by disk (unlined_past past) task action ≡ blocks_by disk past task action

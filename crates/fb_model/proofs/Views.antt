@@ -22,13 +22,6 @@ use Rattle.fb_model.specs.History.{content_of}
 use Rattle.fb_model.specs.Completion.{view, own_of, is_unsealed, closed_view, aborted_view, written_view, added_view, wanted_view}
 use Rattle.fb_model.specs.Completion.{chosen_view, delivered_view, tested_view, is_complete}
 
-none_filtered : (task : ℕ) (bs : List Block) → list_any (λ b. b.task == task) bs ≡ false → filter (λ block. block.task == task) bs ≡ []
-none_filtered task [] h = refl
-none_filtered task (b ∷ bs) h = elim (cases_Bool (b.task == task)) [
-  | inl own ↦ absurd (cc)
-  | inr other ↦ rw other (none_filtered task bs (cc))
-]
-
 -- a call that opens no task
 module _ (past : Past) (call : Call) (kept : tasks (called call [] ∷ past) ≡ tasks past) (task : ℕ) where
   -- is another task's

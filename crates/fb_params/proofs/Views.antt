@@ -18,11 +18,6 @@ elements-array (boolean b) items is = absurd (cc)
 elements-array (datetime d) items is = absurd (cc)
 elements-array (table t) items is = absurd (cc)
 
--- a test of values by their data
-pub list_all-view : (passes : Data → Bool) (values : List Value) (seen : List Data) → map view values ≡ seen
-    → list_all (λ value. passes (view value)) values ≡ list_all passes seen
-list_all-view passes values seen is = sym (list_all-map passes view values) ∙ ap (list_all passes) is
-
 all-at : (passes : Data → Bool) (values : List Value) → list_all passes (map view values) ≡ true → (i : ℕ) (d : Value) → i < length values
     → passes (view (get_or values i d)) ≡ true
 all-at passes [] all i d inside = absurd (omega arith)

@@ -4,6 +4,7 @@ use Rattle.std.proofs.Common.{filter, map, length, refl, arith, sym, ap, ◌∙�
 use Rattle.std.proofs.lemmas.Bool.{cases_Bool, and_parts, and_from, eqb-true, eq-eqb}
 use Rattle.std.proofs.lemmas.List.Elements.{filter-append}
 use Rattle.std.proofs.lemmas.List.Sums.{sum_by-cons}
+use Rattle.fb_units.proofs.Filtered.{filter_from}
 use Rattle.fb_units.proofs.Lists.{filter_to}
 use Rattle.fb_units.specs.declared.types.Track.{Track}
 use Rattle.fb_units.specs.Tracks.{same_track}
@@ -17,7 +18,7 @@ use Rattle.fb_rows.specs.declared.gap.Dwell.{Dwell}
 use Rattle.fb_model.specs.Plans.{catches}
 use Rattle.fb_plan.specs.declared.catching.Catch.{Catch}
 use Rattle.fb_plan.specs.Order.{in_order, catch_of, caught_among, caught_of}
-use Rattle.fb_plan.proofs.Gains.{chosen-sum, in_filter}
+use Rattle.fb_plan.proofs.Gains.{chosen-sum}
 use Rattle.fb_plan.proofs.Offered.{entry-of}
 use Rattle.fb_plan.proofs.Orders.{on_its_track}
 use Rattle.fb_plan.proofs.Sorted.{tied, tied-numbers, same-in-order}
@@ -132,9 +133,9 @@ module _ (track : Track) (es xs : List Entry) (blocks : List Block) (numbers : A
       let itself = and_from (b.task == b.task) (b.number == b.number) (eq-eqb b.task b.task refl) (eq-eqb b.number b.number refl) in
       let among = filter_to (numbered b.task b.number) blocks i b at itself in
       let here = ap (λ l. slice_get l among.0) (sym (the-one (numbered b.task b.number) b.task b.number (λ c h. h))) ∙ among.1 in
-      let there = in_filter (numbered b.task b.number) (wanted_of (on_track track es)) among.0 b here in
+      let there = filter_from (numbered b.task b.number) (wanted_of (on_track track es)) among.0 b here in
       let e = entry-of (on_track track es) there.0 b there.1 in
-      let f = in_filter (λ (x : Entry). same_track track x.block.track) es e.0 e.1 e.2 in
+      let f = filter_from (λ (x : Entry). same_track track x.block.track) es e.0 e.1 e.2 in
       (subst P e.3 (each f.0 e.1 f.1), subst (λ (x : Block). same_track track x.track ≡ true) e.3 f.2)
 
   -- what those that pass a test add is put in the same order as what the track's wanted blocks add, in order of registration

@@ -5,6 +5,7 @@ use Rattle.std.specs.List.{sum_by}
 use Rattle.std.proofs.lemmas.Bool.{cases_Bool}
 use Rattle.std.proofs.lemmas.Bool.Decides.{nat_tests}
 use Rattle.std.proofs.lemmas.List.Sums.{sum_by-cons}
+use Rattle.fb_units.proofs.Filtered.{filter_from}
 use Rattle.fb_units.specs.declared.types.Sweep.{Sweep}
 use Rattle.fb_units.specs.declared.types.Track.{Track}
 use Rattle.fb_units.specs.Tracks.{same_track}
@@ -25,7 +26,7 @@ use Rattle.fb_plan.specs.declared.sides.Sides.{Sides}
 use Rattle.fb_plan.specs.declared.turning.Turning.{Turning}
 use Rattle.fb_plan.specs.Ways.{AreOnDisk}
 use Rattle.fb_plan.specs.Turns.{AreSides, IsTurning, passes_by, added}
-use Rattle.fb_plan.proofs.Gains.{adds, gain_by, in_filter, value-by-one, value-by-two}
+use Rattle.fb_plan.proofs.Gains.{adds, gain_by, value-by-one, value-by-two}
 use Rattle.fb_plan.proofs.Offered.{sum-offered}
 use Rattle.fb_plan.proofs.Swept.{passes-as}
 
@@ -90,13 +91,13 @@ module _ (disk : Disk) (gap : Gap) (plan : Plan) (es : List Entry) (pair : Dwell
   on-early : (i : ℕ) (e : Entry) → slice_get sides.early i ≡ Some e → same_track pair.early.track e.block.track ≡ true
   on-early i e at =
       let track = (early_dwell disk gap plan).track in
-      let listed = in_filter (λ (x : Entry). same_track track x.block.track) es i e (ap (λ l. slice_get l i) (sym are.early) ∙ at) in
+      let listed = filter_from (λ (x : Entry). same_track track x.block.track) es i e (ap (λ l. slice_get l i) (sym are.early) ∙ at) in
       subst (λ (d : Dwell). same_track d.track e.block.track ≡ true) (sym p) listed.2
 
   on-late : (i : ℕ) (e : Entry) → slice_get sides.late i ≡ Some e → same_track pair.late.track e.block.track ≡ true
   on-late i e at =
       let here = ap (λ l. slice_get l i) (sym are.late) ∙ at in
-      let listed = in_filter (λ (x : Entry). same_track gap.target x.block.track) es i e here in
+      let listed = filter_from (λ (x : Entry). same_track gap.target x.block.track) es i e here in
       subst (λ t. same_track t e.block.track ≡ true) (sym target-is) listed.2
 
   module _ (on : AreOnDisk disk sides.early) (offers : List Offer) (offered : AreOffers offers sides.early) where

@@ -20,22 +20,6 @@ use Rattle.fb_rows.specs.declared.gap.Dwell.{Dwell}
 use Rattle.fb_model.specs.Plans.{catches, is_caught, value, early_dwell, late_dwell}
 use Rattle.fb_plan.specs.Ways.{gain, track_of}
 
-first_or : {X : Type 0} (p : X → Bool) (y : X) (ys : List X) (i : ℕ) (x : X) → p y ≡ true → slice_get (y ∷ filter p ys) i ≡ Some x
-    → ((k : ℕ) → slice_get (filter p ys) k ≡ Some x → (j : ℕ) × (slice_get ys j ≡ Some x) × (p x ≡ true))
-    → (j : ℕ) × (slice_get (y ∷ ys) j ≡ Some x) × (p x ≡ true)
-first_or p y ys zero x t h rest = (zero, h, ap p (sym (same_Some y x h)) ∙ t)
-first_or p y ys (suc i) x t h rest = let r = rest i h in (suc r.0, r.1, r.2)
-
--- what passes the test stands in the list
-pub in_filter : {X : Type 0} (p : X → Bool) (xs : List X) (i : ℕ) (x : X) → slice_get (filter p xs) i ≡ Some x
-    → (j : ℕ) × (slice_get xs j ≡ Some x) × (p x ≡ true)
-in_filter p [] zero x h = absurd (grind arith)
-in_filter p [] (suc i) x h = absurd (grind arith)
-in_filter p (y ∷ ys) i x h = elim (cases_Bool (p y)) [
-  | inl t ↦ first_or p y ys i x t (rw t at h) (λ k. in_filter p ys k x)
-  | inr f ↦ let r = in_filter p ys i x (rw f at h) in (suc r.0, r.1, r.2)
-]
-
 -- what an entry adds, if it's wanted and its block passes the test
 abbrev pub adds : (Block → Bool) → Entry → ℕ
 adds c e = if is_wanted e.state && c e.block then e.block.weight * e.block.count else 0

@@ -5,6 +5,7 @@ use Rattle.std.specs.List.{sum_by}
 use Rattle.std.proofs.lemmas.Bool.{cases_Bool, and_parts, and_from, eqb-true, eq-eqb}
 use Rattle.std.proofs.lemmas.List.Sums.{sum_by-cons}
 use Rattle.std.proofs.lemmas.Option.{slice_get_within, slice_get-map, slice_get-get_or, same_Some}
+use Rattle.fb_units.proofs.Filtered.{filter_from}
 use Rattle.fb_units.proofs.Lists.{filter_to}
 use Rattle.fb_units.specs.declared.types.Sweep.{Sweep}
 use Rattle.fb_service.specs.declared.disk.Disk.{Disk}
@@ -17,7 +18,7 @@ use Rattle.fb_wanted.specs.States.{is_wanted, wanted_of}
 use Rattle.fb_plan.specs.declared.turning.Turning.{Turning}
 use Rattle.fb_plan.specs.Ways.{AreOnDisk}
 use Rattle.fb_plan.specs.Turns.{IsInTurn, AreInTurn, IsTurning, added}
-use Rattle.fb_plan.proofs.Gains.{adds, in_filter, of-wanted}
+use Rattle.fb_plan.proofs.Gains.{adds, of-wanted}
 use Rattle.fb_plan.proofs.Swept.{turning-in}
 
 -- ---- how many pass a test is a sum, which shows whether one does
@@ -73,7 +74,7 @@ entry-of es i b at =
     let here = slice_get-get_or wanted i d lt in
     let block = slice_get-map (λ (x : Entry). x.block) wanted i ∙ ap (option_map (λ (x : Entry). x.block)) here in
     let same : e.block ≡ b = same_Some e.block b (sym block ∙ at) in
-    let r = in_filter (λ (x : Entry). is_wanted x.state) es i e here in
+    let r = filter_from (λ (x : Entry). is_wanted x.state) es i e here in
     (r.0, e, r.1, same, r.2)
 
 -- and the block of an entry is wanted, if its state is

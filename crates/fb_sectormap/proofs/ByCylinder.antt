@@ -5,6 +5,7 @@ use Rattle.std.specs.Prelude.{slice_get}
 use Rattle.std.specs.List.{flat_map, range_with_len}
 use Rattle.std.proofs.lemmas.Bool.{cases_lt}
 use Rattle.std.proofs.lemmas.Option.{get_or_from_slice_get, slice_get_within}
+use Rattle.fb_units.proofs.Lists.{element_at}
 use Rattle.fb_units.specs.declared.types.Place.{Place}
 use Rattle.fb_geometry.specs.declared.zone.Zone.{Zone}
 use Rattle.fb_geometry.specs.Shape.{Shape, cylinders_of}
@@ -128,11 +129,6 @@ module _ (disk : Shape) (sound : IsSound disk) where
     pub lies : LiesOn disk cylinder place
     pub placed_at : place_at disk lbn ≡ place
 
-  pub some_get : {X : Type 0} (xs : List X) (i : ℕ) → i < length xs → (x : X) × (slice_get xs i ≡ Some x)
-  some_get [] i h = absurd (omega arith)
-  some_get (x ∷ xs) zero h = (x, refl)
-  some_get (x ∷ xs) (suc i) h = some_get xs i (omega arith)
-
   pub place_is : (lbn : ℕ) (place : Place) → IsAt disk lbn place → place_at disk lbn ≡ place
   unfolding place_at
   place_is lbn place h = get_or_from_slice_get (places disk) lbn place _ h
@@ -141,7 +137,7 @@ module _ (disk : Shape) (sound : IsSound disk) where
   unfolding sectors_before
   has_place lbn h =
       let part = by_parts lbn h in
-      let place = some_get (data_list_at disk part.part) part.index part.inside in
+      let place = element_at (data_list_at disk part.part) part.index part.inside in
       record {
         cylinder = part.part;
         sector = part.index;
@@ -184,7 +180,7 @@ module _ (disk : Shape) (sound : IsSound disk) where
       let some = some-sectors cylinder h in
       let upto = before-rise (cylinder + 1) (cylinders_of disk.zones) (omega arith) in
       let on_disk : sectors_before disk cylinder < length (places disk) = omega (arith, before_next cylinder, count-is) in
-      let place = some_get (data_list_at disk cylinder) 0 some in
+      let place = element_at (data_list_at disk cylinder) 0 some in
       let at = place_is (sectors_before disk cylinder) place.0 (at_sector cylinder 0 (sectors_before disk cylinder) h some (omega arith)
       ∙ place.1) in
       record {

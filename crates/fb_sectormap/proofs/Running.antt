@@ -2,13 +2,14 @@
 use Rattle.std.proofs.Common.{◌≡◌, ℕ, ◌+◌, ◌-◌, ◌*◌, ◌^◌, ◌<◌, ◌≤◌, length, ap, sym, ◌∙◌, arith, Some, subst}
 use Rattle.std.specs.Prelude.{slice_get}
 use Rattle.std.proofs.lemmas.Option.{slice_get_within}
+use Rattle.fb_units.proofs.Lists.{element_at}
 use Rattle.fb_units.specs.declared.types.Place.{Place}
 use Rattle.fb_geometry.specs.Shape.{Shape, slots_at, cylinders_of, IsTrackOf}
 use Rattle.fb_geometry.specs.Places.{places, data_list_at}
 use Rattle.fb_geometry.specs.Sound.{IsSound}
 use Rattle.fb_sectormap.specs.LookUp.{IsAt, place_at, track_at}
 use Rattle.fb_sectormap.specs.Cylinders.{IsSectorOf, sectors_before}
-use Rattle.fb_sectormap.proofs.ByCylinder.{placed, place_is, own-at, size-few, count-few, some_get}
+use Rattle.fb_sectormap.proofs.ByCylinder.{placed, place_is, own-at, size-few, count-few}
 
 -- what is known of the place of a sector
 pub record Placed (disk : Shape) (cylinder lbn : ℕ) (place : Place) : Type 0 where
@@ -33,7 +34,7 @@ module _ (disk : Shape) (sound : IsSound disk) (cylinder j lbn : ℕ) (is : IsSe
 
   pub cylinder_of_sector : (lbn < length (places disk)) × ((track_at disk lbn).cylinder ≡ cylinder)
   cylinder_of_sector =
-      let place = some_get disk sound (data_list_at disk cylinder) j is.inside in
+      let place = element_at (data_list_at disk cylinder) j is.inside in
       let its = placed_on place.0 place.1 in
       (slice_get_within (places disk) lbn place.0 its.at, ap (λ (p : Place). p.track.cylinder) (sym its.value) ∙ its.cylinder_is)
 

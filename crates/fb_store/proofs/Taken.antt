@@ -99,9 +99,6 @@ dropped first n lbn was is within less more = elim (cases_lt lbn first) [
   ]
 ]
 
-pub nothing_dropped : (first n lbn : ℕ) (was : Option Content) → n ≡ 0 → was ≡ after_dropping first n lbn was
-nothing_dropped first n lbn was none = dropped first n lbn was was (λ a b. absurd (omega arith)) (λ a. refl) (λ a. refl)
-
 -- without any range, no sector holds anything
 pub held_at-empty : (ranges : List (ℕ × Option Content)) (lbn : ℕ) → ranges ≡ [] → held_at ranges lbn ≡ None
 held_at-empty ranges lbn none = ap (λ rs. held_at rs lbn) none ∙ none_held (begins_at []) lbn (λ begin le. refl)

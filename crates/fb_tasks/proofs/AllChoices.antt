@@ -1,4 +1,6 @@
 -- The choices of a session, one after another, and those of all sessions.
+use Rattle.fb_units.proofs.Counts.{each_one, filter-le}
+pub use Rattle.fb_units.proofs.Lists.{all_range}
 use Rattle.fb_tasks.proofs.Words.{◌≡◌, ℕ, zero, suc, ◌+◌, ◌-◌, ◌≤◌, ◌&&◌, not, if◌then◌else◌, List, [], ◌++◌, true, false, length}
 use Rattle.fb_tasks.proofs.Words.{append-nil, refl, ap, sym, ◌∙◌, arith, ◌∷◌, Bool, inl, inr, subst, ◌*◌, ◌^◌, ◌<◌, Some, set, slice_get}
 use Rattle.fb_tasks.proofs.Words.{and_parts, cases_Bool, true≢false, length-map, length-set, Shape, is_clean, Entry, BackRow, Past}
@@ -11,9 +13,8 @@ use Rattle.fb_tasks.proofs.Words.{chosen-silent, MayChooseAndTest, TaskView, nil
 use Rattle.fb_tasks.proofs.{ChoiceSteps.best_left, ChoiceSteps.chosen_blocks, ChoiceSteps.chosen_for, ChoiceSteps.next_view}
 use Rattle.fb_tasks.proofs.{States.seen, Segmented.numbered_given, ChoiceSteps.once_is, ChoiceSteps.left_less, ChoiceSteps.added_own}
 use Rattle.fb_tasks.proofs.{ChoiceSteps.segment_rows_of, ChoiceSteps.segment_rows_is, ChoiceSteps.few_less, ChoiceSteps.best_of_left}
-use Rattle.fb_tasks.proofs.{Complete.filter-le, RowsOf.reported_rows, Cuts.range_next, Tested.rows_more, Frames.set_same}
+use Rattle.fb_tasks.proofs.{RowsOf.reported_rows, Cuts.range_next, Tested.rows_more, Frames.set_same}
 use Rattle.std.proofs.lemmas.List.Sums.{fold-append}
-pub use Rattle.fb_tasks.proofs.Lists.{all_range}
 
 up_to_still : (n : ℕ) (disk : Shape) (task : ℕ) (past : Past) → (0 < n → choose_once disk task past ≡ past)
     → choose_up_to n disk task past ≡ past
@@ -68,10 +69,6 @@ choices_in {disk} {past} {task} {session} k n may_be count may le still =
     rw (in_by disk past task session true may.stands may_be, as_many, up_to_split k (n - k) disk task past)
     (up_to_still (n - k) disk task (choose_up_to k disk task past) still)
 
-count_is : {X : Type 0} (xs : List X) → sum_by (λ _. 1) xs ≡ length xs
-count_is [] = refl
-count_is (x ∷ xs) = omega (arith, sum_by-cons (λ _. 1) x xs, count_is xs)
-
 module _ (disk : Shape) (task : ℕ) where
   -- a turn chooses nothing where a segment is unfinished or none is left
   still_once : (past : Past) → (is_busy (view past task).work ≡ false → unchosen (view past task).work ≡ [])
@@ -115,8 +112,8 @@ module _ (disk : Shape) (task : ℕ) where
         let count : length (unchosen (view next task).work) + 1 ≤ length (unchosen (view past task).work) = rw now (omega (
           arith,
           fewer,
-          count_is (unchosen (view past task).work),
-          count_is (unchosen (chosen_view task (chosen_for disk task (view past task) best) (view past task)).work),
+          each_one (unchosen (view past task).work),
+          each_one (unchosen (chosen_view task (chosen_for disk task (view past task) best) (view past task)).work),
         )) in
         subst (λ p. IsDone (choose_up_to n disk task p)) (sym once) (rest next (rw now on_disk) (omega (arith, count, few)))
 

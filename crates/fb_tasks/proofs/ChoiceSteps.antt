@@ -1,4 +1,5 @@
 -- A task chooses a segment, as its session and as the history makes it.
+use Rattle.fb_units.proofs.Each.{all_best}
 use Rattle.fb_tasks.proofs.Words.{◌≡◌, ℕ, ◌+◌, ◌-◌, ◌*◌, ◌^◌, ◌<◌, ◌≤◌, ◌==◌, not, if◌then◌else◌, List, [], ◌∷◌, ◌++◌, true, false, Some}
 use Rattle.fb_tasks.proofs.Words.{None, Option, length, map, slice_get, append-nil, refl, ap, sym, ◌∙◌, arith, subst, ◌&&◌, inl, inr}
 use Rattle.fb_tasks.proofs.Words.{filter, append_assoc, length-append, AllByRecursion, list_all, flat_map, best_of, sum_by, option_map}
@@ -21,7 +22,6 @@ use Rattle.fb_tasks.proofs.Segmented.{live_there, live_some, cuts_of_live, sum_w
 use Rattle.fb_tasks.proofs.{Complete.busy_by, States.seen}
 use Rattle.fb_clean.specs.Segments as clean
 use Rattle.fb_clean.proofs.Live.{live_blocks-count, live_blocks-within}
-use Rattle.fb_model.proofs.Lists.{all_best}
 use Rattle.fb_wanted.specs.Numbering as numbering
 
 -- what holds of a segment that is left to choose

@@ -1,4 +1,5 @@
 -- How many blocks of a task there are in each state, whether it is complete by what its session keeps, and its row.
+use Rattle.fb_units.proofs.Counts.{filter-le}
 use Rattle.fb_tasks.proofs.Words.{◌≡◌, ℕ, ◌+◌, ◌≤◌, ◌==◌, List, [], ◌∷◌, Bool, inl, inr, length, filter, map, refl, arith, zero, suc, ◌-◌}
 use Rattle.fb_tasks.proofs.Words.{◌<◌, ◌&&◌, not, ◌++◌, true, false, Some, None, Option, slice_get, find, append-nil, ap, sym, ◌∙◌}
 use Rattle.fb_tasks.proofs.Words.{append_assoc, list_all, AllByRecursion, list_any, range_with_len, cases_Bool, true≢false, length-map}
@@ -14,9 +15,6 @@ use Rattle.std.proofs.lemmas.List.Sums.{count_by-le-length}
 use Rattle.fb_model.specs.History.{blocks_of}
 use Rattle.fb_wanted.specs.Numbering as numbering
 use Rattle.fb_clean.specs.Segments as clean
-
-pub filter-le : {X : Type 0} (p : X → Bool) (xs : List X) → length (filter p xs) ≤ length xs
-filter-le p xs = rw length-filter (count_by-le-length p xs)
 
 pub counts_registered : (task : ℕ) (es : List Entry)
     → (counts_of task es).registered ≡ numbering.registered_count task (numbering.blocks_of es)

@@ -1,11 +1,11 @@
 -- Blocks of a task that are cut from a range, and those of a segment's live blocks, one after another.
 use Rattle.fb_units.proofs.Lists.{drop_at}
+use Rattle.fb_units.proofs.Parts.{range-append}
 use Rattle.fb_tasks.proofs.Words.{◌≡◌, ℕ, suc, ◌+◌, ◌-◌, ◌^◌, ◌<◌, ◌≤◌, List, [], ◌∷◌, ◌++◌, length, refl, ap, sym, ◌∙◌, arith, subst, Some}
 use Rattle.fb_tasks.proofs.Words.{drop, slice_get, append_assoc, length-append, AllByRecursion, flat_map, range_with_len, Shape, places}
 use Rattle.fb_tasks.proofs.Words.{Cut, IsOneTurn, cutting, numbered, AreCuts, cuts_rise, IsBlockOf, AreNumbered, Ascend, map-append}
 use Rattle.fb_tasks.proofs.Words.{length-map, filter-append, Block, Entry, blocks_of, Session, new_entries, cuts_of}
 use Rattle.fb_tasks.proofs.Registered.{all_own}
-use Rattle.fb_geometry.proofs.Turns.{range-append}
 use Rattle.fb_sectormap.specs.LookUp.{track_at}
 use Rattle.fb_sectormap.specs.Sweeps.{sweep_of}
 use Rattle.fb_wanted.specs.Numbering.{registered_count}

@@ -1,4 +1,5 @@
 -- A chosen segment is finished where each of its blocks is delivered.
+use Rattle.fb_units.proofs.Counts.{filter-le}
 use Rattle.fb_tasks.proofs.Words.{◌≡◌, ℕ, suc, ◌==◌, not, if◌then◌else◌, List, [], ◌∷◌, ◌++◌, Bool, true, false, Some, None, Option, inl}
 use Rattle.fb_tasks.proofs.Words.{inr, length, filter, append-nil, refl, ap, sym, ◌∙◌, arith, AllByRecursion, flat_map, list_any}
 use Rattle.fb_tasks.proofs.Words.{range_with_len, option_map, cases_Bool, true≢false, filter-append, none-some, Shape, is_clean, BackRow}
@@ -7,7 +8,7 @@ use Rattle.fb_tasks.proofs.Words.{counts_of, Past, Choice, Work, view, is_cleane
 use Rattle.fb_tasks.proofs.Words.{Session, is_none, found_for, Stands, Cleans, MayFinish, IsAtWork, IsCutFrom, HoldsBlock}
 use Rattle.fb_tasks.proofs.Words.{choice_in, CleansBy, all_weaker, all_with, all_append, all_left, all_right, all_flat, flat_all, flat_same}
 use Rattle.fb_tasks.proofs.Words.{some_same, filter_none, each_all, list_all_each, other_number}
-use Rattle.fb_tasks.proofs.{Complete.counts_same, Complete.filter-le, Complete.busy_by, Segmented.live_there, RowsOf.reported_rows}
+use Rattle.fb_tasks.proofs.{Complete.counts_same, Complete.busy_by, Segmented.live_there, RowsOf.reported_rows}
 use Rattle.std.proofs.lemmas.Grind.{flat_map-append}
 use Rattle.fb_clean.specs.Segments as clean
 use Rattle.fb_clean.proofs.Live.{live_blocks-count}

@@ -1,6 +1,5 @@
 pub mod Words
 pub mod Leaving
-pub mod Lists
 pub mod Frames
 pub mod States
 pub mod Changes

@@ -1,4 +1,5 @@
 -- The sectors that can't be read, and what the rows of a test say of each task.
+use Rattle.fb_units.proofs.Parts.{range-append}
 use Rattle.fb_tasks.proofs.Words.{◌≡◌, ℕ, ◌+◌, ◌-◌, ◌≤◌, List, [], ◌∷◌, ◌++◌, true, false, Some, if◌then◌else◌, take, slice_get, append-nil}
 use Rattle.fb_tasks.proofs.Words.{append_assoc, sym, arith, refl, zero, suc, ◌<◌, ◌==◌, ◌&&◌, ◌||◌, Bool, inl, inr, length, filter}
 use Rattle.fb_tasks.proofs.Words.{map, ap, ◌∙◌, range_with_len, flat_map, list_any, Unreadable, ContentRun, same_content, bad_sectors}
@@ -8,7 +9,6 @@ use Rattle.fb_tasks.proofs.Words.{cases_Bool, nat_tests, list_any-append, BackRo
 use Rattle.fb_tasks.proofs.Words.{DeliveryRow, Past, tasks, task_numbers, terms_of, is_seal_of, is_open_backup, Choice, view, work, choices}
 use Rattle.fb_tasks.proofs.Words.{is_complete, is_segment_of, AreTestRowsOf, all_any, any_same, any_none, Plain}
 use Rattle.fb_tasks.proofs.Words.{AreReported, filter_none, found_for}
-use Rattle.fb_geometry.proofs.Turns.{range-append}
 
 pub range_pushed : (before now : List ℕ) (first lbn : ℕ) → first ≤ lbn → now ≡ before ++ range_with_len first (lbn - first)
     → now ++ lbn ∷ [] ≡ before ++ range_with_len first (lbn + 1 - first)

@@ -1,4 +1,5 @@
 -- What is held of sectors and of blocks that ascend; a backup is sealed: its image has the delivered blocks alone.
+use Rattle.fb_units.proofs.Parts.{range-append}
 use Rattle.fb_store.proofs.Taken.{held_none}
 use Rattle.fb_tasks.proofs.Words.{◌≡◌, ℕ, zero, suc, ◌+◌, ◌<◌, ◌≤◌, List, [], ◌∷◌, true, false, Some, Option, refl, arith, append-nil}
 use Rattle.fb_tasks.proofs.Words.{◌-◌, ◌==◌, ◌&&◌, ◌^◌, not, nat_lt, if◌then◌else◌, ◌++◌, Bool, None, length, filter, take, slice_get}
@@ -13,7 +14,6 @@ use Rattle.fb_tasks.proofs.Words.{is_done, number_same, without_aborted, SealLin
 use Rattle.fb_tasks.proofs.Words.{take-length, all_both, list_any-append}
 use Rattle.fb_tasks.proofs.{Complete.counts_same, States.seen, Registered.own, States.shown_aborted, Changes.open_by}
 use Rattle.std.proofs.lemmas.Grind.{flat_map-append}
-use Rattle.fb_geometry.proofs.Turns.{range-append}
 pub use Rattle.fb_store.proofs.Originals.{inside as within, before as before_it, after as behind_it}
 
 -- ascending blocks begin at the first sector or after it

@@ -9,7 +9,8 @@ pub use Rattle.std.specs.Option.{option_map}
 pub use Rattle.std.specs.Ordering.{nat_cmp}
 pub use Rattle.std.proofs.Math.Bool.{and-false, and-true, and_comm, or-false, or-true, or_comm}
 pub use Rattle.std.proofs.Math.Seq.{drop-append_seam, map-set_same, take-length}
-pub use Rattle.std.proofs.lemmas.Bool.{and_parts, cases_Bool, cases_lt, not-true, true≢false}
+pub use Rattle.std.proofs.lemmas.Bool.{and_parts, cases_Bool, cases_lt, eqb-true as same_number, ne_eqb as number_other, not-true}
+pub use Rattle.std.proofs.lemmas.Bool.{true≢false}
 pub use Rattle.std.proofs.lemmas.Bool.Decides.{nat_tests}
 pub use Rattle.std.proofs.lemmas.List.{append_cancel_left, drop_more, get_or_past, get_or_push, length-map, length-set, map-append}
 pub use Rattle.std.proofs.lemmas.List.{nil_from_length, take-append-drop, take-map, take_more}
@@ -18,12 +19,19 @@ pub use Rattle.std.proofs.lemmas.List.Elements.{filter-append}
 pub use Rattle.std.proofs.lemmas.List.Folds.{list_any-append}
 pub use Rattle.std.proofs.lemmas.List.FromFn.{length-map-range_with_len, map-range_with_len_more, take-map-range_with_len}
 pub use Rattle.std.proofs.lemmas.List.Sums.{length-filter, sum_by-append, sum_by-cons}
-pub use Rattle.std.proofs.lemmas.Option.{get_or_from_slice_get, none-some, slice_get-get_or, slice_get_past, slice_get_read}
-pub use Rattle.std.proofs.lemmas.Option.{slice_get_within}
+pub use Rattle.std.proofs.lemmas.Option.{get_or_from_slice_get, none-some, same_Some as some_same, slice_get-get_or, slice_get_past}
+pub use Rattle.std.proofs.lemmas.Option.{slice_get_read, slice_get_within}
 pub use Rattle.std.proofs.lemmas.Result.{IfOk-weaker, on_err_weaker, on_ok_weaker}
-pub use Rattle.fb_units.proofs.Comparing.{same_number as number_same}
-pub use Rattle.fb_units.proofs.Lists.{on_err, all_from_index as all_placed, any_of_none as any_none, filter_to, map_at}
+pub use Rattle.fb_units.proofs.Comparing.{one_or_other, other_number, same_number as number_same, step_to}
+pub use Rattle.fb_units.proofs.Lists.{all_append, all_filter, all_from_index as all_placed, all_get as all_at, all_left, all_range}
+pub use Rattle.fb_units.proofs.Lists.{all_right, all_weaker, any_of_none as any_none, element_at as some_at, filter_to, map_at}
+pub use Rattle.fb_units.proofs.Lists.{none_of_any as none_pass, on_err}
 pub use Rattle.fb_units.specs.declared.types.Request.{Request}
+pub use Rattle.fb_units.proofs.Searches.{find-none as find_none}
+pub use Rattle.fb_units.proofs.Filtered.{filter_from, none_kept as filter_none}
+pub use Rattle.fb_units.proofs.Each.{all_any, all_both, all_flat, all_map, all_pass, all_with, each_all, each_push, each_set, find_all}
+pub use Rattle.fb_units.proofs.Each.{flat_all, list_all_each}
+pub use Rattle.fb_units.proofs.Alike.{all_same, any_same, filter_same, flat_none, flat_same, map_same}
 pub use Rattle.fb_geometry.specs.Places.{places}
 pub use Rattle.fb_geometry.specs.Shape.{Shape}
 pub use Rattle.fb_sectormap.specs.Cutting.{IsOneTurn, with_sector}
@@ -77,7 +85,6 @@ unfoldable pub use Rattle.fb_model.specs.Segments.{with_choices}
 pub use Rattle.fb_model.specs.Steps.{blocks_by, take_call, task_row, with_delivery}
 unfoldable pub use Rattle.fb_model.specs.Steps.{task_rows}
 pub use Rattle.fb_model.proofs.Cuts.{AreCuts, cuts_are, cuts_rise}
-pub use Rattle.fb_model.proofs.Lists.{all_both}
 pub use Rattle.fb_model.proofs.Views.{aborted-view, added-view, called-silent, chosen-silent, chosen-view, closed-view, delivered-silent}
 pub use Rattle.fb_model.proofs.Views.{delivered-view, opened-silent, opened-view, promoted-silent, read-silent, resumed-view}
 pub use Rattle.fb_model.proofs.Views.{suspended-view, tested-view, wanted-silent, wanted-view, written-silent, written-view}
@@ -97,8 +104,3 @@ unfoldable pub use Rattle.fb_tasks.specs.Taken.{test_rows_found}
 pub use Rattle.fb_tasks.specs.Telling.{Delivers, IsCall, IsUpToDate, MayDeliver, MayChooseAndTest, MayTake, Tells, choosable, tested_at}
 pub use Rattle.fb_tasks.specs.Writing.{left_by_write, left_in, state_left}
 pub use Rattle.fb_tasks.specs.declared.session.Session.{Session}
-pub use Rattle.fb_tasks.proofs.Lists.{all_any, all_append, all_at, all_filter, all_flat, all_left, all_map, all_pass, all_range}
-pub use Rattle.fb_tasks.proofs.Lists.{all_right, all_same, all_weaker, all_with, any_same, each_all, each_push, each_set}
-pub use Rattle.fb_tasks.proofs.Lists.{filter_from, filter_none, filter_same, find_all, find_none, flat_all, flat_none}
-pub use Rattle.fb_tasks.proofs.Lists.{flat_same, list_all_each, map_same, none_pass, number_other, one_or_other, other_number}
-pub use Rattle.fb_tasks.proofs.Lists.{same_number, some_at, some_same, step_to}

@@ -23,14 +23,6 @@ module _ (terms : ReplayTerms) (files : Files) (run : Run) where
       → CutsFore terms files run old new
   cuts_fore old new only front = record { others = λ output not_fore no_note. only.outputs output not_fore; front = front }
 
-  -- why the foreground was not written
-  pub stopped_fore : (old new : DeskView) (outcome : Outcome) → ChangesOutput Fore old new
-      → StopsText Fore (codes "-") (fore_told terms files run) old new outcome → StopsReports terms files run old new outcome
-  stopped_fore old new (outcomes.WriteFault Fore) only h = (h.1, cuts_fore old new only h.2)
-  stopped_fore old new outcomes.NoMemory only h = inl (cuts_fore old new only h)
-  stopped_fore old new (outcomes.WriteFault output) only h = absurd (let other = h.0 in cc)
-  stopped_fore old new _ only h = absurd h
-
   module _ (old mid new : DeskView) (first : ChangesOutput Fore old mid) (second : ChangesOutput Back mid new)
       (whole : HoldsWhole (mid.outputs Fore) (codes "-") (fore_told terms files run)) where
     fore_stands : HoldsWhole (new.outputs Fore) (codes "-") (fore_told terms files run)
@@ -71,12 +63,4 @@ module _ (terms : ReplayTerms) (files : Files) (run : Run) where
           (sym given) back;
     }
 
-  -- the foreground alone was wanted
-  pub wrote_fore : (old new : DeskView) → ChangesOutput Fore old new → HoldsWhole (new.outputs Fore) (codes "-") (fore_told terms files run)
-      → terms.back ≡ None → HoldsReports terms files run old new
-  wrote_fore old new only whole given = record {
-    others = λ output not_fore not_back no_note. only.outputs output not_fore;
-    fore = whole;
-    back = subst (λ (told : Option (List ℕ)). HoldsWanted told (back_told terms files run) (old.outputs Back) (new.outputs Back))
-        (sym given) (only.outputs Back back_is_no_fore);
   }

@@ -59,10 +59,3 @@ unnamed_after (Ok (makes terms)) which old mid new keeps only = later_after old 
 unnamed_after (Ok (checks terms)) which old mid new keeps only = λ input unnamed. only.inputs input ∙ keeps input unnamed
 unnamed_after (Ok (arrays terms)) which old mid new keeps only = λ input unnamed. only.inputs input ∙ keeps input unnamed
 unnamed_after (Err fault) which old mid new keeps only = λ input. only.inputs input ∙ keeps input
-
-pub unnamed_written : (terms : InputTerms) (old mid new : DeskView) → KeepsUnnamed terms old mid → KeepsInputs mid new
-    → KeepsUnnamed terms old new
-unnamed_written terms old mid new unnamed inputs = λ input not_named. inputs input ∙ unnamed input not_named
-
-pub inputs_after : (one two : Output) (old mid new : DeskView) → ChangesOutput one old mid → ChangesOutput two mid new → KeepsInputs old new
-inputs_after one two old mid new first second = λ input. second.inputs input ∙ first.inputs input

@@ -209,10 +209,3 @@ nothing_read sectors = record { trace = record { servable = tt; names = refl; ar
 pub fit_trace : (device sectors : ℕ) (text : List ℕ) (trace : Accepted) → trace_of device sectors text ≡ Ok trace
     → IsTraceOf sectors trace.requests
 fit_trace device sectors text trace e = fit_from device sectors 1 at_start (lines_of text) trace e (nothing_read sectors)
-
--- where a trace was read
-pub fit_result : (device sectors : ℕ) (text : List ℕ) (result : Result Trace (ReadError TraceFault))
-    → Answers accepted result (trace_of device sectors text)
-    → IfOk result (λ trace. IsTraceOf sectors trace.requests.items)
-fit_result device sectors text (Ok trace) e = fit_trace device sectors text (accepted trace) e
-fit_result device sectors text (Err error) e = tt

@@ -1,14 +1,14 @@
 -- How many elements of a list pass a test.
 use Rattle.std.proofs.Common.{Bool, List, [], ap, arith, cond, false, inl, inr, length, map, not, refl, suc, sym, true, zero, ℕ, ◌+◌, ◌<◌}
 use Rattle.std.proofs.Common.{◌∙◌, ◌∷◌, ◌≡◌, ◌≤◌}
-use Rattle.std.specs.List.{list_any, range_with_len}
+use Rattle.std.specs.List.{list_any, range_with_len, sum_by}
 use Rattle.std.specs.List.Sorted.{IsPermutation}
 use Rattle.std.specs.Prelude.{filter, nat_lt, ◌||◌}
 use Rattle.std.proofs.lemmas.Bool.{cases_Bool}
 use Rattle.std.proofs.lemmas.Bool.Decides.{nat_tests}
 use Rattle.std.proofs.lemmas.List.Filters.{length-filter_both}
 use Rattle.std.proofs.lemmas.List.Sorted.{sum_by-IsPermutation}
-use Rattle.std.proofs.lemmas.List.Sums.{length-filter}
+use Rattle.std.proofs.lemmas.List.Sums.{count_by-le-length, length-filter, sum_by-cons}
 use Rattle.fb_units.proofs.Comparing.{add_one, add_zero}
 
 -- one element more adds one where it passes
@@ -39,6 +39,10 @@ pub at_most_each : {A B : Type 0} (same : A → B → Bool) (can : B → Bool) (
 at_most_each same can xs [] each = omega (arith, nothing xs)
 at_most_each same can xs (d ∷ ds) each =
     omega (arith, each d, count_cons can d ds, either (λ x. same x d) (λ x. list_any (same x) ds) xs, at_most_each same can xs ds each)
+
+-- no more pass than there are
+pub filter-le : {A : Type 0} (test : A → Bool) (xs : List A) → length (filter test xs) ≤ length xs
+filter-le test xs = rw length-filter (count_by-le-length test xs)
 
 -- fewer pass two tests than the one
 pub fewer : {A : Type 0} (p q : A → Bool) (xs : List A) → length (filter p (filter q xs)) ≤ length (filter p xs)
@@ -78,3 +82,8 @@ pub sum_of : {A : Type 0} (p q r : A → Bool) (xs : List A) → ((x : A) → co
     → length (filter p xs) ≡ length (filter q xs) + length (filter r xs)
 sum_of p q r [] all = refl
 sum_of p q r (x ∷ xs) all = omega (arith, count_cons p x xs, count_cons q x xs, count_cons r x xs, all x, sum_of p q r xs all)
+
+-- one for each element
+pub each_one : {A : Type 0} (xs : List A) → sum_by (λ _. 1) xs ≡ length xs
+each_one [] = refl
+each_one (x ∷ xs) = omega (arith, sum_by-cons (λ _. 1) x xs, each_one xs)

@@ -42,7 +42,8 @@ module _ {A : Type 0} (key : A → ℕ) (f : ℕ → List A) where
       (all_weaker (λ x. key x ≡ a) (λ x. key x ≤ a) (λ x e. omega arith) (f a) first.1) rest
 
 -- lists in which an element has only one index
-pub distinct_from : {A : Type 0} (xs : List A) → ((i j : ℕ) (x : A) → slice_get xs i ≡ Some x → slice_get xs j ≡ Some x → i ≡ j) → Distinct xs
+pub distinct_from : {A : Type 0} (xs : List A) → ((i j : ℕ) (x : A) → slice_get xs i ≡ Some x → slice_get xs j ≡ Some x → i ≡ j)
+    → Distinct xs
 distinct_from [] one = tt
 distinct_from (x ∷ xs) one =
     let first = all_from_index (λ y. x ≢ y) xs (λ k y at same. absurd (omega (arith, one 0 (suc k) x refl (at ∙ ap Some (sym same))))) in

@@ -128,6 +128,16 @@ all_dropped p (x ∷ xs) none = elim (cases_Bool (p x)) [
   | inr dropped ↦ (dropped, all_dropped p xs (rw dropped at none))
 ]
 
+-- ---- parts of equal lists
+pub same_first : {A : Type 0} (x y : A) (xs ys : List A) → x ∷ xs ≡ y ∷ ys → x ≡ y
+same_first x y xs ys e = cc
+
+pub same_rest : {A : Type 0} (x y : A) (xs ys : List A) → x ∷ xs ≡ y ∷ ys → xs ≡ ys
+same_rest x y xs ys e = cc
+
+pub not_none : {A : Type 0} (x : A) (xs : List A) → x ∷ xs ≡ [] → ⊥
+not_none x xs e = cc
+
 -- ---- results
 pub on_err : {T E P : Type 0} (r : Result T E) → P → OnErr r P
 on_err (Ok x) p = tt

@@ -28,9 +28,6 @@ pub from_whole : (whole fraction : List ℕ) (m : ℕ) → number_of whole ≡ S
     → nanos_of whole fraction ≡ within (10 ^ 6 * m + digits_after 0 (six_of fraction))
 from_whole whole fraction m found e = let p = within_some (are_digits whole) (digits_after 0 whole) m found in rw (e, p.0, p.1) refl
 
-pub too_long : (n : ℕ) → limit < n → within n ≡ None
-too_long n h = grind (arith, nat_tests)
-
 -- the same from the two parts as the code finds them
 pub parts_are : (text whole fraction : List ℕ) → whole ≡ before_first (λ c. c == 46) text → fraction ≡ after_first (λ c. c == 46) text
     → nanos_of whole fraction ≡ millis_of text

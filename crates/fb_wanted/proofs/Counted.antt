@@ -3,6 +3,7 @@ use Rattle.std.proofs.Common.{◌≡◌, ℕ, ◌+◌, ◌≤◌, ◌==◌, inl,
 use Rattle.std.proofs.Common.{slice_get, Some, refl, ap, ◌∙◌, arith}
 use Rattle.std.proofs.lemmas.Bool.{cases_Bool}
 use Rattle.std.proofs.lemmas.List.Elements.{filter-append}
+use Rattle.fb_units.proofs.Counts.{filter-le}
 use Rattle.fb_wanted.specs.declared.block.Counts.{Counts}
 use Rattle.fb_wanted.specs.declared.block.Entry.{Entry}
 use Rattle.fb_wanted.specs.declared.block.State.{State}
@@ -29,14 +30,6 @@ counts-append task xs ys =
     let b = filtered-append (λ e. is_delivered e.state) own xs ys in
     let c = filtered-append (λ e. is_aborted e.state) own xs ys in
     rw (a, b, c) refl
-
--- no more elements pass a test than there are
-pub filter-le : (p : Entry → Bool) (xs : List Entry) → length (filter p xs) ≤ length xs
-filter-le p [] = omega arith
-filter-le p (x ∷ xs) = elim (cases_Bool (p x)) [
-  | inl yes' ↦ rw yes' (omega (arith, filter-le p xs))
-  | inr no' ↦ rw no' (omega (arith, filter-le p xs))
-]
 
 -- no more are delivered or aborted than there are
 pub counts-few : (task : ℕ) (es : List Entry)

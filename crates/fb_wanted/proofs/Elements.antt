@@ -3,6 +3,8 @@ use Rattle.std.proofs.Common.{◌≡◌, ℕ, zero, suc, ◌+◌, ◌-◌, ◌<�
 use Rattle.std.proofs.Common.{◌∙◌, arith}
 use Rattle.std.specs.List.{swap_remove}
 use Rattle.std.proofs.lemmas.Option.{same_Some, none-some, slice_get-get_or}
+use Rattle.fb_units.proofs.Lists.{append_at}
+use Rattle.fb_units.proofs.Parts.{get_take}
 use Rattle.fb_wanted.specs.declared.block.Entry.{Entry}
 use Rattle.fb_wanted.specs.declared.block.State.{State}
 use Rattle.fb_wanted.specs.LookUp.{with_state}
@@ -10,9 +12,7 @@ use Rattle.fb_wanted.specs.LookUp.{with_state}
 module _ {X : Type 0} where
   -- an element is there when one more follows
   pub at_left : (xs : List X) (y x : X) (i : ℕ) → slice_get xs i ≡ Some x → slice_get (xs ++ y ∷ []) i ≡ Some x
-  at_left [] y x i at = absurd (none-some x at)
-  at_left (z ∷ zs) y x zero at = at
-  at_left (z ∷ zs) y x (suc i) at = at_left zs y x i at
+  at_left xs y x i at = append_at xs (y ∷ []) i x at
 
   pub at_end : (xs : List X) (y : X) → slice_get (xs ++ y ∷ []) (length xs) ≡ Some y
   at_end [] y = refl
@@ -30,12 +30,6 @@ module _ {X : Type 0} where
   set_other (x ∷ xs) (suc i) zero y ne = refl
   set_other (x ∷ xs) (suc i) (suc j) y ne = set_other xs i j y (λ same. ne (ap (λ n. suc n) same))
 
-  pub take_inside : (n : ℕ) (xs : List X) (i : ℕ) → i < n → slice_get (take n xs) i ≡ slice_get xs i
-  take_inside zero xs i lt = absurd (omega (arith, lt))
-  take_inside (suc n) [] i lt = refl
-  take_inside (suc n) (x ∷ xs) zero lt = refl
-  take_inside (suc n) (x ∷ xs) (suc i) lt = take_inside n xs i (omega (arith, lt))
-
   take_within : (n : ℕ) (xs : List X) (i : ℕ) (x : X) → slice_get (take n xs) i ≡ Some x → i < n
   take_within zero xs i x at = absurd (none-some x at)
   take_within (suc n) [] i x at = absurd (none-some x at)
@@ -48,11 +42,11 @@ module _ {X : Type 0} where
     removed_within j x at = omega (arith, take_within (length xs - 1) (set xs i (get_or xs (length xs - 1) d)) j x at)
 
     pub removed_other : (j : ℕ) → (j ≡ i → ⊥) → j + 1 < length xs → slice_get (swap_remove xs i d) j ≡ slice_get xs j
-    removed_other j ne lt = take_inside (length xs - 1) (set xs i (get_or xs (length xs - 1) d)) j (omega (arith, lt))
+    removed_other j ne lt = get_take (length xs - 1) (set xs i (get_or xs (length xs - 1) d)) j (omega (arith, lt))
         ∙ set_other xs i j (get_or xs (length xs - 1) d) ne
 
     pub removed_at : i + 1 < length xs → slice_get (swap_remove xs i d) i ≡ Some (get_or xs (length xs - 1) d)
-    removed_at lt = take_inside (length xs - 1) (set xs i (get_or xs (length xs - 1) d)) i (omega (arith, lt)) ∙ set_same xs i
+    removed_at lt = get_take (length xs - 1) (set xs i (get_or xs (length xs - 1) d)) i (omega (arith, lt)) ∙ set_same xs i
         (get_or xs (length xs - 1) d) (omega (arith, lt))
 
     pub last_at : 0 < length xs → slice_get xs (length xs - 1) ≡ Some (get_or xs (length xs - 1) d)

@@ -23,16 +23,6 @@ in_either (z ∷ zs) y x (suc i) h = elim (in_either zs y x i h) [
   | inr k ↦ inr (omega (arith, k.0), k.1)
 ]
 
--- the index of an element that passes a test among those that pass
-pub filter_at : {X : Type 0} (p : X → Bool) (xs : List X) (k : ℕ) (d : X) → k < length xs → p (get_or xs k d) ≡ true
-    → slice_get (filter p xs) (length (filter p (take k xs))) ≡ Some (get_or xs k d)
-filter_at p [] k d h yes' = absurd (omega arith)
-filter_at p (x ∷ xs) zero d h pass = rw pass refl
-filter_at p (x ∷ xs) (suc k) d h pass = elim (cases_Bool (p x)) [
-  | inl yes' ↦ rw yes' (filter_at p xs k d (omega arith) pass)
-  | inr no' ↦ rw no' (filter_at p xs k d (omega arith) pass)
-]
-
 pub blocks-more : (es : List Entry) (e : Entry) → blocks_of (es ++ e ∷ []) ≡ blocks_of es ++ e.block ∷ []
 blocks-more [] e = refl
 blocks-more (x ∷ es) e = ap (λ l. x.block ∷ l) (blocks-more es e)

@@ -6,6 +6,7 @@ use Rattle.std.proofs.lemmas.Bool.{cases_Bool, cases_eq, cases_lt, true≢false}
 use Rattle.std.proofs.lemmas.List.{length-map, length-set, map-append}
 use Rattle.std.proofs.lemmas.List.Sums.{sum_by-cons, sum_by_push, sum_by-swap_remove}
 use Rattle.std.proofs.lemmas.Option.{same_Some, slice_get_within, get_or_from_slice_get}
+use Rattle.fb_units.proofs.Counts.{each_one, filter-le}
 use Rattle.fb_units.proofs.Tracks.{same_tracks, track_itself}
 use Rattle.fb_units.specs.declared.types.Track.{Track}
 use Rattle.fb_units.specs.Tracks.{same_track}
@@ -18,7 +19,6 @@ use Rattle.fb_wanted.specs.Offers.{AreSameBlocks, offer_of, offered_blocks, no_b
 use Rattle.fb_wanted.specs.States.{is_wanted, on_track, wanted_of}
 use Rattle.fb_wanted.specs.LookUp.{OnTrack, indexes_of, is_of_track, no_offer, last_of, taken_out, with_offer, without_offer, offers_at}
 use Rattle.fb_wanted.specs.LookUp.{with_state, AreOffered, IsItsOffer, IsChanged}
-use Rattle.fb_wanted.proofs.Counted.{filter-le}
 use Rattle.fb_wanted.proofs.Found.{block_at, block_is, blocks_still, found_each}
 use Rattle.fb_wanted.proofs.Kept.{swapped_track, swapped_other, changed_here, unchanged}
 use Rattle.fb_wanted.proofs.Numbers.{in_either}
@@ -423,14 +423,11 @@ module _ (es : List Entry) (offer_indexes : List ℕ) (p : ℕ) (e : Entry) (s :
       }
 
 -- as many offers as wanted blocks
-ones : {X : Type 0} (xs : List X) → sum_by (λ x. 1) xs ≡ length xs
-ones [] = refl
-ones (x ∷ xs) = sum_by-cons (λ x. 1) x xs ∙ omega (arith, ones xs)
-
 length-offers : (t : Track) (os : List Offer) (es : List Entry) → AreSameBlocks (offered_blocks es os) (wanted_of (on_track t es))
     → length os ≡ length (wanted_of (on_track t es))
 length-offers t os es h =
-    sym (length-map os (λ o. block_at es o.index)) ∙ (sym (ones (offered_blocks es os)) ∙ (h (λ b. 1) ∙ ones (wanted_of (on_track t es))))
+    sym (length-map os (λ o. block_at es o.index))
+    ∙ (sym (each_one (offered_blocks es os)) ∙ (h (λ b. 1) ∙ each_one (wanted_of (on_track t es))))
 
 wanted-le : (es : List Entry) → length (wanted_of es) ≤ length es
 wanted-le es = omega (arith, length-map (filter (λ e. is_wanted e.state) es) (λ e. e.block), filter-le (λ e. is_wanted e.state) es)
@@ -452,8 +449,8 @@ offers-room es p e os at un h =
     let none = by_unwanted (λ b. 1) (is_of_track t) e un in
     let one = by_wanted (λ b. 1) (is_of_track t) own (track_itself t) refl in
     let most = wanted-le (on_track t all) in
-    let count = ones (wanted_of (on_track t all)) in
-    let is = ones (wanted_of (on_track t es)) in
+    let count = each_one (wanted_of (on_track t all)) in
+    let is = each_one (wanted_of (on_track t es)) in
     let same = sym (length-indexes_of (is_of_track t) all) ∙ ap length (indexes_of-with_state (λ b. same_track t b.track) Wanted p es) in
     omega (arith, length-offers t os es h, more, none, one, most, count, is, same)
 

@@ -199,14 +199,6 @@ first_all p f others (e ∷ es) (suc k) le = elim (cases_Bool (p e)) [
       rw no' (ap (λ l. e ∷ l) (first_all p f others es (suc k) fewer) ∙ ap (λ x. x ∷ map f es) (sym (others e no')))
 ]
 
--- filtering by a wider test first makes no difference
-pub both_tests : (p q : Entry → Bool) → ((e : Entry) → p e ≡ false → q e ≡ false) → (es : List Entry) → filter q (filter p es) ≡ filter q es
-both_tests p q within [] = refl
-both_tests p q within (e ∷ es) = elim (cases_Bool (p e)) [
-  | inl yes' ↦ rw yes' (ap (λ l. if q e then e ∷ l else l) (both_tests p q within es))
-  | inr no' ↦ rw (no', within e no') (both_tests p q within es)
-]
-
 passes_step : (p : Entry → Bool) (x : Entry) (es : List Entry) (b : Bool) (k : ℕ) (e : Entry) → p x ≡ b
     → ((i : ℕ) (y : Entry) → slice_get (filter p es) i ≡ Some y → p y ≡ true)
     → slice_get (if b then x ∷ filter p es else filter p es) k ≡ Some e → p e ≡ true

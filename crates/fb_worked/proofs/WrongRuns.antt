@@ -2,6 +2,7 @@
 use Rattle.std.proofs.Common.{◌++◌, length-append, ◌≡◌, ℕ, List, [], ◌∷◌, refl, lit≤, false, map, length, ◌≤◌, ap, true≢false, arith, suc}
 use Rattle.std.proofs.Common.{subst, sym}
 use Rattle.std.specs.Option.{is_none}
+use Rattle.fb_units.proofs.Lists.{not_none, same_first, same_rest}
 use Rattle.fb_calls.specs.declared.call.Kind.TheVariants.{Plain}
 use Rattle.fb_store.specs.declared.content.Content.{Content}
 use Rattle.fb_store.specs.declared.content.Content.TheVariants.{Filled, Unreadable}
@@ -23,7 +24,6 @@ use Rattle.fb_worked.specs.SmallDisk.{small_disk}
 use Rattle.fb_worked.specs.Wrong.{delivered_too_late, delivered_twice, delivered_after_abort, completion_left_out, delivery_left_out}
 use Rattle.fb_worked.specs.Wrong.{contents_of_later, settling_gap, detour_without_settle, served_sooner}
 use Rattle.fb_worked.proofs.OnSmallDisks.{on_small_disks, with_rows}
-use Rattle.fb_model.proofs.Lists.{same_first, same_rest, not_none}
 use Rattle.fb_model.proofs.Steps.{is_dwelt}
 
 -- a sublist is no longer than the list

@@ -1,10 +1,10 @@
 use Rattle.std.proofs.Common.{◌∙◌, slice_get, ap, sym}
+use Rattle.fb_units.proofs.Filtered.{filter_from}
 use Rattle.fb_units.specs.Tracks.{same_track}
-use Rattle.fb_plan.proofs.Gains.{in_filter}
 use Rattle.fb_plan.proofs.sides.blocks_on.Goals as goal
 
 pub returns-clause-on_disk : goal.returns-clause-on_disk
 returns-clause-on_disk c = λ disk fits i e at.
-    let found = in_filter (λ x. same_track c.args.track x.block.track) c.args.wanted.now i e
+    let found = filter_from (λ x. same_track c.args.track x.block.track) c.args.wanted.now i e
     (ap (λ xs. slice_get xs i) (sym c.on.ensures) ∙ at) in
     fits found.0 e found.1

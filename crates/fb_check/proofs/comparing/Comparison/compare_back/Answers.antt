@@ -1,6 +1,6 @@
 use Rattle.std.proofs.Common.{sym, subst, ◌∙◌, arith}
+use Rattle.fb_units.proofs.Lists.{all_get as all_at}
 use Rattle.fb_rows.specs.Tasks.{HasNamedTask}
-use Rattle.fb_tasks.proofs.Lists.{all_at}
 use Rattle.fb_report.specs.Reading.{BeginsLikeEnd}
 use Rattle.fb_check.proofs.Beginnings.{back_ended, back_not_end}
 use Rattle.fb_check.proofs.Comparisons.{one_more_row, more_rows, all_rows}
