@@ -1,6 +1,7 @@
-use Rattle.std.proofs.Common.{refl, arith}
+use Rattle.std.proofs.Common.{◌≡◌, ◌+◌, length, refl, arith}
+use Rattle.std.proofs.lemmas.List.{length_push}
 use Rattle.std.proofs.lemmas.Result.{IfOk-from_err}
-use Rattle.fb_wanted.proofs.Blanks.{one_blank_more, one_longer}
+use Rattle.fb_units.proofs.Changed.{one_blank_more}
 use Rattle.fb_wanted.proofs.bands.add_bands.Goals as goal
 
 pub loop-preserved : goal.loop-preserved
@@ -9,7 +10,7 @@ loop-preserved g c =
     let new = c.push.new.self.items in
     let nothing = c.args.nothing in
     let pushed = c.in_ok-push.ensures.items in
-    let longer = one_longer bands new nothing pushed in (
+    let longer : length new ≡ length bands + 1 = rw pushed (length_push bands nothing) in (
       one_blank_more c.args.bands.now.items bands new nothing nothing c.loop.invariant.0 pushed refl,
       omega (arith, longer),
       omega (arith, longer),

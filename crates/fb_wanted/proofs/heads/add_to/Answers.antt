@@ -1,9 +1,9 @@
-use Rattle.std.proofs.Common.{ap, ◌∙◌, get_or, set, arith}
-use Rattle.std.proofs.lemmas.List.{set-get_or}
+use Rattle.std.proofs.Common.{ap, ◌∙◌, length, get_or, set, arith}
+use Rattle.std.proofs.lemmas.List.{length_push, set-get_or}
 use Rattle.std.proofs.lemmas.Result.{IfOk-from_err}
+use Rattle.fb_units.proofs.Changed.{one_blank_more, one_changed}
 use Rattle.fb_units.proofs.Lists.{on_err}
 use Rattle.fb_wanted.specs.LookUp.{no_block_on, grown}
-use Rattle.fb_wanted.proofs.Blanks.{one_blank_more, one_longer, one_changed}
 use Rattle.fb_wanted.proofs.heads.add_to.Goals as goal
 
 pub loop-preserved : goal.loop-preserved
@@ -12,7 +12,7 @@ loop-preserved c =
     let new = c.push.new.self.items in
     let pushed = c.in_ok-push.ensures.items in (
       one_blank_more c.args.tracks.now.items items new c.new.result no_block_on c.loop.invariant.0 pushed c.new.ensures,
-      omega (arith, one_longer items new c.new.result pushed),
+      omega (arith, ap length pushed, length_push items c.new.result),
     )
 
 pub returns-in_err-push : goal.returns-in_err-push

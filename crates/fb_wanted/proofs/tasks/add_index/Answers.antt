@@ -1,10 +1,10 @@
-use Rattle.std.proofs.Common.{[], ap, ◌∙◌, get_or, set, arith}
-use Rattle.std.proofs.lemmas.List.{set-get_or}
+use Rattle.std.proofs.Common.{[], ap, ◌∙◌, length, get_or, set, arith}
+use Rattle.std.proofs.lemmas.List.{length_push, set-get_or}
 use Rattle.std.proofs.lemmas.Result.{IfOk-from_err}
+use Rattle.fb_units.proofs.Changed.{one_blank_more, one_changed}
 use Rattle.fb_units.proofs.Lists.{on_err}
 use Rattle.fb_wanted.specs.declared.tasks.OfTask.{OfTask}
 use Rattle.fb_wanted.specs.LookUp.{no_blocks, joined}
-use Rattle.fb_wanted.proofs.Blanks.{one_blank_more, one_longer, one_changed}
 use Rattle.fb_wanted.proofs.tasks.add_index.Goals as goal
 
 pub loop-preserved : goal.loop-preserved
@@ -15,7 +15,7 @@ loop-preserved c =
     let blank = ap (λ xs. let b : OfTask = record { indexes = xs; counts = c.no_counts.result } in b) c.new.ensures
     ∙ ap (λ n. let b : OfTask = record { indexes = []; counts = n } in b) c.no_counts.ensures in (
       one_blank_more c.args.tasks.now.items items c.push.new.self.items blocks no_blocks c.loop.invariant.0 pushed blank,
-      omega (arith, one_longer items c.push.new.self.items blocks pushed),
+      omega (arith, ap length pushed, length_push items blocks),
     )
 
 pub returns-in_err-push : goal.returns-in_err-push

@@ -1,6 +1,7 @@
-use Rattle.std.proofs.Common.{[], arith}
+use Rattle.std.proofs.Common.{[], length, ap, ◌∙◌, arith}
+use Rattle.std.proofs.lemmas.List.{length_push}
 use Rattle.std.proofs.lemmas.Result.{IfOk-from_err}
-use Rattle.fb_wanted.proofs.Blanks.{one_blank_more, one_longer}
+use Rattle.fb_units.proofs.Changed.{one_blank_more}
 use Rattle.fb_wanted.proofs.tracks.add_cylinders.Goals as goal
 
 pub loop-preserved : goal.loop-preserved
@@ -8,7 +9,7 @@ loop-preserved c =
     let cylinders = c.loop.cylinders.items in
     let new = c.push.new.self.items in
     let pushed = c.in_ok-push.ensures.items in
-    let longer = one_longer cylinders new c.new.result pushed in (
+    let longer = ap length pushed ∙ length_push cylinders c.new.result in (
       one_blank_more c.args.cylinders.now.items cylinders new c.new.result [] c.loop.invariant.0 pushed c.new.ensures,
       omega (arith, longer),
       λ n long reach. omega (arith, longer),
