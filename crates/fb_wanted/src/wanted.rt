@@ -123,10 +123,10 @@ fn add_to_look_up(
     }
 }
 
-// Makes room for a block that is to be registered in what is noted of chunks and in the bounds of
-// cylinders and of bands; notes it by its chunk if it `is_new` there. All that was noted is still
-// noted and the bounds stay as they are, also out of memory.
-fn add_room(
+// Makes room for a block that is to be registered in the bounds of cylinders and of bands, and notes
+// its chunk and its task if the block `is_new` there. What was noted stays noted and no bound
+// changes, also out of memory.
+fn make_room(
     near: &mut BTreeSet<(u32, u32)>,
     greatest: &mut Greatest,
     depths: &mut Vec<Depth>,
@@ -331,7 +331,7 @@ impl Wanted {
         let index = self.entries.len() as u32;
         self.entries.reserve(1)?;
         self.offer_indexes.reserve(1)?;
-        add_room(
+        make_room(
             &mut self.near,
             &mut self.greatest,
             &mut self.depths,

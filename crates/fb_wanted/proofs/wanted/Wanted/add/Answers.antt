@@ -33,9 +33,9 @@ pub deepen-requires-clause-room : goal.deepen-requires-clause-room
 deepen-requires-clause-room c =
     let self = c.self.inside in
     let items = self.entries.items in
-    let kept = deep_still items self.depths.items c.add_room.new.depths.items c.self.invariant.3 c.in_ok-add_room.ensures.depths in
+    let kept = deep_still items self.depths.items c.make_room.new.depths.items c.self.invariant.3 c.in_ok-make_room.ensures.depths in
     let room = subst (λ es. length es < 16000000) (sym c.self.view_is) c.requires.room in
-    deep_room items c.add_room.new.depths.items c.band_of.result c.args.block.weight kept room c.requires.light
+    deep_room items c.make_room.new.depths.items c.band_of.result c.args.block.weight kept room c.requires.light
 
 -- out of memory before anything is noted of the block but that it may be near: the entries stay
 pub invariant_of-self : goal.invariant_of-self
@@ -44,13 +44,13 @@ invariant_of-self c = rw c.in_err-reserve.ensures.items c.self.invariant
 pub invariant_of-self-in_err-reserve-2 : goal.invariant_of-self-in_err-reserve-2
 invariant_of-self-in_err-reserve-2 c = rw (c.in_ok-reserve.ensures.items, c.in_err-reserve-2.ensures.items) c.self.invariant
 
-pub invariant_of-self-in_err-add_room : goal.invariant_of-self-in_err-add_room
-invariant_of-self-in_err-add_room c =
+pub invariant_of-self-in_err-make_room : goal.invariant_of-self-in_err-make_room
+invariant_of-self-in_err-make_room c =
     let self = c.self.inside in
     let items = self.entries.items in
     let held = c.self.invariant in
-    let stay = c.in_err-add_room.ensures in
-    let new = c.add_room.new in
+    let stay = c.in_err-make_room.ensures in
+    let new = c.make_room.new in
     rw (c.in_ok-reserve.ensures.items, c.in_ok-reserve-2.ensures.items) (
       held.0,
       held.1,
@@ -66,8 +66,8 @@ invariant_of-self-in_err-note_streak c =
     let self = c.self.inside in
     let items = self.entries.items in
     let held = c.self.invariant in
-    let stay = c.in_ok-add_room.ensures in
-    let new = c.add_room.new in
+    let stay = c.in_ok-make_room.ensures in
+    let new = c.make_room.new in
     rw (c.in_ok-reserve.ensures.items, c.in_ok-reserve-2.ensures.items, c.in_err-note_streak.ensures.err) (
       held.0,
       held.1,
@@ -90,8 +90,8 @@ invariant_of-self-in-Ok c =
     let offer_indexes = c.push_reserved.ensures.items ∙ ap (λ l. l ++ 0 ∷ []) c.in_ok-reserve-2.ensures.items in
     let index = c.len-index.ensures ∙ self.entries.ok.0 in
     let next = its_number c.args.block items free in
-    let roomy = greatest_still self.tracks self.greatest c.add_room.new.greatest c.self.invariant.2 c.in_ok-add_room.ensures.greatest
-    c.in_ok-add_room.ensures.longer in (
+    let roomy = greatest_still self.tracks self.greatest c.make_room.new.greatest c.self.invariant.2 c.in_ok-make_room.ensures.greatest
+    c.in_ok-make_room.ensures.longer in (
       kept_pushed entry items self.tasks.items c.add_to_look_up.new.tasks.items self.tracks c.add_to_look_up.new.tracks
           c.push_reserved-in-Ok.new.self.items c.len-index.result list index c.self.invariant.0 free room c.requires.light c.requires.short
           refl c.in-Ok.ensures.tasks c.in-Ok.ensures.tracks,
@@ -109,17 +109,17 @@ invariant_of-self-in-Ok c =
           ))
           (λ new i before to at same. c.begins_streak-begins_streak.ensures.new new i before to
           (ap (λ es. slice_get (lbns task es) i) (sym c.self.view_is) ∙ at) (same ∙ c.region_of.ensures))),
-      greatest_same self.tracks c.add_to_look_up.new.tracks c.add_room.new.greatest roomy
+      greatest_same self.tracks c.add_to_look_up.new.tracks c.make_room.new.greatest roomy
           (changed_weight self.tracks c.add_to_look_up.new.tracks c.args.block.track (grown c.len-index.result) (λ o. refl)
           c.in-Ok.ensures.tracks)
-          (c.in-Ok.ensures.no_longer (length c.add_room.new.greatest) roomy.there c.in_ok-add_room.ensures.cylinder),
-      deep_pushed items c.push_reserved-in-Ok.new.self.items entry c.band_of.result c.add_room.new.depths.items
+          (c.in-Ok.ensures.no_longer (length c.make_room.new.greatest) roomy.there c.in_ok-make_room.ensures.cylinder),
+      deep_pushed items c.push_reserved-in-Ok.new.self.items entry c.band_of.result c.make_room.new.depths.items
           c.deepen.new.depths.items list c.band_of.ensures c.requires.light
-          (deep_still items self.depths.items c.add_room.new.depths.items c.self.invariant.3 c.in_ok-add_room.ensures.depths)
+          (deep_still items self.depths.items c.make_room.new.depths.items c.self.invariant.3 c.in_ok-make_room.ensures.depths)
           c.deepen.ensures,
-      near_pushed items c.push_reserved-in-Ok.new.self.items entry self.near c.add_room.new.near c.is_new_near-is_new.result
-          list c.self.invariant.4 c.in_ok-add_room.ensures.near
-          c.in_ok-add_room.ensures.noted (subst (λ es. c.is_new_near-is_new.result ≡ false
+      near_pushed items c.push_reserved-in-Ok.new.self.items entry self.near c.make_room.new.near c.is_new_near-is_new.result
+          list c.self.invariant.4 c.in_ok-make_room.ensures.near
+          c.in_ok-make_room.ensures.noted (subst (λ es. c.is_new_near-is_new.result ≡ false
           → (i : ℕ) × (before : Block) × (slice_get (blocks_of es) i ≡ Some before) × (near_of before ≡ near_of c.args.block))
           (sym c.self.view_is) c.is_new_near-is_new.ensures),
       subst (AreShort c.max-self-inside.result) (sym list)
@@ -143,8 +143,8 @@ invariant_of-self-in-Err c =
     let stay = c.in-Err.ensures in
     let free = c.requires.numbered ∙ ap (λ es. registered_count c.args.block.task (blocks_of es)) (sym c.self.view_is) in
     let next = its_number c.args.block items free in
-    let roomy = greatest_still self.tracks self.greatest c.add_room.new.greatest c.self.invariant.2 c.in_ok-add_room.ensures.greatest
-    c.in_ok-add_room.ensures.longer in (
+    let roomy = greatest_still self.tracks self.greatest c.make_room.new.greatest c.self.invariant.2 c.in_ok-make_room.ensures.greatest
+    c.in_ok-make_room.ensures.longer in (
       subst (λ es. IsKept es c.add_to_look_up.new.tasks.items c.add_to_look_up.new.tracks) list (record {
         in_order = old.in_order;
         few = old.few;
@@ -159,12 +159,12 @@ invariant_of-self-in-Err c =
           (noted_back items c.args.block.task c.region_of.result c.args.block.number self.streaks c.note_streak.new.streaks
           c.begins_streak-begins_streak.result c.self.invariant.1 next c.in_ok-note_streak.ensures.stay c.in_ok-note_streak.ensures.more
           c.forget_streak.new.streaks c.forget_streak.ensures.gone c.forget_streak.ensures.only c.forget_streak.ensures.others),
-      greatest_same self.tracks c.add_to_look_up.new.tracks c.add_room.new.greatest roomy (λ t. ap (λ o. o.weight) (stay.tracks_stay t))
-          (stay.no_longer (length c.add_room.new.greatest) roomy.there c.in_ok-add_room.ensures.cylinder),
-      subst (λ es. AreDeep es c.add_room.new.depths.items) list
-          (deep_still items self.depths.items c.add_room.new.depths.items c.self.invariant.3 c.in_ok-add_room.ensures.depths),
-      subst (λ es. AreNear es c.add_room.new.near) list
-          (near_still items self.near c.add_room.new.near c.self.invariant.4 c.in_ok-add_room.ensures.near),
+      greatest_same self.tracks c.add_to_look_up.new.tracks c.make_room.new.greatest roomy (λ t. ap (λ o. o.weight) (stay.tracks_stay t))
+          (stay.no_longer (length c.make_room.new.greatest) roomy.there c.in_ok-make_room.ensures.cylinder),
+      subst (λ es. AreDeep es c.make_room.new.depths.items) list
+          (deep_still items self.depths.items c.make_room.new.depths.items c.self.invariant.3 c.in_ok-make_room.ensures.depths),
+      subst (λ es. AreNear es c.make_room.new.near) list
+          (near_still items self.near c.make_room.new.near c.self.invariant.4 c.in_ok-make_room.ensures.near),
       subst (AreShort self.longest) list c.self.invariant.5,
       subst (λ es. AreOffered es (offers_at c.add_to_look_up.new.tracks) c.reserve-2.new.self.items) list
           (subst (λ l. AreOffered items (offers_at c.add_to_look_up.new.tracks) l) (sym c.in_ok-reserve-2.ensures.items)
