@@ -6,7 +6,7 @@ use Rattle.fb_wanted.specs.declared.block.Entry.{Entry}
 use Rattle.fb_wanted.specs.Near.{near_of, AreNear}
 use Rattle.fb_wanted.specs.Numbering.{blocks_of, registered_count}
 use Rattle.fb_wanted.specs.Depth.{AreDeep}
-use Rattle.fb_wanted.specs.LookUp.{is_of_task, lbns, grown, offers_at, AreNoted, AreShort, AreOffered, IsKept}
+use Rattle.fb_wanted.specs.LookUp.{is_of_task, lbns, grown, offers_at, AreGreatest, AreNoted, AreShort, AreOffered, IsKept}
 use Rattle.fb_wanted.specs.declared.block.State.TheVariants.{Suspended}
 use Rattle.fb_wanted.proofs.Offering.{offered_still, offered_pushed}
 use Rattle.fb_wanted.proofs.Numbers.{task-blocks}
@@ -17,6 +17,7 @@ use Rattle.fb_wanted.proofs.Cylinders.{greatest_still, greatest_same}
 use Rattle.fb_wanted.proofs.Deep.{deep_room, deep_still, deep_pushed}
 use Rattle.fb_wanted.proofs.Nearby.{near_pushed, near_still}
 use Rattle.fb_wanted.proofs.wanted.Wanted.add.Goals as goal
+use Rattle.fb_wanted.proofs.wanted.Wanted.add.Goals.{After-make_room}
 
 its_number : (block : Block) (es : List Entry) → block.number ≡ registered_count block.task (blocks_of es)
     → block.number ≡ length (filter (is_of_task block.task) es)
@@ -29,15 +30,36 @@ pub add_to_look_up-requires : goal.add_to_look_up-requires
 add_to_look_up-requires c = counts_room c.self.inside.entries.items c.self.inside.tasks.items c.self.inside.tracks c.self.invariant.0
     c.args.block.task (record { block = c.args.block; state = Suspended }) _ refl
 
-pub deepen-requires-clause-room : goal.deepen-requires-clause-room
-deepen-requires-clause-room c =
+-- what is kept holds of the same entries after room is made for the block, also out of memory
+with_room : (c : After-make_room)
+    → let self = c.self.inside in
+    let items = self.entries.items in
+    let new = c.make_room.new in
+    IsKept items self.tasks.items self.tracks × AreNoted items self.streaks × AreGreatest self.tracks new.greatest
+    × AreDeep items new.depths.items × AreNear items new.near × AreShort self.longest items
+    × AreOffered items (offers_at self.tracks) self.offer_indexes.items
+with_room c =
     let self = c.self.inside in
     let items = self.entries.items in
-    let kept = deep_still items self.depths.items c.make_room.new.depths.items c.self.invariant.3 c.in_ok-make_room.ensures.depths in
-    let room = subst (λ es. length es < 16000000) (sym c.self.view_is) c.requires.room in
-    deep_room items c.make_room.new.depths.items c.band_of.result c.args.block.weight kept room c.requires.light
+    let held = c.self.invariant in
+    let new = c.make_room.new in
+    let stay = c.make_room.ensures in (
+      held.0,
+      held.1,
+      greatest_still self.tracks self.greatest new.greatest held.2 stay.greatest stay.longer,
+      deep_still items self.depths.items new.depths.items held.3 stay.depths,
+      near_still items self.near new.near held.4 stay.near,
+      held.5,
+      held.6,
+    )
 
--- out of memory before anything is noted of the block but that it may be near: the entries stay
+pub deepen-requires-clause-room : goal.deepen-requires-clause-room
+deepen-requires-clause-room c =
+    let kept = with_room (goal.at.deepen-requires-clause-room c).After-make_room in
+    let room = subst (λ es. length es < 16000000) (sym c.self.view_is) c.requires.room in
+    deep_room c.self.inside.entries.items c.make_room.new.depths.items c.band_of.result c.args.block.weight kept.3 room c.requires.light
+
+-- out of memory before anything but the chunk is noted of the block
 pub invariant_of-self : goal.invariant_of-self
 invariant_of-self c = rw c.in_err-reserve.ensures.items c.self.invariant
 
@@ -45,38 +67,13 @@ pub invariant_of-self-in_err-reserve-2 : goal.invariant_of-self-in_err-reserve-2
 invariant_of-self-in_err-reserve-2 c = rw (c.in_ok-reserve.ensures.items, c.in_err-reserve-2.ensures.items) c.self.invariant
 
 pub invariant_of-self-in_err-make_room : goal.invariant_of-self-in_err-make_room
-invariant_of-self-in_err-make_room c =
-    let self = c.self.inside in
-    let items = self.entries.items in
-    let held = c.self.invariant in
-    let stay = c.in_err-make_room.ensures in
-    let new = c.make_room.new in
-    rw (c.in_ok-reserve.ensures.items, c.in_ok-reserve-2.ensures.items) (
-      held.0,
-      held.1,
-      greatest_still self.tracks self.greatest new.greatest held.2 stay.greatest stay.longer,
-      deep_still items self.depths.items new.depths.items held.3 stay.depths,
-      near_still items self.near new.near held.4 stay.near,
-      held.5,
-      held.6,
-    )
+invariant_of-self-in_err-make_room c = rw (c.in_ok-reserve.ensures.items, c.in_ok-reserve-2.ensures.items)
+    (with_room (goal.at.invariant_of-self-in_err-make_room c).After-make_room)
 
 pub invariant_of-self-in_err-note_streak : goal.invariant_of-self-in_err-note_streak
 invariant_of-self-in_err-note_streak c =
-    let self = c.self.inside in
-    let items = self.entries.items in
-    let held = c.self.invariant in
-    let stay = c.in_ok-make_room.ensures in
-    let new = c.make_room.new in
-    rw (c.in_ok-reserve.ensures.items, c.in_ok-reserve-2.ensures.items, c.in_err-note_streak.ensures.err) (
-      held.0,
-      held.1,
-      greatest_still self.tracks self.greatest new.greatest held.2 stay.greatest stay.longer,
-      deep_still items self.depths.items new.depths.items held.3 stay.depths,
-      near_still items self.near new.near held.4 stay.near,
-      held.5,
-      held.6,
-    )
+    rw (c.in_ok-reserve.ensures.items, c.in_ok-reserve-2.ensures.items, c.in_err-note_streak.ensures.err)
+    (with_room (goal.at.invariant_of-self-in_err-note_streak c).After-make_room)
 
 pub invariant_of-self-in-Ok : goal.invariant_of-self-in-Ok
 invariant_of-self-in-Ok c =
@@ -90,8 +87,7 @@ invariant_of-self-in-Ok c =
     let offer_indexes = c.push_reserved.ensures.items ∙ ap (λ l. l ++ 0 ∷ []) c.in_ok-reserve-2.ensures.items in
     let index = c.len-index.ensures ∙ self.entries.ok.0 in
     let next = its_number c.args.block items free in
-    let roomy = greatest_still self.tracks self.greatest c.make_room.new.greatest c.self.invariant.2 c.in_ok-make_room.ensures.greatest
-    c.in_ok-make_room.ensures.longer in (
+    let kept = with_room (goal.at.invariant_of-self-in-Ok c).After-make_room in (
       kept_pushed entry items self.tasks.items c.add_to_look_up.new.tasks.items self.tracks c.add_to_look_up.new.tracks
           c.push_reserved-in-Ok.new.self.items c.len-index.result list index c.self.invariant.0 free room c.requires.light c.requires.short
           refl c.in-Ok.ensures.tasks c.in-Ok.ensures.tracks,
@@ -109,14 +105,12 @@ invariant_of-self-in-Ok c =
           ))
           (λ new i before to at same. c.begins_streak-begins_streak.ensures.new new i before to
           (ap (λ es. slice_get (lbns task es) i) (sym c.self.view_is) ∙ at) (same ∙ c.region_of.ensures))),
-      greatest_same self.tracks c.add_to_look_up.new.tracks c.make_room.new.greatest roomy
+      greatest_same self.tracks c.add_to_look_up.new.tracks c.make_room.new.greatest kept.2
           (changed_weight self.tracks c.add_to_look_up.new.tracks c.args.block.track (grown c.len-index.result) (λ o. refl)
           c.in-Ok.ensures.tracks)
-          (c.in-Ok.ensures.no_longer (length c.make_room.new.greatest) roomy.there c.in_ok-make_room.ensures.cylinder),
+          (c.in-Ok.ensures.no_longer (length c.make_room.new.greatest) kept.2.there c.in_ok-make_room.ensures.cylinder),
       deep_pushed items c.push_reserved-in-Ok.new.self.items entry c.band_of.result c.make_room.new.depths.items
-          c.deepen.new.depths.items list c.band_of.ensures c.requires.light
-          (deep_still items self.depths.items c.make_room.new.depths.items c.self.invariant.3 c.in_ok-make_room.ensures.depths)
-          c.deepen.ensures,
+          c.deepen.new.depths.items list c.band_of.ensures c.requires.light kept.3 c.deepen.ensures,
       near_pushed items c.push_reserved-in-Ok.new.self.items entry self.near c.make_room.new.near c.is_new_near-is_new.result
           list c.self.invariant.4 c.in_ok-make_room.ensures.near
           c.in_ok-make_room.ensures.noted (subst (λ es. c.is_new_near-is_new.result ≡ false
@@ -143,8 +137,7 @@ invariant_of-self-in-Err c =
     let stay = c.in-Err.ensures in
     let free = c.requires.numbered ∙ ap (λ es. registered_count c.args.block.task (blocks_of es)) (sym c.self.view_is) in
     let next = its_number c.args.block items free in
-    let roomy = greatest_still self.tracks self.greatest c.make_room.new.greatest c.self.invariant.2 c.in_ok-make_room.ensures.greatest
-    c.in_ok-make_room.ensures.longer in (
+    let kept = with_room (goal.at.invariant_of-self-in-Err c).After-make_room in (
       subst (λ es. IsKept es c.add_to_look_up.new.tasks.items c.add_to_look_up.new.tracks) list (record {
         in_order = old.in_order;
         few = old.few;
@@ -159,12 +152,10 @@ invariant_of-self-in-Err c =
           (noted_back items c.args.block.task c.region_of.result c.args.block.number self.streaks c.note_streak.new.streaks
           c.begins_streak-begins_streak.result c.self.invariant.1 next c.in_ok-note_streak.ensures.stay c.in_ok-note_streak.ensures.more
           c.forget_streak.new.streaks c.forget_streak.ensures.gone c.forget_streak.ensures.only c.forget_streak.ensures.others),
-      greatest_same self.tracks c.add_to_look_up.new.tracks c.make_room.new.greatest roomy (λ t. ap (λ o. o.weight) (stay.tracks_stay t))
-          (stay.no_longer (length c.make_room.new.greatest) roomy.there c.in_ok-make_room.ensures.cylinder),
-      subst (λ es. AreDeep es c.make_room.new.depths.items) list
-          (deep_still items self.depths.items c.make_room.new.depths.items c.self.invariant.3 c.in_ok-make_room.ensures.depths),
-      subst (λ es. AreNear es c.make_room.new.near) list
-          (near_still items self.near c.make_room.new.near c.self.invariant.4 c.in_ok-make_room.ensures.near),
+      greatest_same self.tracks c.add_to_look_up.new.tracks c.make_room.new.greatest kept.2 (λ t. ap (λ o. o.weight) (stay.tracks_stay t))
+          (stay.no_longer (length c.make_room.new.greatest) kept.2.there c.in_ok-make_room.ensures.cylinder),
+      subst (λ es. AreDeep es c.make_room.new.depths.items) list kept.3,
+      subst (λ es. AreNear es c.make_room.new.near) list kept.4,
       subst (AreShort self.longest) list c.self.invariant.5,
       subst (λ es. AreOffered es (offers_at c.add_to_look_up.new.tracks) c.reserve-2.new.self.items) list
           (subst (λ l. AreOffered items (offers_at c.add_to_look_up.new.tracks) l) (sym c.in_ok-reserve-2.ensures.items)
