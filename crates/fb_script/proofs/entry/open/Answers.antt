@@ -1,4 +1,5 @@
-use Rattle.std.proofs.Common.{◌≡◌, ℕ, List, [], ◌∷◌, Some, None, Ok, Err, length, refl, ap, ◌∙◌, arith}
+use Rattle.std.proofs.Common.{◌≡◌, ℕ, List, [], ◌∷◌, Some, None, Ok, Err, length, refl, ap, arith}
+use Rattle.std.proofs.lemmas.List.{nil_from_length}
 use Rattle.std.proofs.lemmas.Result.{err_from_is_err_and}
 use Rattle.fb_calls.specs.declared.call.Kind.{Kind}
 use Rattle.fb_calls.specs.declared.call.Action.TheVariants.{Open}
@@ -9,10 +10,10 @@ use Rattle.fb_script.specs.Line.{number, asked_by}
 use Rattle.fb_script.specs.Words.{kind_of}
 use Rattle.fb_script.proofs.entry.open.Goals as goal
 
+-- three fields that are read one after another are all of three
 three : (all one two end : List (List ℕ)) (a b c : List ℕ) → length all ≡ 3 → all ≡ a ∷ one → one ≡ b ∷ two → two ≡ c ∷ end
     → all ≡ a ∷ b ∷ c ∷ []
-three all one two [] a b c long x y z = x ∙ ap (λ l. a ∷ l) (y ∙ ap (λ l. b ∷ l) z)
-three all one two (d ∷ ds) a b c long x y z = absurd (omega (arith, long, ap length x, ap length y, ap length z))
+three all one two end a b c long x y z = rw (x, y, z, nil_from_length end (omega (arith, long, ap length x, ap length y, ap length z))) refl
 
 module _ (all : List (List ℕ)) (kind weight block : List ℕ) (is : all ≡ kind ∷ weight ∷ block ∷ []) where
   weight_refused : (reason : CallsReason) → Err reason ≡ number 5 weight → asked_by (Some OpenVerb) all ≡ Err reason

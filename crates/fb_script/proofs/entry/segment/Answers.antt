@@ -1,4 +1,5 @@
 use Rattle.std.proofs.Common.{◌≡◌, ℕ, List, [], ◌∷◌, false, true, Some, Ok, Err, take, length, refl, ap, sym, ◌∙◌, arith}
+use Rattle.std.proofs.lemmas.List.{nil_from_length}
 use Rattle.std.proofs.lemmas.Result.{err_from_is_err_and}
 use Rattle.fb_calls.specs.declared.call.Action.TheVariants.{Segment}
 use Rattle.fb_script.specs.declared.fault.CallsReason.{CallsReason}
@@ -8,11 +9,11 @@ use Rattle.fb_script.specs.Line.{number, asked_by}
 use Rattle.fb_script.specs.Live.{bits, is_live}
 use Rattle.fb_script.proofs.entry.segment.Goals as goal
 
+-- four fields that are read one after another are all of four
 four : (all one two three end : List (List ℕ)) (a b c d : List ℕ) → length all ≡ 4 → all ≡ a ∷ one → one ≡ b ∷ two → two ≡ c ∷ three
     → three ≡ d ∷ end → all ≡ a ∷ b ∷ c ∷ d ∷ []
-four all one two three [] a b c d long w x y z = w ∙ ap (λ l. a ∷ l) (x ∙ ap (λ l. b ∷ l) (y ∙ ap (λ l. c ∷ l) z))
-four all one two three (e ∷ es) a b c d long w x y z =
-    absurd (omega (arith, long, ap length w, ap length x, ap length y, ap length z))
+four all one two three end a b c d long w x y z =
+    rw (w, x, y, z, nil_from_length end (omega (arith, long, ap length w, ap length x, ap length y, ap length z))) refl
 
 module _ (all : List (List ℕ)) (first blocks age live : List ℕ) (is : all ≡ first ∷ blocks ∷ age ∷ live ∷ []) where
   first_refused : (reason : CallsReason) → Err reason ≡ number 4 first → asked_by (Some SegmentVerb) all ≡ Err reason
