@@ -74,7 +74,7 @@ pub want-requires-clause-call : goal.want-requires-clause-call
 want-requires-clause-call c = (c.requires.0, c.args.call.now, record { task = refl; action = c.in-Want.is }, c.requires.1)
 
 pub touch-requires : goal.touch-requires
-touch-requires c = session_there (λ asks. (rw c.in-Abort.is at asks).0) c.requires.1
+touch-requires c = omega (arith, session_there (λ asks. (rw c.in-Abort.is at asks).0) c.requires.1)
 
 pub suspend-requires : goal.suspend-requires
 suspend-requires c = session_there (λ asks. rw c.in-Suspend.is at asks) c.requires.1
