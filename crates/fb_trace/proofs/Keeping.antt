@@ -1,5 +1,5 @@
 -- What is accepted of a trace is fit for a replay.
-use Rattle.std.proofs.Common.{◌≡◌, ℕ, ◌+◌, ◌<◌, ◌≤◌, ◌^◌, List, [], ◌∷◌, ◌++◌, length, false, refl, sym, ap, ◌∙◌, inl, inr, subst, arith}
+use Rattle.std.proofs.Common.{◌≡◌, ℕ, ◌+◌, ◌≤◌, ◌^◌, List, [], ◌∷◌, ◌++◌, length, false, refl, sym, ap, ◌∙◌, inl, inr, subst, arith}
 use Rattle.std.proofs.Common.{Option, Some, None, Result, Ok, Err}
 use Rattle.std.specs.Prelude.{IfOk, map, nat_lt, ◌==◌}
 use Rattle.std.specs.List.{AllByRecursion, range_with_len}
@@ -7,7 +7,7 @@ use Rattle.std.proofs.lemmas.Bool.{cases_Bool}
 use Rattle.std.proofs.lemmas.Bool.Decides.{nat_tests}
 use Rattle.std.proofs.lemmas.List.{map_push, length_push}
 use Rattle.std.proofs.lemmas.List.FromFn.{map-range_with_len_more}
-use Rattle.fb_units.proofs.Comparing.{rising_push}
+use Rattle.fb_units.proofs.Comparing.{rising_push, some_number}
 use Rattle.fb_units.proofs.Lists.{same_Ok}
 use Rattle.fb_units.specs.Judging.{or_refuse, refuse}
 use Rattle.fb_units.specs.Lines.{fields_of, lines_of}
@@ -123,9 +123,6 @@ follows instant (field ∷ fields) entry e =
       arrival_small (field ∷ fields) read.0 read.1,
     )
 
-some_sector : (n : ℕ) → (n == 0) ≡ false → 0 < n
-some_sector n e = grind (arith, nat_tests)
-
 -- a request that an entry asks for may come next
 asked_next : (sectors : ℕ) (so_far : Progress) (entry : Entry) (request : Request)
     → request_of sectors (length so_far.trace.requests + 1) entry ≡ Ok request
@@ -140,7 +137,7 @@ asked_next sectors so_far entry request e later small =
     subst (IsNext sectors so_far) (same_Ok _ request room.2) (record {
       later = later;
       servable = record {
-        some = some_sector entry.size (test_ok Empty (entry.size == 0) some.0 some.1);
+        some = some_number entry.size (test_ok Empty (entry.size == 0) some.0 some.1);
         inside =
             not_early sectors (entry.first + entry.size) (test_ok BeyondDisk (nat_lt sectors (entry.first + entry.size)) inside.0 inside.1);
         few = not_early 2048 entry.size (test_ok TooLarge (nat_lt 2048 entry.size) few.0 few.1);
