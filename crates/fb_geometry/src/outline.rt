@@ -79,7 +79,7 @@ impl Outline {
         }
     }
 
-    // The first track with more defects than spares.
+    // The fault of the first track with more defects than spares.
     fn track_spare_fault(&self, defects: &[Place]) -> Option<GeometryFault>
         requires zones { HasZones self.now }
         requires defects { AreJudged (defect_fault self.now) self.now.defects defects.now }
