@@ -18,12 +18,12 @@ pub enum KeyName<'a> {
 pub fn key_text(alloc: Global, name: KeyName<'_>) -> Result<KeyText, NoMemory>
     ensures { IfOk result (λ text. text ≡ spelled name.entry) }
 {
-    let (front, key): (&[u8], &str) = match name {
-        KeyName::Plain(key) => (b"", key),
-        KeyName::InZone(key) => (b"zone.", key),
+    let (front, key) = match name {
+        KeyName::Plain(key) => ("", key),
+        KeyName::InZone(key) => ("zone.", key),
     };
     let mut text = KeyText::new(alloc);
-    append(&mut text, front)?;
+    append(&mut text, front.as_bytes())?;
     append(&mut text, key.as_bytes())?;
     Ok(text)
 }

@@ -32,7 +32,7 @@ pub fn read_params(alloc: Global, bytes: &[u8]) -> Result<Parameters, ParamsErro
     params_of_document(alloc, &table)
 }
 
-// The parameters that a document describes, or its first fault.
+// The parameters that a document describes, or its first fault, or `NoMemory`.
 #[tactic(auto, unfolding(crate::specs::Reading::params_of_document))]
 fn params_of_document(alloc: Global, table: &Table) -> Result<Parameters, ParamsError>
     ensures value { Answers held result (params_of_document (table_view table.now)) }
