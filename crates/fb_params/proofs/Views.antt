@@ -1,8 +1,8 @@
 -- Lists of values beside the data that they stand for.
-use Rattle.fb_params.proofs.Words.{◌≡◌, ℕ, zero, suc, ◌<◌, length, slice_index, get_or, true, arith, Bool, List, [], ◌∷◌, map, Some}
-use Rattle.fb_params.proofs.Words.{unwrap_or, refl, sym, ap, subst, ◌∙◌, list_all, and_parts, list_all-map, Data, string, integer, float}
-use Rattle.fb_params.proofs.Words.{boolean, datetime, array, table, Items, as_array, view, items_of, Value, listed, elements, number_of}
-use Rattle.fb_params.proofs.Words.{nth, ◌+◌, ◌++◌, take, map-append, take_all, take_more, ◌≤◌}
+use Rattle.fb_params.proofs.Words.{◌≡◌, ℕ, zero, suc, ◌<◌, ◌≤◌, length, slice_index, get_or, true, arith, Bool, List, [], ◌∷◌, map, take}
+use Rattle.fb_params.proofs.Words.{Some, unwrap_or, refl, sym, ap, subst, ◌∙◌, list_all, and_parts, take_all, list_all-map, Data, string}
+use Rattle.fb_params.proofs.Words.{integer, float, boolean, datetime, array, table, Items, as_array, view, items_of, Value, nth, elements}
+use Rattle.fb_params.proofs.Words.{listed, number_of}
 
 pub listed-items_of : (values : List Data) → listed (items_of values) ≡ values
 listed-items_of [] = refl
@@ -40,13 +40,6 @@ pub nth-at : (row : Data) (values : List Value) (i : ℕ) (value : Value) → ma
     → value ≡ get_or values i value → nth i row ≡ number_of (view value)
 nth-at row values i value seen inside is =
     ap (λ found. slice_index (map number_of found) i) (sym seen) ∙ (number-at values i value inside ∙ ap (λ v. number_of (view v)) (sym is))
-
--- what the values so far give after one more of them
-pub given-more : {A : Type 0} (f : Data → A) (values : List Value) (i : ℕ) (value : Value) → i < length values
-    → value ≡ get_or values i value → map f (map view (take i values)) ++ f (view value) ∷ [] ≡ map f (map view (take (i + 1) values))
-given-more f values i value inside is =
-    sym (ap (λ xs. map f (map view xs)) (take_more values i value inside) ∙ simp map-append
-    (ap (λ v. map f (map view (take i values)) ++ f (view v) ∷ []) (sym is)))
 
 pub given-all : {A : Type 0} (f : Data → A) (values : List Value) (n : ℕ) → length values ≤ n
     → map f (map view (take n values)) ≡ map f (map view values)

@@ -11,7 +11,7 @@ unfoldable pub use Rattle.std.specs.Str.{chars, is_utf8}
 pub use Rattle.std.proofs.lemmas.Bool.{and_parts, cases_Bool, false≢true, not-false, true≢false}
 pub use Rattle.std.proofs.lemmas.Iterator.{YieldsList-from_slice}
 pub use Rattle.std.proofs.lemmas.Iterator.Search.{all_from_yields_List, any_from_yields_List}
-pub use Rattle.std.proofs.lemmas.List.{map-append, take_all, take_more}
+pub use Rattle.std.proofs.lemmas.List.{map_more, map_push, take_all}
 pub use Rattle.std.proofs.lemmas.List.Folds.{list_all-map}
 pub use Rattle.toml.specs.Data.{Data, Items, Members, array, as_array, as_table, boolean, datetime, float, get_member, integer, string}
 pub use Rattle.toml.specs.Data.{table}
