@@ -97,13 +97,13 @@ fn wrote_line(
     let content = content_of(alloc, row)?;
     let written = shown(alloc, &content, sector_bytes, bytes)?;
     let mut line = Line::new(alloc, b"wrote")?;
-    add_passage(&mut line, row)?;
+    add_numbers(&mut line, row)?;
     line.word(&written)?;
     line.end()
 }
 
-// Adds put, first LBN, count, begin and end of a written block.
-fn add_passage(line: &mut Line, row: &WroteRow) -> Result<(), NoMemory>
+// Adds the numbers of a written block: put, first LBN, count, begin and end.
+fn add_numbers(line: &mut Line, row: &WroteRow) -> Result<(), NoMemory>
     ensures { OnOk result (line.new ≡ with_fields line.old
         (decimal row.now.put ∷ decimal row.now.lbn ∷ decimal row.now.count ∷ decimal row.now.begin ∷ decimal row.now.end ∷ [])) }
 {
