@@ -1,6 +1,6 @@
 -- Bounds that are lowered for a cylinder, and for the 32 to which it belongs.
 use Rattle.fb_bgwrite.proofs.Words.{◌≡◌, ℕ, ◌/◌, ◌==◌, ◌≤◌, List, true, Result, Ok, Err, OnOk, OnErr, get_or, min, inl, inr, subst, arith}
-use Rattle.fb_bgwrite.proofs.Words.{if◌then◌else◌, cases_Bool, nat_tests, IsUnder, zero, suc, [], ◌∷◌, ◌++◌, refl}
+use Rattle.fb_bgwrite.proofs.Words.{if◌then◌else◌, cases_Bool, nat_tests, IsUnder}
 
 abbrev pub IsLowered : List ℕ → List ℕ → ℕ → ℕ → Type 0
 IsLowered old new index sectors = (k : ℕ) → get_or new k 2049 ≡ (if index == k then min (get_or old k 2049) sectors else get_or old k 2049)
@@ -42,10 +42,3 @@ either_lowered (Ok x) upper new_upper lower new_lower index sectors under above 
     both_lowered upper new_upper lower new_lower index sectors under above ok
 either_lowered (Err x) upper new_upper lower new_lower index sectors under above ok err =
     λ k. omega (arith, under_lowered upper new_upper lower (index / 32) sectors under above k, err k)
-
--- a bound of 2,049 behind the last one changes none
-pub none_behind : (bounds : List ℕ) (k : ℕ) → get_or (bounds ++ 2049 ∷ []) k 2049 ≡ get_or bounds k 2049
-none_behind [] zero = refl
-none_behind [] (suc k) = refl
-none_behind (bound ∷ bounds) zero = refl
-none_behind (bound ∷ bounds) (suc k) = none_behind bounds k
