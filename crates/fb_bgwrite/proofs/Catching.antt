@@ -1,11 +1,11 @@
 -- What a stay catches are pending blocks, each once.
-use Rattle.fb_bgwrite.proofs.Words.{◌⊎◌, all_get, Bor, ◌≡◌, ℕ, zero, suc, ◌≤◌, List, [], ◌∷◌, ◌++◌, Bool, false, ◌||◌, Some}
-use Rattle.fb_bgwrite.proofs.Words.{slice_get, take, map, length, refl, sym, ap, ◌∙◌, subst, arith, inl, inr, ◌==◌, ◌&&◌, filter}
-use Rattle.fb_bgwrite.proofs.Words.{AllByRecursion, fold, list_any, cases_Bool, nat_tests, list_any-append, places, Disk}
-use Rattle.fb_bgwrite.proofs.Words.{all_weaker, wanted_of, Dwell, catches, Catch, is_before, place_in, catch_of, caught_of}
-use Rattle.fb_bgwrite.proofs.Words.{begin-from-le, SpillItem, SpillLine, WroteLine, SpillRow, Put, Spilling, PutBlock, is_written}
-use Rattle.fb_bgwrite.proofs.Words.{writes, entry_of, first_blocks, ArePutsOn, HasKept, IsSpilling, IsToWrite, wrote_row, all_of}
-use Rattle.fb_bgwrite.proofs.Words.{none_any, ◌+◌, append_assoc, map-append, one_more}
+use Rattle.fb_bgwrite.proofs.Words.{◌⊎◌, one_more, all_get, Bor, ◌≡◌, ℕ, zero, suc, ◌+◌, ◌≤◌, List, [], ◌∷◌, ◌++◌, Bool, false}
+use Rattle.fb_bgwrite.proofs.Words.{◌||◌, Some, slice_get, take, map, length, refl, sym, ap, ◌∙◌, subst, arith, inl, inr}
+use Rattle.fb_bgwrite.proofs.Words.{append_assoc, ◌==◌, ◌&&◌, filter, AllByRecursion, fold, list_any, cases_Bool, nat_tests}
+use Rattle.fb_bgwrite.proofs.Words.{map-append, list_any-append, places, Disk, all_weaker, wanted_of, Dwell, catches, Catch}
+use Rattle.fb_bgwrite.proofs.Words.{is_before, place_in, catch_of, caught_of, begin-from-le, SpillItem, SpillLine, WroteLine}
+use Rattle.fb_bgwrite.proofs.Words.{SpillRow, Put, Spilling, PutBlock, is_written, writes, entry_of, first_blocks, ArePutsOn}
+use Rattle.fb_bgwrite.proofs.Words.{HasKept, IsSpilling, IsToWrite, wrote_row, all_of, none_any}
 use Rattle.fb_plan.proofs.Sorted.{put_front, put_behind, all_place}
 use Rattle.fb_bgwrite.proofs.{Admitting.first_come, Admitting.first_in_order, PutBlocks.AreInOrder}
 use Rattle.fb_bgwrite.proofs.{PutBlocks.IsBefore, Writing.before_other}

@@ -1,13 +1,12 @@
 -- A block that is caught has no more sectors than all that are caught; so where each is longer than that, nothing is.
-use Rattle.fb_bgwrite.proofs.Words.{all_get, ◌≡◌, ℕ, zero, suc, ◌+◌, ◌*◌, ◌<◌, ◌≤◌, ◌⊎◌, List, [], ◌∷◌}
-use Rattle.fb_bgwrite.proofs.Words.{AreTried, IsFound, IsPart, IsSearch, Part, Search}
-use Rattle.fb_bgwrite.proofs.Words.{true, ◌==◌, Option, Some, slice_get, get_or, min, inl, inr, refl, sym, ap, ◌∙◌, subst, arith}
-use Rattle.fb_bgwrite.proofs.Words.{AllByRecursion, sum_by, cases_Bool, true≢false, nat_tests, sum_by-cons, Track, same_track}
-use Rattle.fb_bgwrite.proofs.Words.{IsTrackOf, IsSound, Disk, Deliver, Entry, after, entry_after, is_wanted, on_track, wanted_of}
-use Rattle.fb_bgwrite.proofs.Words.{Dwell, Gap, AreOnDisk, stay_gain, stay-of, Spill, Valued, ArePending}
-use Rattle.fb_bgwrite.proofs.Words.{AreAtLeast, AreLight, IsAtLeast, IsNoShorter, dwell_of, value, all_of, some_one}
-use Rattle.fb_bgwrite.proofs.Words.{◌-◌, get_or-le-sum_by, get_or_from_slice_get, length, slice_get_within, sum_by-le-sum_by}
-use Rattle.fb_bgwrite.proofs.Words.{sum_by_more, take, AreOffers, Block, Offer, ◌++◌, all_push, all_weaker, Result, Ok, Err, OnOk, OnErr}
+use Rattle.fb_bgwrite.proofs.Words.{all_get, all_push, all_weaker, ◌≡◌, ℕ, zero, suc, ◌+◌, ◌-◌, ◌*◌, ◌<◌, ◌≤◌, ◌⊎◌, List, [], ◌∷◌}
+use Rattle.fb_bgwrite.proofs.Words.{◌++◌, true, ◌==◌, Option, Some, Result, Ok, Err, OnOk, OnErr, slice_get, get_or, take, length}
+use Rattle.fb_bgwrite.proofs.Words.{min, inl, inr, refl, sym, ap, ◌∙◌, subst, arith, AllByRecursion, sum_by, cases_Bool, true≢false}
+use Rattle.fb_bgwrite.proofs.Words.{nat_tests, get_or-le-sum_by, sum_by-cons, sum_by-le-sum_by, sum_by_more, get_or_from_slice_get}
+use Rattle.fb_bgwrite.proofs.Words.{slice_get_within, some_one, all_of, Track, same_track, IsTrackOf, IsSound, Disk, Block, Deliver}
+use Rattle.fb_bgwrite.proofs.Words.{Entry, after, entry_after, is_wanted, on_track, wanted_of, AreOffers, Offer, Dwell, Gap}
+use Rattle.fb_bgwrite.proofs.Words.{AreOnDisk, stay_gain, stay-of, ArePending, AreTried, IsFound, IsPart, IsSearch, AreAtLeast}
+use Rattle.fb_bgwrite.proofs.Words.{AreLight, IsAtLeast, IsNoShorter, dwell_of, value, Spill, Valued, Part, Search}
 use Rattle.fb_bgwrite.proofs.Bounds.{no_greater_than, IsLowered}
 use Rattle.fb_bgwrite.proofs.{Values.its_sectors, Values.passes, Values.value_caught, Values.value_stay, Amended.track_on_disk}
 use Rattle.fb_bgwrite.proofs.{Choices.light_on, Choices.nothing_beaten}
@@ -160,7 +159,7 @@ pub still_light : (put number : ℕ) (es : List Entry) → AreLight es → AreLi
 still_light put number [] light = tt
 still_light put number (e ∷ es) light = (light.0, still_light put number es light.1)
 
--- the bound of a cylinder is lowered to what a block more has, if there was memory for it
+-- the bound of a cylinder is lowered to the sectors of one more block in any case, and the block is registered if there is memory
 pub registered_too : {A E : Type 0} (r : Result A E) (old new : List ℕ) (es later : List Entry) (e : Entry)
     → AllByRecursion (IsNoShorter old) es → AreLight es → e.block.weight ≡ 1
     → IsLowered old new e.block.track.cylinder e.block.count → OnOk r (later ≡ es ++ e ∷ []) → OnErr r (later ≡ es)
