@@ -90,12 +90,12 @@ fn command(
 fn replay(alloc: Global, count: usize, given: &Given<'_>) -> Result<ReplayWords, WordsError>
     ensures { Answers replay_terms result (refused_as (fault_at count) (replay_of (options given.now))) }
 {
-    let (params, trace, policy) = run_inputs(count, given)?;
+    let (params, trace, policy) = required_of_run(count, given)?;
     together(given.calls, given.back, count, UsageReason::CallsAndBack)?;
     together(given.puts, given.spill, count, UsageReason::PutsAndSpill)?;
-    let (params, trace) = both(alloc, params, trace)?;
-    let (calls, back) = both_given(alloc, given.calls, given.back)?;
-    let (puts, spill) = both_given(alloc, given.puts, given.spill)?;
+    let (params, trace) = copy_both(alloc, params, trace)?;
+    let (calls, back) = copy_both_given(alloc, given.calls, given.back)?;
+    let (puts, spill) = copy_both_given(alloc, given.puts, given.spill)?;
     Ok(ReplayWords {
         params,
         trace,
@@ -121,7 +121,7 @@ fn make(alloc: Global, count: usize, given: &Given<'_>) -> Result<MakeWords, Wor
     let number = required(given.number, count, 3)?;
     let requests = required(given.requests, count, 4)?;
     let calls = String::from_str(alloc, calls)?;
-    let (params, trace) = both(alloc, params, trace)?;
+    let (params, trace) = copy_both(alloc, params, trace)?;
     Ok(MakeWords {
         params,
         trace,
@@ -136,13 +136,13 @@ fn make(alloc: Global, count: usize, given: &Given<'_>) -> Result<MakeWords, Wor
 fn check(alloc: Global, count: usize, given: &Given<'_>) -> Result<CheckWords, WordsError>
     ensures { Answers check_terms result (refused_as (fault_at count) (check_of (options given.now))) }
 {
-    let (params, trace, policy) = run_inputs(count, given)?;
+    let (params, trace, policy) = required_of_run(count, given)?;
     let calls = required(given.calls, count, 3)?;
     let fore = required(given.fore, count, 4)?;
     let back = required(given.back, count, 5)?;
     let calls = String::from_str(alloc, calls)?;
-    let (params, trace) = both(alloc, params, trace)?;
-    let (fore, back) = both(alloc, fore, back)?;
+    let (params, trace) = copy_both(alloc, params, trace)?;
+    let (fore, back) = copy_both(alloc, fore, back)?;
     Ok(CheckWords {
         params,
         trace,
@@ -160,10 +160,10 @@ fn check(alloc: Global, count: usize, given: &Given<'_>) -> Result<CheckWords, W
 fn array(alloc: Global, count: usize, given: &Given<'_>) -> Result<ArrayWords, WordsError>
     ensures { Answers array_terms result (refused_as (fault_at count) (array_of (options given.now))) }
 {
-    let (params, trace, policy) = run_inputs(count, given)?;
+    let (params, trace, policy) = required_of_run(count, given)?;
     let devices = required(given.devices, count, 3)?;
     let rebuild = rebuild(alloc, count, devices, given)?;
-    let (params, trace) = both(alloc, params, trace)?;
+    let (params, trace) = copy_both(alloc, params, trace)?;
     Ok(ArrayWords {
         params,
         trace,
@@ -194,7 +194,7 @@ fn rebuild(
     if device >= u64::from(devices) {
         return Err(WordsError::Fault(fault_at(count, UsageReason::RebuildBeyond)));
     }
-    let (back, copy) = both(alloc, back, copy)?;
+    let (back, copy) = copy_both(alloc, back, copy)?;
     Ok(Some(RebuildWords {
         device: device as u32,
         back,
@@ -204,7 +204,10 @@ fn rebuild(
 
 // The parameter file, the trace and the policy, which a replay, a check and an array require first.
 #[tactic(auto, unfolding(crate::specs::Command::replay_of, crate::specs::Command::check_of, crate::specs::Command::array_of))]
-fn run_inputs<'a>(count: usize, given: &Given<'a>) -> Result<(&'a str, &'a str, Policy), UsageFault>
+fn required_of_run<'a>(
+    count: usize,
+    given: &Given<'a>,
+) -> Result<(&'a str, &'a str, Policy), UsageFault>
     ensures params { IfOk result (λ inputs. given.now.params ≡ Some inputs.0) }
     ensures trace { IfOk result (λ inputs. given.now.trace ≡ Some inputs.1) }
     ensures policy { IfOk result (λ inputs. given.now.policy ≡ Some inputs.2) }
@@ -245,7 +248,7 @@ fn together(
 }
 
 // Copies of two texts.
-fn both(alloc: Global, one: &str, other: &str) -> Result<(String, String), NoMemory>
+fn copy_both(alloc: Global, one: &str, other: &str) -> Result<(String, String), NoMemory>
     ensures one { IfOk result (λ copies. string_bytes copies.0 ≡ one.now) }
     ensures other { IfOk result (λ copies. string_bytes copies.1 ≡ other.now) }
 {
@@ -253,8 +256,8 @@ fn both(alloc: Global, one: &str, other: &str) -> Result<(String, String), NoMem
     Ok((one, String::from_str(alloc, other)?))
 }
 
-// Copies of two texts, each as far as it is given.
-fn both_given(
+// Copies of two texts, each if it is given.
+fn copy_both_given(
     alloc: Global,
     one: Option<&str>,
     other: Option<&str>,
