@@ -1,10 +1,10 @@
-use Rattle.std.proofs.Common.{[], ◌∷◌, codes}
-use Rattle.fb_words.specs.declared.command.Policy.TheVariants.{Fcfs, Sstf, Clook, Sptf}
+use Rattle.std.proofs.Common.{refl}
 use Rattle.fb_words.specs.Names.{policy_of}
-use Rattle.fb_words.proofs.Meanings.{no_meaning}
+use Rattle.fb_words.proofs.Meanings.{bytes_differ}
 use Rattle.fb_words.proofs.names.policy_of.Goals as goal
 
 pub returns-in_default : goal.returns-in_default
 unfolding policy_of
-returns-in_default c = no_meaning ((codes "fcfs", Fcfs) ∷ (codes "sstf", Sstf) ∷ (codes "clook", Clook) ∷ (codes "sptf", Sptf) ∷ [])
-    c.args.name.now (c.in_default.not-fcfs, (c.in_default.not-sstf, (c.in_default.not-clook, (c.in_default.not-sptf, tt))))
+returns-in_default c =
+    let is = c.in_default in
+    rw (bytes_differ is.not-fcfs, bytes_differ is.not-sstf, bytes_differ is.not-clook, bytes_differ is.not-sptf) refl

@@ -1,10 +1,10 @@
-use Rattle.std.proofs.Common.{[], ◌∷◌, codes}
-use Rattle.fb_words.specs.declared.names.Verb.TheVariants.{Replay, Make, Check, Array}
+use Rattle.std.proofs.Common.{refl}
 use Rattle.fb_words.specs.Names.{verb_of}
-use Rattle.fb_words.proofs.Meanings.{no_meaning}
+use Rattle.fb_words.proofs.Meanings.{bytes_differ}
 use Rattle.fb_words.proofs.names.verb_of.Goals as goal
 
 pub returns-in_default : goal.returns-in_default
 unfolding verb_of
-returns-in_default c = no_meaning ((codes "replay", Replay) ∷ (codes "make", Make) ∷ (codes "check", Check) ∷ (codes "array", Array) ∷ [])
-    c.args.name.now (c.in_default.not-replay, (c.in_default.not-make, (c.in_default.not-check, (c.in_default.not-array, tt))))
+returns-in_default c =
+    let is = c.in_default in
+    rw (bytes_differ is.not-replay, bytes_differ is.not-make, bytes_differ is.not-check, bytes_differ is.not-array) refl
