@@ -1,12 +1,23 @@
-use Rattle.fb_detour.proofs.Words.{arith, inl, inr, ℕ, ◌%◌, ◌*◌, ◌+◌, ◌-◌, ◌<◌, ◌^◌, ◌≡◌, ◌≤◌, mul-le}
+use Rattle.fb_detour.proofs.Words.{arith, inl, inr, ℕ, ◌%◌, ◌*◌, ◌+◌, ◌-◌, ◌^◌, ◌≡◌, ◌≤◌, mul-le}
 use Rattle.fb_detour.proofs.Found.{itself, not_better, through}
 use Rattle.fb_detour.proofs.Keys.{bound-of, part-more, parts-no_better, parts-done}
+use Rattle.fb_detour.proofs.search.+visit.Goals.{After-width_of-width}
 use Rattle.fb_detour.proofs.search.+visit.Goals as goal
 
--- where a part of the cylinders ends, even one that begins behind them
-ends-soon : (from end cylinders width part : ℕ) → from < end → end ≤ cylinders → cylinders ≤ 10 ^ 6 → width < end - from
-    → from + (7 - part) * width + width ≤ 9 * 10 ^ 6
-ends-soon from end cylinders width part some within few less = omega (arith, mul-le (7 - part) width 7 width (omega arith) (omega arith))
+-- a part of the cylinders ends soon, even one that begins behind them
+ends-soon : (n : ℕ) (c : After-width_of-width n) (key : ℕ)
+    → c.args.from + (7 - (key - 1) % 8) * c.width_of-width.result + c.width_of-width.result ≤ 9 * 10 ^ 6
+ends-soon n c key =
+    let part = (key - 1) % 8 in
+    let width = c.width_of-width in
+    omega (
+      arith,
+      mul-le (7 - part) width.result 7 width.result (omega arith) (omega arith),
+      c.if-end-from.false,
+      c.requires.within,
+      c.requires.few,
+      width.ensures.less,
+    )
 
 pub returns-then-end-from-clause-keeps : goal.returns-then-end-from-clause-keeps
 returns-then-end-from-clause-keeps n c = itself c.args.search.now c.args.best.plan
@@ -50,31 +61,13 @@ loop-key-init n c = record {
 }
 
 pub overflow_mul-begin : goal.overflow_mul-begin
-overflow_mul-begin n c =
-    let part = (c.loop-key.key - 1) % 8 in
-    omega (
-      arith,
-      ends-soon c.args.from c.args.end c.args.search.now.disk.now.mechanism.cylinders c.width_of-width.result part
-          c.if-end-from.false c.requires.within c.requires.few c.width_of-width.ensures.less,
-    )
+overflow_mul-begin n c = omega (arith, ends-soon n (goal.at.overflow_mul-begin n c).After-width_of-width c.loop-key.key)
 
 pub overflow_add-begin : goal.overflow_add-begin
-overflow_add-begin n c =
-    let part = (c.loop-key.key - 1) % 8 in
-    omega (
-      arith,
-      ends-soon c.args.from c.args.end c.args.search.now.disk.now.mechanism.cylinders c.width_of-width.result part
-          c.if-end-from.false c.requires.within c.requires.few c.width_of-width.ensures.less,
-    )
+overflow_add-begin n c = omega (arith, ends-soon n (goal.at.overflow_add-begin n c).After-width_of-width c.loop-key.key)
 
 pub overflow_add-behind : goal.overflow_add-behind
-overflow_add-behind n c =
-    let part = (c.loop-key.key - 1) % 8 in
-    omega (
-      arith,
-      ends-soon c.args.from c.args.end c.args.search.now.disk.now.mechanism.cylinders c.width_of-width.result part
-          c.if-end-from.false c.requires.within c.requires.few c.width_of-width.ensures.less,
-    )
+overflow_add-behind n c = omega (arith, ends-soon n (goal.at.overflow_add-behind n c).After-width_of-width c.loop-key.key)
 
 pub visit-best-requires : goal.visit-best-requires
 visit-best-requires n c =
