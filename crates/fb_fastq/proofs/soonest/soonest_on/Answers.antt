@@ -1,7 +1,13 @@
-use Rattle.fb_fastq.proofs.Words.{◌*◌, ◌^◌, ◌<◌, sym, subst, Ray, IfSome, IsVisit, IsNoFarther, IsReached, ComesNoLaterUntil, beyond}
+use Rattle.fb_fastq.proofs.Words.{◌≡◌, ◌*◌, ◌^◌, ◌<◌, sym, subst, Option, Some, IfSome, Ray, Visit, IsNoFarther, IsReached}
+use Rattle.fb_fastq.proofs.Words.{ComesNoLaterUntil, beyond}
 use Rattle.fb_fastq.proofs.Sweeps.{no_later_trans}
 use Rattle.fb_fastq.proofs.Breaks.{if_some, goes_on, reached_later, still_outside, left_of, less_left}
 use Rattle.fb_fastq.proofs.soonest.soonest_on.Goals as goal
+
+module _ (P : Visit → Type 0) {full : Option Visit} {visit : Visit} where
+  -- what is so of any visit where the walk broke off is so of this one
+  of_this : full ≡ Some visit → IfSome full P → P visit
+  of_this is = subst (λ o. IfSome o P) is
 
 pub loop-walked-preserved : goal.loop-walked-preserved
 loop-walked-preserved c =
@@ -13,8 +19,8 @@ loop-walked-preserved c =
     let start = c.args.ray.start in
     let old = c.loop-walked.walked.best in
     let visit = c.in-Some.visit in
-    let is = subst (λ full. IfSome full (IsVisit disk c.args.from)) c.in-Some.is c.loop-walked.invariant.full in
-    let reached = subst (λ full. IfSome full (λ v. IsReached side start v.lane.start)) c.in-Some.is c.loop-walked.invariant.reached in
+    let is = of_this _ c.in-Some.is c.loop-walked.invariant.full in
+    let reached = of_this _ c.in-Some.is c.loop-walked.invariant.reached in
     let seen = subst (ComesNoLaterUntil disk head now waiting old c.args.ray) c.in-Some.is c.loop-walked.invariant.seen in
     let best = c.soonest_of_lane-best.result in
     let first = c.soonest_of_lane-best.ensures.first in
@@ -47,19 +53,18 @@ loop-walked-init c = let walked = c.walk-walked.ensures in record {
 
 pub soonest_of_lane-best-requires : goal.soonest_of_lane-best-requires
 soonest_of_lane-best-requires c =
-    let is = subst (λ full. IfSome full (IsVisit c.args.disk.now c.args.from)) c.in-Some.is c.loop-walked.invariant.full in
+    let is = of_this _ c.in-Some.is c.loop-walked.invariant.full in
     record { spots = c.requires.spots; lane = is.lane; way = is.short_way; angle = is.turned }
 
 pub beyond-rest-requires : goal.beyond-rest-requires
-beyond-rest-requires c =
-    (subst (λ full. IfSome full (IsVisit c.args.disk.now c.args.from)) c.in-Some.is c.loop-walked.invariant.full).lane.few
+beyond-rest-requires c = (of_this _ c.in-Some.is c.loop-walked.invariant.full).lane.few
 
 pub walk-walked-requires-in-Some : goal.walk-walked-requires-in-Some
 walk-walked-requires-in-Some c =
     let side = c.args.ray.side in
     let start = c.args.ray.start in
-    let is = subst (λ full. IfSome full (IsVisit c.args.disk.now c.args.from)) c.in-Some.is c.loop-walked.invariant.full in
-    let reached = subst (λ full. IfSome full (λ v. IsReached side start v.lane.start)) c.in-Some.is c.loop-walked.invariant.reached in
+    let is = of_this _ c.in-Some.is c.loop-walked.invariant.full in
+    let reached = of_this _ c.in-Some.is c.loop-walked.invariant.reached in
     record {
       spots = c.requires.spots;
       from = c.requires.from;
@@ -78,7 +83,7 @@ pub loop-walked-smaller : goal.loop-walked-smaller
 loop-walked-smaller c =
     let side = c.args.ray.side in
     let new = c.walk-walked-in-Some.result.full in
-    let is = subst (λ full. IfSome full (IsVisit c.args.disk.now c.args.from)) c.in-Some.is c.loop-walked.invariant.full in
+    let is = of_this _ c.in-Some.is c.loop-walked.invariant.full in
     let further = subst (λ (s : Ray). IfSome new (λ v. IsReached s.side s.start v.lane.start)) c.beyond-rest.ensures
     c.walk-walked-in-Some.ensures.reached in
     subst (λ full. left_of side new < left_of side full) (sym c.in-Some.is) (less_left side c.in-Some.visit new is.lane.few further)
