@@ -1,7 +1,7 @@
 -- One request more, or less, among those that wait.
 use Rattle.fb_fastq.proofs.Words.{get_or, slice_get_read, ◌≡◌, ◌≢◌, ℕ, zero, suc, ◌+◌, ◌<◌, ◌≤◌, List, [], ◌∷◌, ◌++◌, map, refl, sym, ap}
 use Rattle.fb_fastq.proofs.Words.{subst, ◌∙◌, arith, inl, inr, ◌⊎◌, Some, append_assoc, append-nil, slice_get, length, take, drop, set}
-use Rattle.fb_fastq.proofs.Words.{Option, None, IsSome, Result, Ok, Err, OnErr, true, false, remove, option_and_then, AllByRecursion}
+use Rattle.fb_fastq.proofs.Words.{Option, None, IsSome, true, false, remove, option_and_then, AllByRecursion}
 use Rattle.fb_fastq.proofs.Words.{match_ordering, nat_cmp, Ordering, Less, Equal, Greater, insert_entry, is_at, BTreeSet, contains}
 use Rattle.fb_fastq.proofs.Words.{remove_entry, true≢false, cases_Bool, nat_tests, slice_get_within, Request, first_least, order, Waiting}
 use Rattle.fb_fastq.proofs.Words.{number_of, join_in, in_order, pending_of, NumbersDiffer, HaveOwnNumbers, IsFirst, Position, IsMore, Row}
@@ -261,11 +261,6 @@ pub same_rows : (rows : List Row) (i : ℕ) (row new : Row) → slice_get rows i
     → AreRows 0 (set rows i new)
 same_rows rows i row new there is h =
     set_rows 0 rows i new h (subst (AllByRecursion (λ (w : Waiting). IsOnCylinder (0 + i) w.0.0)) (sym is) (row_on 0 rows i row h there))
-
--- what is so either way is so after an error
-pub on_err : {A B : Type 0} (result : Result A B) (P : Type 0) → P → OnErr result P
-on_err (Ok a) P p = tt
-on_err (Err e) P p = p
 
 -- a row with no request is one more
 pub no_more : (rows : List Row) (new : Row) → new.items ≡ [] → all_of_rows (rows ++ new ∷ []) ≡ all_of_rows rows

@@ -1,7 +1,7 @@
 use Rattle.std.proofs.lemmas.Result.{IfOk-from_err}
 use Rattle.fb_fastq.proofs.Words.{◌≡◌, ◌++◌, ◌∷◌, ◌∙◌, [], ℕ, List, arith, ap, sym, subst, AllByRecursion, Waiting, order, insert_entry}
-use Rattle.fb_fastq.proofs.Words.{pending_of, IsAlong, IsMore, all_of_rows}
-use Rattle.fb_fastq.proofs.OneMore.{on_err, insert_more, more_left, more_right, pending_more, all_more}
+use Rattle.fb_fastq.proofs.Words.{on_err, pending_of, IsAlong, IsMore, all_of_rows}
+use Rattle.fb_fastq.proofs.OneMore.{insert_more, more_left, more_right, pending_more, all_more}
 use Rattle.fb_fastq.proofs.Divided.{numbers_left, map_joined, rows_joined}
 use Rattle.fb_fastq.proofs.sptf.SptfLanesQueue.add.Goals.{After-self}
 use Rattle.fb_fastq.proofs.sptf.SptfLanesQueue.add.Goals as goal
@@ -109,8 +109,8 @@ returns-in_err-add c =
     let same = ap (λ (ws : List Waiting). ws ++ rows) c.in_err-add.ensures.err ∙ ap (λ v. v.waiting) c.self.view_is in record {
       ok = IfOk-from_err result _ c.from_residual.ensures.0;
       counted = IfOk-from_err result _ c.from_residual.ensures.0;
-      err = on_err result _ (ap pending_of same);
-      not_counted = on_err result _ (ap (λ v. v.joined) c.self.view_is);
+      err = on_err result (ap pending_of same);
+      not_counted = on_err result (ap (λ v. v.joined) c.self.view_is);
       serves = subst (AllByRecursion (λ (w : Waiting). IsAlong c.args.disk.now w.1 w.0.0)) (sym same) c.requires.serves;
     }
 
@@ -135,7 +135,7 @@ returns-in_err-put c =
     let same = ap (λ (ws : List Waiting). entries ++ ws) c.in_err-put.ensures.err ∙ ap (λ v. v.waiting) c.self.view_is in record {
       ok = IfOk-from_err result _ c.from_residual-in_err-put.ensures.0;
       counted = IfOk-from_err result _ c.from_residual-in_err-put.ensures.0;
-      err = on_err result _ (ap pending_of same);
-      not_counted = on_err result _ (ap (λ v. v.joined) c.self.view_is);
+      err = on_err result (ap pending_of same);
+      not_counted = on_err result (ap (λ v. v.joined) c.self.view_is);
       serves = subst (AllByRecursion (λ (w : Waiting). IsAlong c.args.disk.now w.1 w.0.0)) (sym same) c.requires.serves;
     }
