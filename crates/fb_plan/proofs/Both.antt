@@ -1,10 +1,10 @@
 -- The value of a plan by what is offered on its two tracks.
-use Rattle.std.proofs.Common.{◌≡◌, inl, inr, ℕ, ◌+◌, List, [], ◌∷◌, Bool, true, false, ◌||◌, nat_le, Some, slice_get, suc, refl}
-use Rattle.std.proofs.Common.{arith, sym, ap, ◌∙◌, subst}
+use Rattle.std.proofs.Common.{◌≡◌, inl, inr, ℕ, ◌+◌, ◌*◌, ◌^◌, ◌<◌, ◌≤◌, List, [], ◌∷◌, Bool, true, false, ◌||◌, nat_le, Some}
+use Rattle.std.proofs.Common.{slice_get, get_or, length, take, suc, refl, arith, sym, ap, ap₂, ◌∙◌, subst}
 use Rattle.std.specs.List.{sum_by}
 use Rattle.std.proofs.lemmas.Bool.{cases_Bool}
 use Rattle.std.proofs.lemmas.Bool.Decides.{nat_tests}
-use Rattle.std.proofs.lemmas.List.Sums.{sum_by-cons}
+use Rattle.std.proofs.lemmas.List.Sums.{sum_by-cons, sum_by_more}
 use Rattle.fb_units.proofs.Filtered.{filter_from}
 use Rattle.fb_units.specs.declared.types.Sweep.{Sweep}
 use Rattle.fb_units.specs.declared.types.Track.{Track}
@@ -35,6 +35,13 @@ pub sum-agree : (f g : Entry → ℕ) (xs : List Entry) → ((i : ℕ) (e : Entr
 sum-agree f g [] same = refl
 sum-agree f g (x ∷ xs) same =
     omega (arith, sum_by-cons f x xs, sum_by-cons g x xs, same 0 x refl, sum-agree f g xs (λ i e at. same (suc i) e at))
+
+module _ (f : Offer → ℕ) (offers : List Offer) (d : Offer) {i sum more : ℕ} where
+  -- what the offers so far add, and the next one
+  pub sum-next : i < length offers → (sum ≤ 2 ^ 32 * i) × (sum ≡ sum_by f (take i offers)) → more ≡ f (get_or offers i d) → more < 2 ^ 32
+      → (sum + more ≤ 2 ^ 32 * (i + 1)) × (sum + more ≡ sum_by f (take (i + 1) offers))
+  sum-next inside so_far one small =
+      (omega (arith, so_far.0, small), ap₂ (λ a b. a + b) so_far.1 one ∙ sym (sum_by_more f offers i d inside))
 
 onto : (a b x : Track) → same_track a b ≡ true → same_track a x ≡ true → same_track b x ≡ true
 onto a b x h k = grind (arith, nat_tests)
