@@ -1,6 +1,6 @@
 -- The names that the proofs cite, of this crate's words and of the crates below: each proof takes them from here.
 pub use Rattle.std.proofs.Common.{Bool, List, None, Option, Some, [], ap, append-nil, append_assoc, ap₂, arith, drop, false, filter, find}
-pub use Rattle.std.proofs.Common.{get_or, if◌then◌else◌, inl, inr, length, length-append, length-take, map, max, min, nat_lt, not, refl}
+pub use Rattle.std.proofs.Common.{get_or, if◌then◌else◌, inl, inr, length, length-append, length-take, map, nat_lt, not, refl}
 pub use Rattle.std.proofs.Common.{rules, set, slice_get, subst, suc, sym, take, true, zero, ℕ, ◌&&◌, ◌*◌, ◌++◌, ◌+◌, ◌-◌, ◌<◌, ◌==◌, ◌^◌}
 pub use Rattle.std.proofs.Common.{◌||◌, ◌∙◌, ◌∷◌, ◌≡◌, ◌≤◌, ◌⊎◌}
 pub use Rattle.std.specs.BTreeSet.{BTreeSet, contains}
@@ -17,10 +17,10 @@ pub use Rattle.std.proofs.lemmas.List.{nil_from_length, take-append-drop, take-m
 pub use Rattle.std.proofs.lemmas.List.Concat.{flat_map-append}
 pub use Rattle.std.proofs.lemmas.List.Elements.{filter-append}
 pub use Rattle.std.proofs.lemmas.List.Folds.{list_any-append}
-pub use Rattle.std.proofs.lemmas.List.FromFn.{length-map-range_with_len, map-range_with_len_more, take-map-range_with_len}
+pub use Rattle.std.proofs.lemmas.List.FromFn.{map-range_with_len_more, take-map-range_with_len}
 pub use Rattle.std.proofs.lemmas.List.Sums.{length-filter, sum_by-append, sum_by-cons}
 pub use Rattle.std.proofs.lemmas.Option.{get_or_from_slice_get, none-some, same_Some as some_same, slice_get-get_or, slice_get_past}
-pub use Rattle.std.proofs.lemmas.Option.{slice_get_read, slice_get_within}
+pub use Rattle.std.proofs.lemmas.Option.{slice_get_within}
 pub use Rattle.std.proofs.lemmas.Result.{IfOk-weaker, on_err_weaker, on_ok_weaker}
 pub use Rattle.fb_units.proofs.Comparing.{one_or_other, other_number, same_number as number_same, step_to}
 pub use Rattle.fb_units.proofs.Lists.{all_append, all_filter, all_from_index as all_placed, all_get as all_at, all_left, all_range}
@@ -37,14 +37,14 @@ pub use Rattle.fb_geometry.specs.Shape.{Shape}
 pub use Rattle.fb_sectormap.specs.Cutting.{IsOneTurn, with_sector}
 unfoldable pub use Rattle.fb_sectormap.specs.Cutting.{cutting}
 pub use Rattle.fb_sectormap.specs.declared.cut.Cut.{Cut}
-pub use Rattle.fb_store.specs.Ranges.{content_in, held_at}
+pub use Rattle.fb_store.specs.Ranges.{held_at}
 pub use Rattle.fb_store.specs.Runs.{runs_of, same_content, sectors_of}
 pub use Rattle.fb_store.specs.Sparse.{EndsBy, Gives, after_take, held_in, held_sector}
 pub use Rattle.fb_store.specs.Writes.{is_within}
 pub use Rattle.fb_store.specs.declared.content.Content.{Content}
 pub use Rattle.fb_store.specs.declared.content.Content.TheVariants.{Unreadable}
 pub use Rattle.fb_store.specs.declared.content.ContentRun.{ContentRun}
-pub use Rattle.fb_calls.specs.Allowed.{AreAllowed, IsScript, MayAsk, blocks_from, has_want, terms_in}
+pub use Rattle.fb_calls.specs.Allowed.{AreAllowed, MayAsk, blocks_from, has_want, terms_in}
 pub use Rattle.fb_calls.specs.Blocks.{blocks_in, live_cuts}
 pub use Rattle.fb_calls.specs.Sessions.{is_backup, is_clean}
 pub use Rattle.fb_calls.specs.declared.call.Action.{Action}
@@ -96,11 +96,11 @@ pub use Rattle.fb_tasks.specs.Script.{IsCalled}
 pub use Rattle.fb_tasks.specs.Standing.{AreNumbered, AreReported, AreTestRowsOf, Ascend, Cleans, CleansBy, HasChosen, HasChosenUpTo}
 pub use Rattle.fb_tasks.specs.Standing.{HasNoChoice, HaveChosen}
 pub use Rattle.fb_tasks.specs.Standing.{HoldsBlock, HoldsBlocks, HoldsChoice, HoldsImage, IsAtNumber, IsAtWork, IsBlockOf, IsCutFrom}
-pub use Rattle.fb_tasks.specs.Standing.{IsPlaced, IsQuiet, IsSegmentOf, IsUntouched, MayBeTested, MayChoose, MayFinish, StandsAfterTest}
+pub use Rattle.fb_tasks.specs.Standing.{IsPlaced, IsQuiet, IsSegmentOf, IsUntouched, MayChoose, MayFinish, StandsAfterTest}
 pub use Rattle.fb_tasks.specs.Standing.{Stands, Told, choice_in}
 pub use Rattle.fb_tasks.specs.Standing.{choosable_by, ends_of, entry_by, entry_in, entry_of, kept_segment}
 pub use Rattle.fb_tasks.specs.Taken.{delivery_of, found_for, rows_after, seal_rows_found, segment_rows_found}
 unfoldable pub use Rattle.fb_tasks.specs.Taken.{test_rows_found}
-pub use Rattle.fb_tasks.specs.Telling.{Delivers, IsCall, IsUpToDate, MayDeliver, MayChooseAndTest, MayTake, Tells, choosable, tested_at}
+pub use Rattle.fb_tasks.specs.Telling.{Delivers, IsCall, IsUpToDate, MayDeliver, MayChooseAndTest, MayTake, Tells, choosable}
 pub use Rattle.fb_tasks.specs.Writing.{left_by_write, left_in, state_left}
 pub use Rattle.fb_tasks.specs.declared.session.Session.{Session}

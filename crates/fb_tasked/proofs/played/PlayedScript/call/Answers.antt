@@ -1,4 +1,5 @@
-use Rattle.fb_tasks.proofs.Words.{◌∙◌, slice_get_read}
+use Rattle.std.proofs.lemmas.Option.{slice_get_read}
+use Rattle.fb_tasks.proofs.Words.{◌∙◌}
 use Rattle.fb_tasked.proofs.Script.{follows-may, follows-more}
 use Rattle.fb_tasked.proofs.played.PlayedScript.call.Goals as goal
 

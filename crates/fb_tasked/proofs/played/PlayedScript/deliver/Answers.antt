@@ -1,4 +1,5 @@
-use Rattle.fb_tasks.proofs.Words.{ap, ◌∙◌, map, range_with_len, on_ok_weaker, DeliveryRow, content_in, sectors_of, Wanted}
+use Rattle.fb_store.specs.Ranges.{content_in}
+use Rattle.fb_tasks.proofs.Words.{ap, ◌∙◌, map, range_with_len, on_ok_weaker, DeliveryRow, sectors_of, Wanted}
 use Rattle.fb_tasks.proofs.Leaving.{on_ok_both}
 use Rattle.fb_tasked.proofs.Script.{within-at, follows-may-deliver, follows-delivered}
 use Rattle.fb_tasked.proofs.played.PlayedScript.deliver.Goals as goal
