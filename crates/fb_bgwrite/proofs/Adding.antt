@@ -1,8 +1,9 @@
 -- One more row keeps all that holds of the rows.
+use Rattle.fb_units.proofs.Comparing.{same_number}
 use Rattle.fb_units.proofs.Lists.{none_of_any, append_at, map_at}
 use Rattle.fb_bgwrite.proofs.Words.{all_get, all_push, ◌≡◌, ℕ, ◌+◌, ◌*◌, ◌^◌, ◌≤◌, List, [], ◌∷◌, ◌++◌, Bool}
 use Rattle.fb_bgwrite.proofs.Words.{true, false, not, Some, slice_get, take, drop, map, length, refl, sym, ap, ◌∙◌, subst, arith}
-use Rattle.fb_bgwrite.proofs.Words.{if◌then◌else◌, ◌==◌, ◌&&◌, filter, AllByRecursion, sum_by, nat_tests, sum_by_push, places, Disk, Block}
+use Rattle.fb_bgwrite.proofs.Words.{if◌then◌else◌, ◌==◌, ◌&&◌, filter, AllByRecursion, sum_by, sum_by_push, places, Disk, Block}
 use Rattle.fb_bgwrite.proofs.Words.{Entry, Wanted, Delivered, Deliver, after, is_block, Catch, SpillItem, SpillLine, WroteLine, SpillRow}
 use Rattle.fb_bgwrite.proofs.Words.{Put, Spilling, PutBlock, blocks_from, is_written, put_blocks, sectors, writes, left_over, sectors_in}
 use Rattle.fb_bgwrite.proofs.Words.{AreOnce, IsInTime, entry_of, first_blocks, ArePutsOn, IsSpilling, IsToWrite, IsUpTo, wrote_row}
@@ -79,9 +80,6 @@ among_all : (disk : Disk) (puts : List Put) (n i : ℕ) (put : PutBlock) → n �
 among_all disk puts n i put le at = ap (λ bs. slice_get bs i) (blocks_split disk.map 1 n puts le)
     ∙ append_at (first_blocks disk puts n) (blocks_from disk.map (1 + n) (drop n puts)) i put at
 
-itself : (n : ℕ) → (n == n) ≡ true
-itself n = grind (arith, nat_tests)
-
 both : (a b : Bool) → a ≡ true → b ≡ true → a && b ≡ true
 both a b on_a on_b = rw (on_a, on_b) refl
 
@@ -102,9 +100,9 @@ wanted_there old catch is to =
     let at : slice_get old.pending to.index ≡ Some entry = ap (λ es. slice_get es to.index) is.registered
     ∙ map_at (entry_of old.items) (first_blocks old.disk.now old.puts.now old.admitted) to.index to.put to.stands in
     let task : (to.put.block.task == catch.block.task) ≡ true = ap (λ (b : Block). to.put.block.task == b.task) to.block
-    ∙ itself to.put.block.task in
+    ∙ same_number to.put.block.task to.put.block.task refl in
     let number : (to.put.block.number == catch.block.number) ≡ true = ap (λ (b : Block). to.put.block.number == b.number) to.block
-    ∙ itself to.put.block.number in (
+    ∙ same_number to.put.block.number to.put.block.number refl in (
       entry,
       to.index,
       at,

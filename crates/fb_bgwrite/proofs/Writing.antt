@@ -1,5 +1,6 @@
 -- One more row: which blocks are pending after it, and how many sectors are left.
 use Rattle.std.proofs.Math.Bool.{or-false}
+use Rattle.fb_units.proofs.Comparing.{same_number}
 use Rattle.fb_bgwrite.proofs.Words.{◌≢◌, ◌⊎◌, append-nil, all_weaker, none_kept, all_get, ◌≡◌, ℕ, zero, suc, ◌+◌, ◌<◌, ◌≤◌, List}
 use Rattle.fb_bgwrite.proofs.Words.{[], ◌∷◌, ◌++◌, Bool, true, false, ◌&&◌, ◌||◌, not, Some, slice_get, length, map, refl, sym, ap, ap₂}
 use Rattle.fb_bgwrite.proofs.Words.{◌∙◌, subst, arith, inl, inr, if◌then◌else◌, ◌==◌, filter, nat_le, AllByRecursion, list_any}
@@ -100,9 +101,6 @@ module _ (items : List SpillItem) (row : WroteRow) (block : Block) (put_is : row
       ap (λ s. let e : Entry = record { block = put.block; state = s } in e) kept
       ∙ ap (λ b. let e : Entry = record { block = put.block; state = if b then Delivered else Wanted } in e) (sym (as_before put.block is))
 
-  itself : (n : ℕ) → (n == n) ≡ true
-  itself n = grind (arith, nat_tests)
-
   both : (a b : Bool) (state : State) → a ≡ true → b ≡ true → (if a then (if b then Delivered else state) else state) ≡ Delivered
   both a b state on_a on_b = rw (on_a, on_b) refl
 
@@ -110,8 +108,10 @@ module _ (items : List SpillItem) (row : WroteRow) (block : Block) (put_is : row
       → entry_after block.task (Deliver block.number) (entry_of items put) ≡ entry_of more put
   deliver_own put same =
       let state : State = if is_written items put.block then Delivered else Wanted in
-      let task : (put.block.task == block.task) ≡ true = ap (λ (b : Block). b.task == block.task) same ∙ itself block.task in
-      let number : (put.block.number == block.number) ≡ true = ap (λ (b : Block). b.number == block.number) same ∙ itself block.number in
+      let task : (put.block.task == block.task) ≡ true = ap (λ (b : Block). b.task == block.task) same
+          ∙ same_number block.task block.task refl in
+      let number : (put.block.number == block.number) ≡ true = ap (λ (b : Block). b.number == block.number) same
+          ∙ same_number block.number block.number refl in
       ap (λ s. let e : Entry = record { block = put.block; state = s } in e)
       (both (put.block.task == block.task) (put.block.number == block.number) state task number)
       ∙ ap (λ b. let e : Entry = record { block = put.block; state = if b then Delivered else Wanted } in e)

@@ -3,14 +3,14 @@ use Rattle.std.proofs.Common.{◌≡◌, ℕ, zero, suc, ◌+◌, ◌<◌, ◌�
 use Rattle.std.proofs.Common.{◌∙◌, arith, Option, Some, None, append_assoc, inl, inr, subst, ◌⊎◌, min, map, take, get_or}
 use Rattle.std.specs.Prelude.{slice_get, IfSome, nat_le, ◌==◌, filter, unwrap_or}
 use Rattle.std.specs.Option.{option_map}
-use Rattle.std.specs.List.{list_any, AllByRecursion, fold}
+use Rattle.std.specs.List.{AllByRecursion, fold}
 use Rattle.std.proofs.lemmas.Bool.Decides.{nat_tests}
 use Rattle.std.proofs.lemmas.Bool.{cases_lt}
 use Rattle.fb_units.proofs.Lists.{all_filter, all_weaker}
 use Rattle.fb_units.specs.declared.types.Track.{Track}
 use Rattle.fb_units.specs.declared.types.Request.{Request}
 use Rattle.fb_service.specs.declared.disk.Disk.{Disk}
-use Rattle.fb_model.specs.PlainReplay.{Key, has_arrived, better, first_least, first_ready, start_of, service, finish, last_track, plain}
+use Rattle.fb_model.specs.PlainReplay.{Key, better, first_least, first_ready, start_of, service, finish, last_track, plain}
 use Rattle.fb_model.specs.PlainReplay.{Served}
 use Rattle.fb_model.specs.Accepted.{IsRequestOf}
 use Rattle.fb_decide.specs.Waiting.{left, IsWaiting, AreByArrival}

@@ -28,13 +28,13 @@ use Rattle.fb_model.specs.History.{is_open_backup}
 use Rattle.fb_model.specs.Completion.{choices, work, is_complete, was_complete}
 use Rattle.fb_model.specs.Images.{findings, is_scrub, bad_sectors, segment_rows, seal_rows, complete_rows, is_newly_cleaned, image, packed}
 use Rattle.fb_model.specs.Images.{test_rows}
-use Rattle.fb_model.specs.Steps.{Delivery, Step, decision_in, take_call, calls_due, with_delivery, with_finish, chosen_past, past_after}
+use Rattle.fb_model.specs.Steps.{Delivery, Step, decision_in, with_delivery, with_finish, chosen_past, past_after}
 use Rattle.fb_model.specs.Steps.{opening, step_rows, task_row, task_rows}
 use Rattle.fb_model.specs.SoundRun.{AreFollowed}
 use Rattle.fb_tasks.specs.declared.session.Session.{Session}
 use Rattle.fb_tasks.specs.Telling.{Tells, IsBlockOf, calls_of}
 use Rattle.fb_tasks.proofs.Rules.{opened_same}
-use Rattle.fb_tasks.proofs.AllChoices.{all_range, by_all}
+use Rattle.fb_tasks.proofs.AllChoices.{all_range}
 use Rattle.fb_decide.proofs.Placing.{in_order-each}
 use Rattle.fb_decide.proofs.RegisteredBlocks.{registered_after, tasks_more}
 use Rattle.fb_decide.specs.Making.{IsMade, RowFits}

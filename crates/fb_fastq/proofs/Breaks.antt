@@ -4,11 +4,6 @@ use Rattle.fb_fastq.proofs.Words.{Track, Request, Disk, Candidate, Visit, Ray, S
 use Rattle.fb_fastq.proofs.Words.{AllHeld, IsAlong, IsBefore, ComesNoLaterBetween, ComesNoLaterUntil, IsNoFarther, subst}
 use Rattle.fb_fastq.proofs.Sweeps.{still_no_later}
 
--- what is so of any is so of the one, if there is one
-pub if_some : (P Q : Visit → Type 0) (visit : Option Visit) → ((v : Visit) → P v → Q v) → IfSome visit P → IfSome visit Q
-if_some P Q None all h = tt
-if_some P Q (Some v) all h = all v h
-
 -- what of a side is left where the walk broke off
 abbrev pub left_of : Side → Option Visit → ℕ
 left_of side None = 0

@@ -15,7 +15,6 @@ use Rattle.fb_calls.specs.declared.call.Call.{Call}
 use Rattle.fb_calls.specs.Allowed.{Terms}
 use Rattle.fb_calls.specs.Blocks.{live_cuts}
 use Rattle.fb_calls.specs.Sessions.{is_backup, is_clean}
-use Rattle.fb_sectormap.specs.declared.cut.Cut.{Cut}
 use Rattle.fb_sectormap.specs.Cutting.{cutting}
 use Rattle.fb_store.specs.Runs.{runs_of}
 use Rattle.fb_wanted.specs.declared.block.Block.{Block}
@@ -34,7 +33,7 @@ use Rattle.fb_model.specs.History.{is_seal_of, is_sealed, is_open_backup, bare_s
 use Rattle.fb_model.specs.History.{wanted}
 use Rattle.fb_model.specs.Completion.{segment_by, segments, Choice, choices, is_close, is_closed, is_segment_of, is_reported, own_of, Work}
 use Rattle.fb_model.specs.Completion.{work, is_done, is_complete, was_complete}
-use Rattle.fb_model.specs.Segments.{numbered, next_blocks, is_better, unchosen, is_busy, choose_best, choose_once, choose_up_to}
+use Rattle.fb_model.specs.Segments.{numbered, is_better, unchosen, is_busy, choose_best, choose_once, choose_up_to}
 use Rattle.fb_model.specs.Segments.{choose_in, with_choices}
 use Rattle.fb_model.specs.Images.{bad_sectors, is_scrub, findings, held_at_delivery, packed, is_newly_cleaned, segment_rows, image}
 use Rattle.fb_model.specs.Images.{segment_row, seal_rows, complete_rows, test_rows}

@@ -1,6 +1,6 @@
 -- Lists of values beside the data that they stand for.
 use Rattle.fb_params.proofs.Words.{◌≡◌, ℕ, zero, suc, ◌<◌, ◌≤◌, length, slice_index, get_or, true, arith, Bool, List, [], ◌∷◌, map, take}
-use Rattle.fb_params.proofs.Words.{Some, unwrap_or, refl, sym, ap, subst, ◌∙◌, list_all, and_parts, take_all, list_all-map, Data, string}
+use Rattle.fb_params.proofs.Words.{Some, unwrap_or, refl, sym, ap, subst, ◌∙◌, list_all, and_parts, take_all, Data, string}
 use Rattle.fb_params.proofs.Words.{integer, float, boolean, datetime, array, table, Items, as_array, view, items_of, Value, nth, elements}
 use Rattle.fb_params.proofs.Words.{listed, number_of}
 

@@ -16,7 +16,7 @@ use fb_units::{NoMemory, Place, Track};
 use std::alloc::Global;
 use toml::{Table, Value};
 
-// The geometry of the file's outline, or its first fault.
+// The geometry of the file's outline, or its first fault, or `NoMemory`.
 pub fn geometry_of(alloc: Global, layout: Layout, table: &Table) -> Result<Geometry, ParamsError>
     requires { keeps Rule.InRange layout (table_view table.now) ≡ Ok tt }
     ensures { Answers (λ geometry. geometry) result (possible_outline (outline_of layout (table_view table.now))) }

@@ -27,7 +27,8 @@ pub struct Parameters {
     pub latent: Vec<u64>,
 }
 
-// The parameters that a table describes, or the first fault of the disk that it describes.
+// The parameters that a table describes, or the first fault of the disk that it
+// describes, or `NoMemory`.
 #[tactic(auto, unfolding(crate::specs::Reading::params_of_table))]
 pub fn params_of_table(
     alloc: Global,

@@ -15,7 +15,8 @@ use fb_units::NoMemory;
 use std::alloc::Global;
 use toml::{Table, Value};
 
-// The mechanism that a file describes for a disk of this many cylinders, or its first fault.
+// The mechanism that a file describes for a disk of this many cylinders, or its first
+// fault, or `NoMemory`.
 pub fn mechanism_of(alloc: Global, cylinders: u32, table: &Table) -> Result<Mechanism, ParamsError>
     requires { list_all (is_row_within (from_to 0 (10 ^ 9))) (elements_at (codes "seek") (table_view table.now)) ≡ true }
     ensures value { Answers (λ mechanism. mechanism) result (possible_arm (mechanics_of cylinders (table_view table.now))) }

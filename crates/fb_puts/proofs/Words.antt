@@ -11,10 +11,9 @@ pub use Rattle.std.proofs.lemmas.Bool.{and_parts, cases_Bool, cases_lt, leb-true
 pub use Rattle.std.proofs.lemmas.Bool.Decides.{nat_tests}
 pub use Rattle.std.proofs.lemmas.List.{drop_all, length_push, map_push}
 pub use Rattle.std.proofs.lemmas.List.Sums.{sum_by-cons}
-pub use Rattle.std.proofs.lemmas.Option.{slice_get_within}
 pub use Rattle.std.proofs.lemmas.Result.{err_from_is_err_and}
 pub use Rattle.fb_units.proofs.Comparing.{rising_push}
-pub use Rattle.fb_units.proofs.Lists.{all_get, get_left, get_right, all_push, all_weaker}
+pub use Rattle.fb_units.proofs.Lists.{all_get, get_right, all_push, all_weaker}
 pub use Rattle.fb_units.specs.Lines.{fields_of, lines_of}
 pub use Rattle.fb_units.specs.Rising.{IsRising}
 pub use Rattle.fb_calls.specs.Allowed.{tasks, terms_of}

@@ -18,7 +18,7 @@ pub use Rattle.std.proofs.lemmas.List.{take_more}
 pub use Rattle.std.proofs.lemmas.List.Folds.{list_all-append, list_any-append}
 pub use Rattle.std.proofs.lemmas.List.Splits.{join_with_byte-slice_split, length-slice_split, slice_split-cons_no, slice_split-cons_yes}
 pub use Rattle.std.proofs.lemmas.List.Splits.{slice_split_first, slice_split_none}
-pub use Rattle.std.proofs.lemmas.List.Sums.{AllPass-from_list_all, fails_before_first, position_or_len_is, sum_by-append}
+pub use Rattle.std.proofs.lemmas.List.Sums.{AllPass-from_list_all, fails_before_first, sum_by-append}
 pub use Rattle.std.proofs.lemmas.Option.{get_or_from_slice_get, slice_get-map, slice_get_within}
 pub use Rattle.std.proofs.lemmas.Result.{IfOk-weaker, on_ok_weaker}
 pub use Rattle.hex.specs.Hex.{encode_lower, lower_digits}

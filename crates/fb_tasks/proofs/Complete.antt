@@ -11,7 +11,6 @@ use Rattle.fb_tasks.proofs.Words.{all_any, all_weaker, nat_tests, and-false, lis
 use Rattle.fb_tasks.proofs.Words.{Session, is_none, is_worked_off, are_over, complete_as, complete_by, length-filter, BackRow, TaskLine}
 use Rattle.fb_tasks.proofs.Words.{task_row, map-range_with_len_more}
 use Rattle.fb_tasks.proofs.States.{seen, shown, shown_delivered, shown_aborted}
-use Rattle.std.proofs.lemmas.List.Sums.{count_by-le-length}
 use Rattle.fb_model.specs.History.{blocks_of}
 use Rattle.fb_wanted.specs.Numbering as numbering
 use Rattle.fb_clean.specs.Segments as clean

@@ -1,5 +1,5 @@
 -- Two reports, written one behind the other.
-use Rattle.std.proofs.Common.{◌≡◌, ◌≢◌, ℕ, List, Option, Some, None, sym, subst, ◌∙◌, inl, inr}
+use Rattle.std.proofs.Common.{◌≡◌, ◌≢◌, ℕ, List, Option, Some, sym, subst, ◌∙◌, inr}
 use Rattle.std.specs.Prelude.{codes}
 use Rattle.fb_rows.specs.declared.run.Run.{Run}
 use Rattle.fb_desk.specs.Calls.{Rose, ChangesOutput}

@@ -6,7 +6,7 @@ use Rattle.fb_desk.specs.View.{DeskView}
 use Rattle.fb_desk.specs.declared.desk.Input.TheVariants.{Params, Trace, Calls, Puts, ForeReport, BackReport}
 use Rattle.fb_desk.specs.declared.desk.Output.{Output}
 use Rattle.fb_words.specs.Command.{Terms, replays, makes, checks, arrays}
-use Rattle.fb_top.specs.Sources.{InputTerms, SourceTerms, files_alone}
+use Rattle.fb_top.specs.Sources.{SourceTerms, files_alone}
 use Rattle.fb_words.specs.declared.fault.UsageFault.{UsageFault}
 use Rattle.fb_top.specs.Causes.{KeepsLater}
 use Rattle.fb_top.specs.Unnamed.{KeepsInputs, KeepsUnnamed, LeavesUnnamed}

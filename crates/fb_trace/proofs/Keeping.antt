@@ -1,7 +1,7 @@
 -- What is accepted of a trace is fit for a replay.
 use Rattle.std.proofs.Common.{◌≡◌, ℕ, ◌+◌, ◌≤◌, ◌^◌, List, [], ◌∷◌, ◌++◌, length, false, refl, sym, ap, ◌∙◌, inl, inr, subst, arith}
-use Rattle.std.proofs.Common.{Option, Some, None, Result, Ok, Err}
-use Rattle.std.specs.Prelude.{IfOk, map, nat_lt, ◌==◌}
+use Rattle.std.proofs.Common.{Option, Some, None, Ok}
+use Rattle.std.specs.Prelude.{map, nat_lt, ◌==◌}
 use Rattle.std.specs.List.{AllByRecursion, range_with_len}
 use Rattle.std.proofs.lemmas.Bool.{cases_Bool}
 use Rattle.std.proofs.lemmas.Bool.Decides.{nat_tests}
@@ -18,9 +18,6 @@ use Rattle.fb_units.specs.declared.types.Name.TheVariants.{Traced}
 use Rattle.fb_units.proofs.Judged.{both_ok, value_ok, test_ok, step_ok, millis_small}
 use Rattle.fb_trace.proofs.Lists.{all_push, all_weaker}
 use Rattle.fb_trace.specs.declared.entry.Entry.{Entry}
-use Rattle.fb_trace.specs.declared.trace.Trace.{Trace}
-use Rattle.fb_units.specs.declared.read_error.ReadError.{ReadError}
-use Rattle.fb_trace.specs.declared.trace.TraceFault.{TraceFault}
 use Rattle.fb_trace.specs.declared.trace.TraceReason.TheVariants.{BadTime, BadNumber, OutOfOrder, Empty, TooLarge, BeyondDisk, TooMany}
 use Rattle.fb_trace.specs.declared.reader.Line.{Line}
 use Rattle.fb_trace.specs.declared.reader.Line.TheVariants.{Blank, PassedOver, Asked}
@@ -28,7 +25,6 @@ use Rattle.fb_trace.specs.Entry.{entry_of, spelled}
 use Rattle.fb_trace.specs.Line.{request_of, of_device, entry_after, added_by, line_of}
 use Rattle.fb_trace.specs.Servable.{IsServable, IsTraceOf}
 use Rattle.fb_trace.specs.Reading.{Accepted, Progress, at_start, with_line, fault_at, next_progress, lines_from, trace_of}
-use Rattle.fb_trace.specs.Verdict.{Answers, accepted}
 
 -- a request that may come next
 record IsNext (sectors : ℕ) (so_far : Progress) (request : Request) : Type 0 where

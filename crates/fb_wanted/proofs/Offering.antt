@@ -4,7 +4,7 @@ use Rattle.std.proofs.Common.{filter, map, set, slice_get, get_or, refl, ap, sym
 use Rattle.std.specs.List.{sum_by}
 use Rattle.std.proofs.lemmas.Bool.{cases_Bool, cases_eq, cases_lt, true≢false}
 use Rattle.std.proofs.lemmas.List.{length-map, length-set, map-append}
-use Rattle.std.proofs.lemmas.List.Sums.{sum_by-cons, sum_by_push, sum_by-swap_remove}
+use Rattle.std.proofs.lemmas.List.Sums.{sum_by_push, sum_by-swap_remove}
 use Rattle.std.proofs.lemmas.Option.{same_Some, slice_get_within, get_or_from_slice_get}
 use Rattle.fb_units.proofs.Counts.{each_one, filter-le}
 use Rattle.fb_units.proofs.Tracks.{same_tracks, track_itself}

@@ -1,7 +1,8 @@
+use Rattle.std.proofs.lemmas.Option.{IfSome_then}
 use Rattle.fb_fastq.proofs.Words.{◌≡◌, ◌*◌, ◌^◌, ◌<◌, sym, subst, Option, Some, IfSome, Ray, Visit, IsNoFarther, IsReached}
-use Rattle.fb_fastq.proofs.Words.{ComesNoLaterUntil, beyond}
+use Rattle.fb_fastq.proofs.Words.{ComesNoLaterUntil}
 use Rattle.fb_fastq.proofs.Sweeps.{no_later_trans}
-use Rattle.fb_fastq.proofs.Breaks.{if_some, goes_on, reached_later, still_outside, left_of, less_left}
+use Rattle.fb_fastq.proofs.Breaks.{goes_on, reached_later, still_outside, left_of, less_left}
 use Rattle.fb_fastq.proofs.soonest.soonest_on.Goals as goal
 
 module _ (P : Visit → Type 0) {full : Option Visit} {visit : Visit} where
@@ -34,9 +35,7 @@ loop-walked-preserved c =
           (no_later_trans best.wait best.key.1 old.wait old.key.1 c.args.first.wait c.args.first.key.1
           first c.loop-walked.invariant.before);
       full = more.full;
-      reached = if_some (λ v. IsReached side (beyond side visit.lane.start) v.lane.start) (λ v. IsReached side start v.lane.start)
-          new.full
-          (λ v more. reached_later side start visit.lane.start v.lane.start reached more) further;
+      reached = IfSome_then new.full further (λ v more. reached_later side start visit.lane.start v.lane.start reached more);
       seen = goes_on disk head now waiting c.requires.spots old best new.best c.args.ray
           c.beyond-rest.result visit new.full first more.first
           c.beyond-rest.ensures seen lane more.least;
