@@ -1,9 +1,10 @@
-use Rattle.std.proofs.Common.{◌+◌, ◌≤◌, ap, sym, ◌∙◌, arith, subst, take, get_or}
+use Rattle.std.proofs.Common.{◌+◌, ◌≤◌, ap, sym, ◌∙◌, arith, subst, take, get_or, false}
 use Rattle.std.specs.Prelude.{◌<◌, IfSome}
 use Rattle.std.specs.List.{AllByRecursion}
 use Rattle.std.proofs.lemmas.List.{take_more}
 use Rattle.std.proofs.lemmas.Option.{slice_get-get_or, slice_get_past}
 use Rattle.fb_units.proofs.Lists.{all_at, all_push}
+use Rattle.fb_units.specs.declared.types.Name.TheVariants.{Traced}
 use Rattle.fb_units.specs.declared.types.Request.{Request}
 use Rattle.fb_model.specs.Accepted.{IsRequestOf}
 use Rattle.fb_decide.proofs.Decided.{next_joined}
@@ -24,14 +25,17 @@ loop-next-preserved g c =
     let waiting = g.Q.Queue.pending c.loop-next.queue in
     let has_come = λ (r : Request). r.arrival ≤ c.args.now in
     let added = c.in_ok-add.ensures.ok in
-    let within = c.loop-next-test.true in record {
+    let within = c.loop-next-test.true in
+    let joins = get_or requests next _ in
+    record {
       within = omega (arith, within);
       serves = c.in_ok-add.ensures.serves;
       counted = c.in_ok-add.ensures.counted ∙ ap (λ n. n + 1) before.counted;
       same = next_joined requests waiting (g.Q.Queue.pending c.add.new.self) next _ within added ∙ before.same;
-      arrived = subst (AllByRecursion has_come) (sym added) (all_push has_come waiting _ before.arrived c.if-requests-next.true);
+      arrived = subst (AllByRecursion has_come) (sym added)
+          (all_push has_come waiting joins before.arrived (omega (arith, c.if-requests-next.true)));
       come = subst (AllByRecursion has_come) (sym (take_more requests next _ within))
-          (all_push has_come (take next requests) _ before.come c.if-requests-next.true);
+          (all_push has_come (take next requests) joins before.come (omega (arith, c.if-requests-next.true)));
     }
 
 pub returns-after-loop-next-clause-ahead : goal.returns-after-loop-next-clause-ahead
@@ -40,5 +44,6 @@ returns-after-loop-next-clause-ahead g c =
 
 pub returns-else-requests-next-clause-ahead : goal.returns-else-requests-next-clause-ahead
 returns-else-requests-next-clause-ahead g c =
+    let none : Request = record { name = Traced 0; arrival = 0; lbn = 0; count = 0; write = false } in
     subst (λ next. IfSome next (λ r. c.args.now < r.arrival))
-    (sym (slice_get-get_or c.args.requests.now c.loop-next.next _ c.loop-next-test.true)) c.if-requests-next.false
+    (sym (slice_get-get_or c.args.requests.now c.loop-next.next none c.loop-next-test.true)) (omega (arith, c.if-requests-next.false))
