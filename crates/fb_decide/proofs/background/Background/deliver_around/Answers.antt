@@ -56,35 +56,24 @@ ride-requires-clause-early g c = extents-begin c.args.disk.now c.args.start.head
     (ap (all_passages_of c.args.disk.now.map) c.as_slice.ensures ∙ c.in_ok-service.ensures.passages)
     c.in_ok-service.ensures.finish (omega (arith, c.requires.start.instant, c.requires.start.request.few, c.in_ok-service.ensures.soon))
 
-pub returns-clause-media : goal.returns-clause-media
-returns-clause-media g c = c.in_ok-service.ensures.media
-
-pub returns-clause-finish : goal.returns-clause-finish
-returns-clause-finish g c = c.in_ok-service.ensures.finish
-
-pub returns-clause-head : goal.returns-clause-head
-returns-clause-head g c = c.in_ok-service.ensures.last_track
-
-pub returns-clause-on_disk : goal.returns-clause-on_disk
-returns-clause-on_disk g c = c.in_ok-service.ensures.on_disk
-
-pub returns-clause-each : goal.returns-clause-each
-returns-clause-each g c = c.in_ok-service.ensures.each
-
-pub returns-clause-later : goal.returns-clause-later
-returns-clause-later g c = omega (arith, c.in_ok-service.ensures.after, c.in_ok-service.ensures.later)
-
-pub returns-clause-soon : goal.returns-clause-soon
-returns-clause-soon g c = c.in_ok-service.ensures.soon
-
-pub returns-clause-delivered : goal.returns-clause-delivered
-returns-clause-delivered g c = λ past current.
+pub returns : goal.returns
+returns g c =
     let disk = c.args.disk.now in
-    let served = service disk c.args.start.head c.args.start.instant c.args.start.request in
-    let gap =
-    gap_from c.args.start.head c.args.start.instant c.args.start.request.write c.place.result.track c.in_ok-service.service.media in
-    has-delivered-around disk c.args.store.now served c.best-plan.result past gap c.args.self.now.rows c.go_through.new.self c.ride.new.self
-    (gap-is disk c.args.start.head c.args.start.instant c.args.start.request c.place.result.track c.in_ok-service.service.media
-    (ap (λ p. p.track) c.place.ensures.value) c.in_ok-service.ensures.media)
-    (subst (λ blocks. IsBest disk gap blocks c.best-plan.result) (wanted-told current.tells) c.best-plan.ensures)
-    (c.in_ok-go_through.ensures.delivered past current) (c.in_ok-go_through.ensures.left past current) c.in_ok-ride.ensures
+    let start = c.args.start in
+    let passes = c.in_ok-service.ensures in
+    let gap = gap_from start.head start.instant start.request.write c.place.result.track c.in_ok-service.service.media in
+    record {
+      media = passes.media;
+      finish = passes.finish;
+      head = passes.last_track;
+      on_disk = passes.on_disk;
+      each = passes.each;
+      later = omega (arith, passes.after, passes.later);
+      soon = passes.soon;
+      delivered = λ past current. has-delivered-around disk c.args.store.now (service disk start.head start.instant start.request)
+          c.best-plan.result past gap c.args.self.now.rows c.go_through.new.self c.ride.new.self
+          (gap-is disk start.head start.instant start.request c.place.result.track c.in_ok-service.service.media
+          (ap (λ p. p.track) c.place.ensures.value) passes.media)
+          (subst (λ blocks. IsBest disk gap blocks c.best-plan.result) (wanted-told current.tells) c.best-plan.ensures)
+          (c.in_ok-go_through.ensures.delivered past current) (c.in_ok-go_through.ensures.left past current) c.in_ok-ride.ensures;
+    }
