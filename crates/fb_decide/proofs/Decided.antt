@@ -17,7 +17,7 @@ use Rattle.fb_decide.specs.Waiting.{left, IsWaiting, AreByArrival}
 use Rattle.fb_model.specs.Laws.{IsFirstLeast, IsPickOf}
 use Rattle.fb_model.proofs.Picks.{pick_of-first_least}
 use Rattle.fb_model.proofs.Picks.{all_without}
-use Rattle.std.proofs.lemmas.List.{length-append, drop_more}
+use Rattle.std.proofs.lemmas.List.{length-append, drop_more, nil_from_length}
 use Rattle.fb_units.specs.Rising.{IsRising}
 use Rattle.fb_units.proofs.Filtered.{rising_filter}
 use Rattle.fb_units.proofs.Comparing.{after_is, by_is}
@@ -93,9 +93,6 @@ pub plain_next : (n : ℕ) (disk : Disk) (key : Key) (head : Track) (now : ℕ) 
 unfolding plain
 plain_next n disk key head now left start pick rest e f = rw (← e) (rw f refl)
 
-not_none : (n : ℕ) → true ≡ (suc n == 0) → ⊥
-not_none n e = grind (arith, nat_tests)
-
 pub taken : (P : Request → Type 0) (key : Request → ℕ) (ps : List Request) (r : Request) (rest : List Request) → AllByRecursion P ps
     → first_least key ps ≡ Some (r, rest)
     → P r × (AllByRecursion P rest × (length rest + 1 ≡ length ps))
@@ -128,14 +125,14 @@ join_waiting {disk} h within counted same arrived = record {
   on_disk = subst (AllByRecursion (IsRequestOf disk.map)) (sym same) h.on_disk;
 }
 
--- one more of them
+-- one more of them joins: the same are left
 pub next_joined : (requests before after : List Request) (i : ℕ) (d : Request) → i < length requests
     → after ≡ before ++ get_or requests i d ∷ [] → left requests (i + 1) after ≡ left requests i before
 next_joined requests before after i d within is =
     ap (λ ps. ps ++ drop (i + 1) requests) is ∙ (append_assoc before (get_or requests i d ∷ []) (drop (i + 1) requests)
     ∙ ap (λ rs. before ++ rs) (sym (drop_more requests i d within)))
 
--- while none waits, the head may stay
+-- where none waits, the same is so at any other instant
 pub still_waiting : {disk : Disk} {requests pending : List Request} {now later next after joined : ℕ}
     → IsWaiting disk requests now next joined pending → after ≡ next → pending ≡ [] → IsWaiting disk requests later after joined pending
 still_waiting {disk} {requests} {pending} {later = later} h same none = record {
@@ -156,13 +153,8 @@ pub one_more : (done : List Served) (served : Served) (before after whole : List
     → (done ++ served ∷ []) ++ after ≡ whole
 one_more done served before after whole e h = append_assoc done (served ∷ []) after ∙ ap (λ xs. done ++ xs) (sym e) ∙ h
 
-pub one_waits : (ps : List Request) → false ≡ (length ps == 0) → 0 < length ps
-one_waits [] e = grind (arith, nat_tests)
-one_waits (p ∷ ps) e = omega arith
-
 pub none_waits : (ps : List Request) → true ≡ (length ps == 0) → ps ≡ []
-none_waits [] e = refl
-none_waits (p ∷ ps) e = absurd (not_none (length ps) e)
+none_waits ps e = nil_from_length ps (grind (arith, nat_tests))
 
 -- ---- the next instant at which a request arrives or a call takes effect
 

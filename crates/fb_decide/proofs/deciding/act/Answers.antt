@@ -1,13 +1,15 @@
 use Rattle.std.proofs.Common.{◌≡◌, ◌≤◌, drop, length, sym, subst, ◌∙◌, arith}
 use Rattle.std.specs.List.{AllByRecursion}
+use Rattle.fb_units.proofs.Comparing.{some_number}
 use Rattle.fb_units.proofs.Lists.{all_weaker, all_append, all_left, all_right}
 use Rattle.fb_model.specs.Accepted.{IsRequestOf}
 use Rattle.fb_decide.specs.Deciding.{serves_pick, stays_on, stays_last, ends_here}
-use Rattle.fb_decide.proofs.Decided.{taken, none_waits, one_waits, still_waiting}
+use Rattle.fb_decide.proofs.Decided.{taken, none_waits, still_waiting}
 use Rattle.fb_decide.proofs.deciding.act.Goals as goal
 
 pub serve_next-requires-clause-some : goal.serve_next-requires-clause-some
-serve_next-requires-clause-some g c = one_waits (g.Q.Queue.pending c.args.queue.now) c.if-not-is_empty.ensures
+serve_next-requires-clause-some g c =
+    some_number (length (g.Q.Queue.pending c.args.queue.now)) (sym c.if-not-is_empty.ensures)
 
 pub serve_next-requires-clause-on_disk : goal.serve_next-requires-clause-on_disk
 serve_next-requires-clause-on_disk g c =
