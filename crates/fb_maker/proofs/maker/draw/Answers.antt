@@ -1,30 +1,24 @@
-use Rattle.fb_maker.proofs.Words.{◌+◌, ◌*◌, arith, refl}
+use Rattle.fb_maker.proofs.Words.{◌≡◌, ℕ, ◌+◌, ◌*◌, arith, refl, generator_after}
 use Rattle.fb_maker.proofs.Drawing.{is_word, is_state, is_request}
 use Rattle.fb_maker.proofs.maker.draw.Goals as goal
 
+-- the generator behind each of the first three words
+behind_words : (c : goal.After-next_word-4) (number : ℕ) → c.args.words.now ≡ generator_after number (4 * c.args.behind)
+    → (c.next_word.new.self ≡ generator_after number (4 * c.args.behind + 1))
+    × (c.next_word-2.new.self ≡ generator_after number (4 * c.args.behind + 2))
+    × (c.next_word-3.new.self ≡ generator_after number (4 * c.args.behind + 3))
+behind_words c number at =
+    let one = is_state _ _ _ _ _ _ refl at c.next_word.ensures in
+    let two = is_state _ _ (4 * c.args.behind + 2) _ _ _ (omega arith) one c.next_word-2.ensures in
+    (one, two, is_state _ _ _ _ _ _ (omega arith) two c.next_word-3.ensures)
+
 pub returns-clause-request : goal.returns-clause-request
 returns-clause-request c = λ number at before.
-    let i = c.args.behind in
-    let two = is_state number (4 * i) (4 * i + 1) c.next_word.result c.args.words.now c.next_word.new.self refl at c.next_word.ensures in
-    let three = is_state number (4 * i + 1) (4 * i
-    + 2) c.next_word-2.result c.next_word.new.self c.next_word-2.new.self (omega arith) two c.next_word-2.ensures in
-    let four = is_state number (4 * i + 2) (4 * i
-    + 3) c.next_word-3.result c.next_word-2.new.self c.next_word-3.new.self (omega arith) three c.next_word-3.ensures in
-    is_request number c.args.sectors i c.args.before c.next_word.result c.next_word-2.result c.next_word-3.result c.next_word-4.result
-    c.min-count.result before
-    (is_word number (4 * i) c.next_word.result c.args.words.now c.next_word.new.self at c.next_word.ensures)
-    (is_word number (4 * i + 1) c.next_word-2.result c.next_word.new.self c.next_word-2.new.self two c.next_word-2.ensures)
-    (is_word number (4 * i + 2) c.next_word-3.result c.next_word-2.new.self c.next_word-3.new.self three c.next_word-3.ensures)
-    (is_word number (4 * i + 3) c.next_word-4.result c.next_word-3.new.self c.next_word-4.new.self four c.next_word-4.ensures)
-    c.min-count.ensures
+    let behind = behind_words c number at in
+    is_request number c.args.sectors c.args.behind c.args.before _ _ _ _ _ before (is_word _ _ _ _ _ at c.next_word.ensures)
+    (is_word _ _ _ _ _ behind.0 c.next_word-2.ensures) (is_word _ _ _ _ _ behind.1 c.next_word-3.ensures)
+    (is_word _ _ _ _ _ behind.2 c.next_word-4.ensures) c.min-count.ensures
 
 pub returns-clause-words : goal.returns-clause-words
 returns-clause-words c = λ number at.
-    let i = c.args.behind in
-    let two = is_state number (4 * i) (4 * i + 1) c.next_word.result c.args.words.now c.next_word.new.self refl at c.next_word.ensures in
-    let three = is_state number (4 * i + 1) (4 * i
-    + 2) c.next_word-2.result c.next_word.new.self c.next_word-2.new.self (omega arith) two c.next_word-2.ensures in
-    let four = is_state number (4 * i + 2) (4 * i
-    + 3) c.next_word-3.result c.next_word-2.new.self c.next_word-3.new.self (omega arith) three c.next_word-3.ensures in
-    is_state number (4 * i + 3) (4 * (i + 1)) c.next_word-4.result c.next_word-3.new.self c.next_word-4.new.self
-    (omega arith) four c.next_word-4.ensures
+    is_state _ _ _ _ _ _ (omega arith) (behind_words c number at).2 c.next_word-4.ensures
