@@ -3,7 +3,7 @@ use Rattle.fb_maker.proofs.Words.{◌≡◌, ℕ, ◌+◌, ◌-◌, ◌*◌, ◌
 use Rattle.fb_maker.proofs.Words.{arith, append_assoc, subst, suc, inl, inr, Some, Ok, nat_lt, ◌==◌, decimal, codes, slice_get, list_all}
 use Rattle.fb_maker.proofs.Words.{flat_map, range_with_len, list_all-append, length-append, cases_Bool, nat_tests, lines_of, fields_of}
 use Rattle.fb_maker.proofs.Words.{whole_number, Shape, places, zone_places, data_list, IsSound, Zone, PerTrack, PerCylinder, cutting}
-use Rattle.fb_maker.proofs.Words.{first_zone, most, script_lines, script_text, script_calls, call_at, is_long, has_long_tracks}
+use Rattle.fb_maker.proofs.Words.{number_of, first_zone, most, script_lines, script_text, script_calls, call_at, is_long, has_long_tracks}
 use Rattle.fb_geometry.specs.declared.layout.Layout.{Layout}
 use Rattle.fb_calls.specs.declared.call.Action.TheVariants.{Open, Want}
 use Rattle.fb_calls.specs.declared.call.Kind.TheVariants.{Scrub, Backup}
@@ -38,52 +38,41 @@ line_three : (disk : Shape) (traced n : ℕ)
 unfolding fields_of line_read entry_of asked_by verb_of kind_of call_of task_for opened
 line_three disk traced n = refl
 
-want_fields : (verb name : List ℕ) (n : ℕ) → n < 2 ^ 64 → IsWord verb → IsWord name
-    → fields_of (codes "0.000000" ++ 32 ∷ (verb ++ 32 ∷ (name ++ 32 ∷ (codes "0" ++ 32 ∷ decimal n)))) ≡ codes "0.000000" ∷ verb ∷ name
+want_fields : (name : List ℕ) (n : ℕ) → n < 2 ^ 64 → IsWord name
+    → fields_of (codes "0.000000 want " ++ (name ++ 32 ∷ (codes "0" ++ 32 ∷ decimal n))) ≡ codes "0.000000" ∷ codes "want" ∷ name
     ∷ codes "0" ∷ decimal n ∷ []
-want_fields verb name n small wv wn =
-    field_then (codes "0.000000") (verb ++ 32 ∷ (name ++ 32 ∷ (codes "0" ++ 32 ∷ decimal n))) (record { some = omega arith; plain = refl })
-    ∙ ap (λ fields. codes "0.000000" ∷ fields) (field_then verb (name ++ 32 ∷ (codes "0" ++ 32 ∷ decimal n)) wv)
-    ∙ ap (λ fields. codes "0.000000" ∷ verb ∷ fields) (field_then name (codes "0" ++ 32 ∷ decimal n) wn)
-    ∙ ap (λ fields. codes "0.000000" ∷ verb ∷ name ∷ fields)
+want_fields name n small is =
+    field_then (codes "0.000000") (codes "want " ++ (name ++ 32 ∷ (codes "0" ++ 32 ∷ decimal n)))
+    (record { some = omega arith; plain = refl })
+    ∙ ap (λ fields. codes "0.000000" ∷ fields)
+    (field_then (codes "want") (name ++ 32 ∷ (codes "0" ++ 32 ∷ decimal n)) (record { some = omega arith; plain = refl }))
+    ∙ ap (λ fields. codes "0.000000" ∷ codes "want" ∷ fields) (field_then name (codes "0" ++ 32 ∷ decimal n) is)
+    ∙ ap (λ fields. codes "0.000000" ∷ codes "want" ∷ name ∷ fields)
     (field_then (codes "0") (decimal n) (record { some = omega arith; plain = refl }))
-    ∙ ap (λ fields. codes "0.000000" ∷ verb ∷ name ∷ codes "0" ∷ fields) (field_last (decimal n) (decimal_word n small))
+    ∙ ap (λ fields. codes "0.000000" ∷ codes "want" ∷ name ∷ codes "0" ∷ fields) (field_last (decimal n) (decimal_word n small))
+
+-- what is tested of a want: its sectors are on the disk, and cut into few blocks
+want_tests : (disk : Shape) (n blocks : ℕ) → 0 < n → n ≤ length (places disk) → n ≤ 10 ^ 12 → blocks ≤ 16 * 10 ^ 6
+    → (number_of (decimal n) ≡ Some n) × ((n == 0) ≡ false) × (nat_lt (length (places disk)) (0 + n) ≡ false)
+    × (nat_lt 16000000 blocks ≡ false)
+want_tests disk n blocks some inside small few =
+    (whole_number n (omega arith), grind (arith, nat_tests), grind (arith, nat_tests), grind (arith, nat_tests))
 
 line_two : (disk : Shape) (traced n : ℕ) → 0 < n → n ≤ length (places disk) → n ≤ 10 ^ 12 → length (cutting disk 16 0 n) ≤ 16 * 10 ^ 6
     → next_progress disk 2 (after_one disk traced) (codes "0.000000 want scrub 0 " ++ decimal n) ≡ Ok (after_two disk traced n)
 unfolding line_read entry_of asked_by verb_of call_of task_for allowed_for allowed
 line_two disk traced n some inside small few =
-    let number = whole_number n (omega arith) in
-    let is_some : (n == 0) ≡ false = grind (arith, nat_tests) in
-    let is_inside : nat_lt (length (places disk)) (0 + n) ≡ false = grind (arith, nat_tests) in
-    let are_few : nat_lt 16000000 (0 + length (cutting disk 16 0 n)) ≡ false = grind (arith, nat_tests) in
-    rw (
-      want_fields (codes "want") (codes "scrub") n (omega arith) (record { some = omega arith; plain = refl })
-          (record { some = omega arith; plain = refl }),
-      number,
-      is_some,
-      is_inside,
-      are_few,
-    ) refl
+    let is = want_tests disk n (0 + length (cutting disk 16 0 n)) some inside small (omega (arith, few)) in
+    rw (want_fields (codes "scrub") n (omega arith) (record { some = omega arith; plain = refl }), is.0, is.1, is.2, is.3) refl
 
 line_four : (disk : Shape) (traced n m : ℕ) → 0 < m → m ≤ length (places disk) → m ≤ 10 ^ 12
     → length (cutting disk 16 0 n) + length (cutting disk 16 0 m) ≤ 16 * 10 ^ 6
     → next_progress disk 4 (after_three disk traced n) (codes "0.000000 want backup 0 " ++ decimal m) ≡ Ok (after_four disk traced n m)
 unfolding line_read entry_of asked_by verb_of call_of task_for allowed_for allowed
 line_four disk traced n m some inside small few =
-    let number = whole_number m (omega arith) in
-    let is_some : (m == 0) ≡ false = grind (arith, nat_tests) in
-    let is_inside : nat_lt (length (places disk)) (0 + m) ≡ false = grind (arith, nat_tests) in
-    let are_few : nat_lt 16000000 (0 + length (cutting disk 16 0 n) + 0 + length (cutting disk 16 0 m)) ≡ false =
-    grind (arith, nat_tests) in
-    rw (
-      want_fields (codes "want") (codes "backup") m (omega arith) (record { some = omega arith; plain = refl })
-          (record { some = omega arith; plain = refl }),
-      number,
-      is_some,
-      is_inside,
-      are_few,
-    ) refl
+    let blocks = 0 + length (cutting disk 16 0 n) + 0 + length (cutting disk 16 0 m) in
+    let is = want_tests disk m blocks some inside small (omega (arith, few)) in
+    rw (want_fields (codes "backup") m (omega arith) (record { some = omega arith; plain = refl }), is.0, is.1, is.2, is.3) refl
 
 pub calls_more : (disk : Shape) (number : ℕ) (so_far next : Progress) (line : List ℕ) (lines : List (List ℕ))
     → next_progress disk number so_far line ≡ Ok next
