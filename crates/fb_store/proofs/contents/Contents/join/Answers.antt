@@ -1,26 +1,24 @@
-use Rattle.std.proofs.Common.{sym, ap, ◌∙◌, ◌-◌, arith, set}
+use Rattle.std.proofs.Common.{sym, ap, ◌∙◌, ◌-◌, ◌+◌, ◌≤◌, ◌^◌, arith, set}
 use Rattle.std.proofs.lemmas.Option.{get_or_from_slice_get}
 use Rattle.std.proofs.lemmas.Result.{on_ok_weaker}
 use Rattle.fb_store.proofs.Joined.{joined_last, pushed_last, joined-first, longer, some_run}
+use Rattle.fb_store.proofs.contents.Contents.join.Goals.{After-get-longer}
 use Rattle.fb_store.proofs.contents.Contents.join.Goals as goal
 
-pub overflow_add-longer : goal.overflow_add-longer
-overflow_add-longer c =
+-- the last run, made longer by the one that joins it, lies below 10^12 too
+no_longer : (c : After-get-longer) → c.get-longer.result.first + c.get-longer.result.count + c.args.run.count ≤ 10 ^ 12
+no_longer c =
     let goes_on = sym c.goes_on.ensures ∙ c.if-not-goes_on.false in
     let size = some_run c.args.self.now c.args.run goes_on in
-    let at = c.get-longer.ensures.value in
-    let first = joined-first c.args.self.now (c.len-last.result - 1) c.get-longer.result c.args.run (omega arith) at goes_on in
-    let range = c.requires.range in
-    omega arith
+    let first = joined-first c.args.self.now (c.len-last.result - 1) c.get-longer.result c.args.run (omega arith)
+        c.get-longer.ensures.value goes_on in
+    omega (arith, c.requires.range)
+
+pub overflow_add-longer : goal.overflow_add-longer
+overflow_add-longer c = omega (arith, no_longer (goal.at.overflow_add-longer c).After-get-longer)
 
 pub set-requires-clause-range : goal.set-requires-clause-range
-set-requires-clause-range c =
-    let goes_on = sym c.goes_on.ensures ∙ c.if-not-goes_on.false in
-    let size = some_run c.args.self.now c.args.run goes_on in
-    let at = c.get-longer.ensures.value in
-    let first = joined-first c.args.self.now (c.len-last.result - 1) c.get-longer.result c.args.run (omega arith) at goes_on in
-    let range = c.requires.range in
-    omega arith
+set-requires-clause-range c = omega (arith, no_longer (goal.at.set-requires-clause-range c).After-get-longer)
 
 pub returns-clause-ok : goal.returns-clause-ok
 returns-clause-ok c =
