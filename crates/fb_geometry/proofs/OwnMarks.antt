@@ -140,7 +140,7 @@ module _ (disk : Shape) (zones : HasZones disk) (defects grown : List Mark) (are
       λ e. ap (λ c. rank b.position (positions (marks_on c defects))) (sym e) in
       grind (arith, nat_tests, h, step, same, rank-below a.position numbers ascend, rank-below b.position numbers ascend)
 
-  pub grown_in_order : AreInOrder (map (among_unmarked defects) grown)
+  grown_in_order : AreInOrder (map (among_unmarked defects) grown)
   grown_in_order = pairwise-map (λ mark later. Among grown mark × (is_mark_before mark later ≡ true))
       (λ mark later. is_mark_before mark later ≡ true) (among_unmarked defects) (λ mark later h. unmarked_before mark later h.0 h.1) grown
       (each grown (λ mark one. one) those.ordered)
@@ -195,5 +195,5 @@ module _ (disk : Shape) (zones : HasZones disk) (defects grown : List Mark) (are
           let c = good.lies.cylinder_is in
           mark_by (among_unmarked defects (mark_of disk place)) cylinder q c (index_is place c (slot place one c).2 ∙ sym good.index)
 
-  pub own_marks : AreOwnMarks disk defects (map (among_unmarked defects) grown)
-  own_marks = record { defects_at = defects_indexed disk zones defects are; grown_at = grown_indexed }
+  pub own_marks : AreInOrder (map (among_unmarked defects) grown) × AreOwnMarks disk defects (map (among_unmarked defects) grown)
+  own_marks = (grown_in_order, record { defects_at = defects_indexed disk zones defects are; grown_at = grown_indexed })
