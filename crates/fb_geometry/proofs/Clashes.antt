@@ -1,13 +1,16 @@
 -- Places that are given twice, the marks of places that are given once, and tracks with more of them than spares.
+use denote.Ref.{Bor}
+use denote.Param.Members.{Mut}
+use Rattle.std.specs.Fn.{ComputesKey, Called}
 use Rattle.fb_units.proofs.Among.{Among, among-any, among-append, among-filtered, among-mapped, among-right, among-tail, any-among}
 use Rattle.fb_units.proofs.Among.{permuted}
-use Rattle.fb_units.proofs.Counts.{any_count, count_cons, same_count, sum_of}
+use Rattle.fb_units.proofs.Counts.{any_count, count_cons, same_count}
 use Rattle.fb_units.proofs.Lists.{all_get, all_weaker, append_at, filter_to, map_at, none_of_any}
 use Rattle.fb_units.proofs.Searches.{point-is}
 use Rattle.fb_geometry.proofs.Words.{All-from_get_or, AllByRecursion, AreInOrder, AreSorted, Bool, HasZones, IsDistinct}
-use Rattle.fb_geometry.proofs.Words.{IsDistinct-IsPermutation, IsPartitionPoint, IsPartitionedBy, IsPermutation, IsPermutation-map}
-use Rattle.fb_geometry.proofs.Words.{IsPermutation-sym, IsSortedBy, IsStrictWeakOrder, List, Mark, Pairwise, Place, Shape, Some, [], ap}
-use Rattle.fb_geometry.proofs.Words.{arith, cases_Bool, cases_lt, cond, drop, false, false_from_ne_true, filter, filter-append, find}
+use Rattle.fb_geometry.proofs.Words.{IsDistinct-IsPermutation, IsPartitionPoint, IsPartitionPoint-from_clause, IsPartitionedBy}
+use Rattle.fb_geometry.proofs.Words.{IsPermutation, IsPermutation-map, IsPermutation-sym, IsSortedBy, IsStrictWeakOrder, List, Mark}
+use Rattle.fb_geometry.proofs.Words.{Pairwise, Place, Shape, Some, [], ap, arith, cases_Bool, cases_lt, cond, drop, false, false_from_ne_true, filter, filter-append, find}
 use Rattle.fb_geometry.proofs.Words.{get_or, inl, inr, is_among, is_mark_before, is_outside, is_place_before, least, length, length-append}
 use Rattle.fb_geometry.proofs.Words.{list_any, list_any-IsPermutation, lt-ltb, ltb-true, map, mark_of, nat_tests, none-some, option_map}
 use Rattle.fb_geometry.proofs.Words.{recursion_from_All, refl, repeated, same_mark, same_place, slice_get, sorted_far, suc, sym, true}
@@ -286,21 +289,15 @@ least_full {K = K} before order key so full places sorted are =
 
 -- ---- how many are on a track or cylinder
 
-pub partitioned : (test : Place → Bool) → ((a b : Place) → is_place_before b a ≡ false → test b ≡ true
-    → test a ≡ true) → (sorted : List Place)
-    → Pairwise (λ place later. is_place_before later place ≡ false) sorted → IsPartitionedBy test sorted
-partitioned test so sorted up = pairwise_upto (λ place later. is_place_before later place ≡ false) (λ a b. test b ≡ true → test a ≡ true)
-    so (λ a passes. passes) sorted up
-
--- between the points stand those of the track or cylinder
-pub between : (upto under same : Place → Bool)
-    → ((place : Place) → cond {A = ℕ} (upto place) 1 0 ≡ cond (under place) 1 0 + cond (same place) 1 0) → (places sorted : List Place)
-    → AreSorted places sorted
-    → (first behind : ℕ) → first ≤ length sorted → behind ≤ length sorted
-    → IsPartitionPoint (λ place. under place ≡ true) (λ place. under place ≡ false) sorted first
-    → IsPartitionPoint (λ place. upto place ≡ true) (λ place. upto place ≡ false) sorted behind
-    → behind ≡ first + length (filter same places)
-between upto under same sum places sorted are first behind h k low high =
-    let before = point-is under sorted first h low in
-    let through = point-is upto sorted behind k high in
-    omega (arith, before, through, sum_of upto under same sorted sum, same_count same places sorted are.same)
+-- a search finds how many pass a test if a place before one that passes it passes it too
+pub passing : {F : Type 0} {g : Mut F (Bor Place × Unit {0}) Bool} {f : F} (test : Place → Bool)
+    → ((a b : Place) → is_place_before b a ≡ false → test b ≡ true → test a ≡ true)
+    → (places sorted : List Place) → AreSorted places sorted → (i : ℕ) → i ≤ length sorted
+    → ((q : Place → Bool) → ComputesKey g q f → IsPartitionedBy q sorted
+    → IsPartitionPoint (λ place. q place ≡ true) (λ place. q place ≡ false) sorted i)
+    → ((a : Bor Place × Unit {0}) (r : Bool) (f' : F) → Called g f a r f' → (r ≡ test a.0.now) × (f' ≡ f))
+    → length (filter test places) ≡ i
+passing test so places sorted are i h finds called = sym (same_count test places sorted are.same)
+    ∙ point-is test sorted i h (IsPartitionPoint-from_clause test sorted i finds
+    (pairwise_upto (λ place later. is_place_before later place ≡ false) (λ a b. test b ≡ true → test a ≡ true) so (λ a passes. passes)
+    sorted are.rise) called)

@@ -1,6 +1,7 @@
-use Rattle.fb_geometry.proofs.Words.{IsPartitionPoint-from_clause, Place, arith, filter, length, nat_le, nat_lt, nat_tests, refl, rules}
+use Rattle.fb_units.proofs.Counts.{sum_of}
+use Rattle.fb_geometry.proofs.Words.{Place, arith, filter, length, nat_le, nat_lt, nat_tests, refl, rules}
 use Rattle.fb_geometry.proofs.Words.{◌++◌, ◌+◌, ◌-◌, ◌==◌, ◌≡◌}
-use Rattle.fb_geometry.proofs.{Faultless.cylinder_spares_at-zone, Clashes.between, Clashes.partitioned}
+use Rattle.fb_geometry.proofs.{Faultless.cylinder_spares_at-zone, Clashes.passing}
 use Rattle.fb_geometry.proofs.outline.Outline.is_full_cylinder.Goals as goal
 
 counted : (c : goal.After-partition_point-behind)
@@ -11,12 +12,12 @@ counted c =
     let cylinder = c.args.place.track.cylinder in
     let under = λ (place : Place). nat_lt place.track.cylinder cylinder in
     let upto = λ (place : Place). nat_le place.track.cylinder cylinder in
-    between upto under (λ place. place.track.cylinder == cylinder) (λ place. grind (arith, nat_tests)) _ _ c.requires.sorted _ _
-    c.partition_point-first.ensures.bound c.partition_point-behind.ensures.bound
-    (IsPartitionPoint-from_clause under _ _ c.partition_point-first.ensures.partitioned
-    (partitioned under (λ a b h k. grind (arith, nat_tests)) _ c.requires.sorted.rise) (λ a r f called. search rules))
-    (IsPartitionPoint-from_clause upto _ _ c.partition_point-behind.ensures.partitioned
-    (partitioned upto (λ a b h k. grind (arith, nat_tests)) _ c.requires.sorted.rise) (λ a r f called. search rules))
+    let before = passing under (λ a b h k. grind (arith, nat_tests)) _ _ c.requires.sorted _ c.partition_point-first.ensures.bound
+    c.partition_point-first.ensures.partitioned (λ a r f called. search rules) in
+    let through = passing upto (λ a b h k. grind (arith, nat_tests)) _ _ c.requires.sorted _ c.partition_point-behind.ensures.bound
+    c.partition_point-behind.ensures.partitioned (λ a r f called. search rules) in
+    omega (arith, before, through, sum_of upto under (λ place. place.track.cylinder == cylinder) (c.args.self.now.defects ++ c.args.self.now.grown)
+    (λ place. grind (arith, nat_tests)))
 
 pub overflow_sub-result : goal.overflow_sub-result
 overflow_sub-result c = omega (arith, counted c)
