@@ -7,6 +7,7 @@ use Rattle.std.specs.List.{AllByRecursion, range_with_len}
 use Rattle.std.proofs.lemmas.Bool.Decides.{nat_tests}
 use Rattle.std.proofs.lemmas.List.{length_push, length-map}
 use Rattle.std.proofs.lemmas.Option.{slice_get-map}
+use Rattle.fb_units.proofs.Each.{all_unmapped}
 use Rattle.fb_units.proofs.Lists.{same_Ok}
 use Rattle.fb_units.specs.Judging.{◌>>=◌}
 use Rattle.fb_units.specs.Lines.{fields_of, lines_of}
@@ -25,7 +26,7 @@ use Rattle.fb_trace.specs.Reading.{Accepted, fault_at, lines_from, trace_of}
 use Rattle.fb_trace.specs.Servable.{IsTraceOf}
 use Rattle.fb_trace.specs.Verdict.{Answers, AreTracesOf, accepted}
 use Rattle.fb_trace.proofs.ByDevice.{same_below, same_after, refused_at, each_device, all_accepted}
-use Rattle.fb_trace.proofs.Lists.{one_of_all, all_replicate, all_unmap}
+use Rattle.fb_trace.proofs.Lists.{one_of_all, all_replicate}
 use Rattle.fb_trace.proofs.Keeping.{asked_arrival, fit_trace}
 
 -- nothing is passed over by a device that hasn't more requests than all have
@@ -258,7 +259,7 @@ pub fit_traces : (devices sectors : ℕ) (text : List ℕ) (result : Result (Vec
     → Answers (λ traces. map accepted traces.items) result (traces_of devices sectors text)
     → IfOk result (λ traces. AllByRecursion (λ trace. IsTraceOf sectors trace.requests.items) traces.items)
 fit_traces devices sectors text (Ok traces) e =
-    all_unmap (λ (trace : Accepted). IsTraceOf sectors trace.requests) accepted traces.items
+    all_unmapped (λ (trace : Accepted). IsTraceOf sectors trace.requests) accepted traces.items
     (each_holds (λ (trace : Accepted). IsTraceOf sectors trace.requests) (λ device. trace_of device sectors text)
     (λ device trace is. fit_trace device sectors text trace is) 0 devices (map accepted traces.items) e)
 fit_traces devices sectors text (Err error) e = tt

@@ -8,7 +8,7 @@ use Rattle.std.proofs.lemmas.Bool.Decides.{nat_tests}
 use Rattle.std.proofs.lemmas.List.{map_push, length_push}
 use Rattle.std.proofs.lemmas.List.FromFn.{map-range_with_len_more}
 use Rattle.fb_units.proofs.Comparing.{rising_push, some_number}
-use Rattle.fb_units.proofs.Lists.{same_Ok}
+use Rattle.fb_units.proofs.Lists.{all_push, all_weaker, same_Ok}
 use Rattle.fb_units.specs.Judging.{or_refuse, refuse}
 use Rattle.fb_units.specs.Lines.{fields_of, lines_of}
 use Rattle.fb_units.specs.Numbers.{millis_of, number_of, flags_of}
@@ -16,7 +16,6 @@ use Rattle.fb_units.specs.Rising.{IsRising}
 use Rattle.fb_units.specs.declared.types.Request.{Request}
 use Rattle.fb_units.specs.declared.types.Name.TheVariants.{Traced}
 use Rattle.fb_units.proofs.Judged.{both_ok, value_ok, test_ok, step_ok, millis_small}
-use Rattle.fb_trace.proofs.Lists.{all_push, all_weaker}
 use Rattle.fb_trace.specs.declared.entry.Entry.{Entry}
 use Rattle.fb_trace.specs.declared.trace.TraceReason.TheVariants.{BadTime, BadNumber, OutOfOrder, Empty, TooLarge, BeyondDisk, TooMany}
 use Rattle.fb_trace.specs.declared.reader.Line.{Line}

@@ -1,19 +1,12 @@
 -- Facts of each element of a list.
-use Rattle.std.proofs.Common.{◌≡◌, ℕ, zero, suc, ◌+◌, ◌<◌, List, [], ◌∷◌, ◌++◌, length, get_or, take, drop, set, map, refl, sym, ap, ◌∙◌}
+use Rattle.std.proofs.Common.{◌≡◌, ℕ, zero, suc, ◌+◌, ◌<◌, List, [], ◌∷◌, length, get_or, take, drop, set, map, refl, sym, ap, ◌∙◌}
 use Rattle.std.proofs.Common.{arith, subst, length-drop}
 use Rattle.std.proofs.lemmas.List.{drop_more}
 use Rattle.std.specs.Prelude.{replicate}
 use Rattle.std.specs.List.{AllByRecursion}
+use Rattle.fb_units.proofs.Lists.{all_at}
 
 module _ {X : Type 0} (P : X → Type 0) where
-  pub all_push : (xs : List X) (x : X) → AllByRecursion P xs → P x → AllByRecursion P (xs ++ x ∷ [])
-  all_push [] x all h = (h, tt)
-  all_push (y ∷ xs) x all h = (all.0, all_push xs x all.1 h)
-
-  pub all_weaker : (Q : X → Type 0) → ((x : X) → P x → Q x) → (xs : List X) → AllByRecursion P xs → AllByRecursion Q xs
-  all_weaker Q f [] all = tt
-  all_weaker Q f (x ∷ xs) all = (f x all.0, all_weaker Q f xs all.1)
-
   pub all_take : (k : ℕ) (xs : List X) → AllByRecursion P xs → AllByRecursion P (take k xs)
   all_take zero xs all = tt
   all_take (suc k) [] all = tt
@@ -30,13 +23,7 @@ module _ {X : Type 0} (P : X → Type 0) where
 
   -- what holds of each element holds of the one at an index
   pub one_of_all : (k : ℕ) (xs : List X) (x : X) → k < length xs → x ≡ get_or xs k x → AllByRecursion P xs → P x
-  one_of_all k [] x inside is all = absurd (omega arith)
-  one_of_all zero (y ∷ xs) x inside is all = subst P (sym is) all.0
-  one_of_all (suc k) (y ∷ xs) x inside is all = one_of_all k xs x (omega arith) is all.1
-
-  pub all_unmap : {Y : Type 0} (f : Y → X) (ys : List Y) → AllByRecursion P (map f ys) → AllByRecursion (λ y. P (f y)) ys
-  all_unmap f [] all = tt
-  all_unmap f (y ∷ ys) all = (all.0, all_unmap f ys all.1)
+  one_of_all k xs x inside is all = subst P (sym is) (all_at P xs k x all inside)
 
 -- what a function gives of the element at an index
 pub get_or-mapped : {X Y : Type 0} (f : X → Y) (k : ℕ) (xs : List X) (x : X) → x ≡ get_or xs k x → f x ≡ get_or (map f xs) k (f x)
