@@ -6,6 +6,7 @@ use Rattle.std.proofs.lemmas.Bool.{cases_Bool}
 use Rattle.std.proofs.lemmas.Bool.Decides.{nat_tests}
 use Rattle.std.proofs.lemmas.List.Sorted.{IsPermutation-refl, IsPermutation-trans, IsPermutation-cons, IsPermutation-to_front}
 use Rattle.std.proofs.lemmas.List.Sorted.{IsPermutation-append_left}
+use Rattle.fb_units.proofs.Lists.{all_weaker}
 use Rattle.fb_units.specs.declared.types.Request.{Request}
 use Rattle.fb_units.specs.Rising.{IsRising}
 use Rattle.fb_model.specs.Foreground.{behind, promoted}
@@ -24,11 +25,6 @@ all_behind t (request ∷ requests) read all h = elim (cases_Bool (nat_le reques
   | inr later ↦ rw later (h, all)
 ]
 
-all_after : (t first : ℕ) (requests : List Request) → t ≤ first → AllByRecursion (λ later. first ≤ later) (arrivals requests)
-    → AllByRecursion (λ later. t ≤ later) (arrivals requests)
-all_after t first [] h all = tt
-all_after t first (request ∷ requests) h all = (let one = all.0 in omega arith, all_after t first requests h all.1)
-
 rising_behind : (requests : List Request) (read : Request) → IsRising (arrivals requests) → IsRising (arrivals (behind requests read))
 rising_behind [] read rising = (tt, tt)
 rising_behind (request ∷ requests) read rising = elim (cases_Bool (nat_le request.arrival read.arrival)) [
@@ -36,7 +32,7 @@ rising_behind (request ∷ requests) read rising = elim (cases_Bool (nat_le requ
       rw first (all_behind request.arrival requests read rising.0 (grind (arith, nat_tests)), rising_behind requests read rising.1)
   | inr later ↦ rw later (
     let earlier : read.arrival ≤ request.arrival = grind (arith, nat_tests) in
-        (earlier, all_after read.arrival request.arrival requests earlier rising.0),
+        (earlier, all_weaker _ _ (λ x le. omega (arith, earlier, le)) (arrivals requests) rising.0),
     rising,
   )
 ]

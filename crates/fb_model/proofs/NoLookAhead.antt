@@ -3,6 +3,7 @@ use Rattle.std.proofs.Common.{◌≡◌, ℕ, ◌<◌, ◌≤◌, List, [], ◌�
 use Rattle.std.proofs.Common.{false}
 use Rattle.std.specs.Prelude.{filter}
 use Rattle.std.specs.List.{AllByRecursion, fold, flat_map}
+use Rattle.fb_units.proofs.Each.{all_any, all_unmapped}
 use Rattle.fb_units.proofs.Lists.{all_weaker, not_none, same_first, same_rest}
 use Rattle.fb_units.specs.declared.types.Track.{Track}
 use Rattle.fb_units.specs.declared.types.Request.{Request}
@@ -51,11 +52,6 @@ use Rattle.fb_model.proofs.DueUpTo.{LiesBetween, AgreeBetween, delivers_by, due_
 
 -- ---- one decision
 
-gots_all : (P : DeliveryRow → Type 0) (deliveries : List Delivery) → AllByRecursion P (gots deliveries)
-    → AllByRecursion (λ (d : Delivery). P d.got) deliveries
-gots_all P [] all = tt
-gots_all P (d ∷ ds) all = (all.0, gots_all P ds all.1)
-
 regroup : (test opened got rest more : List BackRow)
     → (((test ++ opened) ++ got) ++ rest) ++ more ≡ test ++ (opened ++ (got ++ (rest ++ more)))
 regroup test opened got rest more = simp append_assoc
@@ -103,7 +99,7 @@ module _ (disk : Disk) (latent : List ℕ) (key : Key) (trace : List Request) (p
       let instant = late.0.from in
       let between = step_between P past step full.0 late.0.made fine in
       let others = steps_unknown t P any (past_after inputs past step) steps more late.1 full.1
-      (after_fine P inputs past step (gots_all P step.deliveries
+      (after_fine P inputs past step (all_unmapped P (λ (d : Delivery). d.got) step.deliveries
       (all_weaker (LiesBetween (instant_of d) (end_of d)) P (λ row h. any row) (gots step.deliveries) between)) fine) unknown in
       subst (AreUnknown t) (sym (regroup step.test (opening disk step.act) (delivered_rows step.deliveries) rest more))
       (unknown_before t step.test (opening disk step.act ++ (delivered_rows step.deliveries ++ (rest ++ more)))
@@ -268,7 +264,7 @@ module _ (disk : Disk) (latent : List ℕ) (key : Key) (trace_a trace_b : List R
       let between = step_between disk latent key trace_a over_a calls_a until_a writes_a (HasBegun done) past y well here.2 fine in
       let begun : (row : DeliveryRow) → LiesBetween (instant_of (decision_in y)) (end_of (decision_in y)) row → HasBegun done row =
       λ row lies. omega (arith, lies.in_turn, lies.ends, here.1) in
-      let each = gots_all (HasBegun done) y.deliveries (all_weaker _ _ begun (gots y.deliveries) between) in
+      let each = all_unmapped (HasBegun done) (λ (d : Delivery). d.got) y.deliveries (all_weaker _ _ begun (gots y.deliveries) between) in
       let fine_after = after_fine (HasBegun done) inputs_a past y each fine in
       let others = steps_alike (past_after inputs_a past y) alike xs ys more_a more_b (same_rest _ _ _ _ is_x) (same_rest _ _ _ _ is_y)
       (subst (λ x. AtEach (IsFullStep inputs_a medium_a) inputs_a (past_after inputs_a past x) xs) one full_a.1)
@@ -292,7 +288,7 @@ module _ (disk : Disk) (latent : List ℕ) (key : Key) (trace_a trace_b : List R
       let rest_a = flat_map (step_rows disk) xs in
       let rest_b = flat_map (step_rows disk) ys in
       let any = no_property past fine in
-      let each = λ (deliveries : List Delivery). gots_all any_delivery deliveries (all_any (gots deliveries)) in
+      let each = all_any (λ (d : Delivery). any_delivery d.got) (λ d. any_is d.got) in
       let next_a = after_fine any_delivery inputs_a past x (each x.deliveries) any in
       let next_b = after_fine any_delivery inputs_b past y (each y.deliveries) any in
       let alike = dwell_alike past head now end_a end_b x y rest_a rest_b more_a more_b h late_a late_b fine
@@ -302,10 +298,6 @@ module _ (disk : Disk) (latent : List ℕ) (key : Key) (trace_a trace_b : List R
       λ follows.
       ap (λ x. known_from t follows ((step_rows disk x ++ rest_a) ++ more_a)) x_is
       ∙ (alike follows ∙ sym (ap (λ y. known_from t follows ((step_rows disk y ++ rest_b) ++ more_b)) y_is))
-    where
-      all_any : (rows : List DeliveryRow) → AllByRecursion any_delivery rows
-      all_any [] = tt
-      all_any (row ∷ rows) = (any_is row, all_any rows)
   steps_alike past (later late_a late_b) xs ys more_a more_b is_x is_y full_a full_b fine unknown_a unknown_b = λ follows.
       let later_a = subst (AllByRecursion (IsLater t disk)) (sym is_x) late_a in
       let later_b = subst (AllByRecursion (IsLater t disk)) (sym is_y) late_b in

@@ -8,6 +8,7 @@ use Rattle.std.proofs.lemmas.Bool.{cases_Bool, cases_lt}
 use Rattle.std.proofs.lemmas.Bool.Decides.{nat_tests}
 use Rattle.std.proofs.lemmas.List.{length-append}
 use Rattle.std.proofs.lemmas.List.Sorted.{IsPermutation-refl, IsPermutation-trans, IsPermutation-cons, IsPermutation-middle}
+use Rattle.fb_units.proofs.Each.{all_map}
 use Rattle.fb_units.specs.declared.types.Track.{Track}
 use Rattle.fb_units.specs.declared.types.Request.{Request}
 use Rattle.fb_units.specs.Rising.{IsRising}
@@ -318,11 +319,6 @@ only_replay disk key requests rising = record {
 
 -- ---- the rows
 
-rows_arrived : (medium : Medium) (replay : List Served) → AllByRecursion (λ (served : Served). served.request.arrival ≤ served.start) replay
-    → AllByRecursion (λ (row : ForeRow). row.request.arrival ≤ row.start) (map (fore_row medium) replay)
-rows_arrived medium [] all = tt
-rows_arrived medium (served ∷ later) all = (all.0, rows_arrived medium later all.1)
-
 rows_one_by_one : (medium : Medium) (disk : Disk) (key : Key) (head : Track) (now : ℕ) (left : List Request) (replay : List Served)
     → AreTurns disk key head now left replay → AreOneByOne now (map (fore_row medium) replay)
 rows_one_by_one medium disk key head now left [] turns = tt
@@ -345,6 +341,6 @@ one_row inputs =
     let each = each_once inputs.disk inputs.key (requests inputs) in
     record {
       once = subst (IsPermutation (requests inputs)) (sym (same_requests (medium_of inputs) replay)) each.once;
-      arrived = rows_arrived (medium_of inputs) replay each.arrived;
+      arrived = all_map (λ (row : ForeRow). row.request.arrival ≤ row.start) (fore_row (medium_of inputs)) replay each.arrived;
       one_by_one = rows_one_by_one (medium_of inputs) inputs.disk inputs.key first_track 0 (requests inputs) replay turns;
     }

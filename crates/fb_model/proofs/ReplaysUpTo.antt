@@ -1,11 +1,12 @@
 -- Up to an instant the plain replay depends only on the requests that have arrived by then.
-use Rattle.std.proofs.Common.{◌≡◌, ℕ, ◌≤◌, ◌<◌, max, List, [], ◌∷◌, ◌++◌, map, refl, ap, sym, subst, ◌∙◌, arith, true, false, true≢false}
+use Rattle.std.proofs.Common.{◌≡◌, ℕ, ◌≤◌, ◌<◌, max, List, [], ◌∷◌, ◌++◌, refl, ap, sym, subst, ◌∙◌, arith, true, false, true≢false}
 use Rattle.std.proofs.Common.{Some, inl, inr}
 use Rattle.std.specs.Prelude.{◌||◌, filter}
 use Rattle.std.specs.List.{AllByRecursion, list_any}
 use Rattle.std.proofs.lemmas.Bool.{cases_Bool, cases_lt}
 use Rattle.std.proofs.lemmas.Bool.Decides.{nat_tests}
 use Rattle.std.proofs.lemmas.List.Elements.{filter-append}
+use Rattle.fb_units.proofs.Each.{all_unmapped}
 use Rattle.fb_units.proofs.Lists.{all_weaker, all_filter}
 use Rattle.fb_units.specs.declared.types.Track.{Track}
 use Rattle.fb_units.specs.declared.types.Request.{Request}
@@ -109,16 +110,12 @@ pub record AreAlike (t now : ℕ) (xs ys : List Served) : Type 0 where
   pub after : now ≤ done
   pub alike : AlikeBy t done xs ys
 
-all_of_map : {X : Type 0} (P : ℕ → Type 0) (f : X → ℕ) (xs : List X) → AllByRecursion P (map f xs) → AllByRecursion (λ x. P (f x)) xs
-all_of_map P f [] all = tt
-all_of_map P f (x ∷ xs) all = (all.0, all_of_map P f xs all.1)
-
 module _ (t : ℕ) (disk : Disk) (key : Key) where
   -- no service starts before now
   pub none_before : (head : Track) (now : ℕ) (left : List Request) (replay : List Served) → AreTurns disk key head now left replay
       → AllByRecursion (λ (s : Served). now ≤ s.start) replay
   none_before head now left replay turns =
-      all_of_map (λ later. now ≤ later) (λ (s : Served). s.start) replay (all_from disk key head now now left replay turns (omega arith))
+      all_unmapped (λ later. now ≤ later) (λ (s : Served). s.start) replay (all_from disk key head now now left replay turns (omega arith))
 
   all_behind : (head : Track) (now : ℕ) (left : List Request) (served : Served) (later : List Served)
       → AreTurns disk key head now left (served ∷ later) → t < served.start

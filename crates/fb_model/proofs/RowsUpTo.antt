@@ -6,7 +6,8 @@ use Rattle.std.specs.Prelude.{filter, ◌&&◌, not, if◌then◌else◌}
 use Rattle.std.specs.List.{AllByRecursion, flat_map}
 use Rattle.std.proofs.lemmas.Bool.{cases_Bool}
 use Rattle.fb_units.proofs.Comparing.{after_is, is_after, is_by}
-use Rattle.fb_units.proofs.Lists.{all_append, all_dropped, flat_map_same, not_none, same_first, same_rest}
+use Rattle.fb_units.proofs.Lists.{all_append, all_dropped, all_weaker, flat_map_same, not_none, same_first, same_rest}
+use Rattle.fb_units.proofs.Filtered.{none_kept}
 use Rattle.fb_units.proofs.Each.{all_any, all_flat_map, all_map}
 use Rattle.fb_units.proofs.Alike.{same_map}
 use Rattle.fb_store.specs.Runs.{runs_of}
@@ -196,21 +197,16 @@ RisingEnds (row ∷ rows) = AllByRecursion (λ (later : DeliveryRow). row.end �
 
 ends_late : (t : ℕ) (rows : List DeliveryRow) → AllByRecursion (λ row. ends_by_then t row ≡ false) rows
     → AllByRecursion (λ (row : DeliveryRow). t < row.end) rows
-ends_late t [] all = tt
-ends_late t (row ∷ rows) all = (is_after row.end t all.0, ends_late t rows all.1)
+ends_late t = all_weaker _ _ (λ (row : DeliveryRow). is_after row.end t)
 
 pub rest_late : (t : ℕ) (row : DeliveryRow) (rows : List DeliveryRow) → RisingEnds (row ∷ rows) → ends_by_then t row ≡ false
     → AllByRecursion (λ (row : DeliveryRow). t < row.end) (row ∷ rows)
-rest_late t row rows rising late = let h = is_after row.end t late in (h, each rows rising.0)
-  where
-    each : (rows : List DeliveryRow) → AllByRecursion (λ (later : DeliveryRow). row.end ≤ later.end) rows
-        → AllByRecursion (λ (row : DeliveryRow). t < row.end) rows
-    each [] all = tt
-    each (later ∷ rows) all = (let from = all.0 in let h = is_after row.end t late in omega arith, each rows all.1)
+rest_late t row rows rising late =
+    let h = is_after row.end t late in
+    (h, all_weaker _ _ (λ later from. omega (arith, from, h)) rows rising.0)
 
 late_kept : (t : ℕ) (rows : List DeliveryRow) → AllByRecursion (λ (row : DeliveryRow). t < row.end) rows → filter (ends_by_then t) rows ≡ []
-late_kept t [] all = refl
-late_kept t (row ∷ rows) all = rw (after_is row.end t all.0) (late_kept t rows all.1)
+late_kept t rows all = none_kept (ends_by_then t) rows (all_weaker _ _ (λ (row : DeliveryRow). after_is row.end t) rows all)
 
 module _ (t done : ℕ) (since : t ≤ done) (a b : Medium) (same : HoldSame done a b) where
   pub alike_deliveries : (past : Past) (xs ys : List Delivery) (more_x more_y : List BackRow) → AreFine (HasBegun done) past
