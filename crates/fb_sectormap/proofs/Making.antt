@@ -1,8 +1,8 @@
 -- The starts of zones, one after another.
-use Rattle.std.proofs.Common.{◌≡◌, ℕ, zero, suc, ◌+◌, ◌-◌, ◌*◌, ◌≤◌, ◌^◌, List, [], ◌∷◌, ◌++◌, length, map, take, ap, sym, ◌∙◌, arith, Some}
+use Rattle.std.proofs.Common.{◌≡◌, ℕ, suc, ◌+◌, ◌-◌, ◌*◌, ◌≤◌, ◌^◌, List, [], ◌∷◌, ◌++◌, length, map, take, ap, sym, ◌∙◌, arith, Some}
 use Rattle.std.specs.Prelude.{slice_get}
 use Rattle.std.proofs.lemmas.List.{map-append, take_all}
-use Rattle.std.proofs.lemmas.Option.{none-some, same_Some}
+use Rattle.fb_units.proofs.Lists.{take_at}
 use Rattle.fb_geometry.specs.declared.zone.Zone.{Zone}
 use Rattle.fb_geometry.specs.Shape.{Shape}
 use Rattle.fb_geometry.specs.Places.{data_list_at}
@@ -11,11 +11,6 @@ use Rattle.fb_sectormap.specs.declared.numbering.ZoneStart.{ZoneStart}
 use Rattle.fb_sectormap.specs.Cylinders.{IsMapped, sectors_before, start_of}
 use Rattle.fb_sectormap.proofs.Zones.{border, first_is, next_border, last_border}
 use Rattle.fb_sectormap.proofs.ByCylinder.{follow, before-in_zone, before-few, size-by_zone, upto_last, count-is}
-
-take-next : {X : Type 0} (xs : List X) (i : ℕ) (x : X) → slice_get xs i ≡ Some x → take (suc i) xs ≡ take i xs ++ x ∷ []
-take-next [] i x at = absurd (none-some x at)
-take-next (y ∷ xs) zero x at = ap (λ z. z ∷ []) (same_Some y x at)
-take-next (y ∷ xs) (suc i) x at = ap (λ ys. y ∷ ys) (take-next xs i x at)
 
 module _ (disk : Shape) (sound : IsSound disk) where
   -- the starts of the first i zones and of the next one are those of the first i + 1
@@ -34,8 +29,7 @@ module _ (disk : Shape) (sound : IsSound disk) where
       } ∷ [])
       (same ∙ size-by_zone disk sound i zone zone.first
       (record { zone_is = at; from = omega arith; upto = sound.some_cylinders i zone at }))
-      ∙ sym (ap (map (start_of disk)) (ap (λ n. take n disk.zones) (let next : i + 1 ≡ suc i = omega arith in next)
-      ∙ take-next disk.zones i zone at) ∙ map-append (start_of disk) (take i disk.zones) (zone ∷ []))
+      ∙ sym (ap (map (start_of disk)) (take_at disk.zones i zone at) ∙ map-append (start_of disk) (take i disk.zones) (zone ∷ []))
 
   -- the sectors before the next zone
   pub next_lbn : (i : ℕ) (zone : Zone) (lbn size : ℕ) → slice_get disk.zones i ≡ Some zone

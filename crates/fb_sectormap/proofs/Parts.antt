@@ -1,18 +1,17 @@
 -- A list that is made of parts, one for each number below a bound.
-use Rattle.std.proofs.Common.{◌≡◌, ℕ, zero, suc, ◌+◌, ◌-◌, ◌*◌, ◌<◌, ◌≤◌, List, [], ◌∷◌, ◌++◌, length, refl, ap, ◌∙◌, arith, inl, inr}
+use Rattle.std.proofs.Common.{◌≡◌, ℕ, zero, suc, ◌+◌, ◌-◌, ◌*◌, ◌<◌, ◌≤◌, List, [], ◌++◌, length, refl, ap, sym, ◌∙◌, arith, inl, inr}
 use Rattle.std.specs.Prelude.{slice_get}
 use Rattle.std.specs.List.{flat_map, range_with_len}
 use Rattle.std.proofs.lemmas.List.{length-append}
 use Rattle.std.proofs.lemmas.List.Concat.{flat_map-append}
 use Rattle.std.proofs.lemmas.Bool.{cases_lt}
-use Rattle.fb_units.proofs.Lists.{get_left, get_right}
+use Rattle.fb_units.proofs.Alike.{flat_same}
+use Rattle.fb_units.proofs.Lists.{all_range, get_left, get_right}
+use Rattle.fb_units.proofs.Parts.{range-append}
 
 -- a range is one range after another
 pub range-split : (a m n b k : ℕ) → b ≡ a + m → k ≡ m + n → range_with_len a k ≡ range_with_len a m ++ range_with_len b n
-range-split a zero n b k e h = ap (λ x. range_with_len x k) (let same : a ≡ b = omega arith in same)
-    ∙ ap (range_with_len b) (let same : k ≡ n = omega arith in same)
-range-split a (suc m) n b zero e h = absurd (omega arith)
-range-split a (suc m) n b (suc k) e h = ap (λ xs. a ∷ xs) (range-split (a + 1) m n b k (omega arith) (omega arith))
+range-split a m n b k e h = ap (range_with_len a) h ∙ range-append a m n ∙ ap (λ c. range_with_len a m ++ range_with_len c n) (sym e)
 
 -- the parts of a range are those of one range after those of another
 pub parts-split : {A : Type 0} (f : ℕ → List A) (a m n b k : ℕ) → b ≡ a + m → k ≡ m + n
@@ -22,9 +21,7 @@ parts-split f a m n b k e h = ap (flat_map f) (range-split a m n b k e h) ∙ fl
 -- parts that are equal make equal lists
 pub same-parts : {A : Type 0} (f g : ℕ → List A) (a n : ℕ) → ((x : ℕ) → a ≤ x → x < a + n → f x ≡ g x)
     → flat_map f (range_with_len a n) ≡ flat_map g (range_with_len a n)
-same-parts f g a zero same = refl
-same-parts f g a (suc n) same = ap (λ xs. xs ++ flat_map f (range_with_len (a + 1) n)) (same a (omega arith) (omega arith))
-    ∙ ap (λ xs. g a ++ xs) (same-parts f g (a + 1) n (λ x from below. same x (omega arith) (omega arith)))
+same-parts f g a n same = flat_same f g (range_with_len a n) (all_range (λ x. f x ≡ g x) a n same)
 
 -- the length of a list of n parts that are all of one length
 pub length-same : {A : Type 0} (f : ℕ → List A) (a n m : ℕ) → ((x : ℕ) → a ≤ x → x < a + n → length (f x) ≡ m)

@@ -20,9 +20,6 @@ abbrev pub AreFollowing : ℕ → List Zone → Type 0
 AreFollowing begin [] = Unit {0}
 AreFollowing begin (zone ∷ zones) = (zone.first ≡ begin) × (zone.first ≤ zone.last) × AreFollowing (zone.last + 1) zones
 
-some_none : {X : Type 0} (x : X) → Some x ≡ None → ⊥
-some_none x e = cc
-
 pub following : (index begin : ℕ) (zones : List Zone) → first_apart index begin zones ≡ None
     → ((i : ℕ) (zone : Zone) → slice_get zones i ≡ Some zone → zone.first ≤ zone.last) → AreFollowing begin zones
 following index begin [] h some = tt
@@ -32,7 +29,7 @@ following index begin (zone ∷ zones) h some = elim (cases_Bool (zone.first == 
     some 0 zone refl,
     following (index + 1) (zone.last + 1) zones (rw here at h) (λ i. some (suc i)),
   )
-  | inr off ↦ absurd (some_none index (rw off at h))
+  | inr off ↦ absurd (none-some index (sym (rw off at h)))
 ]
 
 -- no zone begins before the first
