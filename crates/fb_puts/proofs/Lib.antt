@@ -1,5 +1,5 @@
 pub mod Words
-pub mod Lists
+pub mod Options
 pub mod Sharing
 pub mod TakenRanges
 pub mod Asking

@@ -1,10 +1,11 @@
 -- A range shares a sector with one of those that are kept by their ends just if the first of them to end behind its begin does.
 use Rattle.std.proofs.lemmas.Option.{same_Some}
+use Rattle.fb_units.proofs.Among.{among-any}
 use Rattle.fb_units.proofs.Lists.{all_from_index, any_of_none}
 use Rattle.fb_puts.proofs.Words.{all_get, ◌≡◌, ℕ, zero, suc, ◌+◌, ◌-◌, ◌<◌, ◌≤◌, List, [], ◌∷◌, true, false, Some, slice_get}
 use Rattle.fb_puts.proofs.Words.{inl, inr, sym, ap, ◌∙◌, arith, nat_lt, list_any, nat_cmp, BTreeMap, get, ContainsKey}
 use Rattle.fb_puts.proofs.Words.{cases_lt, SectorRange, share, AreApart, AreTaken}
-use Rattle.fb_puts.proofs.{Lists.any_at, Lists.some_there}
+use Rattle.fb_puts.proofs.Options.{some_there}
 use Rattle.fb_puts.proofs.{Sharing.is_shares, Sharing.lt-false, Sharing.lt-true, Sharing.not_share, Sharing.Shares}
 
 -- ranges of the list that share a sector are the same
@@ -45,7 +46,7 @@ module _ (ends : BTreeMap ℕ ℕ) (ranges : List SectorRange) (range : SectorRa
       let own : SectorRange = record { first = first; count = end - first } in
       elim (cases_lt first (range.first + range.count)) [
         | inl less ↦ lt-true first (range.first + range.count) less
-            ∙ sym (any_at (share range) ranges its.0 own its.1 (is_shares range own (omega (arith, its.2)) less
+            ∙ sym (among-any (share range) ranges own (its.0, its.1) (is_shares range own (omega (arith, its.2)) less
             some (omega (arith, its.2))))
         | inr more ↦ lt-false first (range.first + range.count) more
             ∙ sym (any_of_none (share range) ranges (all_from_index (λ other. share range other ≡ false) ranges (λ k other at.
