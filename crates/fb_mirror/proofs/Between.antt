@@ -83,13 +83,15 @@ kept_by t (x ∷ instants) = elim (cases_Bool (nat_le x t)) [
   | inr after ↦ rw after (kept_by t instants)
 ]
 
-none_left : (from to : ℕ) → IsBetween [] from to
-none_left from to = record { before = []; after = []; is = refl; finished = tt; passed = tt; to_come = tt }
+-- where all that is written passes later
+none_before : (replay : List Served) (from to : ℕ) → AllByRecursion (λ (w : Written). to < w.passage.end) (all_writes replay)
+    → IsBetween replay from to
+none_before replay from to passes = record { before = []; after = replay; is = refl; finished = tt; passed = tt; to_come = passes }
 
 last_placed : (disk : Disk) (head : Track) (now last until : ℕ) → now ≤ last → IsPlaced disk now [] (last_decision head last until)
 last_placed disk head now last until from = elim (cases_Bool (nat_lt last until)) [
-  | inl before ↦ rw before (record { from = from; of_disk = tt; between = none_left last until })
-  | inr passed ↦ rw passed (record { from = from; of_disk = tt; between = none_left last last })
+  | inl before ↦ rw before (record { from = from; of_disk = tt; between = none_before _ _ _ tt })
+  | inr passed ↦ rw passed (record { from = from; of_disk = tt; between = none_before _ _ _ tt })
 ]
 
 -- what comes behind a service is placed behind it
@@ -129,7 +131,7 @@ module _ (disk : Disk) (sound : IsSound disk.map) where
   decisions_placed instants until head now [] are =
       all_append (IsPlaced disk now []) (idle_until head now instants) (last_decision head (fold max now instants) until ∷ [])
       (idle_all (IsPlaced disk now []) (λ x. Unit {0}) head now instants
-      (λ begin end from is. record { from = from; of_disk = tt; between = none_left begin end }) (any_instant instants))
+      (λ begin end from is. record { from = from; of_disk = tt; between = none_before _ _ _ tt }) (any_instant instants))
       (last_placed disk head now (fold max now instants) until (greatest_from now instants), tt)
   decisions_placed instants until head now (served ∷ later) are =
       let within = free_within disk served are.1 are.2 in
@@ -140,27 +142,13 @@ module _ (disk : Disk) (sound : IsSound disk.map) where
       (λ begin end from is. record {
         from = from;
         of_disk = tt;
-        between = record {
-          before = [];
-          after = served ∷ later;
-          is = refl;
-          finished = tt;
-          passed = tt;
-          to_come = all_to_come end served later are.1 are.2 are.3 (omega (arith, is, within.0));
-        };
+        between = none_before _ _ _ (all_to_come end served later are.1 are.2 are.3 (omega (arith, is, within.0)));
       })
       (kept_by served.start instants)) (
         record {
           from = are.0;
           of_disk = (are.1, are.2);
-          between = record {
-            before = [];
-            after = served ∷ later;
-            is = refl;
-            finished = tt;
-            passed = tt;
-            to_come = all_to_come (free_until served) served later are.1 are.2 are.3 (omega arith);
-          };
+          between = none_before _ _ _ (all_to_come (free_until served) served later are.1 are.2 are.3 (omega arith));
         },
         all_weaker (IsPlaced disk (finish served) later) (IsPlaced disk now (served ∷ later))
             (λ decision placed. placed_behind disk now served later decision (omega (arith, are.0, within.0, within.1)) are.1 placed)
