@@ -161,7 +161,7 @@ delivered-one disk past index got row before after is at tells up_to_date rows =
       registered = (wanted-registered past index got.block at, tt);
     })
 
-abbrev made : How → Block → ℕ → ℕ → ℕ → List ContentRun → DeliveryRow
+abbrev pub made : How → Block → ℕ → ℕ → ℕ → List ContentRun → DeliveryRow
 made how block begin end bad content = record { block = block; begin = begin; end = end; how = how; bad = bad; content = content }
 
 pub row-is : (holding : Holding) (how : How) (block : Block) (begin end bad : ℕ) (content : List ContentRun)
