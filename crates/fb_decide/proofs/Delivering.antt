@@ -174,6 +174,11 @@ pub if_ok_with : {T E : Type 0} (P Q R : T → Type 0) (r : Result T E) → ((x 
 if_ok_with P Q R (Ok x) f p q = f x p q
 if_ok_with P Q R (Err e) f p q = tt
 
+-- rows change nothing of what it tells
+pub with_rows : {disk : Shape} {past : Past} {background : Background} (rows : List BackRow) → TellsUpToDate disk past background
+    → TellsUpToDate disk past (record { sessions = background.sessions; wanted = background.wanted; rows = rows })
+with_rows rows current = record { tells = current.tells; up_to_date = current.up_to_date }
+
 -- nothing was delivered
 pub delivered-none : {disk : Shape} {past : Past} {background : Background} → TellsUpToDate disk past background
     → HasDelivered disk past [] background.rows background

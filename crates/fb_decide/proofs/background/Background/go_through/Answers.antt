@@ -3,32 +3,24 @@ use Rattle.std.proofs.lemmas.Result.{on_ok_weaker}
 use Rattle.fb_rows.specs.declared.gap.How.TheVariants.{Gap as ByGap}
 use Rattle.fb_model.specs.History.{wanted}
 use Rattle.fb_model.specs.Rides.{missed, caught_in_gap, caught_rows}
-use Rattle.fb_decide.specs.Deliveries.{TellsUpToDate, HasDelivered, past_with, held_now}
+use Rattle.fb_decide.specs.Deliveries.{HasDelivered, past_with, held_now}
+use Rattle.fb_decide.proofs.Delivering.{with_rows}
 use Rattle.fb_decide.proofs.Placing.{delivered-both, left-both}
 use Rattle.fb_decide.proofs.background.Background.go_through.Goals as goal
 
 pub deliver_in_dwell-requires-clause-current : goal.deliver_in_dwell-requires-clause-current
-deliver_in_dwell-requires-clause-current c =
-    let current = c.requires.current.1 in
-    (c.requires.current.0, record { tells = current.tells; up_to_date = current.up_to_date })
+deliver_in_dwell-requires-clause-current c = (c.requires.current.0, with_rows c.push.new.self c.requires.current.1)
 
 pub deliver_in_dwell-requires-2-clause-current : goal.deliver_in_dwell-requires-2-clause-current
 deliver_in_dwell-requires-2-clause-current c =
-    let current = c.requires.current.1 in (
-      _,
-      (c.in_ok-deliver_in_dwell.ensures.delivered c.requires.current.0
-          (record { tells = current.tells; up_to_date = current.up_to_date })).current,
-    )
+    let past = c.requires.current.0 in
+    (_, (c.in_ok-deliver_in_dwell.ensures.delivered past (with_rows c.push.new.self c.requires.current.1)).current)
 
 pub returns-clause-delivered : goal.returns-clause-delivered
 returns-clause-delivered c = on_ok_weaker c.deliver_in_dwell-2.result (λ next past current.
     let disk = c.args.disk.now in
     let holding = c.args.store.now in
-    let pushed : TellsUpToDate disk.map past (record {
-      sessions = c.args.self.now.sessions;
-      wanted = c.args.self.now.wanted;
-      rows = c.push.new.self;
-    }) = record { tells = current.tells; up_to_date = current.up_to_date } in
+    let pushed = with_rows c.push.new.self current in
     subst (λ rows. HasDelivered disk.map past
     (caught_in_gap disk (held_now holding) c.args.row.gap c.args.row.plan (wanted past)) rows c.deliver_in_dwell-2.new.self)
     c.in_ok-push.ensures.ok
@@ -44,11 +36,7 @@ pub returns-clause-left : goal.returns-clause-left
 returns-clause-left c = on_ok_weaker c.deliver_in_dwell-2.result (λ next past current.
     let disk = c.args.disk.now in
     let holding = c.args.store.now in
-    let pushed : TellsUpToDate disk.map past (record {
-      sessions = c.args.self.now.sessions;
-      wanted = c.args.self.now.wanted;
-      rows = c.push.new.self;
-    }) = record { tells = current.tells; up_to_date = current.up_to_date } in
+    let pushed = with_rows c.push.new.self current in
     let first = c.in_ok-deliver_in_dwell.ensures.delivered past pushed in
     subst₂ (λ early late. wanted (past_with past (caught_rows disk (held_now holding) ByGap early (wanted past)
     ++ caught_rows disk (held_now holding) ByGap late (missed disk early (wanted past))))
