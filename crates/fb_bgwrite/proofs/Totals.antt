@@ -75,6 +75,9 @@ both_counted : (range : SectorRange) (ranges : List SectorRange) → AllByRecurs
     → count_by (covered (range ∷ ranges)) lbns ≡ count_by (has range) lbns + count_by (covered ranges) lbns
 both_counted range ranges apart [] = refl
 both_counted range ranges apart (lbn ∷ lbns) =
+    let total = counted (covered (range ∷ ranges)) lbn lbns in
+    let own = counted (has range) lbn lbns in
+    let others = counted (covered ranges) lbn lbns in
     let rest = both_counted range ranges apart lbns in
     elim (cases_Bool (has range lbn)) [
       | inl inside ↦
@@ -84,29 +87,12 @@ both_counted range ranges apart (lbn ∷ lbns) =
           let here = one_if (has range lbn) inside in
           let there = none_if (covered ranges lbn) none in
           let whole = one_if (covered (range ∷ ranges) lbn) all in
-          omega (
-            arith,
-            counted (covered (range ∷ ranges)) lbn lbns,
-            counted (has range) lbn lbns,
-            counted (covered ranges) lbn lbns,
-            here,
-            there,
-            whole,
-            rest,
-          )
+          omega (arith, total, own, others, here, there, whole, rest)
       | inr outside ↦
           let all : covered (range ∷ ranges) lbn ≡ covered ranges lbn = rw outside refl in
           let here = none_if (has range lbn) outside in
           let whole = ap ones all in
-          omega (
-            arith,
-            counted (covered (range ∷ ranges)) lbn lbns,
-            counted (has range) lbn lbns,
-            counted (covered ranges) lbn lbns,
-            here,
-            whole,
-            rest,
-          )
+          omega (arith, total, own, others, here, whole, rest)
     ]
 
 abbrev LieIn : ℕ → ℕ → List SectorRange → Type 0
