@@ -109,9 +109,9 @@ module _ (items : List SpillItem) (row : WroteRow) (block : Block) (put_is : row
   deliver_own put same =
       let state : State = if is_written items put.block then Delivered else Wanted in
       let task : (put.block.task == block.task) ≡ true = ap (λ (b : Block). b.task == block.task) same
-          ∙ same_number block.task block.task refl in
+      ∙ same_number block.task block.task refl in
       let number : (put.block.number == block.number) ≡ true = ap (λ (b : Block). b.number == block.number) same
-          ∙ same_number block.number block.number refl in
+      ∙ same_number block.number block.number refl in
       ap (λ s. let e : Entry = record { block = put.block; state = s } in e)
       (both (put.block.task == block.task) (put.block.number == block.number) state task number)
       ∙ ap (λ b. let e : Entry = record { block = put.block; state = if b then Delivered else Wanted } in e)
