@@ -1,6 +1,7 @@
 -- An accepted outline is sound: no place is twice among its places, and no bad one is among them.
 use Rattle.fb_units.proofs.Distinct.{Distinct, distinct-append, distinct-parts, distinct_from, one_index}
-use Rattle.fb_units.proofs.Lists.{all_append, all_from_index, all_get, all_weaker}
+use Rattle.fb_units.proofs.Each.{flat_all}
+use Rattle.fb_units.proofs.Lists.{all_from_index, all_get, all_weaker}
 use Rattle.fb_units.proofs.Parts.{all-parts}
 use Rattle.fb_geometry.proofs.Words.{AllByRecursion, HasOwnPlaces, IsFaultless, IsSound, IsZoneAt, List, Pairwise, PerTrack, Place, Shape}
 use Rattle.fb_geometry.proofs.Words.{Some, Zone, [], arith, data_list, false, flat_map, is_among, nat_tests, places, refl, slice_get, suc}
@@ -23,9 +24,7 @@ module _ (disk : Shape) (h : IsFaultless disk) where
   -- what each zone's list keeps, all places keep
   all_zones : (P : Place → Type 0) (zones : List Zone) → ((i : ℕ) (zone : Zone) → slice_get zones i ≡ Some zone
       → AllByRecursion P (zone_places disk zone)) → AllByRecursion P (flat_map (zone_places disk) zones)
-  all_zones P [] each = tt
-  all_zones P (zone ∷ zones) each = all_append P (zone_places disk zone) (flat_map (zone_places disk) zones) (each 0 zone refl)
-      (all_zones P zones (λ i. each (suc i)))
+  all_zones P zones each = flat_all P (zone_places disk) zones (all_from_index _ zones each)
 
   -- a cylinder between the bounds of a zone is that zone's
   at_cylinder : (i : ℕ) (zone : Zone) (k : ℕ) → slice_get disk.zones i ≡ Some zone → zone.first ≤ k
