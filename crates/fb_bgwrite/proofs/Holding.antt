@@ -1,10 +1,11 @@
 -- What the reserve holds: no foreground write concerns it, and the rows that concern a sector are of one put.
-use Rattle.fb_bgwrite.proofs.Words.{none_kept, all_get, ◌≡◌, ℕ, zero, suc, ◌+◌, ◌^◌, ◌<◌, List, [], ◌∷◌, ◌++◌, Bool, true, false}
+use Rattle.fb_bgwrite.proofs.Words.{none_kept, all_get, ◌≡◌, ℕ, zero, suc, ◌+◌, ◌^◌, ◌<◌, List, [], ◌∷◌, Bool, true, false}
 use Rattle.fb_bgwrite.proofs.Words.{Option, Some, None, map, length, slice_get, refl, sym, ap, ◌∙◌, subst, arith, inl, inr, ◌==◌}
 use Rattle.fb_bgwrite.proofs.Words.{filter, nat_lt, AllByRecursion, flat_map, cases_Bool, cases_lt, and_parts, nat_tests, places}
 use Rattle.fb_bgwrite.proofs.Words.{Disk, all_weaker, Block, ForeRow, Run, all_append, SpillItem, SpillLine, WroteLine, WroteRow}
 use Rattle.fb_bgwrite.proofs.Words.{Put, Puts, SectorRange, request_range, PutBlock, put_blocks, writes, block_range, share}
 use Rattle.fb_bgwrite.proofs.Words.{ArePuts, fore_ranges, IsInTime, IsOfPut, accepted, some_one}
+use Rattle.fb_units.proofs.Among.{among-right}
 use Rattle.fb_store.specs.declared.content.Content.TheVariants.{Filled}
 use Rattle.fb_store.specs.Writes.{unwritten}
 use Rattle.fb_bgwrite.specs.Held.{Fill, fills, fore_fills, held, held_by, is_in, is_told, later, latest, put_fills, wrote_range, HoldsPuts}
@@ -146,12 +147,6 @@ none_told lbn (SpillLine stay ∷ items) all = none_told lbn items all.1
 none_told lbn (WroteLine row ∷ items) all = (all.0, none_told lbn items all.1)
 
 -- where the row's fill stands
-behind : {X : Type 0} (front xs : List X) (i : ℕ) (x : X) → slice_get xs i ≡ Some x → (j : ℕ) × (slice_get (front ++ xs) j ≡ Some x)
-behind [] xs i x at = (i, at)
-behind (y ∷ front) xs i x at =
-    let rest = behind front xs i x at in
-    (suc rest.0, rest.1)
-
 told_fill : (items : List SpillItem) (i : ℕ) (row : WroteRow)
     → slice_get items i ≡ Some (WroteLine row) → (j : ℕ) × (slice_get (flat_map put_fills items) j
     ≡ Some (let fill : Fill = record { instant = row.end; range = wrote_range row; writer = 2 ^ 32 + row.put } in fill))
@@ -159,10 +154,7 @@ told_fill [] i row at = absurd (grind arith)
 told_fill (item ∷ items) zero row at =
     let same : item ≡ WroteLine row = some_one item (WroteLine row) at in
     (0, ap (λ x. slice_get (flat_map put_fills (x ∷ items)) 0) same)
-told_fill (item ∷ items) (suc i) row at =
-    let rest = told_fill items i row at in
-    behind (put_fills item) (flat_map put_fills items) rest.0
-    (record { instant = row.end; range = wrote_range row; writer = 2 ^ 32 + row.put }) rest.1
+told_fill (item ∷ items) (suc i) row at = among-right (put_fills item) (flat_map put_fills items) _ (told_fill items i row at)
 
 pub holds : (disk : Disk) (run : Run) (puts : Puts) (items : List SpillItem) → ArePuts (length (places disk.map)) (accepted puts)
     → AllByRecursion (λ range. share (accepted puts).reserve range ≡ false) (fore_ranges run)
@@ -182,7 +174,7 @@ holds disk run puts items are apart in_time =
           is lbn told items in_time) in
           let stands = told_fill items i row at in
           let fill : Fill = record { instant = row.end; range = wrote_range row; writer = 2 ^ 32 + row.put } in
-          let among = behind (flat_map fore_fills run.fore) (flat_map put_fills items) stands.0 fill stands.1 in
+          let among = among-right (flat_map fore_fills run.fore) (flat_map put_fills items) fill stands in
           held_is latent (fills run items) lbn (2 ^ 32 + row.put) among.0 fill among.1 told all;
       others = λ latent lbn inside none.
           held_before latent (fills run items) lbn

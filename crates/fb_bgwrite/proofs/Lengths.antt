@@ -159,7 +159,7 @@ pub still_light : (put number : ℕ) (es : List Entry) → AreLight es → AreLi
 still_light put number [] light = tt
 still_light put number (e ∷ es) light = (light.0, still_light put number es light.1)
 
--- the bound of a cylinder is lowered to the sectors of one more block in any case, and the block is registered if there is memory
+-- no block is shorter than its cylinder's bound after the bound is lowered, whether or not the new block was registered
 pub registered_too : {A E : Type 0} (r : Result A E) (old new : List ℕ) (es later : List Entry) (e : Entry)
     → AllByRecursion (IsNoShorter old) es → AreLight es → e.block.weight ≡ 1
     → IsLowered old new e.block.track.cylinder e.block.count → OnOk r (later ≡ es ++ e ∷ []) → OnErr r (later ≡ es)
