@@ -37,7 +37,7 @@ sum-agree f g (x ∷ xs) same =
     omega (arith, sum_by-cons f x xs, sum_by-cons g x xs, same 0 x refl, sum-agree f g xs (λ i e at. same (suc i) e at))
 
 module _ (f : Offer → ℕ) (offers : List Offer) (d : Offer) {i sum more : ℕ} where
-  -- what the offers so far add, and the next one
+  -- the sums after one more offer
   pub sum-next : i < length offers → (sum ≤ 2 ^ 32 * i) × (sum ≡ sum_by f (take i offers)) → more ≡ f (get_or offers i d) → more < 2 ^ 32
       → (sum + more ≤ 2 ^ 32 * (i + 1)) × (sum + more ≡ sum_by f (take (i + 1) offers))
   sum-next inside so_far one small =

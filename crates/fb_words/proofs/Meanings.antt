@@ -7,7 +7,7 @@ use Rattle.std.proofs.lemmas.Slice.Eq.{bytes_eq-Decides}
 use Rattle.fb_words.specs.Names.{meaning}
 
 module _ {a b : List ℕ} where
-  -- the test of a word against another one that differs
+  -- a word doesn't equal one that it differs from
   pub bytes_differ : (b ≡ a → ⊥) → bytes_eq a b ≡ false
   bytes_differ differ = elim (cases_Bool (bytes_eq a b)) [
     | inl same ↦ absurd (differ (sym ((bytes_eq-Decides a b).0 same)))

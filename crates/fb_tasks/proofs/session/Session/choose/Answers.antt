@@ -4,7 +4,7 @@ use Rattle.fb_tasks.proofs.Leaving.{grown_not, grown_more, registers_none, regis
 use Rattle.fb_tasks.proofs.AllChoices.{up_to_split, still-chosen, idle-chosen, chosen-on, choices_in}
 use Rattle.fb_tasks.proofs.session.Session.choose.Goals as goal
 
--- two parts that stay the same, by the next choice as well
+-- what has stayed the same so far stays so by the next choice
 same_on : {X Y : Type 0} {a b c : X} {d e f : Y} → (b ≡ a) × (e ≡ d) → (c ≡ b) × (f ≡ e) → (c ≡ a) × (f ≡ d)
 same_on before one = (one.0 ∙ before.0, one.1 ∙ before.1)
 
