@@ -1,22 +1,15 @@
 -- What follows from searches that found nothing.
-use Rattle.fb_params.proofs.Words.{◌≡◌, ℕ, zero, suc, Bool, false, List, [], ◌∷◌, ◌++◌, Option, Some, None, option_map, Ok, slice_get, refl}
-use Rattle.fb_params.proofs.Words.{subst, inl, inr, find, option_or, cases_Bool, Members, get_member, Layout, Rule, Known, Present, OfKind}
+use Rattle.fb_params.proofs.Words.{◌≡◌, ℕ, Bool, false, List, ◌++◌, Option, Some, None, option_map, Ok, slice_get, refl}
+use Rattle.fb_params.proofs.Words.{find, option_or, Members, get_member, Layout, Rule, Known, Present, OfKind}
 use Rattle.fb_params.proofs.Words.{InRange, Key, front_keys, back_keys, zone_keys, zones_of, breaks, first_in, first_some, unless_fault}
 use Rattle.fb_params.proofs.Words.{keeps}
-use Rattle.std.proofs.lemmas.Option.{same_Some}
+use Rattle.fb_units.proofs.Lists.{all_get}
+use Rattle.fb_units.proofs.Searches.{find-none}
 use Rattle.fb_params.specs.Rules.{first_in_zones}
 use Rattle.fb_params.specs.declared.fault.ParamsFault.{ParamsFault}
 
-passed_over : {A : Type 0} (p : A → Bool) (y : A) (ys : List A) → find p (y ∷ ys) ≡ None → (p y ≡ false) × (find p ys ≡ None)
-passed_over p y ys none = elim (cases_Bool (p y)) [
-  | inl hit ↦ absurd (let found : Some y ≡ None = rw hit at none in cc)
-  | inr miss ↦ (miss, rw miss at none)
-]
-
 none-find : {A : Type 0} (p : A → Bool) (xs : List A) → find p xs ≡ None → (i : ℕ) (x : A) → slice_get xs i ≡ Some x → p x ≡ false
-none-find p [] none i x at = absurd (cc)
-none-find p (y ∷ ys) none zero x at = subst (λ z. p z ≡ false) (same_Some _ _ at) (passed_over p y ys none).0
-none-find p (y ∷ ys) none (suc i) x at = none-find p ys (passed_over p y ys none).1 i x at
+none-find p xs none i x at = all_get (λ y. p y ≡ false) xs i x (find-none p xs none) at
 
 none-option_map : {A B : Type 0} (f : A → B) (o : Option A) → option_map f o ≡ None → o ≡ None
 none-option_map f None none = refl
