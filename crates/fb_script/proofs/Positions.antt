@@ -1,11 +1,11 @@
 -- The indexes of names.
-use Rattle.std.proofs.Common.{◌≡◌, ℕ, Bool, false, List, [], ◌∷◌, ◌++◌, length, map, None, inl, inr, refl, sym, ap, ◌∙◌, subst, arith}
+use Rattle.std.proofs.Common.{◌≡◌, ℕ, Bool, false, List, [], ◌∷◌, ◌++◌, length, map, None, refl, sym, ap, ◌∙◌, subst, arith}
 use Rattle.std.specs.List.{list_any, position, position_or_len}
 use Rattle.std.specs.Str.{bytes_eq}
-use Rattle.std.proofs.lemmas.Bool.{cases_Bool}
-use Rattle.std.proofs.lemmas.Bool.Decides.{nat_tests}
 use Rattle.std.proofs.lemmas.List.{length-map, length_push, map-append}
 use Rattle.indexmap.specs.IndexSet.{insert_key}
+use Rattle.fb_units.proofs.Lists.{any_of_none}
+use Rattle.fb_units.proofs.Searches.{position-none}
 use Rattle.fb_script.specs.Sessions.{task_of}
 
 position_or_len-map : {X Y : Type 0} (p : Y → Bool) (f : X → Y) (xs : List X)
@@ -17,11 +17,7 @@ pub position-map : {X Y : Type 0} (p : Y → Bool) (f : X → Y) (xs : List X) �
 position-map p f xs = rw (position_or_len-map p f xs, length-map xs f) refl
 
 none-list_any : {X : Type 0} (p : X → Bool) (xs : List X) → position p xs ≡ None → list_any p xs ≡ false
-none-list_any p [] h = refl
-none-list_any p (x ∷ xs) h = elim (cases_Bool (p x)) [
-  | inl hit ↦ absurd (grind (arith, nat_tests))
-  | inr miss ↦ rw miss (none-list_any p xs (grind (arith, nat_tests)))
-]
+none-list_any p xs h = any_of_none p xs (position-none p xs h)
 
 module _ {K : Type 0} (f : K → List ℕ) where
   -- a new name goes last
