@@ -1,4 +1,6 @@
 -- The fields of lines have their forms.
+use Rattle.fb_units.proofs.Each.{each_all, list_all_each}
+use Rattle.fb_units.proofs.Lists.{all_weaker}
 use Rattle.fb_units.proofs.Written.{some_digits, digit, digits_end}
 use Rattle.fb_report.proofs.Words.{and_parts, ◌≡◌, ℕ, ◌+◌, ◌%◌, ◌<◌, ◌^◌, List, [], ◌∷◌, ◌++◌, length, drop, get_or, Bool, true}
 use Rattle.fb_report.proofs.Words.{false, refl, sym, ap, ◌∙◌, arith, subst, inl, inr, ◌==◌, nat_lt, decimal, list_all, position_or_len}
@@ -10,8 +12,7 @@ use Rattle.std.proofs.lemmas.Slice.Eq.{bytes_eq-Decides}
 use Rattle.fb_report.proofs.Fields.{plain}
 
 pub all_too : (p q : ℕ → Bool) → ((x : ℕ) → p x ≡ true → q x ≡ true) → (xs : List ℕ) → list_all p xs ≡ true → list_all q xs ≡ true
-all_too p q then [] all = refl
-all_too p q then (x ∷ xs) all = let both = and_parts (p x) (list_all p xs) all in rw (then x both.0, all_too p q then xs both.1) refl
+all_too p q then xs all = each_all q xs (all_weaker (λ x. p x ≡ true) (λ x. q x ≡ true) then xs (list_all_each p xs all))
 
 -- ---- words
 

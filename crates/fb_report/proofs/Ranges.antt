@@ -2,8 +2,7 @@
 use Rattle.fb_units.proofs.Comparing.{zero_add}
 use Rattle.fb_units.proofs.Lists.{take_at}
 use Rattle.fb_report.proofs.Words.{◌≡◌, ℕ, zero, suc, ◌+◌, List, [], ◌∷◌, ◌++◌, sym, ap, ◌∙◌, arith, append_assoc}
-use Rattle.fb_report.proofs.Words.{append-nil, take, Some, slice_get, slice_get_within}
-use Rattle.fb_report.proofs.Words.{get_or_from_slice_get, flat_map, range_with_len, sum_by, take_more, sum_by-append}
+use Rattle.fb_report.proofs.Words.{append-nil, take, Some, slice_get, flat_map, range_with_len, sum_by, sum_by-append}
 use Rattle.std.proofs.lemmas.List.Concat.{flat_map-append}
 
 range_push : (a n : ℕ) → range_with_len a (suc n) ≡ range_with_len a n ++ (a + n) ∷ []
@@ -30,8 +29,7 @@ counted f before part i is = joined f before part (range_with_len 0 i) (range_wi
 pub taken : {X : Type 0} (f : X → List ℕ) (before part : List ℕ) (xs : List X) (i : ℕ) (x : X) → slice_get xs i ≡ Some x → part ≡ f x
     → (before ++ flat_map f (take i xs)) ++ part ≡ before ++ flat_map f (take (i + 1) xs)
 taken f before part xs i x at is =
-    joined f before part (take i xs) (take (i + 1) xs) x
-    (take_more xs i x (slice_get_within xs i x at) ∙ ap (λ y. take i xs ++ y ∷ []) (get_or_from_slice_get xs i x x at)) is
+    joined f before part (take i xs) (take (i + 1) xs) x (take_at xs i x at) is
 
 -- the sum with one element more
 pub sum_more : {X : Type 0} (f : X → ℕ) (xs : List X) (i : ℕ) (x : X) → slice_get xs i ≡ Some x

@@ -1,5 +1,5 @@
 -- Bytes and digests are shown as hexadecimal digits.
-use Rattle.fb_report.proofs.Words.{and_parts, ◌≡◌, ℕ, zero, suc, ◌+◌, ◌/◌, ◌%◌, ◌<◌, ◌^◌, List, [], ◌∷◌, length, map, Bool, true, refl, ◌∙◌}
+use Rattle.fb_report.proofs.Words.{and_parts, ◌≡◌, ℕ, zero, suc, ◌+◌, ◌/◌, ◌%◌, ◌<◌, ◌^◌, List, [], ◌∷◌, length, Bool, true, refl, ◌∙◌}
 use Rattle.fb_report.proofs.Words.{arith, inl, inr, nat_lt, replicate, codes, slice_index, flat_map, list_all, range_with_len, bytes_eq}
 use Rattle.fb_report.proofs.Words.{or-true, cases_lt, nat_tests, length-map, length-replicate, sum_by-append, list_all-append}
 use Rattle.fb_report.proofs.Words.{AllPass-from_list_all, encode_with, encode_lower, lower_digits, ContentRun, mark, fill, sector_bytes}
@@ -8,6 +8,8 @@ use Rattle.std.specs.Int.{byte_at, bytes_high_first}
 use Rattle.std.proofs.lemmas.List.{length-append}
 use Rattle.std.proofs.lemmas.List.FromFn.{length-range_with_len}
 use Rattle.sha2.specs.Sha256.{digest_bytes, sha256}
+use Rattle.fb_units.proofs.Each.{each_all}
+use Rattle.fb_units.proofs.Lists.{all_map_any}
 use Rattle.fb_store.specs.declared.content.Content.{Content}
 use Rattle.fb_store.specs.declared.content.Content.TheVariants.{Filled, Unreadable}
 use Rattle.fb_report.specs.declared.bytes.Bytes.TheVariants.{Nothing, Digest, Dump}
@@ -25,10 +27,6 @@ all_flat : {X : Type 0} (p : ℕ → Bool) (f : X → List ℕ) → ((x : X) →
     → list_all p (flat_map f xs) ≡ true
 all_flat p f each [] = refl
 all_flat p f each (x ∷ xs) = list_all-append p (f x) (flat_map f xs) ∙ rw (each x, all_flat p f each xs) refl
-
-all_map : {X : Type 0} (p : ℕ → Bool) (f : X → ℕ) → ((x : X) → p (f x) ≡ true) → (xs : List X) → list_all p (map f xs) ≡ true
-all_map p f each [] = refl
-all_map p f each (x ∷ xs) = rw (each x, all_map p f each xs) refl
 
 all_same : (n : ℕ) → list_all is_byte (replicate n 0) ≡ true
 all_same zero = refl
@@ -54,8 +52,8 @@ mark_bytes writer lbn =
 
 fill_bytes : (writer lbn size : ℕ) → list_all is_byte (fill writer lbn size) ≡ true
 unfolding fill
-fill_bytes writer lbn size = all_map is_byte (λ i. slice_index (mark writer lbn) (i % 16))
-    (λ i. at_any (mark writer lbn) (i % 16) (mark_bytes writer lbn)) (range_with_len 0 size)
+fill_bytes writer lbn size = each_all is_byte _ (all_map_any (λ y. is_byte y ≡ true) (λ i. slice_index (mark writer lbn) (i % 16))
+    (λ i. at_any (mark writer lbn) (i % 16) (mark_bytes writer lbn)) (range_with_len 0 size))
 
 sector_all : (lbn size : ℕ) (content : Content) → list_all is_byte (sector_bytes lbn size content) ≡ true
 sector_all lbn size (Filled writer) = fill_bytes writer lbn size
