@@ -1,6 +1,5 @@
 -- Places that are given twice, the marks of places that are given once, and tracks with more of them than spares.
-use denote.Ref.{Bor}
-use denote.Param.Members.{Mut}
+use denote.{Ref.Bor, Param.Members.Mut}
 use Rattle.std.specs.Fn.{ComputesKey, Called}
 use Rattle.fb_units.proofs.Among.{Among, among-any, among-append, among-filtered, among-mapped, among-right, among-tail, any-among}
 use Rattle.fb_units.proofs.Among.{permuted}
@@ -10,11 +9,12 @@ use Rattle.fb_units.proofs.Searches.{point-is}
 use Rattle.fb_geometry.proofs.Words.{All-from_get_or, AllByRecursion, AreInOrder, AreSorted, Bool, HasZones, IsDistinct}
 use Rattle.fb_geometry.proofs.Words.{IsDistinct-IsPermutation, IsPartitionPoint, IsPartitionPoint-from_clause, IsPartitionedBy}
 use Rattle.fb_geometry.proofs.Words.{IsPermutation, IsPermutation-map, IsPermutation-sym, IsSortedBy, IsStrictWeakOrder, List, Mark}
-use Rattle.fb_geometry.proofs.Words.{Pairwise, Place, Shape, Some, [], ap, arith, cases_Bool, cases_lt, cond, drop, false, false_from_ne_true, filter, filter-append, find}
-use Rattle.fb_geometry.proofs.Words.{get_or, inl, inr, is_among, is_mark_before, is_outside, is_place_before, least, length, length-append}
-use Rattle.fb_geometry.proofs.Words.{list_any, list_any-IsPermutation, lt-ltb, ltb-true, map, mark_of, nat_tests, none-some, option_map}
-use Rattle.fb_geometry.proofs.Words.{recursion_from_All, refl, repeated, same_mark, same_place, slice_get, sorted_far, suc, sym, true}
-use Rattle.fb_geometry.proofs.Words.{true≢false, zero, ℕ, ◌++◌, ◌+◌, ◌-◌, ◌<◌, ◌∙◌, ◌∷◌, ◌≡◌, ◌≤◌, ◌⊎◌}
+use Rattle.fb_geometry.proofs.Words.{Pairwise, Place, Shape, Some, [], ap, arith, cases_Bool, cases_lt, cond, drop, false}
+use Rattle.fb_geometry.proofs.Words.{false_from_ne_true, filter, filter-append, find, get_or, inl, inr, is_among, is_mark_before}
+use Rattle.fb_geometry.proofs.Words.{is_outside, is_place_before, least, length, length-append, list_any, list_any-IsPermutation, lt-ltb}
+use Rattle.fb_geometry.proofs.Words.{ltb-true, map, mark_of, nat_tests, none-some, option_map, recursion_from_All, refl, repeated}
+use Rattle.fb_geometry.proofs.Words.{same_mark, same_place, slice_get, sorted_far, suc, sym, true, true≢false, zero, ℕ, ◌++◌, ◌+◌, ◌-◌}
+use Rattle.fb_geometry.proofs.Words.{◌<◌, ◌∙◌, ◌∷◌, ◌≡◌, ◌≤◌, ◌⊎◌}
 use Rattle.fb_geometry.proofs.{Laws.same_places, Marking.mark_of-same, Marking.same_marks, Marking.same_mark-refl}
 use Rattle.fb_geometry.proofs.{Slips.pairwise_upto, Slips.pairwise-filter, Slips.pairwise-map, Leasts.place_order, Leasts.least-head}
 use Rattle.fb_geometry.proofs.{Leasts.IsOrder}
@@ -291,9 +291,8 @@ least_full {K = K} before order key so full places sorted are =
 
 -- a search finds how many pass a test if a place before one that passes it passes it too
 pub passing : {F : Type 0} {g : Mut F (Bor Place × Unit {0}) Bool} {f : F} (test : Place → Bool)
-    → ((a b : Place) → is_place_before b a ≡ false → test b ≡ true → test a ≡ true)
-    → (places sorted : List Place) → AreSorted places sorted → (i : ℕ) → i ≤ length sorted
-    → ((q : Place → Bool) → ComputesKey g q f → IsPartitionedBy q sorted
+    → ((a b : Place) → is_place_before b a ≡ false → test b ≡ true → test a ≡ true) → (places sorted : List Place)
+    → AreSorted places sorted → (i : ℕ) → i ≤ length sorted → ((q : Place → Bool) → ComputesKey g q f → IsPartitionedBy q sorted
     → IsPartitionPoint (λ place. q place ≡ true) (λ place. q place ≡ false) sorted i)
     → ((a : Bor Place × Unit {0}) (r : Bool) (f' : F) → Called g f a r f' → (r ≡ test a.0.now) × (f' ≡ f))
     → length (filter test places) ≡ i

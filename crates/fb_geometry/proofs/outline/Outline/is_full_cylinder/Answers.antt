@@ -16,8 +16,9 @@ counted c =
     c.partition_point-first.ensures.partitioned (λ a r f called. search rules) in
     let through = passing upto (λ a b h k. grind (arith, nat_tests)) _ _ c.requires.sorted _ c.partition_point-behind.ensures.bound
     c.partition_point-behind.ensures.partitioned (λ a r f called. search rules) in
-    omega (arith, before, through, sum_of upto under (λ place. place.track.cylinder == cylinder) (c.args.self.now.defects ++ c.args.self.now.grown)
-    (λ place. grind (arith, nat_tests)))
+    let on = sum_of upto under (λ place. place.track.cylinder == cylinder) (c.args.self.now.defects ++ c.args.self.now.grown)
+    (λ place. grind (arith, nat_tests)) in
+    omega (arith, before, through, on)
 
 pub overflow_sub-result : goal.overflow_sub-result
 overflow_sub-result c = omega (arith, counted c)

@@ -15,8 +15,9 @@ counted c =
     c.partition_point-first.ensures.partitioned (λ a r f called. search rules) in
     let through = passing upto (λ a b h k. grind (arith, nat_tests)) _ _ c.requires.sorted _ c.partition_point-behind.ensures.bound
     c.partition_point-behind.ensures.partitioned (λ a r f called. search rules) in
-    omega (arith, before, through, sum_of upto under (λ place. same_track track place.track) c.args.self.now.defects
-    (λ place. grind (arith, nat_tests)))
+    let on = sum_of upto under (λ place. same_track track place.track) c.args.self.now.defects
+    (λ place. grind (arith, nat_tests)) in
+    omega (arith, before, through, on)
 
 pub overflow_sub-result : goal.overflow_sub-result
 overflow_sub-result c = omega (arith, counted c)

@@ -11,7 +11,7 @@ no_longer c =
     let goes_on = sym c.goes_on.ensures ∙ c.if-not-goes_on.false in
     let size = some_run c.args.self.now c.args.run goes_on in
     let first = joined-first c.args.self.now (c.len-last.result - 1) c.get-longer.result c.args.run (omega arith)
-        c.get-longer.ensures.value goes_on in
+    c.get-longer.ensures.value goes_on in
     omega (arith, c.requires.range)
 
 pub overflow_add-longer : goal.overflow_add-longer
