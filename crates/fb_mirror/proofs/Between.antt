@@ -4,6 +4,7 @@ use Rattle.std.specs.Prelude.{filter, nat_lt, if◌then◌else◌}
 use Rattle.std.specs.List.{AllByRecursion, fold}
 use Rattle.std.proofs.lemmas.Bool.{cases_Bool}
 use Rattle.std.proofs.lemmas.Bool.Decides.{nat_tests}
+use Rattle.fb_units.proofs.Each.{all_any, all_pass}
 use Rattle.fb_units.proofs.Lists.{all_weaker, all_append}
 use Rattle.fb_units.specs.declared.types.Track.{Track}
 use Rattle.fb_units.proofs.Comparing.{is_by}
@@ -72,16 +73,8 @@ idle_all P Q head now (x ∷ instants) each all = elim (cases_Bool (nat_lt now x
   | inr passed ↦ rw passed (idle_all P Q head now instants each all.1)
 ]
 
-any_instant : (instants : List ℕ) → AllByRecursion (λ (x : ℕ). Unit {0}) instants
-any_instant [] = tt
-any_instant (x ∷ instants) = (tt, any_instant instants)
-
 pub kept_by : (t : ℕ) (instants : List ℕ) → AllByRecursion (λ x. x ≤ t) (filter (λ instant. nat_le instant t) instants)
-kept_by t [] = tt
-kept_by t (x ∷ instants) = elim (cases_Bool (nat_le x t)) [
-  | inl by ↦ rw by (is_by x t by, kept_by t instants)
-  | inr after ↦ rw after (kept_by t instants)
-]
+kept_by t instants = all_weaker _ _ (λ x. is_by x t) _ (all_pass (λ instant. nat_le instant t) instants)
 
 -- where all that is written passes later
 none_before : (replay : List Served) (from to : ℕ) → AllByRecursion (λ (w : Written). to < w.passage.end) (all_writes replay)
@@ -131,7 +124,7 @@ module _ (disk : Disk) (sound : IsSound disk.map) where
   decisions_placed instants until head now [] are =
       all_append (IsPlaced disk now []) (idle_until head now instants) (last_decision head (fold max now instants) until ∷ [])
       (idle_all (IsPlaced disk now []) (λ x. Unit {0}) head now instants
-      (λ begin end from is. record { from = from; of_disk = tt; between = none_before _ _ _ tt }) (any_instant instants))
+      (λ begin end from is. record { from = from; of_disk = tt; between = none_before _ _ _ tt }) (all_any _ (λ _. tt) instants))
       (last_placed disk head now (fold max now instants) until (greatest_from now instants), tt)
   decisions_placed instants until head now (served ∷ later) are =
       let within = free_within disk served are.1 are.2 in

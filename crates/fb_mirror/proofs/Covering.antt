@@ -1,12 +1,16 @@
 -- The runs of a disk over which contents were taken.
-use Rattle.std.proofs.Common.{◌≡◌, ℕ, zero, suc, ◌+◌, ◌<◌, ◌≤◌, List, [], ◌∷◌, ◌++◌, map, length, Option, Some, None, Bool, cond, refl, sym}
+use Rattle.std.proofs.Common.{◌≡◌, ℕ, ◌+◌, ◌<◌, ◌≤◌, List, [], ◌∷◌, ◌++◌, map, length, Option, Some, None, Bool, cond, refl, sym}
 use Rattle.std.proofs.Common.{ap, ap₂, ◌∙◌, arith, append-nil, inl, inr}
 use Rattle.std.specs.Prelude.{filter, is_some, ◌&&◌, ◌==◌}
 use Rattle.std.specs.List.{AllByRecursion, range_with_len, sum_by}
 use Rattle.std.specs.Option.{unwrap_or}
 use Rattle.std.proofs.lemmas.Bool.{cases_Bool}
-use Rattle.std.proofs.lemmas.List.{length-append}
+use Rattle.std.proofs.lemmas.List.{length-append, length-map}
+use Rattle.std.proofs.lemmas.List.FromFn.{length-range_with_len}
 use Rattle.std.proofs.lemmas.List.Sums.{sum_by-cons}
+use Rattle.fb_units.proofs.Alike.{filter_same}
+use Rattle.fb_units.proofs.Counts.{filter-le}
+use Rattle.fb_units.proofs.Each.{all_any}
 use Rattle.fb_units.proofs.Lists.{all_weaker}
 use Rattle.fb_store.specs.declared.content.Content.{Content}
 use Rattle.fb_store.specs.declared.content.Content.TheVariants.{Unreadable}
@@ -69,20 +73,13 @@ whole_runs count contents lost runs held base old is none took_lost took within 
     (λ lbn from to. took lbn ∙ ap (after_taking (sectors_of contents) lbn) (before lbn ∙ lost_here count lbn (omega arith))
     ∙ taken_over (sectors_of contents) lbn (Some Unreadable) ∙ over_some (after_taking (sectors_of contents) lbn None)))
 
-pub range_long : (first n : ℕ) → length (range_with_len first n) ≡ n
-range_long first zero = refl
-range_long first (suc n) = let rest = range_long (first + 1) n in omega arith
-
-map_long : {X Y : Type 0} (f : X → Y) (xs : List X) → length (map f xs) ≡ length xs
-map_long f [] = refl
-map_long f (x ∷ xs) = let rest = map_long f xs in omega arith
-
 runs_long : (runs : List ContentRun) → length (sectors_of runs) ≡ sum_by (λ run. run.count) runs
 runs_long [] = refl
 runs_long (run ∷ runs) =
     length-append (sectors_in run) (sectors_of runs)
     ∙ ap₂ (λ here rest. here + rest)
-    (map_long (λ lbn. (lbn, run.content)) (range_with_len run.first run.count) ∙ range_long run.first run.count) (runs_long runs)
+    (length-map (range_with_len run.first run.count) (λ lbn. (lbn, run.content)) ∙ length-range_with_len run.first run.count)
+    (runs_long runs)
     ∙ sym (sum_by-cons (λ (r : ContentRun). r.count) run runs)
 
 held_long : (held : ℕ → Option Content) (lbns : List ℕ) → length (held_in held lbns) ≡ length (filter (λ lbn. is_some (held lbn)) lbns)
@@ -94,27 +91,15 @@ held_long held (lbn ∷ lbns) = one (held lbn) (held_long held lbns) where
   one None rest = rest
   one (Some content) rest = omega arith
 
-kept_same : (f g : ℕ → Option Content) (lbns : List ℕ) → ((lbn : ℕ) → f lbn ≡ g lbn)
-    → filter (λ lbn. is_some (f lbn)) lbns ≡ filter (λ lbn. is_some (g lbn)) lbns
-kept_same f g [] same = refl
-kept_same f g (lbn ∷ lbns) same = ap₂ (λ o rest. cond (is_some o) (lbn ∷ rest) rest) (same lbn) (kept_same f g lbns same)
-
-kept_long : (p : ℕ → Bool) (lbns : List ℕ) → length (filter p lbns) ≤ length lbns
-kept_long p [] = omega arith
-kept_long p (lbn ∷ lbns) = let rest = kept_long p lbns in elim (cases_Bool (p lbn)) [
-  | inl kept ↦ rw kept (omega arith)
-  | inr left ↦ rw left (omega arith)
-]
-
 -- the sectors of the runs of what is held
 pub held_sum : (held kept : ℕ → Option Content) (runs : List ContentRun) (lbns : List ℕ) → runs ≡ runs_of (held_in held lbns)
     → ((lbn : ℕ) → held lbn ≡ kept lbn) → sum_by (λ run. run.count) runs ≡ length (filter (λ lbn. is_some (kept lbn)) lbns)
 held_sum held kept runs lbns are same =
     sym (runs_long runs) ∙ ap (λ rs. length (sectors_of rs)) are ∙ ap length (sectors_of-runs_of (held_in held lbns)) ∙ held_long held lbns
-    ∙ ap length (kept_same held kept lbns same)
+    ∙ ap length (filter_same _ _ lbns (all_any _ (λ lbn. ap is_some (same lbn)) lbns))
 
 pub kept_few : (p : ℕ → Bool) (first n : ℕ) → length (filter p (range_with_len first n)) ≤ n
-kept_few p first n = omega (arith, kept_long p (range_with_len first n), range_long first n)
+kept_few p first n = omega (arith, filter-le p (range_with_len first n), length-range_with_len first n)
 
 with_long : (lbn : ℕ) (content : Content) (runs : List ContentRun) → length (with_content lbn content runs) ≤ 1 + length runs
 with_long lbn content [] = omega arith
@@ -131,7 +116,8 @@ few_runs (sector ∷ sectors) = omega (arith, with_long sector.0 sector.1 (runs_
 pub whole_few : (f : ℕ → ℕ × Content) (runs : List ContentRun) (count : ℕ) → runs ≡ runs_of (map f (range_with_len 0 count))
     → length runs ≤ count
 whole_few f runs count are =
-    omega (arith, ap length are, few_runs (map f (range_with_len 0 count)), map_long f (range_with_len 0 count), range_long 0 count)
+    let all = range_with_len 0 count in
+    omega (arith, ap length are, few_runs (map f all), length-map all f, length-range_with_len 0 count)
 
 -- events that end by a sector end by each later one
 pub within_more : (end most : ℕ) (events : List Event) → end ≤ most → AllByRecursion (IsWithin end) events

@@ -1,5 +1,5 @@
 -- What events give sectors, and which event decides.
-use Rattle.std.proofs.Common.{◌≡◌, ℕ, ◌<◌, ◌≤◌, List, [], ◌∷◌, ◌++◌, Option, Some, None, Bool, true, false, cond, refl, sym, ap, ◌∙◌, arith}
+use Rattle.std.proofs.Common.{◌≡◌, ℕ, ◌<◌, ◌≤◌, List, [], ◌∷◌, Option, Some, None, Bool, true, false, cond, refl, sym, ap, ◌∙◌, arith}
 use Rattle.std.proofs.Common.{append-nil, inl, inr, subst}
 use Rattle.std.specs.Prelude.{nat_lt}
 use Rattle.std.specs.List.{AllByRecursion}
@@ -7,6 +7,7 @@ use Rattle.std.specs.Option.{option_map}
 use Rattle.std.proofs.lemmas.Bool.{cases_Bool}
 use Rattle.std.proofs.lemmas.Bool.Decides.{nat_tests}
 use Rattle.std.proofs.lemmas.Option.{none-some, same_Some}
+use Rattle.fb_units.proofs.Lists.{all_append, all_weaker}
 use Rattle.fb_store.specs.declared.content.Content.{Content}
 use Rattle.fb_store.specs.declared.content.Content.TheVariants.{Filled}
 use Rattle.fb_store.specs.declared.content.ContentRun.{ContentRun}
@@ -58,26 +59,17 @@ Below lbn end other = (that : ℕ × Content) → given lbn other ≡ Some that 
 
 nothing_below : (lbn end : ℕ) (events : List Event) → AllByRecursion (λ event. given lbn event ≡ None) events
     → AllByRecursion (Below lbn end) events
-nothing_below lbn end [] none = tt
-nothing_below lbn end (event ∷ events) none = (λ that is. absurd (none-some that (sym none.0 ∙ is)), nothing_below lbn end events none.1)
-
-below_more : (lbn end : ℕ) (one other : List Event) → AllByRecursion (Below lbn end) one → AllByRecursion (Below lbn end) other
-    → AllByRecursion (Below lbn end) (one ++ other)
-below_more lbn end [] other first second = second
-below_more lbn end (event ∷ one) other first second = (first.0, below_more lbn end one other first.1 second)
+nothing_below lbn end events none = all_weaker (λ event. given lbn event ≡ None) (Below lbn end)
+    (λ event none that is. absurd (none-some that (sym none ∙ is))) events none
 
 below_later : (lbn instant end : ℕ) (events : List Event)
     → instant < end → AllByRecursion (λ other. (that : ℕ × Content) → given lbn other ≡ Some that → that.0 ≤ instant) events
     → AllByRecursion (Below lbn end) events
-below_later lbn instant end [] less all = tt
-below_later lbn instant end (event ∷ events) less all =
-    (λ that is. let here = all.0 that is in omega arith, below_later lbn instant end events less all.1)
+below_later lbn instant end events less all = all_weaker _ _ (λ event here that is. omega (arith, less, here that is)) events all
 
 below_earlier : (lbn instant end : ℕ) (events : List Event) → instant < end → AllByRecursion (Below lbn instant) events
     → AllByRecursion (Below lbn end) events
-below_earlier lbn instant end [] less all = tt
-below_earlier lbn instant end (event ∷ events) less all =
-    (λ that is. let here = all.0 that is in omega arith, below_earlier lbn instant end events less all.1)
+below_earlier lbn instant end events less all = all_weaker _ _ (λ event here that is. omega (arith, less, here that is)) events all
 
 -- all events are earlier than what is later than the one that decides
 all_below : (lbn end : ℕ) (events : List Event) (last : ℕ × Content) → last.0 < end → Decides lbn events last
@@ -86,7 +78,8 @@ all_below lbn end events last less decides =
     let here : Below lbn end decides.event =
     λ that is. let same = ap (λ p. p.0) (same_Some last that (sym decides.gives ∙ is)) in omega arith in
     subst (AllByRecursion (Below lbn end)) (sym decides.split)
-    (below_more lbn end decides.before (decides.event ∷ decides.behind) (below_later lbn last.0 end decides.before less decides.no_later)
+    (all_append (Below lbn end) decides.before (decides.event ∷ decides.behind)
+    (below_later lbn last.0 end decides.before less decides.no_later)
     (here, below_earlier lbn last.0 end decides.behind less decides.earlier))
 
 behind_one : (lbn : ℕ) (event : Event) (events : List Event) (last : ℕ × Content)

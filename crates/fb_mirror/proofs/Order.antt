@@ -1,5 +1,5 @@
 -- Changes that are sorted by their instants, those of one instant in their order.
-use Rattle.std.proofs.Common.{◌≡◌, ℕ, suc, ◌+◌, ◌<◌, ◌≤◌, List, [], ◌∷◌, ◌++◌, map, length, get_or, Option, Some, None, Bool, true, false}
+use Rattle.std.proofs.Common.{◌≡◌, ℕ, suc, ◌+◌, ◌<◌, ◌≤◌, List, [], ◌∷◌, map, length, get_or, Option, Some, None, Bool, true, false}
 use Rattle.std.proofs.Common.{cond, refl, sym, ap, ◌∙◌, arith, inl, inr, subst}
 use Rattle.std.specs.Prelude.{nat_lt, filter}
 use Rattle.std.specs.Option.{option_map}
@@ -10,6 +10,8 @@ use Rattle.std.proofs.lemmas.List.Sorted.{All-permutation}
 use Rattle.std.proofs.lemmas.List.Elements.{All-from_recursion, recursion_from_All}
 use Rattle.std.proofs.lemmas.Bool.{cases_Bool, cases_lt}
 use Rattle.std.proofs.lemmas.Bool.Decides.{nat_tests}
+use Rattle.fb_units.proofs.Each.{all_map}
+use Rattle.fb_units.proofs.Lists.{all_append}
 use Rattle.fb_store.specs.declared.content.Content.{Content}
 use Rattle.fb_store.specs.declared.content.ContentRun.{ContentRun}
 use Rattle.fb_store.specs.declared.content.Content.TheVariants.{Unreadable}
@@ -163,25 +165,14 @@ sorted_decide lbn xs ys stable up = last_decides lbn ys up ∙ ap (option_map (�
 abbrev pub Ends : ℕ → Change → Type 0
 Ends end change = change.run.first + change.run.count ≤ end
 
-ends_append : (end : ℕ) (xs ys : List Change) → AllByRecursion (Ends end) xs → AllByRecursion (Ends end) ys
-    → AllByRecursion (Ends end) (xs ++ ys)
-ends_append end [] ys one other = other
-ends_append end (x ∷ xs) ys one other = (one.0, ends_append end xs ys one.1 other)
-
 ends_event : (end instant : ℕ) (runs : List ContentRun) → AllByRecursion (λ run. run.first + run.count ≤ end) runs
     → AllByRecursion (Ends end) (map (λ run. record { instant = instant; run = run }) runs)
-ends_event end instant [] all = tt
-ends_event end instant (run ∷ runs) all = (all.0, ends_event end instant runs all.1)
+ends_event end instant runs all = all_map (Ends end) (λ run. record { instant = instant; run = run }) runs all
 
 ends_changes : (end : ℕ) (events : List Event) → AllByRecursion (IsWithin end) events → AllByRecursion (Ends end) (changes_of events)
 ends_changes end [] all = tt
-ends_changes end (event ∷ events) all = ends_append end (changes_in event) (changes_of events)
+ends_changes end (event ∷ events) all = all_append (Ends end) (changes_in event) (changes_of events)
     (ends_event end event.instant event.contents all.0) (ends_changes end events all.1)
-
-ends_runs : (end : ℕ) (changes : List Change) → AllByRecursion (Ends end) changes
-    → AllByRecursion (λ run. run.first + run.count ≤ end) (map (λ change. change.run) changes)
-ends_runs end [] all = tt
-ends_runs end (change ∷ changes) all = (all.0, ends_runs end changes all.1)
 
 -- the runs of sorted changes end where those of the events do
 pub sorted_ends : (end : ℕ) (events : List Event) (ys : List Change) → IsPermutation (changes_of events) ys
@@ -193,4 +184,4 @@ sorted_ends end events ys moved all =
 pub sorted_within : (end : ℕ) (events : List Event) (ys : List Change) → IsPermutation (changes_of events) ys
     → AllByRecursion (IsWithin end) events
     → AllByRecursion (λ run. run.first + run.count ≤ end) (map (λ change. change.run) ys)
-sorted_within end events ys moved all = ends_runs end ys (sorted_ends end events ys moved all)
+sorted_within end events ys moved all = all_map _ (λ (change : Change). change.run) ys (sorted_ends end events ys moved all)

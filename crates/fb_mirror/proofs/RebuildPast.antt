@@ -5,7 +5,9 @@ use Rattle.std.specs.Prelude.{filter, slice_get, nat_lt, ◌&&◌, ◌==◌, not
 use Rattle.std.specs.List.{AllByRecursion, fold, list_all, range_with_len, slice_index_or}
 use Rattle.std.proofs.lemmas.Bool.{cases_Bool, true≢false, and_parts, eqb-true}
 use Rattle.std.proofs.lemmas.Option.{same_Some}
-use Rattle.fb_units.proofs.Lists.{all_weaker, all_filter}
+use Rattle.fb_units.proofs.Among.{Among}
+use Rattle.fb_units.proofs.Each.{all_with, list_all_each}
+use Rattle.fb_units.proofs.Lists.{all_filter, all_from_index, all_weaker}
 use Rattle.fb_units.proofs.Comparing.{by_is}
 use Rattle.fb_geometry.specs.Shape.{Shape}
 use Rattle.fb_geometry.specs.Places.{places}
@@ -177,17 +179,8 @@ module _ (P : DeliveryRow → Type 0) (inputs : Inputs) (calls : inputs.calls �
 
 -- ---- blocks by their numbers
 
--- one of these
-abbrev pub IsOneOf : List Block → Block → Type 0
-IsOneOf blocks block = (i : ℕ) × (slice_get blocks i ≡ Some block)
-
-each_one : (blocks : List Block) → AllByRecursion (IsOneOf blocks) blocks
-each_one [] = tt
-each_one (block ∷ blocks) =
-    ((0, refl), all_weaker (IsOneOf blocks) (IsOneOf (block ∷ blocks)) (λ b there. (suc there.0, there.1)) blocks (each_one blocks))
-
-pub disk_ones : (disk : Shape) → AllByRecursion (IsOneOf (disk_blocks disk)) (disk_blocks disk)
-disk_ones disk = each_one (disk_blocks disk)
+pub disk_ones : (disk : Shape) → AllByRecursion (Among (disk_blocks disk)) (disk_blocks disk)
+disk_ones disk = all_from_index (Among (disk_blocks disk)) (disk_blocks disk) (λ i block at. (i, at))
 
 numbered_some : (task weight n : ℕ) (cuts : List Cut) → AllByRecursion HasSectors cuts
     → AllByRecursion (λ (block : Block). 0 < block.count) (numbered task weight n cuts)
@@ -218,7 +211,7 @@ numbered_at task weight n (cut ∷ cuts) (suc i) block at = let rest = numbered_
     (rest.0, omega (arith, rest.1))
 
 -- blocks of a number are the same
-one_number : (disk : Shape) (a b : Block) → IsOneOf (disk_blocks disk) a → IsOneOf (disk_blocks disk) b → same_block a b ≡ true → a ≡ b
+one_number : (disk : Shape) (a b : Block) → Among (disk_blocks disk) a → Among (disk_blocks disk) b → same_block a b ≡ true → a ≡ b
 one_number disk a b is_a is_b same =
     let cuts = cutting disk 16 0 (length (places disk)) in
     let number = eqb-true a.number b.number (and_parts (a.task == b.task) (a.number == b.number) same).1 in
@@ -292,11 +285,9 @@ own_blocks weight n (cut ∷ cuts) = ap (λ blocks. record {
 } ∷ blocks) (own_blocks weight (n + 1) cuts)
 
 all_passed : (test : Block → Bool) (Q : Block → Type 0) (blocks : List Block)
-    → ((block : Block) → IsOneOf blocks block → test block ≡ true → Q block) → list_all test blocks ≡ true → AllByRecursion Q blocks
-all_passed test Q [] each passed = tt
-all_passed test Q (block ∷ blocks) each passed =
-    let both = and_parts (test block) (list_all test blocks) passed in
-    (each block (0, refl) both.0, all_passed test Q blocks (λ b there test_is. each b (suc there.0, there.1) test_is) both.1)
+    → ((block : Block) → Among blocks block → test block ≡ true → Q block) → list_all test blocks ≡ true → AllByRecursion Q blocks
+all_passed test Q blocks each passed = all_with (Among blocks) (λ block. test block ≡ true) Q each blocks
+    (all_from_index (Among blocks) blocks (λ i block at. (i, at))) (list_all_each test blocks passed)
 
 -- the only task is the backup
 only_task : (past : Past) (task : ℕ) → tasks past ≡ backup_terms ∷ [] → is_open_backup past task ≡ true → task ≡ 0
@@ -311,7 +302,7 @@ only_task past task are unsealed =
 
 -- where it is complete, each block of the disk was delivered
 pub complete_delivered : (P : DeliveryRow → Type 0) (disk : Shape) (past : Past) (task : ℕ)
-    → ((row : DeliveryRow) → P row → IsOneOf (disk_blocks disk) row.block) → IsRebuilding P disk past → is_open_backup past task ≡ true
+    → ((row : DeliveryRow) → P row → Among (disk_blocks disk) row.block) → IsRebuilding P disk past → is_open_backup past task ≡ true
     → is_complete past task ≡ true
     → AllByRecursion (λ block. (row : DeliveryRow) × P row × (row.block ≡ block)) (disk_blocks disk)
 complete_delivered P disk past task known is unsealed done =

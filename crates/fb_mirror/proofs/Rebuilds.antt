@@ -6,9 +6,11 @@ use Rattle.std.specs.List.{AllByRecursion, flat_map, range_with_len}
 use Rattle.std.specs.Option.{option_map, unwrap_or}
 use Rattle.std.proofs.lemmas.Bool.{true≢false}
 use Rattle.std.proofs.lemmas.List.Elements.{filter-append}
+use Rattle.std.proofs.lemmas.List.FromFn.{length-range_with_len}
 use Rattle.std.proofs.lemmas.Option.{same_Some, none-some}
+use Rattle.fb_units.proofs.Among.{Among}
 use Rattle.fb_units.proofs.Lists.{all_weaker, all_range}
-use Rattle.fb_units.proofs.Each.{all_both}
+use Rattle.fb_units.proofs.Each.{all_any, all_both}
 use Rattle.fb_units.proofs.Comparing.{by_is}
 use Rattle.fb_units.proofs.Alike.{same_map_where}
 use Rattle.fb_geometry.specs.Sound.{IsSound}
@@ -46,10 +48,9 @@ use Rattle.fb_mirror.specs.Survivor.{CoveredSectorsAreTheSurvivors, CoveredSecto
 use Rattle.fb_mirror.specs.Survivor.{sectors, survives}
 use Rattle.fb_mirror.proofs.AtRest.{by_then}
 use Rattle.fb_mirror.proofs.Between.{IsPlaced, decisions_placed, due_quiet, quiet_until}
-use Rattle.fb_mirror.proofs.Covering.{range_long}
 use Rattle.fb_mirror.proofs.CutCover.{HoldsIn, cuts_hold}
 use Rattle.fb_mirror.proofs.Ordered.{AreInTurn, NoEarlier, decisions_in_turn, due_ascends}
-use Rattle.fb_mirror.proofs.RebuildPast.{IsOneOf, IsRebuilding, IsUnderWay, after_rebuilds, complete_delivered, disk_blocks, disk_ones}
+use Rattle.fb_mirror.proofs.RebuildPast.{IsRebuilding, IsUnderWay, after_rebuilds, complete_delivered, disk_blocks, disk_ones}
 use Rattle.fb_mirror.proofs.RebuildPast.{disk_some, rebuilding_more, rebuilding_weaker, chosen_rebuilds, wanted_have}
 use Rattle.fb_mirror.proofs.RunRows.{AreLinked, IsKept, NoFact, RowsFit, back_fits, gots, gots_of_back, step_fits, rows_weaker}
 use Rattle.fb_mirror.proofs.Survival.{IsFoundIn, back_found, decided-append, event_of}
@@ -139,11 +140,11 @@ module _ (inputs : Inputs) (replay : List Served) (rows : List BackRow) (calls :
 
   -- a delivery of one of the disk's blocks, which covers it
   abbrev IsCopied : DeliveryRow → Type 0
-  IsCopied row = IsOneOf (disk_blocks inputs.disk.map) row.block × CoversIn keep rows row
+  IsCopied row = Among (disk_blocks inputs.disk.map) row.block × CoversIn keep rows row
 
   -- by then
   abbrev IsCopiedBy : ℕ → DeliveryRow → Type 0
-  IsCopiedBy now row = IsOneOf (disk_blocks inputs.disk.map) row.block × CoversIn keep rows row × (row.end ≤ now)
+  IsCopiedBy now row = Among (disk_blocks inputs.disk.map) row.block × CoversIn keep rows row × (row.end ≤ now)
 
   copied_later : (now next : ℕ) → now ≤ next → (row : DeliveryRow) → IsCopiedBy now row → IsCopiedBy next row
   copied_later now next order row copied = (copied.0, copied.1, omega (arith, copied.2, order))
@@ -207,7 +208,7 @@ module _ (inputs : Inputs) (replay : List Served) (rows : List BackRow) (calls :
 
     got_copied : AllByRecursion (CoversIn keep rows) (gots step) → AllByRecursion IsCopied (gots step)
     got_copied cover =
-        let One = IsOneOf (disk_blocks inputs.disk.map) in
+        let One = Among (disk_blocks inputs.disk.map) in
         let due = delivery_true inputs survivor past step One some (wanted_have (IsCopiedBy (instant_of (decision_in step))) inputs.disk.map
         (chosen_past inputs past (decision_in step)) One chosen_then (disk_ones inputs.disk.map)) in
         all_both (λ row. One row.block) (CoversIn keep rows) (gots step)
@@ -295,10 +296,6 @@ all_kept : {X : Type 0} (p : X → Bool) (xs : List X) → AllByRecursion (λ x.
 all_kept p [] all = refl
 all_kept p (x ∷ xs) all = ap (λ b. cond b (x ∷ filter p xs) (filter p xs)) all.0 ∙ ap (λ ys. x ∷ ys) (all_kept p xs all.1)
 
-any_event : (es : List Event) → AllByRecursion (λ event. ◌≡◌ {A = Bool} true true) es
-any_event [] = tt
-any_event (e ∷ es) = (refl, any_event es)
-
 module _ (ascend : ForegroundListsAscend) (one : OnePlainReplay) where
   pub sealed_stays : CoveredSectorsAreTheSurvivorsAtRest → (inputs : Inputs) (run : Run) (sealed t : ℕ) → IsSound inputs.disk.map
       → IsAccepted inputs → IsFull inputs run → inputs.calls ≡ rebuild_calls inputs.disk.map
@@ -322,7 +319,7 @@ module _ (ascend : ForegroundListsAscend) (one : OnePlainReplay) where
         covered = ap length (all_kept (λ lbn. is_some (held_after (events run) lbn)) (range_with_len 0 count)
             (all_weaker (λ lbn. held_after (events run) lbn ≡ Some (survives inputs run lbn))
             (λ lbn. is_some (held_after (events run) lbn) ≡ true) (λ lbn is. ap is_some is) (range_with_len 0 count) all))
-            ∙ range_long 0 count;
+            ∙ length-range_with_len 0 count;
         content = ap runs_of (same_map_where (λ lbn. held_after (events run) lbn ≡ Some (survives inputs run lbn))
             (λ lbn. (lbn, unwrap_or (held_after (events run) lbn) Unreadable)) (λ lbn. (lbn, survives inputs run lbn))
             (λ lbn is. ap (λ o. (lbn, unwrap_or o Unreadable)) is) (range_with_len 0 count) all);
@@ -333,5 +330,6 @@ module _ (ascend : ForegroundListsAscend) (one : OnePlainReplay) where
           let got = all_covered ascend one inputs run sealed sound accepted full calls is (λ event. true) sealed (λ row by. refl)
           (omega arith) lbn less in
           let held = kept_held (λ event. true) run lbn got in
-          let holds = sym (ap (λ es. held_after es lbn) (all_kept (λ event. true) (events run) (any_event (events run)))) ∙ held.1 in
+          let whole = all_kept (λ event. true) (events run) (all_any _ (λ _. refl) (events run)) in
+          let holds = sym (ap (λ es. held_after es lbn) whole) ∙ held.1 in
           holds ∙ ap Some (survive inputs run lbn held.0 sound accepted full holds)

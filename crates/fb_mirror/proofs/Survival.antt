@@ -8,6 +8,7 @@ use Rattle.std.proofs.lemmas.Bool.{cases_Bool}
 use Rattle.std.proofs.lemmas.Bool.Decides.{nat_tests}
 use Rattle.std.proofs.lemmas.List.Sums.{fold-append}
 use Rattle.std.proofs.lemmas.Option.{same_Some, none-some}
+use Rattle.fb_units.proofs.Each.{all_any}
 use Rattle.fb_units.proofs.Lists.{all_weaker, all_append, all_left, all_right}
 use Rattle.fb_units.specs.declared.types.Track.{Track}
 use Rattle.fb_geometry.specs.Sound.{IsSound}
@@ -328,10 +329,6 @@ module _ (disk : Disk) (latent : List ℕ) (replay : List Served) where
 abbrev AnyBlock : Block → Type 0
 AnyBlock block = Unit {0}
 
-any_blocks : (blocks : List Block) → AllByRecursion AnyBlock blocks
-any_blocks [] = tt
-any_blocks (block ∷ blocks) = (tt, any_blocks blocks)
-
 module _ (inputs : Inputs) (medium : Medium) (replay : List Served) (same_disk : medium.disk ≡ inputs.disk) where
   got_found : (past : Past) (step : Step) → IsPlaced medium.disk 0 replay (decision_in step) → IsPlanned inputs medium past step
       → IsDelivered inputs medium past step
@@ -347,7 +344,7 @@ module _ (inputs : Inputs) (medium : Medium) (replay : List Served) (same_disk :
             (lies some).begins (lies some).ends placed.between;
       })
       (map (λ (delivery : Delivery). delivery.got) step.deliveries)
-      (delivery_true inputs medium past step AnyBlock some (any_blocks (wanted (chosen_past inputs past (decision_in step)))))
+      (delivery_true inputs medium past step AnyBlock some (all_any _ (λ _. tt) (wanted (chosen_past inputs past (decision_in step)))))
 
   steps_found : (past : Past) (steps : List Step) → AllByRecursion (IsPlaced medium.disk 0 replay) (decisions_in steps)
       → AtEach (IsPlanned inputs medium) inputs past steps → AtEach (IsDelivered inputs medium) inputs past steps
