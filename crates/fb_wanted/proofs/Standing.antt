@@ -4,6 +4,7 @@ use Rattle.std.proofs.Common.{length, filter, map, slice_get, get_or, refl, ap, 
 use Rattle.std.proofs.lemmas.Bool.{cases_Bool}
 use Rattle.std.proofs.lemmas.List.{length-map, map-append}
 use Rattle.std.proofs.lemmas.Option.{same_Some, none-some, slice_get_within, slice_get-get_or}
+use Rattle.fb_units.proofs.Filtered.{filter_from}
 use Rattle.fb_units.proofs.Lists.{element_at}
 use Rattle.fb_wanted.specs.declared.block.Entry.{Entry}
 use Rattle.fb_wanted.specs.declared.block.Block.{Block}
@@ -199,16 +200,8 @@ first_all p f others (e ∷ es) (suc k) le = elim (cases_Bool (p e)) [
       rw no' (ap (λ l. e ∷ l) (first_all p f others es (suc k) fewer) ∙ ap (λ x. x ∷ map f es) (sym (others e no')))
 ]
 
-passes_step : (p : Entry → Bool) (x : Entry) (es : List Entry) (b : Bool) (k : ℕ) (e : Entry) → p x ≡ b
-    → ((i : ℕ) (y : Entry) → slice_get (filter p es) i ≡ Some y → p y ≡ true)
-    → slice_get (if b then x ∷ filter p es else filter p es) k ≡ Some e → p e ≡ true
-passes_step p x es true zero e is rest h = ap p (sym (same_Some x e h)) ∙ is
-passes_step p x es true (suc k) e is rest h = rest k e h
-passes_step p x es false k e is rest h = rest k e h
-
 pub passes : (p : Entry → Bool) (es : List Entry) (k : ℕ) (e : Entry) → slice_get (filter p es) k ≡ Some e → p e ≡ true
-passes p [] k e h = absurd (none-some e h)
-passes p (x ∷ es) k e h = passes_step p x es (p x) k e refl (passes p es) h
+passes p es k e h = (filter_from p es k e h).2
 
 -- if no other entry is changed, changing the k-th is changing all
 all_stay : (p : Entry → Bool) (f : Entry → Entry) (es : List Entry) → ((e : Entry) → p e ≡ false → f e ≡ e)

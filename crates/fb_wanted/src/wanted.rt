@@ -123,9 +123,9 @@ fn add_to_look_up(
     }
 }
 
-// Makes room for a block that is to be registered in the bounds of cylinders and of bands, and notes
-// its chunk and its task if the block `is_new` there. What was noted stays noted and no bound
-// changes, also out of memory.
+// Makes room in the bounds of cylinders and of bands for a block that is to be registered, and
+// notes its task at its chunk if `is_new`. What was noted stays noted and no bound changes, also
+// out of memory.
 fn make_room(
     near: &mut BTreeSet<(u32, u32)>,
     greatest: &mut Greatest,

@@ -30,7 +30,7 @@ pub add_to_look_up-requires : goal.add_to_look_up-requires
 add_to_look_up-requires c = counts_room c.self.inside.entries.items c.self.inside.tasks.items c.self.inside.tracks c.self.invariant.0
     c.args.block.task (record { block = c.args.block; state = Suspended }) _ refl
 
--- what is kept holds of the same entries after room is made for the block, also out of memory
+-- the invariant still holds after room was made for the block, also out of memory
 with_room : (c : After-make_room)
     → let self = c.self.inside in
     let items = self.entries.items in
