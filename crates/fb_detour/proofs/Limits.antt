@@ -54,8 +54,8 @@ module _ (turning : Turning) (gap : Gap) (offer : Offer) (last from : ℕ)
     | inr caught ↦ absurd (omega (arith, catches from after caught, behind))
   ]
 
-  -- a part to which the offer's worth is added if it begins no later than the last instant, and whose `from` else lies behind
-  -- that instant, grows by at least what the offer adds from `from` on
+  -- a part to which the offer's worth is added if it begins no later than the last instant grows by at least what the offer adds
+  -- from `from` on, if `from` lies behind that instant wherever the part begins behind it
   pub part_grown : (begin old new : ℕ) → (last < begin → last < from) → new ≡ old + (if nat_le begin last then offer.worth else 0)
       → old + late_gain turning gap from offer ≤ new
   part_grown begin old new behind is = elim (cases_lt last begin) [

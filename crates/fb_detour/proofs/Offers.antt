@@ -1,16 +1,13 @@
 -- What a track offers is what its wanted blocks can give.
 use Rattle.fb_units.proofs.Filtered.{filter_from}
-use Rattle.fb_detour.proofs.Words.{Bool, List, Some, [], ap, arith, false, get_or, if◌then◌else◌, inl, inr, length, nat_le, refl, slice_get}
-use Rattle.fb_detour.proofs.Words.{suc, take, true, ℕ, ◌*◌, ◌+◌, ◌<◌, ◌∙◌, ◌∷◌, ◌≡◌, ◌≤◌, cases_Bool, cases_lt, nat_tests, take_all}
+use Rattle.fb_units.proofs.Lists.{all_from_index}
+use Rattle.fb_detour.proofs.Words.{Bool, List, [], ap, arith, false, get_or, if◌then◌else◌, inl, inr, length, nat_le, refl}
+use Rattle.fb_detour.proofs.Words.{take, true, ℕ, ◌*◌, ◌+◌, ◌<◌, ◌∙◌, ◌∷◌, ◌≡◌, ◌≤◌, cases_Bool, cases_lt, nat_tests, take_all}
 use Rattle.fb_detour.proofs.Words.{sum_by-cons, sum_by-le-sum_by, sum_by-take-le, sum_by_more, AllByRecursion, sum_by, same_track, Sweep}
 use Rattle.fb_detour.proofs.Words.{Disk, is_wanted, on_track, wanted_of, Block, Entry, Offer, Dwell, Gap, next-le, added, end_of, passes_by}
 use Rattle.fb_detour.proofs.Words.{IsBlockOn, Turning, IsReady, IsStop, late_gain, stay_gain, turned_to, stay, Stop}
 use Rattle.fb_plan.proofs.Swept.{end-by-sweep}
 use Rattle.fb_detour.proofs.Ceilings.{if-le-n, worth}
-
-pub all_of : (P : Entry → Type 0) (es : List Entry) → ((k : ℕ) (e : Entry) → slice_get es k ≡ Some e → P e) → AllByRecursion P es
-all_of P [] each = tt
-all_of P (e ∷ es) each = (each 0 e refl, all_of P es (λ k. each (suc k)))
 
 -- a sum over the wanted blocks, block by block
 over_entries : (f : Block → ℕ) (g : Entry → ℕ) (es : List Entry)
@@ -45,7 +42,7 @@ module _ (disk : Disk) (dwell : Dwell) where
   unfolding stay
   gives es stop is =
       let its = on_track dwell.track es in
-      let all = all_of (λ e. stay_gain disk dwell e ≡ (if is_wanted e.state then by_sweep e.block else 0)) its
+      let all = all_from_index (λ e. stay_gain disk dwell e ≡ (if is_wanted e.state then by_sweep e.block else 0)) its
       (λ k e at. on_its_track e (is.on_disk k e at) (filter_from (λ x. same_track dwell.track x.block.track) es k e at).2) in
       ap (λ r. sum_by (added (λ sweep. nat_le (end_of r sweep dwell.begin) dwell.end)) stop.offers.now) is.turning.rotation
       ∙ (is.its (λ sweep n. if nat_le (end_of disk.map.rotation sweep dwell.begin) dwell.end then n else 0)

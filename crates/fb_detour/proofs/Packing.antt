@@ -1,6 +1,6 @@
 -- A stay catches no more than the sectors that can pass while it lasts.
 use Rattle.fb_model.proofs.Passages.{slots_short}
-use Rattle.fb_units.proofs.Lists.{all_filter}
+use Rattle.fb_units.proofs.Lists.{all_filter, all_from_index}
 use Rattle.fb_detour.proofs.Words.{List, Some, ap, arith, if◌then◌else◌, inl, inr, length, nat_le, subst, suc, sym, true, zero, ℕ, ◌&&◌}
 use Rattle.fb_detour.proofs.Words.{◌*◌, ◌+◌, ◌-◌, ◌/◌, ◌<◌, ◌∙◌, ◌≡◌, ◌≤◌, div-mul-le_self, and_parts, cases_Bool, leb-true}
 use Rattle.fb_detour.proofs.Words.{sum_by-le-sum_by, le-div, slice_get-get_or, same_track, Place, Track, places, Shape, slots_at}
@@ -8,7 +8,6 @@ use Rattle.fb_detour.proofs.Words.{HasOwnPlaces, IsSound, IsAt, place_at, same_t
 use Rattle.fb_detour.proofs.Words.{Entry, block_end, catches, AreOnDisk, IsBlockOn, early_to, slots_within, stay_gain, stay}
 use Rattle.fb_detour.proofs.Ceilings.{if-le-n}
 use Rattle.fb_detour.proofs.Counted.{no_more}
-use Rattle.fb_detour.proofs.Offers.{all_of}
 use Rattle.fb_detour.proofs.Spread.{same_share}
 use Rattle.fb_detour.proofs.Within.{from-le, its_track, place_of, sectors_pass}
 
@@ -108,7 +107,7 @@ module _ (disk : Disk) (track : Track) (from upto : ℕ) where
     packing entries depth own on_disk deep =
         let its = on_track track entries in
         let all = all_filter (λ e. (i : ℕ) → i < caught e → Passes (e.block.lbn + i)) (λ e. same_track track e.block.track) entries
-        (all_of (λ e. (i : ℕ) → i < caught e → Passes (e.block.lbn + i)) entries (λ k e at. each_passes e (on_disk k e at))) in
+        (all_from_index (λ e. (i : ℕ) → i < caught e → Passes (e.block.lbn + i)) entries (λ k e at. each_passes e (on_disk k e at))) in
         omega (
           arith,
           sum_by-le-sum_by (stay_gain disk (early_to track from upto)) (λ e. e.block.weight * caught e) its gain-caught,

@@ -4,7 +4,7 @@ use Rattle.fb_detour.proofs.Keys.{bound-of, part-more, parts-no_better, parts-do
 use Rattle.fb_detour.proofs.search.+visit.Goals.{After-width_of-width}
 use Rattle.fb_detour.proofs.search.+visit.Goals as goal
 
--- a part of the cylinders ends soon, even one that begins behind them
+-- a part of the cylinders ends by 9,000,000, even one that begins behind them
 ends-soon : (n : ℕ) (c : After-width_of-width n) (key : ℕ)
     → c.args.from + (7 - (key - 1) % 8) * c.width_of-width.result + c.width_of-width.result ≤ 9 * 10 ^ 6
 ends-soon n c key =
