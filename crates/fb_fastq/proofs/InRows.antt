@@ -1,16 +1,13 @@
 -- Requests in rows.
+use Rattle.fb_units.proofs.Each.{flat_all}
+use Rattle.fb_units.proofs.Lists.{all_from_index}
 use Rattle.fb_fastq.proofs.Words.{all_get, ◌≡◌, ℕ, zero, suc, ◌+◌, ◌*◌, ◌^◌, ◌<◌, ◌≤◌, List, [], ◌∷◌, refl, sym, ap, subst, ◌∙◌, arith, inl}
 use Rattle.fb_fastq.proofs.Words.{inr, ◌⊎◌, Some, slice_get, length, MatchOption, AllByRecursion, Track, cylinders_of, track_at, seek}
 use Rattle.fb_fastq.proofs.Words.{distance_of, Disk, sptf, Candidate, Position, Pick, Waiting, IsAlong, IsBefore, Row, all_of_rows}
 use Rattle.fb_fastq.proofs.Words.{at_position}
-use Rattle.fb_fastq.proofs.Words.{IsOnCylinder, AreRows, IsAt, IsPick, RulesOut, RulesOutAll, SeeksRise, none-some, all_append, all_left}
+use Rattle.fb_fastq.proofs.Words.{IsOnCylinder, AreRows, IsAt, IsPick, RulesOut, RulesOutAll, SeeksRise, none-some, all_left}
 use Rattle.fb_fastq.proofs.Words.{all_right}
 use Rattle.fb_fastq.proofs.{Swept.some_injective, Sweeps.no_later_trans, Far.waits_for_arm, OnLanes.on_cylinder}
-
--- what is so at each position is so of all
-pub all_at : (P : Waiting → Type 0) (ws : List Waiting) → ((k : ℕ) (w : Waiting) → slice_get ws k ≡ Some w → P w) → AllByRecursion P ws
-all_at P [] h = tt
-all_at P (w ∷ ws) h = (h 0 w refl, all_at P ws (λ k x e. h (suc k) x e))
 
 -- what is so of all rows is so of each
 pub row_of_all : (P : Waiting → Type 0) (rows : List Row) (i : ℕ) (row : Row) → AllByRecursion P (all_of_rows rows)
@@ -23,8 +20,7 @@ row_of_all P (x ∷ rows) (suc i) row h e = row_of_all P rows i row (all_right P
 -- and the other way round
 pub all_rows : (P : Waiting → Type 0) (rows : List Row) → ((i : ℕ) (row : Row) → slice_get rows i ≡ Some row → AllByRecursion P row.items)
     → AllByRecursion P (all_of_rows rows)
-all_rows P [] h = tt
-all_rows P (x ∷ rows) h = all_append P x.items (all_of_rows rows) (h 0 x refl) (all_rows P rows (λ i row e. h (suc i) row e))
+all_rows P rows h = flat_all P (λ (row : Row). row.items) rows (all_from_index _ rows h)
 
 -- each row has requests of its own cylinder alone
 pub row_on : (cylinder : ℕ) (rows : List Row) (i : ℕ) (row : Row) → AreRows cylinder rows → slice_get rows i ≡ Some row
@@ -112,13 +108,13 @@ module _ (disk : Disk) (rows : List Row) (own : AreRows 0 rows) (spots : AllByRe
 
   -- beyond the disk there are none
   pub none_beyond : (P : Waiting → Type 0) → cylinders_of disk.map.zones ≤ i → AllByRecursion P row.items
-  none_beyond P beyond = all_at P row.items (λ k w at. let on = (on_row k w at).1 in absurd (omega (arith, on, beyond)))
+  none_beyond P beyond = all_from_index P row.items (λ k w at. let on = (on_row k w at).1 in absurd (omega (arith, on, beyond)))
 
   -- where the arm alone takes longer than the best
   pub far_row : (head : Track) (now distance time : ℕ) (best : Candidate) → SeeksRise disk.mechanism → time ≡ seek disk.mechanism distance
       → time ≤ 10 ^ 9 → best.wait < time
       → distance ≤ distance_of head.cylinder i → RulesOutAll disk head now best row.items
-  far_row head now distance time best rise is short longer far = all_at (RulesOut disk head now best) row.items (λ k w at.
+  far_row head now distance time best rise is short longer far = all_from_index (RulesOut disk head now best) row.items (λ k w at.
       let on = (on_row k w at).0 in
       let farther : distance ≤ distance_of head.cylinder (track_at disk.map w.1.lbn).cylinder =
       subst (λ c. distance ≤ distance_of head.cylinder c) (sym on) far in

@@ -3,7 +3,7 @@ use Rattle.fb_fastq.proofs.Words.{◌≡◌, ◌≢◌, ℕ, zero, suc, ◌+◌,
 use Rattle.fb_fastq.proofs.Words.{false, inl, inr, ◌⊎◌, Option, Some, None, IsSome, length, nat_lt, nat_le, ◌==◌, if◌then◌else◌, IfSome}
 use Rattle.fb_fastq.proofs.Words.{cond, AllByRecursion, lookup, BTreeMap, get, is_at, cases_Bool, true≢false, nat_tests, Request}
 use Rattle.fb_fastq.proofs.Words.{first_least, better, order, Waits, Holds, AllHeld, Waiting, number_of, join_in, in_order, pending_of}
-use Rattle.fb_fastq.proofs.Words.{NumbersDiffer, IsNoLater, IsFirst, IsFirstHeld}
+use Rattle.fb_fastq.proofs.Words.{NumbersDiffer, IsNoLater, IsFirst, IsFirstHeld, all_weaker}
 use Rattle.fb_queue.proofs.FirstLeast.{later_better}
 use Rattle.fb_fastq.proofs.{Swept.some_injective, Swept.IsIn, Swept.all_of, Swept.all_from, Swept.all_unmapped, Keys.here_equal}
 use Rattle.fb_fastq.proofs.{Keys.equal_keys, Joins.all_join, Joins.all_in_order}
@@ -13,8 +13,7 @@ IsRising [] = Unit {0}
 IsRising (w ∷ ws) = AllByRecursion (λ x. number_of w < number_of x) ws × IsRising ws
 
 above : (m n : ℕ) (ws : List Waiting) → m < n → AllByRecursion (λ x. n < number_of x) ws → AllByRecursion (λ x. m < number_of x) ws
-above m n [] h all = tt
-above m n (w ∷ ws) h all = (let under : n < number_of w = all.0 in omega arith, above m n ws h all.1)
+above m n ws h all = all_weaker _ _ (λ x over. omega (arith, h, over)) ws all
 
 join_rising : (w : Waiting) (ws : List Waiting) → AllByRecursion (λ x. number_of x ≢ number_of w) ws → IsRising ws → IsRising (join_in w ws)
 join_rising w [] apart h = (tt, tt)

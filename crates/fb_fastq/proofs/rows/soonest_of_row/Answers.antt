@@ -1,8 +1,9 @@
 use Rattle.fb_fastq.proofs.Words.{◌≡◌, Some, slice_get, get_or, length, false, refl, sym, subst, ap, ◌∙◌, arith, inl, inr, cases_lt}
 use Rattle.fb_fastq.proofs.Words.{slice_get_read, slice_get-get_or, slice_get_within, Candidate, Position, Waiting, IsAlong, Row, RulesOut}
 use Rattle.fb_fastq.proofs.Words.{RulesOutAll, IsOnCylinder}
+use Rattle.fb_units.proofs.Lists.{all_from_index}
 use Rattle.fb_units.specs.declared.types.Name.TheVariants.{Traced}
-use Rattle.fb_fastq.proofs.{Swept.some_injective, Sweeps.no_later_trans, InRows.all_at, InRows.held_in_row, InRows.held_on}
+use Rattle.fb_fastq.proofs.{Swept.some_injective, Sweeps.no_later_trans, InRows.held_in_row, InRows.held_on}
 use Rattle.fb_fastq.proofs.{InRows.same_row_of, InRows.still_ruled_out, InRows.rules_out_own, InRows.picks_one, InRows.in_row}
 use Rattle.fb_fastq.proofs.rows.soonest_of_row.Goals.{After-index-rows-number, In-loop-index}
 use Rattle.fb_fastq.proofs.rows.soonest_of_row.Goals as goal
@@ -119,5 +120,5 @@ returns-clause-least c = λ row e.
     (there (goal.at.returns-clause-least c).After-index-rows-number) e in
     subst (λ (r : Row). RulesOutAll disk head now best r.items) one
     (subst (RulesOutAll disk head now best) c.as_slice-row.ensures.value
-    (all_at (RulesOut disk head now best) ws (λ k w at.
+    (all_from_index (RulesOut disk head now best) ws (λ k w at.
     c.loop-index.invariant.seen k w (let within = slice_get_within ws k w at in omega (arith, within, c.loop-index-test.false)) at)))
