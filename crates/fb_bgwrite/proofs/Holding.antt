@@ -1,11 +1,11 @@
 -- What the reserve holds: no foreground write concerns it, and the rows that concern a sector are of one put.
+use Rattle.fb_units.proofs.Among.{among-right}
 use Rattle.fb_bgwrite.proofs.Words.{none_kept, all_get, ◌≡◌, ℕ, zero, suc, ◌+◌, ◌^◌, ◌<◌, List, [], ◌∷◌, Bool, true, false}
 use Rattle.fb_bgwrite.proofs.Words.{Option, Some, None, map, length, slice_get, refl, sym, ap, ◌∙◌, subst, arith, inl, inr, ◌==◌}
 use Rattle.fb_bgwrite.proofs.Words.{filter, nat_lt, AllByRecursion, flat_map, cases_Bool, cases_lt, and_parts, nat_tests, places}
 use Rattle.fb_bgwrite.proofs.Words.{Disk, all_weaker, Block, ForeRow, Run, all_append, SpillItem, SpillLine, WroteLine, WroteRow}
 use Rattle.fb_bgwrite.proofs.Words.{Put, Puts, SectorRange, request_range, PutBlock, put_blocks, writes, block_range, share}
 use Rattle.fb_bgwrite.proofs.Words.{ArePuts, fore_ranges, IsInTime, IsOfPut, accepted, some_one}
-use Rattle.fb_units.proofs.Among.{among-right}
 use Rattle.fb_store.specs.declared.content.Content.TheVariants.{Filled}
 use Rattle.fb_store.specs.Writes.{unwritten}
 use Rattle.fb_bgwrite.specs.Held.{Fill, fills, fore_fills, held, held_by, is_in, is_told, later, latest, put_fills, wrote_range, HoldsPuts}

@@ -1,10 +1,10 @@
 -- Ranges within one that share no sector have no more sectors than it.
+use Rattle.std.proofs.lemmas.List.FromFn.{length-range_with_len}
 use Rattle.fb_bgwrite.proofs.Words.{◌≡◌, ◌⊎◌, ℕ, zero, suc, ◌+◌, ◌-◌, ◌<◌, ◌≤◌, List, [], ◌∷◌, Bool, true, false, ◌&&◌, max, min}
 use Rattle.fb_bgwrite.proofs.Words.{map, refl, ap, arith, inl, inr, if◌then◌else◌, nat_le, nat_lt, AllByRecursion, count_by}
 use Rattle.fb_bgwrite.proofs.Words.{list_any, range_with_len, sum_by, cases_Bool, cases_lt, and_parts, leb-true, ltb-true}
 use Rattle.fb_bgwrite.proofs.Words.{nat_tests, count_by-le-length, sum_by-cons, all_weaker, Put, SectorRange, lies_in, share}
 use Rattle.fb_bgwrite.proofs.Words.{AreApart, Accepted, range_of, ArePuts, IsPutOf, ArePutsOn, is_shares, none_any}
-use Rattle.std.proofs.lemmas.List.FromFn.{length-range_with_len}
 
 -- the sector is in the range
 abbrev pub has : SectorRange → ℕ → Bool

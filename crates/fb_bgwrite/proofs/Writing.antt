@@ -1,5 +1,6 @@
 -- One more row: which blocks are pending after it, and how many sectors are left.
 use Rattle.std.proofs.Math.Bool.{or-false}
+use Rattle.std.proofs.lemmas.List.Elements.{filter-append}
 use Rattle.fb_units.proofs.Comparing.{same_number}
 use Rattle.fb_bgwrite.proofs.Words.{◌≢◌, ◌⊎◌, append-nil, all_weaker, none_kept, all_get, ◌≡◌, ℕ, zero, suc, ◌+◌, ◌<◌, ◌≤◌, List}
 use Rattle.fb_bgwrite.proofs.Words.{[], ◌∷◌, ◌++◌, Bool, true, false, ◌&&◌, ◌||◌, not, Some, slice_get, length, map, refl, sym, ap, ap₂}
@@ -8,7 +9,6 @@ use Rattle.fb_bgwrite.proofs.Words.{cases_Bool, true≢false, nat_tests, list_an
 use Rattle.fb_bgwrite.proofs.Words.{Delivered, Deliver, after, entry_after, wanted_of, SpillItem, SpillLine, WroteLine, SpillRow}
 use Rattle.fb_bgwrite.proofs.Words.{WroteRow, PutBlock, is_pending, is_written, pending, sectors, writes, AreOnce, entry_of}
 use Rattle.fb_bgwrite.proofs.Words.{some_one}
-use Rattle.std.proofs.lemmas.List.Elements.{filter-append}
 use Rattle.fb_wanted.specs.declared.block.State.{State}
 use Rattle.fb_bgwrite.proofs.{PutBlocks.its_blocks, PutBlocks.AreInOrder, PutBlocks.IsBefore}
 

@@ -7,9 +7,9 @@ use Rattle.std.proofs.Math.Bool.{or-true}
 use Rattle.std.proofs.lemmas.Bool.{and_parts, cases_Bool, cases_lt, eqb-true as same_number, ne_eqb as number_other, or_parts, true≢false}
 use Rattle.std.proofs.lemmas.List.Elements.{filter-append}
 use Rattle.std.proofs.lemmas.List.Folds.{list_any-append}
-use Rattle.fb_tasks.proofs.ChoiceSteps.{no_backup}
 use Rattle.fb_units.proofs.Comparing.{same_number as number_same}
 use Rattle.fb_units.proofs.Lists.{all_append}
+use Rattle.fb_tasks.proofs.ChoiceSteps.{no_backup}
 use Rattle.fb_geometry.specs.Shape.{Shape}
 use Rattle.fb_geometry.specs.Places.{places}
 use Rattle.fb_sectormap.specs.declared.cut.Cut.{Cut}

@@ -3,6 +3,7 @@ use Rattle.std.proofs.Common.{◌≡◌, ℕ, zero, suc, ◌+◌, ◌*◌, ◌^�
 use Rattle.std.proofs.Common.{subst}
 use Rattle.std.specs.Prelude.{slice_get, IfSome}
 use Rattle.std.specs.List.{fold}
+use Rattle.std.proofs.lemmas.List.{drop_all}
 use Rattle.fb_units.specs.Rising.{IsRising}
 use Rattle.fb_units.proofs.Comparing.{after_is, by_is}
 use Rattle.fb_geometry.specs.Shape.{Shape}
@@ -19,7 +20,6 @@ use Rattle.fb_tasks.proofs.Calls.{count-is, left-is, may-take, called-more, call
 use Rattle.fb_decide.specs.Calls.{IsScriptOf, IsCalled}
 use Rattle.fb_decide.specs.Deliveries.{past_with}
 use Rattle.fb_model.proofs.HistoriesUpTo.{calls_by, none_come}
-use Rattle.std.proofs.lemmas.List.{drop_all}
 
 none_ahead : (now n : ℕ) (calls : List Call) → IsRising (map (λ call. call.instant) calls)
     → IfSome (slice_get calls n) (λ call. now < call.instant) → filter (calls_by now) (drop n calls) ≡ []

@@ -4,8 +4,17 @@ use Rattle.std.proofs.Common.{◌+◌, ◌-◌, ◌≤◌, ◌<◌, length, take
 use Rattle.std.specs.List.{fold, AllByRecursion}
 use Rattle.std.proofs.lemmas.Bool.{cases_Bool}
 use Rattle.std.proofs.lemmas.Bool.Decides.{nat_tests}
+use Rattle.std.specs.Prelude.{slice_get, nat_le, nat_lt}
+use Rattle.std.proofs.lemmas.List.{append_assoc, map-append, drop_more, drop_all}
+use Rattle.std.proofs.lemmas.List.Elements.{filter-append}
+use Rattle.std.proofs.lemmas.Option.{slice_get-get_or}
 use Rattle.fb_units.proofs.Tracks.{track_itself}
 use Rattle.fb_units.proofs.Lists.{all_get as all_at, all_weaker, take_at}
+use Rattle.fb_units.specs.declared.types.Request.{Request}
+use Rattle.fb_units.specs.Tracks.{same_track}
+use Rattle.fb_units.proofs.Filtered.{none_kept as filter_none}
+use Rattle.fb_units.proofs.Each.{all_any}
+use Rattle.fb_units.proofs.Alike.{filter_same}
 use Rattle.fb_wanted.specs.declared.block.Block.{Block}
 use Rattle.fb_model.specs.Blocks.{IsBlockOn}
 use Rattle.fb_model.specs.History.{same_block, Past, wanted}
@@ -13,15 +22,6 @@ use Rattle.fb_plan.specs.declared.catching.Catch.{Catch}
 use Rattle.fb_plan.specs.Order.{is_before, place_in}
 use Rattle.fb_plan.proofs.Sorted.{put_front, put_behind, not_both}
 use Rattle.fb_decide.specs.Deliveries.{AreDistinct, AreDue, row_in, held_now}
-use Rattle.std.specs.Prelude.{slice_get, nat_le, nat_lt}
-use Rattle.std.proofs.lemmas.List.{append_assoc, map-append, drop_more, drop_all}
-use Rattle.std.proofs.lemmas.List.Elements.{filter-append}
-use Rattle.std.proofs.lemmas.Option.{slice_get-get_or}
-use Rattle.fb_units.specs.declared.types.Request.{Request}
-use Rattle.fb_units.specs.Tracks.{same_track}
-use Rattle.fb_units.proofs.Filtered.{none_kept as filter_none}
-use Rattle.fb_units.proofs.Each.{all_any}
-use Rattle.fb_units.proofs.Alike.{filter_same}
 use Rattle.fb_geometry.specs.Shape.{Shape}
 use Rattle.fb_sectormap.specs.LookUp.{track_at}
 use Rattle.fb_service.specs.Extents.{IsUnbroken}

@@ -1,14 +1,18 @@
 -- Who has arrived and is taken, and the next instant and decision, from what stands before them.
-use Rattle.std.proofs.Common.{◌≡◌, ℕ, zero, suc, ◌+◌, ◌<◌, ◌≤◌, max, List, [], ◌∷◌, ◌++◌, length, drop, Bool, true, false, refl, ap, sym}
+use Rattle.std.proofs.Common.{◌≡◌, ℕ, zero, suc, ◌+◌, ◌<◌, ◌≤◌, max, List, [], ◌∷◌, ◌++◌, length, drop, Bool, true, refl, ap, sym}
 use Rattle.std.proofs.Common.{◌∙◌, arith, Option, Some, None, append_assoc, inl, inr, subst, ◌⊎◌, min, map, take, get_or}
 use Rattle.std.specs.Prelude.{slice_get, IfSome, nat_le, ◌==◌, filter, unwrap_or}
 use Rattle.std.specs.Option.{option_map}
 use Rattle.std.specs.List.{AllByRecursion, fold}
 use Rattle.std.proofs.lemmas.Bool.Decides.{nat_tests}
 use Rattle.std.proofs.lemmas.Bool.{cases_lt}
+use Rattle.std.proofs.lemmas.List.{length-append, drop_more, nil_from_length}
 use Rattle.fb_units.proofs.Lists.{all_filter, all_weaker}
 use Rattle.fb_units.specs.declared.types.Track.{Track}
 use Rattle.fb_units.specs.declared.types.Request.{Request}
+use Rattle.fb_units.specs.Rising.{IsRising}
+use Rattle.fb_units.proofs.Filtered.{rising_filter}
+use Rattle.fb_units.proofs.Comparing.{after_is, by_is}
 use Rattle.fb_service.specs.declared.disk.Disk.{Disk}
 use Rattle.fb_model.specs.PlainReplay.{Key, better, first_least, first_ready, start_of, service, finish, last_track, plain}
 use Rattle.fb_model.specs.PlainReplay.{Served}
@@ -17,10 +21,6 @@ use Rattle.fb_decide.specs.Waiting.{left, IsWaiting, AreByArrival}
 use Rattle.fb_model.specs.Laws.{IsFirstLeast, IsPickOf}
 use Rattle.fb_model.proofs.Picks.{pick_of-first_least}
 use Rattle.fb_model.proofs.Picks.{all_without}
-use Rattle.std.proofs.lemmas.List.{length-append, drop_more, nil_from_length}
-use Rattle.fb_units.specs.Rising.{IsRising}
-use Rattle.fb_units.proofs.Filtered.{rising_filter}
-use Rattle.fb_units.proofs.Comparing.{after_is, by_is}
 use Rattle.fb_calls.specs.declared.call.Call.{Call}
 use Rattle.fb_model.specs.Inputs.{Inputs, requests}
 use Rattle.fb_model.specs.Decisions.{instants_of, serves, idles, idle_until, last_decision, decisions_from}

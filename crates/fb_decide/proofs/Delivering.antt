@@ -4,9 +4,9 @@ use Rattle.std.proofs.Common.{Some, length, filter, map, take, slice_get, append
 use Rattle.std.specs.Prelude.{Result, Ok, Err, IfOk}
 use Rattle.std.specs.List.{AllByRecursion, list_any, range_with_len}
 use Rattle.std.proofs.lemmas.List.Concat.{flat_map-append}
-use Rattle.fb_units.proofs.Lists.{all_append, all_get as all_at, all_weaker, filter_to, map_at}
-use Rattle.fb_units.proofs.Filtered.{filter_from}
-use Rattle.fb_units.proofs.Each.{all_map}
+use Rattle.fb_units.proofs.Lists.{all_append, all_get as all_at, all_weaker, map_at}
+use Rattle.fb_units.proofs.Filtered.{all_kept, filter_from, filter_to}
+use Rattle.fb_units.proofs.Each.{all_any, all_map}
 use Rattle.fb_model.specs.Blocks.{IsBlockOn}
 use Rattle.fb_model.specs.Rides.{delivery}
 use Rattle.fb_geometry.specs.Shape.{Shape}
@@ -93,13 +93,9 @@ wanted-after past got =
 none_more : (a b : Bool) → not (a || b) ≡ (not b && not a)
 none_more a b = grind arith
 
-all_left : {X : Type 0} (xs : List X) → xs ≡ filter (λ x. true) xs
-all_left [] = refl
-all_left (x ∷ xs) = ap (λ ys. x ∷ ys) (all_left xs)
-
 -- and but for all of the delivered ones
 pub wanted-with : (past : Past) (gots : List DeliveryRow) → wanted (past_with past gots) ≡ filter (none_of gots) (wanted past)
-wanted-with past [] = all_left (wanted past)
+wanted-with past [] = sym (all_kept (λ _. true) (wanted past) (all_any (λ _. ◌≡◌ {A = Bool} true true) (λ _. refl) (wanted past)))
 wanted-with past (got ∷ gots) =
     wanted-with (with_delivery past (delivery_of past got)) gots
     ∙ (ap (filter (none_of gots)) (wanted-after past got)

@@ -1,6 +1,8 @@
 -- The rows of decisions, and that a run whose decisions have all been made is full.
 use Rattle.std.proofs.Common.{◌≡◌, ℕ, List, [], ◌∷◌, ◌++◌, map, ap, sym, subst, ◌∙◌, Some, append_assoc, true, false, refl, append-nil}
 use Rattle.std.specs.List.{AllByRecursion, flat_map, fold}
+use Rattle.std.proofs.lemmas.List.{map-append}
+use Rattle.std.proofs.lemmas.List.Concat.{flat_map-append}
 use Rattle.fb_units.specs.declared.types.Request.{Request}
 use Rattle.fb_units.specs.declared.types.Track.{Track}
 use Rattle.fb_units.proofs.Each.{all_any}
@@ -26,8 +28,6 @@ use Rattle.fb_model.proofs.Passages.{LiesOnDisk, requests_lie}
 use Rattle.fb_decide.proofs.Ways.{lead_service, have_angles}
 use Rattle.fb_decide.proofs.Chain.{Follow, services, decisions_follow}
 use Rattle.fb_decide.proofs.QuietRows.{IsQuiet, quiet_before, all_quiet, tasks_quiet, IsQuietStep, quiet_step}
-use Rattle.std.proofs.lemmas.List.{map-append}
-use Rattle.std.proofs.lemmas.List.Concat.{flat_map-append}
 use Rattle.fb_model.specs.FullRun.{IsBestPlanned, IsAllDelivered}
 use Rattle.fb_model.proofs.Steps.{AtEach-append}
 use Rattle.fb_decide.specs.Making.{IsMade, fore_row_of, rest_of, decisions_by}

@@ -3,7 +3,12 @@ use Rattle.std.proofs.Common.{◌≡◌, ℕ, List, [], ◌∷◌, ◌++◌, ref
 use Rattle.std.proofs.Common.{false, None, Some, length, map, take, drop, arith, append-nil}
 use Rattle.std.specs.List.{fold, AllByRecursion}
 use Rattle.std.proofs.lemmas.List.{map-append, length-append}
+use Rattle.std.specs.Prelude.{nat_lt, nat_le, slice_get, filter, if◌then◌else◌}
+use Rattle.std.proofs.lemmas.Bool.Decides.{nat_tests}
 use Rattle.fb_units.proofs.Lists.{all_weaker, all_append, all_left, all_right}
+use Rattle.fb_units.specs.declared.types.Request.{Request}
+use Rattle.fb_units.proofs.Each.{all_map, all_pass}
+use Rattle.fb_units.proofs.Comparing.{is_by}
 use Rattle.fb_model.specs.PlainReplay.{Served, service, finish, last_track, plain, first_least, start_of}
 use Rattle.fb_model.specs.Inputs.{Inputs, served, requests}
 use Rattle.fb_model.specs.Content.{medium_of, Written, fore_row}
@@ -20,11 +25,6 @@ use Rattle.fb_decide.specs.Making.{decisions_left, rest_by, rest_of}
 use Rattle.fb_rows.specs.declared.back.DeliveryRow.{DeliveryRow}
 use Rattle.fb_decide.proofs.Truth.{step_by}
 use Rattle.fb_decide.proofs.Stepping.{HasStepped, StepsBy, served_act, serves_step, stays_step, ends_step}
-use Rattle.std.specs.Prelude.{nat_lt, nat_le, slice_get, filter, if◌then◌else◌}
-use Rattle.std.proofs.lemmas.Bool.Decides.{nat_tests}
-use Rattle.fb_units.specs.declared.types.Request.{Request}
-use Rattle.fb_units.proofs.Each.{all_map, all_pass}
-use Rattle.fb_units.proofs.Comparing.{is_by}
 use Rattle.fb_geometry.specs.Shape.{Shape, IsTrackOf}
 use Rattle.fb_calls.specs.declared.call.Call.{Call}
 use Rattle.fb_calls.specs.Allowed.{AreAllowed}

@@ -5,10 +5,12 @@ use Rattle.std.specs.List.{AllByRecursion, list_any, fold}
 use Rattle.std.proofs.lemmas.Bool.{cases_Bool}
 use Rattle.std.proofs.lemmas.Bool.Decides.{nat_tests}
 use Rattle.std.proofs.Math.Bool.{or-false}
-use Rattle.fb_tasks.proofs.Registered.{itself}
+use Rattle.std.proofs.lemmas.Option.{slice_get-get_or}
+use Rattle.std.proofs.lemmas.List.{length-map}
 use Rattle.fb_units.proofs.Lists.{all_filter, all_weaker, map_at, take_at}
 use Rattle.fb_units.proofs.Each.{all_any, all_map, all_with}
 use Rattle.fb_units.proofs.Alike.{filter_same}
+use Rattle.fb_tasks.proofs.Registered.{itself}
 use Rattle.fb_geometry.specs.Shape.{Shape}
 use Rattle.fb_wanted.specs.declared.block.Block.{Block}
 use Rattle.fb_wanted.specs.declared.block.Entry.{Entry}
@@ -31,8 +33,6 @@ use Rattle.fb_plan.specs.declared.catching.Catch.{Catch}
 use Rattle.fb_plan.specs.Order.{is_before, place_in, catch_of, caught_of}
 use Rattle.fb_plan.proofs.Sorted.{put_front, put_behind}
 use Rattle.fb_decide.proofs.Delivering.{none_of, wanted-with, next-wanted, delivered-join, past_with-append, wanted-told}
-use Rattle.std.proofs.lemmas.Option.{slice_get-get_or}
-use Rattle.std.proofs.lemmas.List.{length-map}
 use Rattle.fb_rows.specs.declared.back.BackRow.{BackRow}
 use Rattle.fb_decide.specs.declared.background.Background.{Background}
 use Rattle.fb_model.specs.Rides as rides

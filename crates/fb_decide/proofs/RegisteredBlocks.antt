@@ -6,8 +6,9 @@ use Rattle.std.proofs.lemmas.Bool.{and_parts, cases_Bool, cases_lt, eqb-true as 
 use Rattle.std.proofs.lemmas.Option.{same_Some as some_same}
 use Rattle.fb_units.proofs.Among.{Among, among-append, among-right}
 use Rattle.fb_units.proofs.Comparing.{same_number as number_same}
-use Rattle.fb_units.proofs.Lists.{all_append, all_get as all_at, all_weaker, append_at, element_at as some_at, filter_to}
+use Rattle.fb_units.proofs.Lists.{all_append, all_get as all_at, all_weaker, append_at, element_at as some_at}
 use Rattle.fb_units.proofs.Each.{all_flat}
+use Rattle.fb_units.proofs.Filtered.{filter_to}
 use Rattle.fb_geometry.specs.Shape.{Shape}
 use Rattle.fb_wanted.specs.declared.block.Block.{Block}
 use Rattle.fb_wanted.specs.declared.block.Entry.{Entry}

@@ -4,6 +4,8 @@ use Rattle.std.proofs.Common.{None, inl, inr, ◌<◌, sym, subst, append-nil}
 use Rattle.std.specs.Prelude.{filter, if◌then◌else◌}
 use Rattle.std.specs.List.{AllByRecursion, last_or, range_with_len}
 use Rattle.std.proofs.lemmas.Bool.{cases_Bool}
+use Rattle.std.proofs.lemmas.List.Elements.{filter-append}
+use Rattle.std.proofs.lemmas.List.Concat.{flat_map-append}
 use Rattle.fb_units.proofs.Lists.{all_weaker, all_append}
 use Rattle.fb_units.specs.declared.types.Track.{Track}
 use Rattle.fb_units.specs.declared.types.Request.{Request}
@@ -18,8 +20,6 @@ use Rattle.fb_store.specs.Writes.{writer_of, unwritten}
 use Rattle.fb_model.specs.PlainReplay.{service, finish, Served, media}
 use Rattle.fb_model.specs.Content.{Written, writes_of, content_by, Medium, content, found, fore_row}
 use Rattle.fb_model.proofs.Passages.{passed_between, written_by}
-use Rattle.std.proofs.lemmas.List.Elements.{filter-append}
-use Rattle.std.proofs.lemmas.List.Concat.{flat_map-append}
 use Rattle.fb_store.specs.declared.content.ContentRun.{ContentRun}
 use Rattle.fb_store.specs.Runs.{runs_of, bad_of}
 use Rattle.fb_store.specs.Ranges.{Holding, content_in}

@@ -3,6 +3,10 @@ use Rattle.std.proofs.Common.{◌≡◌, ℕ, zero, suc, ◌<◌, ◌≤◌, ◌
 use Rattle.std.proofs.Common.{length, refl, ap, sym, ◌∙◌, arith, ◌+◌, ◌⊎◌, Option, Some, None, inl, inr, map, ap₂, subst}
 use Rattle.std.specs.List.{fold, list_any, slice_index_or, AllByRecursion, range_with_len}
 use Rattle.std.proofs.lemmas.Bool.{true≢false, cases_Bool}
+use Rattle.std.proofs.lemmas.Bool.Decides.{nat_tests}
+use Rattle.fb_units.specs.declared.types.Request.{Request}
+use Rattle.fb_units.proofs.Lists.{all_range, all_weaker}
+use Rattle.fb_units.proofs.Alike.{map_same}
 use Rattle.fb_geometry.specs.Shape.{Shape}
 use Rattle.fb_calls.specs.declared.call.Action.{Action}
 use Rattle.fb_calls.specs.declared.call.Action.TheVariants.{Open}
@@ -29,10 +33,6 @@ use Rattle.fb_decide.specs.Standing.{IsTrue, Mirrors, IsFoundIn}
 use Rattle.fb_tasks.proofs.AllChoices.{by_all}
 use Rattle.fb_decide.proofs.RegisteredBlocks.{AreOpened, all_in, there_before, tasks_more, AreOwn, AreDistinct, still_there, distinct-kept}
 use Rattle.fb_decide.proofs.RegisteredBlocks.{opened-kept, opened-told, own-told, distinct-told}
-use Rattle.std.proofs.lemmas.Bool.Decides.{nat_tests}
-use Rattle.fb_units.specs.declared.types.Request.{Request}
-use Rattle.fb_units.proofs.Lists.{all_range, all_weaker}
-use Rattle.fb_units.proofs.Alike.{map_same}
 use Rattle.fb_store.specs.declared.content.Content.{Content}
 use Rattle.fb_store.specs.declared.content.Content.TheVariants.{Filled}
 use Rattle.fb_store.specs.Writes.{after_write, is_within, writer_of}

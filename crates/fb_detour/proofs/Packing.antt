@@ -1,6 +1,6 @@
 -- A stay catches no more than the sectors that can pass while it lasts.
-use Rattle.fb_model.proofs.Passages.{slots_short}
 use Rattle.fb_units.proofs.Lists.{all_filter, all_from_index}
+use Rattle.fb_model.proofs.Passages.{slots_short}
 use Rattle.fb_detour.proofs.Words.{List, Some, ap, arith, if◌then◌else◌, inl, inr, length, nat_le, subst, suc, sym, true, zero, ℕ, ◌&&◌}
 use Rattle.fb_detour.proofs.Words.{◌*◌, ◌+◌, ◌-◌, ◌/◌, ◌<◌, ◌∙◌, ◌≡◌, ◌≤◌, div-mul-le_self, and_parts, cases_Bool, leb-true}
 use Rattle.fb_detour.proofs.Words.{sum_by-le-sum_by, le-div, slice_get-get_or, same_track, Place, Track, places, Shape, slots_at}

@@ -11,7 +11,6 @@ pub use Rattle.std.proofs.lemmas.List.Sums.{sum_by-cons, sum_by-le-sum_by, sum_b
 pub use Rattle.std.proofs.lemmas.Nat.{div-add-mod', le-div, mul-le}
 pub use Rattle.std.proofs.lemmas.Option.{get_or_from_slice_get, slice_get-get_or, slice_get_within}
 pub use Rattle.std.specs.List.{AllByRecursion, slice_set, sum_by}
-pub use Rattle.fb_model.proofs.Ends.{end-le}
 pub use Rattle.fb_units.proofs.Tracks.{same_tracks}
 pub use Rattle.fb_units.proofs.Waits.{least_of, least_unique, reaches_ahead, reaches_over, wait_least, next-le, wait-rest}
 pub use Rattle.fb_units.specs.Tracks.{same_track}
@@ -19,6 +18,7 @@ pub use Rattle.fb_units.specs.Wait.{wait}
 pub use Rattle.fb_units.specs.declared.types.Place.{Place}
 pub use Rattle.fb_units.specs.declared.types.Sweep.{Sweep}
 pub use Rattle.fb_units.specs.declared.types.Track.{Track}
+pub use Rattle.fb_model.proofs.Ends.{end-le}
 pub use Rattle.fb_geometry.specs.Angles.{slot_begin}
 pub use Rattle.fb_geometry.specs.Places.{places}
 pub use Rattle.fb_geometry.specs.Shape.{IsTrackOf, Shape, cylinders_of, offset_at, slots_at, turn_position}

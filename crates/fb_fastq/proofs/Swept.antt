@@ -1,9 +1,9 @@
 -- Lists that rise by a number, and what a walk from one of their ends has seen.
+pub use Rattle.std.proofs.lemmas.Option.{same_Some as some_injective}
 pub use Rattle.fb_units.proofs.Each.{all_unmapped}
 use Rattle.fb_fastq.proofs.Words.{◌≡◌, ℕ, ◌≤◌, List, [], ◌∷◌, ◌++◌, map, filter, refl, sym, ap, subst, ◌∙◌, arith, Bool, true, false, inl}
 use Rattle.fb_fastq.proofs.Words.{inr, ◌⊎◌, cond, AllByRecursion, IsStrictlySortedBy, Ordering, Less, cases_Bool, all_filter}
 use Rattle.fb_fastq.proofs.Words.{all_left, all_right, ◌<◌, length, length-append, Side, Above, Below, on_side, IsNoFarther, AreThose}
-pub use Rattle.std.proofs.lemmas.Option.{same_Some as some_injective}
 
 -- an element is among others
 abbrev pub IsIn : {A : Type 0} → A → List A → Type 0

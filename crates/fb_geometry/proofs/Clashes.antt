@@ -4,7 +4,8 @@ use Rattle.std.specs.Fn.{ComputesKey, Called}
 use Rattle.fb_units.proofs.Among.{Among, among-any, among-append, among-filtered, among-mapped, among-right, among-tail, any-among}
 use Rattle.fb_units.proofs.Among.{permuted}
 use Rattle.fb_units.proofs.Counts.{any_count, count_cons, same_count}
-use Rattle.fb_units.proofs.Lists.{all_get, all_weaker, append_at, filter_to, map_at, none_of_any}
+use Rattle.fb_units.proofs.Filtered.{filter_to}
+use Rattle.fb_units.proofs.Lists.{all_get, all_weaker, append_at, map_at, none_of_any}
 use Rattle.fb_units.proofs.Searches.{point-is}
 use Rattle.fb_geometry.proofs.Words.{All-from_get_or, AllByRecursion, AreInOrder, AreSorted, Bool, HasZones, IsDistinct}
 use Rattle.fb_geometry.proofs.Words.{IsDistinct-IsPermutation, IsPartitionPoint, IsPartitionPoint-from_clause, IsPartitionedBy}

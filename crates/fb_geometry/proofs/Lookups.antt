@@ -1,7 +1,8 @@
 -- Where the sectors of a cylinder are.
 use Rattle.fb_units.proofs.Comparing.{zero_add}
 use Rattle.fb_units.proofs.Counts.{at_most_each, fewer, kept_and_dropped}
-use Rattle.fb_units.proofs.Lists.{all_filter, all_get, all_map_any, element_at, get_left, get_right}
+use Rattle.fb_units.proofs.Each.{all_map_any}
+use Rattle.fb_units.proofs.Lists.{all_filter, all_get, element_at, get_left, get_right}
 use Rattle.fb_units.proofs.Parts.{get_part, get_range, get_take, range-append}
 use Rattle.fb_geometry.proofs.Words.{Bool, HoldsNone, HoldsSector, IfNone, IfSome, IsAscending, IsGoodOf, IsZone, IsZoneAt, Layout, LiesOn}
 use Rattle.fb_geometry.proofs.Words.{List, MatchOption, None, Option, PerCylinder, PerTrack, Place, Shape, Some, Track, Zone, [], ap}

@@ -1,5 +1,5 @@
 -- The slots of a cylinder in the order of their turns, as one list.
-use Rattle.fb_units.proofs.Lists.{flat_map_same}
+use Rattle.fb_units.proofs.Alike.{flat_map_same}
 use Rattle.fb_units.proofs.Parts.{filter-flat_map, flat-ranges, get_range, map-ranges, range-append}
 use Rattle.fb_geometry.proofs.Words.{Bool, Place, Shape, Some, Track, Zone, add-mod_left, ap, arith, by_head, cases_lt, cylinder_slots}
 use Rattle.fb_geometry.proofs.Words.{div-add-mod', div-mul-add, filter, good_track, inl, inr, is_among, length, length-map-range_with_len}

@@ -7,6 +7,7 @@ use Rattle.std.proofs.lemmas.Bool.{cases_Bool, eqb-true}
 use Rattle.std.proofs.lemmas.Bool.Decides.{nat_tests}
 use Rattle.std.proofs.lemmas.List.{length-append}
 use Rattle.std.proofs.lemmas.List.Concat.{flat_map-append}
+use Rattle.std.proofs.Math.Seq.{drop-append_seam}
 use Rattle.fb_units.proofs.Lists.{all_append, all_filter}
 use Rattle.fb_units.specs.Rising.{IsRising}
 use Rattle.fb_units.specs.declared.types.Request.{Request}
@@ -37,7 +38,6 @@ use Rattle.fb_model.specs.Segments.{choose_best, choose_in, choose_once, choose_
 use Rattle.fb_model.specs.Segments.{unchosen, with_choices}
 use Rattle.fb_model.specs.Steps.{Delivery, Step, decision_in, blocks_by, calls_due, past_after, chosen_past, take_call, tested_past}
 use Rattle.fb_model.specs.Steps.{with_delivery, with_finish}
-use Rattle.std.proofs.Math.Seq.{drop-append_seam}
 use Rattle.fb_model.proofs.HistoriesUpTo.{due_first}
 use Rattle.fb_mirror.proofs.CutCover.{EndsBy, cuts_end}
 

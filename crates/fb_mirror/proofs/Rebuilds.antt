@@ -13,6 +13,7 @@ use Rattle.fb_units.proofs.Lists.{all_weaker, all_range}
 use Rattle.fb_units.proofs.Each.{all_any, all_both}
 use Rattle.fb_units.proofs.Comparing.{by_is}
 use Rattle.fb_units.proofs.Alike.{same_map_where}
+use Rattle.fb_units.proofs.Filtered.{all_kept}
 use Rattle.fb_geometry.specs.Sound.{IsSound}
 use Rattle.fb_sectormap.specs.declared.cut.Cut.{Cut}
 use Rattle.fb_sectormap.specs.Cutting.{cutting}
@@ -291,10 +292,6 @@ kept_held keep run lbn got =
     some_held (decided lbn (filter keep (events run)))
     (ap (λ es. is_some (decided lbn es)) split ∙ ap is_some (decided-append lbn writes gots)
     ∙ some_behind (decided lbn writes) (decided lbn gots) got)
-
-all_kept : {X : Type 0} (p : X → Bool) (xs : List X) → AllByRecursion (λ x. p x ≡ true) xs → filter p xs ≡ xs
-all_kept p [] all = refl
-all_kept p (x ∷ xs) all = ap (λ b. cond b (x ∷ filter p xs) (filter p xs)) all.0 ∙ ap (λ ys. x ∷ ys) (all_kept p xs all.1)
 
 module _ (ascend : ForegroundListsAscend) (one : OnePlainReplay) where
   pub sealed_stays : CoveredSectorsAreTheSurvivorsAtRest → (inputs : Inputs) (run : Run) (sealed t : ℕ) → IsSound inputs.disk.map

@@ -3,8 +3,8 @@ use Rattle.std.proofs.Common.{◌≡◌, ℕ, List, [], ◌∷◌, ◌++◌, map
 use Rattle.std.specs.Prelude.{◌&&◌, filter, not, if◌then◌else◌}
 use Rattle.std.specs.List.{AllByRecursion, flat_map}
 use Rattle.std.proofs.lemmas.Bool.{and_parts}
-use Rattle.fb_units.proofs.Lists.{all_weaker, all_append, all_left, all_right, all_map_any}
-use Rattle.fb_units.proofs.Each.{all_flat_map}
+use Rattle.fb_units.proofs.Lists.{all_weaker, all_append, all_left, all_right}
+use Rattle.fb_units.proofs.Each.{all_flat_map, all_map_any}
 use Rattle.fb_service.specs.declared.disk.Disk.{Disk}
 use Rattle.fb_rows.specs.declared.back.BackRow.{BackRow}
 use Rattle.fb_rows.specs.declared.back.BackRow.TheVariants.{Gap as GapLine, Idle as IdleLine, Got as GotLine, Bad as BadLine}

@@ -6,10 +6,10 @@ use Rattle.std.specs.Prelude.{filter, ◌&&◌, not, if◌then◌else◌}
 use Rattle.std.specs.List.{AllByRecursion, flat_map}
 use Rattle.std.proofs.lemmas.Bool.{cases_Bool}
 use Rattle.fb_units.proofs.Comparing.{after_is, is_after, is_by}
-use Rattle.fb_units.proofs.Lists.{all_append, all_dropped, all_weaker, flat_map_same, not_none, same_first, same_rest}
+use Rattle.fb_units.proofs.Lists.{all_append, all_dropped, all_weaker, not_none, same_first, same_rest}
 use Rattle.fb_units.proofs.Filtered.{none_kept}
 use Rattle.fb_units.proofs.Each.{all_any, all_flat_map, all_map}
-use Rattle.fb_units.proofs.Alike.{same_map}
+use Rattle.fb_units.proofs.Alike.{flat_map_same, same_map}
 use Rattle.fb_store.specs.Runs.{runs_of}
 use Rattle.fb_wanted.specs.declared.block.Block.{Block}
 use Rattle.fb_wanted.specs.States.{is_delivered}

@@ -5,9 +5,8 @@ use Rattle.std.specs.Prelude.{filter, ◌&&◌, ◌||◌, ◌==◌, not, if◌th
 use Rattle.std.specs.List.{fold, flat_map, list_any, range_with_len, best_of}
 use Rattle.std.proofs.lemmas.List.{drop-map}
 use Rattle.std.proofs.lemmas.List.Elements.{filter_agree}
-use Rattle.fb_units.proofs.Lists.{flat_map_same}
 use Rattle.fb_units.proofs.Filtered.{kept_map}
-use Rattle.fb_units.proofs.Alike.{same_map}
+use Rattle.fb_units.proofs.Alike.{flat_map_same, same_map}
 use Rattle.fb_geometry.specs.Shape.{Shape}
 use Rattle.fb_calls.specs.declared.call.Action.{Action}
 use Rattle.fb_calls.specs.declared.call.Action.TheVariants.{Want}

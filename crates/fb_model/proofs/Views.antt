@@ -9,6 +9,8 @@ use Rattle.std.proofs.Common.{arith}
 use Rattle.std.proofs.lemmas.List.Elements.{filter-append}
 use Rattle.std.proofs.lemmas.List.Folds.{list_any-append}
 use Rattle.fb_units.proofs.Comparing.{same_number}
+use Rattle.fb_units.proofs.Filtered.{all_kept}
+use Rattle.fb_units.proofs.Lists.{all_weaker}
 use Rattle.fb_units.specs.declared.types.Request.{Request}
 use Rattle.fb_calls.specs.declared.call.Action.TheVariants.{Open, Want, Abort, Promote, Suspend, Resume, Close, Segment}
 use Rattle.fb_calls.specs.declared.call.Call.{Call}
@@ -84,10 +86,10 @@ module _ (past : Past) (call : Call) (kind : Kind) (weight block : ℕ) (is : ca
   unfolding view bare_state content_of
   opened-view own = rw (is, append-nil, list_any-append, same_number call.task task own, or-false) refl
 
--- blocks are registered
-all_filtered : (task : ℕ) (bs : List Block) → AllByRecursion (λ b. b.task ≡ task) bs → filter (λ block. block.task == task) bs ≡ bs
-all_filtered task [] h = refl
-all_filtered task (b ∷ bs) h = rw (same_number b.task task h.0, all_filtered task bs h.1) refl
+-- all blocks of one task are blocks of that task
+pub all_filtered : (task : ℕ) (bs : List Block) → AllByRecursion (λ b. b.task ≡ task) bs → filter (λ block. block.task == task) bs ≡ bs
+all_filtered task bs h = all_kept (λ (b : Block). b.task == task) bs
+    (all_weaker (λ (b : Block). b.task ≡ task) (λ b. (b.task == task) ≡ true) (λ b own. same_number b.task task own) bs h)
 
 no_own : (block : Block) (task : ℕ) (bs : List Block) → (task == block.task) ≡ false → AllByRecursion (λ b. b.task ≡ task) bs
     → list_any (same_block block) bs ≡ false

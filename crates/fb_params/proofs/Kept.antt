@@ -1,10 +1,10 @@
 -- What follows from searches that found nothing.
+use Rattle.fb_units.proofs.Lists.{all_get}
+use Rattle.fb_units.proofs.Searches.{find-none}
 use Rattle.fb_params.proofs.Words.{◌≡◌, ℕ, Bool, false, List, ◌++◌, Option, Some, None, option_map, Ok, slice_get, refl}
 use Rattle.fb_params.proofs.Words.{find, option_or, Members, get_member, Layout, Rule, Known, Present, OfKind}
 use Rattle.fb_params.proofs.Words.{InRange, Key, front_keys, back_keys, zone_keys, zones_of, breaks, first_in, first_some, unless_fault}
 use Rattle.fb_params.proofs.Words.{keeps}
-use Rattle.fb_units.proofs.Lists.{all_get}
-use Rattle.fb_units.proofs.Searches.{find-none}
 use Rattle.fb_params.specs.Rules.{first_in_zones}
 use Rattle.fb_params.specs.declared.fault.ParamsFault.{ParamsFault}
 

@@ -1,16 +1,16 @@
 -- The searches of the code beside those of the definitions.
-use Rattle.fb_params.proofs.Words.{◌≡◌, ℕ, ◌+◌, ◌<◌, Bool, not, List, [], ◌∷◌, ◌++◌, length, get_or, drop, map, Option, Some, None, Less}
-use Rattle.fb_params.proofs.Words.{Greater, option_map, String, Global, string_bytes, refl, sym, ap, append_assoc, ◌∙◌, inl, inr, find}
-use Rattle.fb_params.proofs.Words.{filter, filter_map, cons_option, list_any, AllByRecursion, nat_cmp, ordering_reverse, least, lesser}
-use Rattle.fb_params.proofs.Words.{option_or, option_and_then, option_to_list, cases_Bool, Members, as_table, get_member, view}
-use Rattle.fb_params.proofs.Words.{members_view, Value, names_of, Key, key_of, DeclaredKey, Rule, Known, Present, OfKind, InRange, breaks}
-use Rattle.fb_params.proofs.Words.{is_name_of, comes_before, first_in, first_some}
 use Rattle.std.specs.List.Sorted.{IsStrictlySortedBy}
 use Rattle.std.specs.Cmp.Lexicographic.{slice_cmp}
 use Rattle.std.specs.String.{string_cmp}
 use Rattle.std.proofs.lemmas.Cmp.{nat_list_cmp_total}
 use Rattle.std.specs.Map.{keys_of}
 use Rattle.std.proofs.lemmas.List.{drop_more}
+use Rattle.fb_params.proofs.Words.{◌≡◌, ℕ, ◌+◌, ◌<◌, Bool, not, List, [], ◌∷◌, ◌++◌, length, get_or, drop, map, Option, Some, None, Less}
+use Rattle.fb_params.proofs.Words.{Greater, option_map, String, Global, string_bytes, refl, sym, ap, append_assoc, ◌∙◌, inl, inr, find}
+use Rattle.fb_params.proofs.Words.{filter, filter_map, cons_option, AllByRecursion, nat_cmp, ordering_reverse, least, lesser}
+use Rattle.fb_params.proofs.Words.{option_or, option_and_then, option_to_list, cases_Bool, Members, as_table, get_member, view}
+use Rattle.fb_params.proofs.Words.{members_view, Value, names_of, Key, key_of, DeclaredKey, Rule, Known, Present, OfKind, InRange, breaks}
+use Rattle.fb_params.proofs.Words.{is_name_of, comes_before, first_in, first_some}
 use Rattle.fb_params.proofs.Kept.{none-option_or}
 
 pub find-map : {A B : Type 0} (f : A → B) (p : B → Bool) (xs : List A) → find p (map f xs) ≡ option_map f (find (λ x. p (f x)) xs)
@@ -24,10 +24,6 @@ option_map-map : (found : Option DeclaredKey)
     → option_map (λ key. key.name) (option_map key_of found) ≡ option_map (λ key. key.name.now) found
 option_map-map None = refl
 option_map-map (Some key) = refl
-
-pub list_any-map : {A B : Type 0} (f : A → B) (p : B → Bool) (xs : List A) → list_any p (map f xs) ≡ list_any (λ x. p (f x)) xs
-list_any-map f p [] = refl
-list_any-map f p (x ∷ xs) = rw (list_any-map f p xs) refl
 
 -- the names of a table are the keys of its map
 pub names_of-view : (entries : List (String Global × Value)) → names_of (members_view entries) ≡ map string_bytes (keys_of entries)

@@ -4,8 +4,7 @@ use Rattle.std.proofs.Common.{filter, map, length, refl, arith, sym, ap, ◌∙�
 use Rattle.std.proofs.lemmas.Bool.{cases_Bool, and_parts, and_from, eqb-true, eq-eqb}
 use Rattle.std.proofs.lemmas.List.Elements.{filter-append}
 use Rattle.std.proofs.lemmas.List.Sums.{sum_by-cons}
-use Rattle.fb_units.proofs.Filtered.{filter_from}
-use Rattle.fb_units.proofs.Lists.{filter_to}
+use Rattle.fb_units.proofs.Filtered.{filter_from, filter_to}
 use Rattle.fb_units.specs.declared.types.Track.{Track}
 use Rattle.fb_units.specs.Tracks.{same_track}
 use Rattle.fb_service.specs.declared.disk.Disk.{Disk}

@@ -5,8 +5,7 @@ use Rattle.std.specs.List.{sum_by}
 use Rattle.std.proofs.lemmas.Bool.{cases_Bool, and_parts, and_from, eqb-true, eq-eqb}
 use Rattle.std.proofs.lemmas.List.Sums.{sum_by-cons}
 use Rattle.std.proofs.lemmas.Option.{slice_get_within, slice_get-map, slice_get-get_or, same_Some}
-use Rattle.fb_units.proofs.Filtered.{filter_from}
-use Rattle.fb_units.proofs.Lists.{filter_to}
+use Rattle.fb_units.proofs.Filtered.{filter_from, filter_to}
 use Rattle.fb_units.specs.declared.types.Sweep.{Sweep}
 use Rattle.fb_service.specs.declared.disk.Disk.{Disk}
 use Rattle.fb_wanted.specs.declared.block.Block.{Block}

@@ -1,4 +1,6 @@
 -- The fields of lines have their forms.
+use Rattle.std.proofs.Math.Seq.{drop-append-add}
+use Rattle.std.proofs.lemmas.Slice.Eq.{bytes_eq-Decides}
 use Rattle.fb_units.proofs.Each.{each_all, list_all_each}
 use Rattle.fb_units.proofs.Lists.{all_weaker}
 use Rattle.fb_units.proofs.Written.{some_digits, digit, digits_end}
@@ -7,8 +9,6 @@ use Rattle.fb_report.proofs.Words.{false, refl, sym, ap, ◌∙◌, arith, subst
 use Rattle.fb_report.proofs.Words.{before_first, after_first, is_ascii_digit, bytes_eq, cases_Bool, nat_tests, take_at, list_all-append}
 use Rattle.fb_report.proofs.Words.{decimal_by_steps, decimal_nonempty, decimal_digit, first_decimal, are_digits, digits_after, is_name}
 use Rattle.fb_report.proofs.Words.{is_name_byte, has_no_leading_zero, is_number, is_point, is_track, is_word, IsField}
-use Rattle.std.proofs.Math.Seq.{drop-append-add}
-use Rattle.std.proofs.lemmas.Slice.Eq.{bytes_eq-Decides}
 use Rattle.fb_report.proofs.Fields.{plain}
 
 pub all_too : (p q : ℕ → Bool) → ((x : ℕ) → p x ≡ true → q x ≡ true) → (xs : List ℕ) → list_all p xs ≡ true → list_all q xs ≡ true

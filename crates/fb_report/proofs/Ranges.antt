@@ -1,9 +1,9 @@
 -- Going over a list or a range part by part.
+use Rattle.std.proofs.lemmas.List.Concat.{flat_map-append}
 use Rattle.fb_units.proofs.Comparing.{zero_add}
 use Rattle.fb_units.proofs.Lists.{take_at}
 use Rattle.fb_report.proofs.Words.{◌≡◌, ℕ, zero, suc, ◌+◌, List, [], ◌∷◌, ◌++◌, sym, ap, ◌∙◌, arith, append_assoc}
 use Rattle.fb_report.proofs.Words.{append-nil, take, Some, slice_get, flat_map, range_with_len, sum_by, sum_by-append}
-use Rattle.std.proofs.lemmas.List.Concat.{flat_map-append}
 
 range_push : (a n : ℕ) → range_with_len a (suc n) ≡ range_with_len a n ++ (a + n) ∷ []
 range_push a zero = ap (λ x. x ∷ []) (omega arith)

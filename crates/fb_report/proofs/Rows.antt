@@ -1,12 +1,9 @@
 -- The fields of a line against the forms of a table.
-use Rattle.fb_report.proofs.Words.{◌≡◌, ℕ, ◌<◌, List, [], ◌∷◌, Bool, false, length, drop, map, refl, sym, ap, ◌∙◌, arith, length-drop}
+use Rattle.fb_units.proofs.Alike.{list_any-map}
+use Rattle.fb_report.proofs.Words.{◌≡◌, ℕ, ◌<◌, List, [], ◌∷◌, false, length, drop, map, refl, sym, ap, ◌∙◌, arith, length-drop}
 use Rattle.fb_report.proofs.Words.{list_any, fits, written, Bor, length-map, Grammar, have_forms, is_line_of, may_follow, report_fields}
 use Rattle.fb_report.specs.declared.forms.Form.{Form}
 use Rattle.fb_report.specs.declared.grammar.Table.{Table}
-
-pub list_any-map : {X Y : Type 0} (p : Y → Bool) (f : X → Y) (xs : List X) → list_any p (map f xs) ≡ list_any (λ x. p (f x)) xs
-list_any-map p f [] = refl
-list_any-map p f (x ∷ xs) = rw (list_any-map p f xs) refl
 
 -- forms are left, and no field
 none_left : (forms : List Form) → 0 < length forms → have_forms (map fits forms) [] ≡ false

@@ -1,15 +1,14 @@
 -- Bytes and digests are shown as hexadecimal digits.
+use Rattle.std.specs.Int.{byte_at, bytes_high_first}
+use Rattle.std.proofs.lemmas.List.{length-append}
+use Rattle.std.proofs.lemmas.List.FromFn.{length-range_with_len}
+use Rattle.sha2.specs.Sha256.{digest_bytes, sha256}
+use Rattle.fb_units.proofs.Each.{all_map_any, each_all}
 use Rattle.fb_report.proofs.Words.{and_parts, ◌≡◌, ℕ, zero, suc, ◌+◌, ◌/◌, ◌%◌, ◌<◌, ◌^◌, List, [], ◌∷◌, length, Bool, true, refl, ◌∙◌}
 use Rattle.fb_report.proofs.Words.{arith, inl, inr, nat_lt, replicate, codes, slice_index, flat_map, list_all, range_with_len, bytes_eq}
 use Rattle.fb_report.proofs.Words.{or-true, cases_lt, nat_tests, length-map, length-replicate, sum_by-append, list_all-append}
 use Rattle.fb_report.proofs.Words.{AllPass-from_list_all, encode_with, encode_lower, lower_digits, ContentRun, mark, fill, sector_bytes}
 use Rattle.fb_report.proofs.Words.{Bytes, run_bytes, contents_bytes, shown, digest_text, is_lower_hex, are_bytes, IsField, HasSectors}
-use Rattle.std.specs.Int.{byte_at, bytes_high_first}
-use Rattle.std.proofs.lemmas.List.{length-append}
-use Rattle.std.proofs.lemmas.List.FromFn.{length-range_with_len}
-use Rattle.sha2.specs.Sha256.{digest_bytes, sha256}
-use Rattle.fb_units.proofs.Each.{each_all}
-use Rattle.fb_units.proofs.Lists.{all_map_any}
 use Rattle.fb_store.specs.declared.content.Content.{Content}
 use Rattle.fb_store.specs.declared.content.Content.TheVariants.{Filled, Unreadable}
 use Rattle.fb_report.specs.declared.bytes.Bytes.TheVariants.{Nothing, Digest, Dump}

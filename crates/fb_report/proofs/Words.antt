@@ -24,6 +24,7 @@ pub use Rattle.std.proofs.lemmas.Result.{IfOk-weaker, on_ok_weaker}
 pub use Rattle.hex.specs.Hex.{encode_lower, lower_digits}
 unfoldable pub use Rattle.hex.specs.Hex.{encode_with}
 pub use Rattle.fb_units.specs.Numbers.{are_digits, digits_after}
+pub use Rattle.fb_units.specs.declared.read_error.ReadError.{ReadError}
 pub use Rattle.fb_store.specs.Fill.{sector_bytes}
 unfoldable pub use Rattle.fb_store.specs.Fill.{fill, mark}
 pub use Rattle.fb_store.specs.declared.content.ContentRun.{ContentRun}
@@ -48,4 +49,3 @@ unfoldable pub use Rattle.fb_report.specs.Summary.{summary_lines}
 pub use Rattle.fb_report.specs.declared.bytes.Bytes.{Bytes}
 pub use Rattle.fb_report.specs.declared.reading.Report.{Report}
 pub use Rattle.fb_report.specs.declared.reading.ReportsFault.{ReportsFault}
-pub use Rattle.fb_units.specs.declared.read_error.ReadError.{ReadError}

@@ -5,6 +5,7 @@ use Rattle.std.specs.Prelude.{slice_get, ◌==◌}
 use Rattle.std.specs.List.{flat_map, range_with_len}
 use Rattle.std.proofs.lemmas.Bool.{cases_Bool, cases_lt, eqb-true, le-leb, lt-leb}
 use Rattle.std.proofs.lemmas.Option.{none-some, same_Some}
+use Rattle.std.proofs.lemmas.Nat.{mul-le}
 use Rattle.fb_geometry.specs.declared.layout.Layout.{Layout}
 use Rattle.fb_geometry.specs.declared.layout.Layout.TheVariants.{PerTrack, PerCylinder}
 use Rattle.fb_geometry.specs.declared.zone.Zone.{Zone}
@@ -12,7 +13,6 @@ use Rattle.fb_geometry.specs.Shape.{Shape, cylinders_of}
 use Rattle.fb_geometry.specs.Places.{data_list, list_among, zone_places}
 use Rattle.fb_geometry.specs.Faults.{first_apart}
 use Rattle.fb_geometry.specs.Sound.{cylinder_size_by}
-use Rattle.std.proofs.lemmas.Nat.{mul-le}
 use Rattle.fb_sectormap.proofs.Parts.{parts-split, same-parts}
 
 -- the first zone begins at this cylinder, and each other one behind the one before it

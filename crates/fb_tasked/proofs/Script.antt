@@ -1,4 +1,6 @@
 -- The course of a script: what happens in it may happen, and it goes on.
+use Rattle.std.specs.Prelude.{slice_get}
+use Rattle.std.proofs.lemmas.List.FromFn.{length-map-range_with_len}
 use Rattle.fb_tasks.proofs.Words.{◌≡◌, ℕ, zero, suc, ◌+◌, ◌^◌, ◌≤◌, List, [], ◌∷◌, Bool, true, false, Some, length, map, refl, ap, sym, ◌∙◌}
 use Rattle.fb_tasks.proofs.Words.{arith, subst, true≢false, Request, Shape, Call, Content, Gives}
 use Rattle.fb_tasks.proofs.Words.{Block, Entry, Wanted, is_wanted, BackRow, DeliveryRow, Past, finished, registered, state, tasks, wanted}
@@ -6,8 +8,6 @@ use Rattle.fb_tasks.proofs.Words.{view, with_choices, test_rows_found, take_call
 use Rattle.fb_tasks.proofs.Words.{Tells, MayTake, MayChooseAndTest, MayDeliver, IsUpToDate, IsCalled, all_at, filter_to}
 use Rattle.fb_tasks.proofs.Words.{some_same}
 use Rattle.fb_tasks.proofs.Calls.{may-take, called-more, called-tested, called-chosen, called-delivered, called-finished}
-use Rattle.std.specs.Prelude.{slice_get}
-use Rattle.std.proofs.lemmas.List.FromFn.{length-map-range_with_len}
 use Rattle.fb_calls.specs.Allowed.{IsScript}
 use Rattle.fb_tasks.specs.declared.session.Session.{Session}
 use Rattle.fb_tasked.specs.Following.{Follows}

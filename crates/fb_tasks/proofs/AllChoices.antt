@@ -1,4 +1,5 @@
 -- The choices of a session, one after another, and those of all sessions.
+use Rattle.std.proofs.lemmas.List.Sums.{fold-append}
 use Rattle.fb_units.proofs.Counts.{each_one, filter-le}
 pub use Rattle.fb_units.proofs.Lists.{all_range}
 use Rattle.fb_tasks.proofs.Words.{◌≡◌, ℕ, zero, suc, ◌+◌, ◌-◌, ◌≤◌, ◌&&◌, not, if◌then◌else◌, List, [], ◌++◌, true, false, length}
@@ -14,7 +15,6 @@ use Rattle.fb_tasks.proofs.{ChoiceSteps.best_left, ChoiceSteps.chosen_blocks, Ch
 use Rattle.fb_tasks.proofs.{States.seen, Segmented.numbered_given, ChoiceSteps.once_is, ChoiceSteps.left_less, ChoiceSteps.added_own}
 use Rattle.fb_tasks.proofs.{ChoiceSteps.segment_rows_of, ChoiceSteps.segment_rows_is, ChoiceSteps.few_less, ChoiceSteps.best_of_left}
 use Rattle.fb_tasks.proofs.{RowsOf.reported_rows, Cuts.range_next, Tested.rows_more, Frames.set_same}
-use Rattle.std.proofs.lemmas.List.Sums.{fold-append}
 
 up_to_still : (n : ℕ) (disk : Shape) (task : ℕ) (past : Past) → (0 < n → choose_once disk task past ≡ past)
     → choose_up_to n disk task past ≡ past

@@ -5,10 +5,10 @@ use Rattle.fb_tasks.proofs.Words.{◌≡◌, ℕ, suc, ◌+◌, ◌-◌, ◌^◌
 use Rattle.fb_tasks.proofs.Words.{drop, slice_get, append_assoc, length-append, AllByRecursion, flat_map, range_with_len, Shape, places}
 use Rattle.fb_tasks.proofs.Words.{Cut, IsOneTurn, cutting, numbered, AreCuts, cuts_rise, IsBlockOf, AreNumbered, Ascend, map-append}
 use Rattle.fb_tasks.proofs.Words.{length-map, filter-append, Block, Entry, blocks_of, Session, new_entries, cuts_of}
-use Rattle.fb_tasks.proofs.Registered.{all_own}
 use Rattle.fb_sectormap.specs.LookUp.{track_at}
 use Rattle.fb_sectormap.specs.Sweeps.{sweep_of}
 use Rattle.fb_wanted.specs.Numbering.{registered_count}
+use Rattle.fb_model.proofs.Views.{all_filtered}
 
 pub cuts_placed : (disk : Shape) (tasks task weight block n from end : ℕ) (cuts : List Cut) → task < tasks → weight ≤ 1000 → block ≤ 2048
     → end ≤ length (places disk) → end ≤ 10 ^ 12 → AreCuts disk block from end cuts
@@ -89,7 +89,7 @@ new_named session (b ∷ bs) = rw (new_named session bs) refl
 
 pub registered_more : (task : ℕ) (session : Session) (held : List Entry) (bs : List Block) → AllByRecursion (λ b. b.task ≡ task) bs
     → registered_count task (blocks_of (held ++ new_entries session bs)) ≡ registered_count task (blocks_of held) + length bs
-registered_more task session held bs own = simp (map-append, filter-append, length-append, new_named, all_own task bs own)
+registered_more task session held bs own = simp (map-append, filter-append, length-append, new_named, all_filtered task bs own)
 
 -- one live block more
 pub live-more : (disk : Shape) (task block weight : ℕ) (session : Session) (held now : List Entry) (lbns : List ℕ) (i lbn : ℕ)

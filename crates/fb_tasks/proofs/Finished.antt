@@ -1,6 +1,8 @@
 -- A chosen segment is finished where each of its blocks is delivered.
+use Rattle.std.proofs.lemmas.Grind.{flat_map-append}
 use Rattle.fb_units.proofs.Counts.{filter-le}
-use Rattle.fb_tasks.proofs.Words.{◌≡◌, ℕ, suc, ◌==◌, not, if◌then◌else◌, List, [], ◌∷◌, ◌++◌, Bool, true, false, Some, None, Option, inl}
+use Rattle.fb_units.proofs.Filtered.{all_kept}
+use Rattle.fb_tasks.proofs.Words.{◌≡◌, ℕ, ◌==◌, not, if◌then◌else◌, List, [], ◌∷◌, ◌++◌, Bool, true, false, Some, None, Option, inl}
 use Rattle.fb_tasks.proofs.Words.{inr, length, filter, append-nil, refl, ap, sym, ◌∙◌, arith, AllByRecursion, flat_map, list_any}
 use Rattle.fb_tasks.proofs.Words.{range_with_len, option_map, cases_Bool, true≢false, filter-append, none-some, Shape, is_clean, BackRow}
 use Rattle.fb_tasks.proofs.Words.{SegmentLine, ContentRun, held_sector, held_in, runs_of, sectors_of, Block, Counts, Entry, is_delivered}
@@ -9,13 +11,11 @@ use Rattle.fb_tasks.proofs.Words.{Session, is_none, found_for, Stands, Cleans, M
 use Rattle.fb_tasks.proofs.Words.{choice_in, CleansBy, all_weaker, all_with, all_append, all_left, all_right, all_flat, flat_all, flat_same}
 use Rattle.fb_tasks.proofs.Words.{some_same, filter_none, each_all, list_all_each, other_number}
 use Rattle.fb_tasks.proofs.{Complete.counts_same, Complete.busy_by, Segmented.live_there, RowsOf.reported_rows}
-use Rattle.std.proofs.lemmas.Grind.{flat_map-append}
 use Rattle.fb_clean.specs.Segments as clean
 use Rattle.fb_clean.proofs.Live.{live_blocks-count}
 
 filter_whole : {X : Type 0} (p : X → Bool) (xs : List X) → AllByRecursion (λ x. p x ≡ true) xs → length (filter p xs) ≡ length xs
-filter_whole p [] h = refl
-filter_whole p (x ∷ xs) h = rw h.0 (ap suc (filter_whole p xs h.1))
+filter_whole p xs h = ap length (all_kept p xs h)
 
 whole_filter : {X : Type 0} (p : X → Bool) (xs : List X) → length (filter p xs) ≡ length xs → AllByRecursion (λ x. p x ≡ true) xs
 whole_filter p [] h = tt

@@ -1,4 +1,5 @@
 -- One task changes, and the others stay.
+use Rattle.std.proofs.lemmas.List.{set-get_or}
 use Rattle.fb_units.proofs.Alike.{same_map}
 use Rattle.fb_tasks.proofs.Words.{◌≡◌, ℕ, suc, ◌<◌, ◌≤◌, ◌==◌, if◌then◌else◌, List, [], ◌∷◌, false, Some, length, map, set, get_or}
 use Rattle.fb_tasks.proofs.Words.{slice_get, append-nil, refl, ap, sym, ◌∙◌, arith, subst, AllByRecursion, length-set, slice_get-get_or}
@@ -6,7 +7,6 @@ use Rattle.fb_tasks.proofs.Words.{Shape, Call, Block, Entry, after, state_after,
 use Rattle.fb_tasks.proofs.Words.{state_in, called-silent, number_same, Session, entry_by, entry_of, Told, IsPlaced, IsBlockOf, Tells}
 use Rattle.fb_tasks.proofs.Words.{all_weaker, number_other, each_set, one_or_other, nat_tests, get_or_from_slice_get}
 use Rattle.fb_wanted.specs.declared.block.Change.{Change}
-use Rattle.std.proofs.lemmas.List.{set-get_or}
 
 pub get_other : {X : Type 0} (xs : List X) (i k : ℕ) (y : X) → (i ≡ k → ⊥) → slice_get (set xs i y) k ≡ slice_get xs k
 get_other (x ∷ xs) (suc i) (suc k) y other = get_other xs i k y (λ e. other (ap suc e))

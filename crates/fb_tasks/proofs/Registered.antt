@@ -71,11 +71,6 @@ pub named_same : (past : Past) (bs : List Block) → numbering.blocks_of (map (e
 named_same past [] = refl
 named_same past (b ∷ bs) = rw (named_same past bs) refl
 
-pub all_own : (task : ℕ) (added : List Block) → AllByRecursion (λ b. b.task ≡ task) added → filter (λ b. b.task == task) added ≡ added
-all_own task [] h = refl
-all_own task (b ∷ bs) h = let own : (b.task == task) ≡ true = number_same b.task task h.0 in
-    rw own (ap (λ xs. b ∷ xs) (all_own task bs h.1))
-
 -- blocks that were just registered are wanted
 pub fresh_wanted : (task : ℕ) (added : List Block) (before now : Block → State)
     → ((block : Block) → now block ≡ (if list_any (same_block (own_of task block)) added then Wanted else before block))

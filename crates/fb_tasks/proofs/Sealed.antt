@@ -1,4 +1,5 @@
 -- What is held of sectors and of blocks that ascend; a backup is sealed: its image has the delivered blocks alone.
+use Rattle.std.proofs.lemmas.Grind.{flat_map-append}
 use Rattle.fb_units.proofs.Parts.{range-append}
 use Rattle.fb_store.proofs.Taken.{held_none}
 use Rattle.fb_tasks.proofs.Words.{◌≡◌, ℕ, zero, suc, ◌+◌, ◌<◌, ◌≤◌, List, [], ◌∷◌, true, false, Some, Option, refl, arith, append-nil}
@@ -13,7 +14,6 @@ use Rattle.fb_tasks.proofs.Words.{registered, Work, TaskView, view, is_unsealed,
 use Rattle.fb_tasks.proofs.Words.{is_done, number_same, without_aborted, SealLine, seal_rows_found, BackRow, found_for, Session}
 use Rattle.fb_tasks.proofs.Words.{take-length, all_both, list_any-append}
 use Rattle.fb_tasks.proofs.{Complete.counts_same, States.seen, Registered.own, States.shown_aborted, Changes.open_by}
-use Rattle.std.proofs.lemmas.Grind.{flat_map-append}
 pub use Rattle.fb_store.proofs.Originals.{inside as within, before as before_it, after as behind_it}
 
 -- ascending blocks begin at the first sector or after it

@@ -24,12 +24,12 @@ pub use Rattle.std.proofs.lemmas.Option.{slice_get_within}
 pub use Rattle.std.proofs.lemmas.Result.{IfOk-weaker, on_err_weaker, on_ok_weaker}
 pub use Rattle.fb_units.proofs.Comparing.{one_or_other, other_number, same_number as number_same, step_to}
 pub use Rattle.fb_units.proofs.Lists.{all_append, all_filter, all_from_index as all_placed, all_get as all_at, all_left, all_range}
-pub use Rattle.fb_units.proofs.Lists.{all_right, all_weaker, any_of_none as any_none, element_at as some_at, filter_to, map_at}
+pub use Rattle.fb_units.proofs.Lists.{all_right, all_weaker, any_of_none as any_none, element_at as some_at, map_at}
 pub use Rattle.fb_units.proofs.Lists.{none_of_any as none_pass, on_err}
 pub use Rattle.fb_units.specs.declared.types.Request.{Request}
-pub use Rattle.fb_units.proofs.Searches.{find-none as find_none}
-pub use Rattle.fb_units.proofs.Filtered.{filter_from, none_kept as filter_none}
-pub use Rattle.fb_units.proofs.Each.{all_any, all_both, all_flat, all_map, all_pass, all_with, each_all, each_push, each_set, find_all}
+pub use Rattle.fb_units.proofs.Searches.{find-none as find_none, find_all}
+pub use Rattle.fb_units.proofs.Filtered.{filter_from, filter_to, none_kept as filter_none}
+pub use Rattle.fb_units.proofs.Each.{all_any, all_both, all_flat, all_map, all_pass, all_with, each_all, each_push, each_set}
 pub use Rattle.fb_units.proofs.Each.{flat_all, list_all_each}
 pub use Rattle.fb_units.proofs.Alike.{all_same, any_same, filter_same, flat_none, flat_same, map_same}
 pub use Rattle.fb_geometry.specs.Places.{places}

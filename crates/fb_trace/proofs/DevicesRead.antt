@@ -13,10 +13,10 @@ use Rattle.fb_units.specs.Judging.{◌>>=◌}
 use Rattle.fb_units.specs.Lines.{fields_of, lines_of}
 use Rattle.fb_units.specs.declared.types.Request.{Request}
 use Rattle.fb_units.proofs.Judged.{both_ok}
+use Rattle.fb_units.specs.declared.read_error.ReadError.{ReadError}
 use Rattle.fb_trace.specs.declared.devices.DevicesReader.{DevicesReader}
 use Rattle.fb_trace.specs.declared.entry.Entry.{Entry}
 use Rattle.fb_trace.specs.declared.trace.Trace.{Trace}
-use Rattle.fb_units.specs.declared.read_error.ReadError.{ReadError}
 use Rattle.fb_trace.specs.declared.trace.TraceFault.{TraceFault}
 use Rattle.fb_trace.specs.declared.trace.TraceReason.{TraceReason}
 use Rattle.fb_trace.specs.Devices.{all_of, traces_of}

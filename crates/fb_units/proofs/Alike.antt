@@ -45,3 +45,11 @@ flat_same f g (x ∷ xs) h = rw (h.0, flat_same f g xs h.1) refl
 pub flat_none : {X Y : Type 0} (f : X → List Y) (xs : List X) → AllByRecursion (λ x. f x ≡ []) xs → flat_map f xs ≡ []
 flat_none f [] h = refl
 flat_none f (x ∷ xs) h = rw (h.0, flat_none f xs h.1) refl
+
+pub flat_map_same : {X A : Type 0} (f g : X → List A) → ((x : X) → f x ≡ g x) → (xs : List X) → flat_map f xs ≡ flat_map g xs
+flat_map_same f g same xs = flat_same f g xs (all_any (λ x. f x ≡ g x) same xs)
+
+-- a test of mapped elements
+pub list_any-map : {X Y : Type 0} (p : Y → Bool) (f : X → Y) (xs : List X) → list_any p (map f xs) ≡ list_any (λ x. p (f x)) xs
+list_any-map p f [] = refl
+list_any-map p f (x ∷ xs) = rw (list_any-map p f xs) refl

@@ -1,14 +1,15 @@
 -- The elements of a list, wherever they stand in it.
 use Rattle.std.proofs.Common.{Bool, List, Some, [], ap, arith, inl, inr, length, map, refl, suc, sym, true, zero, ℕ, ◌++◌, ◌+◌, ◌-◌, ◌∙◌}
 use Rattle.std.proofs.Common.{◌∷◌, ◌≡◌, ◌⊎◌}
-use Rattle.std.specs.List.{AllByRecursion, list_any}
+use Rattle.std.specs.List.{list_any}
 use Rattle.std.specs.List.Sorted.{IsPermutation}
 use Rattle.std.specs.Prelude.{filter, slice_get}
-use Rattle.std.proofs.lemmas.Bool.{cases_Bool, cases_lt, or_cases, true≢false}
+use Rattle.std.proofs.lemmas.Bool.{cases_lt, or_cases, true≢false}
 use Rattle.std.proofs.lemmas.List.Folds.{list_any_at}
 use Rattle.std.proofs.lemmas.List.Sorted.{Contains-permutation}
 use Rattle.std.proofs.lemmas.Option.{get_or_from_slice_get, none-some, same_Some, slice_get-get_or, slice_get_within}
-use Rattle.fb_units.proofs.Lists.{all_get, get_left, get_right}
+use Rattle.fb_units.proofs.Filtered.{filter_from}
+use Rattle.fb_units.proofs.Lists.{get_left, get_right}
 
 -- x is one of these
 abbrev pub Among : {A : Type 0} → List A → A → Type 0
@@ -27,13 +28,7 @@ among-append xs ys x one = elim (cases_lt one.0 (length xs)) [
 ]
 
 pub among-filtered : {A : Type 0} (test : A → Bool) (xs : List A) (x : A) → Among (filter test xs) x → Among xs x × (test x ≡ true)
-among-filtered {A = A} test xs x one = all_get (λ y. Among xs y × (test y ≡ true)) (filter test xs) one.0 x (kept xs (λ y one. one)) one.1
-  where
-    kept : (ys : List A) → ((y : A) → Among ys y → Among xs y)
-        → AllByRecursion (λ y. Among xs y × (test y ≡ true)) (filter test ys)
-    kept [] within = tt
-    kept (y ∷ ys) within = let rest = kept ys (λ z one. within z (among-tail y z ys one)) in
-        elim (cases_Bool (test y)) [ inl in_ ↦ rw in_ ((within y (0, refl), in_), rest) | inr out ↦ rw out rest ]
+among-filtered test xs x one = let found = filter_from test xs one.0 x one.1 in ((found.0, found.1), found.2)
 
 pub among-mapped : {A B : Type 0} (f : A → B) (xs : List A) (y : B) → Among (map f xs) y → (x : A) × Among xs x × (f x ≡ y)
 among-mapped f [] y one = absurd (none-some y one.1)
@@ -51,7 +46,7 @@ any-among test (y ∷ xs) h = elim (or_cases (test y) (list_any test xs) h) [
   | inr later ↦ let found = any-among test xs later in (found.0, among-tail y found.0 xs found.1, found.2)
 ]
 
--- the order of the elements changes none
+-- a permutation has the same elements
 pub permuted : {A : Type 0} (xs ys : List A) (x : A) → IsPermutation xs ys → Among xs x → Among ys x
 permuted xs ys x h one =
     let found = Contains-permutation xs ys x h (one.0, slice_get_within xs one.0 x one.1, get_or_from_slice_get xs one.0 x x one.1) in

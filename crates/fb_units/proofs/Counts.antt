@@ -10,6 +10,8 @@ use Rattle.std.proofs.lemmas.List.Filters.{length-filter_both}
 use Rattle.std.proofs.lemmas.List.Sorted.{sum_by-IsPermutation}
 use Rattle.std.proofs.lemmas.List.Sums.{count_by-le-length, length-filter, sum_by-cons}
 use Rattle.fb_units.proofs.Comparing.{add_one, add_zero}
+use Rattle.fb_units.proofs.Filtered.{kept_map}
+use Rattle.std.proofs.lemmas.List.{length-map}
 
 -- one element more adds one where it passes
 pub count_cons : {A : Type 0} (test : A → Bool) (x : A) (xs : List A) → length (filter test (x ∷ xs))
@@ -21,7 +23,7 @@ pub kept_and_dropped : {A : Type 0} (bad : A → Bool) (xs : List A)
     → length (filter bad xs) + length (filter (λ x. not (bad x)) xs) ≡ length xs
 kept_and_dropped bad xs = length-filter_both bad (λ x. not (bad x)) (λ x. refl) xs
 
--- one test or another
+-- no more pass one test or another than pass the first and pass the second
 either : {A : Type 0} (p q : A → Bool) (xs : List A) → length (filter (λ x. p x || q x) xs) ≤ length (filter p xs) + length (filter q xs)
 either p q [] = omega arith
 either p q (x ∷ xs) =
@@ -32,7 +34,7 @@ nothing : {A : Type 0} (xs : List A) → length (filter (λ _. false) xs) ≡ 0
 nothing [] = refl
 nothing (x ∷ xs) = nothing xs
 
--- no more pass one of these tests than there are tests that one can pass
+-- no more pass one of these tests than there are tests that can be passed
 pub at_most_each : {A B : Type 0} (same : A → B → Bool) (can : B → Bool) (xs : List A) (ds : List B)
     → ((d : B) → length (filter (λ x. same x d) xs) ≤ cond (can d) 1 0)
     → length (filter (λ x. list_any (same x) ds) xs) ≤ length (filter can ds)
@@ -44,12 +46,12 @@ at_most_each same can xs (d ∷ ds) each =
 pub filter-le : {A : Type 0} (test : A → Bool) (xs : List A) → length (filter test xs) ≤ length xs
 filter-le test xs = rw length-filter (count_by-le-length test xs)
 
--- fewer pass two tests than the one
+-- no more pass two tests than the first of them
 pub fewer : {A : Type 0} (p q : A → Bool) (xs : List A) → length (filter p (filter q xs)) ≤ length (filter p xs)
 fewer p q [] = omega arith
 fewer p q (x ∷ xs) = grind (arith, count_cons p x (filter q xs), count_cons p x xs, fewer p q xs)
 
--- a test that one number alone passes, or none where it can't be passed
+-- in a range, a test that only one number can pass is passed once, or by none where it can't be passed
 pub once_in : (test : ℕ → Bool) (can : Bool) (q a n : ℕ) → ((i : ℕ) → i < n → test (a + i) ≡ true → (can ≡ true) × (a + i ≡ q))
     → length (filter test (range_with_len a n)) ≤ cond can 1 0
 once_in test can q a zero h = omega arith
@@ -65,10 +67,9 @@ once_in test can q a (suc n) h =
 -- a test of mapped elements
 pub length-filter-map : {X Y : Type 0} (p : Y → Bool) (f : X → Y) (xs : List X) → length (filter p (map f xs))
     ≡ length (filter (λ x. p (f x)) xs)
-length-filter-map p f [] = refl
-length-filter-map p f (x ∷ xs) = grind (arith, length-filter-map p f xs)
+length-filter-map p f xs = ap length (kept_map p f xs) ∙ length-map (filter (λ x. p (f x)) xs) f
 
--- an element passes if some number does
+-- some element passes where the count is not 0
 pub any_count : {A : Type 0} (test : A → Bool) (xs : List A) → list_any test xs ≡ nat_lt 0 (length (filter test xs))
 any_count test [] = refl
 any_count test (x ∷ xs) = grind (arith, nat_tests, any_count test xs)
@@ -77,7 +78,7 @@ any_count test (x ∷ xs) = grind (arith, nat_tests, any_count test xs)
 pub same_count : {A : Type 0} (test : A → Bool) (xs ys : List A) → IsPermutation xs ys → length (filter test ys) ≡ length (filter test xs)
 same_count test xs ys h = length-filter test ys ∙ (sum_by-IsPermutation (λ x. cond (test x) 1 0) xs ys h ∙ sym (length-filter test xs))
 
--- a test passes where one of two does, and never both
+-- where a test passes just where one of two does, which never both pass, its count is the sum of theirs
 pub sum_of : {A : Type 0} (p q r : A → Bool) (xs : List A) → ((x : A) → cond {A = ℕ} (p x) 1 0 ≡ cond (q x) 1 0 + cond (r x) 1 0)
     → length (filter p xs) ≡ length (filter q xs) + length (filter r xs)
 sum_of p q r [] all = refl

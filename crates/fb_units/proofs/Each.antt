@@ -1,7 +1,7 @@
 -- What holds of each element of a list.
-use Rattle.std.proofs.Common.{◌≡◌, ℕ, zero, suc, List, [], ◌∷◌, ◌++◌, Bool, true, Some, map, length, set, slice_get, filter, find, inl, inr}
+use Rattle.std.proofs.Common.{◌≡◌, ℕ, zero, suc, List, [], ◌∷◌, ◌++◌, Bool, true, Some, map, length, set, slice_get, filter, inl, inr}
 use Rattle.std.proofs.Common.{refl, subst, arith}
-use Rattle.std.specs.List.{AllByRecursion, best_of, flat_map, list_all, list_any}
+use Rattle.std.specs.List.{AllByRecursion, best_of, flat_map, list_all}
 use Rattle.std.proofs.lemmas.Bool.{cases_Bool}
 use Rattle.std.proofs.lemmas.Option.{same_Some}
 use Rattle.fb_units.proofs.Lists.{all_append, all_left, all_right}
@@ -23,7 +23,7 @@ pub all_pass : {X : Type 0} (p : X → Bool) (xs : List X) → AllByRecursion (�
 all_pass p [] = tt
 all_pass p (x ∷ xs) = grind (arith, all_pass p xs)
 
--- a test of all, and each
+-- all pass if each does, and the other way round
 pub list_all_each : {X : Type 0} (p : X → Bool) (xs : List X) → list_all p xs ≡ true → AllByRecursion (λ x. p x ≡ true) xs
 list_all_each p [] h = tt
 list_all_each p (x ∷ xs) h = (grind arith, list_all_each p xs (grind arith))
@@ -63,15 +63,6 @@ all_best P p x (y ∷ ys) one all = elim (cases_Bool (p y x)) [
   | inr worse ↦ rw worse (all_best P p x ys one all.1)
 ]
 
--- an element that is found has what all have, and passes
-pub find_all : {X : Type 0} (P : X → Type 0) (p : X → Bool) (xs : List X) (x : X) → AllByRecursion P xs → find p xs ≡ Some x
-    → P x × (list_any p xs ≡ true)
-find_all P p [] x all h = absurd (cc)
-find_all P p (y ∷ ys) x all h = elim (cases_Bool (p y)) [
-  | inl pass ↦ rw pass (subst P (same_Some y x (rw pass at h)) all.0, refl)
-  | inr fail ↦ rw fail (find_all P p ys x all.1 (rw fail at h))
-]
-
 -- what holds of a new element and of each other holds of each
 pub each_set : {X : Type 0} (P : ℕ → X → Type 0) (xs : List X) (i : ℕ) (new : X) → P i new
     → ((k : ℕ) (x : X) → (i ≡ k → ⊥) → slice_get xs k ≡ Some x → P k x)
@@ -90,3 +81,7 @@ each_push P [] new own others zero x at = subst (P 0) (same_Some new x at) own
 each_push P [] new own others (suc k) x at = absurd (cc)
 each_push P (y ∷ ys) new own others zero x at = others zero x at
 each_push P (y ∷ ys) new own others (suc k) x at = each_push (λ n. P (suc n)) ys new own (λ n. others (suc n)) k x at
+
+-- what holds of whatever a function gives
+pub all_map_any : {X Y : Type 0} (P : Y → Type 0) (f : X → Y) → ((x : X) → P (f x)) → (xs : List X) → AllByRecursion P (map f xs)
+all_map_any P f each xs = all_map P f xs (all_any (λ x. P (f x)) each xs)

@@ -11,7 +11,11 @@ pub none_kept : {X : Type 0} (p : X → Bool) (xs : List X) → AllByRecursion (
 none_kept p [] all = refl
 none_kept p (x ∷ xs) all = rw (all.0) (none_kept p xs all.1)
 
--- a test that is kept by another one can come after it
+pub all_kept : {X : Type 0} (p : X → Bool) (xs : List X) → AllByRecursion (λ x. p x ≡ true) xs → filter p xs ≡ xs
+all_kept p [] all = refl
+all_kept p (x ∷ xs) all = rw all.0 (ap (λ ys. x ∷ ys) (all_kept p xs all.1))
+
+-- filtering by a wider test first makes no difference
 pub kept_twice : {X : Type 0} (p q : X → Bool) → ((x : X) → p x ≡ true → q x ≡ true) → (xs : List X) → filter p (filter q xs) ≡ filter p xs
 kept_twice p q more [] = refl
 kept_twice p q more (x ∷ xs) = elim (cases_Bool (q x)) [
@@ -33,7 +37,7 @@ kept_map p f (x ∷ xs) = elim (cases_Bool (p (f x))) [
   | inr dropped ↦ rw dropped (kept_map p f xs)
 ]
 
--- an element that passes stands in the whole list
+-- an element that is kept stands in the whole list, and passes
 abbrev pub Found : {X : Type 0} → (X → Bool) → List X → X → Type 0
 Found p xs x = (j : ℕ) × (slice_get xs j ≡ Some x) × (p x ≡ true)
 
@@ -61,3 +65,8 @@ pub kept_to : {A : Type 0} (keep : A → Bool) (i : ℕ) (xs : List A) (x : A) �
 kept_to keep i [] x at stays = absurd (none-some x at)
 kept_to keep zero (y ∷ xs) x at stays = rw (ap keep (same_Some y x at) ∙ stays) at
 kept_to keep (suc i) (y ∷ xs) x at stays = grind (arith, kept_to keep i xs x at stays)
+
+-- and one that passes is among those that are kept
+pub filter_to : {X : Type 0} (p : X → Bool) (xs : List X) (i : ℕ) (x : X) → slice_get xs i ≡ Some x → p x ≡ true
+    → (j : ℕ) × (slice_get (filter p xs) j ≡ Some x)
+filter_to p xs i x h pass = (length (filter p (take i xs)), kept_to p i xs x h pass)

@@ -1,8 +1,8 @@
 -- Lists: their elements by index, their parts, and what holds of each element.
-use Rattle.std.proofs.Common.{◌≡◌, ℕ, zero, suc, ◌+◌, ◌<◌, ◌≤◌, List, [], ◌∷◌, ◌++◌, Bool, true, false, Option, Some, Result, Ok, Err}
+use Rattle.std.proofs.Common.{◌≡◌, ℕ, zero, suc, ◌+◌, ◌<◌, ◌≤◌, List, [], ◌∷◌, ◌++◌, Bool, false, Option, Some, Result, Ok, Err}
 use Rattle.std.proofs.Common.{drop, take, get_or, length, map, refl, sym, ap, subst, ◌∙◌, arith, inl, inr}
 use Rattle.std.specs.Prelude.{OnErr, filter, option_map, slice_get}
-use Rattle.std.specs.List.{AllByRecursion, flat_map, list_any, range_with_len}
+use Rattle.std.specs.List.{AllByRecursion, list_any, range_with_len}
 use Rattle.std.proofs.lemmas.Bool.{cases_Bool, or_parts}
 use Rattle.std.proofs.lemmas.List.{drop_more, take_more}
 use Rattle.std.proofs.lemmas.Option.{get_or_from_slice_get, none-some, same_Some, slice_get-map, slice_get_within}
@@ -36,16 +36,6 @@ append_at xs ys i x at = get_left xs ys i (slice_get_within xs i x at) ∙ at
 pub map_at : {X Y : Type 0} (f : X → Y) (xs : List X) (i : ℕ) (x : X) → slice_get xs i ≡ Some x → slice_get (map f xs) i ≡ Some (f x)
 map_at f xs i x at = slice_get-map f xs i ∙ ap (option_map f) at
 
--- an element that passes a test is among those that do
-pub filter_to : {X : Type 0} (p : X → Bool) (xs : List X) (i : ℕ) (x : X) → slice_get xs i ≡ Some x → p x ≡ true
-    → (j : ℕ) × (slice_get (filter p xs) j ≡ Some x)
-filter_to p [] i x h pass = absurd (cc)
-filter_to p (y ∷ ys) zero x h pass = (zero, grind arith)
-filter_to p (y ∷ ys) (suc i) x h pass = let rest = filter_to p ys i x h pass in elim (cases_Bool (p y)) [
-  | inl in_p ↦ (suc rest.0, rw in_p rest.1)
-  | inr out_p ↦ (rest.0, rw out_p rest.1)
-]
-
 -- ---- parts
 -- what is left from an index on begins with the element there
 pub drop_at : {X : Type 0} (xs : List X) (i : ℕ) (x : X) → slice_get xs i ≡ Some x → drop i xs ≡ x ∷ drop (i + 1) xs
@@ -54,10 +44,6 @@ drop_at xs i x e = drop_more xs i x (slice_get_within xs i x e) ∙ ap (λ y. y 
 -- one element more
 pub take_at : {X : Type 0} (xs : List X) (i : ℕ) (x : X) → slice_get xs i ≡ Some x → take (i + 1) xs ≡ take i xs ++ x ∷ []
 take_at xs i x at = take_more xs i x (slice_get_within xs i x at) ∙ ap (λ y. take i xs ++ y ∷ []) (get_or_from_slice_get xs i x x at)
-
-pub flat_map_same : {X A : Type 0} (f g : X → List A) → ((x : X) → f x ≡ g x) → (xs : List X) → flat_map f xs ≡ flat_map g xs
-flat_map_same f g same [] = refl
-flat_map_same f g same (x ∷ xs) = ap (λ ys. ys ++ flat_map f xs) (same x) ∙ ap (λ ys. g x ++ ys) (flat_map_same f g same xs)
 
 -- ---- what holds of each element
 pub all_get : {X : Type 0} (P : X → Type 0) (xs : List X) (i : ℕ) (x : X) → AllByRecursion P xs → slice_get xs i ≡ Some x → P x
@@ -101,11 +87,6 @@ all_filter P p (x ∷ xs) all = elim (cases_Bool (p x)) [
   | inl kept ↦ rw kept (all.0, all_filter P p xs all.1)
   | inr dropped ↦ rw dropped (all_filter P p xs all.1)
 ]
-
--- what holds of whatever a function gives
-pub all_map_any : {X Y : Type 0} (P : Y → Type 0) (f : X → Y) → ((x : X) → P (f x)) → (xs : List X) → AllByRecursion P (map f xs)
-all_map_any P f each [] = tt
-all_map_any P f each (x ∷ xs) = (each x, all_map_any P f each xs)
 
 -- what holds of each number of a range
 pub all_range : (P : ℕ → Type 0) (a n : ℕ) → ((k : ℕ) → a ≤ k → k < a + n → P k) → AllByRecursion P (range_with_len a n)

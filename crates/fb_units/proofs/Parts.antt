@@ -7,7 +7,8 @@ use Rattle.std.proofs.lemmas.List.{length-append, map-append}
 use Rattle.std.proofs.lemmas.List.Elements.{filter-append}
 use Rattle.std.proofs.lemmas.Option.{same_Some}
 use Rattle.fb_units.proofs.Comparing.{add_one, add_zero, zero_add}
-use Rattle.fb_units.proofs.Lists.{all_append, get_left, get_right}
+use Rattle.fb_units.proofs.Each.{flat_all}
+use Rattle.fb_units.proofs.Lists.{all_range, get_left, get_right}
 
 -- the i-th number of a range
 pub get_range : (a n i : ℕ) → i < n → slice_get (range_with_len a n) i ≡ Some (a + i)
@@ -32,7 +33,7 @@ range-append a (suc m) n = let longer : suc m + n ≡ suc (m + n) = omega arith 
     ap (range_with_len a) longer ∙ ap (λ xs. a ∷ xs) (range-append (a + 1) m n
     ∙ ap (λ x. range_with_len (a + 1) m ++ range_with_len x n) (omega arith))
 
--- parts of one length
+-- a list of parts of one length is as long as their number times that length
 pub length-parts : {X A : Type 0} (f : X → List A) (n : ℕ) → ((x : X) → length (f x) ≡ n) → (xs : List X)
     → length (flat_map f xs) ≡ length xs * n
 length-parts f n each [] = omega arith
@@ -48,13 +49,13 @@ get_part f n each (y ∷ ys) zero r i x e h p =
 get_part f n each (y ∷ ys) (suc q) r i x e h p =
     get_right (f y) (flat_map f ys) (q * n + r) i (omega (arith, each y)) ∙ get_part f n each ys q r (q * n + r) x e h refl
 
--- a test of the whole is one of each part
+-- to filter each part is to filter the whole
 pub filter-flat_map : {X A : Type 0} (p : A → Bool) (f : X → List A) (xs : List X) → flat_map (λ x. filter p (f x)) xs
     ≡ filter p (flat_map f xs)
 filter-flat_map p f [] = refl
 filter-flat_map p f (x ∷ xs) = ap (λ ys. filter p (f x) ++ ys) (filter-flat_map p f xs) ∙ sym (filter-append p (f x) (flat_map f xs))
 
--- parts of one length, one after another
+-- the parts of a range, one after another, are the whole range
 pub flat-ranges : {A : Type 0} (g : ℕ → A) (n a h : ℕ) → flat_map (λ k. map g (range_with_len (k * n) n)) (range_with_len a h)
     ≡ map g (range_with_len (a * n) (h * n))
 flat-ranges g n a zero = let none : 0 ≡ 0 * n = omega arith in ap (λ m. map g (range_with_len (a * n) m)) none
@@ -68,11 +69,9 @@ flat-ranges g n a (suc h) =
 -- what holds of each element of each part
 pub all-parts : {A : Type 0} (P : A → Type 0) (f : ℕ → List A) (a n : ℕ) → ((k : ℕ) → a ≤ k → k < a + n → AllByRecursion P (f k))
     → AllByRecursion P (flat_map f (range_with_len a n))
-all-parts P f a zero h = tt
-all-parts P f a (suc n) h = all_append P (f a) (flat_map f (range_with_len (a + 1) n)) (h a (omega arith) (omega arith))
-    (all-parts P f (a + 1) n (λ k from upto. h k (omega arith) (omega arith)))
+all-parts P f a n h = flat_all P f (range_with_len a n) (all_range (λ k. AllByRecursion P (f k)) a n h)
 
--- an element of the front
+-- the front has its elements at their indexes
 pub get_take : {X : Type 0} (n : ℕ) (xs : List X) (i : ℕ) → i < n → slice_get (take n xs) i ≡ slice_get xs i
 get_take zero xs i h = absurd (omega arith)
 get_take (suc n) [] i h = refl

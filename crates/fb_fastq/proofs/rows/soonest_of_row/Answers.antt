@@ -1,8 +1,8 @@
+use Rattle.fb_units.proofs.Lists.{all_from_index}
+use Rattle.fb_units.specs.declared.types.Name.TheVariants.{Traced}
 use Rattle.fb_fastq.proofs.Words.{◌≡◌, Some, slice_get, get_or, length, false, refl, sym, subst, ap, ◌∙◌, arith, inl, inr, cases_lt}
 use Rattle.fb_fastq.proofs.Words.{slice_get_read, slice_get-get_or, slice_get_within, Candidate, Position, Waiting, IsAlong, Row, RulesOut}
 use Rattle.fb_fastq.proofs.Words.{RulesOutAll, IsOnCylinder}
-use Rattle.fb_units.proofs.Lists.{all_from_index}
-use Rattle.fb_units.specs.declared.types.Name.TheVariants.{Traced}
 use Rattle.fb_fastq.proofs.{Swept.some_injective, Sweeps.no_later_trans, InRows.held_in_row, InRows.held_on}
 use Rattle.fb_fastq.proofs.{InRows.same_row_of, InRows.still_ruled_out, InRows.rules_out_own, InRows.picks_one, InRows.in_row}
 use Rattle.fb_fastq.proofs.rows.soonest_of_row.Goals.{After-index-rows-number, In-loop-index}

@@ -1,6 +1,6 @@
+use Rattle.fb_units.proofs.Alike.{list_any-map}
 use Rattle.fb_params.proofs.Words.{rules, tests, bytes_eq, YieldsList-from_slice, any_from_yields_List}
 use Rattle.fb_params.specs.declared.key.Key.{Key}
-use Rattle.fb_params.proofs.Searches.{list_any-map}
 use Rattle.fb_params.proofs.search.is_name_of.Goals as goal
 
 pub returns : goal.returns

@@ -1,5 +1,5 @@
+use Rattle.fb_units.proofs.Alike.{list_any-map}
 use Rattle.fb_report.proofs.Words.{◌∙◌, sym, ap, bytes_eq, fits}
-use Rattle.fb_report.proofs.Rows.{list_any-map}
 use Rattle.fb_report.proofs.forms.Form.fits.Goals as goal
 
 pub returns-in-OneOf : goal.returns-in-OneOf
