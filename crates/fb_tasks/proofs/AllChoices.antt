@@ -1,7 +1,6 @@
 -- The choices of a session, one after another, and those of all sessions.
 use Rattle.std.proofs.lemmas.List.Sums.{fold-append}
 use Rattle.fb_units.proofs.Counts.{each_one, filter-le}
-pub use Rattle.fb_units.proofs.Lists.{all_range}
 use Rattle.fb_tasks.proofs.Words.{◌≡◌, ℕ, zero, suc, ◌+◌, ◌-◌, ◌≤◌, ◌&&◌, not, if◌then◌else◌, List, [], ◌++◌, true, false, length}
 use Rattle.fb_tasks.proofs.Words.{append-nil, refl, ap, sym, ◌∙◌, arith, ◌∷◌, Bool, inl, inr, subst, ◌*◌, ◌^◌, ◌<◌, Some, set, slice_get}
 use Rattle.fb_tasks.proofs.Words.{and_parts, cases_Bool, true≢false, length-map, length-set, Shape, is_clean, Entry, BackRow, Past}
@@ -10,7 +9,7 @@ use Rattle.fb_tasks.proofs.Words.{choose_in, is_better, is_busy, is_chosen, unch
 use Rattle.fb_tasks.proofs.Words.{Stands, MayChoose, AreReported, IsSegmentOf, HasNoChoice, HoldsBlocks, IsQuiet, IsAtWork}
 use Rattle.fb_tasks.proofs.Words.{HaveChosen, choosable_by, flat_same, some_at, number_other, each_set, step_to}
 use Rattle.fb_tasks.proofs.Words.{AllByRecursion, sum_by, best_of, flat_map, fold, range_with_len, sum_by-cons, slice_get_within, Block}
-use Rattle.fb_tasks.proofs.Words.{chosen-silent, MayChooseAndTest, TaskView, nil_from_length, HasChosenUpTo, kept_segment}
+use Rattle.fb_tasks.proofs.Words.{chosen-silent, MayChooseAndTest, TaskView, nil_from_length, HasChosenUpTo, kept_segment, all_range}
 use Rattle.fb_tasks.proofs.{ChoiceSteps.best_left, ChoiceSteps.chosen_blocks, ChoiceSteps.chosen_for, ChoiceSteps.next_view}
 use Rattle.fb_tasks.proofs.{States.seen, Segmented.numbered_given, ChoiceSteps.once_is, ChoiceSteps.left_less, ChoiceSteps.added_own}
 use Rattle.fb_tasks.proofs.{ChoiceSteps.segment_rows_of, ChoiceSteps.segment_rows_is, ChoiceSteps.few_less, ChoiceSteps.best_of_left}

@@ -9,10 +9,10 @@ use Rattle.fb_tasks.proofs.Words.{chose, tested, finished, tasks, task_numbers, 
 use Rattle.fb_tasks.proofs.Words.{called-silent, opened-silent, opened-view, added-view, next_blocks, is_chosen, choose_in, with_choices}
 use Rattle.fb_tasks.proofs.Words.{take_call, blocks_by, with_delivery, choosable_by, IsSegmentOf, IsUntouched, choosable, Tells, MayTake}
 use Rattle.fb_tasks.proofs.Words.{same_number, other_number, number_other, nat_tests, drop_more, take_more, slice_get_within}
-use Rattle.fb_tasks.proofs.Words.{get_or_from_slice_get, Entry, Session, delivery_of, IsCalled}
+use Rattle.fb_tasks.proofs.Words.{get_or_from_slice_get, Entry, Session, delivery_of, IsCalled, all_range}
 use Rattle.fb_tasks.proofs.{Rules.opened_same, Rules.open_there, Rules.terms_there, Cuts.cuts_count, Cuts.range_next}
 use Rattle.fb_tasks.proofs.{Additions.next_segment, AllChoices.in_same, AllChoices.in_tasks, AllChoices.in_fewer, AllChoices.by_task}
-use Rattle.fb_tasks.proofs.{AllChoices.all_range, AllChoices.sum_range, AllChoices.choosable-same, AllChoices.by_all}
+use Rattle.fb_tasks.proofs.{AllChoices.sum_range, AllChoices.choosable-same, AllChoices.by_all}
 use Rattle.fb_tasks.proofs.States.{seen}
 use Rattle.fb_model.specs.History.{blocks_of}
 use Rattle.fb_tasks.specs.Telling.{calls_of}

@@ -1,4 +1,5 @@
 -- The sectors that can't be read, and what the rows of a test say of each task.
+use Rattle.fb_units.proofs.Lists.{all_map_any}
 use Rattle.fb_units.proofs.Parts.{range-append}
 use Rattle.fb_tasks.proofs.Words.{◌≡◌, ℕ, ◌+◌, ◌-◌, ◌≤◌, List, [], ◌∷◌, ◌++◌, true, false, Some, if◌then◌else◌, take, slice_get, append-nil}
 use Rattle.fb_tasks.proofs.Words.{append_assoc, sym, arith, refl, zero, suc, ◌<◌, ◌==◌, ◌&&◌, ◌||◌, Bool, inl, inr, length, filter}
@@ -40,8 +41,7 @@ any_flat p f [] = refl
 any_flat p f (x ∷ xs) = list_any-append p (f x) (flat_map f xs) ∙ ap (λ b. list_any p (f x) || b) (any_flat p f xs)
 
 any_mapped_none : {X Y : Type 0} (p : Y → Bool) (f : X → Y) → ((x : X) → p (f x) ≡ false) → (xs : List X) → list_any p (map f xs) ≡ false
-any_mapped_none p f none [] = refl
-any_mapped_none p f none (x ∷ xs) = rw (none x, any_mapped_none p f none xs) refl
+any_mapped_none p f none xs = any_none p (map f xs) (all_map_any (λ y. p y ≡ false) f none xs)
 
 -- a test of one number of a range
 no_one : (g : ℕ → Bool) (k a n : ℕ) → k < a → list_any (λ t. (t == k) && g t) (range_with_len a n) ≡ false
