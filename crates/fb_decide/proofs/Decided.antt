@@ -7,6 +7,7 @@ use Rattle.std.specs.List.{AllByRecursion, fold}
 use Rattle.std.proofs.lemmas.Bool.Decides.{nat_tests}
 use Rattle.std.proofs.lemmas.Bool.{cases_lt}
 use Rattle.std.proofs.lemmas.List.{length-append, drop_more, nil_from_length}
+use Rattle.std.proofs.lemmas.Option.{none-some, same_Some}
 use Rattle.fb_units.proofs.Lists.{all_filter, all_weaker}
 use Rattle.fb_units.specs.declared.types.Track.{Track}
 use Rattle.fb_units.specs.declared.types.Request.{Request}
@@ -164,12 +165,6 @@ pub record IsNextOf (a : Option Request) (b : Option Call) (t : ℕ) : Type 0 wh
   pub calls : IfSome b (λ c. t ≤ c.instant)
   pub one : ((r : Request) × (a ≡ Some r) × (r.arrival ≡ t)) ⊎ ((c : Call) × (b ≡ Some c) × (c.instant ≡ t))
 
-some_one : {X : Type 0} (x y : X) → ◌≡◌ {A = Option X} (Some x) (Some y) → x ≡ y
-some_one x y e = cc
-
-no_some : {X : Type 0} (x : X) → ◌≡◌ {A = Option X} None (Some x) → ⊥
-no_some x e = cc
-
 either_is : (r : Request) (c : Call) (t : ℕ) → min r.arrival c.instant ≡ t → IsNextOf (Some r) (Some c) t
 either_is r c t e = record {
   arrives = omega (arith, e);
@@ -181,19 +176,19 @@ either_is r c t e = record {
 }
 
 pub next_is : (a : Option Request) (b : Option Call) (t : ℕ) → next_of a b ≡ Some t → IsNextOf a b t
-next_is None None t e = absurd (no_some t e)
-next_is (Some r) None t e = let same = some_one r.arrival t e in
+next_is None None t e = absurd (none-some t e)
+next_is (Some r) None t e = let same = same_Some r.arrival t e in
     record { arrives = omega (arith, same); calls = tt; one = inl (r, refl, same) }
-next_is None (Some c) t e = let same = some_one c.instant t e in
+next_is None (Some c) t e = let same = same_Some c.instant t e in
     record { arrives = tt; calls = omega (arith, same); one = inr (c, refl, same) }
-next_is (Some r) (Some c) t e = either_is r c t (some_one (min r.arrival c.instant) t e)
+next_is (Some r) (Some c) t e = either_is r c t (same_Some (min r.arrival c.instant) t e)
 
 -- and where there is none, nothing is to come
 pub none_is : (a : Option Request) (b : Option Call) → next_of a b ≡ None → (a ≡ None) × (b ≡ None)
 none_is None None e = (refl, refl)
-none_is (Some r) None e = absurd (no_some r.arrival (sym e))
-none_is None (Some c) e = absurd (no_some c.instant (sym e))
-none_is (Some r) (Some c) e = absurd (no_some (min r.arrival c.instant) (sym e))
+none_is (Some r) None e = absurd (none-some r.arrival (sym e))
+none_is None (Some c) e = absurd (none-some c.instant (sym e))
+none_is (Some r) (Some c) e = absurd (none-some (min r.arrival c.instant) (sym e))
 
 module _ {X : Type 0} (f : X → ℕ) where
   -- of elements in order the first n have come, and the others come no earlier than the next
@@ -208,19 +203,19 @@ module _ {X : Type 0} (f : X → ℕ) where
   passed_at : (now n : ℕ) (xs : List X) → AllByRecursion (λ x. f x ≤ now) (take n xs) → slice_get xs n ≡ None
       → AllByRecursion (λ t. t ≤ now) (map f xs)
   passed_at now zero [] come none = tt
-  passed_at now zero (x ∷ xs) come none = absurd (no_some x (sym none))
+  passed_at now zero (x ∷ xs) come none = absurd (none-some x (sym none))
   passed_at now (suc n) [] come none = tt
   passed_at now (suc n) (x ∷ xs) come none = (come.0, passed_at now n xs come.1 none)
 
   there_at : (n : ℕ) (xs : List X) (x : X) → slice_get xs n ≡ Some x → IsAmong (f x) (map f xs)
-  there_at n [] x at = absurd (no_some x at)
-  there_at zero (y ∷ xs) x at = inl (ap f (some_one y x at))
+  there_at n [] x at = absurd (none-some x at)
+  there_at zero (y ∷ xs) x at = inl (ap f (same_Some y x at))
   there_at (suc n) (y ∷ xs) x at = inr (there_at n xs x at)
 
 -- none is left behind the last one
 pub none_dropped : {X : Type 0} (n : ℕ) (xs : List X) → slice_get xs n ≡ None → drop n xs ≡ []
 none_dropped zero [] none = refl
-none_dropped zero (x ∷ xs) none = absurd (no_some x (sym none))
+none_dropped zero (x ∷ xs) none = absurd (none-some x (sym none))
 none_dropped (suc n) [] none = refl
 none_dropped (suc n) (x ∷ xs) none = none_dropped n xs none
 

@@ -5,7 +5,7 @@ use Rattle.std.specs.List.{AllByRecursion, flat_map, fold}
 use Rattle.std.proofs.lemmas.List.{length-append, take-append-drop}
 use Rattle.std.proofs.lemmas.List.Concat.{flat_map-append}
 use Rattle.std.proofs.lemmas.Bool.{cases_Bool}
-use Rattle.fb_units.proofs.Lists.{all_append, all_filter, all_left, all_weaker}
+use Rattle.fb_units.proofs.Lists.{all_append, all_filter, all_left, all_range, all_weaker}
 use Rattle.fb_units.proofs.Each.{all_any, all_map, flat_all}
 use Rattle.fb_geometry.specs.Shape.{Shape}
 use Rattle.fb_service.specs.declared.disk.Disk.{Disk}
@@ -34,7 +34,6 @@ use Rattle.fb_model.specs.SoundRun.{AreFollowed}
 use Rattle.fb_tasks.specs.declared.session.Session.{Session}
 use Rattle.fb_tasks.specs.Telling.{Tells, IsBlockOf, calls_of}
 use Rattle.fb_tasks.proofs.Rules.{opened_same}
-use Rattle.fb_tasks.proofs.AllChoices.{all_range}
 use Rattle.fb_decide.proofs.Placing.{in_order-each}
 use Rattle.fb_decide.proofs.RegisteredBlocks.{registered_after, tasks_more}
 use Rattle.fb_decide.specs.Making.{IsMade, RowFits}

@@ -4,9 +4,9 @@ use Rattle.std.proofs.Common.{length-append, slice_get, append-nil, refl, ap, sy
 use Rattle.std.specs.List.{AllByRecursion, list_any}
 use Rattle.std.proofs.lemmas.Bool.{and_parts, cases_Bool, cases_lt, eqb-true as same_number, true≢false}
 use Rattle.std.proofs.lemmas.Option.{same_Some as some_same}
-use Rattle.fb_units.proofs.Among.{Among, among-append, among-right}
+use Rattle.fb_units.proofs.Among.{Among, among-any, among-append, among-right}
 use Rattle.fb_units.proofs.Comparing.{same_number as number_same}
-use Rattle.fb_units.proofs.Lists.{all_append, all_get as all_at, all_weaker, append_at, element_at as some_at}
+use Rattle.fb_units.proofs.Lists.{all_append, all_from_index, all_get as all_at, all_weaker, append_at, element_at as some_at}
 use Rattle.fb_units.proofs.Each.{all_flat}
 use Rattle.fb_units.proofs.Filtered.{filter_to}
 use Rattle.fb_geometry.specs.Shape.{Shape}
@@ -25,18 +25,14 @@ use Rattle.fb_decide.specs.Deliveries.{IsRegistered}
 use Rattle.fb_tasks.proofs.Registered.{own, itself}
 
 pub each_in : {X : Type 0} (xs : List X) → AllByRecursion (Among xs) xs
-each_in [] = tt
-each_in (x ∷ xs) = ((zero, refl), all_weaker (Among xs) (Among (x ∷ xs)) (λ y there. (suc there.0, there.1)) xs (each_in xs))
+each_in xs = all_from_index (Among xs) xs (λ i x at. (i, at))
 
 pub all_in : {X : Type 0} (P : X → Type 0) (xs : List X) (x : X) → AllByRecursion P xs → Among xs x → P x
 all_in P xs x all there = all_at P xs there.0 x all there.1
 
 -- a block among others is the same as one of them
 pub in_any : (blocks : List Block) (i : ℕ) (block : Block) → slice_get blocks i ≡ Some block → list_any (same_block block) blocks ≡ true
-in_any [] i block h = absurd (grind arith)
-in_any (b ∷ blocks) zero block h =
-    subst (λ b. list_any (same_block block) (b ∷ blocks) ≡ true) (sym (some_same b block h)) (rw (itself block) refl)
-in_any (b ∷ blocks) (suc i) block h = grind (arith, in_any blocks i block h)
+in_any blocks i block h = among-any (same_block block) blocks block (i, h) (itself block)
 
 -- what an event registers stands behind what was registered before
 pub registered_after : (past : Past) (event : Event) → registered (event ∷ past) ≡ registered past ++ registered_by event
