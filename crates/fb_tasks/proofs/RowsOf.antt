@@ -1,5 +1,5 @@
 -- The sectors that can't be read, and what the rows of a test say of each task.
-use Rattle.fb_units.proofs.Lists.{all_map_any}
+use Rattle.fb_units.proofs.Each.{all_map_any}
 use Rattle.fb_units.proofs.Parts.{range-append}
 use Rattle.fb_tasks.proofs.Words.{◌≡◌, ℕ, ◌+◌, ◌-◌, ◌≤◌, List, [], ◌∷◌, ◌++◌, true, false, Some, if◌then◌else◌, take, slice_get, append-nil}
 use Rattle.fb_tasks.proofs.Words.{append_assoc, sym, arith, refl, zero, suc, ◌<◌, ◌==◌, ◌&&◌, ◌||◌, Bool, inl, inr, length, filter}
