@@ -4,10 +4,10 @@ use Rattle.std.proofs.Common.{drop, append-nil, refl, ap, sym, ◌∙◌, subst,
 use Rattle.std.specs.Prelude.{◌&&◌, not, if◌then◌else◌}
 use Rattle.std.specs.List.{AllByRecursion, fold, best_of, slice_index_or}
 use Rattle.std.proofs.Math.Bool.{or-true}
-use Rattle.std.proofs.lemmas.Bool.{and_parts, cases_Bool, cases_lt, eqb-true as same_number, ne_eqb as number_other, or_parts, true≢false}
+use Rattle.std.proofs.lemmas.Bool.{and_parts, cases_Bool, cases_lt, eqb-true, ne_eqb, or_parts, true≢false}
 use Rattle.std.proofs.lemmas.List.Elements.{filter-append}
 use Rattle.std.proofs.lemmas.List.Folds.{list_any-append}
-use Rattle.fb_units.proofs.Comparing.{same_number as number_same}
+use Rattle.fb_units.proofs.Comparing.{same_number}
 use Rattle.fb_units.proofs.Lists.{all_append}
 use Rattle.fb_tasks.proofs.ChoiceSteps.{no_backup}
 use Rattle.fb_geometry.specs.Shape.{Shape}
@@ -115,7 +115,7 @@ module _ (disk : Shape) (calls : List Call) where
         let opened = (open_there past call.task may.0).0 in
         other_same call.task task (terms_of past call.task).weight (length (blocks_of past call.task))
         (cutting disk (terms_of past call.task).block first count) (registered past)
-        (number_other call.task task (λ same. absurd (omega (arith, opened, beyond, same)))) ∙ h.unopened task beyond
+        (ne_eqb call.task task (λ same. absurd (omega (arith, opened, beyond, same)))) ∙ h.unopened task beyond
     unopened_now _ may task beyond = ap (own task) (append-nil (registered past)) ∙ h.unopened task beyond
 
     -- a want stays wanted
@@ -127,7 +127,7 @@ module _ (disk : Shape) (calls : List Call) where
     wanted_now first count is =
         rw (
           list_any-append (λ (other : Call). (other.task == call.task) && is_want other.action) (calls_of past) (call ∷ []),
-          number_same call.task call.task refl,
+          same_number call.task call.task refl,
           is,
         ) (or-true (has_want (calls_of past) call.task))
 
@@ -158,7 +158,7 @@ module _ (disk : Shape) (calls : List Call) where
           | inr other ↦ kept task (now (Want first count)) (other_same call.task task terms.weight (length (blocks_of past call.task)) cuts
               (registered past) other) backup
           | inl mine ↦
-              let same = same_number call.task task mine in
+              let same = eqb-true call.task task mine in
               let is_own : is_backup (terms_of past call.task).kind ≡ true = ap (λ task. is_backup (terms_of past task).kind) same
               ∙ backup in
               let none : has_want (calls_of past) call.task ≡ false = sym (ap (λ kind. is_backup kind && has_want (calls_of past) call.task)
@@ -215,13 +215,13 @@ module _ (disk : Shape) (calls : List Call) where
         record {
           some = all_append IsSome (registered past) (next_blocks past task cuts) h.some (some_numbered task weight n cuts all);
           unopened = λ other beyond. elim (cases_Bool (task == other)) [
-            | inl same ↦ absurd (true≢false (sym now.1 ∙ ap (λ task. is_clean (terms_of past task).kind) (same_number task other same)
+            | inl same ↦ absurd (true≢false (sym now.1 ∙ ap (λ task. is_clean (terms_of past task).kind) (eqb-true task other same)
                 ∙ ap is_clean (plain_beyond (tasks past) other beyond)))
             | inr differ ↦ other_same task other weight n cuts (registered past) differ ∙ h.unopened other beyond
           ];
           backups = λ other backup. elim (cases_Bool (task == other)) [
             | inl same ↦ absurd (no_backup (terms_of past task).kind now.1
-                (ap (λ task. is_backup (terms_of past task).kind) (same_number task other same) ∙ backup))
+                (ap (λ task. is_backup (terms_of past task).kind) (eqb-true task other same) ∙ backup))
             | inr differ ↦ subst (IsOneRange (length (places disk)) (has_want (calls_of past) other))
                 (sym (other_same task other weight n cuts (registered past) differ)) (h.backups other backup)
           ];

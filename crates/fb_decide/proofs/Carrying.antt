@@ -9,10 +9,10 @@ use Rattle.std.proofs.lemmas.List.{append_assoc, map-append, drop_more, drop_all
 use Rattle.std.proofs.lemmas.List.Elements.{filter-append}
 use Rattle.std.proofs.lemmas.Option.{slice_get-get_or}
 use Rattle.fb_units.proofs.Tracks.{track_itself}
-use Rattle.fb_units.proofs.Lists.{all_get as all_at, all_weaker, take_at}
+use Rattle.fb_units.proofs.Lists.{all_get, all_weaker, take_at}
 use Rattle.fb_units.specs.declared.types.Request.{Request}
 use Rattle.fb_units.specs.Tracks.{same_track}
-use Rattle.fb_units.proofs.Filtered.{none_kept as filter_none}
+use Rattle.fb_units.proofs.Filtered.{none_kept}
 use Rattle.fb_units.proofs.Each.{all_any}
 use Rattle.fb_units.proofs.Alike.{filter_same}
 use Rattle.fb_wanted.specs.declared.block.Block.{Block}
@@ -152,7 +152,7 @@ pub all_added : (passages : List Passage) (extents : List Extent) (request : Req
     ≡ fold place_in found (map (ride_of passages) (filter (λ b. begins_among first count b && lies_in request b) blocks))
 all_added passages [] request first count laid blocks apart found =
     sym
-    (ap (λ bs. fold place_in found (map (ride_of passages) bs)) (filter_none (λ b. begins_among first count b && lies_in request b) blocks
+    (ap (λ bs. fold place_in found (map (ride_of passages) bs)) (none_kept (λ b. begins_among first count b && lies_in request b) blocks
     (all_any _ (λ b. let none : begins_among first count b ≡ false = grind (arith, nat_tests) in rw none refl) blocks)))
 all_added passages (extent ∷ extents) request first count laid blocks apart found =
     let rest = first + extent.count in
@@ -242,7 +242,7 @@ each_wanted P (entry ∷ entries) all = grind (arith, all.0, each_wanted P entri
 
 pub extent_at : (P : Extent → Type 0) (extents : List Extent) → AllByRecursion P extents → (i : ℕ) (d : Extent) → i < length extents
     → P (get_or extents i d)
-extent_at P extents all i d within = all_at P extents i (get_or extents i d) all (slice_get-get_or extents i d within)
+extent_at P extents all i d within = all_get P extents i (get_or extents i d) all (slice_get-get_or extents i d within)
 
 -- ---- what a read carries is due: its blocks are wanted, and each is another than the others
 

@@ -4,7 +4,7 @@ use Rattle.std.proofs.Common.{Some, length, filter, map, take, slice_get, append
 use Rattle.std.specs.Prelude.{Result, Ok, Err, IfOk}
 use Rattle.std.specs.List.{AllByRecursion, list_any, range_with_len}
 use Rattle.std.proofs.lemmas.List.Concat.{flat_map-append}
-use Rattle.fb_units.proofs.Lists.{all_append, all_get as all_at, all_weaker, map_at}
+use Rattle.fb_units.proofs.Lists.{all_append, all_get, all_weaker, map_at}
 use Rattle.fb_units.proofs.Filtered.{all_kept, filter_from, filter_to}
 use Rattle.fb_units.proofs.Each.{all_any, all_map}
 use Rattle.fb_model.specs.Blocks.{IsBlockOn}
@@ -51,7 +51,7 @@ wanted-told {past} tells = ap wanted_of tells.entries ∙ wanted_by past (regist
 -- each of them lies on the disk
 pub fits-told : (disk : Disk) (past : Past) (sessions : List Session) (held : List Entry) → Tells disk.map past sessions held
     → AreOnDisk disk held
-fits-told disk past sessions held tells = λ i entry at. all_at (λ (e : Entry). IsBlockOn disk.map e.block) held i entry
+fits-told disk past sessions held tells = λ i entry at. all_get (λ (e : Entry). IsBlockOn disk.map e.block) held i entry
     (subst (AllByRecursion (λ (e : Entry). IsBlockOn disk.map e.block)) (sym tells.entries)
     (all_map (λ (e : Entry). IsBlockOn disk.map e.block) (entry_of past) (registered past)
     (all_weaker _ (IsBlockOn disk.map) (λ b h. h.on) (registered past) tells.on_disk))) at
@@ -130,7 +130,7 @@ pub wanted-on_disk : (disk : Shape) (past : Past) (index : ℕ) (block : Block) 
     → slice_get (wanted past) index ≡ Some block → block.lbn + block.count ≤ 10 ^ 12
 wanted-on_disk disk past index block background current at =
     let found = wanted-registered past index block at in
-    (all_at (IsBlockOf disk (length (tasks past))) (registered past) found.0 block current.tells.on_disk found.1).within
+    (all_get (IsBlockOf disk (length (tasks past))) (registered past) found.0 block current.tells.on_disk found.1).within
 
 pub may-deliver : (disk : Shape) (past : Past) (index : ℕ) (got : DeliveryRow) (background : Background) (content_at : ℕ → Content)
     → TellsUpToDate disk past background → slice_get (wanted past) index ≡ Some got.block
@@ -200,13 +200,13 @@ not_yet [] k got distinct at = absurd (grind arith)
 not_yet (g ∷ gots) zero got distinct at = refl
 not_yet (g ∷ gots) (suc k) got distinct at =
     let other : same_block g.block got.block ≡ false =
-    all_at (λ b. same_block g.block b ≡ false) (map block_in gots) k got.block distinct.0 (map_at block_in gots k got at) in
+    all_get (λ b. same_block g.block b ≡ false) (map block_in gots) k got.block distinct.0 (map_at block_in gots k got at) in
     rw other (not_yet gots k got distinct.1 at)
 
 -- the next of them is still wanted
 pub next-wanted : (past : Past) (gots : List DeliveryRow) (k : ℕ) (got : DeliveryRow) → AreDue past gots → slice_get gots k ≡ Some got
     → IsOneOf (wanted (past_with past (take k gots))) got.block
 next-wanted past gots k got due at =
-    let found = all_at (λ g. IsOneOf (wanted past) g.block) gots k got due.each at in
+    let found = all_get (λ g. IsOneOf (wanted past) g.block) gots k got due.each at in
     let still = filter_to (none_of (take k gots)) (wanted past) found.0 got.block found.1 (ap not (not_yet gots k got due.distinct at)) in
     (still.0, ap (λ bs. slice_get bs still.0) (wanted-with past (take k gots)) ∙ still.1)

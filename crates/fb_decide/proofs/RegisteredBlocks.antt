@@ -2,11 +2,11 @@
 use Rattle.std.proofs.Common.{◌≡◌, ℕ, zero, suc, ◌+◌, ◌<◌, ◌≤◌, ◌==◌, List, [], ◌∷◌, ◌++◌, true, false, Some, inl, inr, length}
 use Rattle.std.proofs.Common.{length-append, slice_get, append-nil, refl, ap, sym, ◌∙◌, arith, subst}
 use Rattle.std.specs.List.{AllByRecursion, list_any}
-use Rattle.std.proofs.lemmas.Bool.{and_parts, cases_Bool, cases_lt, eqb-true as same_number, true≢false}
-use Rattle.std.proofs.lemmas.Option.{same_Some as some_same}
+use Rattle.std.proofs.lemmas.Bool.{and_parts, cases_Bool, cases_lt, eqb-true, true≢false}
+use Rattle.std.proofs.lemmas.Option.{same_Some}
 use Rattle.fb_units.proofs.Among.{Among, among-any, among-append, among-right}
-use Rattle.fb_units.proofs.Comparing.{same_number as number_same}
-use Rattle.fb_units.proofs.Lists.{all_append, all_from_index, all_get as all_at, all_weaker, append_at, element_at as some_at}
+use Rattle.fb_units.proofs.Comparing.{same_number}
+use Rattle.fb_units.proofs.Lists.{all_append, all_from_index, all_get, all_weaker, append_at, element_at}
 use Rattle.fb_units.proofs.Each.{all_flat}
 use Rattle.fb_units.proofs.Filtered.{filter_to}
 use Rattle.fb_geometry.specs.Shape.{Shape}
@@ -28,7 +28,7 @@ pub each_in : {X : Type 0} (xs : List X) → AllByRecursion (Among xs) xs
 each_in xs = all_from_index (Among xs) xs (λ i x at. (i, at))
 
 pub all_in : {X : Type 0} (P : X → Type 0) (xs : List X) (x : X) → AllByRecursion P xs → Among xs x → P x
-all_in P xs x all there = all_at P xs there.0 x all there.1
+all_in P xs x all there = all_get P xs there.0 x all there.1
 
 -- a block among others is the same as one of them
 pub in_any : (blocks : List Block) (i : ℕ) (block : Block) → slice_get blocks i ≡ Some block → list_any (same_block block) blocks ≡ true
@@ -91,7 +91,7 @@ pub own-told : (disk : Shape) (past : Past) (sessions : List Session) (held : Li
 unfolding view
 own-told disk past sessions held tells task = elim (cases_lt task (length (tasks past))) [
   | inl opened ↦
-      let found = some_at sessions task (let as_many = tells.as_many in omega (arith, as_many, opened)) in
+      let found = element_at sessions task (let as_many = tells.as_many in omega (arith, as_many, opened)) in
       let told = tells.each task found.0 found.1 in
       elim (cases_Bool (is_clean found.0.kind)) [
         | inl cleans ↦ all_flat (λ (block : Block). block.task ≡ task) (λ (choice : Choice). choice.blocks) (choices past task)
@@ -138,20 +138,20 @@ opened-kept past event none h =
 number_at : (n : ℕ) (blocks : List Block) (i : ℕ) (block : Block) → AreNumbered n blocks → slice_get blocks i ≡ Some block
     → block.number ≡ n + i
 number_at n [] i block numbered at = absurd (grind arith)
-number_at n (b ∷ blocks) zero block numbered at = subst (λ b. b.number ≡ n + 0) (some_same b block at) (omega (arith, numbered.0))
+number_at n (b ∷ blocks) zero block numbered at = subst (λ b. b.number ≡ n + 0) (same_Some b block at) (omega (arith, numbered.0))
 number_at n (b ∷ blocks) (suc i) block numbered at = let rest = number_at (n + 1) blocks i block numbered.1 at in omega (arith, rest)
 
 pub distinct : (past : Past) → ((task : ℕ) → AreNumbered 0 (blocks_of past task)) → AreDistinct past
 distinct past numbered a b there_a there_b same =
     let parts = and_parts (a.task == b.task) (a.number == b.number) same in
-    let task = same_number a.task b.task parts.0 in
-    let number = same_number a.number b.number parts.1 in
+    let task = eqb-true a.task b.task parts.0 in
+    let number = eqb-true a.number b.number parts.1 in
     let first = filter_to (λ block. block.task == b.task) (registered past) there_a.0 a there_a.1 parts.0 in
-    let second = filter_to (λ block. block.task == b.task) (registered past) there_b.0 b there_b.1 (number_same b.task b.task refl) in
+    let second = filter_to (λ block. block.task == b.task) (registered past) there_b.0 b there_b.1 (same_number b.task b.task refl) in
     let first_number = number_at 0 (blocks_of past b.task) first.0 a (numbered b.task) first.1 in
     let second_number = number_at 0 (blocks_of past b.task) second.0 b (numbered b.task) second.1 in
     let index : first.0 ≡ second.0 = omega (arith, number, first_number, second_number) in
-    some_same a b (sym first.1 ∙ (ap (slice_get (blocks_of past b.task)) index ∙ second.1))
+    same_Some a b (sym first.1 ∙ (ap (slice_get (blocks_of past b.task)) index ∙ second.1))
 
 pub distinct-told : (disk : Shape) (past : Past) (sessions : List Session) (held : List Entry) → Tells disk past sessions held
     → AreDistinct past

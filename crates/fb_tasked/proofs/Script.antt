@@ -5,8 +5,8 @@ use Rattle.fb_tasks.proofs.Words.{◌≡◌, ℕ, zero, suc, ◌+◌, ◌^◌, �
 use Rattle.fb_tasks.proofs.Words.{arith, subst, true≢false, Request, Shape, Call, Content, Gives}
 use Rattle.fb_tasks.proofs.Words.{Block, Entry, Wanted, is_wanted, BackRow, DeliveryRow, Past, finished, registered, state, tasks, wanted}
 use Rattle.fb_tasks.proofs.Words.{view, with_choices, test_rows_found, take_call, with_delivery, task_row, task_rows, delivery_of}
-use Rattle.fb_tasks.proofs.Words.{Tells, MayTake, MayChooseAndTest, MayDeliver, IsUpToDate, IsCalled, all_at, filter_to}
-use Rattle.fb_tasks.proofs.Words.{some_same}
+use Rattle.fb_tasks.proofs.Words.{Tells, MayTake, MayChooseAndTest, MayDeliver, IsUpToDate, IsCalled, all_get, filter_to}
+use Rattle.fb_tasks.proofs.Words.{same_Some}
 use Rattle.fb_tasks.proofs.Calls.{may-take, called-more, called-tested, called-chosen, called-delivered, called-finished}
 use Rattle.fb_calls.specs.Allowed.{IsScript}
 use Rattle.fb_tasks.specs.declared.session.Session.{Session}
@@ -76,12 +76,12 @@ registered-at {past} tells index entry at = back (registered past) index (ap (λ
       → (slice_get blocks n ≡ Some entry.block) × (state past entry.block ≡ entry.state)
   back [] n there = absurd (grind arith)
   back (b ∷ bs) zero there =
-      subst (λ (e : Entry). (Some b ≡ Some e.block) × (state past e.block ≡ e.state)) (some_same (entry_of past b) entry there) (refl, refl)
+      subst (λ (e : Entry). (Some b ≡ Some e.block) × (state past e.block ≡ e.state)) (same_Some (entry_of past b) entry there) (refl, refl)
   back (b ∷ bs) (suc n) there = back bs n there
 
 pub within-at : {disk : Shape} {past : Past} {sessions : List Session} {held : List Entry} (tells : Tells disk past sessions held)
     (index : ℕ) (entry : Entry) → slice_get held index ≡ Some entry → entry.block.lbn + entry.block.count ≤ 10 ^ 12
-within-at {disk} {past} tells index entry at = (all_at (IsBlockOf disk (length (tasks past)))
+within-at {disk} {past} tells index entry at = (all_get (IsBlockOf disk (length (tasks past)))
     (registered past) index entry.block tells.on_disk (registered-at tells index entry at).0).within
 
 -- a block is wanted where its entry says so

@@ -9,10 +9,11 @@ use Rattle.fb_tasks.proofs.Words.{is_unsealed, state_in, Choice, added_view, is_
 use Rattle.fb_tasks.proofs.Words.{numbered, opened-silent, opened-view, called-silent, added-view, wanted-silent, wanted-view, Session}
 use Rattle.fb_tasks.proofs.Words.{Told, Cleans, IsUntouched, IsPlaced, IsBlockOf, IsAtNumber, HoldsBlock, HoldsChoice, choice_in}
 use Rattle.fb_tasks.proofs.Words.{kept_segment, IsSegmentOf, HoldsImage, IsQuiet, entry_of, Stands, AreNumbered, Ascend, AreReported}
-use Rattle.fb_tasks.proofs.Words.{IsAtWork, IsCutFrom, Tells, MayTake, IsCall, all_weaker, some_same, number_other, one_or_other}
-use Rattle.fb_tasks.proofs.Words.{all_append, any_none, each_push, get_or_push, length-map, map-append, slice_get-get_or, slice_get_within}
+use Rattle.fb_tasks.proofs.Words.{IsAtWork, IsCutFrom, Tells, MayTake, IsCall, all_weaker, same_Some, ne_eqb, one_or_other}
+use Rattle.fb_tasks.proofs.Words.{all_append, any_of_none, each_push, get_or_push, length-map, map-append, slice_get-get_or}
+use Rattle.fb_tasks.proofs.Words.{slice_get_within}
 use Rattle.fb_tasks.proofs.Words.{places, is_clean, is_backup, Content, drop-append_seam, cutting, is_within, Wanted, is_delivered}
-use Rattle.fb_tasks.proofs.Words.{take_call, blocks_by, HasBegun, is_done, new_entries, entries_by, cuts_are, filter_none}
+use Rattle.fb_tasks.proofs.Words.{take_call, blocks_by, HasBegun, is_done, new_entries, entries_by, cuts_are, none_kept}
 use Rattle.fb_tasks.proofs.Rules.{opened_same, open_there, terms_there, given_few}
 use Rattle.fb_tasks.proofs.{Frames.kept-entries, Frames.one-tells, States.seen}
 use Rattle.fb_tasks.proofs.Registered.{named_same, numbered_joined, fresh_wanted, registered-entries}
@@ -72,8 +73,8 @@ fresh-told v kind weight block session terms fresh light size now none = record 
 pub none-yet : (disk : Shape) (past : Past) (n : ℕ) → length (tasks past) ≤ n
     → AllByRecursion (IsBlockOf disk (length (tasks past))) (registered past) → (view past n).blocks ≡ []
 unfolding view
-none-yet disk past n beyond placed = filter_none (λ b. b.task == n) (registered past) (all_weaker (IsBlockOf disk (length (tasks past)))
-    (λ b. (b.task == n) ≡ false) (λ b on. number_other b.task n (λ e. absurd (omega (arith, on.task)))) (registered past) placed)
+none-yet disk past n beyond placed = none_kept (λ b. b.task == n) (registered past) (all_weaker (IsBlockOf disk (length (tasks past)))
+    (λ b. (b.task == n) ≡ false) (λ b on. ne_eqb b.task n (λ e. absurd (omega (arith, on.task)))) (registered past) placed)
 
 pub opened-tells : (disk : Shape) (past : Past) (call : Call) (kind : Kind) (weight block : ℕ) (items seen more : List Session)
     (session : Session) (held : List Entry) → call.action ≡ Open kind weight block → items ≡ seen
@@ -101,7 +102,7 @@ opened-tells disk past call kind weight block items seen more session held is sa
       each = each_push (λ t. Told (view (called call [] ∷ past) t)) seen session (subst (λ k. Told (view (called call [] ∷ past) k) session)
           (next ∙ sym h.as_many) (rw own_now told))
           (λ t s at. let far : (call.task == t) ≡ false =
-          number_other call.task t (λ e. absurd (omega (arith, next, h.as_many, slice_get_within seen t s at))) in
+          ne_eqb call.task t (λ e. absurd (omega (arith, next, h.as_many, slice_get_within seen t s at))) in
           rw (others t far) (h.each t s at));
       blocks = record {
         entries = h.entries ∙ rw append-nil (kept-entries (view past) (view (called call [] ∷ past)) (λ t b. one_or_other
@@ -112,7 +113,7 @@ opened-tells disk past call kind weight block items seen more session held is sa
             (registered past) h.on_disk);
         placed = λ t. one_or_other (λ t. IsPlaced disk (view (called call [] ∷ past) t).work) call.task t
             (rw own_now (record { numbered = rw none tt; segments = rw before.segments tt })) (λ other. rw (others t other) (h.placed t));
-        unopened = λ t beyond. rw (others t (number_other call.task t (λ e. absurd (omega (arith, longer, next)))))
+        unopened = λ t beyond. rw (others t (ne_eqb call.task t (λ e. absurd (omega (arith, longer, next)))))
             (h.unopened t (omega (arith, longer, beyond)));
       };
     })
@@ -146,9 +147,9 @@ module _ (v : TaskView) (first blocks age : ℕ) (live : List Bool) (going : v.c
       λ closed. absurd (true≢false (sym closed ∙ going)) in
       let size : length log.segments ≡ length v.segments = rw h.segments (length-map v.segments (kept_segment v.work)) in
       let none : is_chosen v.choices next ≡ false =
-      any_none (is_choice_of next) v.choices (all_weaker (λ (choice : Choice). choice.segment.number ≤ length v.segments)
+      any_of_none (is_choice_of next) v.choices (all_weaker (λ (choice : Choice). choice.segment.number ≤ length v.segments)
       (λ choice. (choice.segment.number == length v.segments + 1) ≡ false)
-      (λ choice le. number_other choice.segment.number (length v.segments + 1) (λ e. absurd (omega (arith, le)))) v.choices h.numbers) in
+      (λ choice le. ne_eqb choice.segment.number (length v.segments + 1) (λ e. absurd (omega (arith, le)))) v.choices h.numbers) in
       let segments : now.segments ≡ map (kept_segment v.work) (v.segments ++ next ∷ []) =
       rw (map-append, sym h.segments, size, h.block, none, going) refl in
       record { done = h.done; current = h.current; by = assumption (taken, numbers, known, over, segments, h.by) }
@@ -372,7 +373,7 @@ wanted_begun disk past call task first count seen session held now small is with
     let entry = entry_of (take_call disk past call) in
     let tells = wanted-tells disk past call task first count seen (set seen task (record session { touched = true })) session held (held
     ++ added) small is within at refl
-    (λ s here. ap (λ (x : Session). set seen task (record x { touched = true })) (some_same session s (sym there ∙ here))) h in
+    (λ s here. ap (λ (x : Session). set seen task (record x { touched = true })) (same_Some session s (sym there ∙ here))) h in
     let all : held ++ added ≡ map entry (registered past) ++ entries_by disk past call = tells.entries
     ∙ map-append entry (registered past) (blocks_by disk past call.task call.action) in
     let size : length held ≡ length (map entry (registered past)) = rw h.tells.entries (simp length-map) in

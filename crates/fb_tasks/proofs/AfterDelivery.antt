@@ -5,12 +5,13 @@ use Rattle.fb_tasks.proofs.Words.{◌∙◌, arith, subst, AllByRecursion, flat_
 use Rattle.fb_tasks.proofs.Words.{length-set, slice_get_within, slice_get-get_or, Shape, is_clean, option_map, BackRow, BadLine, GotLine}
 use Rattle.fb_tasks.proofs.Words.{DeliveryRow, Deliver, Entry, Wanted, after, is_block, Content, Gives, Past, tested, delivered, tasks}
 use Rattle.fb_tasks.proofs.Words.{terms_of, registered, is_seal_of, Choice, TaskView, view, delivered_view, is_unsealed, is_done}
-use Rattle.fb_tasks.proofs.Words.{is_cleaned, delivered-silent, delivered-view, tested-view, number_same, test_rows_found}
+use Rattle.fb_tasks.proofs.Words.{is_cleaned, delivered-silent, delivered-view, tested-view, same_number, test_rows_found}
 use Rattle.fb_tasks.proofs.Words.{segment_rows_found}
 use Rattle.fb_tasks.proofs.Words.{seal_rows_found, complete_rows, is_newly_cleaned, findings, is_scrub, bad_sectors, Session}
 use Rattle.fb_tasks.proofs.Words.{rows_after, HasTaken, entry_of, choice_in, AreReported, MayFinish, IsBlockOf, IsAtWork, HoldsBlocks}
-use Rattle.fb_tasks.proofs.Words.{Stands, Told, HasNoChoice, Tells, IsUpToDate, MayDeliver, all_at, number_other, same_number, other_number}
-use Rattle.fb_tasks.proofs.Words.{some_at, map_at, each_set, flat_none, all_range, HasBegun, Delivers, HasChosen, ends_of, StandsAfterTest}
+use Rattle.fb_tasks.proofs.Words.{Stands, Told, HasNoChoice, Tells, IsUpToDate, MayDeliver, all_get, ne_eqb, eqb-true, other_number}
+use Rattle.fb_tasks.proofs.Words.{element_at, map_at, each_set, flat_none, all_range, HasBegun, Delivers, HasChosen, ends_of}
+use Rattle.fb_tasks.proofs.Words.{StandsAfterTest}
 use Rattle.fb_tasks.proofs.{RowsOf.rows-given, RowsOf.seals_given, RowsOf.findings-mute, Tested.up_to_date-tested, Tested.AreAllRows}
 use Rattle.fb_tasks.proofs.{Tested.tells-tested, Tested.still-stands, Tested.no-ends, States.flagged-stands, Deliveries.delivered-entries}
 use Rattle.fb_tasks.proofs.{Deliveries.WasWanted, Deliveries.was_wanted, Deliveries.delivered-holds, Deliveries.delivered-stands}
@@ -23,7 +24,7 @@ flat_one : {X : Type 0} (f : ℕ → List X) (k a n : ℕ) → a ≤ k → k < a
 flat_one f k a zero from to others = absurd (omega arith)
 flat_one f k a (suc n) from to others = elim (cases_Bool (a == k)) [
   | inl here ↦
-      let e = same_number a k here in
+      let e = eqb-true a k here in
       let rest = flat_none f (range_with_len (a + 1) n) (all_range (λ j. f j ≡ []) (a + 1) n
       (λ j after below. others j (omega arith) (omega arith) (λ same. absurd (omega (arith, e, same, after))))) in
       rw rest (append-nil (f a) ∙ ap f e)
@@ -39,7 +40,7 @@ module _ {disk : Shape} {past : Past} {sessions : List Session} {held : List Ent
   placed = was_wanted past got.block may.index may.wanted
 
   pub opened : got.block.task < length (tasks past)
-  opened = (all_at (IsBlockOf disk (length (tasks past)))
+  opened = (all_get (IsBlockOf disk (length (tasks past)))
       (registered past) placed.index got.block may.tells.on_disk placed.registered_there).task
 
   pub within_sessions : got.block.task < length sessions
@@ -47,13 +48,13 @@ module _ {disk : Shape} {past : Past} {sessions : List Session} {held : List Ent
 
   module _ (task : ℕ) (other : got.block.task ≡ task → ⊥) (less : task < length (tasks past)) where
     silent : view (delivered got ∷ past) task ≡ view past task
-    silent = delivered-silent past got task (number_other got.block.task task other)
+    silent = delivered-silent past got task (ne_eqb got.block.task task other)
 
     told-other : (session : Session) → slice_get sessions task ≡ Some session → Told (view (delivered got ∷ past) task) session
     told-other session at = rw silent (may.tells.each task session at)
 
     there : (session : Session) × (slice_get sessions task ≡ Some session)
-    there = some_at sessions task (subst (λ n. task < n) (sym may.tells.as_many) less)
+    there = element_at sessions task (subst (λ n. task < n) (sym may.tells.as_many) less)
 
     done-other : (is_unsealed (view past task) && is_done (view past task).work) ≡ false
     done-other = rw ((seen past task).unsealed, (seen past task).done) (sym (seals_given past 0 task)
@@ -154,7 +155,7 @@ module _ {disk : Shape} {past : Past} {sessions : List Session} {held : List Ent
         was.index,
         ap (λ es. slice_get es was.index) may.tells.entries
             ∙ map_at (entry_of past) (registered past) was.index got.block was.registered_there,
-        ap₂ (λ a b. a && b) (number_same got.block.task got.block.task refl) (number_same got.block.number got.block.number refl),
+        ap₂ (λ a b. a && b) (same_number got.block.task got.block.task refl) (same_number got.block.number got.block.number refl),
         was.shown_wanted,
       )
 

@@ -7,7 +7,7 @@ use Rattle.fb_tasks.proofs.Words.{and_parts, cases_Bool, true≢false, length-ma
 use Rattle.fb_tasks.proofs.Words.{LogSegment, chose, tasks, task_numbers, registered, view, chosen_view, choose_once, choose_up_to}
 use Rattle.fb_tasks.proofs.Words.{choose_in, is_better, is_busy, is_chosen, unchosen, with_choices, segment_rows_found, Session}
 use Rattle.fb_tasks.proofs.Words.{Stands, MayChoose, AreReported, IsSegmentOf, HasNoChoice, HoldsBlocks, IsQuiet, IsAtWork}
-use Rattle.fb_tasks.proofs.Words.{HaveChosen, choosable_by, flat_same, some_at, number_other, each_set, step_to}
+use Rattle.fb_tasks.proofs.Words.{HaveChosen, choosable_by, flat_same, element_at, ne_eqb, each_set, step_to}
 use Rattle.fb_tasks.proofs.Words.{AllByRecursion, sum_by, best_of, flat_map, fold, range_with_len, sum_by-cons, slice_get_within, Block}
 use Rattle.fb_tasks.proofs.Words.{chosen-silent, MayChooseAndTest, TaskView, nil_from_length, HasChosenUpTo, kept_segment, all_range}
 use Rattle.fb_tasks.proofs.{ChoiceSteps.best_left, ChoiceSteps.chosen_blocks, ChoiceSteps.chosen_for, ChoiceSteps.next_view}
@@ -155,7 +155,7 @@ pub in_same : (disk : Shape) (task other : ℕ) (past : Past) → (task ≡ othe
 in_same disk task other past differ = by_in (λ p. view p other ≡ view past other) disk task
     (λ p same s ss are. let best = best_of is_better s ss in
     chosen-silent p task best (chosen_blocks disk task (view p task) best) (added_own disk task (view p task) best) other
-    (number_other task other differ) ∙ same) past refl
+    (ne_eqb task other differ) ∙ same) past refl
 
 -- what holds after each choice holds after all
 module _ (P : Past → Type 0) (disk : Shape)
@@ -324,7 +324,7 @@ module _ {disk : Shape} {past : Past} {instant : ℕ} {before : List BackRow} wh
       → Partly disk past sessions held instant before rows n → Partly disk past sessions held instant before rows m
   partly-to {sessions} {held} {rows} n m le within untouched h = step_to
       (Partly disk past sessions held instant before rows) n m le (λ k from to now.
-      let found = some_at sessions k (omega (arith, within)) in
+      let found = element_at sessions k (omega (arith, within)) in
       let still = stays disk k (past_at disk past k) ((now.each k found.0 found.1).quiet (untouched k found.0 from to found.1)).chosen in
       subst (λ xs. Partly disk past xs held instant before rows (k + 1)) (set_same sessions k found.0 found.1)
       (partly-more found.1 refl now (still-chosen still (partly-may found.1 now)))) h

@@ -8,7 +8,7 @@ use Rattle.fb_tasks.proofs.Words.{AreAllowed, blocks_from, blocks_in, live_cuts,
 use Rattle.fb_tasks.proofs.Words.{chose, tested, finished, tasks, task_numbers, terms_of, registered, opened_by, view, segments, segment_by}
 use Rattle.fb_tasks.proofs.Words.{called-silent, opened-silent, opened-view, added-view, next_blocks, is_chosen, choose_in, with_choices}
 use Rattle.fb_tasks.proofs.Words.{take_call, blocks_by, with_delivery, choosable_by, IsSegmentOf, IsUntouched, choosable, Tells, MayTake}
-use Rattle.fb_tasks.proofs.Words.{same_number, other_number, number_other, nat_tests, drop_more, take_more, slice_get_within}
+use Rattle.fb_tasks.proofs.Words.{eqb-true, other_number, ne_eqb, nat_tests, drop_more, take_more, slice_get_within}
 use Rattle.fb_tasks.proofs.Words.{get_or_from_slice_get, Entry, Session, delivery_of, IsCalled, all_range}
 use Rattle.fb_tasks.proofs.{Rules.opened_same, Rules.open_there, Rules.terms_there, Cuts.cuts_count, Cuts.range_next}
 use Rattle.fb_tasks.proofs.{Additions.next_segment, AllChoices.in_same, AllChoices.in_tasks, AllChoices.in_fewer, AllChoices.by_task}
@@ -31,7 +31,7 @@ sum_changed f g a (suc n) k x y from to same one =
     let others = sum_by-cons g a (range_with_len (a + 1) n) in
     elim (cases_Bool (k == a)) [
       | inl here ↦
-          let e = same_number k a here in
+          let e = eqb-true k a here in
           let rest = sum_range f g (a + 1) n (λ j low high. same j (λ is. absurd (omega arith))) in
           omega (arith, heads, others, rest, one, ap f e, ap g e)
       | inr on ↦
@@ -128,7 +128,7 @@ module _ (disk : Shape) (past : Past) (call : Call) where
       let nothing : choosable_by disk new count ≡ 0 =
       rw (opened-view past call kind weight block is next count next, (unopened count (omega arith)).segments) refl in
       let old = sum_range (choosable_by disk new) (choosable_by disk past) 0 count (λ k from to. choosable-same disk past new k
-      (opened-silent past call kind weight block is next k (number_other call.task k (λ e. absurd (omega arith))))) in
+      (opened-silent past call kind weight block is next k (ne_eqb call.task k (λ e. absurd (omega arith))))) in
       omega (arith, grown [] (ap (blocks_by disk past call.task) is), split, last, parts, one, nothing, old)
 
   -- a segment can be chosen
@@ -140,7 +140,7 @@ module _ (disk : Shape) (past : Past) (call : Call) where
       let numbers = ap (λ ts. sum_by (choosable_by disk new) (range_with_len 0 (length ts))) kept in
       let sums = sum_changed (choosable_by disk new) (choosable_by disk past) 0 (length (tasks past)) call.task 0
       (length (live_cuts disk (view past call.task).terms.block first live)) (omega arith) (omega arith)
-      (λ j differ. choosable-same disk past new j (called-silent past call kept j (number_other call.task j differ))) (more kept) in
+      (λ j differ. choosable-same disk past new j (called-silent past call kept j (ne_eqb call.task j differ))) (more kept) in
       omega (
         arith,
         grown [] (ap (blocks_by disk past call.task) is),

@@ -4,7 +4,8 @@ use Rattle.fb_tasks.proofs.Words.{ℕ, ◌<◌, [], ◌∷◌, set, ap, sym, ◌
 use Rattle.fb_tasks.proofs.Words.{List, slice_get, ResumeAll, opened_by, choice_in, and_parts, is_backup, all_weaker, and-false, nat_tests}
 use Rattle.fb_tasks.proofs.Words.{Bool, true, Some, refl, ◌&&◌, Close, Call, Entry, after, Past, tasks, view, ended, Tells, Block, State}
 use Rattle.fb_tasks.proofs.Words.{false, is_delivered, aborted_view, written_view, resumed-view, aborted-view, written-view, list_all_each}
-use Rattle.fb_tasks.proofs.Words.{length, get_or, Promote, is_over, is_done, Session, IsQuiet, MayTake, some_at, all_any, held_at, Request}
+use Rattle.fb_tasks.proofs.Words.{length, get_or, Promote, is_over, is_done, Session, IsQuiet, MayTake, element_at, all_any, held_at}
+use Rattle.fb_tasks.proofs.Words.{Request}
 use Rattle.fb_tasks.proofs.Words.{arith, Suspend, finished, TaskView, rewanted, IsAtWork, entry_of, IsPlaced, is_clean, each_all, list_all}
 use Rattle.fb_tasks.proofs.Words.{append-nil, closed_view, is_unsealed, closed-view, HoldsChoice, kept_segment, AreReported, IsUntouched}
 use Rattle.fb_tasks.proofs.Words.{SuspendAll, AbortRange, calls_of, registered, LogSegment, is_cleaned, HoldsImage, true≢false, cases_Bool}
@@ -60,7 +61,7 @@ call-aborts disk past call first count sessions touched held now is is_after fla
     let h = may.tells in
     let asks = subst (MayAsk disk (calls_of past) call.task) is may.asks in
     let opened : call.task < length sessions = omega (arith, (open_there past call.task asks.0).0, h.as_many) in
-    let found = some_at sessions call.task opened in
+    let found = element_at sessions call.task opened in
     let session = found.0 in
     let other : is_clean session.kind ≡ false =
     ap (λ t. is_clean t.kind) (sym (terms_there past call.task ∙ (h.each call.task session found.1).terms)) ∙ asks.1 in

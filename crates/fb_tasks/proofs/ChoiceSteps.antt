@@ -6,11 +6,11 @@ use Rattle.fb_tasks.proofs.Words.{filter, append_assoc, length-append, AllByRecu
 use Rattle.fb_tasks.proofs.Words.{true≢false, not-true, cases_Bool, cases_lt, and_parts, flat_map-append, list_any-append, slice_get_within}
 use Rattle.fb_tasks.proofs.Words.{none-some, Shape, places, live_cuts, Block, Entry, Wanted, is_delivered, Past, LogSegment, chose, tasks}
 use Rattle.fb_tasks.proofs.Words.{registered, Choice, TaskView, view, own_of, chosen_view, is_cleaned, is_choice_of, Work, is_unsealed}
-use Rattle.fb_tasks.proofs.Words.{chosen-silent, chosen-view, number_same, numbered, is_better, is_chosen, unchosen, is_busy}
+use Rattle.fb_tasks.proofs.Words.{chosen-silent, chosen-view, same_number, numbered, is_better, is_chosen, unchosen, is_busy}
 use Rattle.fb_tasks.proofs.Words.{choose_best, choose_once, Session, new_entries, is_none, cuts_of, Cleans, HoldsBlocks, HoldsBlock}
 use Rattle.fb_tasks.proofs.Words.{IsPlaced, IsCutFrom, IsBlockOf, IsSegmentOf, AreNumbered, choice_in, kept_segment, CleansBy, HoldsChoice}
 use Rattle.fb_tasks.proofs.Words.{Ascend, IsAtNumber, entry_of, Stands, MayChoose, choosable_by, HoldsImage, all_weaker, all_with}
-use Rattle.fb_tasks.proofs.Words.{all_append, all_filter, all_pass, all_flat, all_same, number_other, none_pass, one_or_other, some_same}
+use Rattle.fb_tasks.proofs.Words.{all_append, all_filter, all_pass, all_flat, all_same, ne_eqb, none_of_any, one_or_other, same_Some}
 use Rattle.fb_tasks.proofs.Words.{filter_same, nat_tests, or-true, length-map, map-append, nil_from_length, filter-append, Kind, is_backup}
 use Rattle.fb_tasks.proofs.Words.{is_clean, ContentRun, runs_of, sectors_of, BackRow, SegmentLine, segment_row, segment_rows_found}
 use Rattle.fb_tasks.proofs.Words.{is_newly_cleaned}
@@ -143,7 +143,7 @@ module _ (disk : Shape) (task : ℕ) (v : TaskView) (best : LogSegment) where
             numbers = all_append (λ c. c.segment.number ≤ length v.segments) v.choices (choice ∷ []) h.numbers
                 (omega (arith, slice_get_within v.segments (best.number - 1) best is_left.there, is_left.from_one), tt);
             distinct = of_current (λ now. AllByRecursion (λ c. (c.segment.number == now.segment.number) ≡ false) done)
-                (λ same. rw (same, sym all_done) (none_pass (is_choice_of best) v.choices is_left.left));
+                (λ same. rw (same, sym all_done) (none_of_any (is_choice_of best) v.choices is_left.left));
             ascend = of_current (λ c. Ascend 0 c.blocks)
                 (λ _. live_ascend disk task v.terms.weight v.terms.block (length v.blocks) best.first 0 best.live some (omega arith));
             known = of_current (IsAtNumber v.segments) (λ _. is_left.there);
@@ -197,7 +197,7 @@ chosen-holds disk past task best session held now opened light some short small 
                 (let e : length (view past task).blocks ≡ 0 + length (view past task).blocks = omega arith in e) are_numbered);
             segments = placed.segments;
           })) (λ other. rw (others t other) (h.placed t));
-      unopened = λ t more. rw (others t (number_other task t (λ e. absurd (omega arith)))) (h.unopened t more);
+      unopened = λ t more. rw (others t (ne_eqb task t (λ e. absurd (omega arith)))) (h.unopened t more);
     }
 
 pub no_backup : (k : Kind) → is_clean k ≡ true → is_backup k ≡ true → ⊥
@@ -228,7 +228,7 @@ left_less f disk task v best left =
       chosen_now : is_chosen (v.choices ++ chosen_for disk task v best ∷ []) best ≡ true
       chosen_now = rw (
         list_any-append (is_choice_of best) v.choices (chosen_for disk task v best ∷ []),
-        number_same best.number best.number refl,
+        same_number best.number best.number refl,
       ) (or-true (is_chosen v.choices best))
 
 pub few_less : (disk : Shape) (past : Past) (task : ℕ) (best : LogSegment) → IsLeft disk (view past task) best
@@ -312,7 +312,7 @@ module _ {disk : Shape} {past : Past} {task : ℕ} {session : Session} {held : L
     by_left (s ∷ ss) are = record {
       best = best_of is_better s ss;
       left = best_left disk v s ss (rw (seen past task).segments (numbered_given past task)) (may.blocks.placed task).segments are;
-      number_is = some_same (best_of is_better s ss).number number
+      number_is = same_Some (best_of is_better s ss).number number
           (sym (choice_kept v.work going session.log log_is.segments idle (s ∷ ss) are) ∙ is);
       idle = idle;
       once = rw (once_is disk past task, free, are) refl;

@@ -6,8 +6,8 @@ use Rattle.fb_tasks.proofs.Words.{append_assoc, list_all, AllByRecursion, list_a
 use Rattle.fb_tasks.proofs.Words.{Block, Counts, Entry, State, is_delivered, is_aborted, of_task, counts_of, Past, registered, LogSegment}
 use Rattle.fb_tasks.proofs.Words.{Work, TaskView, view, state_in, is_over, Choice, is_cleaned, is_through, is_choice_of, is_complete}
 use Rattle.fb_tasks.proofs.Words.{is_complete_as, is_done, entry_by, entry_of, Stands, Cleans, IsAtWork, choice_in}
-use Rattle.fb_tasks.proofs.Words.{kept_segment, CleansBy, same_number, some_same, all_flat, any_none, each_all, find_all, find_none}
-use Rattle.fb_tasks.proofs.Words.{all_any, all_weaker, nat_tests, and-false, list_any-append, Kind, Clean, is_clean, is_busy, number_same}
+use Rattle.fb_tasks.proofs.Words.{kept_segment, CleansBy, eqb-true, same_Some, all_flat, any_of_none, each_all, find_all, find-none}
+use Rattle.fb_tasks.proofs.Words.{all_any, all_weaker, nat_tests, and-false, list_any-append, Kind, Clean, is_clean, is_busy, same_number}
 use Rattle.fb_tasks.proofs.Words.{Session, is_none, is_worked_off, are_over, complete_as, complete_by, length-filter, BackRow, TaskLine}
 use Rattle.fb_tasks.proofs.Words.{task_row, map-range_with_len_more}
 use Rattle.fb_tasks.proofs.States.{seen, shown, shown_delivered, shown_aborted}
@@ -32,7 +32,7 @@ of_task_same : (views : ℕ → TaskView) (task : ℕ) (bs : List Block)
     → of_task task (map (entry_by views) bs) ≡ map (entry_at (views task)) (filter (λ b. b.task == task) bs)
 of_task_same views task [] = refl
 of_task_same views task (b ∷ bs) = elim (cases_Bool (b.task == task)) [
-  | inl own ↦ rw (own, of_task_same views task bs, same_number b.task task own) refl
+  | inl own ↦ rw (own, of_task_same views task bs, eqb-true b.task task own) refl
   | inr other ↦ rw other (of_task_same views task bs)
 ]
 
@@ -73,7 +73,7 @@ over_counts f (b ∷ bs) = grind (arith, nat_tests, over_counts f bs)
 -- a task is busy where the segment that it cleans isn't cleaned yet
 none_busy : (w : Work) (cs : List Choice) → AllByRecursion (λ choice. is_cleaned w choice ≡ true) cs
     → list_any (λ choice. not (is_cleaned w choice)) cs ≡ false
-none_busy w cs all = any_none (λ choice. not (is_cleaned w choice)) cs (all_weaker (λ choice. is_cleaned w choice ≡ true)
+none_busy w cs all = any_of_none (λ choice. not (is_cleaned w choice)) cs (all_weaker (λ choice. is_cleaned w choice ≡ true)
     (λ choice. not (is_cleaned w choice) ≡ false) (λ choice e. ap not e) cs all)
 
 pub busy_by : {w : Work} {log : clean.Cleaning} {done : List Choice} {current : Option Choice} → CleansBy w log done current
@@ -109,7 +109,7 @@ module _ (w : Work) (log : clean.Cleaning) (h : Cleans w log) where
       → through s ≡ not (kept_segment w s).waits
   chosen_through going cleaned s = by (find (is_choice_of s) w.choices) refl where
     by : (found : Option Choice) → find (is_choice_of s) w.choices ≡ found → is_through w found ≡ not (kept_segment w s).waits
-    by None e = grind (arith, any_none (is_choice_of s) w.choices (find_none (is_choice_of s) w.choices e))
+    by None e = grind (arith, any_of_none (is_choice_of s) w.choices (find-none (is_choice_of s) w.choices e))
     by (Some choice) e = grind (arith, find_all (λ c. is_cleaned w c ≡ true) (is_choice_of s) w.choices choice cleaned e)
 
   all_through : (ss : List LogSegment) → AllByRecursion (λ s. through s ≡ not (kept_segment w s).waits) ss
@@ -120,12 +120,12 @@ module _ (w : Work) (log : clean.Cleaning) (h : Cleans w log) where
   -- while a segment is unfinished it is not through
   find_current : (now : Choice) (cs : List Choice) → AllByRecursion (λ choice. (choice.segment.number == now.segment.number) ≡ false) cs
       → find (is_choice_of now.segment) (cs ++ now ∷ []) ≡ Some now
-  find_current now [] other = rw (number_same now.segment.number now.segment.number refl) refl
+  find_current now [] other = rw (same_number now.segment.number now.segment.number refl) refl
   find_current now (c ∷ cs) other = rw other.0 (find_current now cs other.1)
 
   some_fails : (ss : List LogSegment) (i : ℕ) (s : LogSegment) → slice_get ss i ≡ Some s → through s ≡ false → list_all through ss ≡ false
   some_fails [] i s at fails = absurd (cc)
-  some_fails (x ∷ ss) zero s at fails = rw (some_same x s at, fails) refl
+  some_fails (x ∷ ss) zero s at fails = rw (same_Some x s at, fails) refl
   some_fails (x ∷ ss) (suc i) s at fails = rw (some_fails ss i s at fails) (and-false (through x))
 
   inner_same : IsUnfinishedWhereBusy w log → w.closed ≡ false → (current : Option Choice) → CleansBy w log h.done current

@@ -5,10 +5,10 @@ use Rattle.fb_tasks.proofs.Words.{Option, inl, inr, ◌⊎◌, map, slice_get, r
 use Rattle.fb_tasks.proofs.Words.{AllByRecursion, list_any, flat_map, range_with_len, list_all, cases_Bool, and_parts, nat_tests, Content}
 use Rattle.fb_tasks.proofs.Words.{Gives, after_take, held_in, sectors_of, is_within, Block, Deliver, Entry, Wanted, Delivered, after}
 use Rattle.fb_tasks.proofs.Words.{is_delivered, is_wanted, DeliveryRow, Past, delivered, registered, wanted, state, Choice, TaskView, view}
-use Rattle.fb_tasks.proofs.Words.{state_in, delivered_view, is_cleaned, is_over, delivered-silent, delivered-view, number_same, entry_of}
+use Rattle.fb_tasks.proofs.Words.{state_in, delivered_view, is_cleaned, is_over, delivered-silent, delivered-view, same_number, entry_of}
 use Rattle.fb_tasks.proofs.Words.{HoldsBlock, AreNumbered, Ascend, Stands, Cleans, IsUntouched, IsPlaced, HoldsBlocks, HoldsChoice}
-use Rattle.fb_tasks.proofs.Words.{choice_in, CleansBy, some_same, all_any, all_at, all_weaker, all_with, same_number, other_number}
-use Rattle.fb_tasks.proofs.Words.{list_all_each, none_pass, all_right, all_flat, filter_from, filter_to, all_both, none-some, Shape}
+use Rattle.fb_tasks.proofs.Words.{choice_in, CleansBy, same_Some, all_any, all_get, all_weaker, all_with, eqb-true, other_number}
+use Rattle.fb_tasks.proofs.Words.{list_all_each, none_of_any, all_right, all_flat, filter_from, filter_to, all_both, none-some, Shape}
 use Rattle.fb_tasks.proofs.Words.{is_backup, held_at, Session, HasTaken, is_unsealed, HoldsImage, is_clean}
 use Rattle.fb_tasks.proofs.{Frames.changed-entries, Sealed.held_same, Sealed.within, Sealed.before_it, Sealed.behind_it}
 use Rattle.fb_tasks.proofs.{Sealed.ascend_from}
@@ -32,13 +32,13 @@ pub only_one : (n : ℕ) (bs : List Block) (i : ℕ) (x : Block) → AreNumbered
     → AllByRecursion (λ b. b.number ≡ x.number → b ≡ x) bs
 only_one n [] i x h at = tt
 only_one n (b ∷ bs) zero x h at =
-    let e = some_same b x at in (
+    let e = same_Some b x at in (
       (λ same. e),
       all_weaker (λ c. n + 1 ≤ c.number) (λ c. c.number ≡ x.number → c ≡ x)
           (λ c le same. absurd (omega (arith, le, same, h.0, ap (λ (z : Block). z.number) e))) bs (numbered_from (n + 1) bs h.1),
     )
 only_one n (b ∷ bs) (suc i) x h at = (
-  (λ same. absurd (omega (arith, same, h.0, all_at (λ c. n + 1 ≤ c.number) bs i x (numbered_from (n + 1) bs h.1) at))),
+  (λ same. absurd (omega (arith, same, h.0, all_get (λ c. n + 1 ≤ c.number) bs i x (numbered_from (n + 1) bs h.1) at))),
   only_one (n + 1) bs i x h.1 at,
 )
 
@@ -50,13 +50,13 @@ apart : (low : ℕ) (bs : List Block) (i : ℕ) (x : Block) → Ascend low bs �
     → AllByRecursion (λ b. (b ≡ x) ⊎ AreApart b x) bs
 apart low [] i x h at = tt
 apart low (b ∷ bs) zero x h at =
-    let e = some_same b x at in (
+    let e = same_Some b x at in (
       inl e,
       all_weaker (λ c. b.lbn + b.count ≤ c.lbn) (λ c. (c ≡ x) ⊎ AreApart c x)
           (λ c le. inr (inr (subst (λ z. z.lbn + z.count ≤ c.lbn) e le))) bs (ascend_from (b.lbn + b.count) bs h.1),
     )
 apart low (b ∷ bs) (suc i) x h at = (
-  inr (inl (all_at (λ c. b.lbn + b.count ≤ c.lbn) bs i x (ascend_from (b.lbn + b.count) bs h.1) at)),
+  inr (inl (all_get (λ c. b.lbn + b.count ≤ c.lbn) bs i x (ascend_from (b.lbn + b.count) bs h.1) at)),
   apart (b.lbn + b.count) bs i x h.1 at,
 )
 
@@ -78,7 +78,7 @@ module _ (v : TaskView) (got : DeliveryRow) where
         its_own : held_in now (range_with_len got.block.lbn got.block.count) ≡ sectors_of ((delivered_view got v).found got.block)
         its_own = held_all now content_at got.block.lbn got.block.count
             (λ lbn le lt. rw (takes lbn, within got.block.lbn got.block.count lbn le lt) refl)
-            ∙ (sym gives ∙ rw (number_same got.block.number got.block.number refl) refl)
+            ∙ (sym gives ∙ rw (same_number got.block.number got.block.number refl) refl)
 
         outside : (b : Block) (lbn : ℕ) → b.lbn ≤ lbn → lbn < b.lbn + b.count → AreApart b got.block
             → is_within got.block.lbn got.block.count lbn ≡ false
@@ -88,7 +88,7 @@ module _ (v : TaskView) (got : DeliveryRow) where
         one : (b : Block) → (b.number ≡ got.block.number → b ≡ got.block)
             → HoldsBlock v.work held b × ((b ≡ got.block) ⊎ AreApart b got.block) → HoldsBlock (delivered_view got v).work now b
         one b only both = elim (cases_Bool (got.block.number == b.number)) [
-          | inl it ↦ rw (only (sym (same_number got.block.number b.number it))) (λ _. its_own)
+          | inl it ↦ rw (only (sym (eqb-true got.block.number b.number it))) (λ _. its_own)
           | inr other ↦ elim both.1 [
             | inl it ↦ absurd (other_number got.block.number b.number other (ap (λ (x : Block). x.number) (sym it)))
             | inr far ↦ rw other (λ done. held_same now held b.lbn b.count (λ lbn le lt. rw (takes lbn, outside b lbn le lt far) refl)
@@ -104,7 +104,7 @@ module _ (v : TaskView) (got : DeliveryRow) where
   taken-only held now content_at i bs takes at only lbn none =
       rw (
         takes lbn,
-        all_at (λ b. is_within b.lbn b.count lbn ≡ false) bs i got.block (none_pass (λ b. is_within b.lbn b.count lbn) bs none) at,
+        all_get (λ b. is_within b.lbn b.count lbn ≡ false) bs i got.block (none_of_any (λ b. is_within b.lbn b.count lbn) bs none) at,
       ) (only lbn none)
 
   -- a block that is not delivered belongs to the choice that is not cleaned
@@ -115,7 +115,7 @@ module _ (v : TaskView) (got : DeliveryRow) where
   in_current [] current i at cleaned bare = (i, at)
   in_current (c ∷ cs) current i at cleaned bare =
       elim (get_append c.blocks (flat_map (λ (choice : Choice). choice.blocks) (cs ++ current)) i got.block at) [
-        | inl here ↦ absurd (let done = all_at (λ b. is_delivered (v.bare b) ≡ true) c.blocks i got.block
+        | inl here ↦ absurd (let done = all_get (λ b. is_delivered (v.bare b) ≡ true) c.blocks i got.block
             (list_all_each (λ b. is_delivered (v.bare b)) c.blocks cleaned.0) here in grind (arith, done))
         | inr rest ↦ in_current cs current rest.0 rest.1 cleaned.1 bare
       ]
@@ -125,7 +125,7 @@ module _ (past : Past) (got : DeliveryRow) where
   pub either : (P : TaskView → Type 0) (task : ℕ) → (got.block.task ≡ task → P (delivered_view got (view past task))) → P (view past task)
       → P (view (delivered got ∷ past) task)
   either P task own still = elim (cases_Bool (got.block.task == task)) [
-    | inl mine ↦ let e = same_number got.block.task task mine in rw (delivered-view past got task e) (own e)
+    | inl mine ↦ let e = eqb-true got.block.task task mine in rw (delivered-view past got task e) (own e)
     | inr other ↦ rw (delivered-silent past got task other) still
   ]
 
@@ -154,7 +154,7 @@ pub was_wanted : (past : Past) (block : Block) (i : ℕ) → slice_get (wanted p
 unfolding wanted view
 was_wanted past block i at =
     let found = filter_from (λ b. is_wanted (state past b)) (registered past) i block at in
-    let mine = filter_to (λ b. b.task == block.task) (registered past) found.0 block found.1 (number_same block.task block.task refl) in
+    let mine = filter_to (λ b. b.task == block.task) (registered past) found.0 block found.1 (same_number block.task block.task refl) in
     record {
       index = found.0;
       registered_there = found.1;

@@ -9,7 +9,7 @@ use Rattle.fb_tasks.proofs.Words.{SegmentLine, ContentRun, held_sector, held_in,
 use Rattle.fb_tasks.proofs.Words.{counts_of, Past, Choice, Work, view, is_cleaned, segment_rows_found, is_newly_cleaned}
 use Rattle.fb_tasks.proofs.Words.{Session, is_none, found_for, Stands, Cleans, MayFinish, IsAtWork, IsCutFrom, HoldsBlock}
 use Rattle.fb_tasks.proofs.Words.{choice_in, CleansBy, all_weaker, all_with, all_append, all_left, all_right, all_flat, flat_all, flat_same}
-use Rattle.fb_tasks.proofs.Words.{some_same, filter_none, each_all, list_all_each, other_number}
+use Rattle.fb_tasks.proofs.Words.{same_Some, none_kept, each_all, list_all_each, other_number}
 use Rattle.fb_tasks.proofs.{Complete.counts_same, Complete.busy_by, Segmented.live_there, RowsOf.reported_rows}
 use Rattle.fb_clean.specs.Segments as clean
 use Rattle.fb_clean.proofs.Live.{live_blocks-count}
@@ -83,7 +83,7 @@ module _ {disk : Shape} {past : Past} {task : ℕ} {held : List Entry} (session 
           all_weaker IsSilent (not_newly w) (λ choice one. one (λ e. none-some choice.segment.number (sym by.unfinished ∙ e))) log.done
       silent (Some current) by = all_with (λ choice. (choice.segment.number == current.segment.number) ≡ false) IsSilent (not_newly w)
           (λ choice other one. one (λ e. other_number choice.segment.number current.segment.number other
-          (some_same choice.segment.number current.segment.number (sym e ∙ by.unfinished)))) log.done by.distinct.0
+          (same_Some choice.segment.number current.segment.number (sym e ∙ by.unfinished)))) log.done by.distinct.0
 
     -- no segment is finished
     unfinished_tested : (current : Option Choice) → CleansBy w session.log log.done current
@@ -137,7 +137,7 @@ module _ {disk : Shape} {past : Past} {task : ℕ} {held : List Entry} (session 
           → IsSegmentTested past task now new (row_of segment (length (clean.live_of session.log segment)) content ∷ [])
       unfolding view
       finished_tested new segment content is says gives =
-          let same : segment ≡ current.segment.number = some_same segment current.segment.number (sym says ∙ by.unfinished) in
+          let same : segment ≡ current.segment.number = same_Some segment current.segment.number (sym says ∙ by.unfinished) in
           let log_now = λ (_ : is_clean session.kind ≡ true). finished-cleans in
           rw is (record {
             stands = assumption (log_now, h.stands);
@@ -150,7 +150,7 @@ module _ {disk : Shape} {past : Past} {task : ℕ} {held : List Entry} (session 
               live_blocks-count,
               by.chosen,
               filter-append,
-              filter_none (is_newly_cleaned w) log.done (done_silent (Some current) by),
+              none_kept (is_newly_cleaned w) log.done (done_silent (Some current) by),
               cleaned,
               by.unreported.0,
             ) refl;

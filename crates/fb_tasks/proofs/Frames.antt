@@ -4,8 +4,8 @@ use Rattle.fb_units.proofs.Alike.{same_map}
 use Rattle.fb_tasks.proofs.Words.{◌≡◌, ℕ, suc, ◌<◌, ◌≤◌, ◌==◌, if◌then◌else◌, List, [], ◌∷◌, false, Some, length, map, set, get_or}
 use Rattle.fb_tasks.proofs.Words.{slice_get, append-nil, refl, ap, sym, ◌∙◌, arith, subst, AllByRecursion, length-set, slice_get-get_or}
 use Rattle.fb_tasks.proofs.Words.{Shape, Call, Block, Entry, after, state_after, Event, Past, called, tasks, registered, TaskView, view}
-use Rattle.fb_tasks.proofs.Words.{state_in, called-silent, number_same, Session, entry_by, entry_of, Told, IsPlaced, IsBlockOf, Tells}
-use Rattle.fb_tasks.proofs.Words.{all_weaker, number_other, each_set, one_or_other, nat_tests, get_or_from_slice_get}
+use Rattle.fb_tasks.proofs.Words.{state_in, called-silent, same_number, Session, entry_by, entry_of, Told, IsPlaced, IsBlockOf, Tells}
+use Rattle.fb_tasks.proofs.Words.{all_weaker, ne_eqb, each_set, one_or_other, nat_tests, get_or_from_slice_get}
 use Rattle.fb_wanted.specs.declared.block.Change.{Change}
 
 pub get_other : {X : Type 0} (xs : List X) (i k : ℕ) (y : X) → (i ≡ k → ⊥) → slice_get (set xs i y) k ≡ slice_get xs k
@@ -32,7 +32,7 @@ changed-entries task change old new (b ∷ bs) others own =
       here : (if b.task == task then state_after change b (state_in (old b.task) b) else state_in (old b.task) b) ≡ state_in (new b.task) b
       here = one_or_other (λ t. (if t == task then state_after change b (state_in (old t) b) else state_in (old t) b) ≡ state_in (new t) b)
           task b.task
-          (rw (number_same task task refl) own.0)
+          (rw (same_number task task refl) own.0)
           (λ other. let far : (b.task == task) ≡ false = grind (arith, nat_tests) in rw (far, others b.task other) refl)
 
 -- an event of one task that opens none
@@ -47,14 +47,14 @@ module _ (disk : Shape) (past : Past) (event : Event) (task : ℕ)
   one-tells sessions new held now opened on_disk entries placed told h = record {
     as_many = length-set sessions task new ∙ (h.as_many ∙ ap length (sym kept));
     each = each_set (λ t. Told (view (event ∷ past) t)) sessions task new told
-        (λ t session differ at. rw (others t (number_other task t differ)) (h.each t session at));
+        (λ t session differ at. rw (others t (ne_eqb task t differ)) (h.each t session at));
     blocks = record {
       entries = entries;
       on_disk = rw kept on_disk;
       placed =
           λ t. one_or_other (λ t. IsPlaced disk (view (event ∷ past) t).work) task t placed (λ other. rw (others t other) (h.placed t));
       unopened = λ t more. let beyond : length (tasks past) ≤ t = subst (λ ts. length ts ≤ t) kept more in
-          rw (others t (number_other task t (λ e. absurd (omega arith)))) (h.unopened t beyond);
+          rw (others t (ne_eqb task t (λ e. absurd (omega arith)))) (h.unopened t beyond);
     };
   }
 

@@ -4,8 +4,8 @@ use Rattle.fb_tasks.proofs.Words.{◌≡◌, ◌≤◌, ◌+◌, ℕ, List, [], 
 use Rattle.fb_tasks.proofs.Words.{drop, append-nil, append_assoc, length-append, refl, ap, sym, ◌∙◌, subst, arith, AllByRecursion}
 use Rattle.fb_tasks.proofs.Words.{range_with_len, map-set_same, cases_Bool, map-append, append_cancel_left, length-map, take-append-drop}
 use Rattle.fb_tasks.proofs.Words.{take-map, filter-append, slice_get_within, get_or_from_slice_get, Cut, is_clean, Block, Entry, blocks_of}
-use Rattle.fb_tasks.proofs.Words.{wanted_unless, numbered, number_same, Session, new_entries, HasGrown, HasBegun, OnlyRegisters, MayClean}
-use Rattle.fb_tasks.proofs.Words.{OnlyTouched, by_calls, all_append, all_left, all_map, all_weaker, map_at, some_at, some_same}
+use Rattle.fb_tasks.proofs.Words.{wanted_unless, numbered, same_number, Session, new_entries, HasGrown, HasBegun, OnlyRegisters, MayClean}
+use Rattle.fb_tasks.proofs.Words.{OnlyTouched, by_calls, all_append, all_left, all_map, all_weaker, map_at, element_at, same_Some}
 use Rattle.fb_tasks.proofs.Words.{take-map-range_with_len, ◌&&◌, not, and_parts, not-true}
 use Rattle.fb_tasks.proofs.{Frames.get_other, Cuts.cuts_own}
 use Rattle.fb_wanted.specs.Numbering.{registered_count}
@@ -108,8 +108,8 @@ pub clean_before : (olds items : List Session) (n : ℕ) (session : Session) →
     → session.closed ≡ false → session.touched ≡ true → OnlyTouched olds items → MayClean olds n
 clean_before olds items n session at clean is_open touched h =
     let size : length olds ≡ length items = simp length-map at (ap length (sym h.calls)) in
-    let was = some_at olds n (omega (arith, size, slice_get_within items n session at)) in
-    let same : by_calls was.0 ≡ by_calls session = some_same (by_calls was.0) (by_calls session)
+    let was = element_at olds n (omega (arith, size, slice_get_within items n session at)) in
+    let same : by_calls was.0 ≡ by_calls session = same_Some (by_calls was.0) (by_calls session)
     (sym (map_at by_calls olds n was.0 was.1) ∙ rw (sym h.calls) (map_at by_calls items n session at)) in
     record {
       session = was.0;
@@ -154,7 +154,7 @@ cut_registered task number session before now cut cuts rest block first same is 
 pub one_counted : (task number : ℕ) (before now : List Entry) (entry : Entry) → now ≡ before ++ entry ∷ [] → entry.block.task ≡ task
     → number ≡ registered_count task (blocks_of before) → number + 1 ≡ registered_count task (blocks_of now)
 one_counted task number before now entry is own next =
-    rw is (simp (map-append, filter-append, length-append, number_same entry.block.task task own) (omega (arith, next)))
+    rw is (simp (map-append, filter-append, length-append, same_number entry.block.task task own) (omega (arith, next)))
 
 -- what a call says in two clauses, where it succeeds
 pub on_ok_both : {T E : Type 0} (P Q : Type 0) (r : Result T E) → OnOk r P → OnOk r Q → OnOk r (P × Q)

@@ -1,15 +1,15 @@
 -- Blocks that an event registers.
 use Rattle.fb_tasks.proofs.Words.{State, ◌≡◌, ℕ, suc, ◌+◌, ◌<◌, ◌==◌, if◌then◌else◌, List, [], ◌∷◌, ◌++◌, true, false, inl, inr, length}
 use Rattle.fb_tasks.proofs.Words.{filter, map, refl, ap, sym, ◌∙◌, arith, subst, or-true, AllByRecursion, list_any, cases_Bool, map-append}
-use Rattle.fb_tasks.proofs.Words.{Block, Entry, Wanted, wanted_unless, Past, registered, same_block, view, own_of, state_in, number_same}
+use Rattle.fb_tasks.proofs.Words.{Block, Entry, Wanted, wanted_unless, Past, registered, same_block, view, own_of, state_in, same_number}
 use Rattle.fb_tasks.proofs.Words.{Session, new_entries, entry_of, AreNumbered, entry_in, all_weaker, all_pass, all_with, map_same}
-use Rattle.fb_tasks.proofs.Words.{same_number, other_number, one_or_other, nat_tests}
+use Rattle.fb_tasks.proofs.Words.{eqb-true, other_number, one_or_other, nat_tests}
 use Rattle.fb_tasks.proofs.States.{seen}
 use Rattle.fb_model.specs.History.{blocks_of}
 use Rattle.fb_wanted.specs.Numbering as numbering
 
 pub itself : (block : Block) → same_block block block ≡ true
-itself block = rw (number_same block.task block.task refl, number_same block.number block.number refl) refl
+itself block = rw (same_number block.task block.task refl, same_number block.number block.number refl) refl
 
 -- each block is one of them
 pub all_member : (added : List Block) → AllByRecursion (λ block. list_any (same_block block) added ≡ true) added
@@ -49,14 +49,14 @@ none_again past task added before after own =
     all_weaker (λ block. block.task ≡ task → block.number < length (blocks_of past task))
     (λ block. list_any (same_block block) added ≡ false)
     (λ block less. elim (cases_Bool (block.task == task)) [
-      | inl mine ↦ no_smaller block (length (blocks_of past task)) added (less (same_number block.task task mine)) after
+      | inl mine ↦ no_smaller block (length (blocks_of past task)) added (less (eqb-true block.task task mine)) after
       | inr other ↦ no_own block task added (other_number block.task task other) own
     ]) (registered past) (numbered_below task 0 (length (blocks_of past task)) (registered past) (omega arith) before)
 
 -- the blocks of a task are its own
 pub own : (past : Past) (task : ℕ) → AllByRecursion (λ block. block.task ≡ task) (view past task).blocks
 unfolding view
-own past task = all_weaker (λ block. (block.task == task) ≡ true) (λ block. block.task ≡ task) (λ block. same_number block.task task)
+own past task = all_weaker (λ block. (block.task == task) ≡ true) (λ block. block.task ≡ task) (λ block. eqb-true block.task task)
     (blocks_of past task) (all_pass (λ block. block.task == task) (registered past))
 
 pub numbered_joined : (n : ℕ) (xs ys : List Block) → AreNumbered n xs → AreNumbered (n + length xs) ys → AreNumbered n (xs ++ ys)

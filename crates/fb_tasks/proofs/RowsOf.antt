@@ -8,8 +8,8 @@ use Rattle.fb_tasks.proofs.Words.{test_rows_found, segment_rows_found, seal_rows
 use Rattle.fb_tasks.proofs.Words.{take_more, get_or_past, slice_get_within, get_or_from_slice_get, flat_map-append, and-false, or-false}
 use Rattle.fb_tasks.proofs.Words.{cases_Bool, nat_tests, list_any-append, BackRow, BadLine, segment_row}
 use Rattle.fb_tasks.proofs.Words.{DeliveryRow, Past, tasks, task_numbers, terms_of, is_seal_of, is_open_backup, Choice, view, work, choices}
-use Rattle.fb_tasks.proofs.Words.{is_complete, is_segment_of, AreTestRowsOf, all_any, any_same, any_none, Plain}
-use Rattle.fb_tasks.proofs.Words.{AreReported, filter_none, found_for}
+use Rattle.fb_tasks.proofs.Words.{is_complete, is_segment_of, AreTestRowsOf, all_any, any_same, any_of_none, Plain}
+use Rattle.fb_tasks.proofs.Words.{AreReported, none_kept, found_for}
 
 pub range_pushed : (before now : List ℕ) (first lbn : ℕ) → first ≤ lbn → now ≡ before ++ range_with_len first (lbn - first)
     → now ++ lbn ∷ [] ≡ before ++ range_with_len first (lbn + 1 - first)
@@ -41,7 +41,7 @@ any_flat p f [] = refl
 any_flat p f (x ∷ xs) = list_any-append p (f x) (flat_map f xs) ∙ ap (λ b. list_any p (f x) || b) (any_flat p f xs)
 
 any_mapped_none : {X Y : Type 0} (p : Y → Bool) (f : X → Y) → ((x : X) → p (f x) ≡ false) → (xs : List X) → list_any p (map f xs) ≡ false
-any_mapped_none p f none xs = any_none p (map f xs) (all_map_any (λ y. p y ≡ false) f none xs)
+any_mapped_none p f none xs = any_of_none p (map f xs) (all_map_any (λ y. p y ≡ false) f none xs)
 
 -- a test of one number of a range
 no_one : (g : ℕ → Bool) (k a n : ℕ) → k < a → list_any (λ t. (t == k) && g t) (range_with_len a n) ≡ false
@@ -67,7 +67,7 @@ module _ (past : Past) (p : BackRow → Bool) (f : ℕ → List BackRow) where
 
   no_tasks : ((t : ℕ) → list_any p (f t) ≡ false) → list_any p (flat_map f (task_numbers past)) ≡ false
   no_tasks none = any_flat p f (task_numbers past)
-      ∙ any_none (λ t. list_any p (f t)) (task_numbers past) (all_any (λ t. list_any p (f t) ≡ false) none (task_numbers past))
+      ∙ any_of_none (λ t. list_any p (f t)) (task_numbers past) (all_any (λ t. list_any p (f t) ≡ false) none (task_numbers past))
 
 module _ (past : Past) (now : ℕ) where
   seals_by : (task t : ℕ) → list_any (is_seal_of task) (seal_rows_found past now t ++ complete_rows past now t)
@@ -118,7 +118,7 @@ module _ (past : Past) (now : ℕ) where
 pub reported_rows : (past : Past) (now task : ℕ) → AreReported (view past task).work
     → segment_rows_found past now task ≡ []
 unfolding view
-reported_rows past now task h = rw (filter_none (is_newly_cleaned (view past task).work) (view past task).choices h) refl
+reported_rows past now task h = rw (none_kept (is_newly_cleaned (view past task).work) (view past task).choices h) refl
 
 -- rows that neither seal a task nor report a segment
 pub record AreMute (rows : List BackRow) : Type 0 where

@@ -6,12 +6,12 @@ use Rattle.fb_tasks.proofs.Words.{◌≡◌, ℕ, zero, suc, ◌+◌, ◌<◌, �
 use Rattle.fb_tasks.proofs.Words.{◌-◌, ◌==◌, ◌&&◌, ◌^◌, not, nat_lt, if◌then◌else◌, ◌++◌, Bool, None, length, filter, take, slice_get}
 use Rattle.fb_tasks.proofs.Words.{ap, ap₂, sym, ◌∙◌, subst, inl, inr, AllByRecursion, range_with_len, flat_map, list_any, list_all}
 use Rattle.fb_tasks.proofs.Words.{Content, held_in, EndsBy, is_within, Block, Ascend, entry_of, entry_in, AreNumbered, IsBlockOf}
-use Rattle.fb_tasks.proofs.Words.{HoldsBlock, HoldsBlocks, HoldsImage, Stands, all_weaker, all_with, all_filter, all_at, some_same}
-use Rattle.fb_tasks.proofs.Words.{filter_from, map_at, some_at, list_all_each, and-false, and_comm, and-true, or-false, slice_get_within}
+use Rattle.fb_tasks.proofs.Words.{HoldsBlock, HoldsBlocks, HoldsImage, Stands, all_weaker, all_with, all_filter, all_get, same_Some}
+use Rattle.fb_tasks.proofs.Words.{filter_from, map_at, element_at, list_all_each, and-false, and_comm, and-true, or-false, slice_get_within}
 use Rattle.fb_tasks.proofs.Words.{get_or_from_slice_get, take_more, and_parts, cases_Bool, Shape, Kind, Backup, is_backup, ContentRun}
 use Rattle.fb_tasks.proofs.Words.{held_at, runs_of, sectors_of, Entry, is_delivered, is_aborted, is_block, counts_of, Past, tasks}
 use Rattle.fb_tasks.proofs.Words.{registered, Work, TaskView, view, is_unsealed, is_over, is_complete, is_complete_as}
-use Rattle.fb_tasks.proofs.Words.{is_done, number_same, without_aborted, SealLine, seal_rows_found, BackRow, found_for, Session}
+use Rattle.fb_tasks.proofs.Words.{is_done, same_number, without_aborted, SealLine, seal_rows_found, BackRow, found_for, Session}
 use Rattle.fb_tasks.proofs.Words.{take-length, all_both, list_any-append}
 use Rattle.fb_tasks.proofs.{Complete.counts_same, States.seen, Registered.own, States.shown_aborted, Changes.open_by}
 pub use Rattle.fb_store.proofs.Originals.{inside as within, before as before_it, after as behind_it}
@@ -165,7 +165,7 @@ backup_over w backup complete = by w.terms.kind backup complete where
 pub numbered_at : (n k : ℕ) (blocks : List Block) (block : Block) → AreNumbered n blocks → slice_get blocks k ≡ Some block
     → block.number ≡ n + k
 numbered_at n k [] block h at = absurd (cc)
-numbered_at n zero (b ∷ bs) block h at = rw (sym (some_same b block at)) (omega (arith, h.0))
+numbered_at n zero (b ∷ bs) block h at = rw (sym (same_Some b block at)) (omega (arith, h.0))
 numbered_at n (suc k) (b ∷ bs) block h at = omega (arith, numbered_at (n + 1) k bs block h.1 at)
 
 -- the entry of a task's block
@@ -180,21 +180,21 @@ module _ {disk : Shape} {past : Past} {held : List Entry} (h : HoldsBlocks disk 
       → HasEntry held task number (entry_in (view past task) block)
   entry_at number block at =
       let index = filter_from (λ (b : Block). b.task == task) (registered past) number block (rw (sym (seen past task).blocks) at) in
-      let mine = all_at (λ (b : Block). b.task ≡ task) (view past task).blocks number block (own past task) at in
+      let mine = all_get (λ (b : Block). b.task ≡ task) (view past task).blocks number block (own past task) at in
       subst (HasEntry held task number) (ap (λ t. entry_in (view past t) block) mine) (record {
         index = index.0;
         at = rw h.entries (map_at (entry_of past) (registered past) index.0 block index.1);
         is_block = rw (
-          number_same block.task task mine,
-          number_same block.number number (numbered_at 0 number (view past task).blocks block (h.placed task).numbered at
+          same_number block.task task mine,
+          same_number block.number number (numbered_at 0 number (view past task).blocks block (h.placed task).numbered at
               ∙ (let e : 0 + number ≡ number = omega arith in e)),
         ) refl;
-        within = (all_at (IsBlockOf disk (length (tasks past))) (registered past) index.0 block h.on_disk index.1).within;
+        within = (all_get (IsBlockOf disk (length (tasks past))) (registered past) index.0 block h.on_disk index.1).within;
       })
 
   pub block_at : (number n : ℕ) → n ≡ (counts_of task held).registered → number < n
       → (block : Block) × (slice_get (view past task).blocks number ≡ Some block)
-  block_at number n is less = some_at (view past task).blocks number (subst (λ k. number < k)
+  block_at number n is less = element_at (view past task).blocks number (subst (λ k. number < k)
       (is ∙ ap (λ c. c.registered) (counts_same past task held h.entries)) less)
 
   pub all_blocks : (n : ℕ) → n ≡ (counts_of task held).registered → take n (view past task).blocks ≡ (view past task).blocks

@@ -4,7 +4,7 @@ use Rattle.fb_tasks.proofs.Words.{true, false, Some, None, Option, inl, inr, len
 use Rattle.fb_tasks.proofs.Words.{◌∙◌, arith, subst, AllByRecursion, flat_map, range_with_len, slice_index_or, sum_by, best_of, cases_Bool}
 use Rattle.fb_tasks.proofs.Words.{sum_by-cons, flat_map-append, get_or_from_slice_get, Shape, places, Cut, cutting, with_sector, Action}
 use Rattle.fb_tasks.proofs.Words.{Segment, live_cuts, Block, Past, LogSegment, called, Work, segments, segment_by, numbered, live_count}
-use Rattle.fb_tasks.proofs.Words.{is_better, is_chosen, unchosen, cuts_of, kept_segment, Ascend, IsBlockOf, some_same, all_append}
+use Rattle.fb_tasks.proofs.Words.{is_better, is_chosen, unchosen, cuts_of, kept_segment, Ascend, IsBlockOf, same_Some, all_append}
 use Rattle.fb_tasks.proofs.Words.{all_weaker, map_at, cuts_are}
 use Rattle.fb_tasks.proofs.Cuts.{cuts_placed, cuts_ascend, cuts_end, cuts_cover, numbered_append}
 use Rattle.fb_clean.specs.Segments as clean
@@ -180,6 +180,6 @@ pub sum_without : {X : Type 0} (f : X → ℕ) (p q : X → Bool) → ((x : X) �
     → slice_get xs i ≡ Some x → p x ≡ true → q x ≡ false → sum_by f (filter q xs) + f x ≤ sum_by f (filter p xs)
 sum_without f p q weaker [] i x at in_p out_q = absurd (cc)
 sum_without f p q weaker (y ∷ ys) zero x at in_p out_q =
-    grind (arith, sum_less f p q weaker ys, some_same y x at, sum_by-cons f y (filter p ys))
+    grind (arith, sum_less f p q weaker ys, same_Some y x at, sum_by-cons f y (filter p ys))
 sum_without f p q weaker (y ∷ ys) (suc i) x at in_p out_q =
     grind (arith, sum_without f p q weaker ys i x at in_p out_q, weaker y, sum_by-cons f y (filter p ys), sum_by-cons f y (filter q ys))

@@ -2,7 +2,8 @@
 use Rattle.fb_tasks.proofs.Words.{◌≡◌, ◌==◌, ◌&&◌, ◌||◌, List, ◌++◌, arith, tasks, Cleans, Tells, Shape, Entry, Plain, subst, Terms, filter}
 use Rattle.fb_tasks.proofs.Words.{ℕ, ◌<◌, not, ◌∷◌, Bool, true, Some, None, refl, ap, ap₂, sym, ◌∙◌, ◌+◌, ◌≤◌, set, Past, view, work}
 use Rattle.fb_tasks.proofs.Words.{if◌then◌else◌, append_assoc, AllByRecursion, range_with_len, CompleteLine, is_segment_of, complete_rows}
-use Rattle.fb_tasks.proofs.Words.{[], Option, length, tested, Choice, is_done, is_busy, Session, is_none, Stands, some_at, step_to, ends_of}
+use Rattle.fb_tasks.proofs.Words.{[], Option, length, tested, Choice, is_done, is_busy, Session, is_none, Stands, element_at, step_to}
+use Rattle.fb_tasks.proofs.Words.{ends_of}
 use Rattle.fb_tasks.proofs.Words.{false, append-nil, bare_state, content_of, registered, IsUntouched, HasNoChoice, HoldsBlocks, get_or_past}
 use Rattle.fb_tasks.proofs.Words.{slice_get, and-false, is_backup, is_cleaned, HoldsBlock, HoldsImage, HaveChosen, all_weaker, length-set}
 use Rattle.fb_tasks.proofs.Words.{or-true, BackRow, Content, held_at, TaskView, IsSealed, IsAtWork, CleansBy, each_set, is_clean}
@@ -10,7 +11,7 @@ use Rattle.fb_tasks.proofs.Words.{StandsAfterTest}
 use Rattle.fb_tasks.proofs.Words.{list_any, flat_map, SealLine, AreTestRowsOf, choice_in, HasChosen, IsUpToDate, flat_none, all_range}
 use Rattle.fb_tasks.proofs.Words.{found_for}
 use Rattle.fb_tasks.proofs.Words.{list_any-append, test_rows_found, segment_rows_found, seal_rows_found, is_newly_cleaned, slice_get_within}
-use Rattle.fb_tasks.proofs.Words.{task_numbers, tested_view, is_unsealed, is_complete, number_same, tested-view, AreReported, is_delivered}
+use Rattle.fb_tasks.proofs.Words.{task_numbers, tested_view, is_unsealed, is_complete, same_number, tested-view, AreReported, is_delivered}
 use Rattle.fb_tasks.proofs.States.{seen}
 use Rattle.fb_tasks.proofs.RowsOf.{reported_rows, rows-given, nothing-mute}
 use Rattle.fb_tasks.proofs.{Sealed.held_same, Complete.busy_by, Frames.kept-entries}
@@ -26,7 +27,7 @@ found_by_number : (f : Choice → Bool) (cs : List Choice) → AllByRecursion
     (λ choice. f choice ≡ true → list_any (λ other. (other.segment.number == choice.segment.number) && f other) cs ≡ true) cs
 found_by_number f [] = tt
 found_by_number f (c ∷ cs) = (
-  (λ h. rw (number_same c.segment.number c.segment.number refl, h) refl),
+  (λ h. rw (same_number c.segment.number c.segment.number refl, h) refl),
   all_weaker
       (λ (choice : Choice). f choice ≡ true → list_any (λ other. (other.segment.number == choice.segment.number) && f other) cs ≡ true)
       (λ choice. f choice ≡ true → list_any (λ other. (other.segment.number == choice.segment.number) && f other) (c ∷ cs) ≡ true)
@@ -202,7 +203,7 @@ module _ {past : Past} {old now : List Session} {instant : ℕ} {before rows : L
       → HaveChosen disk past old held
       → AreTested past old now instant before rows n → AreTested past old now instant before rows m
   tested-to n m le within untouched chosen = step_to (AreTested past old now instant before rows) n m le (λ k from to is.
-      let found = some_at now k (omega (arith, within)) in
+      let found = element_at now k (omega (arith, within)) in
       let was = sym (is.later k (omega arith)) ∙ found.1 in
       let flag = untouched k found.0 from to found.1 in
       let ready = chosen.each k found.0 was in
@@ -267,7 +268,7 @@ all-tested {disk} {past} {old} {now} {held} {instant} {before} chosen is =
     λ task. rows-given past instant [] nothing-mute task (λ more. (chosen.blocks.unopened task more).choices) in (
       tells-tested all now chosen.blocks (is.as_many ∙ chosen.as_many) given
           (λ task session at. is.earlier all given task session (slice_get_within now task session at) at)
-          (λ task session at untouched. let found = some_at old task (omega (arith, slice_get_within now task session at, is.as_many)) in
+          (λ task session at untouched. let found = element_at old task (omega (arith, slice_get_within now task session at, is.as_many)) in
           (chosen.each task found.0 found.1).chosen),
       is.rows_are ∙ ap (λ n. before ++ flat_map (ends_of past instant) (range_with_len 0 n)) (is.as_many ∙ chosen.as_many),
     )

@@ -9,7 +9,7 @@ pub use Rattle.std.specs.Option.{option_map}
 pub use Rattle.std.specs.Ordering.{nat_cmp}
 pub use Rattle.std.proofs.Math.Bool.{and-false, and-true, and_comm, or-false, or-true, or_comm}
 pub use Rattle.std.proofs.Math.Seq.{drop-append_seam, map-set_same, take-length}
-pub use Rattle.std.proofs.lemmas.Bool.{and_parts, cases_Bool, cases_lt, eqb-true as same_number, ne_eqb as number_other, not-true}
+pub use Rattle.std.proofs.lemmas.Bool.{and_parts, cases_Bool, cases_lt, eqb-true, ne_eqb, not-true}
 pub use Rattle.std.proofs.lemmas.Bool.{true≢false}
 pub use Rattle.std.proofs.lemmas.Bool.Decides.{nat_tests}
 pub use Rattle.std.proofs.lemmas.List.{append_cancel_left, drop_more, get_or_past, get_or_push, length-map, length-set, map-append}
@@ -19,16 +19,16 @@ pub use Rattle.std.proofs.lemmas.List.Elements.{filter-append}
 pub use Rattle.std.proofs.lemmas.List.Folds.{list_any-append}
 pub use Rattle.std.proofs.lemmas.List.FromFn.{map-range_with_len_more, take-map-range_with_len}
 pub use Rattle.std.proofs.lemmas.List.Sums.{length-filter, sum_by-append, sum_by-cons}
-pub use Rattle.std.proofs.lemmas.Option.{get_or_from_slice_get, none-some, same_Some as some_same, slice_get-get_or, slice_get_past}
+pub use Rattle.std.proofs.lemmas.Option.{get_or_from_slice_get, none-some, same_Some, slice_get-get_or, slice_get_past}
 pub use Rattle.std.proofs.lemmas.Option.{slice_get_within}
 pub use Rattle.std.proofs.lemmas.Result.{IfOk-weaker, on_err_weaker, on_ok_weaker}
-pub use Rattle.fb_units.proofs.Comparing.{one_or_other, other_number, same_number as number_same, step_to}
-pub use Rattle.fb_units.proofs.Lists.{all_append, all_filter, all_from_index as all_placed, all_get as all_at, all_left, all_range}
-pub use Rattle.fb_units.proofs.Lists.{all_right, all_weaker, any_of_none as any_none, element_at as some_at, map_at}
-pub use Rattle.fb_units.proofs.Lists.{none_of_any as none_pass, on_err}
+pub use Rattle.fb_units.proofs.Comparing.{one_or_other, other_number, same_number, step_to}
+pub use Rattle.fb_units.proofs.Lists.{all_append, all_filter, all_from_index, all_get, all_left, all_range}
+pub use Rattle.fb_units.proofs.Lists.{all_right, all_weaker, any_of_none, element_at, map_at}
+pub use Rattle.fb_units.proofs.Lists.{none_of_any, on_err}
 pub use Rattle.fb_units.specs.declared.types.Request.{Request}
-pub use Rattle.fb_units.proofs.Searches.{find-none as find_none, find_all}
-pub use Rattle.fb_units.proofs.Filtered.{filter_from, filter_to, none_kept as filter_none}
+pub use Rattle.fb_units.proofs.Searches.{find-none, find_all}
+pub use Rattle.fb_units.proofs.Filtered.{filter_from, filter_to, none_kept}
 pub use Rattle.fb_units.proofs.Each.{all_any, all_both, all_flat, all_map, all_pass, all_with, each_all, each_push, each_set}
 pub use Rattle.fb_units.proofs.Each.{flat_all, list_all_each}
 pub use Rattle.fb_units.proofs.Alike.{all_same, any_same, filter_same, flat_none, flat_same, map_same}

@@ -1,8 +1,9 @@
 -- A write, block by block: which blocks are wanted again, and that the tasks may be looked at in any order.
 use Rattle.fb_tasks.proofs.Words.{◌≡◌, ◌==◌, ◌&&◌, List, true, None, Some, subst, arith, Rewant, Block, Entry, shares, Shape, tasks, Tells}
 use Rattle.fb_tasks.proofs.Words.{ℕ, ◌+◌, ◌<◌, ◌≤◌, not, [], ◌∷◌, inl, inr, map, refl, ap, ap₂, sym, ◌∙◌, Past, view}
-use Rattle.fb_tasks.proofs.Words.{false, length, get_or, all_any, all_map, some_at, nat_cmp, Session, Request, finished, entry_of, left_in}
-use Rattle.fb_tasks.proofs.Words.{Option, cases_Bool, all_placed, all_weaker, same_number, registered, SharesNone, entry_after, state_left}
+use Rattle.fb_tasks.proofs.Words.{false, length, get_or, all_any, all_map, element_at, nat_cmp, Session, Request, finished, entry_of}
+use Rattle.fb_tasks.proofs.Words.{left_in}
+use Rattle.fb_tasks.proofs.Words.{Option, cases_Bool, all_from_index, all_weaker, eqb-true, registered, SharesNone, entry_after, state_left}
 use Rattle.fb_tasks.proofs.Words.{slice_get, slice_get-get_or, AllByRecursion, written-view, written-silent, slice_get_past, left_by_write}
 use Rattle.fb_tasks.proofs.Words.{nat_tests, cases_lt, and-false, all_with, map_same, BTreeSet, contains, is_backup, AreListed, IsBlockOf}
 use Rattle.fb_tasks.proofs.{Listed.no_backup_there, Changes.open_by, Changes.written-tells, States.show_rewanted}
@@ -45,14 +46,14 @@ module _ (first count : ℕ) where
       pub open_left : (is_backup session.kind && not session.sealed) ≡ true → (es : List Entry)
           → map (entry_after task (Rewant first count session.suspended)) es ≡ map (left_in task sessions first count) es
       open_left is_open es = map_same _ _ es (all_any {X = Entry} _ (λ e. elim (cases_Bool (e.block.task == task)) [
-        | inl own ↦ rw (own, same_number e.block.task task own, at, is_open) refl
+        | inl own ↦ rw (own, eqb-true e.block.task task own, at, is_open) refl
         | inr other ↦ rw other refl
       ]) es)
 
       pub other_left : (is_backup session.kind && not session.sealed) ≡ false → (es : List Entry)
           → es ≡ map (left_in task sessions first count) es
       other_left no_backup es = map_still _ es (all_any {X = Entry} _ (λ e. elim (cases_Bool (e.block.task == task)) [
-        | inl own ↦ rw (own, same_number e.block.task task own, at, no_backup) refl
+        | inl own ↦ rw (own, eqb-true e.block.task task own, at, no_backup) refl
         | inr other ↦ rw other refl
       ]) es)
 
@@ -82,7 +83,7 @@ module _ (first count : ℕ) where
         (listed : AreListed items listed_touched checked_by_writes) where
       unlisted : (e : Entry) → contains nat_cmp checked_by_writes e.block.task ≡ false → left e ≡ e
       unlisted e none = elim (cases_lt e.block.task (length sessions)) [
-        | inl there ↦ let found = some_at sessions e.block.task there in
+        | inl there ↦ let found = element_at sessions e.block.task there in
             rw (
               found.1,
               no_backup_there (subst (λ xs. AreListed xs listed_touched checked_by_writes) same listed) e.block.task found.0 none found.1,
@@ -95,7 +96,7 @@ module _ (first count : ℕ) where
           → ((k : ℕ) → from ≤ k → k < next → contains nat_cmp checked_by_writes k ≡ false)
           → ((k : ℕ) → next ≤ k → k < task → SharesNone first count k now) → AreRewanted from es now → AreRewanted task es now
       passed from next task es now unnoted far h =
-          let near = all_placed (λ e. next ≤ e.block.task → e.block.task < task → left e ≡ e) now
+          let near = all_from_index (λ e. next ≤ e.block.task → e.block.task < task → left e ≡ e) now
           (λ i e at low high. still e (state_outside (slice_get sessions e.block.task) e (far e.block.task low high i e at refl))) in
           let rest : AllByRecursion (λ e. e.block.task < task → left e ≡ e) now =
           all_with _ _ _ (λ e none before less. elim (cases_lt e.block.task from) [
@@ -116,7 +117,7 @@ module _ (disk : Shape) (past : Past) (request : Request) (write : request.write
   one_told : (b : Block) → IsBlockOf disk (length (tasks past)) b
       → left_by_write sessions request.lbn request.count (entry_of past b) ≡ entry_of (finished request ∷ past) b
   one_told b there =
-      let found = some_at sessions b.task (omega (arith, there.task, h.as_many)) in
+      let found = element_at sessions b.task (omega (arith, there.task, h.as_many)) in
       let stands = (h.each b.task found.0 found.1).stands in
       elim (cases_Bool (is_backup found.0.kind && not found.0.sealed)) [
         | inl is_open ↦ rw (

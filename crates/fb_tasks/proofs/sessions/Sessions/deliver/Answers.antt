@@ -1,4 +1,4 @@
-use Rattle.fb_tasks.proofs.Words.{on_err, true, length, set, sym, ◌∙◌, arith, ap, some_at}
+use Rattle.fb_tasks.proofs.Words.{on_err, true, length, set, sym, ◌∙◌, arith, ap, element_at}
 use Rattle.fb_tasks.proofs.Listed.{listed_more, listed_noted}
 use Rattle.fb_tasks.proofs.{Frames.set_same, Leaving.begun_not}
 use Rattle.fb_tasks.proofs.AfterDelivery.{within_sessions, delivers, wanted-entry, held-now, tells-delivered, up_to_date-delivered}
@@ -21,7 +21,7 @@ deliver-requires-2 c = (
 
 pub returns-in_err-note_touch-clause-stay_sessions : goal.returns-in_err-note_touch-clause-stay_sessions
 returns-in_err-note_touch-clause-stay_sessions c =
-    let own = some_at c.args.self.now c.args.got.block.task (within_sessions c.args.got c.requires.2) in
+    let own = element_at c.args.self.now c.args.got.block.task (within_sessions c.args.got c.requires.2) in
     (own.0, c.self.view_is ∙ sym (set_same c.args.self.now c.args.got.block.task own.0 own.1))
 
 pub returns-clause-tells : goal.returns-clause-tells
