@@ -62,5 +62,3 @@ module _ (terms : ReplayTerms) (files : Files) (run : Run) where
       back = subst (λ (told : Option (List ℕ)). HoldsWanted told (back_told terms files run) (old.outputs Back) (new.outputs Back))
           (sym given) back;
     }
-
-  }

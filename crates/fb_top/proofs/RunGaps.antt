@@ -17,6 +17,7 @@ use Rattle.fb_model.specs.Steps.{AtEach, Step, decisions_in, history, opening, s
 use Rattle.fb_decide.proofs.Chain.{decisions_follow, services}
 use Rattle.fb_model.proofs.RowsUpTo.{delivered_rows}
 use Rattle.fb_decide.proofs.QuietRows.{IsQuiet, IsQuietStep, quiet_step, tasks_quiet}
+use Rattle.fb_units.proofs.Each.{all_any}
 use Rattle.fb_units.specs.declared.types.Request.{Request}
 use Rattle.fb_bgwrite.specs.Spilled.{AreGaps}
 
@@ -80,15 +81,11 @@ module _ (inputs : Inputs) (medium : Medium) (tasks : List BackRow) (quiet : All
       one_more step step.act steps (quiet_step inputs medium past step tested.0) planned.0
       (all_gaps (past_after inputs past step) steps planned.1 tested.1)
 
-any_request : (list : List Request) → AllByRecursion (λ (r : Request). Unit {0}) list
-any_request [] = tt
-any_request (request ∷ list) = (tt, any_request list)
-
 pub run_gaps : (inputs : Inputs) (run : Run) → IsFull inputs run → AreGaps inputs.disk run.back run.fore
 unfolding fore_rows
 run_gaps inputs run full =
     let sound = full.sound in
-    let follow = decisions_follow (λ (r : Request). Unit {0}) inputs (any_request (requests inputs)) in
+    let follow = decisions_follow (λ (r : Request). Unit {0}) inputs (all_any (λ (r : Request). Unit {0}) (λ _. tt) (requests inputs)) in
     let quiet = subst (AllByRecursion IsQuiet) (sym sound.counted) (tasks_quiet (history inputs full.steps)) in
     let back = flat_map (step_rows inputs.disk) full.steps ++ sound.tasks in
     subst (λ (rows : List BackRow). AreGaps inputs.disk rows run.fore) (sym sound.back)

@@ -1,6 +1,7 @@
 -- Texts that are written one after another.
 use Rattle.std.proofs.Common.{◌≢◌, ◌∙◌, List, [], ◌∷◌, ◌++◌, refl, sym, ap, subst}
 use Rattle.std.specs.List.{AllByRecursion}
+use Rattle.fb_units.proofs.Lists.{all_left}
 use Rattle.fb_desk.specs.Calls.{ChangesOutput, Rose}
 use Rattle.fb_desk.specs.View.{DeskView, OutputView}
 use Rattle.fb_desk.specs.declared.desk.Output.{Output}
@@ -107,11 +108,6 @@ module _ (old mid late new : DeskView) (first : KeepsReports old mid) (last : Ke
       → WritesAll texts old new
   writes_all texts no_note wrote = record { others = keeps_texts texts wrote.others; whole = stay_whole texts no_note wrote.whole }
 
-  front_all : (P : Text → Type 0) (before : List Text) (cut : Text) (behind : List Text) → AllByRecursion P (before ++ cut ∷ behind)
-      → AllByRecursion P before
-  front_all P [] cut behind all = tt
-  front_all P (text ∷ before) cut behind all = (all.0, front_all P before cut behind all.1)
-
   cuts_at : (texts : List Text) (which : Output) → AllByRecursion (λ text. text.output ≢ Note) texts → CutsAt which texts mid late
       → CutsAt which texts old new
   cuts_at texts which no_note cut = record {
@@ -121,7 +117,7 @@ module _ (old mid late new : DeskView) (first : KeepsReports old mid) (last : Ke
     are = cut.are;
     here = cut.here;
     others = keeps_texts (cut.before ++ cut.cut ∷ []) cut.others;
-    whole = stay_whole cut.before (front_all (λ text. text.output ≢ Note) cut.before cut.cut cut.behind
+    whole = stay_whole cut.before (all_left (λ text. text.output ≢ Note) cut.before (cut.cut ∷ cut.behind)
         (subst (AllByRecursion (λ text. text.output ≢ Note)) cut.are no_note)) cut.whole;
     front = subst (λ (v : OutputView). HoldsFront v cut.cut.name cut.cut.text)
         (sym (last which (cut_is_no_note which texts mid late no_note cut))) cut.front;
