@@ -1,12 +1,13 @@
 -- The first request of least rank, taken out.
 use Rattle.fb_fastq.proofs.Words.{◌≡◌, ◌≢◌, ℕ, zero, suc, ◌+◌, ◌<◌, ◌≤◌, List, [], ◌∷◌, map, refl, sym, ap, subst, ◌∙◌, arith, Bool, true}
-use Rattle.fb_fastq.proofs.Words.{false, inl, inr, ◌⊎◌, Option, Some, None, IsSome, length, nat_lt, nat_le, ◌==◌, if◌then◌else◌, IfSome}
-use Rattle.fb_fastq.proofs.Words.{cond, AllByRecursion, lookup, BTreeMap, get, is_at, cases_Bool, true≢false, nat_tests, Request}
+use Rattle.fb_fastq.proofs.Words.{false, inl, inr, Option, Some, None, IsSome, length, nat_lt, nat_le, ◌==◌, if◌then◌else◌, IfSome}
+use Rattle.fb_fastq.proofs.Words.{AllByRecursion, lookup, BTreeMap, is_at, cases_Bool, true≢false, nat_tests, Request}
 use Rattle.fb_fastq.proofs.Words.{first_least, better, order, Waits, Holds, AllHeld, Waiting, number_of, join_in, in_order, pending_of}
-use Rattle.fb_fastq.proofs.Words.{NumbersDiffer, IsNoLater, IsFirst, IsFirstHeld, all_weaker}
+use Rattle.fb_fastq.proofs.Words.{NumbersDiffer, IsNoLater, IsFirst, IsFirstHeld, all_from_index, all_get, all_weaker, none-some, Among}
+use Rattle.fb_fastq.proofs.Words.{place_from_lookup}
 use Rattle.fb_queue.proofs.FirstLeast.{later_better}
-use Rattle.fb_fastq.proofs.{Swept.some_injective, Swept.IsIn, Swept.all_of, Swept.all_from, Swept.all_unmapped, Keys.here_equal}
-use Rattle.fb_fastq.proofs.{Keys.equal_keys, Joins.all_join, Joins.all_in_order}
+use Rattle.fb_fastq.proofs.{Swept.some_injective, Swept.all_unmapped, Keys.equal_keys, Keys.here_equal, Keys.same_key}
+use Rattle.fb_fastq.proofs.{Joins.all_join, Joins.all_in_order}
 
 abbrev pub IsRising : List Waiting → Type 0
 IsRising [] = Unit {0}
@@ -81,64 +82,42 @@ not_above : (rank : Request → ℕ) (w : Waiting) (ws : List Waiting) → IsFir
 not_above rank w [] h = tt
 not_above rank w (x ∷ ws) h = (elim h.0 [ inl less ↦ omega (arith, less) | inr tied ↦ omega (arith, tied.0) ], not_above rank w ws h.1)
 
-pub least_rising : (rank : Request → ℕ) (w : Waiting) (ws : List Waiting) → IsRising ws → IsIn w ws → IsFirst rank w ws
+pub least_rising : (rank : Request → ℕ) (w : Waiting) (ws : List Waiting) → IsRising ws → Among ws w → IsFirst rank w ws
     → first_least rank (map (λ x. x.1) ws) ≡ Some (w.1, map (λ x. x.1) (without (number_of w) ws))
-least_rising rank w [] h e first = elim e [ ]
-least_rising rank w (x ∷ ws) h (inl e) first =
-    subst (λ y. first_least rank (map (λ z. z.1) (y ∷ ws)) ≡ Some (w.1, map (λ z. z.1) (without (number_of w) (y ∷ ws)))) e
-    (let t : (number_of w == number_of w) ≡ true = grind (arith, nat_tests) in
+least_rising rank w [] h e first = absurd (none-some w e.1)
+least_rising rank w (x ∷ ws) h (zero, at) first =
+    subst (λ y. first_least rank (map (λ z. z.1) (y ∷ ws)) ≡ Some (w.1, map (λ z. z.1) (without (number_of w) (y ∷ ws))))
+    (sym (some_injective x w at)) (let t : (number_of w == number_of w) ≡ true = grind (arith, nat_tests) in
     rw t (front_better rank w.1 (map (λ z. z.1) ws) (first_least rank (map (λ z. z.1) ws))
     (picked (λ r. rank w.1 ≤ rank r) rank ws (not_above rank w ws first.1))))
-least_rising rank w (x ∷ ws) h (inr e) first =
-    let lt : number_of x < number_of w = all_of (λ y. number_of x < number_of y) w ws h.0 e in
+least_rising rank w (x ∷ ws) h (suc k, at) first =
+    let lt : number_of x < number_of w = all_get (λ y. number_of x < number_of y) ws k w h.0 at in
     let t : (number_of x == number_of w) ≡ false = grind (arith, nat_tests) in
     let less : rank w.1 < rank x.1 =
     elim first.0 [ inl l ↦ l | inr tied ↦ let le : number_of w ≤ number_of x = tied.1 in absurd (omega arith) ] in
     rw t (later_better rank x.1 w.1 (map (λ z. z.1) ws) (map (λ z. z.1) (without (number_of w) ws)) (first_least rank (map (λ z. z.1) ws))
-    (least_rising rank w ws h.1 e first.1) less)
+    (least_rising rank w ws h.1 (k, at) first.1) less)
 
-in_joined : (w x : Waiting) (ws : List Waiting) → (w ≡ x) ⊎ IsIn w ws → IsIn w (join_in x ws)
-in_joined w x [] (inl e) = inl e
-in_joined w x [] (inr e) = elim e [ ]
-in_joined w x (y ∷ ws) h = elim (cases_Bool (nat_lt (number_of x) (number_of y))) [
-  | inl less ↦ rw less h
-  | inr more ↦ rw more (elim h [
-    | inl e ↦ inr (in_joined w x ws (inl e))
-    | inr there ↦ elim there [ inl e ↦ inl e | inr e ↦ inr (in_joined w x ws (inr e)) ]
-  ])
+-- what holds of all once one has joined holds of it and of the others
+from_join : (P : Waiting → Type 0) (w : Waiting) (ws : List Waiting) → AllByRecursion P (join_in w ws) → P w × AllByRecursion P ws
+from_join P w [] h = h
+from_join P w (x ∷ ws) h = elim (cases_Bool (nat_lt (number_of w) (number_of x))) [
+  | inl less ↦ rw less at h
+  | inr more ↦ let all : P x × AllByRecursion P (join_in w ws) = rw more at h in
+      let rest = from_join P w ws all.1 in (rest.0, (all.0, rest.1))
 ]
 
-pub in_in_order : (w : Waiting) (ws : List Waiting) → IsIn w ws → IsIn w (in_order ws)
-in_in_order w [] e = elim e [ ]
-in_in_order w (x ∷ ws) (inl e) = in_joined w x (in_order ws) (inl e)
-in_in_order w (x ∷ ws) (inr e) = in_joined w x (in_order ws) (inr (in_in_order w ws e))
-
-found_there : (b : Bool) (x r : Request) (o : Option Request) → b ≡ false → cond b (Some x) o ≡ Some r → o ≡ Some r
-found_there b x r o t e = sym (ap (λ c. cond c (Some x) o) t) ∙ e
-
-found_here : (b : Bool) (x r : Request) (o : Option Request) → b ≡ true → cond b (Some x) o ≡ Some r → x ≡ r
-found_here b x r o t e = some_injective x r (sym (ap (λ c. cond c (Some x) o) t) ∙ e)
-
-same_waiting : (l n : ℕ) (r : Request) (w : Waiting) → l ≡ w.0.0 → n ≡ w.0.1 → w.1 ≡ r → ◌≡◌ {A = Waiting} ((l, n), r) w
-same_waiting l n r w a b c = ap (λ x. ((x, n), r)) a ∙ (ap (λ x. ((w.0.0, x), r)) b ∙ ap (λ x. (w.0, x)) (sym c))
+-- what holds of all in order of joining holds of each, wherever it stands
+pub from_order : (P : Waiting → Type 0) (ws : List Waiting) → AllByRecursion P (in_order ws) → AllByRecursion P ws
+from_order P [] h = tt
+from_order P (w ∷ ws) h = let both = from_join P w (in_order ws) h in (both.0, from_order P ws both.1)
 
 -- what the map holds at a key is among its entries
-pub held_is_in : (l n : ℕ) (r : Request) (ws : List Waiting) → lookup (is_at (order (l, n))) ws ≡ Some r → IsIn ((l, n), r) ws
-held_is_in l n r [] e = absurd (grind arith)
-held_is_in l n r (w ∷ ws) e = elim (cases_Bool (is_at (order (l, n)) w.0)) [
-  | inl here ↦ let keys = equal_keys l n w.0.0 w.0.1 here in
-      inl (same_waiting l n r w keys.0 keys.1 (found_here (is_at (order (l, n)) w.0) w.1 r (lookup (is_at (order (l, n))) ws) here e))
-  | inr there ↦ inr (held_is_in l n r ws (found_there (is_at (order (l, n)) w.0) w.1 r (lookup (is_at (order (l, n))) ws) there e))
-]
-
--- the map has the key of each of its entries
-pub is_held : (w : Waiting) (ws : List Waiting) → IsIn w ws → IsSome (lookup (is_at (order w.0)) ws)
-is_held w [] e = elim e [ ]
-is_held w (x ∷ ws) (inl e) = subst (λ y. IsSome (lookup (is_at (order w.0)) (y ∷ ws))) e (let t = here_equal w.0.0 w.0.1 in rw t refl)
-is_held w (x ∷ ws) (inr e) = elim (cases_Bool (is_at (order w.0) x.0)) [ inl here ↦ rw here refl | inr there ↦ rw there (is_held w ws e) ]
-
-pub in_order_all : (P : Request → Type 0) (ws : List Waiting) → AllByRecursion P (pending_of ws) → (w : Waiting) → IsIn w ws → P w.1
-in_order_all P ws h w e = all_of (λ x. P x.1) w (in_order ws) (all_unmapped P (λ x. x.1) (in_order ws) h) (in_in_order w ws e)
+pub held_is_in : (l n : ℕ) (r : Request) (ws : List Waiting) → lookup (is_at (order (l, n))) ws ≡ Some r → Among ws ((l, n), r)
+held_is_in l n r ws e =
+    let held = place_from_lookup (is_at (order (l, n))) ws r e in
+    let keys = equal_keys l n held.1.0 held.1.1 held.3 in
+    (held.0, held.2 ∙ ap (λ k. Some ((k, held.1.1), r)) (sym keys.0) ∙ ap (λ k. Some ((l, k), r)) (sym keys.1))
 
 length_joined : (w : Waiting) (ws : List Waiting) → length (map (λ x. x.1) (join_in w ws)) ≡ length (map (λ x. x.1) ws) + 1
 length_joined w [] = refl
@@ -158,58 +137,45 @@ tells_none false (suc n) h = grind (arith, nat_tests)
 
 -- what holds of each pending request holds of each that waits
 pub all_waiting : (P : Request → Type 0) (ws : List Waiting) → AllByRecursion P (pending_of ws) → AllByRecursion (λ w. P w.1) ws
-all_waiting P ws h = all_from (λ w. P w.1) ws (in_order_all P ws h)
+all_waiting P ws h = from_order (λ w. P w.1) ws (all_unmapped P (λ w. w.1) (in_order ws) h)
 
 -- what a key has is one of those that wait
-pub at_key : (ws : List Waiting) (q : ℕ × ℕ) → IsSome (lookup (is_at (order q)) ws) → (r : Request) × IsIn (q, r) ws
+pub at_key : (ws : List Waiting) (q : ℕ × ℕ) → IsSome (lookup (is_at (order q)) ws) → (r : Request) × Among ws (q, r)
 at_key ws q has = go (lookup (is_at (order q)) ws) refl has
   where
-    go : (o : Option Request) → lookup (is_at (order q)) ws ≡ o → IsSome o → (r : Request) × IsIn (q, r) ws
+    go : (o : Option Request) → lookup (is_at (order q)) ws ≡ o → IsSome o → (r : Request) × Among ws (q, r)
     go None e h = absurd (true≢false (sym h))
     go (Some r) e h = (r, held_is_in q.0 q.1 r ws e)
 
--- two of one number are the same
-only_one : (a b : Waiting) (ws : List Waiting) → NumbersDiffer ws → IsIn a ws → IsIn b ws → number_of a ≡ number_of b → a ≡ b
-only_one a b [] h e f same = elim e [ ]
-only_one a b (w ∷ ws) h (inl e) (inl f) same = e ∙ sym f
-only_one a b (w ∷ ws) h (inl e) (inr f) same = let other = all_of (λ y. number_of y ≢ number_of w) b ws h.0 f in
-    absurd (other (sym same ∙ ap number_of e))
-only_one a b (w ∷ ws) h (inr e) (inl f) same = let other = all_of (λ y. number_of y ≢ number_of w) a ws h.0 e in
-    absurd (other (same ∙ ap number_of f))
-only_one a b (w ∷ ws) h (inr e) (inr f) same = only_one a b ws h.1 e f same
-
 -- the map holds what its entries say
-held_value : (w : Waiting) (ws : List Waiting) → NumbersDiffer ws → IsIn w ws → lookup (is_at (order w.0)) ws ≡ Some w.1
-held_value w ws apart there = go (lookup (is_at (order w.0)) ws) refl (is_held w ws there)
-  where
-    go : (o : Option Request) → lookup (is_at (order w.0)) ws ≡ o → IsSome o → o ≡ Some w.1
-    go None e h = absurd (true≢false (sym h))
-    go (Some r) e h = let same = only_one (w.0, r) w ws apart (held_is_in w.0.0 w.0.1 r ws e) there refl in ap (λ x. Some x.1) same
+held_value : (w : Waiting) (ws : List Waiting) → NumbersDiffer ws → Among ws w → lookup (is_at (order w.0)) ws ≡ Some w.1
+held_value w [] apart e = absurd (none-some w e.1)
+held_value w (x ∷ ws) apart (zero, at) = subst (λ y. lookup (is_at (order w.0)) (y ∷ ws) ≡ Some w.1) (sym (some_injective x w at))
+    (let t = here_equal w.0.0 w.0.1 in rw t refl)
+held_value w (x ∷ ws) apart (suc k, at) =
+    let t = same_key w.0.0 w.0.1 x.0.0 x.0.1 (all_get (λ y. number_of y ≢ number_of x) ws k w apart.0 at) in
+    rw t (held_value w ws apart.1 (k, at))
 
 -- the first of all that are held is the first of all entries
 pub first_listed : (rank : Request → ℕ) (key : ℕ × ℕ) (r : Request) (waiting : BTreeMap (ℕ × ℕ) Request) → NumbersDiffer waiting.entries
     → Holds waiting key r → IsFirstHeld rank waiting key → IsFirst rank (key, r) waiting.entries
 first_listed rank key r waiting apart e first =
-    all_from (λ x. IsNoLater (rank r) key.1 (rank x.1) (number_of x)) waiting.entries
-    (λ w there. first r e w.0 w.1 (held_value w waiting.entries apart there))
+    all_from_index (λ x. IsNoLater (rank r) key.1 (rank x.1) (number_of x)) waiting.entries
+    (λ k w there. first r e w.0 w.1 (held_value w waiting.entries apart (k, there)))
 
 -- where any wait, one is held
 pub some_held : (waiting : BTreeMap (ℕ × ℕ) Request) → 0 < length waiting.entries → (key : ℕ × ℕ) × ((r : Request) × Holds waiting key r)
-some_held waiting some = at waiting.entries some (λ w there. is_held w waiting.entries there)
+some_held waiting some = at waiting.entries some
   where
-    held : (w : Waiting) (o : Option Request) → get order waiting w.0 ≡ o → IsSome o → (key : ℕ × ℕ) × ((r : Request) × Holds waiting key r)
-    held w None e h = absurd (true≢false (sym h))
-    held w (Some r) e h = (w.0, (r, e))
-
-    at : (ws : List Waiting) → 0 < length ws → ((w : Waiting) → IsIn w ws → IsSome (get order waiting w.0))
-        → (key : ℕ × ℕ) × ((r : Request) × Holds waiting key r)
-    at [] some has = absurd (omega arith)
-    at (w ∷ ws) some has = held w (get order waiting w.0) refl (has w (inl refl))
+    at : (ws : List Waiting) → 0 < length ws → (key : ℕ × ℕ) × ((r : Request) × (lookup (is_at (order key)) ws ≡ Some r))
+    at [] some = absurd (omega arith)
+    at (w ∷ ws) some = let t = here_equal w.0.0 w.0.1 in (w.0, (w.1, rw t refl))
 
 -- what holds of each entry holds of each request that is held
 pub all_held : (P : ℕ × ℕ → Request → Type 0) (waiting : BTreeMap (ℕ × ℕ) Request) → AllByRecursion (λ w. P w.0 w.1) waiting.entries
     → AllHeld P waiting
-all_held P waiting all = λ key r e. all_of (λ w. P w.0 w.1) (key, r) waiting.entries all (held_is_in key.0 key.1 r waiting.entries e)
+all_held P waiting all = λ key r e. let there = held_is_in key.0 key.1 r waiting.entries e in
+    all_get (λ w. P w.0 w.1) waiting.entries there.0 (key, r) all there.1
 
 -- who holds a request has its key
 pub waits_there : (waiting : BTreeMap (ℕ × ℕ) Request) (key : ℕ × ℕ) (r : Request) → Holds waiting key r → Waits waiting key

@@ -5,11 +5,11 @@ use Rattle.fb_fastq.proofs.Words.{Option, None, IsSome, true, false, remove, opt
 use Rattle.fb_fastq.proofs.Words.{match_ordering, nat_cmp, Ordering, Less, Equal, Greater, insert_entry, is_at, BTreeSet, contains}
 use Rattle.fb_fastq.proofs.Words.{remove_entry, true≢false, cases_Bool, nat_tests, slice_get_within, Request, first_least, order, Waiting}
 use Rattle.fb_fastq.proofs.Words.{number_of, join_in, in_order, pending_of, NumbersDiffer, HaveOwnNumbers, IsFirst, Position, IsMore, Row}
-use Rattle.fb_fastq.proofs.Words.{all_of_rows}
+use Rattle.fb_fastq.proofs.Words.{all_from_index, all_get, all_of_rows, Among}
 use Rattle.fb_fastq.proofs.Words.{at_position, IsOnCylinder, AreRows, AreOccupied, lookup, none-some, length-append, map-append, all_weaker}
-use Rattle.fb_fastq.proofs.{Swept.some_injective, Swept.IsIn, Swept.all_of, Keys.same_number, Keys.here_equal, Keys.same_key}
+use Rattle.fb_fastq.proofs.{Swept.some_injective, Keys.same_number, Keys.here_equal, Keys.same_key}
 use Rattle.fb_fastq.proofs.{Joins.all_in_order, Joins.joins_last, Joins.join_before_last, Least.without, Least.without_joined}
-use Rattle.fb_fastq.proofs.{Least.without_other, Least.in_order_rising, Least.least_rising, Least.in_in_order, Least.at_key, InRows.row_on}
+use Rattle.fb_fastq.proofs.{Least.without_other, Least.in_order_rising, Least.least_rising, Least.from_order, Least.at_key, InRows.row_on}
 
 pub all_put : (P : Waiting → Type 0) (w : Waiting) (before behind : List Waiting) → P w → AllByRecursion P (before ++ behind)
     → AllByRecursion P (before ++ w ∷ behind)
@@ -53,10 +53,6 @@ numbered_drawn w [] behind h = h.1
 numbered_drawn w (x ∷ before) behind h =
     ((all_drawn (λ y. number_of y ≢ number_of x) w before behind h.0).1, numbered_drawn w before behind h.1)
 
-in_middle : (w : Waiting) (before behind : List Waiting) → IsIn w (before ++ w ∷ behind)
-in_middle w [] behind = inl refl
-in_middle w (x ∷ before) behind = inr (in_middle w before behind)
-
 module _ (w : Waiting) (less more : List Waiting) (is : IsMore w less more) where
   pub all_more : (P : Waiting → Type 0) → P w → AllByRecursion P less → AllByRecursion P more
   all_more P p h = subst (AllByRecursion P) (sym is.more_is) (all_put P w is.before is.behind p (subst (AllByRecursion P) is.less_is h))
@@ -93,8 +89,9 @@ module _ (w : Waiting) (less more : List Waiting) (is : IsMore w less more) wher
       let own = subst NumbersDiffer is.more_is apart in
       let ws = is.before ++ w ∷ is.behind in
       let its = subst (IsFirst rank w) is.more_is first in
+      let all = from_order (Among (in_order ws)) ws (all_from_index (Among (in_order ws)) (in_order ws) (λ k x at. (k, at))) in
       ap (λ xs. first_least rank (pending_of xs)) is.more_is
-      ∙ (least_rising rank w (in_order ws) (in_order_rising ws own) (in_in_order w ws (in_middle w is.before is.behind))
+      ∙ (least_rising rank w (in_order ws) (in_order_rising ws own) (all_drawn (Among (in_order ws)) w is.before is.behind all).0
       (all_in_order (λ x. (rank w.1 < rank x.1) ⊎ ((rank w.1 ≡ rank x.1) × (number_of w ≤ number_of x))) ws its)
       ∙ ap (λ l. Some (w.1, map (λ x. x.1) l)) (sym (in_order_drawn w is.before is.behind own) ∙ ap in_order (sym is.less_is)))
 
@@ -133,14 +130,15 @@ insert_more l n r (w ∷ ws) h = at (insert_more l n r ws h.1) (order (l, n) w.0
     }
 
 -- and is taken out of it
-pub remove_more : (w : Waiting) (ws : List Waiting) → NumbersDiffer ws → IsIn w ws → IsMore w (remove_entry (is_at (order w.0)) ws) ws
-remove_more w [] h e = elim e [ ]
-remove_more w (x ∷ ws) h (inl e) = subst (λ y. IsMore w (remove_entry (is_at (order w.0)) (y ∷ ws)) (y ∷ ws)) e
+pub remove_more : (w : Waiting) (ws : List Waiting) → NumbersDiffer ws → Among ws w → IsMore w (remove_entry (is_at (order w.0)) ws) ws
+remove_more w [] h e = absurd (none-some w e.1)
+remove_more w (x ∷ ws) h (zero, at) = subst (λ y. IsMore w (remove_entry (is_at (order w.0)) (y ∷ ws)) (y ∷ ws))
+    (sym (some_injective x w at))
     (let t = here_equal w.0.0 w.0.1 in rw t (record { before = []; behind = ws; less_is = refl; more_is = refl }))
-remove_more w (x ∷ ws) h (inr e) =
-    let other : number_of w ≢ number_of x = all_of (λ y. number_of y ≢ number_of x) w ws h.0 e in
+remove_more w (x ∷ ws) h (suc k, at) =
+    let other : number_of w ≢ number_of x = all_get (λ y. number_of y ≢ number_of x) ws k w h.0 at in
     let t = same_key w.0.0 w.0.1 x.0.0 x.0.1 other in
-    let rest = remove_more w ws h.1 e in
+    let rest = remove_more w ws h.1 (k, at) in
     rw t (record {
       before = x ∷ rest.before;
       behind = rest.behind;

@@ -1,21 +1,17 @@
 -- A walk over the rows that have requests, from the head's cylinder outwards.
-use Rattle.fb_fastq.proofs.Words.{◌≡◌, ℕ, ◌<◌, ◌≤◌, List, [], ◌∷◌, refl, sym, ap, ◌∙◌, arith, true, inl, inr, Some, slice_get, length}
+use Rattle.fb_fastq.proofs.Words.{◌≡◌, ℕ, ◌<◌, ◌≤◌, List, [], refl, sym, ap, ◌∙◌, arith, true, inl, inr, Some, slice_get, length}
 use Rattle.fb_fastq.proofs.Words.{list_any, IsStrictlySortedBy, nat_cmp, is_at, contains, BTreeSet, cases_Bool, cases_lt, nat_tests}
 use Rattle.fb_fastq.proofs.Words.{Departure, Disk, seek, distance_of, Candidate, Pick, IsBefore, Row, AreOccupied, IsPick, IsArrival}
-use Rattle.fb_fastq.proofs.Words.{IsAlong, AreRows, all_of_rows, AllByRecursion, RulesOutAll, ◌||◌, subst, map-id, SeeksRise, Arrival}
-use Rattle.fb_fastq.proofs.Words.{Side, Above, Below, IsOn, IsNoFarther, AreThose, cylinders_of, RulesOut}
-use Rattle.fb_fastq.proofs.{Keys.number_follows, Sweeps.no_later_trans, InRows.rules_out_all, InRows.none_ruled_out, InRows.far_row}
-use Rattle.fb_fastq.proofs.{InRows.none_beyond, Swept.IsIn}
-use Rattle.fb_fastq.proofs.{Swept.rises_sorted, Swept.IsNext, Swept.IsSwept, Swept.swept_begins, Swept.swept_on, Swept.swept_stops}
-use Rattle.fb_fastq.proofs.Swept.{swept_ends, Takes, next_out, next_nearest}
+use Rattle.fb_fastq.proofs.Words.{IsAlong, AreRows, all_of_rows, AllByRecursion, RulesOutAll, subst, map-id, SeeksRise, Arrival}
+use Rattle.fb_fastq.proofs.Words.{Side, Above, Below, IsOn, IsNoFarther, AreThose, cylinders_of, RulesOut, Among, any-among}
+use Rattle.fb_fastq.proofs.{Keys.number_follows, Sweeps.no_later_trans, Swept.rises_sorted}
+use Rattle.fb_fastq.proofs.InRows.{far_row, none_beyond, none_ruled_out, rules_out_all}
+use Rattle.fb_fastq.proofs.Swept.{IsNext, IsSwept, Takes, next_nearest, next_out, swept_begins, swept_ends, swept_on, swept_stops}
 
 -- what a set contains is among its numbers
-is_among : (k : ℕ) (xs : List ℕ) → list_any (is_at (nat_cmp k)) xs ≡ true → IsIn k xs
-is_among k [] e = absurd (grind (e, arith, nat_tests))
-is_among k (x ∷ xs) e = elim (cases_Bool (is_at (nat_cmp k) x)) [
-  | inl here ↦ inl (grind (arith, nat_tests))
-  | inr other ↦ inr (is_among k xs (subst (λ b. (b || list_any (is_at (nat_cmp k)) xs) ≡ true) other e))
-]
+is_among : (k : ℕ) (xs : List ℕ) → list_any (is_at (nat_cmp k)) xs ≡ true → Among xs k
+is_among k xs e = let found = any-among (is_at (nat_cmp k)) xs e in
+    let same = found.2 in subst (Among xs) (grind (arith, nat_tests, same)) found.1
 
 module _ (disk : Disk) (from : Departure) (rows : List Row) (old : Pick) (side : Side) where
   -- of the disk's cylinders on one side all rows but those that are left are seen

@@ -3,12 +3,10 @@ use Rattle.fb_fastq.proofs.Words.{◌≡◌, ℕ, ◌+◌, ◌<◌, ◌≤◌, �
 use Rattle.fb_fastq.proofs.Words.{◌⊎◌, Some, lookup, Less, BTreeMap, is_at, keys, IsStrictlySortedBy, Request, Track, Disk, Departure}
 use Rattle.fb_fastq.proofs.Words.{Visit, IsVisit, sptf, distance_of, track_at, Candidate, order, Waiting, Holds, AllHeld, IsAlong}
 use Rattle.fb_fastq.proofs.Words.{IsCandidate, IsBefore, ComesNoLater, ComesNoLaterOn, ComesNoLaterUntil, Ray, Side, Above, Below, IsOn}
-use Rattle.fb_fastq.proofs.Words.{IsNoFarther, IsReached}
-use Rattle.fb_fastq.proofs.Words.{IsNearer, AreThose, ◌*◌, length}
+use Rattle.fb_fastq.proofs.Words.{IsNoFarther, IsReached, IsNearer, AreThose, ◌*◌, length, zero, suc, all_get, none-some, Among}
 use Rattle.fb_fastq.proofs.{Keys.here_equal, Keys.follows, Keys.not_at, Least.held_is_in, Sweeps.no_later_trans, Sweeps.is_one}
-use Rattle.fb_fastq.proofs.{Sweeps.farther, Swept.IsIn}
-use Rattle.fb_fastq.proofs.{Swept.all_of, Swept.all_unmapped, Swept.rises_sorted, Swept.IsNext, Swept.IsSwept, Swept.swept_begins}
-use Rattle.fb_fastq.proofs.{Swept.swept_on, Swept.swept_stops, Swept.Takes, Swept.next_out, Swept.next_nearest, Visiting.is_there}
+use Rattle.fb_fastq.proofs.{Sweeps.farther, Visiting.is_there, Swept.some_injective, Swept.all_unmapped, Swept.rises_sorted}
+use Rattle.fb_fastq.proofs.Swept.{IsNext, IsSwept, Takes, next_nearest, next_out, swept_begins, swept_on, swept_stops}
 
 -- where a request stands
 abbrev pub spot : Waiting → ℕ
@@ -19,16 +17,16 @@ abbrev pub away : Disk → Departure → Request → ℕ
 away disk from r = distance_of from.track.cylinder (track_at disk.map r.lbn).cylinder
 
 -- the map holds what its entries say
-pub held_value : (x : Waiting) (ws : List Waiting) → IsStrictlySortedBy order (map (λ w. w.0) ws) → IsIn x ws
+pub held_value : (x : Waiting) (ws : List Waiting) → IsStrictlySortedBy order (map (λ w. w.0) ws) → Among ws x
     → lookup (is_at (order x.0)) ws ≡ Some x.1
 unfolding IsStrictlySortedBy
-held_value x [] sorted e = elim e [ ]
-held_value x (y ∷ ws) sorted (inl e) =
-    subst (λ z. lookup (is_at (order x.0)) (z ∷ ws) ≡ Some x.1) e (let t = here_equal x.0.0 x.0.1 in rw t refl)
-held_value x (y ∷ ws) sorted (inr e) =
-    let less = all_of (λ w. order y.0 w.0 ≡ Less) x ws (all_unmapped (λ k. order y.0 k ≡ Less) (λ w. w.0) ws sorted.0) e in
+held_value x [] sorted e = absurd (none-some x e.1)
+held_value x (y ∷ ws) sorted (zero, at) = subst (λ z. lookup (is_at (order x.0)) (z ∷ ws) ≡ Some x.1)
+    (sym (some_injective y x at)) (let t = here_equal x.0.0 x.0.1 in rw t refl)
+held_value x (y ∷ ws) sorted (suc n, at) =
+    let less = all_get (λ w. order y.0 w.0 ≡ Less) ws n x (all_unmapped (λ k. order y.0 k ≡ Less) (λ w. w.0) ws sorted.0) at in
     let t = not_at y.0.0 y.0.1 x.0.0 x.0.1 less in
-    rw t (held_value x ws sorted.1 e)
+    rw t (held_value x ws sorted.1 (n, at))
 
 module _ (disk : Disk) (from : Departure) (waiting : BTreeMap (ℕ × ℕ) Request) (first : Candidate) (ray : Ray) where
   -- of a ray all but those that are left are seen, and the best is no later than any of them

@@ -2,21 +2,25 @@
 pub use Rattle.std.proofs.Common.{Bool, IfNone, IfSome, IsSome, List, None, Option, Some, [], ap, append-nil}
 pub use Rattle.std.proofs.Common.{append_assoc, arith, drop, false, get_or, inl, inr, length, map, refl, set, slice_get, subst, suc, sym}
 pub use Rattle.std.proofs.Common.{take, true, zero, ℕ, ◌%◌, ◌*◌, ◌++◌, ◌+◌, ◌-◌, ◌<◌, ◌^◌, ◌∙◌, ◌∷◌, ◌≡◌, ◌≢◌, ◌≤◌, ◌⊎◌}
-pub use Rattle.std.specs.BTreeMap.{BTreeMap, get, insert_entry, is_at, keys}
+pub use Rattle.std.specs.BTreeMap.{BTreeMap, insert_entry, is_at, keys}
 pub use Rattle.std.specs.BTreeSet.{BTreeSet, contains}
 pub use Rattle.std.specs.List.{AllByRecursion, filter, list_any}
 unfoldable pub use Rattle.std.specs.List.Sorted.{IsStrictlySortedBy}
 pub use Rattle.std.specs.Map.{lookup, remove_entry}
 pub use Rattle.std.specs.Ordering.{is_eq, is_gt, is_le, is_lt, match_ordering, nat_cmp, ordering_then}
-pub use Rattle.std.specs.Prelude.{MatchOption, cond, if◌then◌else◌, nat_le, nat_lt, not, option_and_then, remove, ◌&&◌, ◌==◌, ◌||◌}
+pub use Rattle.std.specs.Prelude.{MatchOption, if◌then◌else◌, nat_le, nat_lt, not, option_and_then, remove, ◌&&◌, ◌==◌}
 pub use Rattle.std.specs.declared.cmp.Ordering.{Ordering}
 pub use Rattle.std.specs.declared.cmp.Ordering.TheVariants.{Equal, Greater, Less}
 pub use Rattle.std.proofs.Math.Nat.{add-mod_left, mod-add-mod, mod-eq_of_lt, mod-le, mod-lt}
 pub use Rattle.std.proofs.lemmas.Bool.{cases_Bool, cases_lt, true≢false}
 pub use Rattle.std.proofs.lemmas.Bool.Decides.{nat_tests}
 pub use Rattle.std.proofs.lemmas.List.{length-append, length-set, map-append, map-id, nil_from_length}
+pub use Rattle.std.proofs.lemmas.Map.Entries.{place_from_lookup}
 pub use Rattle.std.proofs.lemmas.Option.{none-some, slice_get-get_or, slice_get_read, slice_get_within}
-pub use Rattle.fb_units.proofs.Lists.{all_get, all_weaker, all_append, all_filter, all_left, all_right, on_err}
+pub use Rattle.fb_units.proofs.Among.{Among, among-append, among-filtered, among-right, among-tail, any-among}
+pub use Rattle.fb_units.proofs.Filtered.{filter_to}
+pub use Rattle.fb_units.proofs.Lists.{all_append, all_filter, all_from_index, all_get, all_left, all_push, all_right, all_weaker}
+pub use Rattle.fb_units.proofs.Lists.{append_at, on_err}
 pub use Rattle.fb_units.specs.declared.types.Request.{Request}
 pub use Rattle.fb_units.specs.declared.types.Track.{Track}
 pub use Rattle.fb_geometry.specs.Shape.{cylinders_of}
