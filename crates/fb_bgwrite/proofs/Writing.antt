@@ -1,6 +1,7 @@
 -- One more row: which blocks are pending after it, and how many sectors are left.
 use Rattle.std.proofs.Math.Bool.{or-false}
 use Rattle.std.proofs.lemmas.List.Elements.{filter-append}
+use Rattle.fb_units.proofs.Changed.{old_or_last}
 use Rattle.fb_units.proofs.Comparing.{same_number}
 use Rattle.fb_bgwrite.proofs.Words.{◌≢◌, ◌⊎◌, append-nil, all_weaker, none_kept, all_get, ◌≡◌, ℕ, zero, suc, ◌+◌, ◌<◌, ◌≤◌, List}
 use Rattle.fb_bgwrite.proofs.Words.{[], ◌∷◌, ◌++◌, Bool, true, false, ◌&&◌, ◌||◌, not, Some, slice_get, length, map, refl, sym, ap, ap₂}
@@ -11,17 +12,6 @@ use Rattle.fb_bgwrite.proofs.Words.{WroteRow, PutBlock, is_pending, is_written, 
 use Rattle.fb_bgwrite.proofs.Words.{some_one}
 use Rattle.fb_wanted.specs.declared.block.State.{State}
 use Rattle.fb_bgwrite.proofs.{PutBlocks.its_blocks, PutBlocks.AreInOrder, PutBlocks.IsBefore}
-
--- an element of a list with one more is one of the list, or the last one
-before_or_last : {X : Type 0} (xs : List X) (x y : X) (i : ℕ) → slice_get (xs ++ x ∷ []) i ≡ Some y
-    → (slice_get xs i ≡ Some y) ⊎ ((i ≡ length xs) × (x ≡ y))
-before_or_last [] x y zero is = inr (refl, some_one x y is)
-before_or_last [] x y (suc i) is = absurd (grind arith)
-before_or_last (z ∷ xs) x y zero is = inl is
-before_or_last (z ∷ xs) x y (suc i) is = elim (before_or_last xs x y i is) [
-  | inl before ↦ inl before
-  | inr last ↦ inr (ap suc last.0, last.1)
-]
 
 wrote_one : (a b : WroteRow) → WroteLine a ≡ WroteLine b → a ≡ b
 wrote_one a b e = grind arith
@@ -199,18 +189,18 @@ module _ (items : List SpillItem) (row : WroteRow) (block : Block) (put_is : row
 
   pub once_more : (rows : List SpillItem) → AllByRecursion (λ item. writes block item ≡ false) rows → AreOnce rows
       → AreOnce (rows ++ WroteLine row ∷ [])
-  once_more rows off once i j one other at_i at_j puts lbns = elim (before_or_last rows (WroteLine row) (WroteLine one) i at_i) [
-    | inl one_before ↦ elim (before_or_last rows (WroteLine row) (WroteLine other) j at_j) [
-      | inl other_before ↦ once i j one other one_before other_before puts lbns
+  once_more rows off once i j one other at_i at_j puts lbns = elim (old_or_last rows (WroteLine row) (WroteLine one) i at_i) [
+    | inl one_before ↦ elim (old_or_last rows (WroteLine row) (WroteLine other) j at_j) [
+      | inl other_before ↦ once i j one other one_before.1 other_before.1 puts lbns
       | inr other_last ↦
-          let same = sym (wrote_one row other other_last.1) in
-          absurd (clash one (all_get _ rows i (WroteLine one) off one_before) (puts ∙ ap (λ (r : WroteRow). r.put) same)
+          let same = wrote_one other row other_last.1 in
+          absurd (clash one (all_get _ rows i (WroteLine one) off one_before.1) (puts ∙ ap (λ (r : WroteRow). r.put) same)
           (lbns ∙ ap (λ (r : WroteRow). r.lbn) same))
     ]
-    | inr one_last ↦ elim (before_or_last rows (WroteLine row) (WroteLine other) j at_j) [
+    | inr one_last ↦ elim (old_or_last rows (WroteLine row) (WroteLine other) j at_j) [
       | inl other_before ↦
-          let same = sym (wrote_one row one one_last.1) in
-          absurd (clash other (all_get _ rows j (WroteLine other) off other_before) (sym puts ∙ ap (λ (r : WroteRow). r.put) same)
+          let same = wrote_one one row one_last.1 in
+          absurd (clash other (all_get _ rows j (WroteLine other) off other_before.1) (sym puts ∙ ap (λ (r : WroteRow). r.put) same)
           (sym lbns ∙ ap (λ (r : WroteRow). r.lbn) same))
       | inr other_last ↦ one_last.0 ∙ sym other_last.0
     ]
@@ -252,8 +242,8 @@ stay_left items row (put ∷ puts) = elim (cases_Bool (is_written items put.bloc
 -- a row of a stay is none of a block
 wrote_before : (rows : List SpillItem) (stay : SpillRow) (row : WroteRow) (i : ℕ)
     → slice_get (rows ++ SpillLine stay ∷ []) i ≡ Some (WroteLine row) → slice_get rows i ≡ Some (WroteLine row)
-wrote_before rows stay row i is = elim (before_or_last rows (SpillLine stay) (WroteLine row) i is) [
-  | inl before ↦ before
+wrote_before rows stay row i is = elim (old_or_last rows (SpillLine stay) (WroteLine row) i is) [
+  | inl before ↦ before.1
   | inr last ↦ absurd (let stay_is_row = last.1 in grind arith)
 ]
 

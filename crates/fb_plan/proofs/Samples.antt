@@ -1,15 +1,15 @@
 -- One more block of the first task.
 use Rattle.std.proofs.Common.{◌≡◌, ℕ, ◌+◌, ◌==◌, List, [], ◌∷◌, ◌++◌, inl, inr, refl, sym, subst, arith, length, length-append}
 use Rattle.std.proofs.lemmas.Bool.{cases_Bool}
+use Rattle.fb_units.proofs.Changed.{old_or_last}
 use Rattle.fb_service.specs.declared.disk.Disk.{Disk}
 use Rattle.fb_wanted.specs.declared.block.Entry.{Entry}
 use Rattle.fb_wanted.specs.Numbering.{blocks_of, registered_count}
-use Rattle.fb_wanted.proofs.Numbers.{in_either}
 use Rattle.fb_model.specs.Blocks.{IsBlockOn}
 use Rattle.fb_plan.specs.Ways.{AreOnDisk}
 
 on-disk-more : (disk : Disk) (es : List Entry) (e : Entry) → AreOnDisk disk es → IsBlockOn disk.map e.block → AreOnDisk disk (es ++ e ∷ [])
-on-disk-more disk es e h fits i x at = elim (in_either es e x i at) [
+on-disk-more disk es e h fits i x at = elim (old_or_last es e x i at) [
   | inl old ↦ h i x old.1
   | inr new ↦ subst (λ y. IsBlockOn disk.map y.block) (sym new.1) fits
 ]

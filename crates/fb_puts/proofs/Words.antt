@@ -1,5 +1,5 @@
 -- The names that the proofs cite, of this crate's words and of the crates below: each proof takes them from here.
-pub use Rattle.std.proofs.Common.{Bool, Err, List, None, Ok, Option, Result, Some, [], ap, arith, drop, false, if◌then◌else◌, inl}
+pub use Rattle.std.proofs.Common.{Err, List, None, Ok, Option, Result, Some, [], ap, arith, drop, false, if◌then◌else◌, inl}
 pub use Rattle.std.proofs.Common.{inr, length, map, max, min, refl, rules, slice_get, subst, suc, sym, take, true, zero, ℕ, ◌++◌}
 pub use Rattle.std.proofs.Common.{◌+◌, ◌-◌, ◌<◌, ◌∙◌, ◌∷◌, ◌≡◌, ◌≤◌}
 pub use Rattle.std.specs.BTreeMap.{BTreeMap, ContainsKey, get, is_at}

@@ -1,6 +1,6 @@
 -- Lists with one more element, or with one replaced.
 use Rattle.std.proofs.Common.{◌≡◌, ℕ, zero, suc, ◌+◌, ◌<◌, Bool, true, false, ◌||◌, ◌==◌, nat_eq, List, [], ◌∷◌, ◌++◌, length, get_or, set}
-use Rattle.std.proofs.Common.{map, if◌then◌else◌, inl, inr, refl, sym, ap, ◌∙◌, arith}
+use Rattle.std.proofs.Common.{map, if◌then◌else◌, Some, slice_get, ◌⊎◌, inl, inr, refl, sym, ap, ◌∙◌, arith}
 use Rattle.std.proofs.Math.Bool.{or-false, or-true}
 use Rattle.std.proofs.lemmas.Bool.{cases_Bool}
 use Rattle.std.proofs.lemmas.Bool.Decides.{nat_tests}
@@ -52,6 +52,17 @@ get_or-push_holds P [] x d all h zero = h
 get_or-push_holds P [] x d all h (suc i) = all zero
 get_or-push_holds P (y ∷ xs) x d all h zero = all zero
 get_or-push_holds P (y ∷ xs) x d all h (suc i) = get_or-push_holds P xs x d (λ j. all (suc j)) h i
+
+-- an element of a list with one more at its end is an old one, or the last
+pub old_or_last : {X : Type 0} (xs : List X) (y x : X) (i : ℕ) → slice_get (xs ++ y ∷ []) i ≡ Some x
+    → ((i < length xs) × (slice_get xs i ≡ Some x)) ⊎ ((i ≡ length xs) × (x ≡ y))
+old_or_last [] y x zero h = inr (refl, grind arith)
+old_or_last [] y x (suc i) h = absurd (grind arith)
+old_or_last (z ∷ zs) y x zero h = inl (omega arith, h)
+old_or_last (z ∷ zs) y x (suc i) h = elim (old_or_last zs y x i h) [
+  | inl k ↦ inl (omega (arith, k.0), k.1)
+  | inr k ↦ inr (omega (arith, k.0), k.1)
+]
 
 -- ---- lists that read as an old one at each index, where what lies behind their end reads as a blank
 

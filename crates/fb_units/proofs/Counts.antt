@@ -51,7 +51,7 @@ pub fewer : {A : Type 0} (p q : A → Bool) (xs : List A) → length (filter p (
 fewer p q [] = omega arith
 fewer p q (x ∷ xs) = grind (arith, count_cons p x (filter q xs), count_cons p x xs, fewer p q xs)
 
--- in a range, a test that only one number can pass is passed once, or by none where it can't be passed
+-- in a range, a test that only one number can pass is passed at most once, and by none where it can't be passed
 pub once_in : (test : ℕ → Bool) (can : Bool) (q a n : ℕ) → ((i : ℕ) → i < n → test (a + i) ≡ true → (can ≡ true) × (a + i ≡ q))
     → length (filter test (range_with_len a n)) ≤ cond can 1 0
 once_in test can q a zero h = omega arith

@@ -2,13 +2,14 @@
 use Rattle.std.proofs.Common.{◌≡◌, ℕ, inl, inr, List, [], ◌∷◌, ◌++◌, Bool, true, false, Some, slice_get, ap, sym, ◌∙◌, subst}
 use Rattle.std.specs.BTreeSet.{BTreeSet, contains}
 use Rattle.std.proofs.lemmas.Bool.{cases_Bool}
+use Rattle.fb_units.proofs.Changed.{old_or_last}
 use Rattle.fb_wanted.specs.declared.block.Block.{Block}
 use Rattle.fb_wanted.specs.declared.block.Entry.{Entry}
 use Rattle.fb_wanted.specs.declared.block.State.{State}
 use Rattle.fb_wanted.specs.Numbering.{blocks_of}
 use Rattle.fb_wanted.specs.LookUp.{pair_cmp, with_state}
 use Rattle.fb_wanted.specs.Near.{near_of, AreNear}
-use Rattle.fb_wanted.proofs.Numbers.{in_either, blocks-more}
+use Rattle.fb_wanted.proofs.Numbers.{blocks-more}
 use Rattle.fb_wanted.proofs.Standing.{blocks-with_state}
 
 -- what is noted stays noted
@@ -27,7 +28,7 @@ pub near_pushed : (es items : List Entry) (e : Entry) (near new : BTreeSet (ℕ 
     → (is_new ≡ false → (i : ℕ) × (before : Block) × (slice_get (blocks_of es) i ≡ Some before) × (near_of before ≡ near_of e.block))
     → AreNear items new
 near_pushed es items e near new is_new list h stay noted before = subst (λ l. AreNear l new) (sym list) (λ i block at.
-    elim (in_either (blocks_of es) e.block block i (ap (λ bs. slice_get bs i) (sym (blocks-more es e)) ∙ at)) [
+    elim (old_or_last (blocks_of es) e.block block i (ap (λ bs. slice_get bs i) (sym (blocks-more es e)) ∙ at)) [
       | inl old ↦ stay (near_of block) (h i block old.1)
       | inr last ↦ ap (λ b. contains pair_cmp new (near_of b)) last.1 ∙ elim (cases_Bool is_new) [
         | inl one ↦ noted one

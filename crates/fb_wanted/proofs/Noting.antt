@@ -5,10 +5,10 @@ use Rattle.std.specs.BTreeSet.{BTreeSet, contains}
 use Rattle.std.proofs.lemmas.Bool.{cases_Bool, true≢false}
 use Rattle.std.proofs.lemmas.Bool.Decides.{nat_tests}
 use Rattle.std.proofs.lemmas.Option.{slice_get_within}
+use Rattle.fb_units.proofs.Changed.{old_or_last}
 use Rattle.fb_wanted.specs.declared.block.Entry.{Entry}
 use Rattle.fb_wanted.specs.declared.streaks.Streak.{Streak}
 use Rattle.fb_wanted.specs.LookUp.{is_of_task, lbns, region_of, key_of, streak_cmp, BeginsStreak, AreNoted, AreShort}
-use Rattle.fb_wanted.proofs.Numbers.{in_either}
 use Rattle.fb_wanted.proofs.Regions.{length-lbns, lbns-own, lbns-other, streaks_stay, last_begins, streak_or_last}
 
 -- no streak begins with a block that isn't registered
@@ -18,7 +18,7 @@ none_yet xs streak is h = omega (arith, is, slice_get_within xs streak.number h.
 -- no block is longer than the longest when one more follows
 pub short_more : (es : List Entry) (e : Entry) (old new : ℕ) → AreShort old es → old ≤ new → e.block.count ≤ new
     → AreShort new (es ++ e ∷ [])
-short_more es e old new h more short i x at = elim (in_either es e x i at) [
+short_more es e old new h more short i x at = elim (old_or_last es e x i at) [
   | inl there ↦ let few = h i x there.1 in omega (arith, few, more)
   | inr last ↦ omega (arith, short, ap (λ y. y.block.count) last.1)
 ]

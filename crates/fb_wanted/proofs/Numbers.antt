@@ -5,23 +5,13 @@ use Rattle.std.proofs.lemmas.Bool.{cases_Bool}
 use Rattle.std.proofs.lemmas.Bool.Decides.{nat_tests}
 use Rattle.std.proofs.lemmas.List.Elements.{filter-append}
 use Rattle.std.proofs.lemmas.Option.{slice_get-map}
+use Rattle.fb_units.proofs.Changed.{old_or_last}
 use Rattle.fb_wanted.specs.declared.block.Block.{Block}
 use Rattle.fb_wanted.specs.declared.block.Entry.{Entry}
 use Rattle.fb_wanted.specs.States.{is_block}
 use Rattle.fb_wanted.specs.Numbering.{AreInOrder, AreSmall, blocks_of, registered_count}
 use Rattle.fb_wanted.specs.LookUp.{is_of_task, indexes_of}
 use Rattle.fb_wanted.proofs.Standing.{among}
-
--- an element of a list with one more at the end is in the list, or it is the new one
-pub in_either : {X : Type 0} (xs : List X) (y x : X) (i : ℕ) → slice_get (xs ++ y ∷ []) i ≡ Some x
-    → ((i < length xs) × (slice_get xs i ≡ Some x)) ⊎ ((i ≡ length xs) × (x ≡ y))
-in_either [] y x zero h = inr (refl, grind arith)
-in_either [] y x (suc i) h = absurd (grind arith)
-in_either (z ∷ zs) y x zero h = inl (omega arith, h)
-in_either (z ∷ zs) y x (suc i) h = elim (in_either zs y x i h) [
-  | inl k ↦ inl (omega (arith, k.0), k.1)
-  | inr k ↦ inr (omega (arith, k.0), k.1)
-]
 
 pub blocks-more : (es : List Entry) (e : Entry) → blocks_of (es ++ e ∷ []) ≡ blocks_of es ++ e.block ∷ []
 blocks-more [] e = refl
@@ -44,7 +34,7 @@ in_order-more bs b h new task k block at =
           let same : b.task ≡ task = grind (arith, nat_tests) in
           let list : filter (λ other. other.task == task) (bs ++ b ∷ []) ≡ filter (λ other. other.task == task) bs ++ b ∷ [] = split
           ∙ ap (λ v. filter (λ other. other.task == task) bs ++ (if v then b ∷ [] else [])) own in
-          elim (in_either (filter (λ other. other.task == task) bs) b block k (ap (λ l. slice_get l k) (sym list) ∙ at)) [
+          elim (old_or_last (filter (λ other. other.task == task) bs) b block k (ap (λ l. slice_get l k) (sym list) ∙ at)) [
             | inl old ↦ h task k block old.1
             | inr last ↦ ap (λ c. c.number) last.1 ∙ (new ∙ (ap (λ t. registered_count t bs) same ∙ sym last.0))
           ]
@@ -61,7 +51,7 @@ numbered-more es e h new = subst AreInOrder (sym (blocks-more es e)) (in_order-m
 
 pub small-more : (es : List Entry) (e : Entry) → AreSmall (blocks_of es) → e.block.weight ≤ 1000 → e.block.count ≤ 2048
     → AreSmall (blocks_of (es ++ e ∷ []))
-small-more es e h light short = subst AreSmall (sym (blocks-more es e)) (λ i b at. elim (in_either (blocks_of es) e.block b i at) [
+small-more es e h light short = subst AreSmall (sym (blocks-more es e)) (λ i b at. elim (old_or_last (blocks_of es) e.block b i at) [
   | inl old ↦ h i b old.1
   | inr new ↦ subst (λ c. (c.weight ≤ 1000) × (c.count ≤ 2048)) (sym new.1) (light, short)
 ])

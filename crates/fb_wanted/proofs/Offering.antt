@@ -10,6 +10,7 @@ use Rattle.fb_units.proofs.Counts.{each_one, filter-le}
 use Rattle.fb_units.proofs.Tracks.{same_tracks, track_itself}
 use Rattle.fb_units.specs.declared.types.Track.{Track}
 use Rattle.fb_units.specs.Tracks.{same_track}
+use Rattle.fb_units.proofs.Changed.{old_or_last}
 use Rattle.fb_wanted.specs.declared.block.Block.{Block}
 use Rattle.fb_wanted.specs.declared.block.Entry.{Entry}
 use Rattle.fb_wanted.specs.declared.block.State.{State}
@@ -21,7 +22,6 @@ use Rattle.fb_wanted.specs.LookUp.{OnTrack, indexes_of, is_of_track, no_offer, l
 use Rattle.fb_wanted.specs.LookUp.{with_state, AreOffered, IsItsOffer, IsChanged}
 use Rattle.fb_wanted.proofs.Found.{block_at, block_is, blocks_still, found_each}
 use Rattle.fb_wanted.proofs.Kept.{swapped_track, swapped_other, changed_here, unchanged}
-use Rattle.fb_wanted.proofs.Numbers.{in_either}
 use Rattle.fb_wanted.proofs.Elements.{at_left, at_end, set_same, set_other, removed_within, removed_other, removed_at, last_at, state_other}
 use Rattle.fb_wanted.proofs.Elements.{state_at}
 use Rattle.fb_wanted.proofs.Standing.{length-indexes_of, length-with_state, blocks-with_state, indexes_of-with_state}
@@ -63,7 +63,7 @@ offered_pushed es offers offer_indexes e offer_index h un = record {
         index_is =
             at_left offer_indexes offer_index i o.index its.index_is;
       };
-  all = λ p x at yes'. elim (in_either es e x p at) [
+  all = λ p x at yes'. elim (old_or_last es e x p at) [
     | inl old ↦ let it = h.all p x old.1 yes' in (it.0, at_left offer_indexes offer_index it.0 p it.1, it.2)
     | inr last ↦ absurd (true≢false (sym yes' ∙ (ap (λ y. is_wanted y.state) last.1 ∙ un)))
   ];
@@ -204,7 +204,7 @@ module _ (es : List Entry) (offer_indexes : List ℕ) (p : ℕ) (e : Entry) (s :
     given_its : (t : Track) (i : ℕ) (o : Offer) → slice_get (offers_at new t) i ≡ Some o → IsItsOffer (with_state s p es)
         (set offer_indexes p offer_index) t i o
     given_its t i o there = elim (cases_Bool (same_track track t)) [
-      | inl here ↦ elim (in_either (offers_at tracks t) (offer_of p e.block) o i (ap (λ l. slice_get l i) (sym (one_more t here))
+      | inl here ↦ elim (old_or_last (offers_at tracks t) (offer_of p e.block) o i (ap (λ l. slice_get l i) (sym (one_more t here))
           ∙ there)) [
             | inl old ↦ old_its t i o old.1
             | inr last ↦

@@ -7,12 +7,12 @@ use Rattle.std.proofs.lemmas.Bool.Decides.{nat_tests}
 use Rattle.std.proofs.lemmas.List.{length-map}
 use Rattle.std.proofs.lemmas.Option.{slice_get-map, slice_get_within, same_Some, none-some}
 use Rattle.fb_units.proofs.Lists.{element_at}
+use Rattle.fb_units.proofs.Changed.{old_or_last}
 use Rattle.fb_wanted.specs.declared.block.Entry.{Entry}
 use Rattle.fb_wanted.specs.declared.block.State.{State}
 use Rattle.fb_wanted.specs.declared.streaks.Streak.{Streak}
 use Rattle.fb_wanted.specs.LookUp.{is_of_task, lbns, region_of, key_of, streak_cmp, IsInStreak, BeginsStreak, AreNoted, AreShort}
 use Rattle.fb_wanted.specs.LookUp.{with_state}
-use Rattle.fb_wanted.proofs.Numbers.{in_either}
 use Rattle.fb_wanted.proofs.Elements.{at_left, at_end}
 
 -- the LBN of the k-th block of a task
@@ -59,7 +59,7 @@ streaks_stay xs y streak h = record {
   lbn = h.lbn;
   at = at_left xs y h.lbn streak.number h.at;
   region = h.region;
-  anew = λ i before next at. elim (in_either xs y before i at) [
+  anew = λ i before next at. elim (old_or_last xs y before i at) [
     | inl old ↦ h.anew i before next old.1
     | inr last ↦ absurd (omega (arith, last.0, next, slice_get_within xs streak.number h.lbn h.at))
   ];
@@ -81,7 +81,7 @@ last_begins (x ∷ xs) y streak here region anew = record {
   lbn = y;
   at = ap (slice_get ((x ∷ xs) ++ y ∷ [])) here ∙ at_end (x ∷ xs) y;
   region = sym region;
-  anew = λ i before next at. elim (in_either (x ∷ xs) y before i at) [
+  anew = λ i before next at. elim (old_or_last (x ∷ xs) y before i at) [
     | inl old ↦ anew i before next old.1
     | inr last ↦ absurd (omega (arith, last.0, next, here))
   ];
@@ -90,7 +90,7 @@ last_begins (x ∷ xs) y streak here region anew = record {
 pub streak_or_last : (xs : List ℕ) (y : ℕ) (streak : Streak) → BeginsStreak (xs ++ y ∷ []) streak
     → BeginsStreak xs streak ⊎ ((streak.number ≡ length xs) × (streak.region ≡ region_of y)
     × ((i before : ℕ) → suc i ≡ streak.number → slice_get xs i ≡ Some before → region_of before ≡ streak.region → ⊥))
-streak_or_last xs y streak h = elim (in_either xs y h.lbn streak.number h.at) [
+streak_or_last xs y streak h = elim (old_or_last xs y h.lbn streak.number h.at) [
   | inl old ↦ inl (record {
     lbn = h.lbn;
     at = old.1;
