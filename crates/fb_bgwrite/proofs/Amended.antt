@@ -2,7 +2,7 @@
 use Rattle.fb_bgwrite.proofs.Words.{◌≡◌, ℕ, zero, suc, ◌+◌, ◌^◌, ◌*◌, ◌≤◌, List, [], ◌∷◌, ◌++◌, Bool, true, false, Option, Some, None}
 use Rattle.fb_bgwrite.proofs.Words.{length, refl, sym, ap, ◌∙◌, subst, arith, inl, inr, append_assoc, not, AllByRecursion, slice_index_or}
 use Rattle.fb_bgwrite.proofs.Words.{cases_Bool, cases_lt, Track, same_track, Shape, IsTrackOf, places, IsSound, place_at, track_at, pos}
-use Rattle.fb_bgwrite.proofs.Words.{Disk, Block, ForeRow, Gap, Plan, Direct, Detour, GapRow, BackRow, GapLine, IdleLine, IsPlan, Leg, stay}
+use Rattle.fb_bgwrite.proofs.Words.{Disk, Block, ForeRow, Gap, Plan, Direct, Detour, GapRow, BackRow, BackGap, BackIdle, IsPlan, Leg, stay}
 use Rattle.fb_bgwrite.proofs.Words.{pass, way, gap_legs, passing, service_legs, timeline, led_to, all_append, Spill, SpillItem, amended}
 use Rattle.fb_bgwrite.proofs.Words.{amended_legs, kept, kept_legs, planned_legs, spill_legs, timeline_with, PutBlock, IsGap, RunGap}
 use Rattle.fb_bgwrite.proofs.Words.{delivers, gaps, AreGaps, IsGapOf, IsSpill, IsChosenIf, IsRight, rows_in, step_of, steps, lead_gap}
@@ -87,13 +87,13 @@ module _ (disk : Disk) (sound : IsSound disk.map) where
       → led_to disk on now (timeline disk back fore) ≡ Some end → AreFit disk now (gaps back)
   unfolding timeline
   all_fit on now end [] fore here early are led = tt
-  all_fit on now end (IdleLine dwell ∷ back) fore here early are led =
+  all_fit on now end (BackIdle dwell ∷ back) fore here early are led =
       let first = first_follows disk on now end (stay dwell.track dwell.begin dwell.end) (timeline disk back fore) led in
       let is = stay_follows disk on dwell.track now dwell.begin dwell.end first.0 in
       fit_earlier disk dwell.end now (gaps back) (omega (arith, is.1, is.2))
       (all_fit dwell.track dwell.end end back fore (subst (IsTrackOf disk.map) (sym is.0) here) early are first.1)
-  all_fit on now end (GapLine row ∷ back) [] here early are led = absurd are
-  all_fit on now end (GapLine row ∷ back) (served ∷ fore) here early are led =
+  all_fit on now end (BackGap row ∷ back) [] here early are led = absurd are
+  all_fit on now end (BackGap row ∷ back) (served ∷ fore) here early are led =
       let rest = service_legs disk row.gap served ++ timeline disk back fore in
       let led' = sym (ap (led_to disk on now)
       (append_assoc (gap_legs disk row.gap row.plan) (service_legs disk row.gap served) (timeline disk back fore))) ∙ led in
@@ -151,13 +151,13 @@ module _ (disk : Disk) (sound : IsSound disk.map) where
       → led_to disk on now (timeline disk back fore) ≡ Some end → led_to disk on now (amended disk back fore spills) ≡ Some end
   unfolding timeline timeline_with led_to
   amended_leads on now end [] fore spills here are fit led = led
-  amended_leads on now end (IdleLine dwell ∷ back) fore spills here are fit led =
+  amended_leads on now end (BackIdle dwell ∷ back) fore spills here are fit led =
       let first = first_follows disk on now end (stay dwell.track dwell.begin dwell.end) (timeline disk back fore) led in
       let is = stay_follows disk on dwell.track now dwell.begin dwell.end first.0 in
       rw first.0 (amended_leads dwell.track dwell.end end back fore spills (subst (IsTrackOf disk.map) (sym is.0) here) are fit first.1)
-  amended_leads on now end (GapLine row ∷ back) [] spills here are fit led = absurd are
-  amended_leads on now end (GapLine row ∷ back) (served ∷ fore) [] here are fit led = absurd fit
-  amended_leads on now end (GapLine row ∷ back) (served ∷ fore) (spill ∷ spills) here are fit led =
+  amended_leads on now end (BackGap row ∷ back) [] spills here are fit led = absurd are
+  amended_leads on now end (BackGap row ∷ back) (served ∷ fore) [] here are fit led = absurd fit
+  amended_leads on now end (BackGap row ∷ back) (served ∷ fore) (spill ∷ spills) here are fit led =
       let gap : RunGap = record { row = row; free = not (delivers back) } in
       let service = service_legs disk row.gap served in
       let led' = sym (ap (led_to disk on now) (append_assoc (gap_legs disk row.gap row.plan) service (timeline disk back fore))) ∙ led in
@@ -202,10 +202,10 @@ module _ (disk : Disk) (sound : IsSound disk.map) where
       → AreFitting (gaps back) spills → IsSublist (kept disk back fore) (amended disk back fore spills)
   unfolding timeline_with
   kept_is [] fore spills are fit = none
-  kept_is (IdleLine dwell ∷ back) fore spills are fit = taken (kept_is back fore spills are fit)
-  kept_is (GapLine row ∷ back) [] spills are fit = absurd are
-  kept_is (GapLine row ∷ back) (served ∷ fore) [] are fit = absurd fit
-  kept_is (GapLine row ∷ back) (served ∷ fore) (spill ∷ spills) are fit =
+  kept_is (BackIdle dwell ∷ back) fore spills are fit = taken (kept_is back fore spills are fit)
+  kept_is (BackGap row ∷ back) [] spills are fit = absurd are
+  kept_is (BackGap row ∷ back) (served ∷ fore) [] are fit = absurd fit
+  kept_is (BackGap row ∷ back) (served ∷ fore) (spill ∷ spills) are fit =
       let gap : RunGap = record { row = row; free = not (delivers back) } in
       let service = service_legs disk row.gap served in
       regroup (kept_legs disk gap) service (kept disk back fore) (amended_legs disk (gap, spill)) (amended disk back fore spills) (

@@ -2,7 +2,7 @@
 use Rattle.fb_bgwrite.proofs.Words.{drop_all, length-append, drop_got, all_push, Bor, ◌≡◌, ℕ, ◌+◌, ◌*◌, ◌^◌, ◌≤◌, List, [], ◌∷◌, ◌++◌, true}
 use Rattle.fb_bgwrite.proofs.Words.{false, Option, Some, None, drop, length, slice_get, not, refl, sym, ap, ap₂, ◌∙◌, subst, arith, inl}
 use Rattle.fb_bgwrite.proofs.Words.{inr, append_assoc, append-nil, AllByRecursion, flat_map, sum_by, IsSound, places, Disk, GapRow, BackRow}
-use Rattle.fb_bgwrite.proofs.Words.{GapLine, Spill, SpillItem, Put, Spilling, Run, timeline, IsPossible, left_over, AreGaps, IsInTime}
+use Rattle.fb_bgwrite.proofs.Words.{BackGap, Spill, SpillItem, Put, Spilling, Run, timeline, IsPossible, left_over, AreGaps, IsInTime}
 use Rattle.fb_bgwrite.proofs.Words.{IsSpillRun, PutBlock, put_blocks, RunGap, delivers, gaps, HasNoFree, HasChosen}
 use Rattle.fb_bgwrite.proofs.Words.{HasKept, ArePutsOn, IsSpilling, Step, IsRight, rows_in, step_of, steps}
 use Rattle.std.proofs.lemmas.List.Concat.{flat_map-append}
@@ -69,26 +69,26 @@ busy_gone disk blocks all here rest items busy gone = elim busy [
 
 -- ---- rows
 
-pub free_from : (rows : List BackRow) (i : ℕ) (row : GapRow) → slice_get rows i ≡ Some (GapLine row) → false ≡ delivers (drop (i + 1) rows)
+pub free_from : (rows : List BackRow) (i : ℕ) (row : GapRow) → slice_get rows i ≡ Some (BackGap row) → false ≡ delivers (drop (i + 1) rows)
     → gaps (drop i rows) ≡ (let gap : RunGap = record { row = row; free = true } in gap) ∷ gaps (drop (i + 1) rows)
 free_from rows i row at none =
-    ap gaps (drop_got rows i (GapLine row) at)
+    ap gaps (drop_got rows i (BackGap row) at)
     ∙ ap (λ b. (let gap : RunGap = record { row = row; free = not b } in gap) ∷ gaps (drop (i + 1) rows)) (sym none)
 
-pub busy_from : (rows : List BackRow) (i : ℕ) (row : GapRow) → slice_get rows i ≡ Some (GapLine row) → true ≡ delivers (drop (i + 1) rows)
+pub busy_from : (rows : List BackRow) (i : ℕ) (row : GapRow) → slice_get rows i ≡ Some (BackGap row) → true ≡ delivers (drop (i + 1) rows)
     → HasNoFree (gaps (drop i rows)) (gaps (drop (i + 1) rows))
 busy_from rows i row at some =
     inr (
       row,
-      ap gaps (drop_got rows i (GapLine row) at)
+      ap gaps (drop_got rows i (BackGap row) at)
           ∙ ap (λ b. (let gap : RunGap = record { row = row; free = not b } in gap) ∷ gaps (drop (i + 1) rows)) (sym some),
     )
 
-no_gap : (row : BackRow) (rest : List BackRow) → ((own : GapRow) → row ≡ GapLine own → ⊥) → gaps (row ∷ rest) ≡ gaps rest
-no_gap (GapLine own) rest other = absurd (other own refl)
+no_gap : (row : BackRow) (rest : List BackRow) → ((own : GapRow) → row ≡ BackGap own → ⊥) → gaps (row ∷ rest) ≡ gaps rest
+no_gap (BackGap own) rest other = absurd (other own refl)
 no_gap (_) rest other = refl
 
-pub other_from : (rows : List BackRow) (i : ℕ) (row : BackRow) → slice_get rows i ≡ Some row → ((own : GapRow) → row ≡ GapLine own → ⊥)
+pub other_from : (rows : List BackRow) (i : ℕ) (row : BackRow) → slice_get rows i ≡ Some row → ((own : GapRow) → row ≡ BackGap own → ⊥)
     → HasNoFree (gaps (drop i rows)) (gaps (drop (i + 1) rows))
 other_from rows i row at other = inl (ap gaps (drop_got rows i row at) ∙ no_gap row (drop (i + 1) rows) other)
 

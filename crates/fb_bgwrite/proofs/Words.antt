@@ -53,7 +53,7 @@ pub use Rattle.fb_wanted.specs.declared.block.State.TheVariants.{Delivered, Want
 pub use Rattle.fb_wanted.specs.declared.offer.Offer.{Offer}
 pub use Rattle.fb_wanted.specs.Offers.{AreOffers}
 pub use Rattle.fb_rows.specs.declared.back.BackRow.{BackRow}
-pub use Rattle.fb_rows.specs.declared.back.BackRow.TheVariants.{Gap as GapLine, Idle as IdleLine}
+pub use Rattle.fb_rows.specs.declared.back.BackRow.TheVariants.{Gap as BackGap, Idle as BackIdle}
 pub use Rattle.fb_rows.specs.declared.back.GapRow.{GapRow}
 pub use Rattle.fb_rows.specs.declared.fore.ForeRow.{ForeRow}
 pub use Rattle.fb_rows.specs.declared.gap.Dwell.{Dwell}

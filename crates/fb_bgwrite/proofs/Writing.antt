@@ -4,7 +4,7 @@ use Rattle.std.proofs.lemmas.List.Elements.{filter-append}
 use Rattle.fb_units.proofs.Changed.{old_or_last}
 use Rattle.fb_units.proofs.Comparing.{same_number}
 use Rattle.fb_bgwrite.proofs.Words.{◌≢◌, ◌⊎◌, append-nil, all_weaker, none_kept, all_get, ◌≡◌, ℕ, zero, suc, ◌+◌, ◌<◌, ◌≤◌, List}
-use Rattle.fb_bgwrite.proofs.Words.{[], ◌∷◌, ◌++◌, Bool, true, false, ◌&&◌, ◌||◌, not, Some, slice_get, length, map, refl, sym, ap, ap₂}
+use Rattle.fb_bgwrite.proofs.Words.{[], ◌∷◌, ◌++◌, Bool, true, false, ◌&&◌, ◌||◌, not, Some, slice_get, map, refl, sym, ap, ap₂}
 use Rattle.fb_bgwrite.proofs.Words.{◌∙◌, subst, arith, inl, inr, if◌then◌else◌, ◌==◌, filter, nat_le, AllByRecursion, list_any}
 use Rattle.fb_bgwrite.proofs.Words.{cases_Bool, true≢false, nat_tests, list_any-append, sum_by-cons, Block, Entry, Wanted}
 use Rattle.fb_bgwrite.proofs.Words.{Delivered, Deliver, after, entry_after, wanted_of, SpillItem, SpillLine, WroteLine, SpillRow}

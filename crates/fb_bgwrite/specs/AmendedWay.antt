@@ -5,7 +5,7 @@ use Rattle.fb_service.specs.declared.disk.Disk.{Disk}
 use Rattle.fb_rows.specs.declared.fore.ForeRow.{ForeRow}
 use Rattle.fb_rows.specs.declared.gap.Gap.{Gap}
 use Rattle.fb_rows.specs.declared.back.BackRow.{BackRow}
-use Rattle.fb_rows.specs.declared.back.BackRow.TheVariants.{Gap as GapLine, Idle as IdleLine}
+use Rattle.fb_rows.specs.declared.back.BackRow.TheVariants.{Gap as BackGap, Idle as BackIdle}
 use Rattle.fb_model.specs.Timeline.{Leg, stay, way, arrival, gap_legs, service_legs}
 use Rattle.fb_bgwrite.specs.declared.choice.Spill.{Spill}
 use Rattle.fb_bgwrite.specs.Gaps.{RunGap, gaps}
@@ -24,9 +24,9 @@ later_legs (legs ∷ more) = more
 -- the whole way of the head, where these are its legs in the gaps, in order: each gap row goes with the next foreground row
 unfoldable pub timeline_with : Disk → List (List Leg) → List BackRow → List ForeRow → List Leg
 timeline_with disk legs [] fore = []
-timeline_with disk legs (IdleLine dwell ∷ back) fore = stay dwell.track dwell.begin dwell.end ∷ timeline_with disk legs back fore
-timeline_with disk legs (GapLine row ∷ back) [] = first_legs legs ++ timeline_with disk (later_legs legs) back []
-timeline_with disk legs (GapLine row ∷ back) (served ∷ fore) =
+timeline_with disk legs (BackIdle dwell ∷ back) fore = stay dwell.track dwell.begin dwell.end ∷ timeline_with disk legs back fore
+timeline_with disk legs (BackGap row ∷ back) [] = first_legs legs ++ timeline_with disk (later_legs legs) back []
+timeline_with disk legs (BackGap row ∷ back) (served ∷ fore) =
     first_legs legs ++ service_legs disk row.gap served ++ timeline_with disk (later_legs legs) back fore
 timeline_with disk legs (_ ∷ back) fore = timeline_with disk legs back fore
 

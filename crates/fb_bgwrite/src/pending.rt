@@ -20,7 +20,7 @@ use fb_rows::Dwell;
 use fb_sectormap::Cut;
 use fb_service::Disk;
 use fb_units::{NoMemory, Track};
-use fb_wanted::{Block, TrackBlocks, Wanted};
+use fb_wanted::{Block, Blocks, TrackBlocks};
 use std::alloc::Global;
 use std::marker::Model;
 
@@ -31,7 +31,7 @@ use std::marker::Model;
 /// cylinder.
 #[derive(Drop)]
 pub struct Pending {
-    wanted: Wanted,
+    blocks: Blocks,
     shortest: Shortest,
 }
 
@@ -43,9 +43,9 @@ impl Model for Pending {
 
     ghost Value = { List Entry };
 
-    ghost view = { λ p. p.wanted };
+    ghost view = { λ p. p.blocks };
 
-    ghost invariant = { λ p. AllByRecursion (IsNoShorter p.shortest) p.wanted × AreLight p.wanted };
+    ghost invariant = { λ p. AllByRecursion (IsNoShorter p.shortest) p.blocks × AreLight p.blocks };
 }
 
 /// The least worth, weight times sectors, of the pending ones of these blocks, or this number if it is
@@ -69,7 +69,7 @@ impl Pending {
         ensures { result ≡ [] }
     {
         Pending {
-            wanted: Wanted::new(alloc),
+            blocks: Blocks::new(alloc),
             shortest: Shortest::new(alloc),
         }
     }
@@ -92,7 +92,7 @@ impl Pending {
             weight: 1,
             sweep: cut.sweep,
         };
-        self.wanted.register(block, false)
+        self.blocks.register(block, false)
     }
 
     /// Marks a pending block as written, by its put and its number there.
@@ -100,7 +100,7 @@ impl Pending {
         requires { (e : Entry) × (i : ℕ) × (slice_get self.old i ≡ Some e) × (is_block put number e ≡ true) × (e.state ≡ StillWanted) }
         ensures { self.new ≡ after put (Change.Deliver number) self.old }
     {
-        self.wanted.deliver(put, number);
+        self.blocks.mark_delivered(put, number);
     }
 
     /// Looks at all pending blocks of a cylinder, so that those that were written no longer count when
@@ -112,7 +112,7 @@ impl Pending {
         disk.map.geometry().sound();
         let mut least = NONE;
         for head in 0..disk.map.geometry().heads() {
-            least = least_on(&self.wanted.on(Track { cylinder, head }), least);
+            least = least_on(&self.blocks.on(Track { cylinder, head }), least);
         }
         self.shortest.renew(cylinder, least);
     }
@@ -126,7 +126,7 @@ impl Pending {
         ensures all { IfOk result (λ found. found.items ≡ caught_of disk.now dwell (wanted_of self.now)) }
         ensures ordered { IfOk result (λ found. AreOrdered found.items) }
     {
-        caught(alloc, disk, &self.wanted, dwell)
+        caught(alloc, disk, &self.blocks, dwell)
     }
 
     /// The registered blocks of a track.
@@ -134,7 +134,7 @@ impl Pending {
         ensures its { result ≡ on_track track self.now }
         ensures on_disk { (disk : Disk) → AreOnDisk disk self.now → AreOnDisk disk result }
     {
-        blocks_on(&self.wanted, track)
+        blocks_on(&self.blocks, track)
     }
 
     /// An upper bound on the sectors of the pending blocks of each track of these cylinders.
@@ -142,7 +142,7 @@ impl Pending {
         requires some { from < end }
         ensures each { (track : Track) → from ≤ track.cylinder → track.cylinder < end → wanted_weight track self.now ≤ result }
     {
-        self.wanted.greatest_weight_in(from, end)
+        self.blocks.greatest_weight_in(from, end)
     }
 
     /// A lower bound on the sectors of each pending block of this cylinder; 2,049 where it is known that

@@ -9,11 +9,11 @@ use Rattle.fb_calls.specs.Sessions.{is_backup}
 use Rattle.fb_wanted.specs.declared.block.Block.{Block}
 use Rattle.fb_wanted.specs.States.{is_delivered, is_wanted}
 use Rattle.fb_rows.specs.declared.back.DeliveryRow.{DeliveryRow}
-use Rattle.fb_rows.specs.declared.back.BackRow.TheVariants.{Got as GotLine}
+use Rattle.fb_rows.specs.declared.back.BackRow.TheVariants.{Got as BackGot}
 use Rattle.fb_model.specs.Inputs.{Inputs}
 use Rattle.fb_model.specs.Accepted.{IsAccepted}
 use Rattle.fb_model.specs.Content.{Medium, medium_of, contents_at}
-use Rattle.fb_model.specs.Rides.{due}
+use Rattle.fb_model.specs.Deliveries.{due}
 use Rattle.fb_model.specs.Decisions.{instant_of, Act, serving, idling, ending}
 use Rattle.fb_model.specs.History.{delivered, Past, task_numbers, terms_of, blocks_of, registered, wanted, state, is_sealed, is_open_backup}
 use Rattle.fb_model.specs.Completion.{work, choices, is_complete, was_complete}
@@ -115,11 +115,11 @@ module _ (inputs : Inputs) where
   followed_count : (past : Past) (deliveries : List Delivery) → HoldsOf inputs past
       → AllByRecursion (λ (got : DeliveryRow). HasSectors got.content) (map (λ delivery. delivery.got) deliveries)
       → AreFollowed medium past deliveries
-      → AllByRecursion CountsSectors (flat_map (λ (delivery : Delivery). GotLine delivery.got ∷ delivery.after) deliveries)
+      → AllByRecursion CountsSectors (flat_map (λ (delivery : Delivery). BackGot delivery.got ∷ delivery.after) deliveries)
   followed_count past [] h gots follows = tt
   followed_count past (delivery ∷ deliveries) h gots follows = (
     gots.0,
-    all_append CountsSectors delivery.after (flat_map (λ (delivery : Delivery). GotLine delivery.got ∷ delivery.after) deliveries)
+    all_append CountsSectors delivery.after (flat_map (λ (delivery : Delivery). BackGot delivery.got ∷ delivery.after) deliveries)
         (subst (AllByRecursion CountsSectors) (sym follows.0)
         (all_append CountsSectors (findings past delivery.got) (test_rows medium (delivered delivery.got ∷ past) delivery.got.end)
         (findings_count past delivery.got) (tests_count (delivered delivery.got ∷ past) delivery.got.end h)))
@@ -135,7 +135,7 @@ module _ (inputs : Inputs) where
       → IsAllDelivered inputs medium past step → AllByRecursion CountsSectors (step_rows inputs.disk step)
   step_counts past step h tests all =
       all_append CountsSectors (step.test ++ opening inputs.disk step.act)
-      (flat_map (λ (delivery : Delivery). GotLine delivery.got ∷ delivery.after) step.deliveries)
+      (flat_map (λ (delivery : Delivery). BackGot delivery.got ∷ delivery.after) step.deliveries)
       (all_append CountsSectors step.test (opening inputs.disk step.act)
       (subst (AllByRecursion CountsSectors) (sym tests.test)
       (tests_count (chosen_past inputs past (decision_in step)) (instant_of (decision_in step)) h)) (opening_counts step.act))

@@ -8,7 +8,7 @@ use Rattle.fb_units.proofs.Lists.{all_append, all_get, all_weaker, map_at}
 use Rattle.fb_units.proofs.Filtered.{all_kept, filter_from, filter_to}
 use Rattle.fb_units.proofs.Each.{all_any, all_map}
 use Rattle.fb_model.specs.Blocks.{IsBlockOn}
-use Rattle.fb_model.specs.Rides.{delivery}
+use Rattle.fb_model.specs.Deliveries.{delivery}
 use Rattle.fb_geometry.specs.Shape.{Shape}
 use Rattle.fb_wanted.specs.declared.block.Block.{Block}
 use Rattle.fb_wanted.specs.declared.block.Entry.{Entry}
@@ -18,7 +18,7 @@ use Rattle.fb_wanted.specs.States.{is_wanted, wanted_of}
 use Rattle.fb_rows.specs.declared.gap.How.{How}
 use Rattle.fb_rows.specs.declared.back.DeliveryRow.{DeliveryRow}
 use Rattle.fb_rows.specs.declared.back.BackRow.{BackRow}
-use Rattle.fb_rows.specs.declared.back.BackRow.TheVariants.{Got as GotLine}
+use Rattle.fb_rows.specs.declared.back.BackRow.TheVariants.{Got as BackGot}
 use Rattle.fb_service.specs.declared.disk.Disk.{Disk}
 use Rattle.fb_store.specs.declared.content.Content.{Content}
 use Rattle.fb_store.specs.declared.content.ContentRun.{ContentRun}
@@ -37,7 +37,7 @@ use Rattle.fb_decide.specs.declared.background.Background.{Background}
 use Rattle.fb_decide.specs.Deliveries.{TellsUpToDate, HasDelivered, IsRegistered, AreDistinct, AreDue, IsOneOf, block_in, followed}
 use Rattle.fb_decide.specs.Deliveries.{past_with, rows_of, held_now}
 
--- the wanted set gives the blocks that are wanted
+-- of the registered blocks, those that are wanted are the history's
 wanted_by : (past : Past) (bs : List Block) → wanted_of (map (entry_of past) bs) ≡ filter (λ b. is_wanted (state past b)) bs
 unfolding view
 wanted_by past [] = refl
@@ -118,7 +118,7 @@ followed-append past [] ys = refl
 followed-append past (x ∷ xs) ys = ap (λ ds. delivery_of past x ∷ ds) (followed-append (with_delivery past (delivery_of past x)) xs ys)
 
 abbrev lines_of : Delivery → List BackRow
-lines_of delivery = GotLine delivery.got ∷ delivery.after
+lines_of delivery = BackGot delivery.got ∷ delivery.after
 
 pub rows-append : (past : Past) (xs ys : List DeliveryRow)
     → rows_of (followed past (xs ++ ys)) ≡ rows_of (followed past xs) ++ rows_of (followed (past_with past xs) ys)
@@ -134,7 +134,7 @@ wanted-on_disk disk past index block background current at =
 
 pub may-deliver : (disk : Shape) (past : Past) (index : ℕ) (got : DeliveryRow) (background : Background) (content_at : ℕ → Content)
     → TellsUpToDate disk past background → slice_get (wanted past) index ≡ Some got.block
-    → Gives got.content content_at got.block.lbn got.block.count → MayDeliver disk past background.sessions background.wanted got
+    → Gives got.content content_at got.block.lbn got.block.count → MayDeliver disk past background.sessions background.blocks got
 may-deliver disk past index got background content_at current at gives = record {
   tells = current.tells;
   up_to_date = current.up_to_date;
@@ -147,13 +147,13 @@ may-deliver disk past index got background content_at current at gives = record 
 -- and is delivered then
 pub delivered-one : (disk : Shape) (past : Past) (index : ℕ) (got row : DeliveryRow) (before after : Background) → got ≡ row
     → slice_get (wanted past) index ≡ Some got.block
-    → Tells disk (with_delivery past (delivery_of past got)) after.sessions after.wanted
-    → IsUpToDate (with_delivery past (delivery_of past got)) → after.rows ≡ before.rows ++ GotLine got ∷ rows_after past got
+    → Tells disk (with_delivery past (delivery_of past got)) after.sessions after.blocks
+    → IsUpToDate (with_delivery past (delivery_of past got)) → after.rows ≡ before.rows ++ BackGot got ∷ rows_after past got
     → HasDelivered disk past (row ∷ []) before.rows after
 delivered-one disk past index got row before after is at tells up_to_date rows =
     subst (λ r. HasDelivered disk past (r ∷ []) before.rows after) is (record {
       current = record { tells = tells; up_to_date = up_to_date };
-      rows_after = rows ∙ ap (λ rs. before.rows ++ rs) (sym (append-nil (GotLine got ∷ rows_after past got)));
+      rows_after = rows ∙ ap (λ rs. before.rows ++ rs) (sym (append-nil (BackGot got ∷ rows_after past got)));
       registered = (wanted-registered past index got.block at, tt);
     })
 
@@ -172,7 +172,7 @@ if_ok_with P Q R (Err e) f p q = tt
 
 -- rows change nothing of what it tells
 pub with_rows : {disk : Shape} {past : Past} {background : Background} (rows : List BackRow) → TellsUpToDate disk past background
-    → TellsUpToDate disk past (record { sessions = background.sessions; wanted = background.wanted; rows = rows })
+    → TellsUpToDate disk past (record { sessions = background.sessions; blocks = background.blocks; rows = rows })
 with_rows rows current = record { tells = current.tells; up_to_date = current.up_to_date }
 
 -- nothing was delivered

@@ -13,7 +13,7 @@ use Rattle.fb_store.specs.Ranges.{Holding, content_in}
 use Rattle.fb_store.proofs.Runs.{sectors_of-runs_of}
 use Rattle.fb_wanted.specs.declared.block.Block.{Block}
 use Rattle.fb_wanted.specs.States.{is_delivered}
-use Rattle.fb_rows.specs.declared.back.BackRow.TheVariants.{Seal as SealLine}
+use Rattle.fb_rows.specs.declared.back.BackRow.TheVariants.{Seal as BackSeal}
 use Rattle.fb_model.specs.Content.{Medium, content, contents_at}
 use Rattle.fb_model.specs.History.{Past, task_numbers, registered, blocks_of, bare_state, content_of, is_open_backup}
 use Rattle.fb_model.specs.Completion.{Choice, choices, view, work, own_of, is_cleaned, is_complete}
@@ -110,9 +110,9 @@ module _ (medium : Medium) (holding : Holding) (past : Past) (true_so_far : IsTr
         (all_pass done (blocks_of past task))))
 
     seal_if : (task : ℕ) (seals : Bool) (a b : List ContentRun) → (seals ≡ true → a ≡ b)
-        → (if seals then SealLine (record { task = task; instant = now; content = a }) ∷ [] else [])
-        ≡ (if seals then SealLine (record { task = task; instant = now; content = b }) ∷ [] else [])
-    seal_if task true a b h = ap (λ content. SealLine (record { task = task; instant = now; content = content }) ∷ []) (h refl)
+        → (if seals then BackSeal (record { task = task; instant = now; content = a }) ∷ [] else [])
+        ≡ (if seals then BackSeal (record { task = task; instant = now; content = b }) ∷ [] else [])
+    seal_if task true a b h = ap (λ content. BackSeal (record { task = task; instant = now; content = content }) ∷ []) (h refl)
     seal_if task false a b h = refl
 
     seals-true : (task : ℕ) → seal_rows_found past now task ≡ seal_rows (image medium past task now) past now task

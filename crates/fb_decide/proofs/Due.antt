@@ -7,7 +7,7 @@ use Rattle.fb_store.specs.Ranges.{Holding}
 use Rattle.fb_wanted.specs.declared.block.Block.{Block}
 use Rattle.fb_model.specs.Content.{Medium, contents_at}
 use Rattle.fb_model.specs.Decisions.{instant_of, Act, decision_of}
-use Rattle.fb_model.specs.Rides.{due}
+use Rattle.fb_model.specs.Deliveries.{due}
 use Rattle.fb_model.specs.SoundRun.{HasPlan}
 use Rattle.fb_model.proofs.Due.{IsDueRow, due_block, due_bytes, due_true}
 use Rattle.fb_model.proofs.DecisionsUpTo.{IsMade}

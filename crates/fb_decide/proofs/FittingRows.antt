@@ -16,12 +16,12 @@ use Rattle.fb_wanted.specs.declared.block.Entry.{Entry}
 use Rattle.fb_wanted.specs.States.{is_wanted}
 use Rattle.fb_rows.specs.declared.gap.How.{How}
 use Rattle.fb_rows.specs.declared.back.DeliveryRow.{DeliveryRow}
-use Rattle.fb_rows.specs.declared.back.BackRow.TheVariants.{Got as GotLine}
+use Rattle.fb_rows.specs.declared.back.BackRow.TheVariants.{Got as BackGot}
 use Rattle.fb_model.specs.Inputs.{Inputs}
 use Rattle.fb_model.specs.PlainReplay.{Served}
 use Rattle.fb_model.specs.Content.{Medium, medium_of, contents_at}
 use Rattle.fb_model.specs.Plans.{catches, early_dwell, late_dwell}
-use Rattle.fb_model.specs.Rides.{delivery, caught_rows, rides, missed, lies_in, gap_of, due}
+use Rattle.fb_model.specs.Deliveries.{delivery, caught_rows, rides, missed, lies_in, gap_of, due}
 use Rattle.fb_model.specs.Decisions.{Decision, serves, idles, ends, instant_of, Act, serving, idling, ending}
 use Rattle.fb_model.specs.History.{Event, delivered, tested, Past, tasks, task_numbers, terms_of, registered, registered_by, wanted, state}
 use Rattle.fb_model.specs.History.{is_open_backup}
@@ -157,13 +157,13 @@ module _ (n : ℕ) where
 
   followed_fit : (medium : Medium) (past : Past) (deliveries : List Delivery) → PastFits n past
       → AllByRecursion GotFits (map (λ delivery. delivery.got) deliveries) → AreFollowed medium past deliveries
-      → AllByRecursion (RowFits n) (flat_map (λ (delivery : Delivery). GotLine delivery.got ∷ delivery.after) deliveries)
+      → AllByRecursion (RowFits n) (flat_map (λ (delivery : Delivery). BackGot delivery.got ∷ delivery.after) deliveries)
   followed_fit medium past [] fits gots follows = tt
   followed_fit medium past (delivery ∷ deliveries) fits gots follows =
       let got = gots.0 in
       let now : PastFits n (delivered delivery.got ∷ past) = record { blocks = fits.blocks; few = fits.few } in (
         (λ names e. omega (arith, e, got)),
-        all_append (RowFits n) delivery.after (flat_map (λ (delivery : Delivery). GotLine delivery.got ∷ delivery.after) deliveries)
+        all_append (RowFits n) delivery.after (flat_map (λ (delivery : Delivery). BackGot delivery.got ∷ delivery.after) deliveries)
             (subst (AllByRecursion (RowFits n)) (sym follows.0)
             (all_append (RowFits n) (findings past delivery.got) (test_rows medium (delivered delivery.got ∷ past) delivery.got.end)
             (findings_fit past delivery.got got) (tests_fit medium (delivered delivery.got ∷ past) delivery.got.end now)))
@@ -189,7 +189,7 @@ module _ (n : ℕ) where
       let tests = fits_tested inputs past step fits in
       let test = fits_before (chosen_past inputs past (decision_in step)) (tested step.test) tests in
       all_append (RowFits n) (step.test ++ opening inputs.disk step.act)
-      (flat_map (λ (delivery : Delivery). GotLine delivery.got ∷ delivery.after) step.deliveries)
+      (flat_map (λ (delivery : Delivery). BackGot delivery.got ∷ delivery.after) step.deliveries)
       (all_append (RowFits n) step.test (opening inputs.disk step.act)
       (subst (AllByRecursion (RowFits n)) (sym made.tested.test) (tests_fit medium (chosen_past inputs past (decision_in step))
       (instant_of (decision_in step)) test)) (opening_fits inputs.disk step.act))

@@ -17,7 +17,7 @@ use Rattle.fb_model.specs.Content.{Medium, medium_of, fore_row, fore_rows}
 use Rattle.fb_model.specs.Accepted.{IsAccepted}
 use Rattle.fb_model.specs.Timeline.{stay, gap_legs, service_legs, timeline, led_to, IsPossible}
 use Rattle.fb_model.specs.Plans.{IsPlan}
-use Rattle.fb_model.specs.Rides.{gap_of}
+use Rattle.fb_model.specs.Deliveries.{gap_of}
 use Rattle.fb_model.specs.Decisions.{Decision, serves, idles, ends, end_of, Act, serving, idling, ending, decision_of, decisions, run_end}
 use Rattle.fb_model.specs.History.{Past}
 use Rattle.fb_model.specs.Steps.{Step, decision_in, decisions_in, past_after, AtEach, opening, step_rows, task_rows, history}

@@ -70,7 +70,7 @@ module _ (inputs : Inputs) (rest later : List Served) (before : Course) (steps :
   run_more done replayed = record {
     done = done;
     replayed = replayed;
-    tells = subst (λ past. Tells inputs.disk.map past after.background.sessions after.background.wanted) (sym same_history) this.tells;
+    tells = subst (λ past. Tells inputs.disk.map past after.background.sessions after.background.blocks) (sym same_history) this.tells;
     finds = subst (IsTrue (medium_of inputs) after.store) (sym same_history) this.finds;
     ends_at = ap run_end (map-append decision_in steps (step ∷ [])) ∙ fold_last 0 (decisions_in steps) (decision_in step) ∙ this.ends_at;
   }

@@ -128,12 +128,12 @@ module _ (inputs : Inputs) (steps : List Step) (list : List Request) (course : C
   })
 
   pub now_called : (past : Past) × IsCalled inputs.disk.map inputs.calls past course.called
-      × Tells inputs.disk.map past course.background.sessions course.background.wanted
+      × Tells inputs.disk.map past course.background.sessions course.background.blocks
   now_called = (history inputs steps, made.come_to.called, made.come_to.run.tells)
 
   module _ (goes_on : Bool) (after : Course) (pending_after : List Request) (count_after : ℕ)
       (decided : (past : Past) → IsCalled inputs.disk.map inputs.calls past course.called
-      → Tells inputs.disk.map past course.background.sessions course.background.wanted
+      → Tells inputs.disk.map past course.background.sessions course.background.blocks
       → HasDecided inputs.disk now_list inputs.calls inputs.key inputs.until past course pending goes_on after pending_after)
       (waits : goes_on ≡ true → IsWaiting inputs.disk now_list after.now after.joined count_after pending_after) where
     leads : LeadsOn inputs course pending steps goes_on after pending_after count_after
@@ -151,7 +151,7 @@ module _ (inputs : Inputs) (steps : List Step) (list : List Request) (course : C
       back = leads.stepped.rows_after;
       back_fits = step_fits (length (allowed.tasks inputs.calls)) inputs (history inputs steps) leads.step leads.stepped.is_made
           (fits-told inputs.disk.map inputs.calls (past_after inputs (history inputs steps) leads.step) after.called
-          after.background.sessions after.background.wanted leads.stepped.tells leads.stepped.called.taken);
+          after.background.sessions after.background.blocks leads.stepped.tells leads.stepped.called.taken);
       made = record { known = made.known; list_is = made.list_is; come_to = leads.come_to };
       fewer = leads.fewer;
     }
@@ -162,7 +162,7 @@ pub ended_fits : (inputs : Inputs) (steps : List Step) (list : List Request) (co
     → AllByRecursion (RowFits (length (allowed.tasks inputs.calls))) (task_rows (history inputs steps))
 ended_fits inputs steps list course pending count made = tasks_fit (length (allowed.tasks inputs.calls)) (history inputs steps)
     (fits-told inputs.disk.map inputs.calls
-    (history inputs steps) course.called course.background.sessions course.background.wanted made.come_to.run.tells made.come_to.calls_made)
+    (history inputs steps) course.called course.background.sessions course.background.blocks made.come_to.run.tells made.come_to.calls_made)
 
 -- rows can be taken between two decisions
 come_without : (inputs : Inputs) (more : Bool) (steps : List Step) (course : Course) (pending : List Request) (count : ℕ)

@@ -28,14 +28,14 @@ use Rattle.fb_rows.specs.declared.back.DeliveryRow.{DeliveryRow}
 use Rattle.fb_service.specs.declared.disk.Disk.{Disk}
 use Rattle.fb_store.specs.Ranges.{Holding}
 use Rattle.fb_model.specs.Plans.{catches, block_begin, block_end}
-use Rattle.fb_model.specs.Rides.{placed, in_order, missed, delivery, caught_rows}
+use Rattle.fb_model.specs.Deliveries.{placed, in_order, missed, delivery, caught_rows}
 use Rattle.fb_plan.specs.declared.catching.Catch.{Catch}
 use Rattle.fb_plan.specs.Order.{is_before, place_in, catch_of, caught_of}
 use Rattle.fb_plan.proofs.Sorted.{put_front, put_behind}
 use Rattle.fb_decide.proofs.Delivering.{none_of, wanted-with, next-wanted, delivered-join, past_with-append, wanted-told}
 use Rattle.fb_rows.specs.declared.back.BackRow.{BackRow}
 use Rattle.fb_decide.specs.declared.background.Background.{Background}
-use Rattle.fb_model.specs.Rides as rides
+use Rattle.fb_model.specs.Deliveries as rides
 use Rattle.fb_decide.proofs.RegisteredBlocks.{each_in}
 
 -- ---- registered blocks are told apart by task and number
@@ -288,7 +288,7 @@ all-taken holding how cs n enough = take_all n (map (row_in holding how) cs) (om
 
 -- the catches of a dwell are its deliveries
 pub rows-of_catches : (disk : Disk) (holding : Holding) (how : How) (dwell : Dwell) (past : Past) (before : Background)
-    → TellsUpToDate disk.map past before → (cs : List Catch) → cs ≡ caught_of disk dwell (wanted_of before.wanted)
+    → TellsUpToDate disk.map past before → (cs : List Catch) → cs ≡ caught_of disk dwell (wanted_of before.blocks)
     → map (row_in holding how) cs ≡ caught_rows disk (held_now holding) how dwell (wanted past)
 rows-of_catches disk holding how dwell past before current cs all = ap (map (row_in holding how)) (all
     ∙ ap (caught_of disk dwell) (wanted-told current.tells)) ∙ rows-caught disk holding how dwell (wanted past)

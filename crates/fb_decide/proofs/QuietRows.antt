@@ -7,8 +7,8 @@ use Rattle.fb_units.proofs.Each.{all_any, all_flat_map, all_map}
 use Rattle.fb_service.specs.declared.disk.Disk.{Disk}
 use Rattle.fb_rows.specs.declared.fore.ForeRow.{ForeRow}
 use Rattle.fb_rows.specs.declared.back.BackRow.{BackRow}
-use Rattle.fb_rows.specs.declared.back.BackRow.TheVariants.{Gap as GapLine, Idle as IdleLine, Bad as BadLine, Seal as SealLine}
-use Rattle.fb_rows.specs.declared.back.BackRow.TheVariants.{Complete as CompleteLine}
+use Rattle.fb_rows.specs.declared.back.BackRow.TheVariants.{Gap as BackGap, Idle as BackIdle, Bad as BackBad, Seal as BackSeal}
+use Rattle.fb_rows.specs.declared.back.BackRow.TheVariants.{Complete as BackComplete}
 use Rattle.fb_rows.specs.declared.back.DeliveryRow.{DeliveryRow}
 use Rattle.fb_model.specs.Inputs.{Inputs}
 use Rattle.fb_model.specs.Content.{Medium}
@@ -24,8 +24,8 @@ use Rattle.fb_model.proofs.RowsUpTo.{delivered_rows}
 
 -- no gap row and no idle row
 abbrev pub IsQuiet : BackRow → Type 0
-IsQuiet (GapLine row) = ⊥
-IsQuiet (IdleLine dwell) = ⊥
+IsQuiet (BackGap row) = ⊥
+IsQuiet (BackIdle dwell) = ⊥
 IsQuiet _ = Unit {0}
 
 -- they leave the timeline as it is
@@ -33,15 +33,15 @@ pub quiet_before : (disk : Disk) (rows back : List BackRow) (fore : List ForeRow
     → timeline disk (rows ++ back) fore ≡ timeline disk back fore
 unfolding timeline
 quiet_before disk [] back fore all = refl
-quiet_before disk (GapLine row ∷ rows) back fore all = absurd all.0
-quiet_before disk (IdleLine dwell ∷ rows) back fore all = absurd all.0
+quiet_before disk (BackGap row ∷ rows) back fore all = absurd all.0
+quiet_before disk (BackIdle dwell ∷ rows) back fore all = absurd all.0
 quiet_before disk (_ ∷ rows) back fore all = quiet_before disk rows back fore all.1
 
 pub all_quiet : (disk : Disk) (rows : List BackRow) (fore : List ForeRow) → AllByRecursion IsQuiet rows → timeline disk rows fore ≡ []
 unfolding timeline
 all_quiet disk [] fore all = refl
-all_quiet disk (GapLine row ∷ rows) fore all = absurd all.0
-all_quiet disk (IdleLine dwell ∷ rows) fore all = absurd all.0
+all_quiet disk (BackGap row ∷ rows) fore all = absurd all.0
+all_quiet disk (BackIdle dwell ∷ rows) fore all = absurd all.0
 all_quiet disk (_ ∷ rows) fore all = all_quiet disk rows fore all.1
 
 -- ---- which rows are so
@@ -61,12 +61,12 @@ test_quiet medium past now =
     (all_flat_map IsQuiet (λ task. seal_rows (image medium past task now) past now task ++ complete_rows past now task) (λ task.
     all_append IsQuiet (seal_rows (image medium past task now) past now task) (complete_rows past now task)
     (one_quiet (is_open_backup past task && is_complete past task)
-    (SealLine (record { task = task; instant = now; content = image medium past task now })) tt)
-    (one_quiet (is_complete past task && not (was_complete past task)) (CompleteLine (record { task = task; instant = now })) tt))
+    (BackSeal (record { task = task; instant = now; content = image medium past task now })) tt)
+    (one_quiet (is_complete past task && not (was_complete past task)) (BackComplete (record { task = task; instant = now })) tt))
     (task_numbers past))
 
 found_quiet : (b : Bool) (task : ℕ) (lbns : List ℕ)
-    → AllByRecursion IsQuiet (if b then map (λ lbn. BadLine (record { task = task; lbn = lbn })) lbns else [])
+    → AllByRecursion IsQuiet (if b then map (λ lbn. BackBad (record { task = task; lbn = lbn })) lbns else [])
 found_quiet true task lbns = all_map IsQuiet _ lbns (all_any _ (λ lbn. tt) lbns)
 found_quiet false task lbns = tt
 

@@ -18,13 +18,13 @@ use Rattle.fb_wanted.specs.declared.block.Block.{Block}
 use Rattle.fb_rows.specs.declared.gap.Gap.{Gap}
 use Rattle.fb_rows.specs.declared.gap.Plan.{Plan}
 use Rattle.fb_rows.specs.declared.back.BackRow.{BackRow}
-use Rattle.fb_rows.specs.declared.back.BackRow.TheVariants.{Gap as GapLine}
+use Rattle.fb_rows.specs.declared.back.BackRow.TheVariants.{Gap as BackGap}
 use Rattle.fb_rows.specs.declared.back.DeliveryRow.{DeliveryRow}
 use Rattle.fb_model.specs.Decisions.{serving}
 use Rattle.fb_model.specs.History.{Past, finished, wanted}
 use Rattle.fb_model.specs.PlainReplay.{Served, service, target}
 use Rattle.fb_model.specs.Plans.{IsBest}
-use Rattle.fb_model.specs.Rides.{gap_of, missed_in_gap, due, rides, caught_in_gap}
+use Rattle.fb_model.specs.Deliveries.{gap_of, missed_in_gap, due, rides, caught_in_gap}
 use Rattle.fb_model.proofs.Passages.{from_on, passed_between}
 use Rattle.fb_plan.specs.Ways.{IsGap}
 use Rattle.fb_tasks.specs.Telling.{Tells}
@@ -98,7 +98,7 @@ module _ (disk : Disk) (holding : Holding) (served : Served) (plan : Plan) (past
   left gap = missed_in_gap disk gap plan (wanted past)
 
   abbrev opening : Gap → BackRow
-  opening gap = GapLine (record { name = served.request.name; gap = gap; plan = plan })
+  opening gap = BackGap (record { name = served.request.name; gap = gap; plan = plan })
 
   all-delivered : (rows : List BackRow) (middle after : Background) → HasDelivered disk.map past (in_gap (gap_of disk served)) rows middle
       → wanted (past_with past (in_gap (gap_of disk served))) ≡ left (gap_of disk served)
@@ -127,11 +127,11 @@ module _ (disk : Disk) (holding : Holding) (served : Served) (plan : Plan) (past
 -- and then the request has finished
 pub has-served : (disk : Disk) (holding : Holding) (past : Past) (served : Served) (rows : List BackRow) (middle after : Background)
     → HasDeliveredAround disk holding past served rows middle
-    → ((later : Past) → Tells disk.map later middle.sessions middle.wanted
-    → Tells disk.map (finished served.request ∷ later) after.sessions after.wanted)
+    → ((later : Past) → Tells disk.map later middle.sessions middle.blocks
+    → Tells disk.map (finished served.request ∷ later) after.sessions after.blocks)
     → after.rows ≡ middle.rows → HasServed disk holding past served rows after
 has-served disk holding past served rows middle after all ends same =
-    let line = GapLine (record { name = served.request.name; gap = gap_of disk served; plan = all.plan }) in
+    let line = BackGap (record { name = served.request.name; gap = gap_of disk served; plan = all.plan }) in
     let gots = due disk (held_now holding) (serving served all.plan) (wanted past) in
     record {
       plan = all.plan;

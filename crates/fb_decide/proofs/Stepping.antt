@@ -14,7 +14,7 @@ use Rattle.fb_model.specs.Accepted.{IsRequestOf}
 use Rattle.fb_model.specs.Content.{contents_at, medium_of}
 use Rattle.fb_model.specs.PlainReplay.{Served, service}
 use Rattle.fb_model.specs.Decisions.{Decision, serves, idles, ends, instant_of, end_of, Act, serving, idling, ending, decision_of}
-use Rattle.fb_model.specs.Rides.{due, caught_rows}
+use Rattle.fb_model.specs.Deliveries.{due, caught_rows}
 use Rattle.fb_model.specs.History.{Past, tested, tasks, registered, wanted, state, bare_state}
 use Rattle.fb_model.specs.Steps.{Delivery, Step, decision_in, chosen_past, past_after, with_delivery, with_finish, opening, step_rows}
 use Rattle.fb_model.specs.SoundRun.{IsTested}
@@ -39,7 +39,7 @@ use Rattle.fb_decide.proofs.Due.{due_found, due_same}
 -- a step was made, and the disk and the background are as it leaves them
 pub record HasStepped (inputs : Inputs) (past : Past) (before : Course) (step : Step) (after : Course) : Type 0 where
   pub rows_after : after.background.rows ≡ before.background.rows ++ step_rows inputs.disk step
-  pub tells : Tells inputs.disk.map (past_after inputs past step) after.background.sessions after.background.wanted
+  pub tells : Tells inputs.disk.map (past_after inputs past step) after.background.sessions after.background.blocks
   pub is_made : IsMade inputs past step
   pub finds : IsTrue (medium_of inputs) after.store (past_after inputs past step)
   pub called : IsCalled inputs.disk.map inputs.calls (past_after inputs past step) after.called
@@ -93,12 +93,12 @@ module _ (inputs : Inputs) (past : Past) (before : Course) (background : Backgro
     pub best : HasBestPlan inputs.disk (wanted then) act
     pub all : gots ≡ due (medium_of inputs).disk (contents_at (medium_of inputs)) act (wanted then)
     pub rows_behind : after.background.rows ≡ (background.rows ++ opening inputs.disk act) ++ rows_of (followed then gots)
-    pub tells_after : Tells inputs.disk.map (with_finish (past_with then gots) decision) after.background.sessions after.background.wanted
+    pub tells_after : Tells inputs.disk.map (with_finish (past_with then gots) decision) after.background.sessions after.background.blocks
     pub contents : LeftBy decision before.store after.store
     pub same_called : after.called ≡ called
     pub ends_at : end_of decision ≡ after.now
 
-  module _ (end : ℕ) (h : HasDone end) (tells : Tells inputs.disk.map past before.background.sessions before.background.wanted)
+  module _ (end : ℕ) (h : HasDone end) (tells : Tells inputs.disk.map past before.background.sessions before.background.blocks)
       (finds : IsTrue (medium_of inputs) before.store past)
       (test : HasPrepared inputs.disk.map inputs.calls past (instant_of decision) called before.background.rows background) where
     same_wanted : wanted then ≡ wanted (chosen_past inputs past decision)
@@ -125,7 +125,7 @@ module _ (inputs : Inputs) (past : Past) (before : Course) (background : Backgro
       rows_after = rows_join before.background.rows (test_rows_by inputs.disk.map inputs.calls past (instant_of decision))
           (opening inputs.disk act) (rows_of (followed then gots))
           after.background.rows background.rows test.rows_after h.rows_behind;
-      tells = subst (λ p. Tells inputs.disk.map p after.background.sessions after.background.wanted) (sym after_is) h.tells_after;
+      tells = subst (λ p. Tells inputs.disk.map p after.background.sessions after.background.blocks) (sym after_is) h.tells_after;
       is_made = record {
         planned = best_is_plan inputs.disk (wanted then) act h.best;
         best = subst (λ blocks. HasBestPlan inputs.disk blocks act) same_wanted h.best;
@@ -142,7 +142,7 @@ module _ (inputs : Inputs) (past : Past) (before : Course) (background : Backgro
 
 module _ (inputs : Inputs) (past : Past) (before : Course) (background : Background) (joined called : ℕ)
     (test : HasPrepared inputs.disk.map inputs.calls past before.now called before.background.rows background)
-    (tells : Tells inputs.disk.map past before.background.sessions before.background.wanted)
+    (tells : Tells inputs.disk.map past before.background.sessions before.background.blocks)
     (finds : IsTrue (medium_of inputs) before.store past) where
   -- by its deliveries and what they leave
   abbrev stepped_by : (act : Act) → instant_of (decision_of act) ≡ before.now → (gots : List DeliveryRow) (after : Course) (end : ℕ)

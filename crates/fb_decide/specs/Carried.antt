@@ -9,7 +9,7 @@ use Rattle.fb_service.specs.declared.passage.Passage.{Passage}
 use Rattle.fb_service.specs.declared.passage.Extent.{Extent}
 use Rattle.fb_service.specs.Extents.{IsUnbroken}
 use Rattle.fb_wanted.specs.declared.block.Block.{Block}
-use Rattle.fb_model.specs.Rides.{lies_in, begin_at, end_at}
+use Rattle.fb_model.specs.Deliveries.{lies_in, begin_at, end_at}
 use Rattle.fb_plan.specs.declared.catching.Catch.{Catch}
 use Rattle.fb_plan.specs.Order.{in_order}
 

@@ -16,10 +16,10 @@ use Rattle.fb_tasks.specs.Telling.{Tells}
 use Rattle.fb_rows.specs.declared.fore.ForeRow.{ForeRow}
 use Rattle.fb_rows.specs.declared.gap.Dwell.{Dwell}
 use Rattle.fb_rows.specs.declared.gap.How.TheVariants.{Idle as ByIdle}
-use Rattle.fb_rows.specs.declared.back.BackRow.TheVariants.{Idle as IdleLine}
+use Rattle.fb_rows.specs.declared.back.BackRow.TheVariants.{Idle as BackIdle}
 use Rattle.fb_model.specs.PlainReplay.{Key, first_track, service, last_track, finish, first_least}
 use Rattle.fb_model.specs.History.{Past, wanted}
-use Rattle.fb_model.specs.Rides.{caught_rows}
+use Rattle.fb_model.specs.Deliveries.{caught_rows}
 use Rattle.fb_decide.specs.declared.background.Background.{Background}
 use Rattle.fb_decide.specs.declared.deciding.Course.{Course}
 use Rattle.fb_decide.specs.Contents.{left_by, IsRowOf}
@@ -35,7 +35,7 @@ PassagesTakeTime disk = (lbn : ℕ) → lbn < length (places disk) → 0 < lengt
 pub record IsInitial (latent : List ℕ) (course : Course) : Type 0 where
   pub unwritten_yet : (lbn : ℕ) → content_in course.store lbn ≡ unwritten latent lbn
   pub none_opened : (disk : Shape) → Tells disk [] course.background.sessions []
-  pub none_wanted : course.background.wanted ≡ []
+  pub none_wanted : course.background.blocks ≡ []
   pub none_joined : course.joined ≡ 0
   pub none_called : course.called ≡ 0
   pub first_head : course.head ≡ first_track
@@ -74,7 +74,7 @@ dwell_until course instant = record { track = course.head; begin = course.now; e
 pub record HasStayed (disk : Disk) (instant : ℕ) (before after : Course) : Type 0 where
   pub delivered : (past : Past) → TellsUpToDate disk.map past before.background
       → HasDelivered disk.map past (caught_rows disk (held_now before.store) ByIdle (dwell_until before instant) (wanted past))
-      (before.background.rows ++ IdleLine (dwell_until before instant) ∷ []) after.background
+      (before.background.rows ++ BackIdle (dwell_until before instant) ∷ []) after.background
   pub until : after.now ≡ instant
   pub same_store : after.store ≡ before.store
   pub same_fore : after.fore ≡ before.fore

@@ -9,12 +9,12 @@ use Rattle.fb_rows.specs.declared.gap.Plan.{Plan}
 use Rattle.fb_rows.specs.declared.gap.How.{How}
 use Rattle.fb_rows.specs.declared.back.DeliveryRow.{DeliveryRow}
 use Rattle.fb_rows.specs.declared.back.BackRow.{BackRow}
-use Rattle.fb_rows.specs.declared.back.BackRow.TheVariants.{Got as GotLine, Gap as GapLine}
+use Rattle.fb_rows.specs.declared.back.BackRow.TheVariants.{Got as BackGot, Gap as BackGap}
 use Rattle.fb_model.specs.Content.{ContentsAt}
 use Rattle.fb_model.specs.Plans.{IsBest}
 use Rattle.fb_model.specs.PlainReplay.{Served}
 use Rattle.fb_model.specs.Decisions.{serving}
-use Rattle.fb_model.specs.Rides.{delivery, due, gap_of}
+use Rattle.fb_model.specs.Deliveries.{delivery, due, gap_of}
 use Rattle.fb_model.specs.History.{Past, finished, registered, same_block, wanted}
 use Rattle.fb_model.specs.Steps.{Delivery, with_delivery}
 use Rattle.fb_tasks.specs.Taken.{delivery_of}
@@ -41,15 +41,15 @@ past_with past gots = fold with_delivery past (followed past gots)
 
 -- the rows of deliveries, each with those that follow it
 abbrev pub rows_of : List Delivery → List BackRow
-rows_of deliveries = flat_map (λ delivery. GotLine delivery.got ∷ delivery.after) deliveries
+rows_of deliveries = flat_map (λ delivery. BackGot delivery.got ∷ delivery.after) deliveries
 
 -- the block is registered
 abbrev pub IsRegistered : Past → Block → Type 0
 IsRegistered past block = (index : ℕ) × (slice_get (registered past) index ≡ Some block)
 
--- the sessions and the wanted set tell the history, and all of it was tested
+-- the sessions and the registered blocks tell the history, and all of it was tested
 pub record TellsUpToDate (disk : Shape) (past : Past) (background : Background) : Type 0 where
-  pub tells : Tells disk past background.sessions background.wanted
+  pub tells : Tells disk past background.sessions background.blocks
   pub up_to_date : IsUpToDate past
 
 -- no two blocks are the same
@@ -82,7 +82,7 @@ pub record HasDeliveredAround (disk : Disk) (holding : Holding) (past : Past) (s
   pub plan : Plan
   pub best : IsBest disk (gap_of disk served) (wanted past) plan
   pub delivered : HasDelivered disk.map past (due disk (held_now holding) (serving served plan) (wanted past))
-      (rows ++ GapLine (record { name = served.request.name; gap = gap_of disk served; plan = plan }) ∷ []) after
+      (rows ++ BackGap (record { name = served.request.name; gap = gap_of disk served; plan = plan }) ∷ []) after
 
 -- a request was served by the best plan for its gap, and the background rows were added
 pub record HasServed (disk : Disk) (holding : Holding) (past : Past) (served : Served) (rows : List BackRow)
@@ -90,7 +90,7 @@ pub record HasServed (disk : Disk) (holding : Holding) (past : Past) (served : S
   pub plan : Plan
   pub best : IsBest disk (gap_of disk served) (wanted past) plan
   pub tells : Tells disk.map (finished served.request ∷ past_with past (due disk (held_now holding) (serving served plan) (wanted past)))
-      after.sessions after.wanted
-  pub rows_after : after.rows ≡ rows ++ GapLine (record { name = served.request.name; gap = gap_of disk served; plan = plan })
+      after.sessions after.blocks
+  pub rows_after : after.rows ≡ rows ++ BackGap (record { name = served.request.name; gap = gap_of disk served; plan = plan })
       ∷ rows_of (followed past (due disk (held_now holding) (serving served plan) (wanted past)))
   pub registered : AllByRecursion (λ got. IsRegistered past got.block) (due disk (held_now holding) (serving served plan) (wanted past))

@@ -68,7 +68,7 @@ pub record Replayed (latent : List ℕ) (whole : List Served) (rest : List Serve
 pub record HasRun (inputs : Inputs) (rest : List Served) (course : Course) (steps : List Step) : Type 0 where
   pub done : List Served
   pub replayed : Replayed inputs.latent (served inputs) rest course.now course.store done
-  pub tells : Tells inputs.disk.map (history inputs steps) course.background.sessions course.background.wanted
+  pub tells : Tells inputs.disk.map (history inputs steps) course.background.sessions course.background.blocks
   pub finds : IsTrue (medium_of inputs) course.store (history inputs steps)
   pub ends_at : run_end (decisions_in steps) ≡ course.now
 

@@ -9,7 +9,7 @@ use Rattle.fb_rows.specs.declared.back.DeliveryRow.{DeliveryRow}
 use Rattle.fb_model.specs.Content.{Medium, content}
 use Rattle.fb_model.specs.History.{Past, bare_state, content_of, is_open_backup}
 use Rattle.fb_model.specs.Images.{held_at_delivery}
-use Rattle.fb_model.specs.Rides.{delivery}
+use Rattle.fb_model.specs.Deliveries.{delivery}
 use Rattle.fb_decide.specs.Deliveries.{IsRegistered, held_now}
 
 -- between these instants each sector holds what the disk holds now

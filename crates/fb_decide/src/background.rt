@@ -2,7 +2,7 @@
 ghost use Rattle.std.specs.Prelude.{◌≡◌, ◌+◌, ◌*◌, ◌≤◌, ◌^◌, ℕ, [], ◌∷◌, ◌++◌, Some, map, slice_get, OnOk};
 ghost use Rattle.fb_geometry.specs.Shape.{Shape};
 ghost use Rattle.fb_model.specs.History.{Past, wanted};
-ghost use Rattle.fb_model.specs.Rides.{delivery, caught_rows, missed};
+ghost use Rattle.fb_model.specs.Deliveries.{delivery, caught_rows, missed};
 ghost use Rattle.fb_decide.specs.Deliveries.{TellsUpToDate, HasDelivered, AreDue, row_in, held_now, past_with};
 
 use fb_plan::{Catch, caught};
@@ -11,7 +11,7 @@ use fb_service::Disk;
 use fb_store::{Store, runs_are_fewest};
 use fb_tasks::Sessions;
 use fb_units::NoMemory;
-use fb_wanted::Wanted;
+use fb_wanted::Blocks;
 use std::alloc::Global;
 
 /// The background between two events of a replay.
@@ -23,7 +23,7 @@ pub struct Background {
     /// The tasks, in order of opening.
     pub sessions: Sessions,
     /// Their registered blocks, each with its state.
-    pub wanted: Wanted,
+    pub blocks: Blocks,
     /// The background rows that haven't been taken yet.
     pub rows: BackRows,
 }
@@ -55,7 +55,7 @@ impl Background {
             bad: content.bad() as u32,
             content,
         };
-        self.sessions.deliver(&mut self.wanted, got, &mut self.rows)
+        self.sessions.deliver(&mut self.blocks, got, &mut self.rows)
     }
 
     /// Delivers these blocks one after another.
@@ -99,7 +99,7 @@ impl Background {
             → wanted (past_with past (caught_rows disk.now (held_now store.now) how dwell (wanted past)))
             ≡ missed disk.now dwell (wanted past)) }
     {
-        let catches = caught(alloc, disk, &self.wanted, dwell)?;
+        let catches = caught(alloc, disk, &self.blocks, dwell)?;
         self.deliver_all(alloc, store, how, catches.as_slice())
     }
 

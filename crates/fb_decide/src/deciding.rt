@@ -36,7 +36,7 @@ use fb_store::Store;
 use fb_tasks::Sessions;
 use fb_trace::Trace;
 use fb_units::{NoMemory, Ns, Request, Track};
-use fb_wanted::Wanted;
+use fb_wanted::Blocks;
 use std::alloc::Global;
 use std::mem;
 
@@ -147,7 +147,7 @@ impl<'a, Q: Queue> Decider<'a, Q> {
             → HasMade inputs false steps self.new.requests self.new.course (Q.pending self.new.queue) (Q.joined self.new.queue) }
     {
         self.course.background.sessions.task_rows(
-            &self.course.background.wanted,
+            &self.course.background.blocks,
             &mut self.course.background.rows,
         )
     }
@@ -193,7 +193,7 @@ fn initial_course(alloc: Global, latent: &[u64]) -> Result<Course, NoMemory>
         store: Store::new(alloc, latent)?,
         background: Background {
             sessions: Sessions::new(alloc),
-            wanted: Wanted::new(alloc),
+            blocks: Blocks::new(alloc),
             rows: BackRows::new(alloc),
         },
         fore: ForeRows::new(alloc),
@@ -221,10 +221,10 @@ fn advance<Q: Queue, P: Planner>(
         (Q.pending queue.old) }
     requires serves { Q.serves queue.old inputs.disk.now }
     requires called { (past : Past) × IsCalled inputs.disk.now.map inputs.calls.now.calls.items past course.old.called
-        × Tells inputs.disk.now.map past course.old.background.sessions course.old.background.wanted }
+        × Tells inputs.disk.now.map past course.old.background.sessions course.old.background.blocks }
     ensures decided { IfOk result
         (λ goes_on. (past : Past) → IsCalled inputs.entry.disk.now.map inputs.entry.calls.now.calls.items past course.old.called
-        → Tells inputs.entry.disk.now.map past course.old.background.sessions course.old.background.wanted
+        → Tells inputs.entry.disk.now.map past course.old.background.sessions course.old.background.blocks
         → HasDecided inputs.entry.disk.now requests.now inputs.entry.calls.now.calls.items Q.key inputs.entry.until past course.old
         (Q.pending queue.old) goes_on course.new (Q.pending queue.new)) }
     ensures waiting { IfOk result (λ goes_on. goes_on ≡ true

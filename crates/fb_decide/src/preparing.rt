@@ -23,13 +23,13 @@ impl Background {
     ) -> Result<usize, NoMemory>
         requires script { IsScriptOf disk.now.map calls.now.calls.items }
         requires called { (past : Past) × IsCalled disk.now.map calls.now.calls.items past next
-            × Tells disk.now.map past self.old.sessions self.old.wanted }
+            × Tells disk.now.map past self.old.sessions self.old.blocks }
         ensures tells { IfOk result (λ later. (past : Past) → IsCalled disk.now.map calls.now.calls.items past next
-            → Tells disk.now.map past self.old.sessions self.old.wanted
+            → Tells disk.now.map past self.old.sessions self.old.blocks
             → Tells disk.now.map (fold (take_call disk.now.map) past (calls_due calls.now.calls.items past now)) self.new.sessions
-            self.new.wanted) }
+            self.new.blocks) }
         ensures called { IfOk result (λ later. (past : Past) → IsCalled disk.now.map calls.now.calls.items past next
-            → Tells disk.now.map past self.old.sessions self.old.wanted
+            → Tells disk.now.map past self.old.sessions self.old.blocks
             → IsCalled disk.now.map calls.now.calls.items
             (fold (take_call disk.now.map) past (calls_due calls.now.calls.items past now)) later) }
         ensures ahead { IfOk result (λ later. IfSome (slice_get calls.now.calls.items later) (λ call. now < call.instant)) }
@@ -38,7 +38,7 @@ impl Background {
         let mut next = next;
         while next < calls.calls.len() && calls.calls[next].instant <= now {
             self.sessions
-                .apply(&disk.map, &mut self.wanted, &calls.calls[next])?;
+                .apply(&disk.map, &mut self.blocks, &calls.calls[next])?;
             next += 1;
         }
         Ok(next)
@@ -56,14 +56,14 @@ impl Background {
     ) -> Result<usize, NoMemory>
         requires script { IsScriptOf disk.now.map calls.now.calls.items }
         requires called { (past : Past) × IsCalled disk.now.map calls.now.calls.items past next
-            × Tells disk.now.map past self.old.sessions self.old.wanted }
+            × Tells disk.now.map past self.old.sessions self.old.blocks }
         ensures { IfOk result (λ later. (past : Past) → IsCalled disk.now.map calls.now.calls.items past next
-            → Tells disk.now.map past self.old.sessions self.old.wanted
+            → Tells disk.now.map past self.old.sessions self.old.blocks
             → HasPrepared disk.now.map calls.now.calls.items past now later self.old.rows self.new) }
     {
         let next = self.take_calls(disk, calls, next, now)?;
         self.sessions
-            .choose_and_test(&disk.map, &mut self.wanted, now, &mut self.rows)?;
+            .choose_and_test(&disk.map, &mut self.blocks, now, &mut self.rows)?;
         Ok(next)
     }
 }

@@ -4,7 +4,7 @@ ghost use Rattle.std.specs.List.{AllByRecursion};
 ghost use Rattle.fb_service.specs.Extents.{all_passages_of, IsUnbroken};
 ghost use Rattle.fb_model.specs.Blocks.{IsBlockOn};
 ghost use Rattle.fb_model.specs.History.{Past, wanted};
-ghost use Rattle.fb_model.specs.Rides.{lies_in, rides};
+ghost use Rattle.fb_model.specs.Deliveries.{lies_in, rides};
 ghost use Rattle.fb_wanted.specs.States.{on_track, wanted_of};
 ghost use Rattle.fb_plan.specs.Order.{in_order};
 ghost use Rattle.fb_plan.specs.Ways.{AreOnDisk};
@@ -19,7 +19,7 @@ use fb_rows::How;
 use fb_service::{Disk, Extent, Passage, nth_passage};
 use fb_store::Store;
 use fb_units::{NoMemory, Request};
-use fb_wanted::{Block, Wanted};
+use fb_wanted::{Block, Blocks};
 use std::alloc::Global;
 
 impl Background {
@@ -46,7 +46,7 @@ impl Background {
         if start.request.write {
             return Ok(());
         }
-        let catches = carried(alloc, disk, &self.wanted, start.request, extents)?;
+        let catches = carried(alloc, disk, &self.blocks, start.request, extents)?;
         self.deliver_all(alloc, store, How::Ride, catches.as_slice())
     }
 }
@@ -55,20 +55,20 @@ impl Background {
 fn carried(
     alloc: Global,
     disk: &Disk,
-    wanted: &Wanted,
+    blocks: &Blocks,
     request: Request,
     extents: &[Extent],
 ) -> Result<Vec<Catch>, NoMemory>
     requires extents { AreExtents disk.now.map extents.now }
     requires covers { AreLaid request.lbn extents.now request.count }
     requires request { request.lbn + request.count ≤ 10 ^ 12 }
-    requires registered { AreOnDisk disk.now wanted.now }
-    requires distinct { AreDistinct (wanted_of wanted.now) }
-    ensures { IfOk result (λ found. found.items ≡ carried_of (all_passages_of disk.now.map extents.now) request (wanted_of wanted.now)) }
+    requires registered { AreOnDisk disk.now blocks.now }
+    requires distinct { AreDistinct (wanted_of blocks.now) }
+    ensures { IfOk result (λ found. found.items ≡ carried_of (all_passages_of disk.now.map extents.now) request (wanted_of blocks.now)) }
 {
     let mut found = Vec::new(alloc);
     for extent in extents {
-        add_carried(disk, wanted, request, extents, extent, &mut found)?;
+        add_carried(disk, blocks, request, extents, extent, &mut found)?;
     }
     put_in_order(&mut found)?;
     Ok(found)
@@ -77,7 +77,7 @@ fn carried(
 // Adds the wanted blocks that the read carries and whose first sector passes in this extent, in any order.
 fn add_carried(
     disk: &Disk,
-    wanted: &Wanted,
+    blocks: &Blocks,
     request: Request,
     extents: &[Extent],
     extent: &Extent,
@@ -86,15 +86,15 @@ fn add_carried(
     requires extents { AreExtents disk.now.map extents.now }
     requires extent { extent.now.first + extent.now.count ≤ 10 ^ 12 }
     requires request { request.lbn + request.count ≤ 10 ^ 12 }
-    requires registered { AreOnDisk disk.now wanted.now }
+    requires registered { AreOnDisk disk.now blocks.now }
     ensures { OnOk result (in_order found.new.items
         ≡ in_order (added (all_passages_of disk.now.map extents.now) extent.now request found.old.items
-        (wanted_of (on_track extent.now.track wanted.now)))) }
+        (wanted_of (on_track extent.now.track blocks.now)))) }
 {
-    wanted.numbered_in_order();
-    let blocks = wanted.on(extent.track).wanted();
-    for i in 0..blocks.len() {
-        add_ride(disk, request, extents, extent, blocks.get(i), found)?;
+    blocks.numbered_in_order();
+    let candidates = blocks.on(extent.track).wanted();
+    for i in 0..candidates.len() {
+        add_ride(disk, request, extents, extent, candidates.get(i), found)?;
     }
     Ok(())
 }

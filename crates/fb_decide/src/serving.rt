@@ -9,7 +9,7 @@ ghost use Rattle.fb_service.specs.Extents.{all_passages_of, IsUnbroken};
 ghost use Rattle.fb_model.specs.History.{Past, finished, wanted};
 ghost use Rattle.fb_model.specs.PlainReplay.{media, finish, last_track};
 ghost use Rattle.fb_model.specs.Plans.{IsPlan};
-ghost use Rattle.fb_model.specs.Rides.{caught_in_gap, missed_in_gap};
+ghost use Rattle.fb_model.specs.Deliveries.{caught_in_gap, missed_in_gap};
 ghost use Rattle.fb_plan.specs.Ways.{IsGap};
 ghost use Rattle.fb_tasks.specs.Telling.{Tells};
 ghost use Rattle.fb_decide.specs.Contents.{found_in, left_by, IsRowOf};
@@ -125,7 +125,7 @@ impl Background {
             deadline: service.media,
             write: request.write,
         };
-        let plan = planner.best(disk, &self.wanted, &gap);
+        let plan = planner.best(disk, &self.blocks, &gap);
         let name = request.name;
         self.go_through(alloc, disk, store, GapRow { name, gap, plan })?;
         self.ride(alloc, disk, store, start, service.extents.as_slice())?;
@@ -162,15 +162,15 @@ impl Background {
 
     // A request has finished: blocks that a write has overwritten may be wanted again.
     fn finish(&mut self, request: Request)
-        requires { (disk : Shape) × (past : Past) × Tells disk past self.old.sessions self.old.wanted }
-        ensures tells { (disk : Shape) (past : Past) → Tells disk past self.old.sessions self.old.wanted
-            → Tells disk (finished request ∷ past) self.new.sessions self.new.wanted }
+        requires { (disk : Shape) × (past : Past) × Tells disk past self.old.sessions self.old.blocks }
+        ensures tells { (disk : Shape) (past : Past) → Tells disk past self.old.sessions self.old.blocks
+            → Tells disk (finished request ∷ past) self.new.sessions self.new.blocks }
         ensures rows { self.new.rows ≡ self.old.rows }
     {
         reads_change_nothing();
         if request.write {
             self.sessions
-                .after_write(&mut self.wanted, request.lbn, request.count);
+                .after_write(&mut self.blocks, request.lbn, request.count);
         }
     }
 }

@@ -12,7 +12,7 @@ use crate::given::Search;
 use crate::parts::{GAP_PARTS, LateParts};
 use fb_service::Disk;
 use fb_units::{Ns, Track};
-use fb_wanted::{BAND, Wanted};
+use fb_wanted::{BAND, Blocks};
 
 // The unit of rates: one for each ns.
 const UNIT: u64 = 1 << 24;
@@ -34,11 +34,11 @@ pub struct Reach {
 
 // An upper bound on what passes in each ns on a track of these cylinders, in units of 2^-24: one sector for
 // each least length of a slot, with the most weight that is wanted of one sector.
-pub fn rate_over(disk: &Disk, wanted: &Wanted, from: u32, end: u32) -> u64
+pub fn rate_over(disk: &Disk, blocks: &Blocks, from: u32, end: u32) -> u64
     requires some { from < end }
     requires cylinders { end ≤ disk.now.mechanism.cylinders }
-    requires blocks { AreOnDisk disk.now wanted.now }
-    ensures { (track : Track) → from ≤ track.cylinder → track.cylinder < end → IsRate disk.now wanted.now track result }
+    requires blocks { AreOnDisk disk.now blocks.now }
+    ensures { (track : Track) → from ≤ track.cylinder → track.cylinder < end → IsRate disk.now blocks.now track result }
 {
     let geometry = disk.map.geometry();
     geometry.sound();
@@ -47,7 +47,7 @@ pub fn rate_over(disk: &Disk, wanted: &Wanted, from: u32, end: u32) -> u64
         cylinder: from,
         head: 0,
     };
-    let depth = most_depth(wanted, from, end, first);
+    let depth = most_depth(blocks, from, end, first);
     let share = geometry.rotation() / most_slots(disk, from, end, first) as u64;
     (depth * UNIT).div_ceil(share)
 }
@@ -64,7 +64,7 @@ pub fn rate_in(search: &Search, from: u32, end: u32, known: u64) -> u64
     if end - from < BAND {
         return known;
     }
-    rate_over(search.disk, search.wanted, from, end)
+    rate_over(search.disk, search.blocks, from, end)
 }
 
 // The reach of detours over these cylinders, by their rate.
@@ -158,7 +158,7 @@ fn part_from(late: &LateParts, instant: Ns) -> usize
 pub fn most_by_steps(search: &Search, reach: Reach, weight: u64, known: u64) -> u64
     requires search { IsSearch search.now }
     requires light { weight ≤ 16000000 * 2048000 }
-    ensures most { (track : Track) (leave : ℕ) → IsReach search.now track reach → wanted_weight track search.now.wanted.now ≤ weight
+    ensures most { (track : Track) (leave : ℕ) → IsReach search.now track reach → wanted_weight track search.now.blocks.now ≤ weight
         → IsDetourIn search.now track leave → value_in search.now (Plan.Detour track leave) ≤ result }
     ensures small { result ≤ 2 * (16000000 * 2048000) }
 {
@@ -188,7 +188,7 @@ pub fn most_over(search: &Search, from: u32, end: u32, rate: u64, known: u64) ->
     ensures most { IsCeiling search.now from end result }
     ensures small { result ≤ 2 * (16000000 * 2048000) }
 {
-    let weight = search.wanted.greatest_weight_in(from, end);
+    let weight = search.blocks.greatest_weight_in(from, end);
     let sum = weight + search.late.parts[0];
     if sum < known {
         return sum;

@@ -25,7 +25,7 @@ use Rattle.fb_model.specs.Content.{contents_at, Medium}
 use Rattle.fb_model.specs.Plans.{IsPlan, block_begin, block_end, catches, early_dwell, late_dwell}
 use Rattle.fb_model.specs.Decisions.{Decision, serves, Act, serving, idling, ending, decision_of, decisions_from, end_of, idle_until}
 use Rattle.fb_model.specs.Decisions.{instant_of, last_decision}
-use Rattle.fb_model.specs.Rides.{begin_at, caught_rows, delivery, due, end_at, gap_of, in_order, is_before, lies_in, missed, placed, rides}
+use Rattle.fb_model.specs.Deliveries.{begin_at, caught_rows, delivery, due, end_at, gap_of, in_order, is_before, lies_in, missed, placed, rides}
 use Rattle.fb_model.specs.SoundRun.{HasPlan}
 use Rattle.fb_model.proofs.Due.{IsCaughtIn, all_filtered, caught_true}
 use Rattle.fb_model.proofs.Passages.{IsServiceOf, passed_between}

@@ -7,9 +7,9 @@ use Rattle.fb_units.proofs.Lists.{all_weaker, all_append, all_left, all_right}
 use Rattle.fb_units.proofs.Each.{all_flat_map, all_map_any}
 use Rattle.fb_service.specs.declared.disk.Disk.{Disk}
 use Rattle.fb_rows.specs.declared.back.BackRow.{BackRow}
-use Rattle.fb_rows.specs.declared.back.BackRow.TheVariants.{Gap as GapLine, Idle as IdleLine, Got as GotLine, Bad as BadLine}
-use Rattle.fb_rows.specs.declared.back.BackRow.TheVariants.{Seal as SealLine, Segment as SegmentLine, Complete as CompleteLine}
-use Rattle.fb_rows.specs.declared.back.BackRow.TheVariants.{Task as TaskLine}
+use Rattle.fb_rows.specs.declared.back.BackRow.TheVariants.{Gap as BackGap, Idle as BackIdle, Got as BackGot, Bad as BackBad}
+use Rattle.fb_rows.specs.declared.back.BackRow.TheVariants.{Seal as BackSeal, Segment as BackSegment, Complete as BackComplete}
+use Rattle.fb_rows.specs.declared.back.BackRow.TheVariants.{Task as BackTask}
 use Rattle.fb_rows.specs.declared.back.DeliveryRow.{DeliveryRow}
 use Rattle.fb_rows.specs.declared.run.Run.{Run}
 use Rattle.fb_model.specs.Content.{Medium}
@@ -25,8 +25,8 @@ use Rattle.fb_model.specs.SoundRun.{AreFollowed, IsSoundBy, IsTested}
 
 -- a row is a delivery with a property, or a seal whose instant a fact comes with, or another row
 abbrev pub RowFits : (DeliveryRow → Type 0) → (ℕ → Type 0) → BackRow → Type 0
-RowFits P C (GotLine row) = P row
-RowFits P C (SealLine row) = C row.instant
+RowFits P C (BackGot row) = P row
+RowFits P C (BackSeal row) = C row.instant
 RowFits P C _ = Unit {0}
 
 abbrev pub RowsFit : (DeliveryRow → Type 0) → (ℕ → Type 0) → List BackRow → Type 0
@@ -38,14 +38,14 @@ NoFact instant = Unit {0}
 
 row_weaker : (P Q : DeliveryRow → Type 0) (C : ℕ → Type 0) → ((row : DeliveryRow) → P row → Q row) → (row : BackRow) → RowFits P C row
     → RowFits Q C row
-row_weaker P Q C more (GapLine row) fit = tt
-row_weaker P Q C more (IdleLine row) fit = tt
-row_weaker P Q C more (GotLine row) fit = more row fit
-row_weaker P Q C more (BadLine row) fit = tt
-row_weaker P Q C more (SealLine row) fit = fit
-row_weaker P Q C more (SegmentLine row) fit = tt
-row_weaker P Q C more (CompleteLine row) fit = tt
-row_weaker P Q C more (TaskLine row) fit = tt
+row_weaker P Q C more (BackGap row) fit = tt
+row_weaker P Q C more (BackIdle row) fit = tt
+row_weaker P Q C more (BackGot row) fit = more row fit
+row_weaker P Q C more (BackBad row) fit = tt
+row_weaker P Q C more (BackSeal row) fit = fit
+row_weaker P Q C more (BackSegment row) fit = tt
+row_weaker P Q C more (BackComplete row) fit = tt
+row_weaker P Q C more (BackTask row) fit = tt
 
 pub rows_weaker : (P Q : DeliveryRow → Type 0) (C : ℕ → Type 0) → ((row : DeliveryRow) → P row → Q row) → (rows : List BackRow)
     → RowsFit P C rows → RowsFit Q C rows
@@ -78,7 +78,7 @@ module _ (P : DeliveryRow → Type 0) (C : ℕ → Type 0) where
   complete_fits : (past : Past) (now task : ℕ) → RowsFit P C (complete_rows past now task)
   complete_fits past now task = by (is_complete past task && not (was_complete past task))
     where
-      by : (b : Bool) → RowsFit P C (if b then CompleteLine (record { task = task; instant = now }) ∷ [] else [])
+      by : (b : Bool) → RowsFit P C (if b then BackComplete (record { task = task; instant = now }) ∷ [] else [])
       by true = (tt, tt)
       by false = tt
 
@@ -86,9 +86,9 @@ module _ (P : DeliveryRow → Type 0) (C : ℕ → Type 0) where
   findings_fit past row = by (is_scrub (terms_of past row.block.task).kind)
     where
       by : (b : Bool)
-          → RowsFit P C (if b then map (λ lbn. BadLine (record { task = row.block.task; lbn = lbn })) (bad_sectors row.content) else [])
+          → RowsFit P C (if b then map (λ lbn. BackBad (record { task = row.block.task; lbn = lbn })) (bad_sectors row.content) else [])
       by true =
-          all_map_any (RowFits P C) (λ lbn. BadLine (record { task = row.block.task; lbn = lbn })) (λ lbn. tt) (bad_sectors row.content)
+          all_map_any (RowFits P C) (λ lbn. BackBad (record { task = row.block.task; lbn = lbn })) (λ lbn. tt) (bad_sectors row.content)
       by false = tt
 
   opening_fits : (disk : Disk) (act : Act) → RowsFit P C (opening disk act)
@@ -106,7 +106,7 @@ module _ (P : DeliveryRow → Type 0) (C : ℕ → Type 0) where
     seal_fits medium past now task holds = by (is_open_backup past task && is_complete past task) refl
       where
         by : (b : Bool) → (is_open_backup past task && is_complete past task) ≡ b
-            → RowsFit P C (if b then SealLine (record { task = task; instant = now; content = image medium past task now }) ∷ [] else [])
+            → RowsFit P C (if b then BackSeal (record { task = task; instant = now; content = image medium past task now }) ∷ [] else [])
         by true is = let both = and_parts (is_open_backup past task) (is_complete past task) is in
             (kept.seals now past task holds both.0 both.1, tt)
         by false is = tt
@@ -127,12 +127,12 @@ module _ (P : DeliveryRow → Type 0) (C : ℕ → Type 0) where
     followed_fit : (medium : Medium) (now : ℕ) (past : Past) (deliveries : List Delivery) → I now past → AreFollowed medium past deliveries
         → AllByRecursion P (map (λ (delivery : Delivery). delivery.got) deliveries)
         → AreLinked R now (map (λ (delivery : Delivery). delivery.got) deliveries)
-        → RowsFit P C (flat_map (λ (delivery : Delivery). GotLine delivery.got ∷ delivery.after) deliveries)
+        → RowsFit P C (flat_map (λ (delivery : Delivery). BackGot delivery.got ∷ delivery.after) deliveries)
     followed_fit medium now past [] holds followed each linked = tt
     followed_fit medium now past (delivery ∷ deliveries) holds followed each linked =
         let next = kept.delivers now past delivery.got holds each.0 linked.0 in
-        all_append (RowFits P C) (GotLine delivery.got ∷ delivery.after)
-        (flat_map (λ (delivery : Delivery). GotLine delivery.got ∷ delivery.after) deliveries) (
+        all_append (RowFits P C) (BackGot delivery.got ∷ delivery.after)
+        (flat_map (λ (delivery : Delivery). BackGot delivery.got ∷ delivery.after) deliveries) (
           each.0,
           subst (RowsFit P C) (sym followed.0)
               (all_append (RowFits P C) (findings past delivery.got) (test_rows medium (delivered delivery.got ∷ past) delivery.got.end)
@@ -147,7 +147,7 @@ module _ (P : DeliveryRow → Type 0) (C : ℕ → Type 0) where
         → AllByRecursion P (gots step) → AreLinked R (instant_of (decision_in step)) (gots step) → RowsFit P C (step_rows inputs.disk step)
     step_fits inputs medium past step holds is each linked =
         all_append (RowFits P C) (step.test ++ opening inputs.disk step.act)
-        (flat_map (λ (delivery : Delivery). GotLine delivery.got ∷ delivery.after) step.deliveries)
+        (flat_map (λ (delivery : Delivery). BackGot delivery.got ∷ delivery.after) step.deliveries)
         (all_append (RowFits P C) step.test (opening inputs.disk step.act)
         (subst (RowsFit P C) (sym is.test)
         (test_fits medium (chosen_past inputs past (decision_in step)) (instant_of (decision_in step)) holds))
@@ -188,14 +188,14 @@ back_fits P C inputs run steps is each = subst (RowsFit P C) (sym is.back)
 -- ---- and the deliveries have what the rows have
 
 gots_of : (P : DeliveryRow → Type 0) (C : ℕ → Type 0) (deliveries : List Delivery)
-    → RowsFit P C (flat_map (λ (delivery : Delivery). GotLine delivery.got ∷ delivery.after) deliveries)
+    → RowsFit P C (flat_map (λ (delivery : Delivery). BackGot delivery.got ∷ delivery.after) deliveries)
     → AllByRecursion P (map (λ (delivery : Delivery). delivery.got) deliveries)
 gots_of P C [] fit = tt
 gots_of P C (delivery ∷ deliveries) fit = (
-  (all_left (RowFits P C) (GotLine delivery.got ∷ delivery.after)
-      (flat_map (λ (delivery : Delivery). GotLine delivery.got ∷ delivery.after) deliveries) fit).0,
-  gots_of P C deliveries (all_right (RowFits P C) (GotLine delivery.got ∷ delivery.after)
-      (flat_map (λ (delivery : Delivery). GotLine delivery.got ∷ delivery.after) deliveries) fit),
+  (all_left (RowFits P C) (BackGot delivery.got ∷ delivery.after)
+      (flat_map (λ (delivery : Delivery). BackGot delivery.got ∷ delivery.after) deliveries) fit).0,
+  gots_of P C deliveries (all_right (RowFits P C) (BackGot delivery.got ∷ delivery.after)
+      (flat_map (λ (delivery : Delivery). BackGot delivery.got ∷ delivery.after) deliveries) fit),
 )
 
 -- the deliveries of each step
@@ -206,7 +206,7 @@ gots_fit P C inputs past [] fit = tt
 gots_fit P C inputs past (step ∷ steps) fit = (
   gots_of P C step.deliveries
       (all_right (RowFits P C) (step.test ++ opening inputs.disk step.act)
-      (flat_map (λ (delivery : Delivery). GotLine delivery.got ∷ delivery.after) step.deliveries)
+      (flat_map (λ (delivery : Delivery). BackGot delivery.got ∷ delivery.after) step.deliveries)
       (all_left (RowFits P C) (step_rows inputs.disk step) (flat_map (step_rows inputs.disk) steps) fit)),
   gots_fit P C inputs (past_after inputs past step) steps
       (all_right (RowFits P C) (step_rows inputs.disk step) (flat_map (step_rows inputs.disk) steps) fit),

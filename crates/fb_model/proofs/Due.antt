@@ -17,7 +17,7 @@ use Rattle.fb_model.specs.Inputs.{Inputs}
 use Rattle.fb_model.specs.Decisions.{Act, serving, idling, ending}
 use Rattle.fb_model.specs.History.{Past, wanted}
 use Rattle.fb_model.specs.Steps.{Step, decision_in, chosen_past}
-use Rattle.fb_model.specs.Rides.{gap_of, due, delivery, is_before, placed, in_order, caught_rows, missed, lies_in, rides, begin_at, end_at}
+use Rattle.fb_model.specs.Deliveries.{gap_of, due, delivery, is_before, placed, in_order, caught_rows, missed, lies_in, rides, begin_at, end_at}
 use Rattle.fb_model.specs.SoundRun.{IsSublist, none, left_out, taken, IsDelivered}
 
 -- a row has the bytes of its beginning

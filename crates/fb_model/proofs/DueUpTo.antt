@@ -24,7 +24,7 @@ use Rattle.fb_model.specs.PlainReplay.{Served, media, finish}
 use Rattle.fb_model.specs.Content.{ContentsAt}
 use Rattle.fb_model.specs.Plans.{IsPlan, block_begin, block_end, catches, early_dwell, late_dwell}
 use Rattle.fb_model.specs.Decisions.{Decision, serves, idles, ends, instant_of, end_of, Act, serving, idling, ending, decision_of}
-use Rattle.fb_model.specs.Rides.{gap_of, due, delivery, is_before, placed, in_order, caught_rows, missed, lies_in, begin_at, end_at}
+use Rattle.fb_model.specs.Deliveries.{gap_of, due, delivery, is_before, placed, in_order, caught_rows, missed, lies_in, begin_at, end_at}
 use Rattle.fb_model.specs.SoundRun.{HasPlan}
 use Rattle.fb_model.proofs.Due.{IsCaughtIn, IsDueRow, all_placed, ride_of}
 use Rattle.fb_model.proofs.Passages.{IsServiceOf, block_passes, media_by}

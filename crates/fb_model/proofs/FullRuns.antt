@@ -17,7 +17,7 @@ use Rattle.fb_model.specs.Content.{Medium, contents_at, medium_of}
 use Rattle.fb_model.specs.Plans.{value, IsTrackBefore, IsNoLater, IsBest}
 use Rattle.fb_model.specs.Decisions.{Decision, instant_of, Act, serving, idling, ending, decision_of}
 use Rattle.fb_model.specs.History.{Past, tested, delivered, wanted}
-use Rattle.fb_model.specs.Rides.{gap_of, due}
+use Rattle.fb_model.specs.Deliveries.{gap_of, due}
 use Rattle.fb_model.specs.Images.{findings, test_rows}
 use Rattle.fb_model.specs.Steps.{Delivery, Step, decision_in, decisions_in, chosen_past, tested_past, with_delivery, past_after, AtEach}
 use Rattle.fb_model.specs.Steps.{history, step_rows, task_rows}

@@ -15,7 +15,7 @@ use Rattle.fb_service.specs.declared.disk.Disk.{Disk}
 use Rattle.fb_rows.specs.declared.gap.Dwell.{Dwell}
 use Rattle.fb_rows.specs.declared.gap.How.TheVariants.{Idle as ByIdle}
 use Rattle.fb_rows.specs.declared.back.BackRow.{BackRow}
-use Rattle.fb_rows.specs.declared.back.BackRow.TheVariants.{Idle as IdleLine}
+use Rattle.fb_rows.specs.declared.back.BackRow.TheVariants.{Idle as BackIdle}
 use Rattle.fb_rows.specs.declared.back.DeliveryRow.{DeliveryRow}
 use Rattle.fb_rows.specs.declared.run.Run.{Run}
 use Rattle.fb_model.specs.PlainReplay.{Key, has_arrived, first_track, plain_replay}
@@ -25,7 +25,7 @@ use Rattle.fb_model.specs.Decisions.{Decision, idles, instant_of, end_of, Act, s
 use Rattle.fb_model.specs.Decisions.{decisions, among}
 use Rattle.fb_model.specs.History.{Past, tested, wanted}
 use Rattle.fb_model.specs.Images.{test_rows}
-use Rattle.fb_model.specs.Rides.{due}
+use Rattle.fb_model.specs.Deliveries.{due}
 use Rattle.fb_model.specs.Steps.{Delivery, Step, decision_in, decisions_in, chosen_past, with_delivery, with_finish, tested_past}
 use Rattle.fb_model.specs.Steps.{past_after, AtEach, opening, step_rows}
 use Rattle.fb_model.specs.Accepted.{IsAccepted, IsRising}
@@ -214,17 +214,17 @@ module _ (disk : Disk) (latent : List ℕ) (key : Key) (trace_a trace_b : List R
       kept unknown_a unknown_b in
       let got_a = delivered_rows x.deliveries ++ (rest_a ++ more_a) in
       let got_b = delivered_rows y.deliveries ++ (rest_b ++ more_b) in
-      let opened : AreKnownAlike t (IdleLine (record { track = head; begin = now; end = end_a })
-      ∷ got_a) (IdleLine (record { track = head; begin = now; end = end_b }) ∷ got_b) = λ follows.
-      ap (λ b. only_if b (IdleLine (record { track = head; begin = now; end = end_a })) (known_from t false got_a))
+      let opened : AreKnownAlike t (BackIdle (record { track = head; begin = now; end = end_a })
+      ∷ got_a) (BackIdle (record { track = head; begin = now; end = end_b }) ∷ got_b) = λ follows.
+      ap (λ b. only_if b (BackIdle (record { track = head; begin = now; end = end_a })) (known_from t false got_a))
       (after_is end_a t late_a)
-      ∙ (alike false ∙ sym (ap (λ b. only_if b (IdleLine (record { track = head; begin = now; end = end_b })) (known_from t false got_b))
+      ∙ (alike false ∙ sym (ap (λ b. only_if b (BackIdle (record { track = head; begin = now; end = end_b })) (known_from t false got_b))
       (after_is end_b t late_b))) in
       λ follows.
       ap (known_from t follows) (regroup x.test (opening disk (idling dwell_a)) (delivered_rows x.deliveries) rest_a more_a)
-      ∙ (alike_behind t x.test (IdleLine (record { track = head; begin = now; end = end_a }) ∷ got_a)
-      (IdleLine (record { track = head; begin = now; end = end_b }) ∷ got_b) opened follows
-      ∙ (ap (λ rows. known_from t follows (rows ++ (IdleLine (record { track = head; begin = now; end = end_b }) ∷ got_b))) rows
+      ∙ (alike_behind t x.test (BackIdle (record { track = head; begin = now; end = end_a }) ∷ got_a)
+      (BackIdle (record { track = head; begin = now; end = end_b }) ∷ got_b) opened follows
+      ∙ (ap (λ rows. known_from t follows (rows ++ (BackIdle (record { track = head; begin = now; end = end_b }) ∷ got_b))) rows
       ∙ sym (ap (known_from t follows) (regroup y.test (opening disk (idling dwell_b)) (delivered_rows y.deliveries) rest_b more_b))))
 
   no_property : (past : Past) → AreFine (HasBegun done) past → AreFine any_delivery past

@@ -33,7 +33,7 @@ use Rattle.fb_model.specs.Inputs.{Inputs, requests}
 use Rattle.fb_model.specs.Accepted.{IsAccepted, IsRequestOf}
 use Rattle.fb_store.specs.Writes.{writer_of}
 use Rattle.fb_model.specs.Content.{Written, writes_of}
-use Rattle.fb_model.specs.Rides.{begin_at, end_at, lies_in}
+use Rattle.fb_model.specs.Deliveries.{begin_at, end_at, lies_in}
 use Rattle.fb_model.proofs.Picks.{all_picked}
 use Rattle.fb_model.proofs.Replays.{AreTurns, IsTurn}
 

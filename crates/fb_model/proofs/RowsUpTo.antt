@@ -14,8 +14,8 @@ use Rattle.fb_store.specs.Runs.{runs_of}
 use Rattle.fb_wanted.specs.declared.block.Block.{Block}
 use Rattle.fb_wanted.specs.States.{is_delivered}
 use Rattle.fb_rows.specs.declared.back.BackRow.{BackRow}
-use Rattle.fb_rows.specs.declared.back.BackRow.TheVariants.{Got as GotLine, Bad as BadLine, Seal as SealLine}
-use Rattle.fb_rows.specs.declared.back.BackRow.TheVariants.{Complete as CompleteLine}
+use Rattle.fb_rows.specs.declared.back.BackRow.TheVariants.{Got as BackGot, Bad as BackBad, Seal as BackSeal}
+use Rattle.fb_rows.specs.declared.back.BackRow.TheVariants.{Complete as BackComplete}
 use Rattle.fb_rows.specs.declared.back.DeliveryRow.{DeliveryRow}
 use Rattle.fb_model.specs.Content.{Medium, contents_at}
 use Rattle.fb_model.specs.History.{Past, called, chose, tested, delivered, finished, task_numbers, terms_of, blocks_of, same_block}
@@ -75,8 +75,8 @@ module _ (t : ℕ) where
       (all_flat_map (IsUnknown t) (λ task. seal_rows (image medium past task now) past now task ++ complete_rows past now task) (λ task.
       all_append (IsUnknown t) (seal_rows (image medium past task now) past now task) (complete_rows past now task)
       (one_unknown (is_open_backup past task && is_complete past task)
-      (SealLine (record { task = task; instant = now; content = image medium past task now })) (λ follows. late))
-      (one_unknown (is_complete past task && not (was_complete past task)) (CompleteLine (record { task = task; instant = now }))
+      (BackSeal (record { task = task; instant = now; content = image medium past task now })) (λ follows. late))
+      (one_unknown (is_complete past task && not (was_complete past task)) (BackComplete (record { task = task; instant = now }))
       (λ follows. late))) (task_numbers past))
 
   pub tasks_unknown : (past : Past) → AreUnknown t (task_rows past)
@@ -89,21 +89,21 @@ module _ (t : ℕ) where
 
   -- findings that follow what isn't known
   sectors_unknown : (task : ℕ) (lbns : List ℕ) (more : List BackRow) → AreUnknown t more
-      → known_from t false (map (λ lbn. BadLine (record { task = task; lbn = lbn })) lbns ++ more) ≡ []
+      → known_from t false (map (λ lbn. BackBad (record { task = task; lbn = lbn })) lbns ++ more) ≡ []
   sectors_unknown task [] more h = h false
   sectors_unknown task (lbn ∷ lbns) more h = sectors_unknown task lbns more h
 
   findings_unknown : (b : Bool) (task : ℕ) (lbns : List ℕ) (more : List BackRow) → AreUnknown t more
-      → known_from t false ((if b then map (λ lbn. BadLine (record { task = task; lbn = lbn })) lbns else []) ++ more) ≡ []
+      → known_from t false ((if b then map (λ lbn. BackBad (record { task = task; lbn = lbn })) lbns else []) ++ more) ≡ []
   findings_unknown true task lbns more h = sectors_unknown task lbns more h
   findings_unknown false task lbns more h = h false
 
   -- a delivery after t, and what follows it
   delivery_unknown : (medium : Medium) (past next : Past) (got : DeliveryRow) (more : List BackRow) → t < got.end → AreUnknown t more
-      → AreUnknown t (GotLine got ∷ (findings past got ++ test_rows medium next got.end) ++ more)
+      → AreUnknown t (BackGot got ∷ (findings past got ++ test_rows medium next got.end) ++ more)
   delivery_unknown medium past next got more h unknown = λ follows.
       let late : nat_le got.end t ≡ false = after_is got.end t h in
-      ap (λ b. only_if b (GotLine got) (known_from t b ((findings past got ++ test_rows medium next got.end) ++ more))) late
+      ap (λ b. only_if b (BackGot got) (known_from t b ((findings past got ++ test_rows medium next got.end) ++ more))) late
       ∙ (ap (known_from t false) (append_assoc (findings past got) (test_rows medium next got.end) more)
       ∙ findings_unknown (is_scrub (terms_of past got.block.task).kind) got.block.task (bad_sectors got.content)
       (test_rows medium next got.end ++ more)
@@ -111,7 +111,7 @@ module _ (t : ℕ) where
 
 -- the rows of deliveries with what follows each
 abbrev pub delivered_rows : List Delivery → List BackRow
-delivered_rows deliveries = flat_map (λ delivery. GotLine delivery.got ∷ delivery.after) deliveries
+delivered_rows deliveries = flat_map (λ delivery. BackGot delivery.got ∷ delivery.after) deliveries
 
 module _ (t : ℕ) (medium : Medium) where
   pub deliveries_unknown : (past : Past) (deliveries : List Delivery) (more : List BackRow) → AreFollowed medium past deliveries
@@ -119,8 +119,8 @@ module _ (t : ℕ) (medium : Medium) where
       → AreUnknown t more → AreUnknown t (delivered_rows deliveries ++ more)
   deliveries_unknown past [] more followed late h = h
   deliveries_unknown past (d ∷ ds) more followed late h =
-      subst (AreUnknown t) (sym (append_assoc (GotLine d.got ∷ d.after) (delivered_rows ds) more))
-      (subst (λ after. AreUnknown t (GotLine d.got ∷ after ++ (delivered_rows ds ++ more))) (sym followed.0)
+      subst (AreUnknown t) (sym (append_assoc (BackGot d.got ∷ d.after) (delivered_rows ds) more))
+      (subst (λ after. AreUnknown t (BackGot d.got ∷ after ++ (delivered_rows ds ++ more))) (sym followed.0)
       (delivery_unknown t medium past (delivered d.got ∷ past) d.got (delivered_rows ds ++ more) late.0
       (deliveries_unknown (with_delivery past d) ds more followed.1 late.1 h)))
 
@@ -162,7 +162,7 @@ module _ (done : ℕ) (a b : Medium) (same : HoldSame done a b) where
   same_seals : (past : Past) (now task : ℕ) → now ≤ done
       → seal_rows (image a past task now) past now task ≡ seal_rows (image b past task now) past now task
   same_seals past now task h = ap (λ content. if is_open_backup past task && is_complete past task
-      then SealLine (record { task = task; instant = now; content = content }) ∷ [] else []) (same_image past task now h)
+      then BackSeal (record { task = task; instant = now; content = content }) ∷ [] else []) (same_image past task now h)
 
   pub same_tests : (past : Past) (now : ℕ) → AreFine (HasBegun done) past → now ≤ done → test_rows a past now ≡ test_rows b past now
   unfolding test_rows
@@ -234,13 +234,13 @@ module _ (t done : ℕ) (since : t ≤ done) (a b : Medium) (same : HoldSame don
                   ∙ (ap (λ got. findings past got ++ test_rows b (delivered got ∷ past) got.end) got ∙ sym follow_y.0)) in
                   let one : x ≡ y = ap₂ (λ got after. record { got = got; after = after }) got after in
                   subst (λ d. AreKnownAlike t (delivered_rows (x ∷ xs) ++ more_x) (delivered_rows (d ∷ ys) ++ more_y)) one
-                  (λ follows. ap (known_from t follows) (append_assoc (GotLine x.got ∷ x.after) (delivered_rows xs) more_x)
-                  ∙ (alike_behind t (GotLine x.got ∷ x.after) (delivered_rows xs ++ more_x) (delivered_rows ys ++ more_y)
+                  (λ follows. ap (known_from t follows) (append_assoc (BackGot x.got ∷ x.after) (delivered_rows xs) more_x)
+                  ∙ (alike_behind t (BackGot x.got ∷ x.after) (delivered_rows xs ++ more_x) (delivered_rows ys ++ more_y)
                   (alike_deliveries (with_delivery past x) xs ys more_x more_y (tt, (over.0, fine)) follow_x.1
                   (subst (λ d. AreFollowed b (with_delivery past d) ys) (sym one) follow_y.1)
                   rising_x.1 rising_y.1 order.1 (same_rest x.got y.got (filter (ends_by_then t) (gots xs))
                   (filter (ends_by_then t) (gots ys)) both) unknown_x unknown_y) follows
-                  ∙ sym (ap (known_from t follows) (append_assoc (GotLine x.got ∷ x.after) (delivered_rows ys) more_y))))
+                  ∙ sym (ap (known_from t follows) (append_assoc (BackGot x.got ∷ x.after) (delivered_rows ys) more_y))))
               | inr late_y ↦ absurd (not_none x.got (filter (ends_by_then t) (gots xs))
                   (kept ∙ late_kept t (gots (y ∷ ys)) (rest_late t y.got (gots ys) rising_y late_y)))
             ]

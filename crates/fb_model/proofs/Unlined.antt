@@ -20,8 +20,8 @@ use Rattle.fb_wanted.specs.declared.block.Block.{Block}
 use Rattle.fb_wanted.specs.declared.block.State.{State}
 use Rattle.fb_wanted.specs.declared.block.State.TheVariants.{Wanted, Suspended, Delivered, Aborted}
 use Rattle.fb_wanted.specs.States.{is_wanted, is_delivered}
-use Rattle.fb_rows.specs.declared.back.BackRow.TheVariants.{Bad as BadLine, Seal as SealLine}
-use Rattle.fb_rows.specs.declared.back.BackRow.TheVariants.{Complete as CompleteLine}
+use Rattle.fb_rows.specs.declared.back.BackRow.TheVariants.{Bad as BackBad, Seal as BackSeal}
+use Rattle.fb_rows.specs.declared.back.BackRow.TheVariants.{Complete as BackComplete}
 use Rattle.fb_rows.specs.declared.back.DeliveryRow.{DeliveryRow}
 use Rattle.fb_model.specs.Inputs.{Inputs}
 use Rattle.fb_model.specs.Content.{Medium, contents_at}
@@ -36,7 +36,7 @@ use Rattle.fb_model.specs.Segments.{numbered, is_better, unchosen, is_busy, choo
 use Rattle.fb_model.specs.Segments.{choose_in, with_choices}
 use Rattle.fb_model.specs.Images.{bad_sectors, is_scrub, findings, held_at_delivery, packed, is_newly_cleaned, segment_rows, image}
 use Rattle.fb_model.specs.Images.{segment_row, seal_rows, complete_rows, test_rows}
-use Rattle.fb_model.specs.Rides.{due}
+use Rattle.fb_model.specs.Deliveries.{due}
 use Rattle.fb_model.specs.Steps.{Delivery, Step, decision_in, blocks_by, take_call, calls_due, chosen_past, with_delivery, with_finish}
 use Rattle.fb_model.specs.Steps.{tested_past, past_after, AtEach}
 use Rattle.fb_model.specs.SoundRun.{AreFollowed}
@@ -314,7 +314,7 @@ after_same inputs past step =
 
 findings_same : (past : Past) (row : DeliveryRow) → findings (unlined_past past) row ≡ findings past row
 findings_same past row = ap (λ (terms : Terms). if is_scrub terms.kind then map
-    (λ lbn. BadLine (record { task = row.block.task; lbn = lbn })) (bad_sectors row.content) else []) (same_terms past row.block.task)
+    (λ lbn. BackBad (record { task = row.block.task; lbn = lbn })) (bad_sectors row.content) else []) (same_terms past row.block.task)
 
 module _ (medium : Medium) where
   packed_same : (past : Past) (choice : Choice) → packed medium (unlined_past past) choice ≡ packed medium past choice
@@ -339,11 +339,11 @@ module _ (medium : Medium) where
   seals_same : (past : Past) (now task : ℕ) → seal_rows (image medium (unlined_past past) task now) (unlined_past past) now task
       ≡ seal_rows (image medium past task now) past now task
   seals_same past now task =
-      ap₂ (λ b content. if b then SealLine (record { task = task; instant = now; content = content }) ∷ [] else [])
+      ap₂ (λ b content. if b then BackSeal (record { task = task; instant = now; content = content }) ∷ [] else [])
       (ap₂ (λ b c. b && c) (same_open past task) (same_complete past task)) (image_same past task now)
 
   completes_same : (past : Past) (now task : ℕ) → complete_rows (unlined_past past) now task ≡ complete_rows past now task
-  completes_same past now task = ap (λ b. if b then CompleteLine (record { task = task; instant = now }) ∷ [] else [])
+  completes_same past now task = ap (λ b. if b then BackComplete (record { task = task; instant = now }) ∷ [] else [])
       (ap₂ (λ b c. b && not c) (same_complete past task) (same_was past task))
 
   tests_same : (past : Past) (now : ℕ) → test_rows medium (unlined_past past) now ≡ test_rows medium past now

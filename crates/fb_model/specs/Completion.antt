@@ -16,7 +16,7 @@ use Rattle.fb_wanted.specs.declared.block.State.TheVariants.{Wanted, Suspended, 
 use Rattle.fb_wanted.specs.States.{shares, is_delivered, is_wanted}
 use Rattle.fb_rows.specs.declared.back.BackRow.{BackRow}
 use Rattle.fb_rows.specs.declared.back.DeliveryRow.{DeliveryRow}
-use Rattle.fb_rows.specs.declared.back.BackRow.TheVariants.{Segment as SegmentLine}
+use Rattle.fb_rows.specs.declared.back.BackRow.TheVariants.{Segment as BackSegment}
 use Rattle.fb_model.specs.History.{called, chose, tested, Past, LogSegment, Terms, terms_of, blocks_of, calls_of, same_block, is_seal_of}
 use Rattle.fb_model.specs.History.{bare_state, content_of, is_aborted, is_suspended, is_sealed}
 
@@ -57,7 +57,7 @@ is_closed (_ ∷ past) task = is_closed past task
 
 -- the row tells of the task's segment of this number
 abbrev pub is_segment_of : ℕ → ℕ → BackRow → Bool
-is_segment_of task number (SegmentLine row) = (row.task == task) && (row.segment == number)
+is_segment_of task number (BackSegment row) = (row.task == task) && (row.segment == number)
 is_segment_of task number _ = false
 
 -- the segment's row has been given

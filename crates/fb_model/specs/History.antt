@@ -16,7 +16,7 @@ use Rattle.fb_wanted.specs.States.{shares, is_wanted, is_delivered}
 pub use Rattle.fb_wanted.specs.States.{is_aborted}
 use Rattle.fb_rows.specs.declared.back.DeliveryRow.{DeliveryRow}
 use Rattle.fb_rows.specs.declared.back.BackRow.{BackRow}
-use Rattle.fb_rows.specs.declared.back.BackRow.TheVariants.{Seal as SealLine}
+use Rattle.fb_rows.specs.declared.back.BackRow.TheVariants.{Seal as BackSeal}
 
 -- a segment of a log, numbered from 1 in its task
 pub record LogSegment : Type 0 where
@@ -112,7 +112,7 @@ overwrites _ block = false
 
 -- the row is the task's seal
 abbrev pub is_seal_of : ℕ → BackRow → Bool
-is_seal_of task (SealLine row) = row.task == task
+is_seal_of task (BackSeal row) = row.task == task
 is_seal_of task _ = false
 
 -- the seal row of a backup has been given

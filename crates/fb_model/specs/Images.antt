@@ -10,8 +10,8 @@ use Rattle.fb_store.specs.Runs.{runs_of, same_content}
 use Rattle.fb_wanted.specs.declared.block.Block.{Block}
 use Rattle.fb_rows.specs.declared.back.DeliveryRow.{DeliveryRow}
 use Rattle.fb_rows.specs.declared.back.BackRow.{BackRow}
-use Rattle.fb_rows.specs.declared.back.BackRow.TheVariants.{Bad as BadLine, Seal as SealLine, Segment as SegmentLine}
-use Rattle.fb_rows.specs.declared.back.BackRow.TheVariants.{Complete as CompleteLine}
+use Rattle.fb_rows.specs.declared.back.BackRow.TheVariants.{Bad as BackBad, Seal as BackSeal, Segment as BackSegment}
+use Rattle.fb_rows.specs.declared.back.BackRow.TheVariants.{Complete as BackComplete}
 use Rattle.fb_model.specs.Content.{Medium, contents_at}
 use Rattle.fb_wanted.specs.States.{is_delivered}
 use Rattle.fb_model.specs.History.{delivered, Past, terms_of, task_numbers, blocks_of, same_block, is_open_backup}
@@ -30,7 +30,7 @@ is_scrub _ = false
 -- the findings of a scrub's delivery
 abbrev pub findings : Past → DeliveryRow → List BackRow
 findings past row = if is_scrub (terms_of past row.block.task).kind
-    then map (λ lbn. BadLine (record { task = row.block.task; lbn = lbn })) (bad_sectors row.content)
+    then map (λ lbn. BackBad (record { task = row.block.task; lbn = lbn })) (bad_sectors row.content)
     else []
 
 -- what the delivered blocks of a task hold at one instant
@@ -56,7 +56,7 @@ is_newly_cleaned work choice = is_cleaned work choice && not (work.reported choi
 
 -- the row of a segment that was cleaned, with these contents
 abbrev pub segment_row : ℕ → ℕ → List ContentRun → Choice → BackRow
-segment_row now task content choice = SegmentLine
+segment_row now task content choice = BackSegment
     (record { task = task; segment = choice.segment.number; instant = now; live = live_count choice.segment; content = content })
 
 -- the rows of the segments that are cleaned and have none yet, each with the contents given for it
@@ -67,13 +67,13 @@ segment_rows content past now task = map (λ choice. segment_row now task (conte
 -- a backup is sealed, with these contents, at the first test at which it is complete
 abbrev pub seal_rows : List ContentRun → Past → ℕ → ℕ → List BackRow
 seal_rows content past now task = if is_open_backup past task && is_complete past task
-    then SealLine (record { task = task; instant = now; content = content }) ∷ []
+    then BackSeal (record { task = task; instant = now; content = content }) ∷ []
     else []
 
 -- a completion row stands where a task is complete and wasn't at the test before
 abbrev pub complete_rows : Past → ℕ → ℕ → List BackRow
 complete_rows past now task = if is_complete past task && not (was_complete past task)
-    then CompleteLine (record { task = task; instant = now }) ∷ []
+    then BackComplete (record { task = task; instant = now }) ∷ []
     else []
 
 -- the rows of a test of completion: all segment rows, and then task by task its seal and its completion

@@ -4,9 +4,9 @@ use Rattle.fb_geometry.specs.Sound.{IsSound}
 use Rattle.fb_calls.specs.declared.call.Call.{Call}
 use Rattle.fb_rows.specs.declared.fore.ForeRow.{ForeRow}
 use Rattle.fb_rows.specs.declared.back.BackRow.{BackRow}
-use Rattle.fb_rows.specs.declared.back.BackRow.TheVariants.{Gap as GapLine, Idle as IdleLine, Got as GotLine, Bad as BadLine}
-use Rattle.fb_rows.specs.declared.back.BackRow.TheVariants.{Seal as SealLine, Segment as SegmentLine, Complete as CompleteLine}
-use Rattle.fb_rows.specs.declared.back.BackRow.TheVariants.{Task as TaskLine}
+use Rattle.fb_rows.specs.declared.back.BackRow.TheVariants.{Gap as BackGap, Idle as BackIdle, Got as BackGot, Bad as BackBad}
+use Rattle.fb_rows.specs.declared.back.BackRow.TheVariants.{Seal as BackSeal, Segment as BackSegment, Complete as BackComplete}
+use Rattle.fb_rows.specs.declared.back.BackRow.TheVariants.{Task as BackTask}
 use Rattle.fb_rows.specs.declared.run.Run.{Run}
 use Rattle.fb_model.specs.Inputs.{Inputs, requests}
 use Rattle.fb_model.specs.Accepted.{IsAccepted}
@@ -18,19 +18,19 @@ fore_known t rows = filter (λ row. nat_le row.start t) rows
 
 -- a row is known by t; a finding is known if the delivery that it follows is
 abbrev pub is_known : ℕ → Bool → BackRow → Bool
-is_known t follows (GapLine row) = nat_le row.gap.now t
-is_known t follows (IdleLine row) = nat_le row.end t
-is_known t follows (GotLine row) = nat_le row.end t
-is_known t follows (BadLine row) = follows
-is_known t follows (SealLine row) = nat_le row.instant t
-is_known t follows (SegmentLine row) = nat_le row.instant t
-is_known t follows (CompleteLine row) = nat_le row.instant t
-is_known t follows (TaskLine row) = false
+is_known t follows (BackGap row) = nat_le row.gap.now t
+is_known t follows (BackIdle row) = nat_le row.end t
+is_known t follows (BackGot row) = nat_le row.end t
+is_known t follows (BackBad row) = follows
+is_known t follows (BackSeal row) = nat_le row.instant t
+is_known t follows (BackSegment row) = nat_le row.instant t
+is_known t follows (BackComplete row) = nat_le row.instant t
+is_known t follows (BackTask row) = false
 
 -- the row behind this one follows a delivery that is known by t, with only findings between
 abbrev pub follows_known : ℕ → Bool → BackRow → Bool
-follows_known t follows (GotLine row) = nat_le row.end t
-follows_known t follows (BadLine row) = follows
+follows_known t follows (BackGot row) = nat_le row.end t
+follows_known t follows (BackBad row) = follows
 follows_known t follows _ = false
 
 -- the row before others, if the test holds

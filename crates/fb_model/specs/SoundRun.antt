@@ -14,7 +14,7 @@ use Rattle.fb_model.specs.Plans.{IsPlan}
 use Rattle.fb_model.specs.Decisions.{Act, serving, instant_of, decisions, run_end}
 use Rattle.fb_model.specs.History.{Past, delivered, wanted}
 use Rattle.fb_model.specs.Images.{findings, test_rows}
-use Rattle.fb_model.specs.Rides.{gap_of, due}
+use Rattle.fb_model.specs.Deliveries.{gap_of, due}
 use Rattle.fb_model.specs.Steps.{Delivery, Step, decision_in, decisions_in, chosen_past, tested_past, with_delivery, history, AtEach}
 use Rattle.fb_model.specs.Steps.{step_rows, task_rows}
 

@@ -11,13 +11,13 @@ use Rattle.fb_wanted.specs.declared.block.Block.{Block}
 use Rattle.fb_wanted.specs.States.{is_delivered}
 use Rattle.fb_rows.specs.declared.back.DeliveryRow.{DeliveryRow}
 use Rattle.fb_rows.specs.declared.back.BackRow.{BackRow}
-use Rattle.fb_rows.specs.declared.back.BackRow.TheVariants.{Gap as GapLine, Idle as IdleLine, Got as GotLine, Task as TaskLine}
+use Rattle.fb_rows.specs.declared.back.BackRow.TheVariants.{Gap as BackGap, Idle as BackIdle, Got as BackGot, Task as BackTask}
 use Rattle.fb_model.specs.Inputs.{Inputs}
 use Rattle.fb_model.specs.Decisions.{Decision, serves, instant_of, Act, serving, idling, ending, decision_of}
 use Rattle.fb_model.specs.History.{called, tested, delivered, finished, Past, calls_of, task_numbers, terms_of, is_aborted}
 use Rattle.fb_model.specs.Completion.{work, is_complete}
 use Rattle.fb_model.specs.Segments.{next_blocks, with_choices}
-use Rattle.fb_model.specs.Rides.{gap_of}
+use Rattle.fb_model.specs.Deliveries.{gap_of}
 
 -- a delivery, and the rows that follow it
 pub record Delivery : Type 0 where
@@ -88,19 +88,19 @@ AtEach P inputs past (step ∷ steps) = P past step × AtEach P inputs (past_aft
 
 -- the gap row of the request that is served, or the idle row
 abbrev pub opening : Disk → Act → List BackRow
-opening disk (serving served plan) = GapLine (record { name = served.request.name; gap = gap_of disk served; plan = plan }) ∷ []
-opening disk (idling dwell) = IdleLine dwell ∷ []
+opening disk (serving served plan) = BackGap (record { name = served.request.name; gap = gap_of disk served; plan = plan }) ∷ []
+opening disk (idling dwell) = BackIdle dwell ∷ []
 opening disk (ending now) = []
 
 -- a step's rows: those of its test, the gap or idle row, the deliveries with what follows each
 abbrev pub step_rows : Disk → Step → List BackRow
-step_rows disk step = step.test ++ opening disk step.act ++ flat_map (λ delivery. GotLine delivery.got ∷ delivery.after) step.deliveries
+step_rows disk step = step.test ++ opening disk step.act ++ flat_map (λ delivery. BackGot delivery.got ∷ delivery.after) step.deliveries
 
 -- how a task stands
 abbrev pub task_row : Past → ℕ → BackRow
 task_row past task =
     let now = work past task in
-    TaskLine (record {
+    BackTask (record {
       task = task;
       kind = now.terms.kind;
       registered = length now.blocks;

@@ -14,7 +14,7 @@ use Rattle.fb_rows.specs.declared.gap.Gap.{Gap}
 use Rattle.fb_rows.specs.declared.gap.Plan.{Plan}
 use Rattle.fb_rows.specs.declared.gap.Plan.TheVariants.{Direct, Detour}
 use Rattle.fb_rows.specs.declared.back.BackRow.{BackRow}
-use Rattle.fb_rows.specs.declared.back.BackRow.TheVariants.{Gap as GapLine, Idle as IdleLine}
+use Rattle.fb_rows.specs.declared.back.BackRow.TheVariants.{Gap as BackGap, Idle as BackIdle}
 use Rattle.fb_model.specs.PlainReplay.{first_track}
 
 -- a leg of the head's way: a stay on a track, a move from one to another, a sector's passage
@@ -60,9 +60,9 @@ service_legs disk gap row = passing disk gap.target gap.deadline row.request.wri
 -- the whole way of the head, from the background rows in order, each gap row with the next foreground row
 unfoldable pub timeline : Disk → List BackRow → List ForeRow → List Leg
 timeline disk [] fore = []
-timeline disk (IdleLine dwell ∷ back) fore = stay dwell.track dwell.begin dwell.end ∷ timeline disk back fore
-timeline disk (GapLine row ∷ back) [] = gap_legs disk row.gap row.plan ++ timeline disk back []
-timeline disk (GapLine row ∷ back) (served ∷ fore) =
+timeline disk (BackIdle dwell ∷ back) fore = stay dwell.track dwell.begin dwell.end ∷ timeline disk back fore
+timeline disk (BackGap row ∷ back) [] = gap_legs disk row.gap row.plan ++ timeline disk back []
+timeline disk (BackGap row ∷ back) (served ∷ fore) =
     gap_legs disk row.gap row.plan ++ service_legs disk row.gap served ++ timeline disk back fore
 timeline disk (_ ∷ back) fore = timeline disk back fore
 

@@ -13,7 +13,7 @@ use fb_sectormap::SectorMap;
 use fb_seek::{Mechanism, SeekPoint};
 use fb_service::Disk;
 use fb_units::{NoMemory, Ns, Track};
-use fb_wanted::{Block, Wanted};
+use fb_wanted::{Block, Blocks};
 use std::alloc::Global;
 
 /// A seek table whose times rise with the distance.
@@ -154,20 +154,20 @@ fn block_of(disk: &Disk, number: u32, wish: Wish) -> Option<Block>
 }
 
 // The blocks of one task; `None` where a wish isn't exactly one block of the disk.
-fn wanted_of(alloc: Global, disk: &Disk, wishes: &[Wish]) -> Result<Option<Wanted>, NoMemory>
-    ensures { IfOk result (λ some. IfSome some (λ wanted. AreOnDisk disk.now wanted)) }
+fn wanted_of(alloc: Global, disk: &Disk, wishes: &[Wish]) -> Result<Option<Blocks>, NoMemory>
+    ensures { IfOk result (λ some. IfSome some (λ blocks. AreOnDisk disk.now blocks)) }
 {
-    let mut wanted = Wanted::new(alloc);
+    let mut blocks = Blocks::new(alloc);
     if wishes.len() > 100 {
         return Ok(None);
     }
     for i in 0..wishes.len() {
         match block_of(disk, i as u32, wishes[i]) {
-            Some(block) => wanted.register(block, wishes[i].suspended)?,
+            Some(block) => blocks.register(block, wishes[i].suspended)?,
             None => return Ok(None),
         }
     }
-    Ok(Some(wanted))
+    Ok(Some(blocks))
 }
 
 // Whether the disk can have this gap.
@@ -210,32 +210,32 @@ pub fn answers(
     let Some(disk) = disk_of(alloc, setting)? else {
         return Ok(None);
     };
-    let Some(wanted) = wanted_of(alloc, &disk, wishes)? else {
+    let Some(blocks) = wanted_of(alloc, &disk, wishes)? else {
         return Ok(None);
     };
-    answers_on(alloc, &disk, &wanted, &setting.gap)
+    answers_on(alloc, &disk, &blocks, &setting.gap)
 }
 
 // What they choose on this disk for these blocks; `None` where the gap is refused.
 fn answers_on(
     alloc: Global,
     disk: &Disk,
-    wanted: &Wanted,
+    blocks: &Blocks,
     gap: &Gap,
 ) -> Result<Option<Chosen>, NoMemory>
-    requires { AreOnDisk disk.now wanted.now }
+    requires { AreOnDisk disk.now blocks.now }
 {
     if !is_gap(disk, gap) {
         return Ok(None);
     }
-    let slow = SlowPlanner.best(disk, wanted, gap);
-    let indexed = IndexedPlanner.best(disk, wanted, gap);
+    let slow = SlowPlanner.best(disk, blocks, gap);
+    let indexed = IndexedPlanner.best(disk, blocks, gap);
     let pair = dwells(disk, slow, gap);
     let mut passages = Vec::new(alloc);
-    for catch in &caught(alloc, disk, wanted, pair.early)? {
+    for catch in &caught(alloc, disk, blocks, pair.early)? {
         passages.push((catch.block.lbn, catch.begin, catch.end))?;
     }
-    for catch in &caught(alloc, disk, wanted, pair.late)? {
+    for catch in &caught(alloc, disk, blocks, pair.late)? {
         passages.push((catch.block.lbn, catch.begin, catch.end))?;
     }
     Ok(Some(Chosen {

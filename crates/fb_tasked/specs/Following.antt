@@ -9,7 +9,7 @@ use Rattle.fb_tasks.specs.declared.session.Session.{Session}
 use Rattle.fb_tasks.specs.Script.{IsCalled}
 use Rattle.fb_tasks.specs.Telling.{Tells, IsUpToDate}
 
--- the sessions and the wanted set tell a history in which the first calls have taken effect, and perhaps all was tested
+-- the sessions and the registered blocks tell a history in which the first calls have taken effect, and perhaps all was tested
 pub record Follows (up_to_date : Bool) (disk : Shape) (calls : List Call) (next : ℕ) (sessions : List Session)
     (held : List Entry) : Type 0 where
   pub script : IsScript disk 0 calls

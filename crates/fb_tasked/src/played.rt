@@ -11,7 +11,7 @@ use fb_sectormap::SectorMap;
 use fb_store::{Store, runs_are_fewest};
 use fb_tasks::Sessions;
 use fb_units::{NoMemory, Ns};
-use fb_wanted::{Block, Entry, State, Wanted};
+use fb_wanted::{Block, Blocks, Entry, State};
 use std::alloc::Global;
 use std::process::Abort;
 use std::test::Fail;
@@ -81,7 +81,7 @@ struct PlayedScript {
     calls: Calls,
     store: Store,
     sessions: Sessions,
-    wanted: Wanted,
+    blocks: Blocks,
     rows: BackRows,
     // How many calls have taken effect.
     called: usize,
@@ -93,7 +93,7 @@ impl PlayedScript {
     // Nothing has happened yet.
     fn new(alloc: Global, script: &[u8], latent: &[u64]) -> Result<PlayedScript, Fail>
         ensures { IfOk result
-            (λ played. Follows played.up_to_date played.map played.calls.calls.items played.called played.sessions played.wanted) }
+            (λ played. Follows played.up_to_date played.map played.calls.calls.items played.called played.sessions played.blocks) }
     {
         let map = disk(alloc)?;
         let calls = read_calls(alloc, script, &map, 0)?;
@@ -102,7 +102,7 @@ impl PlayedScript {
             calls,
             store: Store::new(alloc, latent)?,
             sessions: Sessions::new(alloc),
-            wanted: Wanted::new(alloc),
+            blocks: Blocks::new(alloc),
             rows: BackRows::new(alloc),
             called: 0,
             up_to_date: false,
@@ -111,9 +111,9 @@ impl PlayedScript {
 
     // What happens next.
     fn step(&mut self, rt: &impl Abort, alloc: Global, step: Step) -> Result<(), Fail>
-        requires { Follows self.old.up_to_date self.old.map self.old.calls.calls.items self.old.called self.old.sessions self.old.wanted }
+        requires { Follows self.old.up_to_date self.old.map self.old.calls.calls.items self.old.called self.old.sessions self.old.blocks }
         ensures { OnOk result
-            (Follows self.new.up_to_date self.new.map self.new.calls.calls.items self.new.called self.new.sessions self.new.wanted) }
+            (Follows self.new.up_to_date self.new.map self.new.calls.calls.items self.new.called self.new.sessions self.new.blocks) }
     {
         match step {
             Step::Prepare(now) => Ok(self.prepare(now)?),
@@ -132,12 +132,12 @@ impl PlayedScript {
 
     // The calls up to an instant take effect.
     fn call(&mut self, now: Ns) -> Result<(), NoMemory>
-        requires { Follows false self.old.map self.old.calls.calls.items self.old.called self.old.sessions self.old.wanted }
-        ensures { OnOk result (Follows false self.new.map self.new.calls.calls.items self.new.called self.new.sessions self.new.wanted) }
+        requires { Follows false self.old.map self.old.calls.calls.items self.old.called self.old.sessions self.old.blocks }
+        ensures { OnOk result (Follows false self.new.map self.new.calls.calls.items self.new.called self.new.sessions self.new.blocks) }
     {
         while self.called < self.calls.calls.len() && self.calls.calls[self.called].instant <= now {
             let call = &self.calls.calls[self.called];
-            self.sessions.apply(&self.map, &mut self.wanted, call)?;
+            self.sessions.apply(&self.map, &mut self.blocks, call)?;
             self.called += 1;
         }
         Ok(())
@@ -145,23 +145,23 @@ impl PlayedScript {
 
     // The calls up to an instant take effect, the tasks choose segments, and all are tested.
     fn prepare(&mut self, now: Ns) -> Result<(), NoMemory>
-        requires { Follows self.old.up_to_date self.old.map self.old.calls.calls.items self.old.called self.old.sessions self.old.wanted }
+        requires { Follows self.old.up_to_date self.old.map self.old.calls.calls.items self.old.called self.old.sessions self.old.blocks }
         ensures { OnOk result
-            (Follows self.new.up_to_date self.new.map self.new.calls.calls.items self.new.called self.new.sessions self.new.wanted) }
+            (Follows self.new.up_to_date self.new.map self.new.calls.calls.items self.new.called self.new.sessions self.new.blocks) }
     {
         self.call(now)?;
         self.up_to_date = true;
         self.sessions
-            .choose_and_test(&self.map, &mut self.wanted, now, &mut self.rows)
+            .choose_and_test(&self.map, &mut self.blocks, now, &mut self.rows)
     }
 
     // The task's block of that number.
     fn entry(&self, task: u32, number: u32) -> Option<Entry>
-        requires { Follows self.now.up_to_date self.now.map self.now.calls.calls.items self.now.called self.now.sessions self.now.wanted }
-        ensures { IfSome result (λ entry. (index : ℕ) × (slice_get self.now.wanted index ≡ Some entry)) }
+        requires { Follows self.now.up_to_date self.now.map self.now.calls.calls.items self.now.called self.now.sessions self.now.blocks }
+        ensures { IfSome result (λ entry. (index : ℕ) × (slice_get self.now.blocks index ≡ Some entry)) }
     {
-        if number < self.wanted.counts(task).registered {
-            Some(self.wanted.entry(task, number))
+        if number < self.blocks.counts(task).registered {
+            Some(self.blocks.entry(task, number))
         } else {
             None
         }
@@ -169,9 +169,9 @@ impl PlayedScript {
 
     // The task's block of that number, if it may be delivered.
     fn wanted_block(&self, task: u32, number: u32) -> Result<Block, Fail>
-        requires { Follows self.now.up_to_date self.now.map self.now.calls.calls.items self.now.called self.now.sessions self.now.wanted }
+        requires { Follows self.now.up_to_date self.now.map self.now.calls.calls.items self.now.called self.now.sessions self.now.blocks }
         ensures { IfOk result (λ block. (self.now.up_to_date ≡ true) × (index : ℕ)
-            × (slice_get self.now.wanted index ≡ Some (record { block = block; state = State.Wanted }))) }
+            × (slice_get self.now.blocks index ≡ Some (record { block = block; state = State.Wanted }))) }
     {
         match self.entry(task, number) {
             Some(entry) => match entry.state {
@@ -191,10 +191,10 @@ impl PlayedScript {
         begin: Ns,
         end: Ns,
     ) -> Result<(), NoMemory>
-        requires follows { Follows true self.old.map self.old.calls.calls.items self.old.called self.old.sessions self.old.wanted }
-        requires wanted { (index : ℕ) × (slice_get self.old.wanted index ≡ Some (record { block = block; state = State.Wanted })) }
+        requires follows { Follows true self.old.map self.old.calls.calls.items self.old.called self.old.sessions self.old.blocks }
+        requires wanted { (index : ℕ) × (slice_get self.old.blocks index ≡ Some (record { block = block; state = State.Wanted })) }
         ensures { OnOk result
-            (Follows self.new.up_to_date self.new.map self.new.calls.calls.items self.new.called self.new.sessions self.new.wanted) }
+            (Follows self.new.up_to_date self.new.map self.new.calls.calls.items self.new.called self.new.sessions self.new.blocks) }
     {
         let content = self.store.runs(alloc, block.lbn, block.count)?;
         runs_are_fewest();
@@ -206,34 +206,34 @@ impl PlayedScript {
             bad: content.bad() as u32,
             content,
         };
-        self.sessions.deliver(&mut self.wanted, got, &mut self.rows)
+        self.sessions.deliver(&mut self.blocks, got, &mut self.rows)
     }
 
     // A write passes.
     fn write(&mut self, first: u64, count: u32, writer: u64) -> Result<(), Fail>
-        requires { Follows self.old.up_to_date self.old.map self.old.calls.calls.items self.old.called self.old.sessions self.old.wanted }
+        requires { Follows self.old.up_to_date self.old.map self.old.calls.calls.items self.old.called self.old.sessions self.old.blocks }
         ensures { OnOk result
-            (Follows self.new.up_to_date self.new.map self.new.calls.calls.items self.new.called self.new.sessions self.new.wanted) }
+            (Follows self.new.up_to_date self.new.map self.new.calls.calls.items self.new.called self.new.sessions self.new.blocks) }
     {
         if first >= 96 || count > 96 {
             return Err(Fail::from("beyond the disk"));
         }
         self.up_to_date = false;
         self.store.write_range(first, count, writer)?;
-        self.sessions.after_write(&mut self.wanted, first, count);
+        self.sessions.after_write(&mut self.blocks, first, count);
         Ok(())
     }
 
     // The rows of the tasks follow, and each says whether its task is complete.
     fn end(&mut self, rt: &impl Abort, alloc: Global) -> Result<(), Fail>
-        requires { Follows self.old.up_to_date self.old.map self.old.calls.calls.items self.old.called self.old.sessions self.old.wanted }
+        requires { Follows self.old.up_to_date self.old.map self.old.calls.calls.items self.old.called self.old.sessions self.old.blocks }
     {
-        self.sessions.task_rows(&self.wanted, &mut self.rows)?;
+        self.sessions.task_rows(&self.blocks, &mut self.rows)?;
         let mut rows = BackRows::new(alloc);
-        self.sessions.task_rows(&self.wanted, &mut rows)?;
+        self.sessions.task_rows(&self.blocks, &mut rows)?;
         for i in 0..rows.len() {
             let task = u32::try_from(i)?;
-            let complete = self.sessions.is_complete(&self.wanted, task);
+            let complete = self.sessions.is_complete(&self.blocks, task);
             if let BackRow::Task(row) = rows.get(i) {
                 assert_eq!(rt; complete, row.complete);
             }

@@ -2,7 +2,7 @@
 use Rattle.fb_tasks.proofs.Words.{◌≡◌, ℕ, zero, suc, ◌+◌, ◌<◌, ◌≤◌, ◌==◌, ◌&&◌, if◌then◌else◌, List, [], ◌∷◌, ◌++◌, true, false, Some}
 use Rattle.fb_tasks.proofs.Words.{None, Option, inl, inr, length, map, set, get_or, slice_get, append-nil, append_assoc, refl, ap, ap₂, sym}
 use Rattle.fb_tasks.proofs.Words.{◌∙◌, arith, subst, AllByRecursion, flat_map, list_any, range_with_len, cases_Bool, true≢false, nat_tests}
-use Rattle.fb_tasks.proofs.Words.{length-set, slice_get_within, slice_get-get_or, Shape, is_clean, option_map, BackRow, BadLine, GotLine}
+use Rattle.fb_tasks.proofs.Words.{length-set, slice_get_within, slice_get-get_or, Shape, is_clean, option_map, BackRow, BackBad, BackGot}
 use Rattle.fb_tasks.proofs.Words.{DeliveryRow, Deliver, Entry, Wanted, after, is_block, Content, Gives, Past, tested, delivered, tasks}
 use Rattle.fb_tasks.proofs.Words.{terms_of, registered, is_seal_of, Choice, TaskView, view, delivered_view, is_unsealed, is_done}
 use Rattle.fb_tasks.proofs.Words.{is_cleaned, delivered-silent, delivered-view, tested-view, same_number, test_rows_found}
@@ -196,9 +196,9 @@ module _ {disk : Shape} {past : Past} {sessions : List Session} {held now : List
 
     -- the rows of the session's test, one after the other
     module _ (rows : List BackRow) {with_got : List BackRow} {lbns : List ℕ}
-        (is : lbns ≡ (if is_scrub mid.kind then bad_sectors got.content else [])) (pushed : with_got ≡ rows ++ GotLine got ∷ []) where
+        (is : lbns ≡ (if is_scrub mid.kind then bad_sectors got.content else [])) (pushed : with_got ≡ rows ++ BackGot got ∷ []) where
       abbrev found : List BackRow
-      found = map (λ lbn. BadLine (record { task = got.block.task; lbn = lbn })) lbns
+      found = map (λ lbn. BackBad (record { task = got.block.task; lbn = lbn })) lbns
 
       abbrev segments : List BackRow
       segments = segment_rows_found (delivered got ∷ past) got.end got.block.task
@@ -213,24 +213,24 @@ module _ {disk : Shape} {past : Past} {sessions : List Session} {held now : List
           ap (λ t. t.kind) (sym (seen past got.block.task).terms ∙ told-own.stands.terms) ∙ sym (ap (λ (s : Session). s.kind) taken.same) in
           rw (kind, is) (grind arith)
 
-      due_is : GotLine got ∷ rows_after past got ≡ ((GotLine got ∷ found) ++ segments) ++ ends
-      due_is = ap (λ more. GotLine got ∷ findings past got ++ more) (own-rows got t.may got.end)
-          ∙ ap (λ rows. GotLine got ∷ rows) (ap (λ rows. rows ++ (segments ++ ends)) (sym findings_same)
+      due_is : BackGot got ∷ rows_after past got ≡ ((BackGot got ∷ found) ++ segments) ++ ends
+      due_is = ap (λ more. BackGot got ∷ findings past got ++ more) (own-rows got t.may got.end)
+          ∙ ap (λ rows. BackGot got ∷ rows) (ap (λ rows. rows ++ (segments ++ ends)) (sym findings_same)
           ∙ sym (append_assoc found segments ends))
 
-      due : {new : List BackRow} → HasBegun rows (((GotLine got ∷ found) ++ segments) ++ ends) new
-          → HasBegun rows (GotLine got ∷ rows_after past got) new
+      due : {new : List BackRow} → HasBegun rows (((BackGot got ∷ found) ++ segments) ++ ends) new
+          → HasBegun rows (BackGot got ∷ rows_after past got) new
       due {new} h = subst (λ due. HasBegun rows due new) (sym due_is) h
 
-      pub begun-findings : {new : List BackRow} → HasBegun with_got found new → HasBegun rows (GotLine got ∷ rows_after past got) new
-      begun-findings h = due (begun_longer ends (begun_longer segments (begun_after (GotLine got ∷ []) pushed h)))
+      pub begun-findings : {new : List BackRow} → HasBegun with_got found new → HasBegun rows (BackGot got ∷ rows_after past got) new
+      begun-findings h = due (begun_longer ends (begun_longer segments (begun_after (BackGot got ∷ []) pushed h)))
 
       module _ {with_findings : List BackRow} (added : with_findings ≡ with_got ++ found) where
-        all_found : with_findings ≡ rows ++ (GotLine got ∷ found)
-        all_found = rw (added, pushed) (append_assoc rows (GotLine got ∷ []) found)
+        all_found : with_findings ≡ rows ++ (BackGot got ∷ found)
+        all_found = rw (added, pushed) (append_assoc rows (BackGot got ∷ []) found)
 
-        pub begun-segment : {new : List BackRow} → new ≡ with_findings → HasBegun rows (GotLine got ∷ rows_after past got) new
-        begun-segment none = due (begun_longer ends (begun_after (GotLine got ∷ found) all_found (begun_same none)))
+        pub begun-segment : {new : List BackRow} → new ≡ with_findings → HasBegun rows (BackGot got ∷ rows_after past got) new
+        begun-segment none = due (begun_longer ends (begun_after (BackGot got ∷ found) all_found (begun_same none)))
 
         module _ {with_segment : List BackRow} {finished : Session}
             (finishes : (disk : Shape) (past : Past) → MayFinish disk past got.block.task mid now
@@ -241,25 +241,25 @@ module _ {disk : Shape} {past : Past} {sessions : List Session} {held now : List
               let is = finishes disk (delivered got ∷ past) may-finish in
               record { blocks = held-now got t.may now t.is; stands = is.0; at_work = is.1 }
 
-          with_all : with_segment ≡ rows ++ ((GotLine got ∷ found) ++ segments)
+          with_all : with_segment ≡ rows ++ ((BackGot got ∷ found) ++ segments)
           with_all = (finishes disk (delivered got ∷ past) may-finish).2
-              ∙ (ap (λ rows. rows ++ segments) all_found ∙ append_assoc rows (GotLine got ∷ found) segments)
+              ∙ (ap (λ rows. rows ++ segments) all_found ∙ append_assoc rows (BackGot got ∷ found) segments)
 
           pub begun-ends : {new : List BackRow} → ((disk : Shape) (past : Past) → HasChosen disk past got.block.task finished now
-              → HasBegun with_segment (ends_of past got.end got.block.task) new) → HasBegun rows (GotLine got ∷ rows_after past got) new
-          begun-ends begins = due (begun_after ((GotLine got ∷ found) ++ segments) with_all (begins disk (delivered got ∷ past) has-chosen))
+              → HasBegun with_segment (ends_of past got.end got.block.task) new) → HasBegun rows (BackGot got ∷ rows_after past got) new
+          begun-ends begins = due (begun_after ((BackGot got ∷ found) ++ segments) with_all (begins disk (delivered got ∷ past) has-chosen))
 
           pub has-delivered : {new : Session} {more : List BackRow}
               → ((disk : Shape) (past : Past) → HasChosen disk past got.block.task finished now
               → StandsAfterTest past got.block.task got.end new with_segment more)
               → (Stands (view (tested (rows_after past got) ∷ delivered got ∷ past) got.block.task) new)
               × (IsAtWork (view (tested (rows_after past got) ∷ delivered got ∷ past) got.block.task).work new)
-              × (more ≡ rows ++ GotLine got ∷ rows_after past got)
+              × (more ≡ rows ++ BackGot got ∷ rows_after past got)
           has-delivered tests =
               let is = tests disk (delivered got ∷ past) has-chosen in
               let own = is.session (rows_after past got) (all-given got t.may now (held-now got t.may now t.is) got.block.task) in (
                 own.0,
                 own.1,
                 is.rows ∙ (ap (λ rows. rows ++ ends) with_all
-                    ∙ (append_assoc rows ((GotLine got ∷ found) ++ segments) ends ∙ ap (λ due. rows ++ due) (sym due_is))),
+                    ∙ (append_assoc rows ((BackGot got ∷ found) ++ segments) ends ∙ ap (λ due. rows ++ due) (sym due_is))),
               )

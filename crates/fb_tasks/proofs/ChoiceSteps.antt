@@ -12,7 +12,7 @@ use Rattle.fb_tasks.proofs.Words.{IsPlaced, IsCutFrom, IsBlockOf, IsSegmentOf, A
 use Rattle.fb_tasks.proofs.Words.{Ascend, IsAtNumber, entry_of, Stands, MayChoose, choosable_by, HoldsImage, all_weaker, all_with}
 use Rattle.fb_tasks.proofs.Words.{all_append, all_filter, all_pass, all_flat, all_same, ne_eqb, none_of_any, one_or_other, same_Some}
 use Rattle.fb_tasks.proofs.Words.{filter_same, nat_tests, or-true, length-map, map-append, nil_from_length, filter-append, Kind, is_backup}
-use Rattle.fb_tasks.proofs.Words.{is_clean, ContentRun, runs_of, sectors_of, BackRow, SegmentLine, segment_row, segment_rows_found}
+use Rattle.fb_tasks.proofs.Words.{is_clean, ContentRun, runs_of, sectors_of, BackRow, BackSegment, segment_row, segment_rows_found}
 use Rattle.fb_tasks.proofs.Words.{is_newly_cleaned}
 use Rattle.fb_tasks.proofs.Words.{found_for, held_at, HasChosenUpTo}
 use Rattle.fb_tasks.proofs.Registered.{fresh_wanted, no_smaller, numbered_joined, registered-entries, named_same}
@@ -169,7 +169,7 @@ module _ (disk : Shape) (task : ℕ) (v : TaskView) (best : LogSegment) where
           tt,
         )) None refl tt
 
--- the wanted set holds the new blocks too
+-- the new blocks are registered too
 pub chosen-holds : (disk : Shape) (past : Past) (task : ℕ) (best : LogSegment) (session : Session) (held now : List Entry)
     → task < length (tasks past) → (view past task).terms.weight ≤ 1000 → 0 < (view past task).terms.block
     → (view past task).terms.block ≤ 2048 → length (places disk) ≤ 10 ^ 12
@@ -410,7 +410,7 @@ module _ {disk : Shape} {past : Past} {task : ℕ} {session : Session} {held : L
       some_block : 0 < (view past task).terms.block
       some_block = rw may.stands.terms may.stands.block.0
 
-      -- what the wanted set registers are the history's blocks
+      -- what is registered are the history's blocks
       holds_now : HoldsBlocks disk (next step.best) now
       holds_now =
           let many : numbering.registered_count task (numbering.blocks_of held) ≡ length v.blocks =
@@ -460,7 +460,7 @@ module _ {disk : Shape} {past : Past} {task : ℕ} {session : Session} {held : L
 
       -- none gives no blocks: its segment is cleaned, and has its row
       pub empty-chosen : (rows : List BackRow) (content : List ContentRun) → length (clean.live_of log number) ≡ 0 → content ≡ []
-          → rows ≡ old ++ SegmentLine (record {
+          → rows ≡ old ++ BackSegment (record {
             task = task;
             segment = number;
             instant = instant;

@@ -8,7 +8,7 @@ use Rattle.fb_tasks.proofs.Words.{Work, TaskView, view, state_in, is_over, Choic
 use Rattle.fb_tasks.proofs.Words.{is_complete_as, is_done, entry_by, entry_of, Stands, Cleans, IsAtWork, choice_in}
 use Rattle.fb_tasks.proofs.Words.{kept_segment, CleansBy, eqb-true, same_Some, all_flat, any_of_none, each_all, find_all, find-none}
 use Rattle.fb_tasks.proofs.Words.{all_any, all_weaker, nat_tests, and-false, list_any-append, Kind, Clean, is_clean, is_busy, same_number}
-use Rattle.fb_tasks.proofs.Words.{Session, is_none, is_worked_off, are_over, complete_as, complete_by, length-filter, BackRow, TaskLine}
+use Rattle.fb_tasks.proofs.Words.{Session, is_none, is_worked_off, are_over, complete_as, complete_by, length-filter, BackRow, BackTask}
 use Rattle.fb_tasks.proofs.Words.{task_row, map-range_with_len_more}
 use Rattle.fb_tasks.proofs.States.{seen, shown, shown_delivered, shown_aborted}
 use Rattle.fb_model.specs.History.{blocks_of}
@@ -24,7 +24,7 @@ pub registered_few : (task : ℕ) (es : List Entry) → numbering.registered_cou
 registered_few task es =
     omega (arith, filter-le (λ (block : Block). block.task == task) (numbering.blocks_of es), length-map es (λ e. e.block))
 
--- the wanted set's blocks of a task are the history's
+-- the registered blocks of a task are the history's
 abbrev entry_at : TaskView → Block → Entry
 entry_at v block = record { block = block; state = state_in v block }
 
@@ -180,7 +180,7 @@ map_more f before rows more n x so_far same pushed =
     rw (pushed, so_far, same, map-range_with_len_more f 0 n n (omega arith), append_assoc) refl
 
 row_of : ℕ → Kind → Counts → Bool → BackRow
-row_of task kind counts complete = TaskLine (record {
+row_of task kind counts complete = BackTask (record {
   task = task;
   kind = kind;
   registered = counts.registered;
@@ -196,7 +196,7 @@ by_view p t = simp length-filter
 pub row_same : (past : Past) (task : ℕ) (session : Session) (held : List Entry) (counts : Counts) (complete : Bool)
     → Stands (view past task) session → IsAtWork (view past task).work session → held ≡ map (entry_of past) (registered past)
     → counts ≡ counts_of task held → complete ≡ complete_by session counts
-    → TaskLine (record {
+    → BackTask (record {
       task = task;
       kind = session.kind;
       registered = counts.registered;

@@ -129,7 +129,7 @@ module _ (past : Past) (got : DeliveryRow) where
     | inr other ↦ rw (delivered-silent past got task other) still
   ]
 
-  -- the wanted set has the block delivered
+  -- the block is marked as delivered
   pub delivered-entries : (held now : List Entry) → held ≡ map (entry_of past) (registered past)
       → now ≡ after got.block.task (Deliver got.block.number) held → now ≡ map (entry_of (delivered got ∷ past)) (registered past)
   delivered-entries held now entries is_after = is_after ∙ (ap (after got.block.task (Deliver got.block.number)) entries

@@ -5,7 +5,7 @@ use Rattle.fb_units.proofs.Filtered.{all_kept}
 use Rattle.fb_tasks.proofs.Words.{◌≡◌, ℕ, ◌==◌, not, if◌then◌else◌, List, [], ◌∷◌, ◌++◌, Bool, true, false, Some, None, Option, inl}
 use Rattle.fb_tasks.proofs.Words.{inr, length, filter, append-nil, refl, ap, sym, ◌∙◌, arith, AllByRecursion, flat_map, list_any}
 use Rattle.fb_tasks.proofs.Words.{range_with_len, option_map, cases_Bool, true≢false, filter-append, none-some, Shape, is_clean, BackRow}
-use Rattle.fb_tasks.proofs.Words.{SegmentLine, ContentRun, held_sector, held_in, runs_of, sectors_of, Block, Counts, Entry, is_delivered}
+use Rattle.fb_tasks.proofs.Words.{BackSegment, ContentRun, held_sector, held_in, runs_of, sectors_of, Block, Counts, Entry, is_delivered}
 use Rattle.fb_tasks.proofs.Words.{counts_of, Past, Choice, Work, view, is_cleaned, segment_rows_found, is_newly_cleaned}
 use Rattle.fb_tasks.proofs.Words.{Session, is_none, found_for, Stands, Cleans, MayFinish, IsAtWork, IsCutFrom, HoldsBlock}
 use Rattle.fb_tasks.proofs.Words.{choice_in, CleansBy, all_weaker, all_with, all_append, all_left, all_right, all_flat, flat_all, flat_same}
@@ -63,7 +63,7 @@ module _ {disk : Shape} {past : Past} {task : ℕ} {held : List Entry} (session 
 
   -- the row of a finished segment
   abbrev row_of : ℕ → ℕ → List ContentRun → BackRow
-  row_of segment live content = SegmentLine (record { task = task; segment = segment; instant = now; live = live; content = content })
+  row_of segment live content = BackSegment (record { task = task; segment = segment; instant = now; live = live; content = content })
 
   module _ (cleans : is_clean session.kind ≡ true) where
     abbrev w : Work

@@ -66,7 +66,7 @@ numbered_joined n (x ∷ xs) ys p q = (
   numbered_joined (n + 1) xs ys p.1 (subst (λ k. AreNumbered k ys) (let e : n + suc (length xs) ≡ n + 1 + length xs = omega arith in e) q),
 )
 
--- the wanted set names the registered blocks
+-- the registered blocks are the history's
 pub named_same : (past : Past) (bs : List Block) → numbering.blocks_of (map (entry_of past) bs) ≡ bs
 named_same past [] = refl
 named_same past (b ∷ bs) = rw (named_same past bs) refl

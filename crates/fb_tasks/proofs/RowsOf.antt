@@ -6,7 +6,7 @@ use Rattle.fb_tasks.proofs.Words.{append_assoc, sym, arith, refl, zero, suc, ◌
 use Rattle.fb_tasks.proofs.Words.{map, ap, ◌∙◌, range_with_len, flat_map, list_any, Unreadable, ContentRun, same_content, bad_sectors}
 use Rattle.fb_tasks.proofs.Words.{test_rows_found, segment_rows_found, seal_rows_found, complete_rows, is_newly_cleaned, findings, is_scrub}
 use Rattle.fb_tasks.proofs.Words.{take_more, get_or_past, slice_get_within, get_or_from_slice_get, flat_map-append, and-false, or-false}
-use Rattle.fb_tasks.proofs.Words.{cases_Bool, nat_tests, list_any-append, BackRow, BadLine, segment_row}
+use Rattle.fb_tasks.proofs.Words.{cases_Bool, nat_tests, list_any-append, BackRow, BackBad, segment_row}
 use Rattle.fb_tasks.proofs.Words.{DeliveryRow, Past, tasks, task_numbers, terms_of, is_seal_of, is_open_backup, Choice, view, work, choices}
 use Rattle.fb_tasks.proofs.Words.{is_complete, is_segment_of, AreTestRowsOf, all_any, any_same, any_of_none, Plain}
 use Rattle.fb_tasks.proofs.Words.{AreReported, none_kept, found_for}
@@ -131,11 +131,11 @@ nothing-mute = record { seals = λ task. refl; segments = λ task number. refl }
 pub findings-mute : (past : Past) (got : DeliveryRow) → AreMute (findings past got)
 findings-mute past got = for (is_scrub (terms_of past got.block.task).kind) where
   for : (b : Bool)
-      → AreMute (if b then map (λ lbn. BadLine (record { task = got.block.task; lbn = lbn })) (bad_sectors got.content) else [])
+      → AreMute (if b then map (λ lbn. BackBad (record { task = got.block.task; lbn = lbn })) (bad_sectors got.content) else [])
   for true = record {
-    seals = λ task. any_mapped_none (is_seal_of task) (λ lbn. BadLine (record { task = got.block.task; lbn = lbn })) (λ lbn. refl)
+    seals = λ task. any_mapped_none (is_seal_of task) (λ lbn. BackBad (record { task = got.block.task; lbn = lbn })) (λ lbn. refl)
         (bad_sectors got.content);
-    segments = λ task number. any_mapped_none (is_segment_of task number) (λ lbn. BadLine (record { task = got.block.task; lbn = lbn }))
+    segments = λ task number. any_mapped_none (is_segment_of task number) (λ lbn. BackBad (record { task = got.block.task; lbn = lbn }))
         (λ lbn. refl) (bad_sectors got.content);
   }
   for false = nothing-mute

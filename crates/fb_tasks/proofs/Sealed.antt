@@ -11,7 +11,7 @@ use Rattle.fb_tasks.proofs.Words.{filter_from, map_at, element_at, list_all_each
 use Rattle.fb_tasks.proofs.Words.{get_or_from_slice_get, take_more, and_parts, cases_Bool, Shape, Kind, Backup, is_backup, ContentRun}
 use Rattle.fb_tasks.proofs.Words.{held_at, runs_of, sectors_of, Entry, is_delivered, is_aborted, is_block, counts_of, Past, tasks}
 use Rattle.fb_tasks.proofs.Words.{registered, Work, TaskView, view, is_unsealed, is_over, is_complete, is_complete_as}
-use Rattle.fb_tasks.proofs.Words.{is_done, same_number, without_aborted, SealLine, seal_rows_found, BackRow, found_for, Session}
+use Rattle.fb_tasks.proofs.Words.{is_done, same_number, without_aborted, BackSeal, seal_rows_found, BackRow, found_for, Session}
 use Rattle.fb_tasks.proofs.Words.{take-length, all_both, list_any-append}
 use Rattle.fb_tasks.proofs.{Complete.counts_same, States.seen, Registered.own, States.shown_aborted, Changes.open_by}
 pub use Rattle.fb_store.proofs.Originals.{inside as within, before as before_it, after as behind_it}
@@ -219,7 +219,7 @@ module _ {disk : Shape} {past : Past} {held : List Entry} (h : HoldsBlocks disk 
 
 seal_rows_is : (past : Past) (now task : ℕ)
     → seal_rows_found past now task ≡ (if is_unsealed (view past task) && is_done (view past task).work
-    then SealLine (record {
+    then BackSeal (record {
       task = task;
       instant = now;
       content = found_for (view past task).work (filter (λ block. is_delivered ((view past task).bare block)) (view past task).blocks);
@@ -230,7 +230,7 @@ seal_rows_is past now task = refl
 pub seal_row : (past : Past) (now task : ℕ) (content : List ContentRun) → is_unsealed (view past task) ≡ true
     → is_done (view past task).work ≡ true
     → content ≡ found_for (view past task).work (filter (λ block. is_delivered ((view past task).bare block)) (view past task).blocks)
-    → SealLine (record { task = task; instant = now; content = content }) ∷ [] ≡ seal_rows_found past now task
+    → BackSeal (record { task = task; instant = now; content = content }) ∷ [] ≡ seal_rows_found past now task
 seal_row past now task content is_open complete is = rw is (sym (seal_rows_is past now task ∙ rw (is_open, complete) refl))
 
 -- the seal of a session is that of its task

@@ -1,14 +1,14 @@
 -- A test has given its rows, and the sessions are tested one after the other.
 use Rattle.fb_tasks.proofs.Words.{◌≡◌, ◌==◌, ◌&&◌, ◌||◌, List, ◌++◌, arith, tasks, Cleans, Tells, Shape, Entry, Plain, subst, Terms, filter}
 use Rattle.fb_tasks.proofs.Words.{ℕ, ◌<◌, not, ◌∷◌, Bool, true, Some, None, refl, ap, ap₂, sym, ◌∙◌, ◌+◌, ◌≤◌, set, Past, view, work}
-use Rattle.fb_tasks.proofs.Words.{if◌then◌else◌, append_assoc, AllByRecursion, range_with_len, CompleteLine, is_segment_of, complete_rows}
+use Rattle.fb_tasks.proofs.Words.{if◌then◌else◌, append_assoc, AllByRecursion, range_with_len, BackComplete, is_segment_of, complete_rows}
 use Rattle.fb_tasks.proofs.Words.{[], Option, length, tested, Choice, is_done, is_busy, Session, is_none, Stands, element_at, step_to}
 use Rattle.fb_tasks.proofs.Words.{ends_of}
 use Rattle.fb_tasks.proofs.Words.{false, append-nil, bare_state, content_of, registered, IsUntouched, HasNoChoice, HoldsBlocks, get_or_past}
 use Rattle.fb_tasks.proofs.Words.{slice_get, and-false, is_backup, is_cleaned, HoldsBlock, HoldsImage, HaveChosen, all_weaker, length-set}
 use Rattle.fb_tasks.proofs.Words.{or-true, BackRow, Content, held_at, TaskView, IsSealed, IsAtWork, CleansBy, each_set, is_clean}
 use Rattle.fb_tasks.proofs.Words.{StandsAfterTest}
-use Rattle.fb_tasks.proofs.Words.{list_any, flat_map, SealLine, AreTestRowsOf, choice_in, HasChosen, IsUpToDate, flat_none, all_range}
+use Rattle.fb_tasks.proofs.Words.{list_any, flat_map, BackSeal, AreTestRowsOf, choice_in, HasChosen, IsUpToDate, flat_none, all_range}
 use Rattle.fb_tasks.proofs.Words.{found_for}
 use Rattle.fb_tasks.proofs.Words.{list_any-append, test_rows_found, segment_rows_found, seal_rows_found, is_newly_cleaned, slice_get_within}
 use Rattle.fb_tasks.proofs.Words.{task_numbers, tested_view, is_unsealed, is_complete, same_number, tested-view, AreReported, is_delivered}
@@ -85,12 +85,12 @@ no_others : (past : Past) (rows : List BackRow) (task : ℕ)
     → (is_unsealed (tested_view task rows (view past task)) && is_done (view past task).work) ≡ false → (now : ℕ)
     → (seal_rows_found (tested rows ∷ past) now task ++ complete_rows (tested rows ∷ past) now task) ≡ []
 unfolding view bare_state content_of is_complete
-no_others past rows task sealed now = ap₂ (λ a b. (if a then SealLine (record {
+no_others past rows task sealed now = ap₂ (λ a b. (if a then BackSeal (record {
   task = task;
   instant = now;
   content = found_for (work (tested rows ∷ past) task) (filter (λ block. is_delivered ((work (tested rows ∷ past) task).bare block))
       (work (tested rows ∷ past) task).blocks);
-}) ∷ [] else []) ++ (if b then CompleteLine (record { task = task; instant = now }) ∷ [] else []))
+}) ∷ [] else []) ++ (if b then BackComplete (record { task = task; instant = now }) ∷ [] else []))
     sealed (once (is_complete past task))
 
 pub up_to_date-tested : (past : Past) (rows : List BackRow)

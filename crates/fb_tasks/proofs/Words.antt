@@ -66,8 +66,8 @@ pub use Rattle.fb_wanted.specs.declared.block.Entry.{Entry}
 pub use Rattle.fb_wanted.specs.declared.block.State.{State}
 pub use Rattle.fb_wanted.specs.declared.block.State.TheVariants.{Aborted, Delivered, Suspended, Wanted}
 pub use Rattle.fb_rows.specs.declared.back.BackRow.{BackRow}
-pub use Rattle.fb_rows.specs.declared.back.BackRow.TheVariants.{Bad, Bad as BadLine, Complete as CompleteLine, Got as GotLine}
-pub use Rattle.fb_rows.specs.declared.back.BackRow.TheVariants.{Seal as SealLine, Segment as SegmentLine, Task as TaskLine}
+pub use Rattle.fb_rows.specs.declared.back.BackRow.TheVariants.{Bad, Bad as BackBad, Complete as BackComplete, Got as BackGot}
+pub use Rattle.fb_rows.specs.declared.back.BackRow.TheVariants.{Seal as BackSeal, Segment as BackSegment, Task as BackTask}
 pub use Rattle.fb_rows.specs.declared.back.DeliveryRow.{DeliveryRow}
 pub use Rattle.fb_clean.specs.Segments.{live_of}
 pub use Rattle.fb_model.specs.Completion.{Choice, TaskView, Work, aborted_view, added_view, choices, chosen_view, closed_view}

@@ -1,4 +1,4 @@
--- The sessions and the wanted set tell what a history has made of tasks and blocks.
+-- The sessions and the registered blocks tell what a history has made of tasks and blocks.
 use Rattle.std.specs.Prelude.{◌≡◌, ◌≤◌, ◌<◌, ◌^◌, ◌*◌, ◌+◌, ◌-◌, ℕ, List, [], ◌∷◌, Some, length, slice_get}
 use Rattle.std.specs.List.{sum_by}
 use Rattle.fb_geometry.specs.Shape.{Shape}
@@ -62,7 +62,7 @@ pub record MayDeliver (disk : Shape) (past : Past) (sessions : List Session) (en
   pub content_at : ℕ → Content
   pub content : Gives got.content content_at got.block.lbn got.block.count
 
--- this is the session of the delivered block's task, and the wanted set has the block delivered
+-- this is the session of the delivered block's task, and the block is marked as delivered
 pub record Delivers (disk : Shape) (past : Past) (sessions : List Session) (held : List Entry) (got : DeliveryRow) (session : Session)
     (now : List Entry) : Type 0 where
   pub may : MayDeliver disk past sessions held got

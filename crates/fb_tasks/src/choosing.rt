@@ -13,7 +13,7 @@ use fb_rows::BackRows;
 use fb_sectormap::SectorMap;
 use fb_store::Contents;
 use fb_units::NoMemory;
-use fb_wanted::Wanted;
+use fb_wanted::Blocks;
 use std::alloc::Global;
 
 impl Session {
@@ -22,24 +22,24 @@ impl Session {
         &mut self,
         alloc: Global,
         map: &SectorMap,
-        wanted: &mut Wanted,
+        blocks: &mut Blocks,
         stamp: Stamp,
         rows: &mut BackRows,
     ) -> Result<(), NoMemory>
-        requires { (past : Past) × MayChoose map.now past stamp.task self.old wanted.old }
-        ensures chosen { OnOk result ((past : Past) → MayChoose map.now past stamp.task self.old wanted.old
-            → HasChosenUpTo map.now past (choose_in map.now past stamp.task) stamp.task stamp.instant self.new wanted.new
+        requires { (past : Past) × MayChoose map.now past stamp.task self.old blocks.old }
+        ensures chosen { OnOk result ((past : Past) → MayChoose map.now past stamp.task self.old blocks.old
+            → HasChosenUpTo map.now past (choose_in map.now past stamp.task) stamp.task stamp.instant self.new blocks.new
             rows.old rows.new) }
         ensures same { (by_calls self.new ≡ by_calls self.old) × (self.new.touched ≡ self.old.touched) }
-        ensures own { OnlyRegisters (λ other. other ≡ stamp.task) wanted.old wanted.new }
-        ensures idle { (is_clean self.old.kind && not self.old.closed) ≡ false → wanted.new ≡ wanted.old }
+        ensures own { OnlyRegisters (λ other. other ≡ stamp.task) blocks.old blocks.new }
+        ensures idle { (is_clean self.old.kind && not self.old.closed) ≡ false → blocks.new ≡ blocks.old }
         ensures grown { HasGrown rows.old rows.new }
     {
         if !self.may_choose() {
             return Ok(());
         }
         for _choice in 0..self.log.len() {
-            if !self.choose_one(alloc, map, wanted, stamp, rows)? {
+            if !self.choose_one(alloc, map, blocks, stamp, rows)? {
                 return Ok(());
             }
         }
@@ -61,25 +61,25 @@ impl Session {
         &mut self,
         alloc: Global,
         map: &SectorMap,
-        wanted: &mut Wanted,
+        blocks: &mut Blocks,
         stamp: Stamp,
         rows: &mut BackRows,
     ) -> Result<bool, NoMemory>
         requires cleans { (is_clean self.old.kind ≡ true) × (self.old.closed ≡ false) }
-        requires may { (past : Past) × MayChoose map.now past stamp.task self.old wanted.old }
-        ensures chosen { IfOk result (λ some. (past : Past) → MayChoose map.now past stamp.task self.old wanted.old
-            → HasChosenUpTo map.now past (choose_once map.now stamp.task past) stamp.task stamp.instant self.new wanted.new
+        requires may { (past : Past) × MayChoose map.now past stamp.task self.old blocks.old }
+        ensures chosen { IfOk result (λ some. (past : Past) → MayChoose map.now past stamp.task self.old blocks.old
+            → HasChosenUpTo map.now past (choose_once map.now stamp.task past) stamp.task stamp.instant self.new blocks.new
             rows.old rows.new) }
         ensures same { (by_calls self.new ≡ by_calls self.old) × (self.new.touched ≡ self.old.touched) }
-        ensures own { OnlyRegisters (λ other. other ≡ stamp.task) wanted.old wanted.new }
+        ensures own { OnlyRegisters (λ other. other ≡ stamp.task) blocks.old blocks.new }
         ensures grown { HasGrown rows.old rows.new }
-        ensures none { IfOk result (λ some. some ≡ false → (past : Past) → MayChoose map.now past stamp.task self.old wanted.old
+        ensures none { IfOk result (λ some. some ≡ false → (past : Past) → MayChoose map.now past stamp.task self.old blocks.old
             → choose_once map.now stamp.task past ≡ past) }
     {
         let _sectors = map.count();
         match self.log.choose() {
             Some(segment) => {
-                want_live(map, wanted, self, stamp.task, segment)?;
+                want_live(map, blocks, self, stamp.task, segment)?;
                 if self.log.live_count(segment) == 0 {
                     self.finish(
                         stamp.task,

@@ -6,7 +6,7 @@ ghost use Rattle.fb_store.specs.declared.content.Content.{Content};
 ghost use Rattle.fb_store.specs.Sparse.{Gives};
 ghost use Rattle.fb_geometry.specs.Shape.{Shape};
 ghost use Rattle.fb_wanted.specs.declared.block.Entry.{Entry};
-ghost use Rattle.fb_rows.specs.declared.back.BackRow.TheVariants.{Bad as BadLine, Got as GotLine};
+ghost use Rattle.fb_rows.specs.declared.back.BackRow.TheVariants.{Bad as BackBad, Got as BackGot};
 ghost use Rattle.fb_model.specs.History.{Past, tested, delivered};
 ghost use Rattle.fb_model.specs.Completion.{view};
 ghost use Rattle.fb_model.specs.Images.{bad_sectors, is_scrub};
@@ -21,29 +21,29 @@ use fb_calls::Kind;
 use fb_rows::{BackRow, BackRows, BadRow, DeliveryRow};
 use fb_store::{Content, Contents};
 use fb_units::NoMemory;
-use fb_wanted::{Block, Wanted};
+use fb_wanted::{Block, Blocks};
 use std::alloc::Global;
 
 impl Session {
     /// A block of the task was delivered: keeps what it holds, adds its row, then its findings and
     /// the rows of its test.
-    pub fn deliver(
+    pub fn take_delivery(
         &mut self,
         alloc: Global,
-        wanted: &Wanted,
+        blocks: &Blocks,
         got: DeliveryRow,
         rows: &mut BackRows,
     ) -> Result<(), NoMemory>
         requires { (disk : Shape) × (past : Past) × (sessions : List Session) × (held : List Entry)
-            × Delivers disk past sessions held got self.old wanted.now }
+            × Delivers disk past sessions held got self.old blocks.now }
         ensures delivered { OnOk result ((disk : Shape) (past : Past) (sessions : List Session) (held : List Entry)
-            → Delivers disk past sessions held got self.old wanted.now
+            → Delivers disk past sessions held got self.old blocks.now
             → (Stands (view (tested (rows_after past got) ∷ delivered got ∷ past) got.block.task) self.new)
             × (IsAtWork (view (tested (rows_after past got) ∷ delivered got ∷ past) got.block.task).work self.new)
-            × (rows.new ≡ rows.old ++ GotLine got ∷ rows_after past got)) }
+            × (rows.new ≡ rows.old ++ BackGot got ∷ rows_after past got)) }
         ensures err_rows { OnErr result ((disk : Shape) (past : Past) (sessions : List Session) (held : List Entry)
-            → Delivers disk past sessions held got self.old wanted.now
-            → HasBegun rows.old (GotLine got ∷ rows_after past got) rows.new) }
+            → Delivers disk past sessions held got self.old blocks.now
+            → HasBegun rows.old (BackGot got ∷ rows_after past got) rows.new) }
     {
         let task = got.block.task;
         let end = got.end;
@@ -51,8 +51,8 @@ impl Session {
         let findings = self.findings(alloc, &got)?;
         rows.push(BackRow::Got(got))?;
         push_findings(rows, task, &findings)?;
-        self.test_segment(alloc, wanted, task, end, rows)?;
-        self.test(alloc, wanted, task, end, rows)
+        self.test_segment(alloc, blocks, task, end, rows)?;
+        self.test(alloc, blocks, task, end, rows)
     }
 
     // Keeps what a delivered block holds, where the session's rows will give it.

@@ -3,7 +3,7 @@ use Rattle.std.proofs.Common.{List, [], ◌∷◌, ◌++◌, map, refl, sym, sub
 use Rattle.std.specs.List.{AllByRecursion, flat_map}
 use Rattle.fb_service.specs.declared.disk.Disk.{Disk}
 use Rattle.fb_rows.specs.declared.back.BackRow.{BackRow}
-use Rattle.fb_rows.specs.declared.back.BackRow.TheVariants.{Gap as GapLine, Idle as IdleLine}
+use Rattle.fb_rows.specs.declared.back.BackRow.TheVariants.{Gap as BackGap, Idle as BackIdle}
 use Rattle.fb_rows.specs.declared.fore.ForeRow.{ForeRow}
 use Rattle.fb_rows.specs.declared.run.Run.{Run}
 use Rattle.fb_model.specs.Content.{Medium, fore_row, fore_rows, medium_of}
@@ -25,15 +25,15 @@ use Rattle.fb_bgwrite.specs.Spilled.{AreGaps}
 quiet_before : (disk : Disk) (rows back : List BackRow) (fore : List ForeRow) → AllByRecursion IsQuiet rows → AreGaps disk back fore
     → AreGaps disk (rows ++ back) fore
 quiet_before disk [] back fore quiet are = are
-quiet_before disk (GapLine row ∷ rows) back fore quiet are = absurd quiet.0
-quiet_before disk (IdleLine dwell ∷ rows) back fore quiet are = absurd quiet.0
+quiet_before disk (BackGap row ∷ rows) back fore quiet are = absurd quiet.0
+quiet_before disk (BackIdle dwell ∷ rows) back fore quiet are = absurd quiet.0
 quiet_before disk (_ ∷ rows) back fore quiet are = quiet_before disk rows back fore quiet.1 are
 
 -- or alone
 all_quiet : (disk : Disk) (rows : List BackRow) (fore : List ForeRow) → AllByRecursion IsQuiet rows → AreGaps disk rows fore
 all_quiet disk [] fore quiet = tt
-all_quiet disk (GapLine row ∷ rows) fore quiet = absurd quiet.0
-all_quiet disk (IdleLine dwell ∷ rows) fore quiet = absurd quiet.0
+all_quiet disk (BackGap row ∷ rows) fore quiet = absurd quiet.0
+all_quiet disk (BackIdle dwell ∷ rows) fore quiet = absurd quiet.0
 all_quiet disk (_ ∷ rows) fore quiet = all_quiet disk rows fore quiet.1
 
 module _ (inputs : Inputs) (medium : Medium) (tasks : List BackRow) (quiet : AllByRecursion IsQuiet tasks) where

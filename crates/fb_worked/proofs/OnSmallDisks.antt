@@ -21,7 +21,7 @@ use Rattle.fb_model.specs.History.{bare_state, wanted}
 use Rattle.fb_model.specs.Completion.{is_complete}
 use Rattle.fb_model.specs.Segments.{with_choices}
 use Rattle.fb_model.specs.Images.{test_rows}
-use Rattle.fb_model.specs.Rides.{due}
+use Rattle.fb_model.specs.Deliveries.{due}
 use Rattle.fb_model.specs.Steps.{Delivery, Step, chosen_past, past_after, task_rows}
 use Rattle.fb_worked.specs.SmallDisk.{small_disk, quick_disk, uneven_disk, one_sector_disk, skewed_disk, turned_disk, slipped_disk}
 use Rattle.fb_worked.specs.SmallDisk.{remapped_disk}

@@ -13,7 +13,7 @@ use Rattle.fb_rows.specs.declared.gap.How.TheVariants.{Idle as ByIdle}
 use Rattle.fb_rows.specs.declared.fore.ForeRow.{ForeRow}
 use Rattle.fb_rows.specs.declared.back.DeliveryRow.{DeliveryRow}
 use Rattle.fb_rows.specs.declared.back.BackRow.{BackRow}
-use Rattle.fb_rows.specs.declared.back.BackRow.TheVariants.{Got as GotLine}
+use Rattle.fb_rows.specs.declared.back.BackRow.TheVariants.{Got as BackGot}
 use Rattle.fb_model.specs.Plans.{IsPlan}
 use Rattle.fb_model.specs.Decisions.{Decision, serves, idles, Act, serving, idling, ending}
 use Rattle.fb_model.specs.Steps.{Delivery, Step, decisions_in}
@@ -199,7 +199,7 @@ first_writer [] = 0
 first_writer (run ∷ runs) = suc (writer run.content)
 
 abbrev writer_of : BackRow → ℕ
-writer_of (GotLine row) = first_writer row.content
+writer_of (BackGot row) = first_writer row.content
 writer_of _ = 0
 
 abbrev second_writer : List BackRow → ℕ

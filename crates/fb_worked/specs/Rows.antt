@@ -16,9 +16,9 @@ use Rattle.fb_rows.specs.declared.gap.Plan.{Plan}
 use Rattle.fb_rows.specs.declared.gap.How.{How}
 use Rattle.fb_rows.specs.declared.back.DeliveryRow.{DeliveryRow}
 use Rattle.fb_rows.specs.declared.back.BackRow.{BackRow}
-use Rattle.fb_rows.specs.declared.back.BackRow.TheVariants.{Gap as GapLine, Idle as IdleLine, Got as GotLine, Bad as BadLine}
-use Rattle.fb_rows.specs.declared.back.BackRow.TheVariants.{Seal as SealLine, Segment as SegmentLine, Complete as CompleteLine}
-use Rattle.fb_rows.specs.declared.back.BackRow.TheVariants.{Task as TaskLine}
+use Rattle.fb_rows.specs.declared.back.BackRow.TheVariants.{Gap as BackGap, Idle as BackIdle, Got as BackGot, Bad as BackBad}
+use Rattle.fb_rows.specs.declared.back.BackRow.TheVariants.{Seal as BackSeal, Segment as BackSegment, Complete as BackComplete}
+use Rattle.fb_rows.specs.declared.back.BackRow.TheVariants.{Task as BackTask}
 use Rattle.fb_rows.specs.declared.run.Run.{Run}
 use Rattle.fb_model.specs.Inputs.{Inputs}
 
@@ -73,7 +73,7 @@ abbrev pub got : Block → ℕ → ℕ → How → ℕ → List ContentRun → D
 got block begin end how bad content = record { block = block; begin = begin; end = end; how = how; bad = bad; content = content }
 
 abbrev pub got_line : DeliveryRow → BackRow
-got_line row = GotLine row
+got_line row = BackGot row
 
 -- source, target, start, deadline, whether the request writes
 abbrev pub gap : Track → Track → ℕ → ℕ → Bool → Gap
@@ -82,30 +82,30 @@ gap source target now deadline write = record { source = source; target = target
 -- and the gap's plan
 abbrev pub gap_line : Name → Track → Track → ℕ → ℕ → Bool → Plan → BackRow
 gap_line name source target now deadline write plan =
-    GapLine (record { name = name; gap = gap source target now deadline write; plan = plan })
+    BackGap (record { name = name; gap = gap source target now deadline write; plan = plan })
 
 abbrev pub idle_line : Track → ℕ → ℕ → BackRow
-idle_line track begin end = IdleLine (record { track = track; begin = begin; end = end })
+idle_line track begin end = BackIdle (record { track = track; begin = begin; end = end })
 
 -- task and instant
 abbrev pub done_line : ℕ → ℕ → BackRow
-done_line task instant = CompleteLine (record { task = task; instant = instant })
+done_line task instant = BackComplete (record { task = task; instant = instant })
 
 -- task and sector
 abbrev pub bad_line : ℕ → ℕ → BackRow
-bad_line task lbn = BadLine (record { task = task; lbn = lbn })
+bad_line task lbn = BackBad (record { task = task; lbn = lbn })
 
 abbrev pub seal_line : ℕ → ℕ → List ContentRun → BackRow
-seal_line task instant content = SealLine (record { task = task; instant = instant; content = content })
+seal_line task instant content = BackSeal (record { task = task; instant = instant; content = content })
 
 -- task, segment, instant, live blocks, contents
 abbrev pub segment_line : ℕ → ℕ → ℕ → ℕ → List ContentRun → BackRow
 segment_line task segment instant live content =
-    SegmentLine (record { task = task; segment = segment; instant = instant; live = live; content = content })
+    BackSegment (record { task = task; segment = segment; instant = instant; live = live; content = content })
 
 -- blocks registered, delivered and aborted, and whether the task is complete
 abbrev pub task_line : ℕ → Kind → ℕ → ℕ → ℕ → Bool → BackRow
-task_line task kind registered delivered aborted complete = TaskLine (record {
+task_line task kind registered delivered aborted complete = BackTask (record {
   task = task;
   kind = kind;
   registered = registered;

@@ -4,7 +4,7 @@ use Rattle.fb_detour.proofs.Offers.{all-of, bound-more, gives, none-more, small-
 use Rattle.fb_detour.proofs.parts.late_parts.Goals as goal
 
 pub stop_at-stop-requires-clause-on_disk : goal.stop_at-stop-requires-clause-on_disk
-stop_at-stop-requires-clause-on_disk c = c.blocks_on-blocks.ensures.on_disk c.args.disk.now c.requires.blocks
+stop_at-stop-requires-clause-on_disk c = c.blocks_on-on_target.ensures.on_disk c.args.disk.now c.requires.blocks
 
 pub loop-offer-init : goal.loop-offer-init
 loop-offer-init c = record {
@@ -47,10 +47,10 @@ pub returns : goal.returns
 returns c =
     let disk = c.args.disk.now in
     let gap = c.args.gap.now in
-    let es = c.args.wanted.now in
+    let es = c.args.blocks.now in
     let stop = c.stop_at-stop.result in
     let its : IsStop disk (on_track gap.target es) stop =
-    subst (λ xs. IsStop disk xs stop) c.blocks_on-blocks.ensures.its c.stop_at-stop.ensures.stop in
+    subst (λ xs. IsStop disk xs stop) c.blocks_on-on_target.ensures.its c.stop_at-stop.ensures.stop in
     let so_far = c.loop-offer.invariant in
     let offers = stop.offers.now in
     let i = c.loop-offer.offer-index in

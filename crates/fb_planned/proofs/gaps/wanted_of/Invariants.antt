@@ -4,4 +4,4 @@ use Rattle.fb_plan.specs.Ways.{AreOnDisk}
 use Rattle.fb_planned.proofs.gaps.wanted_of.Given as goal
 
 abbrev pub invariant-loop-i : goal.invariant-loop-i
-invariant-loop-i l = (registered_count 0 (blocks_of l.wanted) ≡ l.i) × (length l.wanted ≡ l.i) × AreOnDisk l.disk l.wanted
+invariant-loop-i l = (registered_count 0 (blocks_of l.blocks) ≡ l.i) × (length l.blocks ≡ l.i) × AreOnDisk l.disk l.blocks

@@ -4,5 +4,5 @@ use Rattle.fb_bgwrite.proofs.pending.Pending.refresh.Given as goal
 -- no pending block on a track so far is worth less
 abbrev pub invariant-loop-head : goal.invariant-loop-head
 invariant-loop-head l = (head i : ℕ) (e : Entry) → head < l.head
-    → slice_get (on_track (record { cylinder = l.cylinder; head = head }) l.self-inside.wanted) i ≡ Some e
+    → slice_get (on_track (record { cylinder = l.cylinder; head = head }) l.self-inside.blocks) i ≡ Some e
     → is_wanted e.state ≡ true → l.least ≤ e.block.weight * e.block.count

@@ -17,7 +17,7 @@ runs-requires c = wanted-on_disk c.requires.wanted.0 c.requires.wanted.1 c.requi
     c.requires.wanted.3 c.requires.wanted.4
 
 may : (c : After-bad) (disk : Shape) (past : Past) (index : ℕ) → TellsUpToDate disk past c.args.self.now
-    → slice_get (wanted past) index ≡ Some c.args.catch.block → MayDeliver disk past c.args.self.now.sessions c.args.self.now.wanted
+    → slice_get (wanted past) index ≡ Some c.args.catch.block → MayDeliver disk past c.args.self.now.sessions c.args.self.now.blocks
     (made c.args.how c.args.catch.block c.args.catch.begin c.args.catch.end c.bad.result c.in_ok-content.content)
 may c disk past index current at =
     let block = c.args.catch.block in
@@ -34,7 +34,7 @@ pub returns : goal.returns
 returns c = on_ok_weaker c.deliver.result (λ all disk past index current at.
     let allowed = may (goal.at.returns c).After-bad disk past index current at in
     delivered-one disk past index _ _ c.args.self.now
-    (record { sessions = c.deliver.new.self; wanted = c.deliver.new.wanted; rows = c.deliver.new.rows })
+    (record { sessions = c.deliver.new.self; blocks = c.deliver.new.blocks; rows = c.deliver.new.rows })
     (row-is c.args.store.now c.args.how c.args.catch.block c.args.catch.begin c.args.catch.end c.bad.result c.in_ok-content.content
     c.in_ok-content.ensures.fewest c.bad.ensures.value)
     at (all.0 disk past allowed) (all.1.0 disk past allowed) (all.1.1 disk past allowed))

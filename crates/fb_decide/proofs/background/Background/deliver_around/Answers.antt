@@ -23,7 +23,7 @@ best-plan-requires-clause-gap g c = is-gap c.args.disk.now c.args.start.head c.a
 
 pub best-plan-requires-clause-blocks : goal.best-plan-requires-clause-blocks
 best-plan-requires-clause-blocks g c =
-    fits-told c.args.disk.now c.requires.current.0 c.args.self.now.sessions c.args.self.now.wanted c.requires.current.1.tells
+    fits-told c.args.disk.now c.requires.current.0 c.args.self.now.sessions c.args.self.now.blocks c.requires.current.1.tells
 
 pub go_through-requires-clause-gap : goal.go_through-requires-clause-gap
 go_through-requires-clause-gap g c = is-gap c.args.disk.now c.args.start.head c.args.start.instant c.args.start.request c.place.result.track

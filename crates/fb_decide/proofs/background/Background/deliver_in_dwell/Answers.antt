@@ -7,7 +7,7 @@ use Rattle.fb_decide.proofs.background.Background.deliver_in_dwell.Goals as goal
 
 pub caught-requires-clause-blocks : goal.caught-requires-clause-blocks
 caught-requires-clause-blocks c =
-    fits-told c.args.disk.now c.requires.current.0 c.args.self.now.sessions c.args.self.now.wanted c.requires.current.1.tells
+    fits-told c.args.disk.now c.requires.current.0 c.args.self.now.sessions c.args.self.now.blocks c.requires.current.1.tells
 
 pub deliver_all-requires : goal.deliver_all-requires
 deliver_all-requires c =

@@ -6,4 +6,4 @@ returns-then-request-clause-tells c = λ disk past tells. c.after_write.ensures 
 
 pub returns-else-request-clause-tells : goal.returns-else-request-clause-tells
 returns-else-request-clause-tells c = λ disk past tells.
-    c.reads_change_nothing.ensures disk past c.args.request c.args.self.now.sessions c.args.self.now.wanted c.if-request.false tells
+    c.reads_change_nothing.ensures disk past c.args.request c.args.self.now.sessions c.args.self.now.blocks c.if-request.false tells

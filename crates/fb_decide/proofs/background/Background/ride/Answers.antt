@@ -1,6 +1,6 @@
 use Rattle.std.proofs.Common.{◌∙◌, ◌≡◌, ap, sym, subst, map}
 use Rattle.std.proofs.lemmas.Result.{on_ok_weaker}
-use Rattle.fb_model.specs.Rides.{rides}
+use Rattle.fb_model.specs.Deliveries.{rides}
 use Rattle.fb_rows.specs.declared.gap.How.TheVariants.{Ride as ByRide}
 use Rattle.fb_wanted.specs.States.{wanted_of}
 use Rattle.fb_model.specs.History.{wanted}
@@ -29,7 +29,7 @@ carried-requires-clause-covers c =
 
 pub carried-requires-clause-registered : goal.carried-requires-clause-registered
 carried-requires-clause-registered c =
-    fits-told c.args.disk.now c.requires.current.0 c.args.self.now.sessions c.args.self.now.wanted c.requires.current.1.tells
+    fits-told c.args.disk.now c.requires.current.0 c.args.self.now.sessions c.args.self.now.blocks c.requires.current.1.tells
 
 pub carried-requires-clause-distinct : goal.carried-requires-clause-distinct
 carried-requires-clause-distinct c =
@@ -42,7 +42,7 @@ deliver_all-requires c =
     let served = served_from c.args.disk.now c.args.start in
     let rows : map (row_in c.args.store.now ByRide) c.as_slice.result.now ≡ rides (held_now c.args.store.now) served (wanted past) =
     ap (map (row_in c.args.store.now ByRide)) (c.as_slice.ensures.value ∙ c.in_ok-catches.ensures
-    ∙ ap (λ ps. carried_of ps c.args.start.request (wanted_of c.args.self.now.wanted)) c.requires.passages
+    ∙ ap (λ ps. carried_of ps c.args.start.request (wanted_of c.args.self.now.blocks)) c.requires.passages
     ∙ ap (carried_of served.passages c.args.start.request) (wanted-told current.tells))
     ∙ rows-carried c.args.store.now served (wanted past) c.if-start.false in (
       c.args.disk.now.map,
@@ -56,7 +56,7 @@ returns c = on_ok_weaker c.deliver_all.result (λ all past current.
     let served = served_from c.args.disk.now c.args.start in
     let rows : map (row_in c.args.store.now ByRide) c.as_slice.result.now ≡ rides (held_now c.args.store.now) served (wanted past) =
     ap (map (row_in c.args.store.now ByRide)) (c.as_slice.ensures.value ∙ c.in_ok-catches.ensures
-    ∙ ap (λ ps. carried_of ps c.args.start.request (wanted_of c.args.self.now.wanted)) c.requires.passages
+    ∙ ap (λ ps. carried_of ps c.args.start.request (wanted_of c.args.self.now.blocks)) c.requires.passages
     ∙ ap (carried_of served.passages c.args.start.request) (wanted-told current.tells))
     ∙ rows-carried c.args.store.now served (wanted past) c.if-start.false in
     subst (λ gots. HasDelivered c.args.disk.now.map past gots c.args.self.now.rows c.deliver_all.new.self) rows

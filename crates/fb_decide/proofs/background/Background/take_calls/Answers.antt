@@ -19,7 +19,7 @@ apply-requires c =
     let taken = c.loop-next.invariant.taken c.requires.called.0 c.requires.called.1 c.requires.called.2 in (
       taken.taken,
       taken-may c.args.disk.now.map c.args.calls.now.calls.items c.requires.script c.requires.called.0 c.args.now c.loop-next.next
-          c.loop-next.self.sessions c.loop-next.self.wanted taken c.index-in-loop-next.result.now at,
+          c.loop-next.self.sessions c.loop-next.self.blocks taken c.index-in-loop-next.result.now at,
     )
 
 pub loop-next-preserved : goal.loop-next-preserved
@@ -36,9 +36,9 @@ loop-next-preserved c =
       taken = λ past called tells.
           let taken = c.loop-next.invariant.taken past called tells in
           taken-more c.args.disk.now.map calls c.requires.script past c.args.now c.loop-next.next c.loop-next.self.sessions
-          c.loop-next.self.wanted taken call c.apply.new.self c.apply.new.wanted at here
+          c.loop-next.self.blocks taken call c.apply.new.self c.apply.new.blocks at here
           (c.in_ok-apply.ensures.ok taken.taken (taken-may c.args.disk.now.map calls c.requires.script past c.args.now c.loop-next.next
-          c.loop-next.self.sessions c.loop-next.self.wanted taken call at));
+          c.loop-next.self.sessions c.loop-next.self.blocks taken call at));
       within = omega (arith, c.loop-next-test.true, c.len.ensures);
       rows = c.loop-next.invariant.rows;
     }

@@ -4,7 +4,7 @@ use Rattle.fb_tasked.proofs.played.PlayedScript.call.Given as goal
 
 -- the calls so far have taken effect
 abbrev pub invariant-loop-self : goal.invariant-loop-self
-invariant-loop-self l = Follows false l.self.map l.self.calls.calls.items l.self.called l.self.sessions l.self.wanted
+invariant-loop-self l = Follows false l.self.map l.self.calls.calls.items l.self.called l.self.sessions l.self.blocks
 
 abbrev pub decreases-loop-self : goal.decreases-loop-self
 decreases-loop-self l = length l.self.calls.calls.items - l.self.called

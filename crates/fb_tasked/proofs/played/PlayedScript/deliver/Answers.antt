@@ -42,7 +42,7 @@ returns c =
       content = c.in_ok-content.content;
     } in
     let may = follows-may-deliver c.requires.follows got c.requires.wanted.0 now c.requires.wanted.1 gives in
-    on_ok_weaker c.deliver.result (λ all. follows-delivered c.requires.follows got c.deliver.new.self c.deliver.new.wanted
+    on_ok_weaker c.deliver.result (λ all. follows-delivered c.requires.follows got c.deliver.new.self c.deliver.new.blocks
     (all.0 c.args.self.now.map c.requires.follows.past may)
     (all.1 c.args.self.now.map c.requires.follows.past may) c.args.self.now.up_to_date)
     (on_ok_both _ _ c.deliver.result c.deliver.ensures.tells c.deliver.ensures.up_to_date)

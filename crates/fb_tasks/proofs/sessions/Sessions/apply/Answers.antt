@@ -4,14 +4,14 @@ use Rattle.fb_tasks.proofs.Rules.{room_for_one, session_there, takes_none}
 use Rattle.fb_tasks.proofs.sessions.Sessions.apply.Goals as goal
 
 pub open-requires : goal.open-requires
-open-requires c = room_for_one c.args.map.now c.requires.0 c.args.self.now c.args.wanted.now c.args.call.now c.requires.1
+open-requires c = room_for_one c.args.map.now c.requires.0 c.args.self.now c.args.blocks.now c.args.call.now c.requires.1
 
 pub add_segment-requires-clause-call : goal.add_segment-requires-clause-call
 add_segment-requires-clause-call c = (
   c.args.map.now,
   c.requires.0,
   c.args.call.now,
-  c.args.wanted.now,
+  c.args.blocks.now,
   record { task = refl; action = c.in-Segment.is },
   c.requires.1,
   omega (arith, c.count-sectors.ensures.value, c.count-sectors.ensures.bound),
@@ -19,8 +19,8 @@ add_segment-requires-clause-call c = (
 
 pub returns-in-Open-clause-ok : goal.returns-in-Open-clause-ok
 returns-in-Open-clause-ok c = on_ok_weaker c.open.result (λ says past h. takes_none c.args.map.now
-    past c.args.call.now c.open.new.self c.args.wanted.now (ap (blocks_by c.args.map.now past c.args.call.now.task) c.in-Open.is)
-    (says c.args.map.now past c.args.call.now c.args.wanted.now c.in-Open.is h)) c.open.ensures.ok
+    past c.args.call.now c.open.new.self c.args.blocks.now (ap (blocks_by c.args.map.now past c.args.call.now.task) c.in-Open.is)
+    (says c.args.map.now past c.args.call.now c.args.blocks.now c.in-Open.is h)) c.open.ensures.ok
 
 pub returns-in-Want-clause-ok : goal.returns-in-Want-clause-ok
 returns-in-Want-clause-ok c = on_ok_weaker c.want.result
@@ -33,28 +33,28 @@ returns-in-Want-clause-err_blocks c = on_err_weaker c.want.result
 pub returns-in_ok-touch-in-Abort-clause-ok : goal.returns-in_ok-touch-in-Abort-clause-ok
 returns-in_ok-touch-in-Abort-clause-ok c = λ past h. takes_none c.args.map.now past c.args.call.now c.touch.new.self c.abort.new.self
     (ap (blocks_by c.args.map.now past c.args.call.now.task) c.in-Abort.is)
-    (call-aborts c.args.map.now past c.args.call.now c.in-Abort.first c.in-Abort.count c.args.self.now c.touch.new.self c.args.wanted.now
+    (call-aborts c.args.map.now past c.args.call.now c.in-Abort.first c.in-Abort.count c.args.self.now c.touch.new.self c.args.blocks.now
     c.abort.new.self c.in-Abort.is c.abort.ensures.states c.in_ok-touch-in-Abort.ensures.ok h)
 
 pub returns-in-Promote-clause-ok : goal.returns-in-Promote-clause-ok
-returns-in-Promote-clause-ok c = λ past h. takes_none c.args.map.now past c.args.call.now c.args.self.now c.args.wanted.now
+returns-in-Promote-clause-ok c = λ past h. takes_none c.args.map.now past c.args.call.now c.args.self.now c.args.blocks.now
     (ap (blocks_by c.args.map.now past c.args.call.now.task) c.in-Promote.is)
-    (promoted-tells c.args.map.now past c.args.call.now c.in-Promote.first c.in-Promote.count c.args.self.now c.args.wanted.now
+    (promoted-tells c.args.map.now past c.args.call.now c.in-Promote.first c.in-Promote.count c.args.self.now c.args.blocks.now
     c.in-Promote.is h.tells)
 
 pub returns-in-Suspend-clause-ok : goal.returns-in-Suspend-clause-ok
-returns-in-Suspend-clause-ok c = λ past h. takes_none c.args.map.now past c.args.call.now c.suspend.new.self c.suspend.new.wanted
+returns-in-Suspend-clause-ok c = λ past h. takes_none c.args.map.now past c.args.call.now c.suspend.new.self c.suspend.new.blocks
     (ap (blocks_by c.args.map.now past c.args.call.now.task) c.in-Suspend.is)
     (c.suspend.ensures c.args.map.now past c.args.call.now (record { task = refl; action = c.in-Suspend.is }) h.tells)
 
 pub returns-in-Resume-clause-ok : goal.returns-in-Resume-clause-ok
-returns-in-Resume-clause-ok c = λ past h. takes_none c.args.map.now past c.args.call.now c.resume.new.self c.resume.new.wanted
+returns-in-Resume-clause-ok c = λ past h. takes_none c.args.map.now past c.args.call.now c.resume.new.self c.resume.new.blocks
     (ap (blocks_by c.args.map.now past c.args.call.now.task) c.in-Resume.is)
     (c.resume.ensures c.args.map.now past c.args.call.now (record { task = refl; action = c.in-Resume.is }) h.tells)
 
 pub returns-in-Close : goal.returns-in-Close
 returns-in-Close c = record {
-  ok = on_ok_weaker c.close.result (λ says past h. takes_none c.args.map.now past c.args.call.now c.close.new.self c.close.new.wanted
+  ok = on_ok_weaker c.close.result (λ says past h. takes_none c.args.map.now past c.args.call.now c.close.new.self c.close.new.blocks
       (ap (blocks_by c.args.map.now past c.args.call.now.task) c.in-Close.is)
       (says past c.args.call.now (record { task = refl; action = c.in-Close.is }) h.tells)) c.close.ensures.ok;
   err_sessions = on_err_weaker c.close.result (λ same. same.0) c.close.ensures.err;
@@ -63,8 +63,8 @@ returns-in-Close c = record {
 
 pub returns-in-Segment-clause-ok : goal.returns-in-Segment-clause-ok
 returns-in-Segment-clause-ok c = on_ok_weaker c.add_segment.result (λ says past h. takes_none c.args.map.now past c.args.call.now
-    c.add_segment.new.self c.args.wanted.now (ap (blocks_by c.args.map.now past c.args.call.now.task) c.in-Segment.is)
-    (says c.args.map.now past c.args.call.now c.args.wanted.now (record { task = refl; action = c.in-Segment.is }) h))
+    c.add_segment.new.self c.args.blocks.now (ap (blocks_by c.args.map.now past c.args.call.now.task) c.in-Segment.is)
+    (says c.args.map.now past c.args.call.now c.args.blocks.now (record { task = refl; action = c.in-Segment.is }) h))
     c.add_segment.ensures.ok
 
 pub want-requires-clause-opened : goal.want-requires-clause-opened

@@ -5,35 +5,35 @@ use Rattle.fb_tasks.proofs.{RowsOf.rows-given, RowsOf.nothing-mute, Tested.up_to
 use Rattle.fb_tasks.proofs.Leaving.{grown_more, touched_more}
 use Rattle.fb_tasks.proofs.sessions.Sessions.choose_and_test.Goals as goal
 
-pub test_all-requires : goal.test_all-requires
-test_all-requires c =
-    (c.args.map.now, with_choices c.args.map.now c.requires.0, (c.in_ok-choose_all.ensures.chosen c.requires.0 c.requires.1).0)
+pub test_touched-requires : goal.test_touched-requires
+test_touched-requires c =
+    (c.args.map.now, with_choices c.args.map.now c.requires.0, (c.in_ok-choose_touched.ensures.chosen c.requires.0 c.requires.1).0)
 
 pub returns-clause-tells : goal.returns-clause-tells
-returns-clause-tells c = on_ok_weaker c.test_all.result (λ tested past may.
-    (tested c.args.map.now (with_choices c.args.map.now past) (c.in_ok-choose_all.ensures.chosen past may).0).0) c.test_all.ensures.tested
+returns-clause-tells c = on_ok_weaker c.test_touched.result (λ tested past may.
+    (tested c.args.map.now (with_choices c.args.map.now past) (c.in_ok-choose_touched.ensures.chosen past may).0).0) c.test_touched.ensures.tested
 
 pub returns-clause-up_to_date : goal.returns-clause-up_to_date
-returns-clause-up_to_date c = on_ok_weaker c.test_all.result (λ _ past may.
-    let chosen = (c.in_ok-choose_all.ensures.chosen past may).0 in
+returns-clause-up_to_date c = on_ok_weaker c.test_touched.result (λ _ past may.
+    let chosen = (c.in_ok-choose_touched.ensures.chosen past may).0 in
     up_to_date-tested (with_choices c.args.map.now past) (test_rows_found (with_choices c.args.map.now past) c.args.now)
     (λ task less. rows-given (with_choices c.args.map.now past) c.args.now [] nothing-mute task
-    (λ more. (chosen.blocks.unopened task more).choices))) c.test_all.ensures.tested
+    (λ more. (chosen.blocks.unopened task more).choices))) c.test_touched.ensures.tested
 
 pub returns-clause-rows : goal.returns-clause-rows
 unfolding test_rows_found
-returns-clause-rows c = on_ok_weaker c.test_all.result (λ tested past may.
+returns-clause-rows c = on_ok_weaker c.test_touched.result (λ tested past may.
     let new = with_choices c.args.map.now past in
-    let chosen = c.in_ok-choose_all.ensures.chosen past may in
+    let chosen = c.in_ok-choose_touched.ensures.chosen past may in
     (tested c.args.map.now new chosen.0).1
     ∙ (ap (λ rows. rows ++ flat_map (ends_of new c.args.now) (task_numbers new)) chosen.1
     ∙ append_assoc c.args.rows.now (flat_map (segment_rows_found new c.args.now) (task_numbers new))
-    (flat_map (ends_of new c.args.now) (task_numbers new)))) c.test_all.ensures.tested
+    (flat_map (ends_of new c.args.now) (task_numbers new)))) c.test_touched.ensures.tested
 
 pub returns-clause-stay_sessions : goal.returns-clause-stay_sessions
-returns-clause-stay_sessions c = touched_more c.args.self.now c.choose_all.new.self c.test_all.new.self c.choose_all.ensures.stay_sessions
-    c.test_all.ensures.stay_sessions
+returns-clause-stay_sessions c = touched_more c.args.self.now c.choose_touched.new.self c.test_touched.new.self c.choose_touched.ensures.stay_sessions
+    c.test_touched.ensures.stay_sessions
 
 pub returns-clause-stay_rows : goal.returns-clause-stay_rows
-returns-clause-stay_rows c = grown_more c.args.rows.now c.choose_all.new.rows c.test_all.new.rows c.choose_all.ensures.stay_rows
-    c.test_all.ensures.stay_rows
+returns-clause-stay_rows c = grown_more c.args.rows.now c.choose_touched.new.rows c.test_touched.new.rows c.choose_touched.ensures.stay_rows
+    c.test_touched.ensures.stay_rows

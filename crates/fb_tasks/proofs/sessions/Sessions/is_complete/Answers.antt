@@ -4,7 +4,7 @@ use Rattle.fb_tasks.proofs.sessions.Sessions.is_complete.Goals as goal
 
 pub is_complete-requires : goal.is_complete-requires
 is_complete-requires c =
-    counts_small c.requires.tells.1 c.args.task c.args.wanted.now c.counts.result c.counts.ensures c.requires.tells.2.entries (search rules)
+    counts_small c.requires.tells.1 c.args.task c.args.blocks.now c.counts.result c.counts.ensures c.requires.tells.2.entries (search rules)
 
 pub returns : goal.returns
 returns c = λ disk past h.
@@ -13,4 +13,4 @@ returns c = λ disk past h.
     ∙ ap Some (sym (c.index.ensures ∙ ap (λ xs. get_or xs c.args.task session) c.self.view_is)) in
     let told = h.each c.args.task session there in
     c.is_complete.ensures ∙ (ap (complete_by session) c.counts.ensures
-    ∙ complete_same past c.args.task session c.args.wanted.now told.stands told.at_work h.entries)
+    ∙ complete_same past c.args.task session c.args.blocks.now told.stands told.at_work h.entries)

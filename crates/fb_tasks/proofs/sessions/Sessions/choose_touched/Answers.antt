@@ -1,0 +1,97 @@
+use Rattle.fb_tasks.proofs.Words.{◌<◌, length, sym, subst, arith, length-set, MayChooseAndTest, OnlyTouched, MayClean}
+use Rattle.fb_tasks.proofs.Leaving.{grown_not, grown_more, registers_none, touched_none, touched_set, chosen_own}
+use Rattle.fb_tasks.proofs.Listed.{listed_set, listed_there, listed_within}
+use Rattle.fb_tasks.proofs.AllChoices.{partly-start, partly-may, partly-more, partly-to, all-chosen, past_at}
+use Rattle.fb_tasks.proofs.sessions.Sessions.choose_touched.Goals as goal
+
+pub loop-task-init : goal.loop-task-init
+loop-task-init c = record {
+  kept = c.self.invariant;
+  within = omega arith;
+  partly = λ past h. partly-start c.args.map.now past c.self.inside.sessions.items c.args.blocks.now c.args.now c.args.rows.now
+      (subst (λ xs. MayChooseAndTest c.args.map.now past xs c.args.blocks.now) (sym c.self.view_is) h);
+  stay = subst (OnlyTouched c.args.self.now) (sym c.self.view_is) (touched_none c.args.self.now);
+  own = registers_none (MayClean c.args.self.now) c.args.blocks.now;
+  grown = grown_not c.args.rows.now;
+}
+
+pub next_touched-requires : goal.next_touched-requires
+next_touched-requires c = (c.loop-task.self-inside.checked_by_writes, rw c.deref.ensures.value c.loop-task.invariant.kept)
+
+pub choose-requires : goal.choose-requires
+choose-requires c =
+    let inv = c.loop-task.invariant in
+    let n = c.in-Some.task in
+    let there = listed_there inv.kept n c.index_mut.result.now c.in-Some.ensures.found c.index_mut.ensures.value in
+    let to = partly-to c.loop-task.from n c.in-Some.ensures.from
+    (omega (arith, listed_within inv.kept n c.in-Some.ensures.found))
+    (rw c.deref.ensures.value at c.in-Some.ensures.first) (inv.partly c.requires.0 c.requires.1) in
+    (past_at c.args.map.now c.requires.0 n, partly-may there to)
+
+pub loop-task-preserved : goal.loop-task-preserved
+loop-task-preserved c =
+    let inv = c.loop-task.invariant in
+    let items = c.loop-task.self-inside.sessions.items in
+    let n = c.in-Some.task in
+    let session = c.index_mut.result.now in
+    let within : n < length items = listed_within inv.kept n c.in-Some.ensures.found in
+    let there = listed_there inv.kept n session c.in-Some.ensures.found c.index_mut.ensures.value in
+    let touched = (rw c.deref.ensures.value at c.in-Some.ensures.touched) session there in
+    record {
+      kept = listed_set inv.kept n c.choose.new.self c.in-Some.ensures.found;
+      within = omega (arith, within, length-set items n c.choose.new.self);
+      partly = λ past h.
+          let to = partly-to c.loop-task.from n c.in-Some.ensures.from (omega (arith, within))
+          (rw c.deref.ensures.value at c.in-Some.ensures.first) (inv.partly past h) in
+          partly-more there c.choose.ensures.same.1 to (c.in_ok-choose.ensures.chosen _ (partly-may there to));
+      stay = touched_set c.args.self.now items n session c.choose.new.self there touched c.choose.ensures.same.0 inv.stay;
+      own = chosen_own c.args.self.now items n session c.args.blocks.now c.loop-task.blocks c.choose.new.blocks there touched inv.stay
+          inv.own c.choose.ensures.own c.choose.ensures.idle;
+      grown = grown_more c.args.rows.now c.loop-task.rows c.choose.new.rows inv.grown c.choose.ensures.grown;
+    }
+
+pub returns-clause-chosen : goal.returns-clause-chosen
+returns-clause-chosen c = λ past h.
+    let inv = c.loop-task.invariant in
+    all-chosen (partly-to c.loop-task.from (length c.loop-task.self-inside.sessions.items) inv.within (omega arith)
+    (λ k s low high. (rw c.deref.ensures.value at c.in_default.ensures.none) k s low) (inv.partly past h))
+
+pub returns-in_err-choose-clause-stay_blocks : goal.returns-in_err-choose-clause-stay_blocks
+returns-in_err-choose-clause-stay_blocks c =
+    let inv = c.loop-task.invariant in
+    let there = listed_there inv.kept c.in-Some.task c.index_mut.result.now c.in-Some.ensures.found c.index_mut.ensures.value in
+    chosen_own c.args.self.now c.loop-task.self-inside.sessions.items c.in-Some.task c.index_mut.result.now c.args.blocks.now
+    c.loop-task.blocks c.choose.new.blocks there
+    ((rw c.deref.ensures.value at c.in-Some.ensures.touched) c.index_mut.result.now there) inv.stay inv.own c.choose.ensures.own
+    c.choose.ensures.idle
+
+pub returns-in_err-choose-clause-stay_sessions : goal.returns-in_err-choose-clause-stay_sessions
+returns-in_err-choose-clause-stay_sessions c =
+    let inv = c.loop-task.invariant in
+    let there = listed_there inv.kept c.in-Some.task c.index_mut.result.now c.in-Some.ensures.found c.index_mut.ensures.value in
+    touched_set c.args.self.now c.loop-task.self-inside.sessions.items c.in-Some.task c.index_mut.result.now c.choose.new.self there
+    ((rw c.deref.ensures.value at c.in-Some.ensures.touched) c.index_mut.result.now there) c.choose.ensures.same.0 inv.stay
+
+pub index_mut-requires : goal.index_mut-requires
+index_mut-requires c =
+    let kept = c.loop-task.invariant.kept in
+    omega (arith, listed_within kept c.in-Some.task c.in-Some.ensures.found, c.loop-task.self-inside.sessions.ok.0)
+
+pub overflow_add-from : goal.overflow_add-from
+overflow_add-from c =
+    let kept = c.loop-task.invariant.kept in omega (arith, listed_within kept c.in-Some.task c.in-Some.ensures.found, kept.room)
+
+pub loop-task-smaller : goal.loop-task-smaller
+loop-task-smaller c = omega (
+  arith,
+  listed_within c.loop-task.invariant.kept c.in-Some.task c.in-Some.ensures.found,
+  c.in-Some.ensures.from,
+  length-set c.loop-task.self-inside.sessions.items c.in-Some.task c.choose.new.self,
+)
+
+pub returns-in_err-choose-clause-stay_rows : goal.returns-in_err-choose-clause-stay_rows
+returns-in_err-choose-clause-stay_rows c = grown_more c.args.rows.now c.loop-task.rows c.choose.new.rows c.loop-task.invariant.grown
+    c.choose.ensures.grown
+
+pub invariant_of-self : goal.invariant_of-self
+invariant_of-self c = listed_set c.loop-task.invariant.kept c.in-Some.task c.choose.new.self c.in-Some.ensures.found

@@ -1,0 +1,18 @@
+use Rattle.fb_tasks.proofs.Words.{◌≤◌, ◌-◌, length, Past, MayChooseAndTest, AreListed, HasGrown, OnlyRegisters, MayClean, OnlyTouched}
+use Rattle.fb_tasks.proofs.AllChoices.{Partly}
+use Rattle.fb_tasks.proofs.sessions.Sessions.choose_touched.Given as goal
+
+-- the first tasks have chosen
+abbrev pub invariant-loop-task : goal.invariant-loop-task
+invariant-loop-task l = record {
+  kept : AreListed l.self-inside.sessions.items l.self-inside.listed_touched l.self-inside.checked_by_writes;
+  within : l.from ≤ length l.self-inside.sessions.items;
+  partly : (past : Past) → MayChooseAndTest l.map past l.fn.self l.initial.blocks
+      → Partly l.map past l.self-inside.sessions.items l.blocks l.now l.initial.rows l.rows l.from;
+  stay : OnlyTouched l.fn.self l.self-inside.sessions.items;
+  own : OnlyRegisters (MayClean l.fn.self) l.initial.blocks l.blocks;
+  grown : HasGrown l.initial.rows l.rows;
+}
+
+abbrev pub decreases-loop-task : goal.decreases-loop-task
+decreases-loop-task l = length l.self-inside.sessions.items - l.from
