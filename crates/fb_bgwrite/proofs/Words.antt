@@ -71,7 +71,7 @@ pub use Rattle.fb_model.proofs.Leads.{Leads, lead_gap, lead_on, lead_stay, lead_
 pub use Rattle.fb_plan.specs.Order.{catch_of, is_before, place_in}
 unfoldable pub use Rattle.fb_plan.specs.Order.{caught_of}
 pub use Rattle.fb_plan.specs.Ways.{AreOnDisk}
-pub use Rattle.fb_plan.specs.declared.catching.Catch.{Catch}
+pub use Rattle.fb_rows.specs.declared.gap.Catch.{Catch}
 pub use Rattle.fb_plan.proofs.Ends.{begin-from-le}
 pub use Rattle.fb_plan.specs.declared.turning.Turning.{Turning}
 pub use Rattle.fb_plan.specs.Turns.{IsTurning, added, end_of, passes_by}

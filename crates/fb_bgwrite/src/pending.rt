@@ -15,7 +15,7 @@ ghost use Rattle.fb_bgwrite.specs.Shortest.{AreAtLeast};
 ghost use Rattle.fb_bgwrite.specs.Standing.{wanted_entry};
 
 use crate::shortest::{NONE, Shortest};
-use fb_plan::{Catch, blocks_on, caught};
+use fb_plan::{blocks_on, caught};
 use fb_rows::Dwell;
 use fb_sectormap::Cut;
 use fb_service::Disk;

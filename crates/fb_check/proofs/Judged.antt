@@ -7,7 +7,7 @@ use Rattle.std.proofs.lemmas.List.{map-append, length-map}
 use Rattle.fb_units.specs.declared.types.Request.{Request}
 use Rattle.fb_units.proofs.Lists.{all_weaker}
 use Rattle.fb_calls.specs.Allowed as allowed
-use Rattle.fb_rows.specs.Tasks.{HasNamedTask}
+use Rattle.fb_rows.specs.Tasks.{HasTaskBelow}
 use Rattle.fb_rows.specs.declared.fore.ForeRow.{ForeRow}
 use Rattle.fb_rows.specs.declared.back.BackRow.{BackRow}
 use Rattle.fb_rows.specs.declared.run.Run.{Run}
@@ -17,7 +17,7 @@ use Rattle.fb_model.specs.Decisions.{decisions, run_end}
 use Rattle.fb_model.specs.Steps.{Step, decision_in, decisions_in, history, step_rows, task_rows}
 use Rattle.fb_model.specs.FullRun.{IsFull}
 use Rattle.fb_decide.specs.declared.deciding.Course.{Course}
-use Rattle.fb_decide.specs.Making.{RowFits, fore_row_of, decisions_by, rest_of, HasMade, HasMadeOne, decisions_left}
+use Rattle.fb_decide.specs.Making.{fore_row_of, decisions_by, rest_of, HasMade, HasMadeOne, decisions_left}
 use Rattle.fb_report.specs.declared.bytes.Bytes.{Bytes}
 use Rattle.fb_report.specs.declared.reading.Report.{Report}
 use Rattle.fb_report.specs.declared.reading.Report.TheVariants.{Fore, Back}
@@ -173,10 +173,9 @@ module _ (inputs : Inputs) (printed : Reports) (more : Bool) (list : List Reques
   back_taken taken e = e ∙ (one.back ∙ ap (λ rows. rows ++ step_rows inputs.disk one.step) judged.no_back)
 
   pub back_named : (names : List (List ℕ)) (taken : List BackRow) → length names ≡ length (allowed.tasks inputs.calls)
-      → taken ≡ after.background.rows → AllByRecursion (HasNamedTask names) taken
+      → taken ≡ after.background.rows → AllByRecursion (HasTaskBelow (length names)) taken
   back_named names taken n e =
-      all_weaker (RowFits (length (allowed.tasks inputs.calls))) (HasNamedTask names) (λ row fits. fits names n) taken
-      (subst (AllByRecursion (RowFits (length (allowed.tasks inputs.calls)))) (sym (back_taken taken e)) one.back_fits)
+      rw n (subst (AllByRecursion (HasTaskBelow (length (allowed.tasks inputs.calls)))) (sym (back_taken taken e)) one.back_fits)
 
   pub less : (was : Bool) → was ≡ true → (now_list : List Request) (now : Course) (now_pending : List Request) (now_count : ℕ)
       → HasMade inputs more (judged.steps ++ one.step ∷ []) now_list now now_pending now_count
@@ -354,6 +353,6 @@ module _ (inputs : Inputs) (printed : Reports) (list : List Request) (course : C
           )
 
 pub tasks_named : (n : ℕ) (names : List (List ℕ)) (rows tasks : List BackRow) → length names ≡ n → rows ≡ tasks
-    → AllByRecursion (RowFits n) tasks → AllByRecursion (HasNamedTask names) rows
+    → AllByRecursion (HasTaskBelow n) tasks → AllByRecursion (HasTaskBelow (length names)) rows
 tasks_named n names rows tasks few e fits =
-    all_weaker (RowFits n) (HasNamedTask names) (λ row fits. fits names few) rows (subst (AllByRecursion (RowFits n)) (sym e) fits)
+    rw few (subst (AllByRecursion (HasTaskBelow n)) (sym e) fits)

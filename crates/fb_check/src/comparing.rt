@@ -1,7 +1,7 @@
 // Compares printed lines with due ones.
 ghost use Rattle.std.specs.Prelude.{◌≡◌, ◌%◌, ◌<◌, ◌+◌, ◌-◌, ◌^◌, ℕ, List, [], ◌++◌, length, None, Some, IfNone, IfSome, IfOk, OnOk};
 ghost use Rattle.std.specs.List.{AllByRecursion};
-ghost use Rattle.fb_rows.specs.Tasks.{HasNamedTask};
+ghost use Rattle.fb_rows.specs.Tasks.{HasTaskBelow};
 ghost use Rattle.fb_rows.specs.declared.fore.ForeRow.{ForeRow};
 ghost use Rattle.fb_rows.specs.declared.back.BackRow.{BackRow};
 ghost use Rattle.fb_report.specs.declared.bytes.Bytes.{Bytes};
@@ -169,7 +169,7 @@ impl<'a> Comparison<'a> {
         bytes: Bytes,
     ) -> Result<(), NoMemory>
         requires whole { sector_bytes % 16 ≡ 0 }
-        requires named { AllByRecursion (HasNamedTask names.now) rows.now }
+        requires named { AllByRecursion (HasTaskBelow (length names.now)) rows.now }
         requires ready { CanCompare self.old }
         ensures ready { OnOk result (CanCompare self.new) }
         ensures compared { OnOk result

@@ -2,7 +2,7 @@
 ghost use Rattle.std.specs.Prelude.{◌≡◌, ◌%◌, ◌++◌, ℕ, List, [], true, false, length, None, IfOk, OnOk};
 ghost use Rattle.std.specs.List.{AllByRecursion};
 ghost use Rattle.fb_calls.specs.Allowed.{tasks};
-ghost use Rattle.fb_rows.specs.Tasks.{HasNamedTask};
+ghost use Rattle.fb_rows.specs.Tasks.{HasTaskBelow};
 ghost use Rattle.fb_rows.specs.declared.fore.ForeRow.{ForeRow};
 ghost use Rattle.fb_rows.specs.declared.back.BackRow.{BackRow};
 ghost use Rattle.fb_decide.specs.RunInputs.{inputs_of};
@@ -108,7 +108,7 @@ fn compare_rows(
     back: &mut Comparison<'_>,
 ) -> Result<(), NoMemory>
     requires whole { inputs.disk.now.sector_bytes % 16 ≡ 0 }
-    requires named { AllByRecursion (HasNamedTask inputs.calls.now.names) rows.now.back }
+    requires named { AllByRecursion (HasTaskBelow (length inputs.calls.now.names)) rows.now.back }
     requires fore_ready { CanCompare fore.old }
     requires back_ready { CanCompare back.old }
     ensures fore_ready { OnOk result (CanCompare fore.new) }

@@ -18,7 +18,7 @@ use Rattle.fb_units.proofs.Alike.{filter_same}
 use Rattle.fb_wanted.specs.declared.block.Block.{Block}
 use Rattle.fb_model.specs.Blocks.{IsBlockOn}
 use Rattle.fb_model.specs.History.{same_block, Past, wanted}
-use Rattle.fb_plan.specs.declared.catching.Catch.{Catch}
+use Rattle.fb_rows.specs.declared.gap.Catch.{Catch}
 use Rattle.fb_plan.specs.Order.{is_before, place_in}
 use Rattle.fb_plan.proofs.Sorted.{put_front, put_behind, not_both}
 use Rattle.fb_decide.specs.Deliveries.{AreDistinct, AreDue, row_in, held_now}

@@ -36,7 +36,8 @@ use Rattle.fb_tasks.specs.Telling.{Tells, IsBlockOf, calls_of}
 use Rattle.fb_tasks.proofs.Rules.{opened_same}
 use Rattle.fb_decide.proofs.Placing.{in_order-each}
 use Rattle.fb_decide.proofs.RegisteredBlocks.{registered_after, tasks_more}
-use Rattle.fb_decide.specs.Making.{IsMade, RowFits}
+use Rattle.fb_rows.specs.Tasks.{HasTaskBelow}
+use Rattle.fb_decide.specs.Making.{IsMade}
 use Rattle.fb_rows.specs.declared.back.BackRow.{BackRow}
 
 -- ---- rows and histories
@@ -80,33 +81,33 @@ module _ (n : ℕ) where
   in_range past fits =
       all_range (λ task. task < n) 0 (length (tasks past)) (λ k from below. let few = fits.few in omega (arith, below, few))
 
-  one_fits : (b : Bool) (row : BackRow) → RowFits n row → AllByRecursion (RowFits n) (if b then row ∷ [] else [])
+  one_fits : (b : Bool) (row : BackRow) → HasTaskBelow n row → AllByRecursion (HasTaskBelow n) (if b then row ∷ [] else [])
   one_fits true row fits = (fits, tt)
   one_fits false row fits = tt
 
   module _ (medium : Medium) (past : Past) (now : ℕ) (fits : PastFits n past) where
-    segments_fit : (task : ℕ) → task < n → AllByRecursion (RowFits n) (segment_rows (packed medium past) past now task)
-    segments_fit task below = all_map (RowFits n) _ (filter (is_newly_cleaned (work past task)) (choices past task))
-        (all_any _ (λ choice names e. omega (arith, e, below)) (filter (is_newly_cleaned (work past task)) (choices past task)))
+    segments_fit : (task : ℕ) → task < n → AllByRecursion (HasTaskBelow n) (segment_rows (packed medium past) past now task)
+    segments_fit task below = all_map (HasTaskBelow n) _ (filter (is_newly_cleaned (work past task)) (choices past task))
+        (all_any _ (λ choice. below) (filter (is_newly_cleaned (work past task)) (choices past task)))
 
-    seals_fit : (task : ℕ) → task < n → AllByRecursion (RowFits n) (seal_rows (image medium past task now) past now task)
-    seals_fit task below = one_fits (is_open_backup past task && is_complete past task) _ (λ names e. omega (arith, e, below))
+    seals_fit : (task : ℕ) → task < n → AllByRecursion (HasTaskBelow n) (seal_rows (image medium past task now) past now task)
+    seals_fit task below = one_fits (is_open_backup past task && is_complete past task) _ below
 
-    completes_fit : (task : ℕ) → task < n → AllByRecursion (RowFits n) (complete_rows past now task)
-    completes_fit task below = one_fits (is_complete past task && not (was_complete past task)) _ (λ names e. omega (arith, e, below))
+    completes_fit : (task : ℕ) → task < n → AllByRecursion (HasTaskBelow n) (complete_rows past now task)
+    completes_fit task below = one_fits (is_complete past task && not (was_complete past task)) _ below
 
-    tests_fit : AllByRecursion (RowFits n) (test_rows medium past now)
+    tests_fit : AllByRecursion (HasTaskBelow n) (test_rows medium past now)
     unfolding test_rows
-    tests_fit = all_append (RowFits n) (flat_map (segment_rows (packed medium past) past now) (task_numbers past))
+    tests_fit = all_append (HasTaskBelow n) (flat_map (segment_rows (packed medium past) past now) (task_numbers past))
         (flat_map (λ task. seal_rows (image medium past task now) past now task ++ complete_rows past now task) (task_numbers past))
-        (flat_all (RowFits n) (segment_rows (packed medium past) past now) (task_numbers past)
-        (all_weaker (λ task. task < n) (λ task. AllByRecursion (RowFits n) (segment_rows (packed medium past) past now task)) segments_fit
+        (flat_all (HasTaskBelow n) (segment_rows (packed medium past) past now) (task_numbers past)
+        (all_weaker (λ task. task < n) (λ task. AllByRecursion (HasTaskBelow n) (segment_rows (packed medium past) past now task)) segments_fit
         (task_numbers past) (in_range past fits)))
-        (flat_all (RowFits n) (λ task. seal_rows (image medium past task now) past now task ++ complete_rows past now task)
+        (flat_all (HasTaskBelow n) (λ task. seal_rows (image medium past task now) past now task ++ complete_rows past now task)
         (task_numbers past)
         (all_weaker (λ task. task < n)
-        (λ task. AllByRecursion (RowFits n) (seal_rows (image medium past task now) past now task ++ complete_rows past now task))
-        (λ task below. all_append (RowFits n) (seal_rows (image medium past task now) past now task) (complete_rows past now task)
+        (λ task. AllByRecursion (HasTaskBelow n) (seal_rows (image medium past task now) past now task ++ complete_rows past now task))
+        (λ task below. all_append (HasTaskBelow n) (seal_rows (image medium past task now) past now task) (complete_rows past now task)
         (seals_fit task below) (completes_fit task below)) (task_numbers past) (in_range past fits)))
 
   -- ---- deliveries and what follows them
@@ -148,24 +149,24 @@ module _ (n : ℕ) where
   due_fits medium (idling dwell) blocks all = caught_fits medium _ dwell blocks all
   due_fits medium (ending now) blocks all = tt
 
-  findings_fit : (past : Past) (got : DeliveryRow) → GotFits got → AllByRecursion (RowFits n) (findings past got)
+  findings_fit : (past : Past) (got : DeliveryRow) → GotFits got → AllByRecursion (HasTaskBelow n) (findings past got)
   findings_fit past got fits = elim (cases_Bool (is_scrub (terms_of past got.block.task).kind)) [
-    | inl scrubs ↦ rw scrubs (all_map (RowFits n) _ (bad_sectors got.content)
-        (all_any _ (λ lbn names e. omega (arith, e, fits)) (bad_sectors got.content)))
+    | inl scrubs ↦ rw scrubs (all_map (HasTaskBelow n) _ (bad_sectors got.content)
+        (all_any _ (λ lbn. fits) (bad_sectors got.content)))
     | inr other ↦ rw other tt
   ]
 
   followed_fit : (medium : Medium) (past : Past) (deliveries : List Delivery) → PastFits n past
       → AllByRecursion GotFits (map (λ delivery. delivery.got) deliveries) → AreFollowed medium past deliveries
-      → AllByRecursion (RowFits n) (flat_map (λ (delivery : Delivery). BackGot delivery.got ∷ delivery.after) deliveries)
+      → AllByRecursion (HasTaskBelow n) (flat_map (λ (delivery : Delivery). BackGot delivery.got ∷ delivery.after) deliveries)
   followed_fit medium past [] fits gots follows = tt
   followed_fit medium past (delivery ∷ deliveries) fits gots follows =
       let got = gots.0 in
       let now : PastFits n (delivered delivery.got ∷ past) = record { blocks = fits.blocks; few = fits.few } in (
-        (λ names e. omega (arith, e, got)),
-        all_append (RowFits n) delivery.after (flat_map (λ (delivery : Delivery). BackGot delivery.got ∷ delivery.after) deliveries)
-            (subst (AllByRecursion (RowFits n)) (sym follows.0)
-            (all_append (RowFits n) (findings past delivery.got) (test_rows medium (delivered delivery.got ∷ past) delivery.got.end)
+        got,
+        all_append (HasTaskBelow n) delivery.after (flat_map (λ (delivery : Delivery). BackGot delivery.got ∷ delivery.after) deliveries)
+            (subst (AllByRecursion (HasTaskBelow n)) (sym follows.0)
+            (all_append (HasTaskBelow n) (findings past delivery.got) (test_rows medium (delivered delivery.got ∷ past) delivery.got.end)
             (findings_fit past delivery.got got) (tests_fit medium (delivered delivery.got ∷ past) delivery.got.end now)))
             (followed_fit medium (with_delivery past delivery) deliveries
             (record { blocks = fits.blocks; few = fits.few }) gots.1 follows.1),
@@ -173,9 +174,9 @@ module _ (n : ℕ) where
 
   -- ---- the rows of steps
 
-  opening_fits : (disk : Disk) (act : Act) → AllByRecursion (RowFits n) (opening disk act)
-  opening_fits disk (serving served plan) = (λ names e. tt, tt)
-  opening_fits disk (idling dwell) = (λ names e. tt, tt)
+  opening_fits : (disk : Disk) (act : Act) → AllByRecursion (HasTaskBelow n) (opening disk act)
+  opening_fits disk (serving served plan) = (tt, tt)
+  opening_fits disk (idling dwell) = (tt, tt)
   opening_fits disk (ending now) = tt
 
   wanted_fit : (past : Past) → PastFits n past → AllByRecursion (BlockFits n) (wanted past)
@@ -183,24 +184,24 @@ module _ (n : ℕ) where
   wanted_fit past fits = all_filter (BlockFits n) (λ block. is_wanted (state past block)) (registered past) fits.blocks
 
   pub step_fits : (inputs : Inputs) (past : Past) (step : Step) → IsMade inputs past step → PastFits n (past_after inputs past step)
-      → AllByRecursion (RowFits n) (step_rows inputs.disk step)
+      → AllByRecursion (HasTaskBelow n) (step_rows inputs.disk step)
   step_fits inputs past step made fits =
       let medium = medium_of inputs in
       let tests = fits_tested inputs past step fits in
       let test = fits_before (chosen_past inputs past (decision_in step)) (tested step.test) tests in
-      all_append (RowFits n) (step.test ++ opening inputs.disk step.act)
+      all_append (HasTaskBelow n) (step.test ++ opening inputs.disk step.act)
       (flat_map (λ (delivery : Delivery). BackGot delivery.got ∷ delivery.after) step.deliveries)
-      (all_append (RowFits n) step.test (opening inputs.disk step.act)
-      (subst (AllByRecursion (RowFits n)) (sym made.tested.test) (tests_fit medium (chosen_past inputs past (decision_in step))
+      (all_append (HasTaskBelow n) step.test (opening inputs.disk step.act)
+      (subst (AllByRecursion (HasTaskBelow n)) (sym made.tested.test) (tests_fit medium (chosen_past inputs past (decision_in step))
       (instant_of (decision_in step)) test)) (opening_fits inputs.disk step.act))
       (followed_fit medium (tested step.test ∷ chosen_past inputs past (decision_in step)) step.deliveries tests
       (subst (AllByRecursion GotFits) (sym made.all) (due_fits medium step.act (wanted (chosen_past inputs past (decision_in step)))
       (wanted_fit (chosen_past inputs past (decision_in step)) test))) made.tested.followed)
 
-  pub tasks_fit : (past : Past) → PastFits n past → AllByRecursion (RowFits n) (task_rows past)
+  pub tasks_fit : (past : Past) → PastFits n past → AllByRecursion (HasTaskBelow n) (task_rows past)
   unfolding task_rows
-  tasks_fit past fits = all_map (RowFits n) (task_row past) (task_numbers past)
-      (all_weaker (λ task. task < n) (λ task. RowFits n (task_row past task)) (λ task below names e. omega (arith, e, below))
+  tasks_fit past fits = all_map (HasTaskBelow n) (task_row past) (task_numbers past)
+      (all_weaker (λ task. task < n) (λ task. HasTaskBelow n (task_row past task)) (λ task below. below)
       (task_numbers past) (in_range past fits))
 
 -- ---- of a history that is told

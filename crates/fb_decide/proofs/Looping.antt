@@ -24,7 +24,8 @@ use Rattle.fb_model.specs.Decisions.{decisions}
 use Rattle.fb_tasks.specs.Telling.{Tells}
 use Rattle.fb_decide.specs.declared.deciding.Course.{Course}
 use Rattle.fb_decide.specs.Deciding.{IsInitial, PassagesTakeTime, HasDecided, MayDecide}
-use Rattle.fb_decide.specs.Making.{GoesOn, AreKnown, RowFits, HasComeTo, HasMade, HasMadeOne}
+use Rattle.fb_rows.specs.Tasks.{HasTaskBelow}
+use Rattle.fb_decide.specs.Making.{GoesOn, AreKnown, HasComeTo, HasMade, HasMadeOne}
 use Rattle.fb_decide.proofs.Calling.{called_first}
 use Rattle.fb_decide.proofs.Truth.{true_first}
 use Rattle.fb_geometry.specs.Sound.{IsSound}
@@ -159,7 +160,7 @@ module _ (inputs : Inputs) (steps : List Step) (list : List Request) (course : C
 -- at the end the tasks' rows fit too
 pub ended_fits : (inputs : Inputs) (steps : List Step) (list : List Request) (course : Course) (pending : List Request) (count : ℕ)
     → HasMade inputs false steps list course pending count
-    → AllByRecursion (RowFits (length (allowed.tasks inputs.calls))) (task_rows (history inputs steps))
+    → AllByRecursion (HasTaskBelow (length (allowed.tasks inputs.calls))) (task_rows (history inputs steps))
 ended_fits inputs steps list course pending count made = tasks_fit (length (allowed.tasks inputs.calls)) (history inputs steps)
     (fits-told inputs.disk.map inputs.calls
     (history inputs steps) course.called course.background.sessions course.background.blocks made.come_to.run.tells made.come_to.calls_made)

@@ -29,7 +29,7 @@ use Rattle.fb_service.specs.declared.disk.Disk.{Disk}
 use Rattle.fb_store.specs.Ranges.{Holding}
 use Rattle.fb_model.specs.Plans.{catches, block_begin, block_end}
 use Rattle.fb_model.specs.Deliveries.{placed, in_order, missed, delivery, caught_rows}
-use Rattle.fb_plan.specs.declared.catching.Catch.{Catch}
+use Rattle.fb_rows.specs.declared.gap.Catch.{Catch}
 use Rattle.fb_plan.specs.Order.{is_before, place_in, catch_of, caught_of}
 use Rattle.fb_plan.proofs.Sorted.{put_front, put_behind}
 use Rattle.fb_decide.proofs.Delivering.{none_of, wanted-with, next-wanted, delivered-join, past_with-append, wanted-told}

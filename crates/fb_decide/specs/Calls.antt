@@ -1,15 +1,14 @@
 -- The calls between two decisions, and what is chosen and tested before the plan of a decision.
 use Rattle.std.specs.Prelude.{◌≡◌, ◌<◌, ◌^◌, ℕ, List, [], ◌∷◌, ◌++◌, length, map, IfSome, slice_get}
-use Rattle.std.specs.List.{fold}
 use Rattle.fb_units.specs.Rising.{IsRising}
 use Rattle.fb_geometry.specs.Shape.{Shape}
 use Rattle.fb_calls.specs.declared.call.Call.{Call}
 use Rattle.fb_calls.specs.Allowed.{AreAllowed}
 use Rattle.fb_rows.specs.declared.back.BackRow.{BackRow}
-use Rattle.fb_model.specs.History.{Past, tested}
-use Rattle.fb_model.specs.Steps.{take_call, calls_due}
-use Rattle.fb_model.specs.Segments.{with_choices}
+use Rattle.fb_model.specs.History.{Past}
+use Rattle.fb_model.specs.Steps.{chosen_by}
 use Rattle.fb_tasks.specs.Taken.{test_rows_found}
+use Rattle.fb_tasks.specs.Telling.{tested_at}
 pub use Rattle.fb_tasks.specs.Script.{IsCalled}
 use Rattle.fb_decide.specs.declared.background.Background.{Background}
 use Rattle.fb_decide.specs.Deliveries.{TellsUpToDate}
@@ -20,17 +19,13 @@ pub record IsScriptOf (disk : Shape) (calls : List Call) : Type 0 where
   pub allowed : AreAllowed disk [] calls
   pub few : length calls < 2 ^ 32
 
--- after the calls and choices of an instant
-abbrev pub chosen_by : Shape → List Call → Past → ℕ → Past
-chosen_by disk calls past now = with_choices disk (fold (take_call disk) past (calls_due calls past now))
-
--- the rows of its test
+-- the rows of the test after the calls and choices of an instant
 abbrev pub test_rows_by : Shape → List Call → Past → ℕ → List BackRow
 test_rows_by disk calls past now = test_rows_found (chosen_by disk calls past now) now
 
--- after its test
+-- after that test
 abbrev pub tested_by : Shape → List Call → Past → ℕ → Past
-tested_by disk calls past now = tested (test_rows_by disk calls past now) ∷ chosen_by disk calls past now
+tested_by disk calls past now = tested_at (chosen_by disk calls past now) now
 
 -- all calls up to now have taken effect, the tasks have chosen segments, and all tasks were tested
 pub record HasPrepared (disk : Shape) (calls : List Call) (past : Past) (now later : ℕ) (rows : List BackRow)

@@ -9,17 +9,8 @@ use Rattle.fb_service.specs.declared.passage.Passage.{Passage}
 use Rattle.fb_service.specs.declared.passage.Extent.{Extent}
 use Rattle.fb_service.specs.Extents.{IsUnbroken}
 use Rattle.fb_wanted.specs.declared.block.Block.{Block}
-use Rattle.fb_model.specs.Deliveries.{lies_in, begin_at, end_at}
-use Rattle.fb_plan.specs.declared.catching.Catch.{Catch}
-use Rattle.fb_plan.specs.Order.{in_order}
-
--- the passage of a block, from the passages of its sectors
-abbrev pub ride_of : List Passage → Block → Catch
-ride_of passages block = record { block = block; begin = begin_at passages block.lbn; end = end_at passages (block.lbn + block.count - 1) }
-
--- the blocks that a read carries, in the order of delivery
-unfoldable pub carried_of : List Passage → Request → List Block → List Catch
-carried_of passages request blocks = in_order (map (ride_of passages) (filter (lies_in request) blocks))
+use Rattle.fb_model.specs.Deliveries.{lies_in, ride_of}
+use Rattle.fb_rows.specs.declared.gap.Catch.{Catch}
 
 -- the block's first sector passes in the extent
 abbrev pub begins_in : Extent → Block → Bool

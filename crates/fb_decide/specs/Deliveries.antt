@@ -1,34 +1,27 @@
 -- What is delivered from a disk as it is, and what the deliveries make of a history.
 use Rattle.std.specs.Prelude.{◌≡◌, ℕ, List, [], ◌∷◌, ◌++◌, false, map, Some, slice_get}
-use Rattle.std.specs.List.{AllByRecursion, flat_map, fold, range_with_len}
+use Rattle.std.specs.List.{AllByRecursion, fold, range_with_len}
 use Rattle.fb_geometry.specs.Shape.{Shape}
 use Rattle.fb_service.specs.declared.disk.Disk.{Disk}
 use Rattle.fb_store.specs.Ranges.{Holding, content_in}
 use Rattle.fb_wanted.specs.declared.block.Block.{Block}
 use Rattle.fb_rows.specs.declared.gap.Plan.{Plan}
-use Rattle.fb_rows.specs.declared.gap.How.{How}
 use Rattle.fb_rows.specs.declared.back.DeliveryRow.{DeliveryRow}
 use Rattle.fb_rows.specs.declared.back.BackRow.{BackRow}
-use Rattle.fb_rows.specs.declared.back.BackRow.TheVariants.{Got as BackGot, Gap as BackGap}
 use Rattle.fb_model.specs.Content.{ContentsAt}
 use Rattle.fb_model.specs.Plans.{IsBest}
 use Rattle.fb_model.specs.PlainReplay.{Served}
 use Rattle.fb_model.specs.Decisions.{serving}
-use Rattle.fb_model.specs.Deliveries.{delivery, due, gap_of}
+use Rattle.fb_model.specs.Deliveries.{due, gap_of}
 use Rattle.fb_model.specs.History.{Past, finished, registered, same_block, wanted}
-use Rattle.fb_model.specs.Steps.{Delivery, with_delivery}
+use Rattle.fb_model.specs.Steps.{Delivery, with_delivery, delivery_rows, opening}
 use Rattle.fb_tasks.specs.Taken.{delivery_of}
 use Rattle.fb_tasks.specs.Telling.{Tells, IsUpToDate}
-use Rattle.fb_plan.specs.declared.catching.Catch.{Catch}
 use Rattle.fb_decide.specs.declared.background.Background.{Background}
 
 -- the contents of n sectors from an LBN on as the disk is now, whatever the instant
 abbrev pub held_now : Holding → ContentsAt
 held_now holding lbn n t = map (λ sector. (sector, content_in holding sector)) (range_with_len lbn n)
-
--- the delivery of a block that was caught
-abbrev pub row_in : Holding → How → Catch → DeliveryRow
-row_in holding how catch = delivery (held_now holding) how catch.block catch.begin catch.end
 
 -- these deliveries one after another, each with its findings and what its test gives
 abbrev pub followed : Past → List DeliveryRow → List Delivery
@@ -38,10 +31,6 @@ followed past (got ∷ gots) = delivery_of past got ∷ followed (with_delivery 
 -- the history after these deliveries, each with its test
 abbrev pub past_with : Past → List DeliveryRow → Past
 past_with past gots = fold with_delivery past (followed past gots)
-
--- the rows of deliveries, each with those that follow it
-abbrev pub rows_of : List Delivery → List BackRow
-rows_of deliveries = flat_map (λ delivery. BackGot delivery.got ∷ delivery.after) deliveries
 
 -- the block is registered
 abbrev pub IsRegistered : Past → Block → Type 0
@@ -73,7 +62,7 @@ pub record AreDue (past : Past) (gots : List DeliveryRow) : Type 0 where
 -- these deliveries were made, and their rows added
 pub record HasDelivered (disk : Shape) (past : Past) (gots : List DeliveryRow) (rows : List BackRow) (after : Background) : Type 0 where
   pub current : TellsUpToDate disk (past_with past gots) after
-  pub rows_after : after.rows ≡ rows ++ rows_of (followed past gots)
+  pub rows_after : after.rows ≡ rows ++ delivery_rows (followed past gots)
   pub registered : AllByRecursion (λ got. IsRegistered past got.block) gots
 
 -- the best plan for a request's gap was followed, and what is due in the gap and along with a read was delivered
@@ -82,7 +71,7 @@ pub record HasDeliveredAround (disk : Disk) (holding : Holding) (past : Past) (s
   pub plan : Plan
   pub best : IsBest disk (gap_of disk served) (wanted past) plan
   pub delivered : HasDelivered disk.map past (due disk (held_now holding) (serving served plan) (wanted past))
-      (rows ++ BackGap (record { name = served.request.name; gap = gap_of disk served; plan = plan }) ∷ []) after
+      (rows ++ opening disk (serving served plan)) after
 
 -- a request was served by the best plan for its gap, and the background rows were added
 pub record HasServed (disk : Disk) (holding : Holding) (past : Past) (served : Served) (rows : List BackRow)
@@ -91,6 +80,6 @@ pub record HasServed (disk : Disk) (holding : Holding) (past : Past) (served : S
   pub best : IsBest disk (gap_of disk served) (wanted past) plan
   pub tells : Tells disk.map (finished served.request ∷ past_with past (due disk (held_now holding) (serving served plan) (wanted past)))
       after.sessions after.blocks
-  pub rows_after : after.rows ≡ rows ++ BackGap (record { name = served.request.name; gap = gap_of disk served; plan = plan })
-      ∷ rows_of (followed past (due disk (held_now holding) (serving served plan) (wanted past)))
+  pub rows_after : after.rows ≡ rows ++ opening disk (serving served plan)
+      ++ delivery_rows (followed past (due disk (held_now holding) (serving served plan) (wanted past)))
   pub registered : AllByRecursion (λ got. IsRegistered past got.block) (due disk (held_now holding) (serving served plan) (wanted past))

@@ -10,7 +10,7 @@ use Rattle.fb_calls.specs.Allowed as allowed
 use Rattle.fb_store.specs.declared.content.Content.{Content}
 use Rattle.fb_store.specs.Writes.{unwritten}
 use Rattle.fb_store.specs.Ranges.{Holding, content_in}
-use Rattle.fb_rows.specs.Tasks.{HasNamedTask}
+use Rattle.fb_rows.specs.Tasks.{HasTaskBelow}
 use Rattle.fb_rows.specs.declared.fore.ForeRow.{ForeRow}
 use Rattle.fb_rows.specs.declared.back.BackRow.{BackRow}
 use Rattle.fb_model.specs.PlainReplay.{Served, plain}
@@ -42,10 +42,6 @@ pub record IsMade (inputs : Inputs) (past : Past) (step : Step) : Type 0 where
 abbrev pub fore_row_of : Medium → Decision → List ForeRow
 fore_row_of medium (serves served) = fore_row medium served ∷ []
 fore_row_of medium _ = []
-
--- the row's task, if it has one, is one of the first n
-abbrev pub RowFits : ℕ → BackRow → Type 0
-RowFits n row = (names : List (List ℕ)) → length names ≡ n → HasNamedTask names row
 
 -- ---- what stands between two decisions
 
@@ -146,6 +142,6 @@ pub record HasMadeOne (inputs : Inputs) (steps : List Step) (more : Bool) (list 
   pub is_made : IsMade inputs (history inputs steps) step
   pub fore : after.fore ≡ before.fore ++ fore_row_of (medium_of inputs) (decision_in step)
   pub back : after.background.rows ≡ before.background.rows ++ step_rows inputs.disk step
-  pub back_fits : AllByRecursion (RowFits (length (allowed.tasks inputs.calls))) (step_rows inputs.disk step)
+  pub back_fits : AllByRecursion (HasTaskBelow (length (allowed.tasks inputs.calls))) (step_rows inputs.disk step)
   pub made : HasMade inputs more (steps ++ step ∷ []) list after pending_after count_after
   pub fewer : decisions_left inputs more after pending_after < decisions_left inputs true before pending

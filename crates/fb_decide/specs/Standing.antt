@@ -9,7 +9,7 @@ use Rattle.fb_rows.specs.declared.back.DeliveryRow.{DeliveryRow}
 use Rattle.fb_model.specs.Content.{Medium, content}
 use Rattle.fb_model.specs.History.{Past, bare_state, content_of, is_open_backup}
 use Rattle.fb_model.specs.Images.{held_at_delivery}
-use Rattle.fb_model.specs.Deliveries.{delivery}
+use Rattle.fb_model.specs.Deliveries.{delivery_row}
 use Rattle.fb_decide.specs.Deliveries.{IsRegistered, held_now}
 
 -- between these instants each sector holds what the disk holds now
@@ -18,7 +18,7 @@ Mirrors medium holding from to = (lbn t : ℕ) → from ≤ t → t ≤ to → c
 
 -- a delivery between two instants, of what the disk holds
 pub record IsFoundIn (holding : Holding) (from to : ℕ) (got : DeliveryRow) : Type 0 where
-  pub row : got ≡ delivery (held_now holding) got.how got.block got.begin got.end
+  pub row : got ≡ delivery_row (held_now holding) got.how (record { block = got.block; begin = got.begin; end = got.end })
   pub begin : from ≤ got.begin
   pub order : got.begin ≤ got.end
   pub end : got.end ≤ to

@@ -2,11 +2,11 @@
 ghost use Rattle.std.specs.Prelude.{◌≡◌, ◌+◌, ◌*◌, ◌≤◌, ◌^◌, ℕ, [], ◌∷◌, ◌++◌, Some, map, slice_get, OnOk};
 ghost use Rattle.fb_geometry.specs.Shape.{Shape};
 ghost use Rattle.fb_model.specs.History.{Past, wanted};
-ghost use Rattle.fb_model.specs.Deliveries.{delivery, caught_rows, missed};
-ghost use Rattle.fb_decide.specs.Deliveries.{TellsUpToDate, HasDelivered, AreDue, row_in, held_now, past_with};
+ghost use Rattle.fb_model.specs.Deliveries.{delivery_row, caught_rows, missed};
+ghost use Rattle.fb_decide.specs.Deliveries.{TellsUpToDate, HasDelivered, AreDue, held_now, past_with};
 
-use fb_plan::{Catch, caught};
-use fb_rows::{BackRow, BackRows, DeliveryRow, Dwell, How};
+use fb_plan::caught;
+use fb_rows::{BackRow, BackRows, Catch, DeliveryRow, Dwell, How};
 use fb_service::Disk;
 use fb_store::{Store, runs_are_fewest};
 use fb_tasks::Sessions;
@@ -43,7 +43,7 @@ impl Background {
             × (slice_get (wanted past) index ≡ Some catch.block) }
         ensures { OnOk result ((disk : Shape) (past : Past) (index : ℕ) → TellsUpToDate disk past self.old
             → slice_get (wanted past) index ≡ Some catch.block
-            → HasDelivered disk past (delivery (held_now store.now) how catch.block catch.begin catch.end ∷ []) self.old.rows self.new) }
+            → HasDelivered disk past (delivery_row (held_now store.now) how catch ∷ []) self.old.rows self.new) }
     {
         runs_are_fewest();
         let content = store.runs(alloc, catch.block.lbn, catch.block.count)?;
@@ -69,10 +69,10 @@ impl Background {
         catches: &[Catch],
     ) -> Result<(), NoMemory>
         requires { (disk : Shape) × (past : Past) × TellsUpToDate disk past self.old
-            × AreDue past (map (row_in store.now how) catches.now) }
+            × AreDue past (map (delivery_row (held_now store.now) how) catches.now) }
         ensures { OnOk result ((disk : Shape) (past : Past) → TellsUpToDate disk past self.old
-            → AreDue past (map (row_in store.now how) catches.now)
-            → HasDelivered disk past (map (row_in store.now how) catches.now) self.old.rows self.new) }
+            → AreDue past (map (delivery_row (held_now store.now) how) catches.now)
+            → HasDelivered disk past (map (delivery_row (held_now store.now) how) catches.now) self.old.rows self.new) }
     {
         for catch in catches {
             self.deliver(alloc, store, how, *catch)?;

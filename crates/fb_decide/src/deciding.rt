@@ -16,7 +16,8 @@ ghost use Rattle.fb_decide.specs.Waiting.{IsWaiting};
 ghost use Rattle.fb_decide.specs.Calls.{IsCalled};
 ghost use Rattle.fb_decide.specs.Deliveries.{TellsUpToDate};
 ghost use Rattle.fb_decide.specs.Deciding.{IsInitial, MayDecide, next_of, HasServedNext, HasStayed, HasActed, HasDecided};
-ghost use Rattle.fb_decide.specs.Making.{HasMade, HasMadeOne, RowFits};
+ghost use Rattle.fb_decide.specs.Making.{HasMade, HasMadeOne};
+ghost use Rattle.fb_rows.specs.Tasks.{HasTaskBelow};
 
 use crate::background::Background;
 use crate::foreground::foreground;
@@ -140,7 +141,7 @@ impl<'a, Q: Queue> Decider<'a, Q> {
             → self.new.course.background.rows ≡ self.old.course.background.rows ++ task_rows (history inputs steps)) }
         ensures fits { (inputs : Inputs) (steps : List Step)
             → HasMade inputs false steps self.old.requests self.old.course (Q.pending self.old.queue) (Q.joined self.old.queue)
-            → AllByRecursion (RowFits (length (tasks inputs.calls))) (task_rows (history inputs steps)) }
+            → AllByRecursion (HasTaskBelow (length (tasks inputs.calls))) (task_rows (history inputs steps)) }
         ensures fore { OnOk result (self.new.course.fore ≡ self.old.course.fore) }
         ensures made { (inputs : Inputs) (steps : List Step)
             → HasMade inputs false steps self.old.requests self.old.course (Q.pending self.old.queue) (Q.joined self.old.queue)

@@ -13,7 +13,8 @@ use Rattle.fb_model.specs.Decisions.{decisions, run_end}
 use Rattle.fb_model.specs.Steps.{Step, history, task_rows}
 use Rattle.fb_model.specs.FullRun.{IsFull}
 use Rattle.fb_decide.specs.declared.deciding.Course.{Course}
-use Rattle.fb_decide.specs.Making.{RowFits, HasMade, HasMadeOne, decisions_left}
+use Rattle.fb_rows.specs.Tasks.{HasTaskBelow}
+use Rattle.fb_decide.specs.Making.{HasMade, HasMadeOne, decisions_left}
 use Rattle.fb_decide.specs.FullRuns.{DecisionsMakeARun}
 use Rattle.fb_engine.specs.Progress.{HasAdvanced}
 
@@ -25,7 +26,7 @@ at_first {inputs} made no_fore no_back = record {
   steps = [];
   made = made;
   rows = record { each = tt; fore_so_far = no_fore; back_so_far = no_back };
-  fit = subst (AllByRecursion (RowFits (length (allowed.tasks inputs.calls)))) (sym no_back) tt;
+  fit = subst (AllByRecursion (HasTaskBelow (length (allowed.tasks inputs.calls)))) (sym no_back) tt;
 }
 
 -- where another decision follows, and where none does
@@ -46,7 +47,7 @@ one_on {inputs} {more} {list} {now_list} {before} {after} {pending} {pending_aft
       made = one.made;
       rows = rw (one.fore, one.back)
           (law.go_on inputs advanced.steps one.step before.fore before.background.rows advanced.rows one.is_made);
-      fit = rw one.back (all_append (RowFits (length (allowed.tasks inputs.calls))) before.background.rows _ advanced.fit one.back_fits);
+      fit = rw one.back (all_append (HasTaskBelow (length (allowed.tasks inputs.calls))) before.background.rows _ advanced.fit one.back_fits);
     })
 
 -- and fewer are left
@@ -80,7 +81,7 @@ module _ {inputs : Inputs} {list : List Request} {course : Course} {pending : Li
   )
 
   pub rows_fit : (back : List BackRow) → back ≡ course.background.rows ++ task_rows (history inputs advanced.steps)
-      → AllByRecursion (RowFits (length (allowed.tasks inputs.calls))) (task_rows (history inputs advanced.steps))
-      → AllByRecursion (RowFits (length (allowed.tasks inputs.calls))) back
-  rows_fit back rows fits = rw rows (all_append (RowFits (length (allowed.tasks inputs.calls))) course.background.rows
+      → AllByRecursion (HasTaskBelow (length (allowed.tasks inputs.calls))) (task_rows (history inputs advanced.steps))
+      → AllByRecursion (HasTaskBelow (length (allowed.tasks inputs.calls))) back
+  rows_fit back rows fits = rw rows (all_append (HasTaskBelow (length (allowed.tasks inputs.calls))) course.background.rows
       (task_rows (history inputs advanced.steps)) advanced.fit fits)

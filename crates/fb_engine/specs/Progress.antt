@@ -3,13 +3,13 @@ use Rattle.std.specs.Prelude.{◌≡◌, ◌≤◌, ◌*◌, ◌^◌, ℕ, List,
 use Rattle.std.specs.List.{AllByRecursion}
 use Rattle.fb_units.specs.declared.types.Request.{Request}
 use Rattle.fb_calls.specs.Allowed as allowed
-use Rattle.fb_rows.specs.Tasks.{HasNamedTask}
+use Rattle.fb_rows.specs.Tasks.{HasTaskBelow}
 use Rattle.fb_rows.specs.declared.run.Run.{Run}
 use Rattle.fb_model.specs.FullRun.{IsFull}
 use Rattle.fb_model.specs.Inputs.{Inputs}
 use Rattle.fb_model.specs.Steps.{Step}
 use Rattle.fb_decide.specs.declared.deciding.Course.{Course}
-use Rattle.fb_decide.specs.Making.{RowFits, HasMade}
+use Rattle.fb_decide.specs.Making.{HasMade}
 use Rattle.fb_decide.specs.FullRuns.{AreRowsOf}
 
 -- these decisions have been made, none of their rows has been taken, and perhaps more follow
@@ -18,11 +18,11 @@ pub record HasAdvanced (inputs : Inputs) (more : Bool) (list : List Request) (co
   pub steps : List Step
   pub made : HasMade inputs more steps list course pending count
   pub rows : AreRowsOf inputs steps course.fore course.background.rows
-  pub fit : AllByRecursion (RowFits (length (allowed.tasks inputs.calls))) course.background.rows
+  pub fit : AllByRecursion (HasTaskBelow (length (allowed.tasks inputs.calls))) course.background.rows
 
 -- the full run, within the limits of its reports
 pub record IsWhole (inputs : Inputs) (run : Run) : Type 0 where
   pub full : IsFull inputs run
   pub few : length run.fore ≤ 10 ^ 6
   pub early : run.end ≤ 9 * 10 ^ 18
-  pub named : (names : List (List ℕ)) → length names ≡ length (allowed.tasks inputs.calls) → AllByRecursion (HasNamedTask names) run.back
+  pub tasks : AllByRecursion (HasTaskBelow (length (allowed.tasks inputs.calls))) run.back

@@ -1,7 +1,7 @@
 // The loop over decisions.
 ghost use Rattle.std.specs.Prelude.{◌≡◌, ◌*◌, ◌≤◌, ◌^◌, ℕ, List, [], true, false, length, IfOk, OnOk};
 ghost use Rattle.std.specs.List.{AllByRecursion};
-ghost use Rattle.fb_rows.specs.Tasks.{HasNamedTask};
+ghost use Rattle.fb_rows.specs.Tasks.{HasTaskBelow};
 ghost use Rattle.fb_calls.specs.Allowed.{tasks};
 ghost use Rattle.fb_model.specs.Accepted.{IsAccepted};
 ghost use Rattle.fb_model.specs.FullRun.{IsFull};
@@ -31,8 +31,7 @@ pub fn replay<Q: Queue, P: Planner>(
     ensures full { IfOk result (λ run. IsFull (inputs_of inputs.entry Q.key) run) }
     ensures few { IfOk result (λ run. length run.fore ≤ 10 ^ 6) }
     ensures early { IfOk result (λ run. run.end ≤ 9 * 10 ^ 18) }
-    ensures named { IfOk result (λ run. (names : List (List ℕ)) → length names ≡ length (tasks inputs.entry.calls.now.calls.items)
-        → AllByRecursion (HasNamedTask names) run.back) }
+    ensures tasks { IfOk result (λ run. AllByRecursion (HasTaskBelow (length (tasks inputs.entry.calls.now.calls.items))) run.back) }
 {
     let mut decider = Decider::new(alloc, inputs, queue)?;
     run_of(alloc, inputs, planner, &mut decider)

@@ -8,6 +8,7 @@ use Rattle.fb_service.specs.declared.disk.Disk.{Disk}
 use Rattle.fb_service.specs.declared.passage.Passage.{Passage}
 use Rattle.fb_store.specs.Runs.{runs_of, bad_of}
 use Rattle.fb_wanted.specs.declared.block.Block.{Block}
+use Rattle.fb_rows.specs.declared.gap.Catch.{Catch}
 use Rattle.fb_rows.specs.declared.gap.Gap.{Gap}
 use Rattle.fb_rows.specs.declared.gap.Dwell.{Dwell}
 use Rattle.fb_rows.specs.declared.gap.How.{How}
@@ -29,31 +30,31 @@ gap_of disk served = record {
   write = served.request.write;
 }
 
--- the delivery of a block, with what its sectors hold as its passage begins
-abbrev pub delivery : ContentsAt → How → Block → ℕ → ℕ → DeliveryRow
-delivery contents how block begin end =
-    let runs = runs_of (contents block.lbn block.count begin) in
-    record { block = block; begin = begin; end = end; how = how; bad = bad_of runs; content = runs }
+-- the first is delivered before the second: by end, then by task, then by number
+abbrev pub is_before : Catch → Catch → Bool
+is_before a b = nat_lt a.end b.end
+    || ((a.end == b.end) && (nat_lt a.block.task b.block.task || ((a.block.task == b.block.task) && nat_lt a.block.number b.block.number)))
 
--- a block is delivered before another one: by end, then by task, then by number
-abbrev pub is_before : ℕ → Block → ℕ → Block → Bool
-is_before end block other_end other = nat_lt end other_end
-    || ((end == other_end) && (nat_lt block.task other.task || ((block.task == other.task) && nat_lt block.number other.number)))
+-- a catch put in its place among catches in the order of delivery
+abbrev pub placed : List Catch → Catch → List Catch
+placed [] catch = catch ∷ []
+placed (first ∷ others) catch = if is_before catch first then catch ∷ first ∷ others else first ∷ placed others catch
 
--- a row put in its place among rows in the order of delivery
-abbrev pub placed : List DeliveryRow → DeliveryRow → List DeliveryRow
-placed [] row = row ∷ []
-placed (first ∷ rows) row = if is_before row.end row.block first.end first.block then row ∷ first ∷ rows else first ∷ placed rows row
+-- these in the order of delivery
+abbrev pub in_order : List Catch → List Catch
+in_order found = fold placed [] found
 
--- in the order of delivery
-abbrev pub in_order : List DeliveryRow → List DeliveryRow
-in_order rows = fold placed [] rows
+-- how a block passes in a dwell
+abbrev pub catch_of : Disk → Dwell → Block → Catch
+catch_of disk dwell block = record {
+  block = block;
+  begin = block_begin disk.map block dwell.begin;
+  end = block_end disk.map block dwell.begin;
+}
 
--- what a dwell catches of these blocks
-abbrev pub caught_rows : Disk → ContentsAt → How → Dwell → List Block → List DeliveryRow
-caught_rows disk contents how dwell blocks = in_order (map
-    (λ block. delivery contents how block (block_begin disk.map block dwell.begin) (block_end disk.map block dwell.begin))
-    (filter (catches disk dwell) blocks))
+-- what a dwell catches of these blocks, in the order of delivery
+unfoldable pub caught_of : Disk → Dwell → List Block → List Catch
+caught_of disk dwell blocks = in_order (map (catch_of disk dwell) (filter (catches disk dwell) blocks))
 
 -- those of these blocks that a dwell doesn't catch
 abbrev pub missed : Disk → Dwell → List Block → List Block
@@ -71,11 +72,28 @@ begin_at passages lbn = option_map_or (λ passage. passage.begin) (find (λ pass
 abbrev pub end_at : List Passage → ℕ → ℕ
 end_at passages lbn = option_map_or (λ passage. passage.end) (find (λ passage. passage.lbn == lbn) passages) 0
 
--- what a read carries of these blocks
+-- how a block passes with a read that has all its sectors
+abbrev pub ride_of : List Passage → Block → Catch
+ride_of passages block = record { block = block; begin = begin_at passages block.lbn; end = end_at passages (block.lbn + block.count - 1) }
+
+-- what a read carries of these blocks, in the order of delivery
+unfoldable pub carried_of : List Passage → Request → List Block → List Catch
+carried_of passages request blocks = in_order (map (ride_of passages) (filter (lies_in request) blocks))
+
+-- the row of a delivery, with what the block's sectors hold as its passage begins
+abbrev pub delivery_row : ContentsAt → How → Catch → DeliveryRow
+delivery_row contents how catch =
+    let runs = runs_of (contents catch.block.lbn catch.block.count catch.begin) in
+    record { block = catch.block; begin = catch.begin; end = catch.end; how = how; bad = bad_of runs; content = runs }
+
+-- the rows of what a dwell catches of these blocks
+abbrev pub caught_rows : Disk → ContentsAt → How → Dwell → List Block → List DeliveryRow
+caught_rows disk contents how dwell blocks = map (delivery_row contents how) (caught_of disk dwell blocks)
+
+-- the rows of what a read carries of these blocks; a write carries none
 abbrev pub rides : ContentsAt → Served → List Block → List DeliveryRow
-rides contents served blocks = if served.request.write then [] else in_order (map
-    (λ block. delivery contents ByRide block (begin_at served.passages block.lbn) (end_at served.passages (block.lbn + block.count - 1)))
-    (filter (lies_in served.request) blocks))
+rides contents served blocks =
+    if served.request.write then [] else map (delivery_row contents ByRide) (carried_of served.passages served.request blocks)
 
 -- what the early dwell of a gap catches, and then what the late dwell catches of the blocks that are left
 abbrev pub caught_in_gap : Disk → ContentsAt → Gap → Plan → List Block → List DeliveryRow

@@ -55,10 +55,13 @@ calls_left calls past = drop (length (calls_of past)) calls
 abbrev pub calls_due : List Call → Past → ℕ → List Call
 calls_due calls past now = filter (λ call. nat_le call.instant now) (calls_left calls past)
 
--- after the calls and choices of a decision
+-- after the calls and choices of an instant
+abbrev pub chosen_by : Shape → List Call → Past → ℕ → Past
+chosen_by disk calls past now = with_choices disk (fold (take_call disk) past (calls_due calls past now))
+
+-- after those of a decision
 unfoldable pub chosen_past : Inputs → Past → Decision → Past
-chosen_past inputs past decision = with_choices inputs.disk.map
-    (fold (take_call inputs.disk.map) past (calls_due inputs.calls past (instant_of decision)))
+chosen_past inputs past decision = chosen_by inputs.disk.map inputs.calls past (instant_of decision)
 
 -- and after its test
 abbrev pub tested_past : Inputs → Past → Step → Past
@@ -92,9 +95,13 @@ opening disk (serving served plan) = BackGap (record { name = served.request.nam
 opening disk (idling dwell) = BackIdle dwell ∷ []
 opening disk (ending now) = []
 
--- a step's rows: those of its test, the gap or idle row, the deliveries with what follows each
+-- the rows of deliveries, each with those that follow it
+abbrev pub delivery_rows : List Delivery → List BackRow
+delivery_rows deliveries = flat_map (λ delivery. BackGot delivery.got ∷ delivery.after) deliveries
+
+-- a step's rows: those of its test, the gap or idle row, and those of its deliveries
 abbrev pub step_rows : Disk → Step → List BackRow
-step_rows disk step = step.test ++ opening disk step.act ++ flat_map (λ delivery. BackGot delivery.got ∷ delivery.after) step.deliveries
+step_rows disk step = step.test ++ opening disk step.act ++ delivery_rows step.deliveries
 
 -- how a task stands
 abbrev pub task_row : Past → ℕ → BackRow

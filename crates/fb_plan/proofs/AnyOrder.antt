@@ -15,7 +15,7 @@ use Rattle.fb_wanted.specs.Offers.{AreSameBlocks}
 use Rattle.fb_wanted.specs.States.{is_wanted, on_track, wanted_of}
 use Rattle.fb_rows.specs.declared.gap.Dwell.{Dwell}
 use Rattle.fb_model.specs.Plans.{catches}
-use Rattle.fb_plan.specs.declared.catching.Catch.{Catch}
+use Rattle.fb_rows.specs.declared.gap.Catch.{Catch}
 use Rattle.fb_plan.specs.Order.{in_order, catch_of, caught_among, caught_of}
 use Rattle.fb_plan.proofs.Gains.{chosen-sum}
 use Rattle.fb_plan.proofs.Offered.{entry-of}

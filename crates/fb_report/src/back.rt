@@ -5,7 +5,7 @@ ghost use Rattle.fb_report.specs.declared.bytes.Bytes.{Bytes};
 ghost use Rattle.fb_report.specs.Back.{back_first, back_last, back_lines};
 ghost use Rattle.fb_report.specs.Grammar.{back_grammar};
 ghost use Rattle.fb_report.specs.Printed.{AreNames, CountsSectors, IsLine, is_first, is_in_place, is_last};
-ghost use Rattle.fb_rows.specs.Tasks.{HasNamedTask};
+ghost use Rattle.fb_rows.specs.Tasks.{HasTaskBelow};
 
 use crate::Bytes;
 use crate::back_rows::back_line;
@@ -35,7 +35,7 @@ pub fn back_line_at(
     index: u64,
 ) -> Result<Vec<u8>, NoMemory>
     requires whole { sector_bytes % 16 ≡ 0 }
-    requires named { AllByRecursion (HasNamedTask names.now) run.now.back }
+    requires named { AllByRecursion (HasTaskBelow (length names.now)) run.now.back }
     requires line { index < length run.now.back + 2 }
     ensures value { IfOk result (λ line. slice_get (back_lines names.now sector_bytes bytes run.now) index ≡ Some line.items) }
     ensures form { IfOk result (λ line. 0 < sector_bytes → AreNames names.now → AllByRecursion CountsSectors run.now.back

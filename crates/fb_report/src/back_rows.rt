@@ -7,7 +7,7 @@ ghost use Rattle.fb_report.specs.Back.{is_complete_text, plan_fields, seal_line,
 ghost use Rattle.fb_report.specs.Back.{task_line};
 ghost use Rattle.fb_report.specs.Grammar.{are_bytes, back_grammar, is_number, is_track, is_word};
 ghost use Rattle.fb_report.specs.Printed.{AreNames, AreOneOf, CountsSectors, HasSectors, IsField, IsLine, is_row};
-ghost use Rattle.fb_rows.specs.Tasks.{HasNamedTask};
+ghost use Rattle.fb_rows.specs.Tasks.{HasTaskBelow};
 
 use crate::Bytes;
 use crate::contents::{sectors, shown};
@@ -31,7 +31,7 @@ pub fn back_line(
     bytes: Bytes,
 ) -> Result<Vec<u8>, NoMemory>
     requires whole { sector_bytes % 16 ≡ 0 }
-    requires named { HasNamedTask names.now row.now }
+    requires named { HasTaskBelow (length names.now) row.now }
     ensures value { IfOk result (λ line. line.items ≡ back_line names.now sector_bytes bytes row.now) }
     ensures form { IfOk result
         (λ line. 0 < sector_bytes → AreNames names.now → CountsSectors row.now → IsLine (is_row back_grammar) line.items) }

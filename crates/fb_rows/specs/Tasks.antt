@@ -1,15 +1,15 @@
 -- The task of a row.
-use Rattle.std.specs.Prelude.{ℕ, ◌<◌, List, length}
+use Rattle.std.specs.Prelude.{ℕ, ◌<◌}
 use Rattle.fb_rows.specs.declared.back.BackRow.{BackRow}
 use Rattle.fb_rows.specs.declared.back.BackRow.TheVariants.{Gap, Idle, Got, Bad, Seal, Segment, Complete, Task}
 
--- the task of a row, if it has one, is one of those with a name
-abbrev pub HasNamedTask : List (List ℕ) → BackRow → Type 0
-HasNamedTask names (Gap row) = Unit {0}
-HasNamedTask names (Idle dwell) = Unit {0}
-HasNamedTask names (Got row) = row.block.task < length names
-HasNamedTask names (Bad row) = row.task < length names
-HasNamedTask names (Seal row) = row.task < length names
-HasNamedTask names (Segment row) = row.task < length names
-HasNamedTask names (Complete row) = row.task < length names
-HasNamedTask names (Task row) = row.task < length names
+-- the row's task, if it has one, is one of the first n
+abbrev pub HasTaskBelow : ℕ → BackRow → Type 0
+HasTaskBelow n (Gap row) = Unit {0}
+HasTaskBelow n (Idle dwell) = Unit {0}
+HasTaskBelow n (Got row) = row.block.task < n
+HasTaskBelow n (Bad row) = row.task < n
+HasTaskBelow n (Seal row) = row.task < n
+HasTaskBelow n (Segment row) = row.task < n
+HasTaskBelow n (Complete row) = row.task < n
+HasTaskBelow n (Task row) = row.task < n

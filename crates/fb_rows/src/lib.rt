@@ -14,5 +14,5 @@ pub use back::{
     BackRow, BackRows, BadRow, CompleteRow, DeliveryRow, GapRow, SealRow, SegmentRow, TaskRow,
 };
 pub use fore::{ForeRow, ForeRows};
-pub use gap::{Dwell, Gap, How, Plan};
+pub use gap::{Catch, Dwell, Gap, How, Plan};
 pub use run::Run;

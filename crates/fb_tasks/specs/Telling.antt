@@ -13,7 +13,6 @@ use Rattle.fb_store.specs.declared.content.Content.{Content}
 use Rattle.fb_store.specs.Sparse.{Gives}
 use Rattle.fb_model.specs.History.{tested, Past, tasks, task_numbers, registered, wanted}
 use Rattle.fb_model.specs.Completion.{is_complete, was_complete, view}
-use Rattle.fb_model.specs.Segments.{with_choices}
 use Rattle.fb_model.specs.Steps.{blocks_by}
 use Rattle.fb_tasks.specs.declared.session.Session.{Session}
 pub use Rattle.fb_model.specs.History.{calls_of}
@@ -49,9 +48,9 @@ pub record IsUpToDate (past : Past) : Type 0 where
   pub tested : (task : ℕ) → was_complete past task ≡ is_complete past task
   pub no_rows : (now : ℕ) → test_rows_found past now ≡ []
 
--- after the choices and their test
-abbrev pub tested_at : Shape → Past → ℕ → Past
-tested_at disk past now = tested (test_rows_found (with_choices disk past) now) ∷ with_choices disk past
+-- after a test of all tasks at an instant
+abbrev pub tested_at : Past → ℕ → Past
+tested_at past now = tested (test_rows_found past now) ∷ past
 
 -- a delivery of a wanted block, with the contents of its sectors, after a test
 pub record MayDeliver (disk : Shape) (past : Past) (sessions : List Session) (entries : List Entry) (got : DeliveryRow) : Type 0 where

@@ -144,9 +144,9 @@ impl Sessions {
     ) -> Result<(), NoMemory>
         requires { (past : Past) × MayChooseAndTest map.now past self.old blocks.old }
         ensures tells { OnOk result ((past : Past) → MayChooseAndTest map.now past self.old blocks.old
-            → Tells map.now (tested_at map.now past now) self.new blocks.new) }
+            → Tells map.now (tested_at (with_choices map.now past) now) self.new blocks.new) }
         ensures up_to_date { OnOk result
-            ((past : Past) → MayChooseAndTest map.now past self.old blocks.old → IsUpToDate (tested_at map.now past now)) }
+            ((past : Past) → MayChooseAndTest map.now past self.old blocks.old → IsUpToDate (tested_at (with_choices map.now past) now)) }
         ensures rows { OnOk result ((past : Past) → MayChooseAndTest map.now past self.old blocks.old
             → rows.new ≡ rows.old ++ test_rows_found (with_choices map.now past) now) }
         ensures stay_sessions { OnlyTouched self.old self.new }
@@ -410,7 +410,7 @@ impl Sessions {
     ) -> Result<(), NoMemory>
         requires { (disk : Shape) × (past : Past) × HaveChosen disk past self.old blocks.now }
         ensures tested { OnOk result ((disk : Shape) (past : Past) → HaveChosen disk past self.old blocks.now
-            → Tells disk (tested (test_rows_found past now) ∷ past) self.new blocks.now
+            → Tells disk (tested_at past now) self.new blocks.now
             × (rows.new ≡ rows.old ++ flat_map (ends_of past now) (task_numbers past))) }
         ensures stay_sessions { OnlyTouched self.old self.new }
         ensures stay_rows { HasGrown rows.old rows.new }

@@ -3,7 +3,7 @@ use Rattle.std.specs.Prelude.{◌≡◌, ◌⊎◌, ℕ, ◌<◌, ◌≤◌, ◌
 use Rattle.std.specs.List.{AllByRecursion}
 use Rattle.fb_geometry.specs.Sound.{IsSound}
 use Rattle.fb_rows.specs.declared.run.Run.{Run}
-use Rattle.fb_rows.specs.Tasks.{HasNamedTask}
+use Rattle.fb_rows.specs.Tasks.{HasTaskBelow}
 use Rattle.fb_model.specs.Accepted.{IsAccepted}
 use Rattle.fb_model.specs.FullRun.{IsFull}
 use Rattle.fb_report.specs.Back.{back_lines, back_text}
@@ -32,7 +32,7 @@ pub record IsRunOf (desk : DeskView) (terms : ReplayTerms) (run : Run) : Type 0 
 -- rows that a report can show: at most a million in the foreground, and each task of the background has a name
 pub record CanBeTold (names : List (List ℕ)) (run : Run) : Type 0 where
   pub few : length run.fore ≤ 10 ^ 6
-  pub named : AllByRecursion (HasNamedTask names) run.back
+  pub named : AllByRecursion (HasTaskBelow (length names)) run.back
 
 -- what the lines of both reports need to be in their places: bytes in a sector, names of tasks, and the sectors that rows must have
 pub record CanBeRead (files : Files) (run : Run) : Type 0 where

@@ -91,14 +91,14 @@ pub struct BackLines<'a> {
 impl Lines for BackLines<'_> {
     ghost use Rattle.std.specs.Prelude.{◌≡◌, ◌%◌, ◌<◌};
     ghost use Rattle.std.specs.List.{AllByRecursion};
-    ghost use Rattle.fb_rows.specs.Tasks.{HasNamedTask};
+    ghost use Rattle.fb_rows.specs.Tasks.{HasTaskBelow};
     ghost use Rattle.fb_report.specs.Back.{back_lines};
     ghost use Rattle.fb_report.specs.Grammar.{back_grammar};
     ghost use Rattle.fb_report.specs.Printed.{AreNames, CountsSectors};
 
     ghost lines = { λ t. back_lines t.names.now t.sector_bytes t.bytes t.run.now };
 
-    ghost can_be_told = { λ t. (t.sector_bytes % 16 ≡ 0) × AllByRecursion (HasNamedTask t.names.now) t.run.now.back };
+    ghost can_be_told = { λ t. (t.sector_bytes % 16 ≡ 0) × AllByRecursion (HasTaskBelow (length t.names.now)) t.run.now.back };
 
     ghost grammar = { λ t. back_grammar };
 

@@ -14,5 +14,5 @@ returns g c =
       full = by _ (λ run whole. whole.full) c.run_of.ensures;
       few = by _ (λ run whole. whole.few) c.run_of.ensures;
       early = by _ (λ run whole. whole.early) c.run_of.ensures;
-      named = by _ (λ run whole. whole.named) c.run_of.ensures;
+      tasks = by _ (λ run whole. whole.tasks) c.run_of.ensures;
     }

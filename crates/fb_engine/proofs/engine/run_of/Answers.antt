@@ -1,8 +1,4 @@
-use Rattle.std.proofs.Common.{length, ◌∙◌}
-use Rattle.fb_units.proofs.Lists.{all_weaker}
-use Rattle.fb_rows.specs.Tasks.{HasNamedTask}
-use Rattle.fb_calls.specs.Allowed.{tasks}
-use Rattle.fb_decide.specs.Making.{RowFits}
+use Rattle.std.proofs.Common.{◌∙◌}
 use Rattle.fb_engine.proofs.Looping.{is_full, is_few, rows_fit}
 use Rattle.fb_engine.proofs.engine.run_of.Goals as goal
 
@@ -17,7 +13,6 @@ returns g c =
     let law = c.decisions_make_a_run.ensures in
     let advanced = c.in_ok-decide_all.ensures.advanced in
     let rows = c.take_rows-rows.result in
-    let n = length (tasks c.args.inputs.calls.now.calls.items) in
     let fore = c.take_rows-rows.ensures.fore ∙ c.in_ok-add_task_rows.ensures.fore in
     let back = c.take_rows-rows.ensures.back ∙ c.in_ok-add_task_rows.ensures.rows _ advanced.steps advanced.made in
     let fit = rows_fit advanced rows.back back (c.in_ok-add_task_rows.ensures.fits _ advanced.steps advanced.made) in
@@ -26,5 +21,5 @@ returns g c =
           (c.instant-end.ensures.end _ advanced.steps advanced.made);
       few = is_few advanced rows.fore fore law;
       early = c.instant-end.ensures.early _ advanced.steps advanced.made;
-      named = λ names e. all_weaker (RowFits n) (HasNamedTask names) (λ row fits. fits names e) rows.back fit;
+      tasks = fit;
     }

@@ -1,6 +1,6 @@
 use Rattle.std.proofs.Common.{sym, subst, ◌∙◌, arith}
 use Rattle.fb_units.proofs.Lists.{all_get}
-use Rattle.fb_rows.specs.Tasks.{HasNamedTask}
+use Rattle.fb_rows.specs.Tasks.{HasTaskBelow}
 use Rattle.fb_report.specs.Reading.{BeginsLikeEnd}
 use Rattle.fb_check.proofs.Beginnings.{back_ended, back_not_end}
 use Rattle.fb_check.proofs.Comparisons.{one_more_row, more_rows, all_rows}
@@ -12,7 +12,7 @@ returns-then-is_some-clause-compared c = λ printed back h. more_rows _ _ _ _ _ 
 
 pub back_line-requires-clause-named : goal.back_line-requires-clause-named
 back_line-requires-clause-named c =
-    all_get (HasNamedTask c.args.names.now) c.args.rows.now c.loop-i.i c.get-row.result.now c.requires.named c.get-row.ensures
+    all_get (HasTaskBelow (length c.args.names.now)) c.args.rows.now c.loop-i.i c.get-row.result.now c.requires.named c.get-row.ensures
 
 pub compare_row-requires-clause-whole : goal.compare_row-requires-clause-whole
 compare_row-requires-clause-whole c =
