@@ -1,8 +1,9 @@
 -- What is due at a decision: each row is of a wanted block, passes whole, and has the bytes of its beginning; none stands twice.
-use Rattle.std.proofs.Common.{◌≡◌, ◌+◌, List, [], ◌∷◌, ◌++◌, refl, true, false, map, filter, Bool, cond, if◌then◌else◌, ◌-◌, not, ◌⊎◌, inl}
+use Rattle.std.proofs.Common.{◌≡◌, ◌+◌, List, [], ◌++◌, refl, true, false, map, Bool, if◌then◌else◌, ◌-◌, not, ◌⊎◌, inl}
 use Rattle.std.proofs.Common.{inr}
-use Rattle.std.specs.List.{AllByRecursion, fold}
+use Rattle.std.specs.List.{AllByRecursion}
 use Rattle.fb_units.proofs.Lists.{all_weaker, all_append, all_filter}
+use Rattle.fb_units.proofs.Each.{all_map}
 use Rattle.fb_store.specs.Runs.{runs_of, bad_of}
 use Rattle.fb_wanted.specs.declared.block.Block.{Block}
 use Rattle.fb_rows.specs.declared.gap.Dwell.{Dwell}
@@ -17,8 +18,9 @@ use Rattle.fb_model.specs.Inputs.{Inputs}
 use Rattle.fb_model.specs.Decisions.{Act, serving, idling, ending}
 use Rattle.fb_model.specs.History.{Past, wanted}
 use Rattle.fb_model.specs.Steps.{Step, decision_in, chosen_past}
-use Rattle.fb_model.specs.Deliveries.{gap_of, due, delivery, is_before, placed, in_order, caught_rows, missed, lies_in, rides, begin_at, end_at}
+use Rattle.fb_model.specs.Deliveries.{gap_of, due, delivery_row, caught_of, caught_rows, carried_of, missed, lies_in, rides, begin_at, end_at}
 use Rattle.fb_model.specs.SoundRun.{IsSublist, none, left_out, taken, IsDelivered}
+use Rattle.fb_model.proofs.Placing.{all_caught, all_carried}
 
 -- a row has the bytes of its beginning
 pub record HasBytes (contents : ContentsAt) (row : DeliveryRow) : Type 0 where
@@ -35,47 +37,14 @@ pub record IsCaughtIn (disk : Disk) (contents : ContentsAt) (how : How) (dwell :
   pub end : row.end ≡ block_end disk.map row.block dwell.begin
   pub bytes : HasBytes contents row
 
-all_choice : (P : DeliveryRow → Type 0) (b : Bool) (first row : DeliveryRow) (xs ys : List DeliveryRow) → P first → P row
-    → AllByRecursion P xs → AllByRecursion P ys
-    → AllByRecursion P (cond b (row ∷ first ∷ ys) (first ∷ xs))
-all_choice P true first row xs ys p q ps qs = (q, (p, qs))
-all_choice P false first row xs ys p q ps qs = (p, ps)
-
-pub all_placed : (P : DeliveryRow → Type 0) (rows : List DeliveryRow) (row : DeliveryRow) → AllByRecursion P rows → P row
-    → AllByRecursion P (placed rows row)
-all_placed P [] row ps q = (q, ps)
-all_placed P (first ∷ rows) row ps q = all_choice P (is_before row.end row.block first.end first.block) first row
-    (placed rows row) rows ps.0 q (all_placed P rows row ps.1 q) ps.1
-
-all_ordered : (P : DeliveryRow → Type 0) (rows before : List DeliveryRow) → AllByRecursion P before → AllByRecursion P rows
-    → AllByRecursion P (fold placed before rows)
-all_ordered P [] before ps qs = ps
-all_ordered P (row ∷ rows) before ps qs = all_ordered P rows (placed before row) (all_placed P before row ps qs.0) qs.1
-
-all_one : (P : DeliveryRow → Type 0) (b : Bool) (f : Block → DeliveryRow) (block : Block) (xs : List Block) → (b ≡ true → P (f block))
-    → AllByRecursion P (map f xs)
-    → AllByRecursion P (map f (cond b (block ∷ xs) xs))
-all_one P true f block xs p ps = (p refl, ps)
-all_one P false f block xs p ps = ps
-
-pub all_filtered : (P : DeliveryRow → Type 0) (Q : Block → Type 0) (test : Block → Bool) (f : Block → DeliveryRow)
-    → ((block : Block) → Q block → test block ≡ true → P (f block))
-    → (blocks : List Block) → AllByRecursion Q blocks → AllByRecursion P (map f (filter test blocks))
-all_filtered P Q test f each [] qs = tt
-all_filtered P Q test f each (block ∷ blocks) qs =
-    all_one P (test block) f block (filter test blocks) (each block qs.0) (all_filtered P Q test f each blocks qs.1)
-
 -- what a dwell catches of blocks that all have a property
 pub caught_true : (disk : Disk) (contents : ContentsAt) (how : How) (dwell : Dwell) (Q : Block → Type 0) (blocks : List Block)
     → AllByRecursion Q blocks
     → AllByRecursion (IsCaughtIn disk contents how dwell Q) (caught_rows disk contents how dwell blocks)
-caught_true disk contents how dwell Q blocks qs = all_ordered (IsCaughtIn disk contents how dwell Q)
-    (map (λ block. delivery contents how block (block_begin disk.map block dwell.begin) (block_end disk.map block dwell.begin))
-    (filter (catches disk dwell) blocks))
-    [] tt
-    (all_filtered (IsCaughtIn disk contents how dwell Q) Q (catches disk dwell)
-    (λ block. delivery contents how block (block_begin disk.map block dwell.begin) (block_end disk.map block dwell.begin))
-    (λ block q test. record {
+caught_true disk contents how dwell Q blocks qs =
+    let row = delivery_row contents how in
+    all_map (IsCaughtIn disk contents how dwell Q) row (caught_of disk dwell blocks)
+    (all_caught disk dwell (λ catch. IsCaughtIn disk contents how dwell Q (row catch)) Q (λ block q test. record {
       how_so = refl;
       one_of = q;
       caught = test;
@@ -94,22 +63,18 @@ pub record IsCarriedBy (contents : ContentsAt) (served : Served) (Q : Block → 
   pub end : row.end ≡ end_at served.passages (row.block.lbn + row.block.count - 1)
   pub bytes : HasBytes contents row
 
-abbrev pub ride_of : ContentsAt → Served → Block → DeliveryRow
-ride_of contents served block =
-    delivery contents ByRide block (begin_at served.passages block.lbn) (end_at served.passages (block.lbn + block.count - 1))
-
 abbrev rides_if : Bool → ContentsAt → Served → List Block → List DeliveryRow
 rides_if write contents served blocks =
-    if write then [] else in_order (map (ride_of contents served) (filter (lies_in served.request) blocks))
+    if write then [] else map (delivery_row contents ByRide) (carried_of served.passages served.request blocks)
 
 rides_by : (write : Bool) (contents : ContentsAt) (served : Served) (Q : Block → Type 0) (blocks : List Block)
     → served.request.write ≡ write → AllByRecursion Q blocks
     → AllByRecursion (IsCarriedBy contents served Q) (rides_if write contents served blocks)
 rides_by true contents served Q blocks e qs = tt
 rides_by false contents served Q blocks e qs =
-    all_ordered (IsCarriedBy contents served Q) (map (ride_of contents served) (filter (lies_in served.request) blocks)) [] tt
-    (all_filtered (IsCarriedBy contents served Q) Q (lies_in served.request) (ride_of contents served)
-    (λ block q test. record {
+    let row = delivery_row contents ByRide in
+    all_map (IsCarriedBy contents served Q) row (carried_of served.passages served.request blocks)
+    (all_carried served.passages served.request (λ catch. IsCarriedBy contents served Q (row catch)) Q (λ block q test. record {
       how_so = refl;
       read = e;
       one_of = q;

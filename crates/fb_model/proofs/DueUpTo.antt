@@ -1,19 +1,23 @@
 -- What is due lies within its decision, and is the same where the disk holds the same; of a dwell that is under way, what ends by then.
-use Rattle.std.proofs.Common.{◌≡◌, ℕ, ◌+◌, ◌-◌, ◌<◌, ◌≤◌, List, [], ◌∷◌, ◌++◌, map, refl, ap, ap₂, sym, ◌∙◌, arith, Bool, true, false, inl}
+use Rattle.std.proofs.Common.{◌≡◌, ℕ, ◌<◌, ◌≤◌, List, [], ◌∷◌, ◌++◌, map, refl, ap, ap₂, sym, ◌∙◌, arith, Bool, true, false, inl}
 use Rattle.std.proofs.Common.{inr, nat_le}
-use Rattle.std.specs.Prelude.{filter, ◌&&◌, ◌||◌, ◌==◌, not, nat_lt, if◌then◌else◌}
-use Rattle.std.specs.List.{AllByRecursion, fold}
-use Rattle.std.proofs.lemmas.Bool.{cases_Bool, true≢false, or_cases, and_parts, eqb-true}
+use Rattle.std.specs.Prelude.{filter, ◌&&◌, not, if◌then◌else◌}
+use Rattle.std.specs.List.{AllByRecursion}
+use Rattle.std.proofs.Math.Bool.{and-true}
+use Rattle.std.proofs.lemmas.Bool.{cases_Bool}
 use Rattle.std.proofs.lemmas.Bool.Decides.{nat_tests}
-use Rattle.fb_units.proofs.Lists.{all_weaker, all_filter}
+use Rattle.fb_units.proofs.Lists.{all_filter}
 use Rattle.fb_units.specs.declared.types.Track.{Track}
 use Rattle.fb_units.specs.Tracks.{same_track}
 use Rattle.fb_units.proofs.Comparing.{by_is}
-use Rattle.fb_units.proofs.Alike.{same_kept}
+use Rattle.fb_units.proofs.Alike.{map_same}
+use Rattle.fb_units.proofs.Each.{all_any, all_map, all_pass, all_with}
+use Rattle.fb_units.proofs.Filtered.{kept_map}
 use Rattle.fb_service.specs.declared.disk.Disk.{Disk}
 use Rattle.fb_service.specs.Passing.{begin_from}
 use Rattle.fb_store.specs.Runs.{runs_of, bad_of}
 use Rattle.fb_wanted.specs.declared.block.Block.{Block}
+use Rattle.fb_rows.specs.declared.gap.Catch.{Catch}
 use Rattle.fb_rows.specs.declared.gap.Dwell.{Dwell}
 use Rattle.fb_rows.specs.declared.gap.How.{How}
 use Rattle.fb_rows.specs.declared.gap.How.TheVariants.{Gap as ByGap, Idle as ByIdle, Ride as ByRide}
@@ -24,9 +28,10 @@ use Rattle.fb_model.specs.PlainReplay.{Served, media, finish}
 use Rattle.fb_model.specs.Content.{ContentsAt}
 use Rattle.fb_model.specs.Plans.{IsPlan, block_begin, block_end, catches, early_dwell, late_dwell}
 use Rattle.fb_model.specs.Decisions.{Decision, serves, idles, ends, instant_of, end_of, Act, serving, idling, ending, decision_of}
-use Rattle.fb_model.specs.Deliveries.{gap_of, due, delivery, is_before, placed, in_order, caught_rows, missed, lies_in, begin_at, end_at}
+use Rattle.fb_model.specs.Deliveries.{gap_of, due, delivery_row, in_order, catch_of, caught_of, caught_rows, missed, ride_of, carried_of}
 use Rattle.fb_model.specs.SoundRun.{HasPlan}
-use Rattle.fb_model.proofs.Due.{IsCaughtIn, IsDueRow, all_placed, ride_of}
+use Rattle.fb_model.proofs.Placing.{AreRising, all_caught, all_carried, ends_by, kept_in_order, rising_in_order}
+use Rattle.fb_model.proofs.Due.{IsCaughtIn, IsDueRow}
 use Rattle.fb_model.proofs.Passages.{IsServiceOf, block_passes, media_by}
 use Rattle.fb_model.proofs.DecisionsUpTo.{IsMade}
 use Rattle.fb_model.proofs.HistoriesUpTo.{HasSector}
@@ -121,42 +126,36 @@ abbrev pub AgreeBetween : ℕ → ℕ → ContentsAt → ContentsAt → Type 0
 AgreeBetween from to x y = (lbn n t : ℕ) → from ≤ t → t ≤ to → x lbn n t ≡ y lbn n t
 
 module _ (disk : Disk) (x y : ContentsAt) (from to : ℕ) (same : AgreeBetween from to x y) where
-  pub same_delivery : (how : How) (block : Block) (begin end : ℕ) → from ≤ begin → begin ≤ to
-      → delivery x how block begin end ≡ delivery y how block begin end
-  same_delivery how block begin end after before =
+  pub same_delivery : (how : How) (catch : Catch) → from ≤ catch.begin → catch.begin ≤ to → delivery_row x how catch ≡ delivery_row y how catch
+  same_delivery how catch after before =
       ap (λ sectors. let runs = runs_of sectors in record {
-        block = block;
-        begin = begin;
-        end = end;
+        block = catch.block;
+        begin = catch.begin;
+        end = catch.end;
         how = how;
         bad = bad_of runs;
         content = runs;
-      }) (same block.lbn block.count begin after before)
+      }) (same catch.block.lbn catch.block.count catch.begin after before)
 
   same_caught : (how : How) (dwell : Dwell) (blocks : List Block) → from ≤ dwell.begin → dwell.end ≤ to
       → caught_rows disk x how dwell blocks ≡ caught_rows disk y how dwell blocks
-  same_caught how dwell blocks after before = ap in_order (same_kept (catches disk dwell)
-      (λ (block : Block). delivery x how block (block_begin disk.map block dwell.begin) (block_end disk.map block dwell.begin))
-      (λ (block : Block). delivery y how block (block_begin disk.map block dwell.begin) (block_end disk.map block dwell.begin))
-      (λ block is.
+  same_caught how dwell blocks after before = map_same (delivery_row x how) (delivery_row y how) (caught_of disk dwell blocks)
+      (all_caught disk dwell (λ catch. delivery_row x how catch ≡ delivery_row y how catch) (λ block. Unit {0}) (λ block any is.
       let later = begins_later disk block dwell.begin in
-      same_delivery how block (block_begin disk.map block dwell.begin) (block_end disk.map block dwell.begin)
-      (omega (arith, later, after)) (omega (arith, ends_in_time disk dwell block is, ends_behind disk block dwell.begin, before))) blocks)
+      same_delivery how (catch_of disk dwell block) (omega (arith, later, after))
+      (omega (arith, ends_in_time disk dwell block is, ends_behind disk block dwell.begin, before))) blocks (all_any _ (λ block. tt) blocks))
 
   same_ride : (served : Served) (blocks : List Block) → IsServiceOf disk served → from ≤ served.start
       → finish served ≤ to → AllByRecursion HasSector blocks
-      → map (ride_of x served) (filter (lies_in served.request) blocks) ≡ map (ride_of y served) (filter (lies_in served.request) blocks)
-  same_ride served [] made after before some = refl
-  same_ride served (block ∷ blocks) made after before some = elim (cases_Bool (lies_in served.request block)) [
-    | inl lies ↦
-        let passes = block_passes disk served block made some.0 lies in
-        let end = end_at served.passages (block.lbn + block.count - 1) in
-        let row : ride_of x served block ≡ ride_of y served block =
-        same_delivery ByRide block (begin_at served.passages block.lbn) end (omega (arith, after, passes.0))
-        (omega (arith, passes.1, passes.2, before)) in
-        rw lies (ap₂ (λ row rows. row ∷ rows) row (same_ride served blocks made after before some.1))
-    | inr other ↦ rw other (same_ride served blocks made after before some.1)
-  ]
+      → map (delivery_row x ByRide) (carried_of served.passages served.request blocks)
+      ≡ map (delivery_row y ByRide) (carried_of served.passages served.request blocks)
+  same_ride served blocks made after before some =
+      map_same (delivery_row x ByRide) (delivery_row y ByRide) (carried_of served.passages served.request blocks)
+      (all_carried served.passages served.request (λ catch. delivery_row x ByRide catch ≡ delivery_row y ByRide catch) HasSector
+      (λ block one lies.
+      let passes = block_passes disk served block made one lies in
+      same_delivery ByRide (ride_of served.passages block) (omega (arith, after, passes.0)) (omega (arith, passes.1, passes.2, before)))
+      blocks some)
 
   pub same_due : (act : Act) (wanted : List Block) → IsMade disk (decision_of act)
       → HasPlan disk act → from ≤ instant_of (decision_of act) → DeliversBy to (decision_of act)
@@ -175,7 +174,7 @@ module _ (disk : Disk) (x y : ContentsAt) (from to : ℕ) (same : AgreeBetween f
       (ap₂ (λ before rest. before ++ rest)
       (same_caught ByGap early wanted (omega (arith, after, dwell.0)) (omega (arith, dwell.1, over.0)))
       (same_caught ByGap late left (omega (arith, after, dwell.2)) (omega (arith, late_end disk served plan, over.0))))
-      (if_reads served.request.write (λ reads. ap in_order (same_ride served last made after (over.1 reads) some_last)))
+      (if_reads served.request.write (λ reads. same_ride served last made after (over.1 reads) some_last))
     where
       if_reads : (write : Bool) {rows others : List DeliveryRow} → (write ≡ false → rows ≡ others)
           → (if write then [] else rows) ≡ (if write then [] else others)
@@ -186,158 +185,72 @@ module _ (disk : Disk) (x y : ContentsAt) (from to : ℕ) (same : AgreeBetween f
 
 -- ---- in the order of their ends
 
-pub before_end : (end : ℕ) (block : Block) (other_end : ℕ) (other : Block) → is_before end block other_end other ≡ true → end ≤ other_end
-before_end end block other_end other h =
-    elim (or_cases (nat_lt end other_end)
-    ((end == other_end) && (nat_lt block.task other.task || ((block.task == other.task) && nat_lt block.number other.number))) h) [
-      | inl less ↦ grind (arith, nat_tests)
-      | inr tie ↦
-          let same = eqb-true end other_end (and_parts (end == other_end)
-          (nat_lt block.task other.task || ((block.task == other.task) && nat_lt block.number other.number)) tie).0 in
-          omega arith
-    ]
-
-pub not_before_end : (end : ℕ) (block : Block) (other_end : ℕ) (other : Block) → is_before end block other_end other ≡ false
-    → other_end ≤ end
-not_before_end end block other_end other h = elim (cases_Bool (nat_lt end other_end)) [
-  | inl less ↦ absurd (let wrong : true ≡ false = rw less at h in true≢false wrong)
-  | inr more ↦ grind (arith, nat_tests)
-]
-
-rising_placed : (rows : List DeliveryRow) (row : DeliveryRow) → RisingEnds rows → RisingEnds (placed rows row)
-rising_placed [] row rising = (tt, tt)
-rising_placed (first ∷ rows) row rising = elim (cases_Bool (is_before row.end row.block first.end first.block)) [
-  | inl before ↦
-      let less = before_end row.end row.block first.end first.block before in
-      rw before (
-        (
-          less,
-          all_weaker (λ (later : DeliveryRow). first.end ≤ later.end) (λ (later : DeliveryRow). row.end ≤ later.end)
-              (λ later h. omega (arith, h, less)) rows rising.0,
-        ),
-        rising,
-      )
-  | inr behind ↦
-      let more = not_before_end row.end row.block first.end first.block behind in
-      rw behind (all_placed (λ (later : DeliveryRow). first.end ≤ later.end) rows row rising.0 more, rising_placed rows row rising.1)
-]
-
-rising_fold : (rows before : List DeliveryRow) → RisingEnds before → RisingEnds (fold placed before rows)
-rising_fold [] before rising = rising
-rising_fold (row ∷ rows) before rising = rising_fold rows (placed before row) (rising_placed before row rising)
+rows_rise : (contents : ContentsAt) (how : How) (found : List Catch) → AreRising found → RisingEnds (map (delivery_row contents how) found)
+rows_rise contents how [] rising = tt
+rows_rise contents how (catch ∷ found) rising =
+    (all_map (λ (later : DeliveryRow). catch.end ≤ later.end) (delivery_row contents how) found rising.0, rows_rise contents how found rising.1)
 
 pub rising_caught : (disk : Disk) (contents : ContentsAt) (how : How) (dwell : Dwell) (blocks : List Block)
     → RisingEnds (caught_rows disk contents how dwell blocks)
-rising_caught disk contents how dwell blocks = rising_fold
-    (map (λ block. delivery contents how block (block_begin disk.map block dwell.begin) (block_end disk.map block dwell.begin))
-    (filter (catches disk dwell) blocks)) [] tt
-
-module _ (t : ℕ) where
-  none_behind : (first : DeliveryRow) (rows : List DeliveryRow) → ends_by_then t first ≡ false
-      → AllByRecursion (λ (later : DeliveryRow). first.end ≤ later.end) rows → filter (ends_by_then t) rows ≡ []
-  none_behind first [] late all = refl
-  none_behind first (row ∷ rows) late all =
-      let after : ends_by_then t row ≡ false = let from = all.0 in grind (arith, nat_tests) in
-      rw after (none_behind first rows late all.1)
-
-  placed_kept : (rows : List DeliveryRow) (row : DeliveryRow) → RisingEnds rows → ends_by_then t row ≡ true
-      → filter (ends_by_then t) (placed rows row) ≡ placed (filter (ends_by_then t) rows) row
-  placed_kept [] row rising by = rw by refl
-  placed_kept (first ∷ rows) row rising by = elim (cases_Bool (is_before row.end row.block first.end first.block)) [
-    | inl before ↦ elim (cases_Bool (ends_by_then t first)) [
-      | inl by_first ↦ rw (before, by, by_first, before) refl
-      | inr late ↦ rw (before, by, late, none_behind first rows late rising.0) refl
-    ]
-    | inr behind ↦
-        let more = not_before_end row.end row.block first.end first.block behind in
-        let by_first : ends_by_then t first ≡ true = grind (arith, nat_tests) in
-        rw (behind, by_first, behind) (ap (λ rows. first ∷ rows) (placed_kept rows row rising.1 by))
-  ]
-
-  placed_dropped : (rows : List DeliveryRow) (row : DeliveryRow) → ends_by_then t row ≡ false
-      → filter (ends_by_then t) (placed rows row) ≡ filter (ends_by_then t) rows
-  placed_dropped [] row late = rw late refl
-  placed_dropped (first ∷ rows) row late = elim (cases_Bool (is_before row.end row.block first.end first.block)) [
-    | inl before ↦ rw (before, late) refl
-    | inr behind ↦ elim (cases_Bool (ends_by_then t first)) [
-      | inl by_first ↦ rw (behind, by_first) (ap (λ rows. first ∷ rows) (placed_dropped rows row late))
-      | inr late_first ↦ rw (behind, late_first) (placed_dropped rows row late)
-    ]
-  ]
-
-  fold_kept : (rows before : List DeliveryRow) → RisingEnds before
-      → filter (ends_by_then t) (fold placed before rows) ≡ fold placed (filter (ends_by_then t) before) (filter (ends_by_then t) rows)
-  fold_kept [] before rising = refl
-  fold_kept (row ∷ rows) before rising =
-      fold_kept rows (placed before row) (rising_placed before row rising) ∙ elim (cases_Bool (ends_by_then t row)) [
-        | inl by ↦ rw by (ap (λ before. fold placed before (filter (ends_by_then t) rows)) (placed_kept before row rising by))
-        | inr late ↦ rw late (ap (λ before. fold placed before (filter (ends_by_then t) rows)) (placed_dropped before row late))
-      ]
+unfolding caught_of
+rising_caught disk contents how dwell blocks = rows_rise contents how (caught_of disk dwell blocks)
+    (rising_in_order (map (catch_of disk dwell) (filter (catches disk dwell) blocks)))
 
 -- ---- of a dwell that is under way
 
 module _ (disk : Disk) (a b : ContentsAt) (t done : ℕ) (since : t ≤ done) (same : AgreeBetween 0 done a b)
     (how : How) (head : Track) (now until_a until_b : ℕ) (late_a : t < until_a) (late_b : t < until_b) where
-  abbrev row_a : Block → DeliveryRow
-  row_a block = delivery a how block (block_begin disk.map block now) (block_end disk.map block now)
-
-  abbrev row_b : Block → DeliveryRow
-  row_b block = delivery b how block (block_begin disk.map block now) (block_end disk.map block now)
-
   abbrev dwell_until : ℕ → Dwell
   dwell_until until = record { track = head; begin = now; end = until }
 
+  -- a stay that isn't over catches all that passes whole on its track
   caught_by_then : (until : ℕ) (block : Block) → t < until → block_end disk.map block now ≤ t
       → catches disk (dwell_until until) block ≡ same_track head block.track
   caught_by_then until block late by =
       let in_time : nat_le (block_end disk.map block now) until ≡ true = by_is (block_end disk.map block now) until (omega arith) in
-      ap (λ b. same_track head block.track && b) in_time ∙ and_true (same_track head block.track)
-    where
-      and_true : (c : Bool) → (c && true) ≡ c
-      and_true true = refl
-      and_true false = refl
+      ap (λ b. same_track head block.track && b) in_time ∙ and-true (same_track head block.track)
 
-  dropped_either : (test : Block → Bool) (row : Block → DeliveryRow) (block : Block) (blocks : List Block)
-      → ends_by_then t (row block) ≡ false
-      → filter (ends_by_then t) (map row (filter test (block ∷ blocks))) ≡ filter (ends_by_then t) (map row (filter test blocks))
-  dropped_either test row block blocks late = elim (cases_Bool (test block)) [
-    | inl is ↦ rw (is, late) refl
-    | inr not ↦ rw not refl
-  ]
-
-  rows_by_then : (blocks : List Block)
-      → filter (ends_by_then t) (map row_a (filter (catches disk (dwell_until until_a)) blocks))
-      ≡ filter (ends_by_then t) (map row_b (filter (catches disk (dwell_until until_b)) blocks))
-  rows_by_then [] = refl
-  rows_by_then (block ∷ blocks) = elim (cases_Bool (nat_le (block_end disk.map block now) t)) [
+  -- by an instant both stays have caught the same
+  same_catches : (blocks : List Block)
+      → filter (ends_by t) (map (catch_of disk (dwell_until until_a)) (filter (catches disk (dwell_until until_a)) blocks))
+      ≡ filter (ends_by t) (map (catch_of disk (dwell_until until_b)) (filter (catches disk (dwell_until until_b)) blocks))
+  same_catches [] = refl
+  same_catches (block ∷ blocks) = elim (cases_Bool (nat_le (block_end disk.map block now) t)) [
     | inl by ↦
         let in_time : block_end disk.map block now ≤ t = grind (arith, nat_tests) in
-        let is_a = caught_by_then until_a block late_a in_time in
-        let is_b = caught_by_then until_b block late_b in_time in
-        kept_both (catches disk (dwell_until until_a) block) (catches disk (dwell_until until_b) block) (is_a ∙ sym is_b) block blocks by
-        (same_delivery disk a b 0 done same how block (block_begin disk.map block now) (block_end disk.map block now) (omega arith)
-        (let behind = ends_behind disk block now in omega arith)) (rows_by_then blocks)
-    | inr late ↦
-        dropped_either (catches disk (dwell_until until_a)) row_a block blocks late
-        ∙ (rows_by_then blocks ∙ sym (dropped_either (catches disk (dwell_until until_b)) row_b block blocks late))
+        rw (caught_by_then until_a block late_a in_time, caught_by_then until_b block late_b in_time)
+        (elim (cases_Bool (same_track head block.track)) [
+          | inl on ↦ rw (on, by) (ap (λ found. catch_of disk (dwell_until until_a) block ∷ found) (same_catches blocks))
+          | inr off ↦ rw off (same_catches blocks)
+        ])
+    | inr late ↦ dropped until_a block blocks late ∙ (same_catches blocks ∙ sym (dropped until_b block blocks late))
   ]
     where
-      kept_both : (c d : Bool) → c ≡ d → (block : Block) (blocks : List Block) → nat_le (block_end disk.map block now) t ≡ true
-          → row_a block ≡ row_b block
-          → filter (ends_by_then t) (map row_a (filter (catches disk (dwell_until until_a)) blocks))
-          ≡ filter (ends_by_then t) (map row_b (filter (catches disk (dwell_until until_b)) blocks))
-          → filter (ends_by_then t) (map row_a
-          (if c then block ∷ filter (catches disk (dwell_until until_a)) blocks else filter (catches disk (dwell_until until_a)) blocks))
-          ≡ filter (ends_by_then t) (map row_b
-          (if d then block ∷ filter (catches disk (dwell_until until_b)) blocks else filter (catches disk (dwell_until until_b)) blocks))
-      kept_both true true e block blocks by row rows = rw by (ap₂ (λ row rows. row ∷ rows) row rows)
-      kept_both true false e block blocks by row rows = absurd (true≢false e)
-      kept_both false true e block blocks by row rows = absurd (true≢false (sym e))
-      kept_both false false e block blocks by row rows = rows
+      dropped : (until : ℕ) (block : Block) (blocks : List Block) → nat_le (block_end disk.map block now) t ≡ false
+          → filter (ends_by t) (map (catch_of disk (dwell_until until)) (filter (catches disk (dwell_until until)) (block ∷ blocks)))
+          ≡ filter (ends_by t) (map (catch_of disk (dwell_until until)) (filter (catches disk (dwell_until until)) blocks))
+      dropped until block blocks late = elim (cases_Bool (catches disk (dwell_until until) block)) [
+        | inl is ↦ rw (is, late) refl
+        | inr not ↦ rw not refl
+      ]
 
   pub same_by_then : (blocks : List Block)
       → filter (ends_by_then t) (caught_rows disk a how (dwell_until until_a) blocks)
       ≡ filter (ends_by_then t) (caught_rows disk b how (dwell_until until_b) blocks)
+  unfolding caught_of
   same_by_then blocks =
-      fold_kept t (map row_a (filter (catches disk (dwell_until until_a)) blocks)) [] tt
-      ∙ (ap in_order (rows_by_then blocks) ∙ sym (fold_kept t (map row_b (filter (catches disk (dwell_until until_b)) blocks)) [] tt))
+      let found_a = map (catch_of disk (dwell_until until_a)) (filter (catches disk (dwell_until until_a)) blocks) in
+      let found_b = map (catch_of disk (dwell_until until_b)) (filter (catches disk (dwell_until until_b)) blocks) in
+      let both : filter (ends_by t) (in_order found_a) ≡ filter (ends_by t) (in_order found_b) =
+      kept_in_order t found_a ∙ (ap in_order (same_catches blocks) ∙ sym (kept_in_order t found_b)) in
+      kept_map (ends_by_then t) (delivery_row a how) (in_order found_a)
+      ∙ (map_same (delivery_row a how) (delivery_row b how) (filter (ends_by t) (in_order found_a))
+      (all_with (λ catch. catch.begin ≤ catch.end) (λ catch. ends_by t catch ≡ true)
+      (λ catch. delivery_row a how catch ≡ delivery_row b how catch)
+      (λ catch turn by. let in_time : catch.end ≤ t = grind (arith, nat_tests) in
+      same_delivery disk a b 0 done same how catch (omega arith) (omega (arith, in_time, turn, since))) (filter (ends_by t) (in_order found_a))
+      (all_filter (λ (catch : Catch). catch.begin ≤ catch.end) (ends_by t) (in_order found_a)
+      (all_caught disk (dwell_until until_a) (λ catch. catch.begin ≤ catch.end) (λ block. Unit {0})
+      (λ block any is. ends_behind disk block now) blocks (all_any _ (λ block. tt) blocks)))
+      (all_pass (ends_by t) (in_order found_a)))
+      ∙ (ap (map (delivery_row b how)) both ∙ sym (kept_map (ends_by_then t) (delivery_row b how) (in_order found_b))))

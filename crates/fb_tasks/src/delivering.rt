@@ -109,8 +109,8 @@ fn push_range(lbns: &mut Vec<u64>, first: u64, count: u64) -> Result<(), NoMemor
 
 // Adds a finding's row for each sector.
 fn push_findings(rows: &mut BackRows, task: u32, lbns: &[u64]) -> Result<(), NoMemory>
-    ensures ok { OnOk result (rows.new ≡ rows.old ++ map (λ lbn. BadLine (record { task = task; lbn = lbn })) lbns.now) }
-    ensures err { OnErr result (HasBegun rows.old (map (λ lbn. BadLine (record { task = task; lbn = lbn })) lbns.now) rows.new) }
+    ensures ok { OnOk result (rows.new ≡ rows.old ++ map (λ lbn. BackBad (record { task = task; lbn = lbn })) lbns.now) }
+    ensures err { OnErr result (HasBegun rows.old (map (λ lbn. BackBad (record { task = task; lbn = lbn })) lbns.now) rows.new) }
 {
     for lbn in lbns {
         rows.push(BackRow::Bad(BadRow { task, lbn: *lbn }))?;
