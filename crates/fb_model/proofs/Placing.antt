@@ -5,7 +5,8 @@ use Rattle.std.specs.List.{AllByRecursion, fold}
 use Rattle.std.proofs.lemmas.Bool.{cases_Bool, true≢false, or_cases, and_parts, eqb-true}
 use Rattle.std.proofs.lemmas.Bool.Decides.{nat_tests}
 use Rattle.fb_units.specs.declared.types.Request.{Request}
-use Rattle.fb_units.proofs.Lists.{all_weaker}
+use Rattle.fb_units.proofs.Lists.{all_filter, all_weaker}
+use Rattle.fb_units.proofs.Each.{all_any, all_map, all_pass, all_with}
 use Rattle.fb_service.specs.declared.disk.Disk.{Disk}
 use Rattle.fb_service.specs.declared.passage.Passage.{Passage}
 use Rattle.fb_wanted.specs.declared.block.Block.{Block}
@@ -36,11 +37,8 @@ all_in_order P found each = all_folded P found [] tt each
 pub all_filtered : {X : Type 0} (P : X → Type 0) (Q : Block → Type 0) (test : Block → Bool) (f : Block → X)
     → ((block : Block) → Q block → test block ≡ true → P (f block))
     → (blocks : List Block) → AllByRecursion Q blocks → AllByRecursion P (map f (filter test blocks))
-all_filtered P Q test f each [] have = tt
-all_filtered P Q test f each (block ∷ blocks) have = elim (cases_Bool (test block)) [
-  | inl passes ↦ rw passes (each block have.0 passes, all_filtered P Q test f each blocks have.1)
-  | inr fails ↦ rw fails (all_filtered P Q test f each blocks have.1)
-]
+all_filtered P Q test f each blocks have = all_map P f (filter test blocks) (all_with Q (λ block. test block ≡ true) (λ block. P (f block))
+    each (filter test blocks) (all_filter Q test blocks have) (all_pass test blocks))
 
 -- of what a dwell catches
 pub all_caught : (disk : Disk) (dwell : Dwell) (P : Catch → Type 0) (Q : Block → Type 0)
@@ -57,6 +55,41 @@ pub all_carried : (passages : List Passage) (request : Request) (P : Catch → T
 unfolding carried_of
 all_carried passages request P Q each blocks have = all_in_order P (map (ride_of passages) (filter (lies_in request) blocks))
     (all_filtered P Q (lies_in request) (ride_of passages) each blocks have)
+
+-- ---- what holds of any two
+
+module _ (R : Catch → Catch → Type 0) (turned : (a b : Catch) → R a b → R b a) where
+  -- it holds of each and any later one
+  abbrev pub AnyTwo : List Catch → Type 0
+  AnyTwo [] = Unit {0}
+  AnyTwo (catch ∷ found) = AllByRecursion (R catch) found × AnyTwo found
+
+  two_placed : (found : List Catch) (catch : Catch) → AllByRecursion (R catch) found → AnyTwo found → AnyTwo (placed found catch)
+  two_placed [] catch own two = (tt, tt)
+  two_placed (first ∷ others) catch own two = elim (cases_Bool (is_before catch first)) [
+    | inl front ↦ rw front (own, two)
+    | inr behind ↦ rw behind (
+      all_placed (R first) others catch two.0 (turned catch first own.0),
+      two_placed others catch own.1 two.1,
+    )
+  ]
+
+  each_placed : (found others : List Catch) (catch : Catch) → AllByRecursion (R catch) others
+      → AllByRecursion (λ other. AllByRecursion (R other) found) others
+      → AllByRecursion (λ other. AllByRecursion (R other) (placed found catch)) others
+  each_placed found [] catch own each = tt
+  each_placed found (other ∷ others) catch own each =
+      (all_placed (R other) found catch each.0 (turned catch other own.0), each_placed found others catch own.1 each.1)
+
+  two_folded : (found before : List Catch) → AnyTwo before → AnyTwo found → AllByRecursion (λ catch. AllByRecursion (R catch) before) found
+      → AnyTwo (fold placed before found)
+  two_folded [] before first two each = first
+  two_folded (catch ∷ found) before first two each =
+      two_folded found (placed before catch) (two_placed before catch each.0 first) two.1 (each_placed before found catch two.0 each.1)
+
+  -- put in order too
+  pub two_in_order : (found : List Catch) → AnyTwo found → AnyTwo (in_order found)
+  two_in_order found two = two_folded found [] tt two (all_any _ (λ catch. tt) found)
 
 -- ---- none ends before the one before it
 
