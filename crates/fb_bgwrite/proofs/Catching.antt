@@ -1,20 +1,14 @@
 -- What a stay catches are pending blocks, each once.
 use Rattle.fb_bgwrite.proofs.Words.{◌⊎◌, one_more, all_get, Bor, ◌≡◌, ℕ, zero, suc, ◌+◌, ◌≤◌, List, [], ◌∷◌, ◌++◌, Bool, false}
 use Rattle.fb_bgwrite.proofs.Words.{◌||◌, Some, slice_get, take, map, length, refl, sym, ap, ◌∙◌, subst, arith, inl, inr}
-use Rattle.fb_bgwrite.proofs.Words.{append_assoc, ◌==◌, ◌&&◌, filter, AllByRecursion, fold, list_any, cases_Bool, nat_tests}
+use Rattle.fb_bgwrite.proofs.Words.{append_assoc, ◌==◌, ◌&&◌, filter, AllByRecursion, list_any, cases_Bool, nat_tests}
 use Rattle.fb_bgwrite.proofs.Words.{map-append, list_any-append, places, Disk, all_weaker, wanted_of, Dwell, catches, Catch}
-use Rattle.fb_bgwrite.proofs.Words.{is_before, place_in, catch_of, caught_of, begin-from-le, SpillItem, SpillLine, WroteLine}
+use Rattle.fb_bgwrite.proofs.Words.{catch_of, caught_of, begin-from-le, SpillItem, SpillLine, WroteLine}
 use Rattle.fb_bgwrite.proofs.Words.{SpillRow, Put, Spilling, PutBlock, is_written, writes, entry_of, first_blocks, ArePutsOn}
 use Rattle.fb_bgwrite.proofs.Words.{HasKept, IsSpilling, IsToWrite, wrote_row, all_of, none_any}
-use Rattle.fb_plan.proofs.Sorted.{put_front, put_behind, all_place}
+use Rattle.fb_model.proofs.Placing.{AnyTwo, all_in_order, two_in_order}
 use Rattle.fb_bgwrite.proofs.{Admitting.first_come, Admitting.first_in_order, PutBlocks.AreInOrder}
 use Rattle.fb_bgwrite.proofs.{PutBlocks.IsBefore, Writing.before_other}
-
--- ---- in the order of delivery
-
-all_placed : (P : Catch → Type 0) (xs ys : List Catch) → AllByRecursion P xs → AllByRecursion P ys → AllByRecursion P (fold place_in xs ys)
-all_placed P xs [] a b = a
-all_placed P xs (y ∷ ys) a b = all_placed P (place_in xs y) ys (all_place P y xs b.0 a) b.1
 
 -- the catches are of different blocks
 abbrev pub Differ : Catch → Catch → Type 0
@@ -24,28 +18,7 @@ differ_turned : (a b : Catch) → Differ a b → Differ b a
 differ_turned a b h = grind (arith, nat_tests)
 
 abbrev pub AreDifferent : List Catch → Type 0
-AreDifferent [] = Unit {0}
-AreDifferent (c ∷ cs) = AllByRecursion (Differ c) cs × AreDifferent cs
-
-different_place : (c : Catch) (xs : List Catch) → AllByRecursion (Differ c) xs → AreDifferent xs → AreDifferent (place_in xs c)
-different_place c [] apart h = (tt, tt)
-different_place c (x ∷ xs) apart h = elim (cases_Bool (is_before c x)) [
-  | inl t ↦ subst AreDifferent (sym (put_front x c xs t)) (apart, h)
-  | inr f ↦ subst AreDifferent (sym (put_behind x c xs f)) (
-    all_place (Differ x) c xs (differ_turned c x apart.0) h.0,
-    different_place c xs apart.1 h.1,
-  )
-]
-
-more_apart : (y : Catch) (xs ys : List Catch) → AllByRecursion (Differ y) ys → AllByRecursion (λ z. AllByRecursion (Differ z) xs) ys
-    → AllByRecursion (λ z. AllByRecursion (Differ z) (place_in xs y)) ys
-more_apart y xs [] own all = tt
-more_apart y xs (z ∷ zs) own all = (all_place (Differ z) y xs (differ_turned y z own.0) all.0, more_apart y xs zs own.1 all.1)
-
-different_placed : (xs ys : List Catch) → AreDifferent xs → AreDifferent ys → AllByRecursion (λ y. AllByRecursion (Differ y) xs) ys
-    → AreDifferent (fold place_in xs ys)
-different_placed xs [] a b all = a
-different_placed xs (y ∷ ys) a b all = different_placed (place_in xs y) ys (different_place y xs all.0 a) b.1 (more_apart y xs ys b.0 all.1)
+AreDifferent found = AnyTwo Differ differ_turned found
 
 -- ---- each is of a block that is pending
 
@@ -124,14 +97,14 @@ module _ (disk : Disk) (puts : List Put) (n : ℕ) (items : List SpillItem) (dwe
   pub caught_are : AllByRecursion (λ (put : PutBlock). put.instant ≤ dwell.begin) (first_blocks disk puts n)
       → AllByRecursion (IsCaught disk puts n items) (caught_of disk dwell (wanted_of (map (entry_of items) (first_blocks disk puts n))))
   unfolding caught_of IsAt
-  caught_are come = all_placed (IsCaught disk puts n items) [] (of_blocks (first_blocks disk puts n)) tt
+  caught_are come = all_in_order (IsCaught disk puts n items) (of_blocks (first_blocks disk puts n))
       (each_caught (first_blocks disk puts n) (all_of IsAt (first_blocks disk puts n) (λ k put at. (k, at))) come)
 
   pub caught_differ : AreInOrder (first_blocks disk puts n)
       → AreDifferent (caught_of disk dwell (wanted_of (map (entry_of items) (first_blocks disk puts n))))
   unfolding caught_of
-  caught_differ order = different_placed [] (of_blocks (first_blocks disk puts n)) tt (all_different (first_blocks disk puts n) order)
-      (all_of (λ y. AllByRecursion (Differ y) []) (of_blocks (first_blocks disk puts n)) (λ k y at. tt))
+  caught_differ order = two_in_order Differ differ_turned (of_blocks (first_blocks disk puts n))
+      (all_different (first_blocks disk puts n) order)
 
 -- ---- one after another
 

@@ -68,8 +68,8 @@ pub use Rattle.fb_model.specs.Timeline.{IsPossible, Leg, arrival, can_follow, ga
 pub use Rattle.fb_model.specs.Timeline.{service_legs, stay, way}
 unfoldable pub use Rattle.fb_model.specs.Timeline.{led_to, timeline}
 pub use Rattle.fb_model.proofs.Leads.{Leads, lead_gap, lead_on, lead_stay, lead_to_target, lead_way}
-pub use Rattle.fb_plan.specs.Order.{catch_of, is_before, place_in}
-unfoldable pub use Rattle.fb_plan.specs.Order.{caught_of}
+pub use Rattle.fb_model.specs.Deliveries.{catch_of}
+unfoldable pub use Rattle.fb_model.specs.Deliveries.{caught_of}
 pub use Rattle.fb_plan.specs.Ways.{AreOnDisk}
 pub use Rattle.fb_rows.specs.declared.gap.Catch.{Catch}
 pub use Rattle.fb_plan.proofs.Ends.{begin-from-le}

@@ -4,7 +4,7 @@ use Rattle.fb_service.specs.declared.disk.Disk.{Disk}
 use Rattle.fb_wanted.specs.declared.block.Block.{Block}
 use Rattle.fb_rows.specs.declared.back.GapRow.{GapRow}
 use Rattle.fb_rows.specs.declared.gap.Catch.{Catch}
-use Rattle.fb_plan.specs.Order.{caught_of}
+use Rattle.fb_model.specs.Deliveries.{caught_of}
 use Rattle.fb_bgwrite.specs.declared.choice.Spill.{Spill}
 use Rattle.fb_bgwrite.specs.declared.items.SpillItem.{SpillItem}
 use Rattle.fb_bgwrite.specs.declared.items.SpillItem.TheVariants.{Spill as SpillLine, Wrote as WroteLine}

@@ -6,7 +6,8 @@ ghost use Rattle.fb_wanted.specs.declared.block.State.TheVariants.{Wanted as Sti
 ghost use Rattle.fb_wanted.specs.States.{after, is_block, is_wanted, on_track, wanted_of};
 ghost use Rattle.fb_wanted.specs.Tracks.{wanted_weight};
 ghost use Rattle.fb_units.specs.declared.types.Track.{Track};
-ghost use Rattle.fb_plan.specs.Order.{caught_of, AreOrdered};
+ghost use Rattle.fb_model.specs.Deliveries.{caught_of};
+ghost use Rattle.fb_plan.specs.Order.{AreOrdered};
 ghost use Rattle.fb_wanted.specs.Numbering.{blocks_of, registered_count};
 ghost use Rattle.fb_service.specs.declared.disk.Disk.{Disk};
 ghost use Rattle.fb_plan.specs.Ways.{AreOnDisk};

@@ -19,7 +19,7 @@ use Rattle.fb_model.specs.History.{delivered, Past, task_numbers, terms_of, bloc
 use Rattle.fb_model.specs.Completion.{work, choices, is_complete, was_complete}
 use Rattle.fb_model.specs.Images.{findings, is_scrub, bad_sectors, is_newly_cleaned, segment_rows, seal_rows, complete_rows, test_rows}
 use Rattle.fb_model.specs.Images.{packed, image}
-use Rattle.fb_model.specs.Steps.{Delivery, Step, decision_in, chosen_past, with_delivery, tested_past, past_after, AtEach, opening}
+use Rattle.fb_model.specs.Steps.{Delivery, Step, decision_in, chosen_past, with_delivery, tested_past, past_after, AtEach, opening, delivery_rows}
 use Rattle.fb_model.specs.Steps.{step_rows, task_row, task_rows, history}
 use Rattle.fb_model.specs.SoundRun.{AreFollowed, IsTested}
 use Rattle.fb_model.specs.FullRun.{IsAllDelivered}
@@ -115,11 +115,11 @@ module _ (inputs : Inputs) where
   followed_count : (past : Past) (deliveries : List Delivery) → HoldsOf inputs past
       → AllByRecursion (λ (got : DeliveryRow). HasSectors got.content) (map (λ delivery. delivery.got) deliveries)
       → AreFollowed medium past deliveries
-      → AllByRecursion CountsSectors (flat_map (λ (delivery : Delivery). BackGot delivery.got ∷ delivery.after) deliveries)
+      → AllByRecursion CountsSectors (delivery_rows deliveries)
   followed_count past [] h gots follows = tt
   followed_count past (delivery ∷ deliveries) h gots follows = (
     gots.0,
-    all_append CountsSectors delivery.after (flat_map (λ (delivery : Delivery). BackGot delivery.got ∷ delivery.after) deliveries)
+    all_append CountsSectors delivery.after (delivery_rows deliveries)
         (subst (AllByRecursion CountsSectors) (sym follows.0)
         (all_append CountsSectors (findings past delivery.got) (test_rows medium (delivered delivery.got ∷ past) delivery.got.end)
         (findings_count past delivery.got) (tests_count (delivered delivery.got ∷ past) delivery.got.end h)))
@@ -135,7 +135,7 @@ module _ (inputs : Inputs) where
       → IsAllDelivered inputs medium past step → AllByRecursion CountsSectors (step_rows inputs.disk step)
   step_counts past step h tests all =
       all_append CountsSectors (step.test ++ opening inputs.disk step.act)
-      (flat_map (λ (delivery : Delivery). BackGot delivery.got ∷ delivery.after) step.deliveries)
+      (delivery_rows step.deliveries)
       (all_append CountsSectors step.test (opening inputs.disk step.act)
       (subst (AllByRecursion CountsSectors) (sym tests.test)
       (tests_count (chosen_past inputs past (decision_in step)) (instant_of (decision_in step)) h)) (opening_counts step.act))

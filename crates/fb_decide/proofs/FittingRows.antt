@@ -28,7 +28,7 @@ use Rattle.fb_model.specs.History.{is_open_backup}
 use Rattle.fb_model.specs.Completion.{choices, work, is_complete, was_complete}
 use Rattle.fb_model.specs.Images.{findings, is_scrub, bad_sectors, segment_rows, seal_rows, complete_rows, is_newly_cleaned, image, packed}
 use Rattle.fb_model.specs.Images.{test_rows}
-use Rattle.fb_model.specs.Steps.{Delivery, Step, decision_in, with_delivery, with_finish, chosen_past, past_after}
+use Rattle.fb_model.specs.Steps.{Delivery, Step, decision_in, with_delivery, with_finish, chosen_past, past_after, delivery_rows}
 use Rattle.fb_model.specs.Steps.{opening, step_rows, task_row, task_rows}
 use Rattle.fb_model.specs.SoundRun.{AreFollowed}
 use Rattle.fb_tasks.specs.declared.session.Session.{Session}
@@ -158,13 +158,13 @@ module _ (n : ℕ) where
 
   followed_fit : (medium : Medium) (past : Past) (deliveries : List Delivery) → PastFits n past
       → AllByRecursion GotFits (map (λ delivery. delivery.got) deliveries) → AreFollowed medium past deliveries
-      → AllByRecursion (HasTaskBelow n) (flat_map (λ (delivery : Delivery). BackGot delivery.got ∷ delivery.after) deliveries)
+      → AllByRecursion (HasTaskBelow n) (delivery_rows deliveries)
   followed_fit medium past [] fits gots follows = tt
   followed_fit medium past (delivery ∷ deliveries) fits gots follows =
       let got = gots.0 in
       let now : PastFits n (delivered delivery.got ∷ past) = record { blocks = fits.blocks; few = fits.few } in (
         got,
-        all_append (HasTaskBelow n) delivery.after (flat_map (λ (delivery : Delivery). BackGot delivery.got ∷ delivery.after) deliveries)
+        all_append (HasTaskBelow n) delivery.after (delivery_rows deliveries)
             (subst (AllByRecursion (HasTaskBelow n)) (sym follows.0)
             (all_append (HasTaskBelow n) (findings past delivery.got) (test_rows medium (delivered delivery.got ∷ past) delivery.got.end)
             (findings_fit past delivery.got got) (tests_fit medium (delivered delivery.got ∷ past) delivery.got.end now)))
@@ -190,7 +190,7 @@ module _ (n : ℕ) where
       let tests = fits_tested inputs past step fits in
       let test = fits_before (chosen_past inputs past (decision_in step)) (tested step.test) tests in
       all_append (HasTaskBelow n) (step.test ++ opening inputs.disk step.act)
-      (flat_map (λ (delivery : Delivery). BackGot delivery.got ∷ delivery.after) step.deliveries)
+      (delivery_rows step.deliveries)
       (all_append (HasTaskBelow n) step.test (opening inputs.disk step.act)
       (subst (AllByRecursion (HasTaskBelow n)) (sym made.tested.test) (tests_fit medium (chosen_past inputs past (decision_in step))
       (instant_of (decision_in step)) test)) (opening_fits inputs.disk step.act))

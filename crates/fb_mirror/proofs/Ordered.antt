@@ -14,6 +14,7 @@ use Rattle.fb_service.specs.declared.disk.Disk.{Disk}
 use Rattle.fb_service.specs.declared.passage.Passage.{Passage}
 use Rattle.fb_service.specs.Service.{media_of, passage_from, passages}
 use Rattle.fb_wanted.specs.declared.block.Block.{Block}
+use Rattle.fb_rows.specs.declared.gap.Catch.{Catch}
 use Rattle.fb_rows.specs.declared.gap.Dwell.{Dwell}
 use Rattle.fb_rows.specs.declared.gap.How.{How}
 use Rattle.fb_rows.specs.declared.gap.How.TheVariants.{Gap as ByGap, Ride as ByRide}
@@ -25,13 +26,15 @@ use Rattle.fb_model.specs.Content.{contents_at, Medium}
 use Rattle.fb_model.specs.Plans.{IsPlan, block_begin, block_end, catches, early_dwell, late_dwell}
 use Rattle.fb_model.specs.Decisions.{Decision, serves, Act, serving, idling, ending, decision_of, decisions_from, end_of, idle_until}
 use Rattle.fb_model.specs.Decisions.{instant_of, last_decision}
-use Rattle.fb_model.specs.Deliveries.{begin_at, caught_rows, delivery, due, end_at, gap_of, in_order, is_before, lies_in, missed, placed, rides}
+use Rattle.fb_model.specs.Deliveries.{catch_of, caught_of, caught_rows, carried_of, delivery_row, due, end_at, gap_of, lies_in, missed}
+use Rattle.fb_model.specs.Deliveries.{ride_of, rides}
 use Rattle.fb_model.specs.SoundRun.{HasPlan}
-use Rattle.fb_model.proofs.Due.{IsCaughtIn, all_filtered, caught_true}
+use Rattle.fb_model.proofs.Placing.{AreRising, all_caught, all_carried, rising_in_order}
+use Rattle.fb_model.proofs.Due.{IsCaughtIn, caught_true}
 use Rattle.fb_model.proofs.Passages.{IsServiceOf, passed_between}
 use Rattle.fb_model.proofs.Written.{begun_after}
 use Rattle.fb_model.proofs.HistoriesUpTo.{HasSector}
-use Rattle.fb_model.proofs.DueUpTo.{begins_later, ends_behind, ends_in_time, before_end, not_before_end}
+use Rattle.fb_model.proofs.DueUpTo.{begins_later, ends_behind, ends_in_time}
 use Rattle.fb_mirror.proofs.Between.{IsOfDisk, kept_by, quiet_until}
 use Rattle.fb_mirror.proofs.RunRows.{AreLinked}
 use Rattle.fb_mirror.proofs.Writing.{AreServed, free_within}
@@ -108,27 +111,19 @@ ascend_append : (a b : ℕ) (xs ys : List DeliveryRow) → Ascend a xs → EndBy
 ascend_append a b [] ys up by order next = ascend_from a b ys order next
 ascend_append a b (x ∷ xs) ys up by order next = (up.0, ascend_append x.end b xs ys up.1 by.1 by.0 next)
 
-ascend_placed : (a : ℕ) (rows : List DeliveryRow) (row : DeliveryRow) → a ≤ row.end → Ascend a rows → Ascend a (placed rows row)
-ascend_placed a [] row from up = (from, tt)
-ascend_placed a (first ∷ rows) row from up = elim (cases_Bool (is_before row.end row.block first.end first.block)) [
-  | inl before ↦ rw before (from, (before_end row.end row.block first.end first.block before, up.1))
-  | inr behind ↦ rw behind (up.0, ascend_placed first.end rows row (not_before_end row.end row.block first.end first.block behind) up.1)
-]
-
-ascend_ordered : (a : ℕ) (rows before : List DeliveryRow) → AllByRecursion (λ (row : DeliveryRow). a ≤ row.end) rows → Ascend a before
-    → Ascend a (fold placed before rows)
-ascend_ordered a [] before from up = up
-ascend_ordered a (row ∷ rows) before from up = ascend_ordered a rows (placed before row) from.1 (ascend_placed a before row from.0 up)
+-- rows of catches in the order of delivery
+rows_ascend : (medium : Medium) (how : How) (a : ℕ) (found : List Catch) → AllByRecursion (λ (catch : Catch). a ≤ catch.end) found
+    → AreRising found → Ascend a (map (delivery_row (contents_at medium) how) found)
+rows_ascend medium how a [] from rising = tt
+rows_ascend medium how a (catch ∷ found) from rising = (from.0, rows_ascend medium how catch.end found rising.0 rising.1)
 
 caught_ascend : (medium : Medium) (how : How) (dwell : Dwell) (blocks : List Block) → AllByRecursion HasSector blocks
     → Ascend dwell.begin (caught_rows medium.disk (contents_at medium) how dwell blocks)
-caught_ascend medium how dwell blocks all = ascend_ordered dwell.begin
-    (map (λ block. delivery (contents_at medium) how block (block_begin medium.disk.map block dwell.begin)
-    (block_end medium.disk.map block dwell.begin)) (filter (catches medium.disk dwell) blocks)) []
-    (all_filtered (λ (row : DeliveryRow). dwell.begin ≤ row.end) HasSector (catches medium.disk dwell) (λ block.
-    delivery (contents_at medium) how block (block_begin medium.disk.map block dwell.begin) (block_end medium.disk.map block dwell.begin))
-    (λ block some is. let later = begins_later medium.disk block dwell.begin in let behind = ends_behind medium.disk block dwell.begin in
-    omega (arith, later, behind)) blocks all) tt
+unfolding caught_of
+caught_ascend medium how dwell blocks all = rows_ascend medium how dwell.begin (caught_of medium.disk dwell blocks)
+    (all_caught medium.disk dwell (λ (catch : Catch). dwell.begin ≤ catch.end) HasSector
+    (λ block some is. omega (arith, begins_later medium.disk block dwell.begin, ends_behind medium.disk block dwell.begin)) blocks all)
+    (rising_in_order (map (catch_of medium.disk dwell) (filter (catches medium.disk dwell) blocks)))
 
 caught_by : (medium : Medium) (how : How) (dwell : Dwell) (blocks : List Block) → AllByRecursion HasSector blocks
     → EndBy dwell.end (caught_rows medium.disk (contents_at medium) how dwell blocks)
@@ -165,17 +160,16 @@ ride_end disk served block is some lies =
 
 rides_ascend : (medium : Medium) (served : Served) (blocks : List Block) → IsServiceOf medium.disk served
     → AllByRecursion HasSector blocks → Ascend (media served) (rides (contents_at medium) served blocks)
+unfolding carried_of
 rides_ascend medium served blocks is all = by served.request.write
   where
     by : (write : Bool) → Ascend (media served) (if write
-        then [] else in_order (map (λ block. delivery (contents_at medium) ByRide block (begin_at served.passages block.lbn)
-        (end_at served.passages (block.lbn + block.count - 1))) (filter (lies_in served.request) blocks)))
+        then [] else map (delivery_row (contents_at medium) ByRide) (carried_of served.passages served.request blocks))
     by true = tt
-    by false = ascend_ordered (media served) (map (λ block. delivery (contents_at medium) ByRide block (begin_at served.passages block.lbn)
-        (end_at served.passages (block.lbn + block.count - 1))) (filter (lies_in served.request) blocks)) []
-        (all_filtered (λ (row : DeliveryRow). media served ≤ row.end) HasSector (lies_in served.request) (λ block. delivery
-        (contents_at medium) ByRide block (begin_at served.passages block.lbn) (end_at served.passages (block.lbn + block.count - 1)))
-        (λ block some lies. ride_end medium.disk served block is some lies) blocks all) tt
+    by false = rows_ascend medium ByRide (media served) (carried_of served.passages served.request blocks)
+        (all_carried served.passages served.request (λ (catch : Catch). media served ≤ catch.end) HasSector
+        (λ block some lies. ride_end medium.disk served block is some lies) blocks all)
+        (rising_in_order (map (ride_of served.passages) (filter (lies_in served.request) blocks)))
 
 -- the early dwell, then the late one
 dwells_in_turn : (disk : Disk) (served : Served) (plan : Plan) → IsPlan disk (gap_of disk served) plan

@@ -19,7 +19,7 @@ use Rattle.fb_model.specs.History.{Past, delivered, is_open_backup, task_numbers
 use Rattle.fb_model.specs.Completion.{Choice, choices, is_complete, was_complete, work}
 use Rattle.fb_model.specs.Images.{bad_sectors, complete_rows, findings, image, is_newly_cleaned, is_scrub, packed, seal_rows, segment_rows}
 use Rattle.fb_model.specs.Images.{segment_row, test_rows}
-use Rattle.fb_model.specs.Steps.{AtEach, Delivery, Step, decision_in, history, opening, step_rows, past_after, chosen_past, task_row}
+use Rattle.fb_model.specs.Steps.{AtEach, Delivery, Step, decision_in, history, opening, step_rows, past_after, chosen_past, task_row, delivery_rows}
 use Rattle.fb_model.specs.Steps.{task_rows, tested_past, with_delivery}
 use Rattle.fb_model.specs.SoundRun.{AreFollowed, IsSoundBy, IsTested}
 
@@ -127,12 +127,12 @@ module _ (P : DeliveryRow → Type 0) (C : ℕ → Type 0) where
     followed_fit : (medium : Medium) (now : ℕ) (past : Past) (deliveries : List Delivery) → I now past → AreFollowed medium past deliveries
         → AllByRecursion P (map (λ (delivery : Delivery). delivery.got) deliveries)
         → AreLinked R now (map (λ (delivery : Delivery). delivery.got) deliveries)
-        → RowsFit P C (flat_map (λ (delivery : Delivery). BackGot delivery.got ∷ delivery.after) deliveries)
+        → RowsFit P C (delivery_rows deliveries)
     followed_fit medium now past [] holds followed each linked = tt
     followed_fit medium now past (delivery ∷ deliveries) holds followed each linked =
         let next = kept.delivers now past delivery.got holds each.0 linked.0 in
         all_append (RowFits P C) (BackGot delivery.got ∷ delivery.after)
-        (flat_map (λ (delivery : Delivery). BackGot delivery.got ∷ delivery.after) deliveries) (
+        (delivery_rows deliveries) (
           each.0,
           subst (RowsFit P C) (sym followed.0)
               (all_append (RowFits P C) (findings past delivery.got) (test_rows medium (delivered delivery.got ∷ past) delivery.got.end)
@@ -147,7 +147,7 @@ module _ (P : DeliveryRow → Type 0) (C : ℕ → Type 0) where
         → AllByRecursion P (gots step) → AreLinked R (instant_of (decision_in step)) (gots step) → RowsFit P C (step_rows inputs.disk step)
     step_fits inputs medium past step holds is each linked =
         all_append (RowFits P C) (step.test ++ opening inputs.disk step.act)
-        (flat_map (λ (delivery : Delivery). BackGot delivery.got ∷ delivery.after) step.deliveries)
+        (delivery_rows step.deliveries)
         (all_append (RowFits P C) step.test (opening inputs.disk step.act)
         (subst (RowsFit P C) (sym is.test)
         (test_fits medium (chosen_past inputs past (decision_in step)) (instant_of (decision_in step)) holds))
@@ -188,14 +188,14 @@ back_fits P C inputs run steps is each = subst (RowsFit P C) (sym is.back)
 -- ---- and the deliveries have what the rows have
 
 gots_of : (P : DeliveryRow → Type 0) (C : ℕ → Type 0) (deliveries : List Delivery)
-    → RowsFit P C (flat_map (λ (delivery : Delivery). BackGot delivery.got ∷ delivery.after) deliveries)
+    → RowsFit P C (delivery_rows deliveries)
     → AllByRecursion P (map (λ (delivery : Delivery). delivery.got) deliveries)
 gots_of P C [] fit = tt
 gots_of P C (delivery ∷ deliveries) fit = (
   (all_left (RowFits P C) (BackGot delivery.got ∷ delivery.after)
-      (flat_map (λ (delivery : Delivery). BackGot delivery.got ∷ delivery.after) deliveries) fit).0,
+      (delivery_rows deliveries) fit).0,
   gots_of P C deliveries (all_right (RowFits P C) (BackGot delivery.got ∷ delivery.after)
-      (flat_map (λ (delivery : Delivery). BackGot delivery.got ∷ delivery.after) deliveries) fit),
+      (delivery_rows deliveries) fit),
 )
 
 -- the deliveries of each step
@@ -206,7 +206,7 @@ gots_fit P C inputs past [] fit = tt
 gots_fit P C inputs past (step ∷ steps) fit = (
   gots_of P C step.deliveries
       (all_right (RowFits P C) (step.test ++ opening inputs.disk step.act)
-      (flat_map (λ (delivery : Delivery). BackGot delivery.got ∷ delivery.after) step.deliveries)
+      (delivery_rows step.deliveries)
       (all_left (RowFits P C) (step_rows inputs.disk step) (flat_map (step_rows inputs.disk) steps) fit)),
   gots_fit P C inputs (past_after inputs past step) steps
       (all_right (RowFits P C) (step_rows inputs.disk step) (flat_map (step_rows inputs.disk) steps) fit),

@@ -26,7 +26,7 @@ use Rattle.fb_model.specs.Decisions.{decisions, among}
 use Rattle.fb_model.specs.History.{Past, tested, wanted}
 use Rattle.fb_model.specs.Images.{test_rows}
 use Rattle.fb_model.specs.Deliveries.{due}
-use Rattle.fb_model.specs.Steps.{Delivery, Step, decision_in, decisions_in, chosen_past, with_delivery, with_finish, tested_past}
+use Rattle.fb_model.specs.Steps.{Delivery, Step, decision_in, decisions_in, chosen_past, with_delivery, with_finish, tested_past, delivery_rows}
 use Rattle.fb_model.specs.Steps.{past_after, AtEach, opening, step_rows}
 use Rattle.fb_model.specs.Accepted.{IsAccepted, IsRising}
 use Rattle.fb_model.specs.SoundRun.{AreFollowed}
@@ -45,7 +45,7 @@ use Rattle.fb_model.proofs.DecisionsUpTo.{IsMade, IsLater, AlikeDecisions, same,
 use Rattle.fb_model.proofs.HistoriesUpTo.{HasSector, AreFine, HasBegun, wanted_fine, chosen_fine, after_fine, all_fine_weaker, calls_by}
 use Rattle.fb_model.proofs.HistoriesUpTo.{RiseInTime, same_chosen}
 use Rattle.fb_model.proofs.RowsUpTo.{AreUnknown, AreKnownAlike, IsUnknown, unknown_before, alike_behind, tests_unknown, tasks_unknown}
-use Rattle.fb_model.proofs.RowsUpTo.{delivered_rows, deliveries_unknown, same_tests, same_followed, ends_by_then, RisingEnds}
+use Rattle.fb_model.proofs.RowsUpTo.{deliveries_unknown, same_tests, same_followed, ends_by_then, RisingEnds}
 use Rattle.fb_model.proofs.RowsUpTo.{alike_deliveries}
 use Rattle.fb_model.proofs.Unlined.{unlined_inputs, steps_same, instants_same}
 use Rattle.fb_model.proofs.DueUpTo.{LiesBetween, AgreeBetween, delivers_by, due_between, same_due, rising_caught, same_by_then}
@@ -101,11 +101,11 @@ module _ (disk : Disk) (latent : List ℕ) (key : Key) (trace : List Request) (p
       let others = steps_unknown t P any (past_after inputs past step) steps more late.1 full.1
       (after_fine P inputs past step (all_unmapped P (λ (d : Delivery). d.got) step.deliveries
       (all_weaker (LiesBetween (instant_of d) (end_of d)) P (λ row h. any row) (gots step.deliveries) between)) fine) unknown in
-      subst (AreUnknown t) (sym (regroup step.test (opening disk step.act) (delivered_rows step.deliveries) rest more))
-      (unknown_before t step.test (opening disk step.act ++ (delivered_rows step.deliveries ++ (rest ++ more)))
+      subst (AreUnknown t) (sym (regroup step.test (opening disk step.act) (delivery_rows step.deliveries) rest more))
+      (unknown_before t step.test (opening disk step.act ++ (delivery_rows step.deliveries ++ (rest ++ more)))
       (subst (AllByRecursion (IsUnknown t)) (sym full.0.tests.test)
       (tests_unknown t medium (chosen_past inputs past d) (instant_of d) instant))
-      (unknown_before t (opening disk step.act) (delivered_rows step.deliveries ++ (rest ++ more)) (opening_unknown t disk step.act late.0)
+      (unknown_before t (opening disk step.act) (delivery_rows step.deliveries ++ (rest ++ more)) (opening_unknown t disk step.act late.0)
       (deliveries_unknown t medium (tested_past inputs past step) step.deliveries (rest ++ more) full.0.tests.followed
       (all_weaker (LiesBetween (instant_of d) (end_of d)) (λ (row : DeliveryRow). t < row.end)
       (λ row h. let begins = h.begins in let in_turn = h.in_turn in omega (arith, begins, in_turn, instant)) (gots step.deliveries) between)
@@ -212,8 +212,8 @@ module _ (disk : Disk) (latent : List ℕ) (key : Key) (trace_a trace_b : List R
       (all_weaker (LiesBetween now end_a) (λ (row : DeliveryRow). row.begin ≤ row.end) (λ row lies. lies.in_turn)
       (gots x.deliveries) between)
       kept unknown_a unknown_b in
-      let got_a = delivered_rows x.deliveries ++ (rest_a ++ more_a) in
-      let got_b = delivered_rows y.deliveries ++ (rest_b ++ more_b) in
+      let got_a = delivery_rows x.deliveries ++ (rest_a ++ more_a) in
+      let got_b = delivery_rows y.deliveries ++ (rest_b ++ more_b) in
       let opened : AreKnownAlike t (BackIdle (record { track = head; begin = now; end = end_a })
       ∷ got_a) (BackIdle (record { track = head; begin = now; end = end_b }) ∷ got_b) = λ follows.
       ap (λ b. only_if b (BackIdle (record { track = head; begin = now; end = end_a })) (known_from t false got_a))
@@ -221,11 +221,11 @@ module _ (disk : Disk) (latent : List ℕ) (key : Key) (trace_a trace_b : List R
       ∙ (alike false ∙ sym (ap (λ b. only_if b (BackIdle (record { track = head; begin = now; end = end_b })) (known_from t false got_b))
       (after_is end_b t late_b))) in
       λ follows.
-      ap (known_from t follows) (regroup x.test (opening disk (idling dwell_a)) (delivered_rows x.deliveries) rest_a more_a)
+      ap (known_from t follows) (regroup x.test (opening disk (idling dwell_a)) (delivery_rows x.deliveries) rest_a more_a)
       ∙ (alike_behind t x.test (BackIdle (record { track = head; begin = now; end = end_a }) ∷ got_a)
       (BackIdle (record { track = head; begin = now; end = end_b }) ∷ got_b) opened follows
       ∙ (ap (λ rows. known_from t follows (rows ++ (BackIdle (record { track = head; begin = now; end = end_b }) ∷ got_b))) rows
-      ∙ sym (ap (known_from t follows) (regroup y.test (opening disk (idling dwell_b)) (delivered_rows y.deliveries) rest_b more_b))))
+      ∙ sym (ap (known_from t follows) (regroup y.test (opening disk (idling dwell_b)) (delivery_rows y.deliveries) rest_b more_b))))
 
   no_property : (past : Past) → AreFine (HasBegun done) past → AreFine any_delivery past
   unfolding any_delivery

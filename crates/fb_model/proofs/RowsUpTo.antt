@@ -23,7 +23,7 @@ use Rattle.fb_model.specs.History.{is_open_backup}
 use Rattle.fb_model.specs.Completion.{Choice, choices, work, is_complete, was_complete}
 use Rattle.fb_model.specs.Images.{bad_sectors, is_scrub, findings, held_at_delivery, packed, is_newly_cleaned, segment_rows, image}
 use Rattle.fb_model.specs.Images.{segment_row, seal_rows, complete_rows, test_rows}
-use Rattle.fb_model.specs.Steps.{Delivery, with_delivery, task_row, task_rows}
+use Rattle.fb_model.specs.Steps.{Delivery, with_delivery, task_row, task_rows, delivery_rows}
 use Rattle.fb_model.specs.SoundRun.{AreFollowed}
 use Rattle.fb_model.specs.Known.{is_known, follows_known, only_if, known_from}
 use Rattle.fb_model.proofs.FullRuns.{gots}
@@ -109,19 +109,15 @@ module _ (t : ℕ) where
       (test_rows medium next got.end ++ more)
       (unknown_before (test_rows medium next got.end) more (tests_unknown medium next got.end h) unknown))
 
--- the rows of deliveries with what follows each
-abbrev pub delivered_rows : List Delivery → List BackRow
-delivered_rows deliveries = flat_map (λ delivery. BackGot delivery.got ∷ delivery.after) deliveries
-
 module _ (t : ℕ) (medium : Medium) where
   pub deliveries_unknown : (past : Past) (deliveries : List Delivery) (more : List BackRow) → AreFollowed medium past deliveries
       → AllByRecursion (λ (row : DeliveryRow). t < row.end) (gots deliveries)
-      → AreUnknown t more → AreUnknown t (delivered_rows deliveries ++ more)
+      → AreUnknown t more → AreUnknown t (delivery_rows deliveries ++ more)
   deliveries_unknown past [] more followed late h = h
   deliveries_unknown past (d ∷ ds) more followed late h =
-      subst (AreUnknown t) (sym (append_assoc (BackGot d.got ∷ d.after) (delivered_rows ds) more))
-      (subst (λ after. AreUnknown t (BackGot d.got ∷ after ++ (delivered_rows ds ++ more))) (sym followed.0)
-      (delivery_unknown t medium past (delivered d.got ∷ past) d.got (delivered_rows ds ++ more) late.0
+      subst (AreUnknown t) (sym (append_assoc (BackGot d.got ∷ d.after) (delivery_rows ds) more))
+      (subst (λ after. AreUnknown t (BackGot d.got ∷ after ++ (delivery_rows ds ++ more))) (sym followed.0)
+      (delivery_unknown t medium past (delivered d.got ∷ past) d.got (delivery_rows ds ++ more) late.0
       (deliveries_unknown (with_delivery past d) ds more followed.1 late.1 h)))
 
 -- ---- tests by then give the same rows where the disk holds the same
@@ -213,7 +209,7 @@ module _ (t done : ℕ) (since : t ≤ done) (a b : Medium) (same : HoldSame don
       → AreFollowed a past xs → AreFollowed b past ys
       → RisingEnds (gots xs) → RisingEnds (gots ys) → AllByRecursion (λ (row : DeliveryRow). row.begin ≤ row.end) (gots xs)
       → filter (ends_by_then t) (gots xs) ≡ filter (ends_by_then t) (gots ys) → AreUnknown t more_x → AreUnknown t more_y
-      → AreKnownAlike t (delivered_rows xs ++ more_x) (delivered_rows ys ++ more_y)
+      → AreKnownAlike t (delivery_rows xs ++ more_x) (delivery_rows ys ++ more_y)
   alike_deliveries past [] ys more_x more_y fine follow_x follow_y rising_x rising_y order e unknown_x unknown_y = λ follows.
       unknown_x follows ∙ sym (deliveries_unknown t b past ys more_y follow_y
       (ends_late t (gots ys) (all_dropped (ends_by_then t) (gots ys) (sym e))) unknown_y follows)
@@ -233,14 +229,14 @@ module _ (t done : ℕ) (since : t ≤ done) (a b : Medium) (same : HoldSame don
                   let after : x.after ≡ y.after = follow_x.0 ∙ (same_after done a b same past x.got fine over
                   ∙ (ap (λ got. findings past got ++ test_rows b (delivered got ∷ past) got.end) got ∙ sym follow_y.0)) in
                   let one : x ≡ y = ap₂ (λ got after. record { got = got; after = after }) got after in
-                  subst (λ d. AreKnownAlike t (delivered_rows (x ∷ xs) ++ more_x) (delivered_rows (d ∷ ys) ++ more_y)) one
-                  (λ follows. ap (known_from t follows) (append_assoc (BackGot x.got ∷ x.after) (delivered_rows xs) more_x)
-                  ∙ (alike_behind t (BackGot x.got ∷ x.after) (delivered_rows xs ++ more_x) (delivered_rows ys ++ more_y)
+                  subst (λ d. AreKnownAlike t (delivery_rows (x ∷ xs) ++ more_x) (delivery_rows (d ∷ ys) ++ more_y)) one
+                  (λ follows. ap (known_from t follows) (append_assoc (BackGot x.got ∷ x.after) (delivery_rows xs) more_x)
+                  ∙ (alike_behind t (BackGot x.got ∷ x.after) (delivery_rows xs ++ more_x) (delivery_rows ys ++ more_y)
                   (alike_deliveries (with_delivery past x) xs ys more_x more_y (tt, (over.0, fine)) follow_x.1
                   (subst (λ d. AreFollowed b (with_delivery past d) ys) (sym one) follow_y.1)
                   rising_x.1 rising_y.1 order.1 (same_rest x.got y.got (filter (ends_by_then t) (gots xs))
                   (filter (ends_by_then t) (gots ys)) both) unknown_x unknown_y) follows
-                  ∙ sym (ap (known_from t follows) (append_assoc (BackGot x.got ∷ x.after) (delivered_rows ys) more_y))))
+                  ∙ sym (ap (known_from t follows) (append_assoc (BackGot x.got ∷ x.after) (delivery_rows ys) more_y))))
               | inr late_y ↦ absurd (not_none x.got (filter (ends_by_then t) (gots xs))
                   (kept ∙ late_kept t (gots (y ∷ ys)) (rest_late t y.got (gots ys) rising_y late_y)))
             ]

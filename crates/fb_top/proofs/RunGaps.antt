@@ -13,9 +13,8 @@ use Rattle.fb_model.specs.History.{Past}
 use Rattle.fb_model.specs.Inputs.{Inputs, requests}
 use Rattle.fb_model.specs.PlainReplay.{Served}
 use Rattle.fb_model.specs.SoundRun.{HasPlan, IsPlanned, IsTested}
-use Rattle.fb_model.specs.Steps.{AtEach, Step, decisions_in, history, opening, step_rows, past_after}
+use Rattle.fb_model.specs.Steps.{AtEach, Step, decisions_in, history, opening, step_rows, past_after, delivery_rows}
 use Rattle.fb_decide.proofs.Chain.{decisions_follow, services}
-use Rattle.fb_model.proofs.RowsUpTo.{delivered_rows}
 use Rattle.fb_decide.proofs.QuietRows.{IsQuiet, IsQuietStep, quiet_step, tasks_quiet}
 use Rattle.fb_units.proofs.Each.{all_any}
 use Rattle.fb_units.specs.declared.types.Request.{Request}
@@ -45,11 +44,11 @@ module _ (inputs : Inputs) (medium : Medium) (tasks : List BackRow) (quiet : All
 
   -- the rows of a step, which open with its own
   opened : (step : Step) (steps : List Step) (fore : List ForeRow) → IsQuietStep step
-      → AreGaps inputs.disk (opening inputs.disk step.act ++ (delivered_rows step.deliveries ++ back_rows steps)) fore
+      → AreGaps inputs.disk (opening inputs.disk step.act ++ (delivery_rows step.deliveries ++ back_rows steps)) fore
       → AreGaps inputs.disk (back_rows (step ∷ steps)) fore
   opened step steps fore silent are =
       let first = opening inputs.disk step.act in
-      let others = delivered_rows step.deliveries in
+      let others = delivery_rows step.deliveries in
       let whole = append_assoc (step_rows inputs.disk step) (flat_map (step_rows inputs.disk) steps) tasks in
       subst (λ (rows : List BackRow). AreGaps inputs.disk rows fore) (sym whole)
       (subst (λ (rows : List BackRow). AreGaps inputs.disk rows fore) (sym (append_assoc (step.test ++ first) others (back_rows steps)))
@@ -63,16 +62,16 @@ module _ (inputs : Inputs) (medium : Medium) (tasks : List BackRow) (quiet : All
       let fore = map (fore_row medium) (services (decisions_in steps)) in
       opened (record step { act = serving served plan }) steps (fore_row medium served ∷ fore) silent (
         record { name = refl; start = refl; media = refl; write = refl; target = refl; plan = is_plan },
-        quiet_before inputs.disk (delivered_rows step.deliveries) (back_rows steps) fore silent.delivered rest,
+        quiet_before inputs.disk (delivery_rows step.deliveries) (back_rows steps) fore silent.delivered rest,
       )
   one_more step (idling dwell) steps silent is_plan rest =
       let fore = map (fore_row medium) (services (decisions_in steps)) in
       opened (record step { act = idling dwell }) steps fore silent
-      (quiet_before inputs.disk (delivered_rows step.deliveries) (back_rows steps) fore silent.delivered rest)
+      (quiet_before inputs.disk (delivery_rows step.deliveries) (back_rows steps) fore silent.delivered rest)
   one_more step (ending end) steps silent is_plan rest =
       let fore = map (fore_row medium) (services (decisions_in steps)) in
       opened (record step { act = ending end }) steps fore silent
-      (quiet_before inputs.disk (delivered_rows step.deliveries) (back_rows steps) fore silent.delivered rest)
+      (quiet_before inputs.disk (delivery_rows step.deliveries) (back_rows steps) fore silent.delivered rest)
 
   all_gaps : (past : Past) (steps : List Step) → AtEach (IsPlanned inputs medium) inputs past steps
       → AtEach (IsTested inputs medium) inputs past steps → HasGaps steps

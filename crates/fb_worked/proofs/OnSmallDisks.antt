@@ -21,13 +21,13 @@ use Rattle.fb_model.specs.History.{bare_state, wanted}
 use Rattle.fb_model.specs.Completion.{is_complete}
 use Rattle.fb_model.specs.Segments.{with_choices}
 use Rattle.fb_model.specs.Images.{test_rows}
-use Rattle.fb_model.specs.Deliveries.{due}
+use Rattle.fb_model.specs.Deliveries.{caught_of, carried_of, due}
 use Rattle.fb_model.specs.Steps.{Delivery, Step, chosen_past, past_after, task_rows}
 use Rattle.fb_worked.specs.SmallDisk.{small_disk, quick_disk, uneven_disk, one_sector_disk, skewed_disk, turned_disk, slipped_disk}
 use Rattle.fb_worked.specs.SmallDisk.{remapped_disk}
 
 unfoldable pub on_small_disks : ⊤
-unfolding places place_at sweep_of cutting pos begin_from passages plain served medium_of fore_rows timeline led_to value decisions_from decisions bare_state wanted is_complete with_choices test_rows due chosen_past past_after task_rows small_disk quick_disk uneven_disk one_sector_disk skewed_disk turned_disk slipped_disk remapped_disk
+unfolding places place_at sweep_of cutting pos begin_from passages plain served medium_of fore_rows timeline led_to value decisions_from decisions bare_state wanted is_complete with_choices test_rows caught_of carried_of due chosen_past past_after task_rows small_disk quick_disk uneven_disk one_sector_disk skewed_disk turned_disk slipped_disk remapped_disk
 on_small_disks = tt
 
 -- what is done at a decision, after this plan if a request is served
