@@ -10,7 +10,7 @@ use Rattle.fb_units.specs.Numbers.{millis_of}
 use Rattle.fb_geometry.specs.Shape.{Shape}
 use Rattle.fb_calls.specs.declared.call.Action.{Action}
 use Rattle.fb_calls.specs.declared.call.Action.TheVariants.{Open}
-use Rattle.fb_script.specs.declared.fault.CallsReason.TheVariants.{BackBad, BadTime}
+use Rattle.fb_script.specs.declared.fault.CallsReason.TheVariants.{BadLine, BadTime}
 use Rattle.fb_calls.specs.Names.{is_name}
 use Rattle.fb_script.specs.Words.{verb_of}
 use Rattle.fb_script.specs.Sessions.{names_after}
@@ -29,7 +29,7 @@ entry_named (time ∷ []) entry given = cc
 entry_named (time ∷ verb ∷ []) entry given = cc
 entry_named (time ∷ verb ∷ name ∷ more) entry given =
     let known = has_its_fields (verb_of verb) (length more) in
-    let whole = passed BackBad (not (known && is_name name)) _ entry given in
+    let whole = passed BadLine (not (known && is_name name)) _ entry given in
     let instant = both_ok (or_refuse BadTime (millis_of time)) _ entry whole.1 in
     let asked = both_ok (asked_by (verb_of verb) more) _ entry instant.2 in
     subst (λ (read : Entry). is_name read.name ≡ true)

@@ -19,9 +19,8 @@ use Rattle.fb_wanted.specs.declared.block.Block.{Block}
 use Rattle.fb_model.specs.Blocks.{IsBlockOn}
 use Rattle.fb_model.specs.History.{same_block, Past, wanted}
 use Rattle.fb_rows.specs.declared.gap.Catch.{Catch}
-use Rattle.fb_plan.specs.Order.{is_before, place_in}
-use Rattle.fb_plan.proofs.Sorted.{put_front, put_behind, not_both}
-use Rattle.fb_decide.specs.Deliveries.{AreDistinct, AreDue, row_in, held_now}
+use Rattle.fb_plan.proofs.Sorted.{not_both}
+use Rattle.fb_decide.specs.Deliveries.{AreDistinct, AreDue, held_now}
 use Rattle.fb_geometry.specs.Shape.{Shape}
 use Rattle.fb_sectormap.specs.LookUp.{track_at}
 use Rattle.fb_service.specs.Extents.{IsUnbroken}
@@ -29,15 +28,15 @@ use Rattle.fb_service.specs.declared.passage.Extent.{Extent}
 use Rattle.fb_service.specs.declared.passage.Passage.{Passage}
 use Rattle.fb_wanted.specs.declared.block.Entry.{Entry}
 use Rattle.fb_wanted.specs.States.{on_track, wanted_of}
-use Rattle.fb_model.specs.Deliveries.{lies_in, begin_at, end_at, in_order, rides, delivery}
-use Rattle.fb_decide.specs.Carried.{added, ride_of, begins_in, begun_in, carried_of, AreLaid, AreExtents}
+use Rattle.fb_model.specs.Deliveries.{is_before, placed, lies_in, ride_of, carried_of, rides, delivery_row}
+use Rattle.fb_decide.specs.Carried.{added, begins_in, begun_in, AreLaid, AreExtents}
 use Rattle.fb_geometry.specs.Places.{places}
 use Rattle.fb_service.specs.declared.disk.Disk.{Disk}
 use Rattle.fb_store.specs.Ranges.{Holding}
 use Rattle.fb_rows.specs.declared.back.DeliveryRow.{DeliveryRow}
 use Rattle.fb_rows.specs.declared.gap.How.TheVariants.{Ride as ByRide}
 use Rattle.fb_model.specs.PlainReplay.{Served}
-use Rattle.fb_decide.proofs.Placing.{rows-in_order, due-filtered}
+use Rattle.fb_decide.proofs.Placing.{due-filtered}
 
 -- ---- catches that are placed one after another stand in the order of deliveries, whichever of them is placed first
 
@@ -49,26 +48,17 @@ one_is_first : (a b : Catch) → same_block a.block b.block ≡ false → is_bef
 one_is_first a b apart h = grind (arith, nat_tests)
 
 -- a catch that is to stand before a placed one
-front : (os : List Catch) (a b : Catch) → is_before a b ≡ true → place_in (place_in os a) b ≡ place_in (place_in os b) a
-front [] a b h = put_behind a b [] (not_both a b h) ∙ sym (put_front b a [] h)
+front : (os : List Catch) (a b : Catch) → is_before a b ≡ true → placed (placed os a) b ≡ placed (placed os b) a
+front [] a b h = rw (not_both a b h, h) refl
 front (o ∷ os) a b h = elim (cases_Bool (is_before b o)) [
-  | inl holds ↦
-      let also = after_all a b o h holds in
-      ap (λ xs. place_in xs b) (put_front o a os also) ∙ put_behind a b (o ∷ os) (not_both a b h)
-      ∙ ap (λ xs. a ∷ xs) (put_front o b os holds)
-      ∙ sym (ap (λ xs. place_in xs a) (put_front o b os holds) ∙ put_front b a (o ∷ os) h)
+  | inl holds ↦ let also = after_all a b o h holds in rw (also, not_both a b h, holds, h, also) refl
   | inr fails ↦ elim (cases_Bool (is_before a o)) [
-    | inl first ↦
-        ap (λ xs. place_in xs b) (put_front o a os first) ∙ put_behind a b (o ∷ os) (not_both a b h)
-        ∙ ap (λ xs. a ∷ xs) (put_behind o b os fails)
-        ∙ sym (ap (λ xs. place_in xs a) (put_behind o b os fails) ∙ put_front o a (place_in os b) first)
-    | inr later ↦
-        ap (λ xs. place_in xs b) (put_behind o a os later) ∙ put_behind o b (place_in os a) fails ∙ ap (λ xs. o ∷ xs) (front os a b h)
-        ∙ sym (ap (λ xs. place_in xs a) (put_behind o b os fails) ∙ put_behind o a (place_in os b) later)
+    | inl first ↦ rw (first, not_both a b h, fails, first) refl
+    | inr later ↦ rw (later, fails, later) (ap (λ xs. o ∷ xs) (front os a b h))
   ]
 ]
 
-pub swapped : (os : List Catch) (a b : Catch) → same_block a.block b.block ≡ false → place_in (place_in os a) b ≡ place_in (place_in os b) a
+pub swapped : (os : List Catch) (a b : Catch) → same_block a.block b.block ≡ false → placed (placed os a) b ≡ placed (placed os b) a
 swapped os a b apart = elim (cases_Bool (is_before a b)) [
   | inl holds ↦ front os a b holds
   | inr fails ↦ sym (front os b a (one_is_first a b apart fails))
@@ -80,10 +70,10 @@ IsApart catch others = AllByRecursion (λ other. same_block catch.block other.bl
 
 -- placed behind the others, it stands where it does when it is placed before them
 pub moved : (os : List Catch) (catch : Catch) (others : List Catch) → IsApart catch others
-    → fold place_in (place_in os catch) others ≡ place_in (fold place_in os others) catch
+    → fold placed (placed os catch) others ≡ placed (fold placed os others) catch
 moved os catch [] apart = refl
 moved os catch (other ∷ others) apart =
-    ap (λ xs. fold place_in xs others) (swapped os catch other apart.0) ∙ moved (place_in os other) catch others apart.1
+    ap (λ xs. fold placed xs others) (swapped os catch other apart.0) ∙ moved (placed os other) catch others apart.1
 
 filtered_apart : (f : Block → Catch) → ((b : Block) → (f b).block ≡ b) → (p : Block → Bool) (block : Block) (blocks : List Block)
     → AllByRecursion (λ other. same_block block other ≡ false) blocks
@@ -97,22 +87,22 @@ filtered_apart f its p block (other ∷ blocks) apart = elim (cases_Bool (p othe
   | inr fails ↦ rw fails (filtered_apart f its p block blocks apart.1)
 ]
 
-fold_joined : (os xs ys : List Catch) → fold place_in os (xs ++ ys) ≡ fold place_in (fold place_in os xs) ys
+fold_joined : (os xs ys : List Catch) → fold placed os (xs ++ ys) ≡ fold placed (fold placed os xs) ys
 fold_joined os [] ys = refl
-fold_joined os (x ∷ xs) ys = fold_joined (place_in os x) xs ys
+fold_joined os (x ∷ xs) ys = fold_joined (placed os x) xs ys
 
 -- blocks of one kind and then those of another are the blocks of both kinds
 pub both_kinds : (f : Block → Catch) → ((b : Block) → (f b).block ≡ b) → (p q : Block → Bool) → ((b : Block) → p b ≡ true → q b ≡ false)
     → (blocks : List Block) → AreDistinct blocks → (os : List Catch)
-    → fold place_in (fold place_in os (map f (filter p blocks))) (map f (filter q blocks))
-    ≡ fold place_in os (map f (filter (λ b. p b || q b) blocks))
+    → fold placed (fold placed os (map f (filter p blocks))) (map f (filter q blocks))
+    ≡ fold placed os (map f (filter (λ b. p b || q b) blocks))
 both_kinds f its p q never [] apart os = refl
 both_kinds f its p q never (b ∷ blocks) apart os = elim (cases_Bool (p b)) [
-  | inl is_p ↦ let not_q = never b is_p in rw (is_p, not_q) (both_kinds f its p q never blocks apart.1 (place_in os (f b)))
+  | inl is_p ↦ let not_q = never b is_p in rw (is_p, not_q) (both_kinds f its p q never blocks apart.1 (placed os (f b)))
   | inr not_p ↦ grind (
     arith,
     moved os (f b) (map f (filter p blocks)) (filtered_apart f its p b blocks apart.0),
-    both_kinds f its p q never blocks apart.1 (place_in os (f b)),
+    both_kinds f its p q never blocks apart.1 (placed os (f b)),
     both_kinds f its p q never blocks apart.1 os,
   )
 ]
@@ -143,16 +133,16 @@ begins_among first count block = nat_le first block.lbn && nat_lt block.lbn (fir
 abbrev pub added_by_all : List Passage → List Extent → Request → List Catch → List Block → List Catch
 added_by_all passages [] request found blocks = found
 added_by_all passages (extent ∷ extents) request found blocks =
-    added_by_all passages extents request (fold place_in found (map (ride_of passages) (begun_in extent request blocks))) blocks
+    added_by_all passages extents request (fold placed found (map (ride_of passages) (begun_in extent request blocks))) blocks
 
 -- extents that are laid end to end add all that begins among their sectors
 pub all_added : (passages : List Passage) (extents : List Extent) (request : Request) (first count : ℕ) → AreLaid first extents count
     → (blocks : List Block) → AreDistinct blocks → (found : List Catch)
     → added_by_all passages extents request found blocks
-    ≡ fold place_in found (map (ride_of passages) (filter (λ b. begins_among first count b && lies_in request b) blocks))
+    ≡ fold placed found (map (ride_of passages) (filter (λ b. begins_among first count b && lies_in request b) blocks))
 all_added passages [] request first count laid blocks apart found =
     sym
-    (ap (λ bs. fold place_in found (map (ride_of passages) bs)) (none_kept (λ b. begins_among first count b && lies_in request b) blocks
+    (ap (λ bs. fold placed found (map (ride_of passages) bs)) (none_kept (λ b. begins_among first count b && lies_in request b) blocks
     (all_any _ (λ b. let none : begins_among first count b ≡ false = grind (arith, nat_tests) in rw none refl) blocks)))
 all_added passages (extent ∷ extents) request first count laid blocks apart found =
     let rest = first + extent.count in
@@ -160,10 +150,10 @@ all_added passages (extent ∷ extents) request first count laid blocks apart fo
     let here = λ (b : Block). begins_in extent b && lies_in request b in
     let later = λ (b : Block). begins_among rest left b && lies_in request b in
     all_added passages extents request rest left laid.2 blocks apart
-    (fold place_in found (map (ride_of passages) (begun_in extent request blocks)))
+    (fold placed found (map (ride_of passages) (begun_in extent request blocks)))
     ∙ both_kinds (ride_of passages) (λ b. refl) here later
     (λ b is_here. not_later extent request first rest left laid.0 refl b is_here) blocks apart found
-    ∙ ap (λ bs. fold place_in found (map (ride_of passages) bs))
+    ∙ ap (λ bs. fold placed found (map (ride_of passages) bs))
     (filter_same (λ b. here b || later b) (λ b. begins_among first count b && lies_in request b) blocks
     (all_any _ (λ b. either_way extent request first count laid.0 laid.1 b) blocks))
   where
@@ -206,15 +196,15 @@ own_track disk extent request unbroken (entry ∷ entries) all = elim (cases_Boo
 pub next_added : (disk : Shape) (passages : List Passage) (extents : List Extent) (i : ℕ) (d : Extent) (request : Request)
     (found found' : List Catch) (entries : List Entry) → i < length extents
     → IsUnbroken disk (get_or extents i d) → AllByRecursion (λ entry. entry.block.track ≡ track_at disk entry.block.lbn) entries
-    → fold place_in [] found'
-    ≡ fold place_in [] (added passages (get_or extents i d) request found (wanted_of (on_track (get_or extents i d).track entries)))
-    → added_by_all passages (drop i extents) request (fold place_in [] found) (wanted_of entries)
-    ≡ added_by_all passages (drop (i + 1) extents) request (fold place_in [] found') (wanted_of entries)
+    → fold placed [] found'
+    ≡ fold placed [] (added passages (get_or extents i d) request found (wanted_of (on_track (get_or extents i d).track entries)))
+    → added_by_all passages (drop i extents) request (fold placed [] found) (wanted_of entries)
+    ≡ added_by_all passages (drop (i + 1) extents) request (fold placed [] found') (wanted_of entries)
 next_added disk passages extents i d request found found' entries within unbroken on_tracks next =
     let own = own_track disk (get_or extents i d) request unbroken entries on_tracks in
-    ap (λ es. added_by_all passages es request (fold place_in [] found) (wanted_of entries)) (drop_more extents i d within)
+    ap (λ es. added_by_all passages es request (fold placed [] found) (wanted_of entries)) (drop_more extents i d within)
     ∙ ap (λ f. added_by_all passages (drop (i + 1) extents) request f (wanted_of entries))
-    (ap (λ bs. fold place_in (fold place_in [] found) (map (ride_of passages) bs)) (sym own) ∙ sym (fold_joined [] found _) ∙ sym next)
+    (ap (λ bs. fold placed (fold placed [] found) (map (ride_of passages) bs)) (sym own) ∙ sym (fold_joined [] found _) ∙ sym next)
 
 pub none_added : (passages : List Passage) (extents : List Extent) (n : ℕ) (request : Request) (found : List Catch) (blocks : List Block)
     → length extents ≤ n → added_by_all passages (drop n extents) request found blocks ≡ found
@@ -232,7 +222,7 @@ pub carried_whole : (passages : List Passage) (extents : List Extent) (request :
 unfolding carried_of
 carried_whole passages extents request blocks laid apart some =
     all_added passages extents request request.lbn request.count laid blocks apart []
-    ∙ ap (λ bs. fold place_in [] (map (ride_of passages) bs))
+    ∙ ap (λ bs. fold placed [] (map (ride_of passages) bs))
     (filter_same _ (lies_in request) blocks (all_weaker _ _ (begins request) blocks some))
 
 pub each_wanted : (P : Block → Type 0) (entries : List Entry) → AllByRecursion (λ entry. P entry.block) entries
@@ -246,27 +236,17 @@ extent_at P extents all i d within = all_get P extents i (get_or extents i d) al
 
 -- ---- what a read carries is due: its blocks are wanted, and each is another than the others
 
-abbrev pub ride_row : Holding → Served → Block → DeliveryRow
-ride_row holding served block =
-    delivery (held_now holding) ByRide block (begin_at served.passages block.lbn) (end_at served.passages (block.lbn + block.count - 1))
-
-rows_by : (holding : Holding) (served : Served) (bs : List Block)
-    → map (row_in holding ByRide) (map (ride_of served.passages) bs) ≡ map (ride_row holding served) bs
-rows_by holding served [] = refl
-rows_by holding served (b ∷ bs) = ap (λ rs. ride_row holding served b ∷ rs) (rows_by holding served bs)
-
 -- the deliveries of what is carried
 pub rows-carried : (holding : Holding) (served : Served) (blocks : List Block) → served.request.write ≡ false
-    → map (row_in holding ByRide) (carried_of served.passages served.request blocks) ≡ rides (held_now holding) served blocks
-unfolding carried_of
-rows-carried holding served blocks reads = rw reads
-    (rows-in_order holding ByRide (map (ride_of served.passages) (filter (lies_in served.request) blocks))
-    ∙ ap in_order (rows_by holding served (filter (lies_in served.request) blocks)))
+    → map (delivery_row (held_now holding) ByRide) (carried_of served.passages served.request blocks)
+    ≡ rides (held_now holding) served blocks
+rows-carried holding served blocks reads = rw reads refl
 
 pub due-carried : (holding : Holding) (served : Served) (past : Past) → served.request.write ≡ false → AreDistinct (wanted past)
     → AreDue past (rides (held_now holding) served (wanted past))
+unfolding carried_of
 due-carried holding served past reads distinct =
-    rw reads (due-filtered past (lies_in served.request) (ride_row holding served) (λ b. refl) distinct)
+    rw reads (due-filtered (held_now holding) ByRide past (lies_in served.request) (ride_of served.passages) (λ b. refl) distinct)
 
 -- no block of a disk ends behind the last sector that a disk may have
 pub ends_within : (disk : Disk) (block : Block) → IsBlockOn disk.map block → block.lbn + block.count ≤ 10 ^ 12

@@ -8,7 +8,7 @@ use Rattle.fb_units.proofs.Lists.{all_append, all_get, all_weaker, map_at}
 use Rattle.fb_units.proofs.Filtered.{all_kept, filter_from, filter_to}
 use Rattle.fb_units.proofs.Each.{all_any, all_map}
 use Rattle.fb_model.specs.Blocks.{IsBlockOn}
-use Rattle.fb_model.specs.Deliveries.{delivery}
+use Rattle.fb_model.specs.Deliveries.{delivery_row}
 use Rattle.fb_geometry.specs.Shape.{Shape}
 use Rattle.fb_wanted.specs.declared.block.Block.{Block}
 use Rattle.fb_wanted.specs.declared.block.Entry.{Entry}
@@ -27,7 +27,7 @@ use Rattle.fb_store.specs.Sparse.{Gives}
 use Rattle.fb_store.specs.Runs.{runs_of, bad_of}
 use Rattle.fb_model.specs.History.{Past, tasks, same_block, bare_state, is_suspended, state, registered, wanted}
 use Rattle.fb_model.specs.Completion.{view}
-use Rattle.fb_model.specs.Steps.{Delivery, with_delivery}
+use Rattle.fb_model.specs.Steps.{Delivery, with_delivery, delivery_rows}
 use Rattle.fb_plan.specs.Ways.{AreOnDisk}
 use Rattle.fb_tasks.specs.declared.session.Session.{Session}
 use Rattle.fb_tasks.specs.Taken.{delivery_of, rows_after}
@@ -35,7 +35,7 @@ use Rattle.fb_tasks.specs.Telling.{Tells, MayDeliver, IsUpToDate, IsBlockOf, ent
 use Rattle.fb_tasks.proofs.States.{shown}
 use Rattle.fb_decide.specs.declared.background.Background.{Background}
 use Rattle.fb_decide.specs.Deliveries.{TellsUpToDate, HasDelivered, IsRegistered, AreDistinct, AreDue, IsOneOf, block_in, followed}
-use Rattle.fb_decide.specs.Deliveries.{past_with, rows_of, held_now}
+use Rattle.fb_decide.specs.Deliveries.{past_with, held_now}
 
 -- of the registered blocks, those that are wanted are the history's
 wanted_by : (past : Past) (bs : List Block) → wanted_of (map (entry_of past) bs) ≡ filter (λ b. is_wanted (state past b)) bs
@@ -117,13 +117,10 @@ pub followed-append : (past : Past) (xs ys : List DeliveryRow)
 followed-append past [] ys = refl
 followed-append past (x ∷ xs) ys = ap (λ ds. delivery_of past x ∷ ds) (followed-append (with_delivery past (delivery_of past x)) xs ys)
 
-abbrev lines_of : Delivery → List BackRow
-lines_of delivery = BackGot delivery.got ∷ delivery.after
-
 pub rows-append : (past : Past) (xs ys : List DeliveryRow)
-    → rows_of (followed past (xs ++ ys)) ≡ rows_of (followed past xs) ++ rows_of (followed (past_with past xs) ys)
+    → delivery_rows (followed past (xs ++ ys)) ≡ delivery_rows (followed past xs) ++ delivery_rows (followed (past_with past xs) ys)
 rows-append past xs ys =
-    ap rows_of (followed-append past xs ys) ∙ flat_map-append lines_of (followed past xs) (followed (past_with past xs) ys)
+    ap delivery_rows (followed-append past xs ys) ∙ flat_map-append _ (followed past xs) (followed (past_with past xs) ys)
 
 -- a wanted block may be delivered, with what its sectors hold
 pub wanted-on_disk : (disk : Shape) (past : Past) (index : ℕ) (block : Block) (background : Background) → TellsUpToDate disk past background
@@ -162,7 +159,7 @@ made how block begin end bad content = record { block = block; begin = begin; en
 
 pub row-is : (holding : Holding) (how : How) (block : Block) (begin end bad : ℕ) (content : List ContentRun)
     → content ≡ runs_of (map (λ lbn. (lbn, content_in holding lbn)) (range_with_len block.lbn block.count)) → bad ≡ bad_of content
-    → made how block begin end bad content ≡ delivery (held_now holding) how block begin end
+    → made how block begin end bad content ≡ delivery_row (held_now holding) how (record { block = block; begin = begin; end = end })
 row-is holding how block begin end bad content is counted =
     ap₂ (made how block begin end) (counted ∙ ap bad_of is) is
 
@@ -186,8 +183,8 @@ pub delivered-join : {disk : Shape} {past : Past} {xs ys : List DeliveryRow} {ro
     → HasDelivered disk past (xs ++ ys) rows after
 delivered-join {disk} {past} {xs} {ys} {rows} {middle} {after} first next = record {
   current = subst (λ p. TellsUpToDate disk p after) (sym (past_with-append past xs ys)) next.current;
-  rows_after = next.rows_after ∙ (ap (λ rs. rs ++ rows_of (followed (past_with past xs) ys)) first.rows_after
-      ∙ (append_assoc rows (rows_of (followed past xs)) (rows_of (followed (past_with past xs) ys))
+  rows_after = next.rows_after ∙ (ap (λ rs. rs ++ delivery_rows (followed (past_with past xs) ys)) first.rows_after
+      ∙ (append_assoc rows (delivery_rows (followed past xs)) (delivery_rows (followed (past_with past xs) ys))
       ∙ ap (λ rs. rows ++ rs) (sym (rows-append past xs ys))));
   registered = all_append (λ got. IsRegistered past got.block) xs ys first.registered
       (all_weaker (λ got. IsRegistered (past_with past xs) got.block) (λ got. IsRegistered past got.block)

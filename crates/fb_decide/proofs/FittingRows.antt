@@ -21,7 +21,8 @@ use Rattle.fb_model.specs.Inputs.{Inputs}
 use Rattle.fb_model.specs.PlainReplay.{Served}
 use Rattle.fb_model.specs.Content.{Medium, medium_of, contents_at}
 use Rattle.fb_model.specs.Plans.{catches, early_dwell, late_dwell}
-use Rattle.fb_model.specs.Deliveries.{delivery, caught_rows, rides, missed, lies_in, gap_of, due}
+use Rattle.fb_model.specs.Deliveries.{due}
+use Rattle.fb_model.proofs.Due.{IsDueRow, due_block, due_true}
 use Rattle.fb_model.specs.Decisions.{Decision, serves, idles, ends, instant_of, Act, serving, idling, ending}
 use Rattle.fb_model.specs.History.{Event, delivered, tested, Past, tasks, task_numbers, terms_of, registered, registered_by, wanted, state}
 use Rattle.fb_model.specs.History.{is_open_backup}
@@ -34,7 +35,6 @@ use Rattle.fb_model.specs.SoundRun.{AreFollowed}
 use Rattle.fb_tasks.specs.declared.session.Session.{Session}
 use Rattle.fb_tasks.specs.Telling.{Tells, IsBlockOf, calls_of}
 use Rattle.fb_tasks.proofs.Rules.{opened_same}
-use Rattle.fb_decide.proofs.Placing.{in_order-each}
 use Rattle.fb_decide.proofs.RegisteredBlocks.{registered_after, tasks_more}
 use Rattle.fb_rows.specs.Tasks.{HasTaskBelow}
 use Rattle.fb_decide.specs.Making.{IsMade}
@@ -116,38 +116,11 @@ module _ (n : ℕ) where
   abbrev pub GotFits : DeliveryRow → Type 0
   GotFits got = got.block.task < n
 
-  caught_fits : (medium : Medium) (how : How) (dwell : _) (blocks : List Block) → AllByRecursion (BlockFits n) blocks
-      → AllByRecursion GotFits (caught_rows medium.disk (contents_at medium) how dwell blocks)
-  caught_fits medium how dwell blocks all = in_order-each GotFits _ (all_map GotFits _ (filter (catches medium.disk dwell) blocks)
-      (all_filter (BlockFits n) (catches medium.disk dwell) blocks all))
-
-  rides_fit : (medium : Medium) (served : Served) (blocks : List Block) → AllByRecursion (BlockFits n) blocks
-      → AllByRecursion GotFits (rides (contents_at medium) served blocks)
-  rides_fit medium served blocks all = elim (cases_Bool served.request.write) [
-    | inl writes ↦ rw writes tt
-    | inr reads ↦ rw reads (in_order-each GotFits _ (all_map GotFits _ (filter (lies_in served.request) blocks)
-        (all_filter (BlockFits n) (lies_in served.request) blocks all)))
-  ]
-
-  missed_fit : (disk : Disk) (dwell : _) (blocks : List Block) → AllByRecursion (BlockFits n) blocks
-      → AllByRecursion (BlockFits n) (missed disk dwell blocks)
-  missed_fit disk dwell blocks all = all_filter (BlockFits n) (λ block. not (catches disk dwell block)) blocks all
-
   due_fits : (medium : Medium) (act : Act) (blocks : List Block) → AllByRecursion (BlockFits n) blocks
       → AllByRecursion GotFits (due medium.disk (contents_at medium) act blocks)
-  unfolding due
-  due_fits medium (serving served plan) blocks all =
-      let early = early_dwell medium.disk (gap_of medium.disk served) plan in
-      let late = late_dwell medium.disk (gap_of medium.disk served) plan in
-      let left = missed medium.disk early blocks in
-      let left_fit = missed_fit medium.disk early blocks all in
-      all_append GotFits _ (rides (contents_at medium) served (missed medium.disk late left))
-      (all_append GotFits (caught_rows medium.disk (contents_at medium) _ early blocks)
-      (caught_rows medium.disk (contents_at medium) _ late left)
-      (caught_fits medium _ early blocks all) (caught_fits medium _ late left left_fit))
-      (rides_fit medium served (missed medium.disk late left) (missed_fit medium.disk late left left_fit))
-  due_fits medium (idling dwell) blocks all = caught_fits medium _ dwell blocks all
-  due_fits medium (ending now) blocks all = tt
+  due_fits medium act blocks all = all_weaker (IsDueRow medium.disk (contents_at medium) act (BlockFits n)) GotFits
+      (due_block medium.disk (contents_at medium) act (BlockFits n)) (due medium.disk (contents_at medium) act blocks)
+      (due_true medium.disk (contents_at medium) act (BlockFits n) blocks all)
 
   findings_fit : (past : Past) (got : DeliveryRow) → GotFits got → AllByRecursion (HasTaskBelow n) (findings past got)
   findings_fit past got fits = elim (cases_Bool (is_scrub (terms_of past got.block.task).kind)) [

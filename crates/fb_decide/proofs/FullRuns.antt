@@ -20,10 +20,9 @@ use Rattle.fb_model.specs.Plans.{IsPlan}
 use Rattle.fb_model.specs.Deliveries.{gap_of}
 use Rattle.fb_model.specs.Decisions.{Decision, serves, idles, ends, end_of, Act, serving, idling, ending, decision_of, decisions, run_end}
 use Rattle.fb_model.specs.History.{Past}
-use Rattle.fb_model.specs.Steps.{Step, decision_in, decisions_in, past_after, AtEach, opening, step_rows, task_rows, history}
+use Rattle.fb_model.specs.Steps.{Step, decision_in, decisions_in, past_after, AtEach, opening, step_rows, task_rows, history, delivery_rows}
 use Rattle.fb_model.specs.SoundRun.{IsPlanned, HasPlan, IsTested, Throughout, IsSublist, IsDelivered, none, taken}
 use Rattle.fb_model.proofs.Leads.{Leads, lead_on, lead_gap, lead_stay}
-use Rattle.fb_model.proofs.RowsUpTo.{delivered_rows}
 use Rattle.fb_model.proofs.Passages.{LiesOnDisk, requests_lie}
 use Rattle.fb_decide.proofs.Ways.{lead_service, have_angles}
 use Rattle.fb_decide.proofs.Chain.{Follow, services, decisions_follow}
@@ -38,11 +37,11 @@ use Rattle.fb_decide.specs.FullRuns.{RowsGoOn, ForeRowsBegin, ForeRowsEnd, RowsA
 -- the rows of a step that tell nothing of the head fall away
 step_timeline : (disk : Disk) (step : Step) (back : List BackRow) (fore : List ForeRow) → IsQuietStep step
     → timeline disk (step_rows disk step ++ back) fore
-    ≡ timeline disk (opening disk step.act ++ (delivered_rows step.deliveries ++ back)) fore
+    ≡ timeline disk (opening disk step.act ++ (delivery_rows step.deliveries ++ back)) fore
 step_timeline disk step back fore quiet =
-    ap (λ rows. timeline disk rows fore) (append_assoc (step.test ++ opening disk step.act) (delivered_rows step.deliveries) back
-    ∙ append_assoc step.test (opening disk step.act) (delivered_rows step.deliveries ++ back))
-    ∙ quiet_before disk step.test (opening disk step.act ++ (delivered_rows step.deliveries ++ back)) fore quiet.test
+    ap (λ rows. timeline disk rows fore) (append_assoc (step.test ++ opening disk step.act) (delivery_rows step.deliveries) back
+    ∙ append_assoc step.test (opening disk step.act) (delivery_rows step.deliveries ++ back))
+    ∙ quiet_before disk step.test (opening disk step.act ++ (delivery_rows step.deliveries ++ back)) fore quiet.test
 
 -- a gap by one of its plans, and the service behind it
 lead_serve : (disk : Disk) (medium : Medium) (head : Track) (now : ℕ) (request : Request) (plan : Plan) → IsSound disk.map
@@ -79,7 +78,7 @@ module _ (inputs : Inputs) (medium : Medium) (tasks : List BackRow) (quiet : All
 
   one_timeline : (step : Step) (steps : List Step) (fore : List ForeRow) → IsQuietStep step
       → timeline inputs.disk (back_rows (step ∷ steps)) fore
-      ≡ timeline inputs.disk (opening inputs.disk step.act ++ (delivered_rows step.deliveries ++ back_rows steps)) fore
+      ≡ timeline inputs.disk (opening inputs.disk step.act ++ (delivery_rows step.deliveries ++ back_rows steps)) fore
   one_timeline step steps fore silent =
       ap (λ rows. timeline inputs.disk rows fore) (append_assoc (step_rows inputs.disk step) (flat_map (step_rows inputs.disk) steps) tasks)
       ∙ step_timeline inputs.disk step (back_rows steps) fore silent
@@ -94,8 +93,8 @@ module _ (inputs : Inputs) (medium : Medium) (tasks : List BackRow) (quiet : All
   arrives_by head now step (serving served plan) steps follow silent is_plan rest =
       let fore = map (fore_row medium) (services (decisions_in steps)) in
       let to = last_track inputs.disk served in
-      let behind = timeline inputs.disk (delivered_rows step.deliveries ++ back_rows steps) fore in
-      let quiet_behind = quiet_before inputs.disk (delivered_rows step.deliveries) (back_rows steps) fore silent.delivered in
+      let behind = timeline inputs.disk (delivery_rows step.deliveries ++ back_rows steps) fore in
+      let quiet_behind = quiet_before inputs.disk (delivery_rows step.deliveries) (back_rows steps) fore silent.delivered in
       ap (led_to inputs.disk head now)
       (one_timeline (record step { act = serving served plan }) steps (fore_row medium served ∷ fore) silent)
       ∙ (lead_served inputs.disk medium head now served plan sound follow.0 follow.1 is_plan behind
@@ -106,14 +105,14 @@ module _ (inputs : Inputs) (medium : Medium) (tasks : List BackRow) (quiet : All
       let here : Leads inputs.disk head now (stay dwell.track dwell.begin dwell.end ∷ []) head dwell.end =
       rw (follow.0, follow.1) (lead_stay inputs.disk head now dwell.end follow.2) in
       ap (led_to inputs.disk head now) (one_timeline (record step { act = idling dwell }) steps fore silent)
-      ∙ (here (timeline inputs.disk (delivered_rows step.deliveries ++ back_rows steps) fore)
+      ∙ (here (timeline inputs.disk (delivery_rows step.deliveries ++ back_rows steps) fore)
       ∙ (ap (led_to inputs.disk head dwell.end)
-      (quiet_before inputs.disk (delivered_rows step.deliveries) (back_rows steps) fore silent.delivered)
+      (quiet_before inputs.disk (delivery_rows step.deliveries) (back_rows steps) fore silent.delivered)
       ∙ rest head dwell.end follow.3))
   arrives_by head now step (ending end) steps follow silent is_plan rest =
       let fore = map (fore_row medium) (services (decisions_in steps)) in
       ap (led_to inputs.disk head now) (one_timeline (record step { act = ending end }) steps fore silent
-      ∙ quiet_before inputs.disk (delivered_rows step.deliveries) (back_rows steps) fore silent.delivered)
+      ∙ quiet_before inputs.disk (delivery_rows step.deliveries) (back_rows steps) fore silent.delivered)
       ∙ (rest head now follow.1 ∙ ap (λ t. Some (fold (λ end decision. end_of decision) t (decisions_in steps))) (sym follow.0))
 
   arrives : (past : Past) (head : Track) (now : ℕ) (steps : List Step)

@@ -1,4 +1,4 @@
--- Deliveries in their order are those of the catches in their order; none is lost, and none is added.
+-- What is delivered of the wanted blocks, in its order: each once, none is lost, and none is added.
 use Rattle.std.proofs.Common.{◌≡◌, ℕ, ◌+◌, ◌<◌, ◌≤◌, ◌==◌, if◌then◌else◌, List, [], ◌∷◌, Bool, true, false, filter, inl, inr, arith, subst}
 use Rattle.std.proofs.Common.{◌||◌, not, map, refl, ap, sym, ◌∙◌, ◌++◌, Some, length, take, take_all, get_or, slice_get}
 use Rattle.std.specs.List.{AllByRecursion, list_any, fold}
@@ -9,7 +9,7 @@ use Rattle.std.proofs.lemmas.Option.{slice_get-get_or}
 use Rattle.std.proofs.lemmas.List.{length-map}
 use Rattle.fb_units.proofs.Lists.{all_filter, all_weaker, map_at, take_at}
 use Rattle.fb_units.proofs.Each.{all_any, all_map, all_with}
-use Rattle.fb_units.proofs.Alike.{filter_same}
+use Rattle.fb_units.proofs.Alike.{filter_same, list_any-map}
 use Rattle.fb_tasks.proofs.Registered.{itself}
 use Rattle.fb_geometry.specs.Shape.{Shape}
 use Rattle.fb_wanted.specs.declared.block.Block.{Block}
@@ -21,21 +21,20 @@ use Rattle.fb_tasks.specs.declared.session.Session.{Session}
 use Rattle.fb_tasks.specs.Standing.{AreNumbered}
 use Rattle.fb_tasks.specs.Telling.{Tells}
 use Rattle.fb_tasks.proofs.Deliveries.{numbered_from}
-use Rattle.fb_decide.specs.Deliveries.{AreDistinct, AreDue, IsOneOf, block_in, row_in, past_with, TellsUpToDate, HasDelivered, held_now}
+use Rattle.fb_decide.specs.Deliveries.{AreDistinct, AreDue, IsOneOf, block_in, past_with, TellsUpToDate, HasDelivered, held_now}
 use Rattle.fb_rows.specs.declared.gap.Dwell.{Dwell}
 use Rattle.fb_rows.specs.declared.gap.How.{How}
 use Rattle.fb_rows.specs.declared.back.DeliveryRow.{DeliveryRow}
 use Rattle.fb_service.specs.declared.disk.Disk.{Disk}
 use Rattle.fb_store.specs.Ranges.{Holding}
-use Rattle.fb_model.specs.Plans.{catches, block_begin, block_end}
-use Rattle.fb_model.specs.Deliveries.{placed, in_order, missed, delivery, caught_rows}
+use Rattle.fb_model.specs.Content.{ContentsAt}
+use Rattle.fb_model.specs.Plans.{catches}
+use Rattle.fb_model.specs.Deliveries.{is_before, placed, in_order, missed, catch_of, caught_of, delivery_row, caught_rows}
+use Rattle.fb_model.proofs.Placing.{AnyTwo, all_filtered, all_in_order, two_in_order}
 use Rattle.fb_rows.specs.declared.gap.Catch.{Catch}
-use Rattle.fb_plan.specs.Order.{is_before, place_in, catch_of, caught_of}
-use Rattle.fb_plan.proofs.Sorted.{put_front, put_behind}
 use Rattle.fb_decide.proofs.Delivering.{none_of, wanted-with, next-wanted, delivered-join, past_with-append, wanted-told}
 use Rattle.fb_rows.specs.declared.back.BackRow.{BackRow}
 use Rattle.fb_decide.specs.declared.background.Background.{Background}
-use Rattle.fb_model.specs.Deliveries as rides
 use Rattle.fb_decide.proofs.RegisteredBlocks.{each_in}
 
 -- ---- registered blocks are told apart by task and number
@@ -85,123 +84,50 @@ unfolding wanted view
 wanted-distinct {past} tells = filter-distinct (λ b. is_wanted (state past b)) (registered past) (numbered-distinct (registered past)
     (λ task. (0, (tells.placed task).numbered)))
 
--- ---- deliveries in their order are those of the catches in their order; none is lost, and none is added
+-- ---- what is delivered of the wanted blocks: each once, none is lost, and none is added
 
-abbrev goes_before : DeliveryRow → DeliveryRow → Bool
-goes_before a b = rides.is_before a.end a.block b.end b.block
+-- of catches of different blocks, no two rows are of one block
+abbrev AreApart : Catch → Catch → Type 0
+AreApart a b = same_block a.block b.block ≡ false
 
-row-placed : (holding : Holding) (how : How) (found : List Catch) (c : Catch)
-    → map (row_in holding how) (place_in found c) ≡ placed (map (row_in holding how) found) (row_in holding how c)
-row-placed holding how [] c = refl
-row-placed holding how (x ∷ xs) c = elim (cases_Bool (is_before c x)) [
-  | inl front ↦ ap (map (row_in holding how)) (put_front x c xs front) ∙ rw front refl
-  | inr behind ↦ ap (map (row_in holding how)) (put_behind x c xs behind)
-      ∙ rw behind (ap (λ rs. row_in holding how x ∷ rs) (row-placed holding how xs c))
-]
+apart_either_way : (a b : Catch) → AreApart a b → AreApart b a
+apart_either_way a b h = either_way a.block b.block h
 
-rows-placed : (holding : Holding) (how : How) (acc cs : List Catch)
-    → map (row_in holding how) (fold place_in acc cs) ≡ fold placed (map (row_in holding how) acc) (map (row_in holding how) cs)
-rows-placed holding how acc [] = refl
-rows-placed holding how acc (c ∷ cs) =
-    rows-placed holding how (place_in acc c) cs ∙ ap (λ rs. fold placed rs (map (row_in holding how) cs)) (row-placed holding how acc c)
-
--- the deliveries of catches in their order
-pub rows-in_order : (holding : Holding) (how : How) (cs : List Catch)
-    → map (row_in holding how) (fold place_in [] cs) ≡ in_order (map (row_in holding how) cs)
-rows-in_order holding how cs = rows-placed holding how [] cs
-
-abbrev pub delivery_by : Disk → Holding → How → Dwell → Block → DeliveryRow
-delivery_by disk holding how dwell block =
-    delivery (held_now holding) how block (block_begin disk.map block dwell.begin) (block_end disk.map block dwell.begin)
-
-rows_by : (disk : Disk) (holding : Holding) (how : How) (dwell : Dwell) (bs : List Block)
-    → map (row_in holding how) (map (catch_of disk dwell) bs) ≡ map (delivery_by disk holding how dwell) bs
-rows_by disk holding how dwell [] = refl
-rows_by disk holding how dwell (b ∷ bs) = ap (λ rs. delivery_by disk holding how dwell b ∷ rs) (rows_by disk holding how dwell bs)
-
--- those of a dwell's catches
-pub rows-caught : (disk : Disk) (holding : Holding) (how : How) (dwell : Dwell) (bs : List Block)
-    → map (row_in holding how) (caught_of disk dwell bs) ≡ caught_rows disk (held_now holding) how dwell bs
-unfolding caught_of
-rows-caught disk holding how dwell bs = rows-in_order holding how (map (catch_of disk dwell) (filter (catches disk dwell) bs))
-    ∙ ap in_order (rows_by disk holding how dwell (filter (catches disk dwell) bs))
-
--- what holds of each row holds of each in order
-placed-all : (P : DeliveryRow → Type 0) (rows : List DeliveryRow) (row : DeliveryRow) → P row → AllByRecursion P rows
-    → AllByRecursion P (placed rows row)
-placed-all P [] row p all = (p, tt)
-placed-all P (x ∷ xs) row p all = grind (arith, p, all, placed-all P xs row p all.1)
-
-placed-each : (P : DeliveryRow → Type 0) (acc rows : List DeliveryRow) → AllByRecursion P acc → AllByRecursion P rows
-    → AllByRecursion P (fold placed acc rows)
-placed-each P acc [] a r = a
-placed-each P acc (x ∷ xs) a r = placed-each P (placed acc x) xs (placed-all P acc x r.0 a) r.1
-
-pub in_order-each : (P : DeliveryRow → Type 0) (rows : List DeliveryRow) → AllByRecursion P rows → AllByRecursion P (in_order rows)
-in_order-each P rows all = placed-each P [] rows tt all
-
--- and so does that they are of different blocks
-abbrev AreApart : List DeliveryRow → Type 0
-AreApart [] = Unit {0}
-AreApart (got ∷ gots) = AllByRecursion (λ other. same_block got.block other.block ≡ false) gots × AreApart gots
-
-placed-apart : (rows : List DeliveryRow) (row : DeliveryRow) → AllByRecursion (λ other. same_block row.block other.block ≡ false) rows
-    → AreApart rows → AreApart (placed rows row)
-placed-apart [] row all apart = (tt, tt)
-placed-apart (x ∷ xs) row all apart = elim (cases_Bool (goes_before row x)) [
-  | inl front ↦ rw front (all, apart)
-  | inr behind ↦ rw behind (
-    placed-all (λ other. same_block x.block other.block ≡ false) xs row (either_way row.block x.block all.0) apart.0,
-    placed-apart xs row all.1 apart.1,
-  )
-]
-
-all_places : (x : DeliveryRow) (acc xs : List DeliveryRow)
-    → AllByRecursion (λ row. AllByRecursion (λ other. same_block row.block other.block ≡ false) acc) xs
-    → AllByRecursion (λ other. same_block x.block other.block ≡ false) xs
-    → AllByRecursion (λ row. AllByRecursion (λ other. same_block row.block other.block ≡ false) (placed acc x)) xs
-all_places x acc [] all apart = tt
-all_places x acc (y ∷ ys) all apart = (
-  placed-all (λ other. same_block y.block other.block ≡ false) acc x (either_way x.block y.block apart.0) all.0,
-  all_places x acc ys all.1 apart.1,
+distinct_rows : (row : Catch → DeliveryRow) → ((c : Catch) → (row c).block ≡ c.block) → (found : List Catch)
+    → AnyTwo AreApart apart_either_way found → AreDistinct (map block_in (map row found))
+distinct_rows row its [] h = tt
+distinct_rows row its (c ∷ found) h = (
+  all_map (λ b. same_block (row c).block b ≡ false) block_in (map row found)
+      (all_map (λ got. same_block (row c).block got.block ≡ false) row found
+      (all_weaker (AreApart c) (λ d. same_block (row c).block (row d).block ≡ false) (λ d e. rw (its c, its d) e) found h.0)),
+  distinct_rows row its found h.1,
 )
 
-fold-apart : (acc rows : List DeliveryRow)
-    → AreApart acc → AllByRecursion (λ row. AllByRecursion (λ other. same_block row.block other.block ≡ false) acc) rows → AreApart rows
-    → AreApart (fold placed acc rows)
-fold-apart acc [] a all r = a
-fold-apart acc (x ∷ xs) a all r = fold-apart (placed acc x) xs (placed-apart acc x all.0 a) (all_places x acc xs all.1 r.0) r.1
-
-distinct_by : (rows : List DeliveryRow) → AreApart rows → AreDistinct (map block_in rows)
-distinct_by [] h = tt
-distinct_by (x ∷ xs) h = (all_map (λ b. same_block x.block b ≡ false) block_in xs h.0, distinct_by xs h.1)
-
-pub in_order-distinct : (rows : List DeliveryRow) → AreApart rows → AreDistinct (map block_in (in_order rows))
-in_order-distinct rows apart = distinct_by (in_order rows) (fold-apart [] rows tt (all_any _ (λ row. tt) rows) apart)
-
-apart_by : (f : Block → DeliveryRow) → ((b : Block) → (f b).block ≡ b) → (bs : List Block) → AreDistinct bs → AreApart (map f bs)
+apart_by : (f : Block → Catch) → ((b : Block) → (f b).block ≡ b) → (bs : List Block) → AreDistinct bs
+    → AnyTwo AreApart apart_either_way (map f bs)
 apart_by f own [] h = tt
 apart_by f own (b ∷ bs) h = (
-  all_map (λ got. same_block (f b).block got.block ≡ false) f bs
-      (all_weaker (λ c. same_block b c ≡ false) (λ c. same_block (f b).block (f c).block ≡ false)
-      (λ c e. ap (λ x. same_block x (f c).block) (own b) ∙ (ap (same_block b) (own c) ∙ e)) bs h.0),
+  all_map (AreApart (f b)) f bs
+      (all_weaker (λ c. same_block b c ≡ false) (λ c. AreApart (f b) (f c)) (λ c e. rw (own b, own c) e) bs h.0),
   apart_by f own bs h.1,
 )
 
 -- the deliveries of some of the wanted blocks, in order, are of different wanted blocks
-pub due-filtered : (past : Past) (p : Block → Bool) (f : Block → DeliveryRow) → ((b : Block) → (f b).block ≡ b) → AreDistinct (wanted past)
-    → AreDue past (in_order (map f (filter p (wanted past))))
-due-filtered past p f own distinct = record {
-  each = in_order-each (λ got. IsOneOf (wanted past) got.block) (map f (filter p (wanted past)))
-      (all_map (λ got. IsOneOf (wanted past) got.block) f (filter p (wanted past))
-      (all_weaker (IsOneOf (wanted past)) (λ b. IsOneOf (wanted past) (f b).block) (λ b h. subst (IsOneOf (wanted past)) (sym (own b)) h)
-      (filter p (wanted past))
-      (all_filter (IsOneOf (wanted past)) p (wanted past) (each_in (wanted past)))));
-  distinct = in_order-distinct (map f (filter p (wanted past))) (apart_by f own (filter p (wanted past))
-      (filter-distinct p (wanted past) distinct));
-}
+pub due-filtered : (contents : ContentsAt) (how : How) (past : Past) (p : Block → Bool) (f : Block → Catch)
+    → ((b : Block) → (f b).block ≡ b) → AreDistinct (wanted past)
+    → AreDue past (map (delivery_row contents how) (in_order (map f (filter p (wanted past)))))
+due-filtered contents how past p f own distinct =
+    let found = map f (filter p (wanted past)) in
+    let row = delivery_row contents how in
+    record {
+      each = all_map (λ got. IsOneOf (wanted past) got.block) row (in_order found) (all_in_order (λ c. IsOneOf (wanted past) c.block) found
+          (all_filtered (λ (c : Catch). IsOneOf (wanted past) c.block) (IsOneOf (wanted past)) p f
+          (λ b h passes. subst (IsOneOf (wanted past)) (sym (own b)) h) (wanted past) (each_in (wanted past))));
+      distinct = distinct_rows row (λ c. refl) (in_order found)
+          (two_in_order AreApart apart_either_way found (apart_by f own (filter p (wanted past)) (filter-distinct p (wanted past) distinct)));
+    }
 
-any-placed : (p : DeliveryRow → Bool) (rows : List DeliveryRow) (row : DeliveryRow)
+any-placed : (p : Catch → Bool) (rows : List Catch) (row : Catch)
     → list_any p (placed rows row) ≡ (p row || list_any p rows)
 any-placed p [] row = refl
 any-placed p (x ∷ xs) row = grind (arith, any-placed p xs row)
@@ -209,13 +135,13 @@ any-placed p (x ∷ xs) row = grind (arith, any-placed p xs row)
 or_moved : (a b c : Bool) → ((a || b) || c) ≡ (b || (a || c))
 or_moved a b c = grind arith
 
-any-fold : (p : DeliveryRow → Bool) (acc rows : List DeliveryRow) → list_any p (fold placed acc rows) ≡ (list_any p acc || list_any p rows)
+any-fold : (p : Catch → Bool) (acc rows : List Catch) → list_any p (fold placed acc rows) ≡ (list_any p acc || list_any p rows)
 any-fold p acc [] = sym (or-false (list_any p acc))
 any-fold p acc (x ∷ xs) =
     any-fold p (placed acc x) xs ∙ (ap (λ b. b || list_any p xs) (any-placed p acc x) ∙ or_moved (p x) (list_any p acc) (list_any p xs))
 
-any_by : (f : Block → DeliveryRow) → ((b : Block) → (f b).block ≡ b) → (block : Block) (bs : List Block)
-    → list_any (λ got. same_block got.block block) (map f bs) ≡ list_any (λ b. same_block b block) bs
+any_by : (f : Block → Catch) → ((b : Block) → (f b).block ≡ b) → (block : Block) (bs : List Block)
+    → list_any (λ c. same_block c.block block) (map f bs) ≡ list_any (λ b. same_block b block) bs
 any_by f own block [] = refl
 any_by f own block (b ∷ bs) = rw (own b, any_by f own block bs) refl
 
@@ -240,26 +166,32 @@ passes p (x ∷ xs) h = elim (cases_Bool (p x)) [
   )
 ]
 
-pub left-filtered : (past : Past) (p : Block → Bool) (f : Block → DeliveryRow) → ((b : Block) → (f b).block ≡ b) → AreDistinct (wanted past)
-    → wanted (past_with past (in_order (map f (filter p (wanted past))))) ≡ filter (λ b. not (p b)) (wanted past)
-left-filtered past p f own distinct =
-    wanted-with past (in_order (map f (filter p (wanted past))))
-    ∙ filter_same (none_of (in_order (map f (filter p (wanted past))))) (λ b. not (p b)) (wanted past)
-    (all_weaker (λ b. list_any (λ y. same_block y b) (filter p (wanted past)) ≡ p b)
-    (λ b. none_of (in_order (map f (filter p (wanted past)))) b ≡ not (p b))
-    (λ b e. ap not (any-fold (λ got. same_block got.block b) [] (map f (filter p (wanted past)))
-    ∙ (any_by f own b (filter p (wanted past)) ∙ e))) (wanted past) (passes p (wanted past) distinct))
+pub left-filtered : (contents : ContentsAt) (how : How) (past : Past) (p : Block → Bool) (f : Block → Catch)
+    → ((b : Block) → (f b).block ≡ b) → AreDistinct (wanted past)
+    → wanted (past_with past (map (delivery_row contents how) (in_order (map f (filter p (wanted past))))))
+    ≡ filter (λ b. not (p b)) (wanted past)
+left-filtered contents how past p f own distinct =
+    let found = map f (filter p (wanted past)) in
+    let rows = map (delivery_row contents how) (in_order found) in
+    wanted-with past rows
+    ∙ filter_same (none_of rows) (λ b. not (p b)) (wanted past)
+    (all_weaker (λ b. list_any (λ y. same_block y b) (filter p (wanted past)) ≡ p b) (λ b. none_of rows b ≡ not (p b))
+    (λ b e. ap not (list_any-map (λ got. same_block got.block b) (delivery_row contents how) (in_order found)
+    ∙ (any-fold (λ c. same_block c.block b) [] found ∙ (any_by f own b (filter p (wanted past)) ∙ e))))
+    (wanted past) (passes p (wanted past) distinct))
 
 -- what a dwell catches, and what it misses
 pub due-caught : (disk : Disk) (holding : Holding) (how : How) (dwell : Dwell) (past : Past) → AreDistinct (wanted past)
     → AreDue past (caught_rows disk (held_now holding) how dwell (wanted past))
+unfolding caught_of
 due-caught disk holding how dwell past distinct =
-    due-filtered past (catches disk dwell) (delivery_by disk holding how dwell) (λ b. refl) distinct
+    due-filtered (held_now holding) how past (catches disk dwell) (catch_of disk dwell) (λ b. refl) distinct
 
 pub left-caught : (disk : Disk) (holding : Holding) (how : How) (dwell : Dwell) (past : Past) → AreDistinct (wanted past)
     → wanted (past_with past (caught_rows disk (held_now holding) how dwell (wanted past))) ≡ missed disk dwell (wanted past)
+unfolding caught_of
 left-caught disk holding how dwell past distinct =
-    left-filtered past (catches disk dwell) (delivery_by disk holding how dwell) (λ b. refl) distinct
+    left-filtered (held_now holding) how past (catches disk dwell) (catch_of disk dwell) (λ b. refl) distinct
 
 -- ---- the catches of a dwell are delivered one after another
 
@@ -273,25 +205,25 @@ delivered-more {disk} {past} {rows} {after} gots k got at first next =
 
 -- the next of some catches that are due is still wanted
 pub row-at : (holding : Holding) (how : How) (cs : List Catch) (k : ℕ) (d : Catch) → k < length cs
-    → slice_get (map (row_in holding how) cs) k ≡ Some (row_in holding how (get_or cs k d))
-row-at holding how cs k d less = map_at (row_in holding how) cs k (get_or cs k d) (slice_get-get_or cs k d less)
+    → slice_get (map (delivery_row (held_now holding) how) cs) k ≡ Some (delivery_row (held_now holding) how (get_or cs k d))
+row-at holding how cs k d less = map_at (delivery_row (held_now holding) how) cs k (get_or cs k d) (slice_get-get_or cs k d less)
 
-pub next-catch : (holding : Holding) (how : How) (past : Past) (cs : List Catch) → AreDue past (map (row_in holding how) cs)
+pub next-catch : (holding : Holding) (how : How) (past : Past) (cs : List Catch) → AreDue past (map (delivery_row (held_now holding) how) cs)
     → (k : ℕ) (d : Catch) → k < length cs
-    → IsOneOf (wanted (past_with past (take k (map (row_in holding how) cs)))) (get_or cs k d).block
+    → IsOneOf (wanted (past_with past (take k (map (delivery_row (held_now holding) how) cs)))) (get_or cs k d).block
 next-catch holding how past cs due k d less =
-    next-wanted past (map (row_in holding how) cs) k (row_in holding how (get_or cs k d)) due (row-at holding how cs k d less)
+    next-wanted past (map (delivery_row (held_now holding) how) cs) k (delivery_row (held_now holding) how (get_or cs k d)) due (row-at holding how cs k d less)
 
 pub all-taken : (holding : Holding) (how : How) (cs : List Catch) (n : ℕ) → length cs ≤ n
-    → take n (map (row_in holding how) cs) ≡ map (row_in holding how) cs
-all-taken holding how cs n enough = take_all n (map (row_in holding how) cs) (omega (arith, enough, length-map cs (row_in holding how)))
+    → take n (map (delivery_row (held_now holding) how) cs) ≡ map (delivery_row (held_now holding) how) cs
+all-taken holding how cs n enough = take_all n (map (delivery_row (held_now holding) how) cs) (omega (arith, enough, length-map cs (delivery_row (held_now holding) how)))
 
 -- the catches of a dwell are its deliveries
 pub rows-of_catches : (disk : Disk) (holding : Holding) (how : How) (dwell : Dwell) (past : Past) (before : Background)
     → TellsUpToDate disk.map past before → (cs : List Catch) → cs ≡ caught_of disk dwell (wanted_of before.blocks)
-    → map (row_in holding how) cs ≡ caught_rows disk (held_now holding) how dwell (wanted past)
-rows-of_catches disk holding how dwell past before current cs all = ap (map (row_in holding how)) (all
-    ∙ ap (caught_of disk dwell) (wanted-told current.tells)) ∙ rows-caught disk holding how dwell (wanted past)
+    → map (delivery_row (held_now holding) how) cs ≡ caught_rows disk (held_now holding) how dwell (wanted past)
+rows-of_catches disk holding how dwell past before current cs all =
+    ap (map (delivery_row (held_now holding) how)) (all ∙ ap (caught_of disk dwell) (wanted-told current.tells))
 
 -- what one dwell catches, and then what another one catches of what is left
 module _ (disk : Disk) (holding : Holding) (how : How) (early late : Dwell) (past : Past) where

@@ -18,9 +18,8 @@ use Rattle.fb_model.specs.History.{Past, delivered, task_numbers, terms_of, is_o
 use Rattle.fb_model.specs.Completion.{choices, work, is_complete, was_complete}
 use Rattle.fb_model.specs.Images.{bad_sectors, is_scrub, findings, is_newly_cleaned, image, packed, segment_rows, seal_rows, complete_rows}
 use Rattle.fb_model.specs.Images.{test_rows}
-use Rattle.fb_model.specs.Steps.{Delivery, Step, decision_in, with_delivery, tested_past, chosen_past, task_row, task_rows}
+use Rattle.fb_model.specs.Steps.{Delivery, Step, decision_in, with_delivery, tested_past, chosen_past, task_row, task_rows, delivery_rows}
 use Rattle.fb_model.specs.SoundRun.{AreFollowed, IsTested}
-use Rattle.fb_model.proofs.RowsUpTo.{delivered_rows}
 
 -- no gap row and no idle row
 abbrev pub IsQuiet : BackRow → Type 0
@@ -81,14 +80,14 @@ tasks_quiet past = all_map IsQuiet (task_row past) (task_numbers past) (all_any 
 
 pub record IsQuietStep (step : Step) : Type 0 where
   pub test : AllByRecursion IsQuiet step.test
-  pub delivered : AllByRecursion IsQuiet (delivered_rows step.deliveries)
+  pub delivered : AllByRecursion IsQuiet (delivery_rows step.deliveries)
 
 followed_quiet : (medium : Medium) (past : Past) (deliveries : List Delivery) → AreFollowed medium past deliveries
-    → AllByRecursion IsQuiet (delivered_rows deliveries)
+    → AllByRecursion IsQuiet (delivery_rows deliveries)
 followed_quiet medium past [] followed = tt
 followed_quiet medium past (delivery ∷ deliveries) followed = (
   tt,
-  all_append IsQuiet delivery.after (delivered_rows deliveries)
+  all_append IsQuiet delivery.after (delivery_rows deliveries)
       (subst (AllByRecursion IsQuiet) (sym followed.0)
       (all_append IsQuiet (findings past delivery.got) (test_rows medium (delivered delivery.got ∷ past) delivery.got.end)
       (findings_quiet past delivery.got) (test_quiet medium (delivered delivery.got ∷ past) delivery.got.end)))

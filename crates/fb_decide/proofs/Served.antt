@@ -29,7 +29,8 @@ use Rattle.fb_model.proofs.Passages.{from_on, passed_between}
 use Rattle.fb_plan.specs.Ways.{IsGap}
 use Rattle.fb_tasks.specs.Telling.{Tells}
 use Rattle.fb_decide.specs.declared.background.Background.{Background}
-use Rattle.fb_decide.specs.Deliveries.{TellsUpToDate, HasDelivered, HasDeliveredAround, HasServed, followed, past_with, rows_of, held_now}
+use Rattle.fb_decide.specs.Deliveries.{TellsUpToDate, HasDelivered, HasDeliveredAround, HasServed, followed, past_with, held_now}
+use Rattle.fb_model.specs.Steps.{delivery_rows}
 use Rattle.fb_decide.proofs.Delivering.{delivered-join}
 
 abbrev pub gap_from : Track → ℕ → Bool → Track → ℕ → Gap
@@ -137,6 +138,6 @@ has-served disk holding past served rows middle after all ends same =
       plan = all.plan;
       best = all.best;
       tells = ends (past_with past gots) all.delivered.current.tells;
-      rows_after = same ∙ (all.delivered.rows_after ∙ append_assoc rows (line ∷ []) (rows_of (followed past gots)));
+      rows_after = same ∙ (all.delivered.rows_after ∙ append_assoc rows (line ∷ []) (delivery_rows (followed past gots)));
       registered = all.delivered.registered;
     }

@@ -16,15 +16,15 @@ use Rattle.fb_model.specs.PlainReplay.{Served, service}
 use Rattle.fb_model.specs.Decisions.{Decision, serves, idles, ends, instant_of, end_of, Act, serving, idling, ending, decision_of}
 use Rattle.fb_model.specs.Deliveries.{due, caught_rows}
 use Rattle.fb_model.specs.History.{Past, tested, tasks, registered, wanted, state, bare_state}
-use Rattle.fb_model.specs.Steps.{Delivery, Step, decision_in, chosen_past, past_after, with_delivery, with_finish, opening, step_rows}
+use Rattle.fb_model.specs.Steps.{Delivery, Step, decision_in, chosen_past, past_after, with_delivery, with_finish, opening, step_rows, delivery_rows, chosen_by}
 use Rattle.fb_model.specs.SoundRun.{IsTested}
 use Rattle.fb_model.specs.FullRun.{HasBestPlan}
 use Rattle.fb_tasks.specs.Taken.{delivery_of}
 use Rattle.fb_tasks.specs.Telling.{Tells, IsBlockOf}
 use Rattle.fb_decide.specs.declared.background.Background.{Background}
 use Rattle.fb_decide.specs.declared.deciding.Course.{Course}
-use Rattle.fb_decide.specs.Calls.{IsCalled, HasPrepared, tested_by, chosen_by, test_rows_by}
-use Rattle.fb_decide.specs.Deliveries.{HasDelivered, HasServed, IsRegistered, followed, past_with, rows_of, held_now}
+use Rattle.fb_decide.specs.Calls.{IsCalled, HasPrepared, tested_by, test_rows_by}
+use Rattle.fb_decide.specs.Deliveries.{HasDelivered, HasServed, IsRegistered, followed, past_with, held_now}
 use Rattle.fb_decide.specs.Standing.{Mirrors, IsFoundIn, IsTrue}
 use Rattle.fb_decide.specs.Deciding.{HasServedNext, HasStayed, dwell_until, ready_to_act}
 use Rattle.fb_decide.specs.Making.{IsMade}
@@ -92,7 +92,7 @@ module _ (inputs : Inputs) (past : Past) (before : Course) (background : Backgro
     pub there : AllByRecursion (λ got. IsRegistered then got.block) gots
     pub best : HasBestPlan inputs.disk (wanted then) act
     pub all : gots ≡ due (medium_of inputs).disk (contents_at (medium_of inputs)) act (wanted then)
-    pub rows_behind : after.background.rows ≡ (background.rows ++ opening inputs.disk act) ++ rows_of (followed then gots)
+    pub rows_behind : after.background.rows ≡ (background.rows ++ opening inputs.disk act) ++ delivery_rows (followed then gots)
     pub tells_after : Tells inputs.disk.map (with_finish (past_with then gots) decision) after.background.sessions after.background.blocks
     pub contents : LeftBy decision before.store after.store
     pub same_called : after.called ≡ called
@@ -123,7 +123,7 @@ module _ (inputs : Inputs) (past : Past) (before : Course) (background : Backgro
     pub stepped : HasStepped inputs past before step after
     stepped = record {
       rows_after = rows_join before.background.rows (test_rows_by inputs.disk.map inputs.calls past (instant_of decision))
-          (opening inputs.disk act) (rows_of (followed then gots))
+          (opening inputs.disk act) (delivery_rows (followed then gots))
           after.background.rows background.rows test.rows_after h.rows_behind;
       tells = subst (λ p. Tells inputs.disk.map p after.background.sessions after.background.blocks) (sym after_is) h.tells_after;
       is_made = record {
@@ -196,7 +196,7 @@ module _ (inputs : Inputs) (past : Past) (before : Course) (background : Backgro
       all = due_same (medium_of inputs) before.store served_act (held_until served)
           (wanted tested_now) refl has_served.best.is_plan over all_some mirrors;
       rows_behind = has_served.rows_after
-          ∙ sym (append_assoc background.rows (opening inputs.disk served_act) (rows_of (followed tested_now served_gots)));
+          ∙ sym (append_assoc background.rows (opening inputs.disk served_act) (delivery_rows (followed tested_now served_gots)));
       tells_after = has_served.tells;
       contents = now_served.contents;
       same_called = now_served.same_called;

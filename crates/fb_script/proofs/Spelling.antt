@@ -9,7 +9,7 @@ use Rattle.fb_units.specs.Numbers.{millis_of, number_of}
 use Rattle.fb_calls.specs.declared.call.Action.{Action}
 use Rattle.fb_calls.specs.declared.call.Action.TheVariants.{Open, Want, Abort, Promote, Suspend, Resume, Close, Segment}
 use Rattle.fb_script.specs.declared.fault.CallsReason.{CallsReason}
-use Rattle.fb_script.specs.declared.fault.CallsReason.TheVariants.{BackBad, BadTime, BadNumber, UnknownKind}
+use Rattle.fb_script.specs.declared.fault.CallsReason.TheVariants.{BadLine, BadTime, BadNumber, UnknownKind}
 use Rattle.fb_script.specs.declared.words.Verb.{Verb}
 use Rattle.fb_script.specs.declared.words.Verb.TheVariants.{Open as OpenVerb, Want as WantVerb, Abort as AbortVerb, Promote as PromoteVerb}
 use Rattle.fb_script.specs.declared.words.Verb.TheVariants.{Suspend as SuspendVerb, Resume as ResumeVerb, Close as CloseVerb}
@@ -87,7 +87,7 @@ entry_within [] entry given = cc
 entry_within (time ∷ []) entry given = cc
 entry_within (time ∷ verb ∷ []) entry given = cc
 entry_within (time ∷ verb ∷ name ∷ more) entry given =
-    let whole = passed BackBad (not (has_its_fields (verb_of verb) (length more) && is_name name)) _ entry given in
+    let whole = passed BadLine (not (has_its_fields (verb_of verb) (length more) && is_name name)) _ entry given in
     let instant = both_ok (or_refuse BadTime (millis_of time)) _ entry whole.1 in
     let asked = both_ok (asked_by (verb_of verb) more) _ entry instant.2 in
     subst IsWithinEntry (same_Ok _ entry asked.2)

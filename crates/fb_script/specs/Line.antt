@@ -5,7 +5,7 @@ use Rattle.fb_units.specs.Numbers.{millis_of, number_of}
 use Rattle.fb_calls.specs.declared.call.Action.{Action}
 use Rattle.fb_calls.specs.declared.call.Action.TheVariants.{Open, Want, Abort, Promote, Suspend, Resume, Close, Segment}
 use Rattle.fb_script.specs.declared.fault.CallsReason.{CallsReason}
-use Rattle.fb_script.specs.declared.fault.CallsReason.TheVariants.{BackBad, BadTime, BadNumber, UnknownVerb, UnknownKind}
+use Rattle.fb_script.specs.declared.fault.CallsReason.TheVariants.{BadLine, BadTime, BadNumber, UnknownVerb, UnknownKind}
 use Rattle.fb_script.specs.declared.words.Verb.{Verb}
 use Rattle.fb_script.specs.declared.words.Verb.TheVariants.{Open as OpenVerb, Want as WantVerb, Abort as AbortVerb, Promote as PromoteVerb}
 use Rattle.fb_script.specs.declared.words.Verb.TheVariants.{Suspend as SuspendVerb, Resume as ResumeVerb, Close as CloseVerb}
@@ -30,7 +30,7 @@ range_of (first_text ∷ count_text ∷ []) = do
   first ← number 4 first_text
   count ← number 5 count_text
   Ok (first, count)
-range_of _ = Err BackBad
+range_of _ = Err BadLine
 
 -- what a verb asks for with the fields that follow the name of the task
 unfoldable pub asked_by : Option Verb → List (List ℕ) → Result (Result Action CallsReason) CallsReason
@@ -51,7 +51,7 @@ asked_by (Some SegmentVerb) (first_text ∷ blocks_text ∷ age_text ∷ live_te
   age ← number 6 age_text
   live ← or_refuse (BadNumber 7) (live_of blocks live_text)
   Ok (Ok (Segment first blocks age live))
-asked_by _ _ = Err BackBad
+asked_by _ _ = Err BadLine
 
 -- a known verb is followed by its number of fields; an unknown one may have any
 abbrev pub has_its_fields : Option Verb → ℕ → Bool
@@ -61,8 +61,8 @@ has_its_fields (Some verb) fields = fields == fields_behind verb
 -- the values of a time, a verb, the name of a task and what the verb asks for, or the first reason why they have none
 unfoldable pub entry_of : List (List ℕ) → Result Entry CallsReason
 entry_of (time ∷ verb ∷ name ∷ more) = do
-  refuse BackBad (not (has_its_fields (verb_of verb) (length more) && is_name name))
+  refuse BadLine (not (has_its_fields (verb_of verb) (length more) && is_name name))
   instant ← or_refuse BadTime (millis_of time)
   asked ← asked_by (verb_of verb) more
   Ok (record { instant = instant; name = name; asked = asked })
-entry_of _ = Err BackBad
+entry_of _ = Err BadLine

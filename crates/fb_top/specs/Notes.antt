@@ -59,7 +59,7 @@ trace_reason trace.TooMany = codes "TooMany"
 
 -- why a line of a script is refused
 abbrev pub calls_reason : CallsReason → List ℕ
-calls_reason calls.BackBad = codes "BackBad"
+calls_reason calls.BadLine = codes "BadLine"
 calls_reason calls.BadTime = codes "BadTime"
 calls_reason (calls.BadNumber field) = valued (codes "BadNumber") (decimal field)
 calls_reason calls.OutOfOrder = codes "OutOfOrder"
@@ -80,7 +80,7 @@ calls_reason calls.TooMany = codes "TooMany"
 
 -- why a line of a puts file is refused
 abbrev pub puts_reason : PutsReason → List ℕ
-puts_reason puts.BackBad = codes "BackBad"
+puts_reason puts.BadLine = codes "BadLine"
 puts_reason puts.BadTime = codes "BadTime"
 puts_reason (puts.BadNumber field) = valued (codes "BadNumber") (decimal field)
 puts_reason puts.OutOfOrder = codes "OutOfOrder"

@@ -2,10 +2,9 @@ use Rattle.std.proofs.Common.{◌≡◌, ◌∙◌, ◌&&◌, ap, arith, length,
 use Rattle.std.proofs.Math.Seq.{take-length}
 use Rattle.fb_service.specs.Extents.{all_passages_of}
 use Rattle.fb_model.specs.Blocks.{IsBlockOn}
-use Rattle.fb_model.specs.Deliveries.{lies_in}
+use Rattle.fb_model.specs.Deliveries.{in_order, lies_in, ride_of}
 use Rattle.fb_plan.proofs.AnyOrder.{any-order, on-its-track}
-use Rattle.fb_plan.specs.Order.{in_order}
-use Rattle.fb_decide.specs.Carried.{added, begins_in, ride_of}
+use Rattle.fb_decide.specs.Carried.{added, begins_in}
 use Rattle.fb_decide.proofs.Carrying.{added_more}
 use Rattle.fb_decide.proofs.riding.add_carried.Goals as goal
 

@@ -1,7 +1,8 @@
 use Rattle.std.proofs.Common.{map, take, arith, subst}
-use Rattle.fb_decide.specs.Deliveries.{HasDelivered, past_with, row_in}
+use Rattle.fb_decide.specs.Deliveries.{HasDelivered, past_with, held_now}
 use Rattle.fb_decide.proofs.Delivering.{delivered-none}
 use Rattle.fb_decide.proofs.Placing.{delivered-more, row-at, next-catch, all-taken}
+use Rattle.fb_model.specs.Deliveries.{delivery_row}
 use Rattle.fb_decide.proofs.background.Background.deliver_all.Goals as goal
 
 pub loop-catch-init : goal.loop-catch-init
@@ -18,7 +19,7 @@ deliver-requires c =
     record {
       wanted = (
         disk,
-        past_with past (take k (map (row_in c.args.store.now c.args.how) c.args.catches.now)),
+        past_with past (take k (map (delivery_row (held_now c.args.store.now) c.args.how) c.args.catches.now)),
         next.0,
         (c.loop-catch.invariant disk past current due).current,
         next.1,
@@ -27,7 +28,7 @@ deliver-requires c =
 
 pub loop-catch-preserved : goal.loop-catch-preserved
 loop-catch-preserved c = λ disk past current due.
-    let gots = map (row_in c.args.store.now c.args.how) c.args.catches.now in
+    let gots = map (delivery_row (held_now c.args.store.now) c.args.how) c.args.catches.now in
     let k = c.loop-catch.catch-index in
     let next = next-catch c.args.store.now c.args.how past c.args.catches.now due k _ c.loop-catch-test.true in
     let first = c.loop-catch.invariant disk past current due in

@@ -1,11 +1,10 @@
 use Rattle.std.proofs.Common.{◌∙◌, ◌≡◌, ap, sym, subst, map}
 use Rattle.std.proofs.lemmas.Result.{on_ok_weaker}
-use Rattle.fb_model.specs.Deliveries.{rides}
+use Rattle.fb_model.specs.Deliveries.{carried_of, delivery_row, rides}
 use Rattle.fb_rows.specs.declared.gap.How.TheVariants.{Ride as ByRide}
 use Rattle.fb_wanted.specs.States.{wanted_of}
 use Rattle.fb_model.specs.History.{wanted}
-use Rattle.fb_decide.specs.Carried.{carried_of}
-use Rattle.fb_decide.specs.Deliveries.{HasDelivered, AreDistinct, AreDue, row_in, held_now}
+use Rattle.fb_decide.specs.Deliveries.{HasDelivered, AreDistinct, AreDue, held_now}
 use Rattle.fb_decide.specs.Start.{served_from}
 use Rattle.fb_decide.proofs.Placing.{wanted-distinct}
 use Rattle.fb_decide.proofs.Delivering.{fits-told, wanted-told}
@@ -40,8 +39,8 @@ deliver_all-requires c =
     let past = c.requires.current.0 in
     let current = c.requires.current.1 in
     let served = served_from c.args.disk.now c.args.start in
-    let rows : map (row_in c.args.store.now ByRide) c.as_slice.result.now ≡ rides (held_now c.args.store.now) served (wanted past) =
-    ap (map (row_in c.args.store.now ByRide)) (c.as_slice.ensures.value ∙ c.in_ok-catches.ensures
+    let rows : map (delivery_row (held_now c.args.store.now) ByRide) c.as_slice.result.now ≡ rides (held_now c.args.store.now) served (wanted past) =
+    ap (map (delivery_row (held_now c.args.store.now) ByRide)) (c.as_slice.ensures.value ∙ c.in_ok-catches.ensures
     ∙ ap (λ ps. carried_of ps c.args.start.request (wanted_of c.args.self.now.blocks)) c.requires.passages
     ∙ ap (carried_of served.passages c.args.start.request) (wanted-told current.tells))
     ∙ rows-carried c.args.store.now served (wanted past) c.if-start.false in (
@@ -54,8 +53,8 @@ deliver_all-requires c =
 pub returns : goal.returns
 returns c = on_ok_weaker c.deliver_all.result (λ all past current.
     let served = served_from c.args.disk.now c.args.start in
-    let rows : map (row_in c.args.store.now ByRide) c.as_slice.result.now ≡ rides (held_now c.args.store.now) served (wanted past) =
-    ap (map (row_in c.args.store.now ByRide)) (c.as_slice.ensures.value ∙ c.in_ok-catches.ensures
+    let rows : map (delivery_row (held_now c.args.store.now) ByRide) c.as_slice.result.now ≡ rides (held_now c.args.store.now) served (wanted past) =
+    ap (map (delivery_row (held_now c.args.store.now) ByRide)) (c.as_slice.ensures.value ∙ c.in_ok-catches.ensures
     ∙ ap (λ ps. carried_of ps c.args.start.request (wanted_of c.args.self.now.blocks)) c.requires.passages
     ∙ ap (carried_of served.passages c.args.start.request) (wanted-told current.tells))
     ∙ rows-carried c.args.store.now served (wanted past) c.if-start.false in
