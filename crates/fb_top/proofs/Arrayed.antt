@@ -19,7 +19,7 @@ use Rattle.fb_top.specs.Array.{AreRunsOf, ArrayHasCause, IsArrayCut, IsArrayed, 
 use Rattle.fb_top.specs.Array.{sectors_of, survivor}
 use Rattle.fb_top.specs.Causes.{RunsOut}
 use Rattle.fb_top.specs.Devices.{Array, StopsArray, is_rebuilt_from}
-use Rattle.fb_top.specs.Sources.{array_inputs}
+use Rattle.fb_top.specs.Names.{array_names}
 use Rattle.fb_top.specs.Taken.{TakesArray}
 use Rattle.fb_top.specs.Written.{KeepsReports, StopsTexts, Text, WritesAll, joined}
 use Rattle.fb_top.proofs.Texts.{stops_texts, writes_all}
@@ -80,7 +80,7 @@ array_stopped terms old new _ h = h
 
 -- memory ran out after the files were read
 pub ran_out : {terms : ArrayTerms} {array : Array} {old new : DeskView} → TakesArray terms array old new
-    → RunsOut old new (array_inputs terms)
+    → RunsOut old new (array_names terms)
 ran_out {array = array} takes = record {
   input = Trace;
   before = record { disk = array.disk; latent = array.latent; reads_disk = takes.accepts.disk };

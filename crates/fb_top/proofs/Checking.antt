@@ -17,7 +17,7 @@ use Rattle.fb_top.specs.Causes.{AcceptsBefore, AcceptsFiles, AcceptsFore, CheckH
 use Rattle.fb_top.specs.Causes.{StopsInputs, StopsPrinted, StopsReport, input_of}
 use Rattle.fb_top.specs.Checked.{ChangesPrinted, IsVerdictCut, IsVerdictOf, JudgesBy, verdict_line}
 use Rattle.fb_top.specs.Read.{Files, ReadsReport, RefusesReport}
-use Rattle.fb_top.specs.Sources.{check_inputs, check_sources, files_alone, name_of}
+use Rattle.fb_top.specs.Names.{check_names, check_file_names, files_alone, name_of}
 use Rattle.fb_top.specs.Taken.{KeepsOutputs, TakesCheck}
 use Rattle.fb_top.specs.Written.{KeepsBut, KeepsReports, StopsText}
 use Rattle.fb_top.proofs.Later.{at_reading, reads_before}
@@ -26,16 +26,16 @@ use Rattle.fb_top.proofs.MoreInputs.{files_stopped}
 
 module _ (terms : CheckTerms) (old new : DeskView) where
   -- why the inputs were not accepted
-  check_stopped : (outcome : Outcome) → StopsInputs (check_inputs terms) old new outcome → CheckHasCause terms old new outcome
+  check_stopped : (outcome : Outcome) → StopsInputs (check_names terms) old new outcome → CheckHasCause terms old new outcome
   check_stopped outcomes.NoMemory h = inl h
   check_stopped (outcomes.Checked verdict) h = absurd h
   check_stopped (outcomes.WriteFault output) h = absurd h
   check_stopped _ h = h
 
   -- why the files were not read
-  pub check_files_stopped : (outcome : Outcome) → StopsInputs (files_alone (check_sources terms)) old new outcome
+  pub check_files_stopped : (outcome : Outcome) → StopsInputs (files_alone (check_file_names terms)) old new outcome
       → CheckHasCause terms old new outcome
-  check_files_stopped outcome h = check_stopped outcome (files_stopped (check_inputs terms) old new outcome h)
+  check_files_stopped outcome h = check_stopped outcome (files_stopped (check_names terms) old new outcome h)
 
 -- the files were read, and then the reports
 module _ (terms : CheckTerms) (old mid new : DeskView) (held : (name : List ℕ) → mid.held name ≡ old.held name)
@@ -65,25 +65,25 @@ module _ (terms : CheckTerms) (old mid new : DeskView) (held : (name : List ℕ)
   keeps_reports : KeepsReports old new
   keeps_reports = λ output no_note. only.outputs output ∙ outputs output
 
-  module _ (files : AcceptsFiles old (check_sources terms)) (untouched : KeepsLater Puts old mid) where
+  module _ (files : AcceptsFiles old (check_file_names terms)) (untouched : KeepsLater Puts old mid) where
     ends_fore : KeepsLater ForeReport mid new → EndsAt ForeReport old new
     ends_fore later = record { later = later ∙ untouched.1; reports = keeps_reports }
 
     ends_back : EndsAt BackReport old new
     ends_back = record { later = tt; reports = keeps_reports }
 
-    fore_before : (lines : List (List ℕ)) → ReadsReport mid terms.fore fore_grammar lines → AcceptsFore old (check_inputs terms)
+    fore_before : (lines : List (List ℕ)) → ReadsReport mid terms.fore fore_grammar lines → AcceptsFore old (check_names terms)
     fore_before lines reads =
         let reads_fore = report_before terms.fore fore_grammar lines reads in
         record { files = files; name = terms.fore; given = refl; lines = lines; reads_fore = reads_fore }
 
     -- the report that is refused is this one
-    in_turn : (report here : Report) (line : ℕ) (name : List ℕ) → report ≡ here → AcceptsBefore old (check_inputs terms) (input_of here)
-        → name_of (check_inputs terms) (input_of here) ≡ Some name
+    in_turn : (report here : Report) (line : ℕ) (name : List ℕ) → report ≡ here → AcceptsBefore old (check_names terms) (input_of here)
+        → name_of (check_names terms) (input_of here) ≡ Some name
         → RefusesReport old name (grammar_of here) line → EndsAt (input_of here) old new
-        → RefusesReportInTurn old (check_inputs terms) (record { report = report; line = line }) × EndsAt (input_of report) old new
+        → RefusesReportInTurn old (check_names terms) (record { report = report; line = line }) × EndsAt (input_of report) old new
     in_turn report here line name is before given refuses ends =
-        subst (λ (r : Report). RefusesReportInTurn old (check_inputs terms) (record { report = r; line = line })
+        subst (λ (r : Report). RefusesReportInTurn old (check_names terms) (record { report = r; line = line })
         × EndsAt (input_of r) old new) (sym is)
         (record { before = before; name = name; given = given; refuses = refuses }, ends)
 
@@ -93,16 +93,16 @@ module _ (terms : CheckTerms) (old mid new : DeskView) (held : (name : List ℕ)
     fore_stopped (outcomes.Reports fault) h later =
         in_turn fault.report reports.Fore fault.line terms.fore h.0 files refl (reads_before (held terms.fore) h.1) (ends_fore later)
     fore_stopped outcome h later =
-        check_stopped terms old new outcome (at_reading (check_inputs terms) old mid new ForeReport files terms.fore refl
+        check_stopped terms old new outcome (at_reading (check_names terms) old mid new ForeReport files terms.fore refl
         (held terms.fore) untouched.0 (ends_fore later) outcome h)
 
     -- or the background report
-    back_stopped : (outcome : Outcome) → AcceptsFore old (check_inputs terms) → StopsReport reports.Back terms.back mid new outcome
+    back_stopped : (outcome : Outcome) → AcceptsFore old (check_names terms) → StopsReport reports.Back terms.back mid new outcome
         → CheckHasCause terms old new outcome
     back_stopped (outcomes.Reports fault) before h =
         in_turn fault.report reports.Back fault.line terms.back h.0 before refl (reads_before (held terms.back) h.1) ends_back
     back_stopped outcome before h =
-        check_stopped terms old new outcome (at_reading (check_inputs terms) old mid new BackReport before terms.back refl
+        check_stopped terms old new outcome (at_reading (check_names terms) old mid new BackReport before terms.back refl
         (held terms.back) untouched.1 ends_back outcome h)
 
     -- why no verdict was reached

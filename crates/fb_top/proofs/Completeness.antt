@@ -18,7 +18,7 @@ use Rattle.fb_desk.specs.declared.desk.Input.{Input}
 use Rattle.fb_desk.specs.declared.desk.Input.TheVariants.{Params, Trace, Calls, Puts, ForeReport, BackReport}
 use Rattle.fb_desk.specs.declared.desk.Output.TheVariants.{Fore, Back, Spill, MadeTrace, MadeCalls}
 use Rattle.fb_words.specs.Command.{Terms, ReplayTerms, CheckTerms, MakeTerms, ArrayTerms, RebuildTerms, replays, makes, checks, arrays}
-use Rattle.fb_top.specs.Sources.{InputTerms, replay_inputs, check_inputs, array_inputs}
+use Rattle.fb_top.specs.Names.{InputNames, replay_names, check_names, array_names}
 use Rattle.fb_words.specs.declared.fault.UsageFault.{UsageFault}
 use Rattle.fb_top.specs.declared.outcome.Outcome.{Outcome}
 use Rattle.fb_top.specs.declared.outcome.Outcome.TheVariants as outcomes
@@ -92,47 +92,47 @@ one_script desk (Some name) disk other traced others script script' told same sa
     ∙ again.spells)
 
 -- what is accepted is not refused
-module _ (old new : DeskView) (terms : InputTerms) (well : ReadsWell old new terms) where
-  disk_once : (fault : ParamsFault) → RefusesDisk old terms.sources.params fault → ⊥
+module _ (old new : DeskView) (terms : InputNames) (well : ReadsWell old new terms) where
+  disk_once : (fault : ParamsFault) → RefusesDisk old terms.files.params fault → ⊥
   disk_once fault refuses =
-      not_refused old terms.sources.params well.files.disk well.files.latent well.params_told well.accepts.disk fault refuses
+      not_refused old terms.files.params well.files.disk well.files.latent well.params_told well.accepts.disk fault refuses
 
-  same_map : (other : AcceptsDisk old terms.sources.params) → well.files.disk.map ≡ other.disk.map
-  same_map other = one_map old terms.sources.params well.files.disk well.files.latent well.params_told well.accepts.disk other
+  same_map : (other : AcceptsDisk old terms.files.params) → well.files.disk.map ≡ other.disk.map
+  same_map other = one_map old terms.files.params well.files.disk well.files.latent well.params_told well.accepts.disk other
 
   -- bytes of a trace spell the same on the same disk
-  same_trace : (other : AcceptsDisk old terms.sources.params) (bytes : List ℕ)
-      → IfSome (old.held terms.sources.trace) (λ held. bytes ≡ held)
-      → trace_of terms.sources.device (length (places well.files.disk.map)) well.accepts.trace.bytes
-      ≡ trace_of terms.sources.device (length (places other.disk.map)) bytes
+  same_trace : (other : AcceptsDisk old terms.files.params) (bytes : List ℕ)
+      → IfSome (old.held terms.files.trace) (λ held. bytes ≡ held)
+      → trace_of terms.files.device (length (places well.files.disk.map)) well.accepts.trace.bytes
+      ≡ trace_of terms.files.device (length (places other.disk.map)) bytes
   same_trace other bytes held =
       let trace = well.accepts.trace in
-      ap (λ map. trace_of terms.sources.device (length (places map)) trace.bytes) (same_map other)
-      ∙ ap (trace_of terms.sources.device (length (places other.disk.map)))
-      (same_bytes (old.held terms.sources.trace) trace.bytes bytes well.trace_told trace.held held)
+      ap (λ map. trace_of terms.files.device (length (places map)) trace.bytes) (same_map other)
+      ∙ ap (trace_of terms.files.device (length (places other.disk.map)))
+      (same_bytes (old.held terms.files.trace) trace.bytes bytes well.trace_told trace.held held)
 
-  trace_once : (fault : TraceFault) → RefusesTraceInTurn old terms.sources fault → ⊥
+  trace_once : (fault : TraceFault) → RefusesTraceInTurn old terms.files fault → ⊥
   trace_once fault turn =
-      not_both (trace_of terms.sources.device (length (places well.files.disk.map)) well.accepts.trace.bytes) _ fault
+      not_both (trace_of terms.files.device (length (places well.files.disk.map)) well.accepts.trace.bytes) _ fault
       well.accepts.trace.spells
       (same_trace turn.before turn.refuses.bytes turn.refuses.held ∙ turn.refuses.spells)
 
-  same_requests : (other : AcceptsTrace old terms.sources) → well.files.trace ≡ other.trace
+  same_requests : (other : AcceptsTrace old terms.files) → well.files.trace ≡ other.trace
   same_requests other =
-      same_ok (trace_of terms.sources.device (length (places well.files.disk.map)) well.accepts.trace.bytes) _ _ well.accepts.trace.spells
+      same_ok (trace_of terms.files.device (length (places well.files.disk.map)) well.accepts.trace.bytes) _ _ well.accepts.trace.spells
       (same_trace other.params other.reads_trace.bytes other.reads_trace.held ∙ other.reads_trace.spells)
 
   -- the script under the name that is given
-  script_under : (name : List ℕ) → terms.sources.calls ≡ Some name
+  script_under : (name : List ℕ) → terms.files.calls ≡ Some name
       → ReadsCalls old name well.files.disk (length well.files.trace.requests) well.files.script
   script_under name given =
       subst (λ (told : Option (List ℕ)). ReadsScript old told well.files.disk (length well.files.trace.requests) well.files.script) given
       well.accepts.script
 
-  told_under : (name : List ℕ) → terms.sources.calls ≡ Some name → is_some (old.held name) ≡ true
+  told_under : (name : List ℕ) → terms.files.calls ≡ Some name → is_some (old.held name) ≡ true
   told_under name given = subst (λ (told : Option (List ℕ)). IfSome told (λ n. is_some (old.held n) ≡ true)) given well.calls_told
 
-  calls_once : (fault : CallsFault) → RefusesCallsInTurn old terms.sources fault → ⊥
+  calls_once : (fault : CallsFault) → RefusesCallsInTurn old terms.files fault → ⊥
   calls_once fault turn =
       let reads = script_under turn.name turn.given in
       not_both (calls_of well.files.disk.map (length well.files.trace.requests) reads.bytes) _ fault reads.spells
@@ -150,9 +150,9 @@ module _ (old new : DeskView) (terms : InputTerms) (well : ReadsWell old new ter
       let files = well.files in
       let others = turn.before.files in
       let again = turn.before.accepts in
-      let disk : AcceptsDisk old terms.sources.params = record { disk = others.disk; latent = others.latent; reads_disk = again.disk } in
+      let disk : AcceptsDisk old terms.files.params = record { disk = others.disk; latent = others.latent; reads_disk = again.disk } in
       let trace = same_requests (record { params = disk; trace = others.trace; reads_trace = again.trace }) in
-      let script = one_script old terms.sources.calls files.disk others.disk _ _ files.script others.script well.calls_told (same_map disk)
+      let script = one_script old terms.files.calls files.disk others.disk _ _ files.script others.script well.calls_told (same_map disk)
       (ap (λ t. length t.requests) trace) well.accepts.script again.script in
       let tells = puts_tells turn.name turn.given in
       not_both (puts_of (puts_terms files) tells.reads.bytes) tells.puts fault tells.reads.spells
@@ -190,13 +190,13 @@ module _ (old new : DeskView) (terms : InputTerms) (well : ReadsWell old new ter
 
   not_too_long : (input : Input) → IsTooLong old terms input → ⊥
   not_too_long Params long =
-      not_longer (old.held terms.sources.params) well.accepts.disk.bytes
+      not_longer (old.held terms.files.params) well.accepts.disk.bytes
       (2 ^ 20) well.params_told well.accepts.disk.held well.accepts.disk.within
-      (subst (λ (name : List ℕ). IsLonger old name (2 ^ 20)) (sym (same_name terms.sources.params long.name long.given)) long.longer)
+      (subst (λ (name : List ℕ). IsLonger old name (2 ^ 20)) (sym (same_name terms.files.params long.name long.given)) long.longer)
   not_too_long Trace long =
-      not_longer (old.held terms.sources.trace) well.accepts.trace.bytes
+      not_longer (old.held terms.files.trace) well.accepts.trace.bytes
       (2 ^ 28) well.trace_told well.accepts.trace.held well.accepts.trace.within
-      (subst (λ (name : List ℕ). IsLonger old name (2 ^ 28)) (sym (same_name terms.sources.trace long.name long.given)) long.longer)
+      (subst (λ (name : List ℕ). IsLonger old name (2 ^ 28)) (sym (same_name terms.files.trace long.name long.given)) long.longer)
   not_too_long Calls long =
       let reads = script_under long.name long.given in
       not_longer (old.held long.name) reads.bytes (2 ^ 26) (told_under long.name long.given) reads.held reads.within long.longer
@@ -238,8 +238,8 @@ module _ (old new : DeskView) (terms : ReplayTerms) (well : GoesWell old new ter
   not_cut outcome (inl cut) = not_cut_short outcome cut
   not_cut outcome (inr cut) = no_spill_cut outcome cut
 
-  stopped : (outcome : Outcome) → StopsInputs (replay_inputs terms) old new outcome → IsMade outcome
-  stopped outcome cause = subst IsMade (sym (goes_on old new (replay_inputs terms) well.inputs outcome cause)) tt
+  stopped : (outcome : Outcome) → StopsInputs (replay_names terms) old new outcome → IsMade outcome
+  stopped outcome cause = subst IsMade (sym (goes_on old new (replay_names terms) well.inputs outcome cause)) tt
 
   made : (outcome : Outcome) → HasCause terms old new outcome → IsMade outcome
   made (outcomes.Done run) cause = tt
@@ -249,8 +249,8 @@ module _ (old new : DeskView) (terms : ReplayTerms) (well : GoesWell old new ter
   made outcome cause = stopped outcome cause
 
 module _ (old new : DeskView) (terms : CheckTerms) (well : CheckGoesWell old new terms) where
-  check_stopped : (outcome : Outcome) → StopsInputs (check_inputs terms) old new outcome → IsJudged outcome
-  check_stopped outcome cause = subst IsJudged (sym (goes_on old new (check_inputs terms) well.inputs outcome cause)) tt
+  check_stopped : (outcome : Outcome) → StopsInputs (check_names terms) old new outcome → IsJudged outcome
+  check_stopped outcome cause = subst IsJudged (sym (goes_on old new (check_names terms) well.inputs outcome cause)) tt
 
   judged : (outcome : Outcome) → CheckHasCause terms old new outcome → IsJudged outcome
   judged (outcomes.Checked verdict) cause = tt
@@ -296,7 +296,7 @@ module _ (old new : DeskView) (terms : ArrayTerms) (well : ArrayGoesWell old new
   rebuilds_once fault turn = rebuild_once terms.rebuild fault turn.given well.accepts.script
       (subst (λ (map : Shape). RefusesRebuild map fault) (sym (array_map turn.before)) turn.refuses)
 
-  array_not_too_long : (input : Input) → IsTooLong old (array_inputs terms) input → ⊥
+  array_not_too_long : (input : Input) → IsTooLong old (array_names terms) input → ⊥
   array_not_too_long Params long =
       not_longer (old.held terms.params) well.accepts.disk.bytes (2 ^ 20) well.params_told well.accepts.disk.held well.accepts.disk.within
       (subst (λ (name : List ℕ). IsLonger old name (2 ^ 20)) (sym (same_name terms.params long.name long.given)) long.longer)
@@ -309,7 +309,7 @@ module _ (old new : DeskView) (terms : ArrayTerms) (well : ArrayGoesWell old new
   array_not_too_long ForeReport long = is_named long.name (sym long.given)
   array_not_too_long BackReport long = is_named long.name (sym long.given)
 
-  no_report : (report : Report) (line : ℕ) → RefusesReportInTurn old (array_inputs terms) (record { report = report; line = line }) → ⊥
+  no_report : (report : Report) (line : ℕ) → RefusesReportInTurn old (array_names terms) (record { report = report; line = line }) → ⊥
   no_report reports.Fore line turn = is_named turn.name (sym turn.given)
   no_report reports.Back line turn = is_named turn.name (sym turn.given)
 

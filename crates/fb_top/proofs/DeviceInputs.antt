@@ -25,22 +25,18 @@ use Rattle.fb_desk.specs.declared.desk.Input.TheVariants.{Params, Trace}
 use Rattle.fb_words.specs.Command.{ArrayTerms, RebuildTerms}
 use Rattle.fb_top.specs.declared.outcome.Outcome.{Outcome}
 use Rattle.fb_top.specs.declared.outcome.Outcome.TheVariants as outcomes
-use Rattle.fb_top.specs.Sources.{SourceTerms, array_inputs}
+use Rattle.fb_top.specs.Names.{array_file_names, array_names}
 use Rattle.fb_top.specs.Read.{key_of}
 use Rattle.fb_top.specs.Causes.{AcceptsDisk, StopsDisk, StopsReading}
 use Rattle.fb_top.specs.Devices.{Array, ReadsTraces, StopsArray, StopsRebuild, StopsTraces, device_files, device_inputs, is_rebuilt_from}
 use Rattle.fb_top.proofs.Later.{at_params, at_reading, ends_at_trace, is_accepted, reads_before}
-
--- the names of an array's files, and its first device
-abbrev pub sources : ArrayTerms → SourceTerms
-sources terms = record { params = terms.params; trace = terms.trace; calls = None; device = 0 }
 
 -- why the parameter file was not read
 pub array_at_params : (terms : ArrayTerms) (old new : DeskView) (outcome : Outcome) → ChangesInput Params old new
     → StopsDisk terms.params old new outcome → StopsArray terms old new outcome
 array_at_params terms old new (outcomes.Trace fault) only h = absurd h
 array_at_params terms old new (outcomes.Calls fault) only h = absurd h
-array_at_params terms old new outcome only h = at_params (sources terms) old new outcome only h
+array_at_params terms old new outcome only h = at_params (array_file_names terms) old new outcome only h
 
 -- why the trace was not read
 pub array_at_trace : (terms : ArrayTerms) (old mid new : DeskView) (outcome : Outcome) (before : AcceptsDisk old terms.params)
@@ -50,7 +46,7 @@ array_at_trace terms old mid new (outcomes.Trace fault) before first second h =
     (record { before = before; refuses = reads_before (first.held terms.trace) h }, ends_at_trace old mid new first second)
 array_at_trace terms old mid new (outcomes.Calls fault) before first second h = absurd h
 array_at_trace terms old mid new outcome before first second h =
-    at_reading (array_inputs terms) old mid new Trace before terms.trace refl (first.held terms.trace) (first.inputs Trace (λ e. cc))
+    at_reading (array_names terms) old mid new Trace before terms.trace refl (first.held terms.trace) (first.inputs Trace (λ e. cc))
     (ends_at_trace old mid new first second) outcome h
 
 -- an input that was not read whole was not accepted

@@ -16,7 +16,7 @@ use Rattle.fb_desk.specs.declared.desk.Input.{Input}
 use Rattle.fb_desk.specs.declared.desk.Input.TheVariants.{Params, Trace, Calls, Puts, ForeReport, BackReport}
 use Rattle.fb_report.specs.declared.reading.Report.{Report}
 use Rattle.fb_words.specs.Command.{ReplayTerms}
-use Rattle.fb_top.specs.Sources.{InputTerms, SourceTerms, files_alone, name_of, replay_inputs}
+use Rattle.fb_top.specs.Names.{InputNames, FileNames, files_alone, name_of, replay_names}
 use Rattle.fb_top.specs.declared.outcome.Outcome.{Outcome}
 use Rattle.fb_top.specs.declared.outcome.Outcome.TheVariants as outcomes
 use Rattle.fb_top.specs.Read.{ReadsScript, Files, inputs_of_files}
@@ -78,7 +78,7 @@ pub has_name : (given : Option (List ℕ)) (name : List ℕ) → given ≡ Some 
 has_name given name e = cc
 
 -- why an input was not read whole, told of the desk at the start; those before it are accepted
-module _ (terms : InputTerms) (old mid new : DeskView) (input : Input) (before : AcceptsBefore old terms input)
+module _ (terms : InputNames) (old mid new : DeskView) (input : Input) (before : AcceptsBefore old terms input)
     (name : List ℕ) (given : name_of terms input ≡ Some name)
     (held : mid.held name ≡ old.held name) (same : mid.inputs input ≡ old.inputs input) (ends : EndsAt input old new) where
   pub at_reading : (outcome : Outcome) → StopsReading input name mid new outcome → StopsInputs terms old new outcome
@@ -120,14 +120,14 @@ report_unread report name old new (outcomes.Reports fault) h = absurd h
 report_unread report name old new _ h = h
 
 -- why the parameter file was not read
-pub at_params : (words : SourceTerms) (old new : DeskView) (outcome : Outcome) → ChangesInput Params old new
+pub at_params : (words : FileNames) (old new : DeskView) (outcome : Outcome) → ChangesInput Params old new
     → StopsDisk words.params old new outcome → StopsInputs (files_alone words) old new outcome
 at_params words old new (outcomes.Params fault) only h = (h, ends_at_params old new only)
 at_params words old new outcome only h =
     at_reading (files_alone words) old old new Params tt words.params refl refl refl (ends_at_params old new only) outcome h
 
 -- why the trace was not read
-pub at_trace : (words : SourceTerms) (old mid new : DeskView) (outcome : Outcome) (before : AcceptsDisk old words.params)
+pub at_trace : (words : FileNames) (old mid new : DeskView) (outcome : Outcome) (before : AcceptsDisk old words.params)
     → ChangesInput Params old mid → ChangesInput Trace mid new
     → StopsTrace words.trace words.device before.disk mid new outcome → StopsInputs (files_alone words) old new outcome
 at_trace words old mid new (outcomes.Trace fault) before first second h =
@@ -137,7 +137,7 @@ at_trace words old mid new outcome before first second h =
     (ends_at_trace old mid new first second) outcome h
 
 -- why the script of this name was not read
-at_calls : (words : SourceTerms) (old mid late new : DeskView) (outcome : Outcome) (before : AcceptsTrace old words) (name : List ℕ)
+at_calls : (words : FileNames) (old mid late new : DeskView) (outcome : Outcome) (before : AcceptsTrace old words) (name : List ℕ)
     → words.calls ≡ Some name
     → ChangesInput Params old mid → ChangesInput Trace mid late → ChangesInput Calls late new
     → StopsCalls name before.params.disk (length before.trace.requests) late new outcome → StopsInputs (files_alone words) old new outcome
@@ -151,7 +151,7 @@ at_calls words old mid late new outcome before name given first second third h =
     (ends_at_calls old mid late new first second third) outcome h
 
 -- why the script that is given was not read
-pub at_script : (words : SourceTerms) (old mid late new : DeskView) (outcome : Outcome) (before : AcceptsTrace old words)
+pub at_script : (words : FileNames) (old mid late new : DeskView) (outcome : Outcome) (before : AcceptsTrace old words)
     → ChangesInput Params old mid → ChangesInput Trace mid late → ChangesInput Calls late new
     → StopsScript words.calls before.params.disk (length before.trace.requests) late new outcome
     → StopsInputs (files_alone words) old new outcome
@@ -159,7 +159,7 @@ at_script words old mid late new outcome before first second third h =
     at_calls words old mid late new outcome before h.0 h.1 first second third h.2
 
 -- why the files of a replay were not read
-pub replay_stopped : (terms : ReplayTerms) (old new : DeskView) (outcome : Outcome) → StopsInputs (replay_inputs terms) old new outcome
+pub replay_stopped : (terms : ReplayTerms) (old new : DeskView) (outcome : Outcome) → StopsInputs (replay_names terms) old new outcome
     → HasCause terms old new outcome
 replay_stopped terms old new outcomes.NoMemory h = inl h
 replay_stopped terms old new (outcomes.Done run) h = absurd h

@@ -11,7 +11,7 @@ use Rattle.fb_top.specs.declared.outcome.Outcome.TheVariants as outcomes
 use Rattle.fb_top.specs.Read.{Files}
 use Rattle.fb_top.specs.Written.{HoldsWhole, HoldsFront, KeepsReports, KeepsBut, KeepsButBoth, CutsOff, CutsSecond, OutputFaultsRose}
 use Rattle.fb_top.specs.Written.{StopsText}
-use Rattle.fb_top.specs.Done.{HoldsWanted, HoldsReports, StopsReports, CutsFore, CutsBack, fore_told, back_told}
+use Rattle.fb_top.specs.Done.{AreReported, HoldsWanted, HoldsReports, StopsReports, CutsFore, CutsBack, fore_told, back_told}
 
 pub fore_is_no_note : Fore ≢ Note
 fore_is_no_note e = cc
@@ -74,13 +74,17 @@ module _ (old mid late new : DeskView) (first : KeepsReports old mid) (last : Ke
   wanted (Some name) text holds = whole Back name text back_is_no_note holds
 
   -- reports that were written
-  pub holds_reports : (terms : ReplayTerms) (files : Files) (run : Run) → HoldsReports terms files run mid late
-      → HoldsReports terms files run old new
-  holds_reports terms files run holds = record {
-    others = keeps_but_both Fore Back holds.others;
+  pub are_reported : (terms : ReplayTerms) (files : Files) (run : Run) → AreReported terms files run mid late
+      → AreReported terms files run old new
+  are_reported terms files run holds = record {
     fore = whole Fore _ (fore_told terms files run) fore_is_no_note holds.fore;
     back = wanted terms.back (back_told terms files run) holds.back;
   }
+
+  pub holds_reports : (terms : ReplayTerms) (files : Files) (run : Run) → HoldsReports terms files run mid late
+      → HoldsReports terms files run old new
+  holds_reports terms files run holds =
+      record { others = keeps_but_both Fore Back holds.others; reported = are_reported terms files run holds.reported }
 
   cuts_fore : (terms : ReplayTerms) (files : Files) (run : Run) → CutsFore terms files run mid late → CutsFore terms files run old new
   cuts_fore terms files run cut = cuts_off Fore _ (fore_told terms files run) fore_is_no_note cut

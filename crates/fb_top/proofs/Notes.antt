@@ -16,7 +16,7 @@ use Rattle.fb_top.specs.Streams.{AppendsFront}
 use Rattle.fb_top.specs.Written.{KeepsReports}
 use Rattle.fb_top.specs.Done.{IsCutShort}
 use Rattle.fb_top.specs.Spilled.{IsSpillCut}
-use Rattle.fb_top.specs.Sources.{InputTerms, replay_inputs, check_inputs, array_inputs}
+use Rattle.fb_top.specs.Names.{InputNames, replay_names, check_names, array_names}
 use Rattle.fb_top.specs.Checked.{IsVerdictCut, verdict_line}
 use Rattle.fb_top.specs.Causes.{CheckHasCause, EndsAt, HasCause, IsCut, KeepsLater, RunsOut, StopsInputs, input_of}
 use Rattle.fb_top.specs.Answers.{AnswersWords}
@@ -78,7 +78,7 @@ ends_still : (input : Input) (old mid new : DeskView) → EndsAt input old mid �
 ends_still input old mid new ends only =
     record { later = later_still input old mid new ends.later only; reports = keeps_still old mid new ends.reports only }
 
-module _ (terms : InputTerms) (old mid new : DeskView) (only : ChangesOutput Note mid new) where
+module _ (terms : InputNames) (old mid new : DeskView) (only : ChangesOutput Note mid new) where
   out_still : RunsOut old mid terms → RunsOut old new terms
   out_still out = record { input = out.input; before = out.before; ends = ends_still out.input old mid new out.ends only }
 
@@ -134,7 +134,7 @@ module _ (terms : ReplayTerms) (old mid new : DeskView) (only : ChangesOutput No
     read = h.read;
   }
   cause_still (outcomes.WriteFault output) h = cut_still (outcomes.WriteFault output) h
-  cause_still outcomes.NoMemory (inl out) = inl (out_still (replay_inputs terms) old mid new only out)
+  cause_still outcomes.NoMemory (inl out) = inl (out_still (replay_names terms) old mid new only out)
   cause_still outcomes.NoMemory (inr cut) = inr (cut_still outcomes.NoMemory cut)
   cause_still (outcomes.Spilled run spill) h = record {
     is_run = h.is_run;
@@ -142,7 +142,7 @@ module _ (terms : ReplayTerms) (old mid new : DeskView) (only : ChangesOutput No
     texts = spill_moved old old mid new same (keeps_reports mid new only) terms h.is_run.files run spill h.texts;
     read = h.read;
   }
-  cause_still outcome h = inputs_still (replay_inputs terms) old mid new only outcome h
+  cause_still outcome h = inputs_still (replay_names terms) old mid new only outcome h
 
 module _ (terms : CheckTerms) (old mid new : DeskView) (only : ChangesOutput Note mid new) where
   keeps : KeepsReports mid new
@@ -166,9 +166,9 @@ module _ (terms : CheckTerms) (old mid new : DeskView) (only : ChangesOutput Not
     line = whole old old mid new unchanged keeps Fore (codes "-") (verdict_line verdict) fore_is_no_note h.line;
   }
   check_still (outcomes.WriteFault output) h = verdict_cut_still (outcomes.WriteFault output) h
-  check_still outcomes.NoMemory (inl out) = inl (out_still (check_inputs terms) old mid new only out)
+  check_still outcomes.NoMemory (inl out) = inl (out_still (check_names terms) old mid new only out)
   check_still outcomes.NoMemory (inr cut) = inr (verdict_cut_still outcomes.NoMemory cut)
-  check_still outcome h = inputs_still (check_inputs terms) old mid new only outcome h
+  check_still outcome h = inputs_still (check_names terms) old mid new only outcome h
 
 module _ (terms : ArrayTerms) (old mid new : DeskView) (only : ChangesOutput Note mid new) where
   array_cut_still : (outcome : Outcome) → IsArrayCut old mid terms outcome → IsArrayCut old new terms outcome
@@ -181,9 +181,9 @@ module _ (terms : ArrayTerms) (old mid new : DeskView) (only : ChangesOutput Not
   array_still (outcomes.Trace fault) h = (h.0, ends_still Trace old mid new h.1 only)
   array_still (outcomes.Calls fault) h = (h.0, ends_still Trace old mid new h.1 only)
   array_still (outcomes.WriteFault output) h = array_cut_still (outcomes.WriteFault output) h
-  array_still outcomes.NoMemory (inl out) = inl (out_still (array_inputs terms) old mid new only out)
+  array_still outcomes.NoMemory (inl out) = inl (out_still (array_names terms) old mid new only out)
   array_still outcomes.NoMemory (inr cut) = inr (array_cut_still outcomes.NoMemory cut)
-  array_still outcome h = inputs_still (array_inputs terms) old mid new only outcome h
+  array_still outcome h = inputs_still (array_names terms) old mid new only outcome h
 
 -- an answer keeps its cause where nothing but the note changes
 pub answer_still : (reading : Result Terms UsageFault) (old mid new : DeskView) (outcome : Outcome) → ChangesOutput Note mid new

@@ -8,7 +8,7 @@ use Rattle.fb_desk.specs.declared.desk.Input.TheVariants.{Params, Trace, Calls, 
 use Rattle.fb_desk.specs.declared.desk.Output.{Output}
 use Rattle.fb_desk.specs.declared.desk.Output.TheVariants.{Fore, Back, Spill, Note, MadeTrace, MadeCalls, Copied}
 use Rattle.fb_words.specs.Command.{Terms, replays, makes, checks, arrays}
-use Rattle.fb_top.specs.Sources.{InputTerms, SourceTerms, array_inputs, check_inputs, files_alone, name_of, replay_inputs}
+use Rattle.fb_top.specs.Names.{InputNames, FileNames, array_names, check_names, files_alone, name_of, replay_names}
 use Rattle.fb_words.specs.declared.fault.UsageFault.{UsageFault}
 use Rattle.fb_top.specs.declared.outcome.Outcome.{Outcome}
 use Rattle.fb_top.specs.declared.outcome.Outcome.TheVariants as outcomes
@@ -43,7 +43,7 @@ told_before name named old mid input held same opened =
     subst (λ (n : List ℕ). IsOpenedAs n old input) one
     (subst (λ (told : Option (List ℕ)). input.opened ≡ true → IsLeftOf told input.left) held opened)
 
-module _ (terms : SourceTerms) (old : DeskView) (unused : IsUnused old) where
+module _ (terms : FileNames) (old : DeskView) (unused : IsUnused old) where
   -- the parameter file was read
   pub opened_at_params : (new : DeskView) → ChangesInput Params old new → IsOpenedAs terms.params old (new.inputs Params)
       → OpensAsNamed (files_alone terms) old new
@@ -89,7 +89,7 @@ module _ (terms : SourceTerms) (old : DeskView) (unused : IsUnused old) where
     opened_at_calls late new second trace third script BackReport name given = absurd (is_named name (sym given))
 
 -- outputs leave the inputs alone
-pub opened_written : (terms : InputTerms) (old mid new : DeskView) → OpensAsNamed terms old mid → KeepsInputs mid new
+pub opened_written : (terms : InputNames) (old mid new : DeskView) → OpensAsNamed terms old mid → KeepsInputs mid new
     → OpensAsNamed terms old new
 opened_written terms old mid new opened keeps input name given =
     subst (λ (v : InputView). IsOpenedAs name old v) (sym (keeps input)) (opened input name given)
@@ -97,13 +97,13 @@ opened_written terms old mid new opened keeps input name given =
 pub opened_after : (reading : Result Terms UsageFault) (which : Output) (old mid new : DeskView) → OpensNamed reading old mid
     → ChangesOutput which mid new → OpensNamed reading old new
 opened_after (Ok (replays terms)) which old mid new opened only =
-    opened_written (replay_inputs terms) old mid new opened (λ input. only.inputs input)
+    opened_written (replay_names terms) old mid new opened (λ input. only.inputs input)
 opened_after (Ok (makes terms)) which old mid new opened only =
     subst (λ (v : InputView). IsOpenedAs terms.params old v) (sym (only.inputs Params)) opened
 opened_after (Ok (checks terms)) which old mid new opened only =
-    opened_written (check_inputs terms) old mid new opened (λ input. only.inputs input)
+    opened_written (check_names terms) old mid new opened (λ input. only.inputs input)
 opened_after (Ok (arrays terms)) which old mid new opened only =
-    opened_written (array_inputs terms) old mid new opened (λ input. only.inputs input)
+    opened_written (array_names terms) old mid new opened (λ input. only.inputs input)
 opened_after (Err fault) which old mid new opened only = tt
 
 -- no call failed while the three inputs were read

@@ -19,7 +19,7 @@ use Rattle.fb_top.specs.Checked.{IsVerdictOf}
 use Rattle.fb_top.specs.Complete.{IsJudged, TellsReport}
 use Rattle.fb_top.specs.Done.{AreReadBack, HoldsWanted, IsRunOf, back_told, fore_told}
 use Rattle.fb_top.specs.Read.{Accepts, Files, ReadsScript}
-use Rattle.fb_top.specs.Sources.{SourceTerms}
+use Rattle.fb_top.specs.Names.{FileNames}
 use Rattle.fb_top.specs.Streams.{IsHeld, ReadsAs}
 use Rattle.fb_top.specs.Untouched.{HasReplayed, HoldAlike, HoldOneInput, HoldsLines, HoldsWritten}
 use Rattle.fb_top.specs.Written.{HoldsWhole, joined}
@@ -78,7 +78,7 @@ module _ (one other : DeskView) where
   script_there None disk traced script alike reads = reads
   script_there (Some name) disk traced script alike reads = reads_there name alike reads
 
-  pub accepted_there : (terms : SourceTerms) (files : Files) → HoldOneInput one other terms → Accepts one terms files
+  pub accepted_there : (terms : FileNames) (files : Files) → HoldOneInput one other terms → Accepts one terms files
       → Accepts other terms files
   accepted_there terms files alike reads = record {
     disk = reads_there terms.params alike.params reads.disk;

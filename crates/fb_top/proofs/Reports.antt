@@ -58,7 +58,9 @@ module _ (terms : ReplayTerms) (files : Files) (run : Run) where
         → HoldsReports terms files run old new
     wrote_both name given back = record {
       others = λ output not_fore not_back no_note. second.outputs output not_back ∙ first.outputs output not_fore;
-      fore = fore_stands;
-      back = subst (λ (told : Option (List ℕ)). HoldsWanted told (back_told terms files run) (old.outputs Back) (new.outputs Back))
-          (sym given) back;
+      reported = record {
+        fore = fore_stands;
+        back = subst (λ (told : Option (List ℕ)). HoldsWanted told (back_told terms files run) (old.outputs Back) (new.outputs Back))
+            (sym given) back;
+      };
     }

@@ -16,13 +16,13 @@ use Rattle.fb_top.specs.Calm.{IsCalm, MeetsNoFault}
 use Rattle.fb_top.specs.Causes.{HasCause, IsCut, RunsOut}
 use Rattle.fb_top.specs.Done.{AreReadBack, CanBeRead, HoldsReports, HoldsWanted, IsRunOf, back_told, fore_told}
 use Rattle.fb_top.specs.Read.{AcceptsPuts, Files, inputs_of_files, key_of}
-use Rattle.fb_top.specs.Sources.{replay_inputs}
+use Rattle.fb_top.specs.Names.{replay_names}
 use Rattle.fb_top.specs.Spilled.{CutsSpill, HoldsBoth, HoldsReplay, HoldsSpill, IsSpillOf, StopsReplay, StopsSpill, WritesGiven, WritesPuts}
 use Rattle.fb_top.specs.Spilled.{spill_told}
 use Rattle.fb_top.specs.Written.{HoldsFront, HoldsWhole, KeepsReports, StopsText}
 use Rattle.fb_top.specs.Taken.{TakesReplay, done_as}
 use Rattle.fb_top.proofs.Readable.{run_can_be_read}
-use Rattle.fb_top.proofs.Moved.{faults_rose, fore_is_no_note, front, holds_reports, spill_is_no_note, stops_reports, wanted, whole}
+use Rattle.fb_top.proofs.Moved.{are_reported, faults_rose, front, holds_reports, spill_is_no_note, stops_reports, whole}
 
 -- what holds of a thing that is given
 pub holds_of : {X : Type 0} (P : X → Type 0) (given : Option X) (x : X) → given ≡ Some x → IfSome given P → P x
@@ -35,8 +35,7 @@ module _ (old mid late new : DeskView) (first : KeepsReports old mid) (last : Ke
   both_moved holds = record {
     others = λ output not_fore not_back not_spill no_note. last output no_note ∙ holds.others output not_fore not_back not_spill no_note
         ∙ first output no_note;
-    fore = whole old mid late new first last Fore _ (fore_told terms files run) fore_is_no_note holds.fore;
-    back = wanted old mid late new first last terms.back (back_told terms files run) holds.back;
+    reported = are_reported old mid late new first last terms files run holds.reported;
   }
 
   pub spill_moved : (spill : SpillRun) → HoldsSpill terms files run spill mid late → HoldsSpill terms files run spill old new
@@ -69,10 +68,12 @@ module _ (terms : ReplayTerms) (files : Files) (run : Run) (spill : SpillRun) (o
   both_stand : HoldsBoth terms files run old new
   both_stand = record {
     others = λ output not_fore not_back not_spill no_note. only.outputs output not_spill ∙ reports.others output not_fore not_back no_note;
-    fore =
-        subst (λ (v : OutputView). HoldsWhole v (codes "-") (fore_told terms files run)) (sym (only.outputs Fore (λ e. cc))) reports.fore;
-    back = subst (λ (v : OutputView). HoldsWanted terms.back (back_told terms files run) (old.outputs Back) v)
-        (sym (only.outputs Back (λ e. cc))) reports.back;
+    reported = record {
+      fore = subst (λ (v : OutputView). HoldsWhole v (codes "-") (fore_told terms files run)) (sym (only.outputs Fore (λ e. cc)))
+          reports.fore;
+      back = subst (λ (v : OutputView). HoldsWanted terms.back (back_told terms files run) (old.outputs Back) v)
+          (sym (only.outputs Back (λ e. cc))) reports.back;
+    };
   }
 
   pub wrote_spill : HoldsWhole (new.outputs Spill) name (spill_told terms files spill) → HoldsSpill terms files run spill old new
@@ -106,7 +107,7 @@ one_spill one other e = cc
 module _ (terms : ReplayTerms) (files : Files) (puts : Option PutsRead) (old mid : DeskView)
     (takes : TakesReplay terms files puts old mid) where
   -- memory ran out
-  pub replay_ran_out : RunsOut old mid (replay_inputs terms)
+  pub replay_ran_out : RunsOut old mid (replay_names terms)
   replay_ran_out = record {
     input = Puts;
     before = record { files = files; accepts = takes.accepts };

@@ -6,7 +6,7 @@ use Rattle.fb_desk.specs.View.{DeskView}
 use Rattle.fb_desk.specs.declared.desk.Input.TheVariants.{Params, Trace, Calls, Puts, ForeReport, BackReport}
 use Rattle.fb_desk.specs.declared.desk.Output.{Output}
 use Rattle.fb_words.specs.Command.{Terms, replays, makes, checks, arrays}
-use Rattle.fb_top.specs.Sources.{SourceTerms, files_alone}
+use Rattle.fb_top.specs.Names.{FileNames, files_alone}
 use Rattle.fb_words.specs.declared.fault.UsageFault.{UsageFault}
 use Rattle.fb_top.specs.Causes.{KeepsLater}
 use Rattle.fb_top.specs.Unnamed.{KeepsInputs, KeepsUnnamed, LeavesUnnamed}
@@ -15,7 +15,7 @@ pub is_named : (name : List ℕ) → Some name ≢ None
 is_named name e = cc
 
 -- the parameter file was read
-pub unnamed_at_params : (terms : SourceTerms) (old new : DeskView) → ChangesInput Params old new → KeepsUnnamed (files_alone terms) old new
+pub unnamed_at_params : (terms : FileNames) (old new : DeskView) → ChangesInput Params old new → KeepsUnnamed (files_alone terms) old new
 unnamed_at_params terms old new only Params e = absurd (is_named terms.params e)
 unnamed_at_params terms old new only Trace e = only.inputs Trace (λ e. cc)
 unnamed_at_params terms old new only Calls e = only.inputs Calls (λ e. cc)
@@ -24,7 +24,7 @@ unnamed_at_params terms old new only ForeReport e = only.inputs ForeReport (λ e
 unnamed_at_params terms old new only BackReport e = only.inputs BackReport (λ e. cc)
 
 -- and the trace
-pub unnamed_at_trace : (terms : SourceTerms) (old mid new : DeskView) → ChangesInput Params old mid → ChangesInput Trace mid new
+pub unnamed_at_trace : (terms : FileNames) (old mid new : DeskView) → ChangesInput Params old mid → ChangesInput Trace mid new
     → KeepsUnnamed (files_alone terms) old new
 unnamed_at_trace terms old mid new first second Params e = absurd (is_named terms.params e)
 unnamed_at_trace terms old mid new first second Trace e = absurd (is_named terms.trace e)
@@ -34,7 +34,7 @@ unnamed_at_trace terms old mid new first second ForeReport e = second.inputs For
 unnamed_at_trace terms old mid new first second BackReport e = second.inputs BackReport (λ e. cc) ∙ first.inputs BackReport (λ e. cc)
 
 -- and the script, where it has a name
-pub unnamed_at_calls : (terms : SourceTerms) (old mid late new : DeskView) → ChangesInput Params old mid → ChangesInput Trace mid late
+pub unnamed_at_calls : (terms : FileNames) (old mid late new : DeskView) → ChangesInput Params old mid → ChangesInput Trace mid late
     → ChangesInput Calls late new → (terms.calls ≡ None → new.inputs Calls ≡ late.inputs Calls) → KeepsUnnamed (files_alone terms) old new
 unnamed_at_calls terms old mid late new first second third kept Params e = absurd (is_named terms.params e)
 unnamed_at_calls terms old mid late new first second third kept Trace e = absurd (is_named terms.trace e)

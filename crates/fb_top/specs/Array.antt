@@ -25,7 +25,7 @@ use Rattle.fb_top.specs.declared.lines.BackLines.{BackLines}
 use Rattle.fb_top.specs.declared.array_text.CopyLines.{CopyLines}
 use Rattle.fb_top.specs.declared.outcome.Outcome.{Outcome}
 use Rattle.fb_top.specs.declared.outcome.Outcome.TheVariants as outcomes
-use Rattle.fb_top.specs.Sources.{array_inputs}
+use Rattle.fb_top.specs.Names.{array_names}
 use Rattle.fb_top.specs.Devices.{Array, AcceptsArray, StopsArray, device_inputs}
 use Rattle.fb_top.specs.Written.{OutputFaultsRose, StopsTexts, Text, WritesAll, joined}
 use Rattle.fb_top.specs.Causes.{FaultsRose, RunsOut}
@@ -128,7 +128,7 @@ pub record IsArrayCut (old new : DeskView) (terms : ArrayTerms) (outcome : Outco
 abbrev pub ArrayHasCause : ArrayTerms → DeskView → DeskView → Outcome → Type 0
 ArrayHasCause terms old new (outcomes.Arrayed runs copy) = IsArrayed old new terms runs copy
 ArrayHasCause terms old new (outcomes.WriteFault output) = IsArrayCut old new terms (outcomes.WriteFault output)
-ArrayHasCause terms old new outcomes.NoMemory = RunsOut old new (array_inputs terms) ⊎ IsArrayCut old new terms outcomes.NoMemory
+ArrayHasCause terms old new outcomes.NoMemory = RunsOut old new (array_names terms) ⊎ IsArrayCut old new terms outcomes.NoMemory
 ArrayHasCause terms old new outcome = StopsArray terms old new outcome
 
 -- the desk tells what the files hold, they are accepted with the script of the rebuild, and no count of faults rises but perhaps the note's

@@ -19,7 +19,7 @@ use Rattle.fb_units.specs.declared.read_error.ReadError.{ReadError}
 use Rattle.fb_units.specs.declared.read_error.ReadError.TheVariants as errors
 use Rattle.fb_top.specs.declared.outcome.Outcome.{Outcome}
 use Rattle.fb_top.specs.declared.outcome.Outcome.TheVariants as outcomes
-use Rattle.fb_top.specs.Sources.{SourceTerms, InputTerms, name_of, replay_inputs, check_inputs}
+use Rattle.fb_top.specs.Names.{FileNames, InputNames, name_of, replay_names, check_names}
 use Rattle.fb_top.specs.Read.{Files, Accepts, ReadsDisk, ReadsTrace, ReadsReport, RefusesDisk, RefusesTrace, RefusesCalls, RefusesPuts}
 use Rattle.fb_top.specs.Read.{RefusesReport}
 use Rattle.fb_top.specs.Limits.{limit_of}
@@ -40,31 +40,31 @@ pub record AcceptsDisk (desk : DeskView) (name : List ℕ) : Type 0 where
   pub reads_disk : ReadsDisk desk name disk latent
 
 -- and a trace that is accepted for it
-pub record AcceptsTrace (desk : DeskView) (terms : SourceTerms) : Type 0 where
+pub record AcceptsTrace (desk : DeskView) (terms : FileNames) : Type 0 where
   pub params : AcceptsDisk desk terms.params
   pub trace : Accepted
   pub reads_trace : ReadsTrace desk terms.trace terms.device params.disk trace
 
 -- all files of a run that are accepted
-pub record AcceptsFiles (desk : DeskView) (terms : SourceTerms) : Type 0 where
+pub record AcceptsFiles (desk : DeskView) (terms : FileNames) : Type 0 where
   pub files : Files
   pub accepts : Accepts desk terms files
 
 -- and a foreground report that is accepted
-pub record AcceptsFore (desk : DeskView) (terms : InputTerms) : Type 0 where
-  pub files : AcceptsFiles desk terms.sources
+pub record AcceptsFore (desk : DeskView) (terms : InputNames) : Type 0 where
+  pub files : AcceptsFiles desk terms.files
   pub name : List ℕ
   pub given : terms.fore ≡ Some name
   pub lines : List (List ℕ)
   pub reads_fore : ReadsReport desk name fore_grammar lines
 
 -- the inputs that come before this one are accepted
-abbrev pub AcceptsBefore : DeskView → InputTerms → Input → Type 0
+abbrev pub AcceptsBefore : DeskView → InputNames → Input → Type 0
 AcceptsBefore desk terms Params = Unit {0}
-AcceptsBefore desk terms Trace = AcceptsDisk desk terms.sources.params
-AcceptsBefore desk terms Calls = AcceptsTrace desk terms.sources
-AcceptsBefore desk terms Puts = AcceptsFiles desk terms.sources
-AcceptsBefore desk terms ForeReport = AcceptsFiles desk terms.sources
+AcceptsBefore desk terms Trace = AcceptsDisk desk terms.files.params
+AcceptsBefore desk terms Calls = AcceptsTrace desk terms.files
+AcceptsBefore desk terms Puts = AcceptsFiles desk terms.files
+AcceptsBefore desk terms ForeReport = AcceptsFiles desk terms.files
 AcceptsBefore desk terms BackReport = AcceptsFore desk terms
 
 -- no input that is read after this one was touched
@@ -86,20 +86,20 @@ pub record EndsAt (input : Input) (old new : DeskView) : Type 0 where
   pub reports : KeepsReports old new
 
 -- an accepted disk, and a trace that is refused for it
-pub record RefusesTraceInTurn (desk : DeskView) (terms : SourceTerms) (fault : TraceFault) : Type 0 where
+pub record RefusesTraceInTurn (desk : DeskView) (terms : FileNames) (fault : TraceFault) : Type 0 where
   pub before : AcceptsDisk desk terms.params
   pub refuses : RefusesTrace desk terms.trace terms.device before.disk fault
 
 -- an accepted disk and an accepted trace, and a script that is refused for them
-pub record RefusesCallsInTurn (desk : DeskView) (terms : SourceTerms) (fault : CallsFault) : Type 0 where
+pub record RefusesCallsInTurn (desk : DeskView) (terms : FileNames) (fault : CallsFault) : Type 0 where
   pub before : AcceptsTrace desk terms
   pub name : List ℕ
   pub given : terms.calls ≡ Some name
   pub refuses : RefusesCalls desk name before.params.disk (length before.trace.requests) fault
 
 -- accepted files, and puts that are refused for them
-pub record RefusesPutsInTurn (desk : DeskView) (terms : InputTerms) (fault : PutsFault) : Type 0 where
-  pub before : AcceptsFiles desk terms.sources
+pub record RefusesPutsInTurn (desk : DeskView) (terms : InputNames) (fault : PutsFault) : Type 0 where
+  pub before : AcceptsFiles desk terms.files
   pub name : List ℕ
   pub given : terms.puts ≡ Some name
   pub refuses : RefusesPuts desk name before.files fault
@@ -110,36 +110,36 @@ input_of reports.Fore = ForeReport
 input_of reports.Back = BackReport
 
 -- accepted files, and a report that is refused; before the background report the foreground report is accepted
-pub record RefusesReportInTurn (desk : DeskView) (terms : InputTerms) (fault : ReportsFault) : Type 0 where
+pub record RefusesReportInTurn (desk : DeskView) (terms : InputNames) (fault : ReportsFault) : Type 0 where
   pub before : AcceptsBefore desk terms (input_of fault.report)
   pub name : List ℕ
   pub given : name_of terms (input_of fault.report) ≡ Some name
   pub refuses : RefusesReport desk name (grammar_of fault.report) fault.line
 
 -- an input that the words give has more bytes than it may have
-pub record IsTooLong (desk : DeskView) (terms : InputTerms) (input : Input) : Type 0 where
+pub record IsTooLong (desk : DeskView) (terms : InputNames) (input : Input) : Type 0 where
   pub before : AcceptsBefore desk terms input
   pub name : List ℕ
   pub given : name_of terms input ≡ Some name
   pub longer : IsLonger desk name (limit_of input)
 
 -- a call that reads an input that the words give has failed
-pub record IsUnread (old new : DeskView) (terms : InputTerms) (input : Input) : Type 0 where
+pub record IsUnread (old new : DeskView) (terms : InputNames) (input : Input) : Type 0 where
   pub before : AcceptsBefore old terms input
   pub given : is_some (name_of terms input) ≡ true
   pub rose : FaultsRose old new input
 
 -- memory ran out at an input, or after all of them: those before it are accepted, and nothing after it was touched
-pub record RunsOut (old new : DeskView) (terms : InputTerms) : Type 0 where
+pub record RunsOut (old new : DeskView) (terms : InputNames) : Type 0 where
   pub input : Input
   pub before : AcceptsBefore old terms input
   pub ends : EndsAt input old new
 
 -- why the inputs were not all accepted
-abbrev pub StopsInputs : InputTerms → DeskView → DeskView → Outcome → Type 0
-StopsInputs terms old new (outcomes.Params fault) = RefusesDisk old terms.sources.params fault × EndsAt Params old new
-StopsInputs terms old new (outcomes.Trace fault) = RefusesTraceInTurn old terms.sources fault × EndsAt Trace old new
-StopsInputs terms old new (outcomes.Calls fault) = RefusesCallsInTurn old terms.sources fault × EndsAt Calls old new
+abbrev pub StopsInputs : InputNames → DeskView → DeskView → Outcome → Type 0
+StopsInputs terms old new (outcomes.Params fault) = RefusesDisk old terms.files.params fault × EndsAt Params old new
+StopsInputs terms old new (outcomes.Trace fault) = RefusesTraceInTurn old terms.files fault × EndsAt Trace old new
+StopsInputs terms old new (outcomes.Calls fault) = RefusesCallsInTurn old terms.files fault × EndsAt Calls old new
 StopsInputs terms old new (outcomes.Puts fault) = RefusesPutsInTurn old terms fault × EndsAt Puts old new
 StopsInputs terms old new (outcomes.Reports fault) = RefusesReportInTurn old terms fault × EndsAt (input_of fault.report) old new
 StopsInputs terms old new (outcomes.TooLong input) = IsTooLong old terms input × EndsAt input old new
@@ -156,15 +156,15 @@ abbrev pub HasCause : ReplayTerms → DeskView → DeskView → Outcome → Type
 HasCause terms old new (outcomes.Done run) = IsDone old new terms run
 HasCause terms old new (outcomes.Spilled run spill) = IsSpilled old new terms run spill
 HasCause terms old new (outcomes.WriteFault output) = IsCut old new terms (outcomes.WriteFault output)
-HasCause terms old new outcomes.NoMemory = RunsOut old new (replay_inputs terms) ⊎ IsCut old new terms outcomes.NoMemory
-HasCause terms old new outcome = StopsInputs (replay_inputs terms) old new outcome
+HasCause terms old new outcomes.NoMemory = RunsOut old new (replay_names terms) ⊎ IsCut old new terms outcomes.NoMemory
+HasCause terms old new outcome = StopsInputs (replay_names terms) old new outcome
 
 -- the cause of each answer to the terms of a check
 abbrev pub CheckHasCause : CheckTerms → DeskView → DeskView → Outcome → Type 0
 CheckHasCause terms old new (outcomes.Checked verdict) = IsChecked old new terms verdict
 CheckHasCause terms old new (outcomes.WriteFault output) = IsVerdictCut old new terms (outcomes.WriteFault output)
-CheckHasCause terms old new outcomes.NoMemory = RunsOut old new (check_inputs terms) ⊎ IsVerdictCut old new terms outcomes.NoMemory
-CheckHasCause terms old new outcome = StopsInputs (check_inputs terms) old new outcome
+CheckHasCause terms old new outcomes.NoMemory = RunsOut old new (check_names terms) ⊎ IsVerdictCut old new terms outcomes.NoMemory
+CheckHasCause terms old new outcome = StopsInputs (check_names terms) old new outcome
 
 -- why an input was not read whole
 abbrev pub StopsReading : Input → List ℕ → DeskView → DeskView → Outcome → Type 0

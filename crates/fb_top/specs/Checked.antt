@@ -19,7 +19,7 @@ use Rattle.fb_desk.specs.declared.desk.Output.TheVariants.{Fore}
 use Rattle.fb_words.specs.Command.{CheckTerms}
 use Rattle.fb_top.specs.declared.outcome.Outcome.{Outcome}
 use Rattle.fb_top.specs.Read.{Files, Accepts, ReadsReport, inputs_of_files, key_of}
-use Rattle.fb_top.specs.Sources.{check_sources}
+use Rattle.fb_top.specs.Names.{check_file_names}
 use Rattle.fb_top.specs.Written.{HoldsWhole, KeepsBut, StopsText}
 
 -- what a report is called
@@ -77,7 +77,7 @@ pub record JudgesBy (desk : DeskView) (terms : CheckTerms) (files : Files) (verd
 -- the verdict by the accepted files; their disk has no fault, and they keep the rules that laws of full runs ask of inputs
 pub record IsVerdictOf (desk : DeskView) (terms : CheckTerms) (verdict : Verdict) : Type 0 where
   pub files : Files
-  pub accepts : Accepts desk (check_sources terms) files
+  pub accepts : Accepts desk (check_file_names terms) files
   pub sound : IsSound files.disk.map
   pub accepted : IsAccepted (inputs_of_files files (key_of terms.policy) terms.until)
   pub judges : JudgesBy desk terms files verdict

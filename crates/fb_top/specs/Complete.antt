@@ -9,7 +9,7 @@ use Rattle.fb_words.specs.Command.{Terms, ReplayTerms, CheckTerms, replays, make
 use Rattle.fb_words.specs.declared.fault.UsageFault.{UsageFault}
 use Rattle.fb_top.specs.declared.outcome.Outcome.{Outcome}
 use Rattle.fb_top.specs.declared.outcome.Outcome.TheVariants as outcomes
-use Rattle.fb_top.specs.Sources.{InputTerms, replay_inputs, check_inputs}
+use Rattle.fb_top.specs.Names.{InputNames, replay_names, check_names}
 use Rattle.fb_top.specs.Read.{Files, Accepts, ReadsPuts, ReadsReport}
 use Rattle.fb_top.specs.Written.{OutputFaultsRose}
 use Rattle.fb_top.specs.Causes.{FaultsRose}
@@ -29,12 +29,12 @@ pub record TellsPuts (desk : DeskView) (files : Files) (name : List ℕ) : Type 
   pub told : is_some (desk.held name) ≡ true
 
 -- the desk tells what each input holds, all are accepted, and no call of an input failed
-pub record ReadsWell (old new : DeskView) (terms : InputTerms) : Type 0 where
+pub record ReadsWell (old new : DeskView) (terms : InputNames) : Type 0 where
   pub files : Files
-  pub accepts : Accepts old terms.sources files
-  pub params_told : is_some (old.held terms.sources.params) ≡ true
-  pub trace_told : is_some (old.held terms.sources.trace) ≡ true
-  pub calls_told : IfSome terms.sources.calls (λ name. is_some (old.held name) ≡ true)
+  pub accepts : Accepts old terms.files files
+  pub params_told : is_some (old.held terms.files.params) ≡ true
+  pub trace_told : is_some (old.held terms.files.trace) ≡ true
+  pub calls_told : IfSome terms.files.calls (λ name. is_some (old.held name) ≡ true)
   pub puts_told : IfSome terms.puts (TellsPuts old files)
   pub fore_told : IfSome terms.fore (TellsReport old fore_grammar)
   pub back_told : IfSome terms.back (TellsReport old back_grammar)
@@ -42,14 +42,14 @@ pub record ReadsWell (old new : DeskView) (terms : InputTerms) : Type 0 where
 
 -- the inputs of a replay are read well, and no count of faults rises but perhaps the note's
 pub record GoesWell (old new : DeskView) (terms : ReplayTerms) : Type 0 where
-  pub inputs : ReadsWell old new (replay_inputs terms)
+  pub inputs : ReadsWell old new (replay_names terms)
   pub fore : OutputFaultsRose old new Fore → ⊥
   pub back : OutputFaultsRose old new Back → ⊥
   pub spill : OutputFaultsRose old new Spill → ⊥
 
 -- and so those of a check
 pub record CheckGoesWell (old new : DeskView) (terms : CheckTerms) : Type 0 where
-  pub inputs : ReadsWell old new (check_inputs terms)
+  pub inputs : ReadsWell old new (check_names terms)
   pub fore : OutputFaultsRose old new Fore → ⊥
 
 -- the replay was made, unless memory ran out

@@ -22,7 +22,7 @@ use Rattle.fb_top.specs.declared.outcome.Outcome.{Outcome}
 use Rattle.fb_top.specs.declared.outcome.Outcome.TheVariants as outcomes
 use Rattle.fb_top.specs.Causes.{AcceptsDisk, EndsAt, StopsInputs, StopsReading}
 use Rattle.fb_top.specs.Limits.{limit_of}
-use Rattle.fb_top.specs.Sources.{array_inputs}
+use Rattle.fb_top.specs.Names.{array_names}
 use Rattle.fb_top.specs.Streams.{ReadsAs}
 
 -- the trace under a name is accepted for each device of this disk, with these requests, by device
@@ -99,7 +99,7 @@ pub record RefusesRebuildInTurn (desk : DeskView) (terms : ArrayTerms) (fault : 
 abbrev pub StopsArray : ArrayTerms → DeskView → DeskView → Outcome → Type 0
 StopsArray terms old new (outcomes.Trace fault) = RefusesDeviceInTurn old terms fault × EndsAt Trace old new
 StopsArray terms old new (outcomes.Calls fault) = RefusesRebuildInTurn old terms fault × EndsAt Trace old new
-StopsArray terms old new outcome = StopsInputs (array_inputs terms) old new outcome
+StopsArray terms old new outcome = StopsInputs (array_names terms) old new outcome
 
 -- why no trace was read
 abbrev pub StopsTraces : List ℕ → ℕ → Disk → DeskView → DeskView → Outcome → Type 0

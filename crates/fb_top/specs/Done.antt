@@ -18,13 +18,13 @@ use Rattle.fb_top.specs.declared.outcome.Outcome.{Outcome}
 use Rattle.fb_top.specs.declared.outcome.Outcome.TheVariants as outcomes
 use Rattle.fb_puts.specs.Reading.{Accepted as PutsRead}
 use Rattle.fb_top.specs.Read.{Files, Accepts, AcceptsPuts, inputs_of_files, key_of}
-use Rattle.fb_top.specs.Sources.{replay_sources}
+use Rattle.fb_top.specs.Names.{replay_file_names}
 use Rattle.fb_top.specs.Written.{HoldsWhole, KeepsButBoth, CutsOff, CutsSecond, OutputFaultsRose}
 
 -- the full run of the accepted files; their disk has no fault, and they keep the rules that laws of full runs ask of inputs
 pub record IsRunOf (desk : DeskView) (terms : ReplayTerms) (run : Run) : Type 0 where
   pub files : Files
-  pub accepts : Accepts desk (replay_sources terms) files
+  pub accepts : Accepts desk (replay_file_names terms) files
   pub sound : IsSound files.disk.map
   pub accepted : IsAccepted (inputs_of_files files (key_of terms.policy) terms.until)
   pub full : IsFull (inputs_of_files files (key_of terms.policy) terms.until) run
@@ -59,11 +59,16 @@ abbrev pub HoldsWanted : Option (List ℕ) → List ℕ → OutputView → Outpu
 HoldsWanted None text old new = new ≡ old
 HoldsWanted (Some name) text old new = HoldsWhole new name text
 
--- the foreground is written under the name `-`, the background under the name that the words give, if any, and nothing else was written
-pub record HoldsReports (terms : ReplayTerms) (files : Files) (run : Run) (old new : DeskView) : Type 0 where
-  pub others : KeepsButBoth Fore Back old new
+-- the foreground is written under the name `-`, and the background under the name that the words give, if any
+pub record AreReported (terms : ReplayTerms) (files : Files) (run : Run) (old new : DeskView) : Type 0 where
   pub fore : HoldsWhole (new.outputs Fore) (codes "-") (fore_told terms files run)
   pub back : HoldsWanted terms.back (back_told terms files run) (old.outputs Back) (new.outputs Back)
+
+-- both are written, and nothing else
+pub record HoldsReports (terms : ReplayTerms) (files : Files) (run : Run) (old new : DeskView) : Type 0 where
+  pub others : KeepsButBoth Fore Back old new
+  pub reported : AreReported terms files run old new
+  pub open reported use *
 
 -- the foreground was cut off
 abbrev pub CutsFore : ReplayTerms → Files → Run → DeskView → DeskView → Type 0

@@ -1,7 +1,7 @@
 pub mod Limits
 pub mod Streams
 pub mod Written
-pub mod Sources
+pub mod Names
 pub mod Read
 pub mod Done
 pub mod Spilled

@@ -21,9 +21,9 @@ use Rattle.fb_desk.specs.declared.desk.Input.TheVariants as inputs
 use Rattle.fb_words.specs.declared.command.Policy.{Policy}
 use Rattle.fb_words.specs.declared.command.Policy.TheVariants.{Fcfs, Sstf, Clook, Sptf}
 use Rattle.fb_report.specs.Grammar.{Grammar, report_of, ended}
-use Rattle.fb_top.specs.declared.reading.ReplayFiles.{ReplayFiles}
+use Rattle.fb_top.specs.declared.reading.RunFiles.{RunFiles}
 use Rattle.fb_top.specs.Limits.{limit_of, report_limit}
-use Rattle.fb_top.specs.Sources.{SourceTerms}
+use Rattle.fb_top.specs.Names.{FileNames}
 use Rattle.fb_top.specs.Streams.{IsHeld, ReadsAs}
 
 -- the parameter file under a name is accepted, with this disk and these latent sectors
@@ -57,14 +57,14 @@ abbrev pub ReadsScript : DeskView → Option (List ℕ) → Disk → ℕ → Scr
 ReadsScript desk None disk traced script = script ≡ record { names = []; calls = [] }
 ReadsScript desk (Some name) disk traced script = ReadsCalls desk name disk traced script
 
--- what the files of a replay say
+-- what the files of a run say
 pub record Files : Type 0 where
   pub disk : Disk
   pub latent : List ℕ
   pub trace : Accepted
   pub script : Script
 
-abbrev pub files_of : ReplayFiles → Files
+abbrev pub files_of : RunFiles → Files
 files_of read = record {
   disk = read.params.disk;
   latent = read.params.latent.items;
@@ -73,7 +73,7 @@ files_of read = record {
 }
 
 -- all files that the words name are accepted, each for those before it, and say this
-pub record Accepts (desk : DeskView) (terms : SourceTerms) (files : Files) : Type 0 where
+pub record Accepts (desk : DeskView) (terms : FileNames) (files : Files) : Type 0 where
   pub disk : ReadsDisk desk terms.params files.disk files.latent
   pub trace : ReadsTrace desk terms.trace terms.device files.disk files.trace
   pub script : ReadsScript desk terms.calls files.disk (length files.trace.requests) files.script

@@ -19,7 +19,7 @@ use Rattle.fb_words.specs.Command.{ReplayTerms}
 use Rattle.fb_top.specs.declared.outcome.Outcome.{Outcome}
 use Rattle.fb_top.specs.declared.outcome.Outcome.TheVariants as outcomes
 use Rattle.fb_top.specs.Read.{AcceptsPuts, Files, inputs_of_files, puts_terms}
-use Rattle.fb_top.specs.Done.{AreReadBack, HoldsReports, HoldsWanted, IsRunOf, StopsReports, back_told, fore_told}
+use Rattle.fb_top.specs.Done.{AreReadBack, AreReported, HoldsReports, IsRunOf, StopsReports}
 use Rattle.fb_top.specs.Written.{HoldsFront, HoldsWhole, KeepsButThree, OutputFaultsRose, joined}
 
 -- puts that keep their rules, whose reserve shares no sector with what the trace and the script ask for
@@ -66,8 +66,8 @@ spill_told terms files spill = joined (spill_lines files.disk.sector_bytes terms
 -- both reports are written as without puts, and nothing else but perhaps the text of what was written
 pub record HoldsBoth (terms : ReplayTerms) (files : Files) (run : Run) (old new : DeskView) : Type 0 where
   pub others : KeepsButThree Fore Back Spill old new
-  pub fore : HoldsWhole (new.outputs Fore) (codes "-") (fore_told terms files run)
-  pub back : HoldsWanted terms.back (back_told terms files run) (old.outputs Back) (new.outputs Back)
+  pub reported : AreReported terms files run old new
+  pub open reported use *
 
 -- and that text is written whole, under the name that the words give
 pub record HoldsSpill (terms : ReplayTerms) (files : Files) (run : Run) (spill : SpillRun) (old new : DeskView) : Type 0 where

@@ -16,7 +16,7 @@ use Rattle.fb_top.specs.declared.outcome.Outcome.TheVariants as outcomes
 use Rattle.fb_top.specs.declared.reading.Workload.{Workload}
 use Rattle.fb_top.specs.Devices.{AcceptsArray, Array}
 use Rattle.fb_top.specs.Read.{Accepts, AcceptsPuts, Files, inputs_of_files, key_of}
-use Rattle.fb_top.specs.Sources.{array_inputs, check_sources, files_alone, replay_inputs, replay_sources}
+use Rattle.fb_top.specs.Names.{array_names, check_file_names, files_alone, replay_names, replay_file_names}
 use Rattle.fb_top.specs.Unnamed.{KeepsUnnamed}
 
 -- no output has changed
@@ -30,11 +30,11 @@ files_on disk latent workload =
 
 -- the files and the puts of a replay were accepted, and nothing else was touched
 pub record TakesReplay (terms : ReplayTerms) (files : Files) (puts : Option PutsRead) (old new : DeskView) : Type 0 where
-  pub accepts : Accepts old (replay_sources terms) files
+  pub accepts : Accepts old (replay_file_names terms) files
   pub accepts_puts : AcceptsPuts old terms.puts files puts
   pub sound : IsSound files.disk.map
   pub fit : IsAccepted (inputs_of_files files (key_of terms.policy) terms.until)
-  pub unnamed : KeepsUnnamed (replay_inputs terms) old new
+  pub unnamed : KeepsUnnamed (replay_names terms) old new
   pub outputs : KeepsOutputs old new
 
 -- the outcome of a replay that is done
@@ -44,16 +44,16 @@ done_as run (Some spill) = outcomes.Spilled run spill
 
 -- the files of a check were accepted, and nothing else was touched
 pub record TakesCheck (terms : CheckTerms) (files : Files) (old new : DeskView) : Type 0 where
-  pub accepts : Accepts old (check_sources terms) files
+  pub accepts : Accepts old (check_file_names terms) files
   pub sound : IsSound files.disk.map
   pub fit : IsAccepted (inputs_of_files files (key_of terms.policy) terms.until)
   pub held : (name : List ℕ) → new.held name ≡ old.held name
-  pub unnamed : KeepsUnnamed (files_alone (check_sources terms)) old new
+  pub unnamed : KeepsUnnamed (files_alone (check_file_names terms)) old new
   pub outputs : KeepsOutputs old new
 
 -- the files of an array were accepted, and nothing else was touched
 pub record TakesArray (terms : ArrayTerms) (array : Array) (old new : DeskView) : Type 0 where
   pub accepts : AcceptsArray old terms array
   pub sound : IsSound array.disk.map
-  pub unnamed : KeepsUnnamed (array_inputs terms) old new
+  pub unnamed : KeepsUnnamed (array_names terms) old new
   pub outputs : KeepsOutputs old new

@@ -21,7 +21,7 @@ use Rattle.fb_top.specs.declared.outcome.Outcome.TheVariants.{Checked, NoMemory}
 use Rattle.fb_top.specs.Causes.{CheckHasCause, FaultsRose}
 use Rattle.fb_top.specs.Checked.{IsVerdictOf}
 use Rattle.fb_top.specs.Complete.{TellsReport}
-use Rattle.fb_top.specs.Sources.{SourceTerms, check_sources, replay_sources}
+use Rattle.fb_top.specs.Names.{FileNames, check_file_names, replay_file_names}
 use Rattle.fb_top.specs.Limits.{report_limit}
 use Rattle.fb_top.specs.Read.{Files, inputs_of_files, key_of}
 use Rattle.fb_top.specs.Array.{AreRunsOf, device_line, section}
@@ -48,7 +48,7 @@ abbrev pub HoldAlike : DeskView → DeskView → List ℕ → Type 0
 HoldAlike one other name = (bytes : List ℕ) × (one.held name ≡ Some bytes) × (other.held name ≡ Some bytes)
 
 -- and so under the name of each file of a run
-pub record HoldOneInput (one other : DeskView) (terms : SourceTerms) : Type 0 where
+pub record HoldOneInput (one other : DeskView) (terms : FileNames) : Type 0 where
   pub params : HoldAlike one other terms.params
   pub trace : HoldAlike one other terms.trace
   pub calls : IfSome terms.calls (HoldAlike one other)
@@ -56,14 +56,14 @@ pub record HoldOneInput (one other : DeskView) (terms : SourceTerms) : Type 0 wh
 -- two replays ask for one run: the same files and device, the same policy and the same end; what they print, and what they write in gaps,
 -- may differ
 pub record AskForOneRun (terms others : ReplayTerms) : Type 0 where
-  pub sources : replay_sources terms ≡ replay_sources others
+  pub names : replay_file_names terms ≡ replay_file_names others
   pub policy : terms.policy ≡ others.policy
   pub until : terms.until ≡ others.until
 
 -- such words over the same bytes have one run
 abbrev pub InputsHaveOneRun : Type 0
 InputsHaveOneRun = (one other : DeskView) (terms others : ReplayTerms) (run run' : Run) → AskForOneRun terms others
-    → HoldOneInput one other (replay_sources terms)
+    → HoldOneInput one other (replay_file_names terms)
     → IsRunOf one terms run → IsRunOf other others run' → run ≡ run'
 
 -- two runs of files that agree up to an instant before both ends are the same in what is known by then
@@ -77,10 +77,10 @@ RunsLookNotAhead = (one other : DeskView) (terms others : ReplayTerms) (run run'
 
 -- a check asks for what a replay asked for: the same policy and end, and files of the same bytes
 pub record ChecksRun (one other : DeskView) (terms : ReplayTerms) (checks : CheckTerms) : Type 0 where
-  pub sources : check_sources checks ≡ replay_sources terms
+  pub names : check_file_names checks ≡ replay_file_names terms
   pub policy : checks.policy ≡ terms.policy
   pub until : checks.until ≡ terms.until
-  pub alike : HoldOneInput one other (replay_sources terms)
+  pub alike : HoldOneInput one other (replay_file_names terms)
 
 -- the text of these lines is held under a name, and is read as these lines
 pub record HoldsLines (desk : DeskView) (name : List ℕ) (grammar : Grammar) (lines : List (List ℕ)) : Type 0 where

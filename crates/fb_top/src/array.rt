@@ -15,7 +15,7 @@ ghost use Rattle.fb_top.specs.Calm.{AreOutputsCalm, MeetsNoFault};
 ghost use Rattle.fb_top.specs.Devices.{array_of, device_inputs, is_rebuilt_from};
 ghost use Rattle.fb_top.specs.Done.{CanBeTold};
 ghost use Rattle.fb_top.specs.Opened.{OpensAsNamed};
-ghost use Rattle.fb_top.specs.Sources.{array_inputs};
+ghost use Rattle.fb_top.specs.Names.{array_names};
 ghost use Rattle.fb_top.specs.Taken.{TakesArray};
 ghost use Rattle.fb_top.specs.Unnamed.{KeepsInputs, KeepsUnnamed};
 ghost use Rattle.fb_top.specs.Written.{StopsTexts, WritesAll};
@@ -41,8 +41,8 @@ pub fn run_array<D: Desk>(alloc: Global, desk: &mut D, words: &ArrayWords) -> Ou
     requires unused { IsUnused (D.seen desk.old) }
     requires limits { IsWithinLimits (arrays (array_terms words.now)) }
     ensures cause { ArrayHasCause (array_terms words.now) (D.seen desk.old) (D.seen desk.new) result }
-    ensures unnamed { KeepsUnnamed (array_inputs (array_terms words.now)) (D.seen desk.old) (D.seen desk.new) }
-    ensures opened { OpensAsNamed (array_inputs (array_terms words.now)) (D.seen desk.old) (D.seen desk.new) }
+    ensures unnamed { KeepsUnnamed (array_names (array_terms words.now)) (D.seen desk.old) (D.seen desk.new) }
+    ensures opened { OpensAsNamed (array_names (array_terms words.now)) (D.seen desk.old) (D.seen desk.new) }
     ensures calm { MeetsNoFault result (D.seen desk.old) (D.seen desk.new) }
     ensures no_note { (D.seen desk.new).outputs Output.Note ≡ (D.seen desk.old).outputs Output.Note }
 {

@@ -13,14 +13,14 @@ ghost use Rattle.fb_top.specs.Causes.{CheckHasCause, StopsPrinted, StopsReport, 
 ghost use Rattle.fb_top.specs.Checked.{ArePrintedCalm, ChangesPrinted, JudgesBack, JudgesBy, verdict_line};
 ghost use Rattle.fb_top.specs.Opened.{IsOpenedAs, OpensAsNamed};
 ghost use Rattle.fb_top.specs.Read.{files_of, inputs_of_files, key_of};
-ghost use Rattle.fb_top.specs.Sources.{check_inputs, check_sources, sources_of};
+ghost use Rattle.fb_top.specs.Names.{check_names, check_file_names, file_names};
 ghost use Rattle.fb_top.specs.Taken.{TakesCheck};
 ghost use Rattle.fb_top.specs.Unnamed.{KeepsUnnamed};
 ghost use Rattle.fb_top.specs.Written.{HoldsWhole, StopsText};
 
 use crate::Outcome;
 use crate::policy::judge_by;
-use crate::reading::{ReplayFiles, Sources, read_files, read_printed};
+use crate::reading::{NamedFiles, RunFiles, read_files, read_printed};
 use crate::verdict_line::verdict_line;
 use crate::writing::write_made;
 use fb_check::{Printed, Verdict};
@@ -35,24 +35,19 @@ pub fn run_check<D: Desk>(alloc: Global, desk: &mut D, words: &CheckWords) -> Ou
     requires unused { IsUnused (D.seen desk.old) }
     requires until { words.now.until ≤ 10 ^ 15 }
     ensures cause { CheckHasCause (check_terms words.now) (D.seen desk.old) (D.seen desk.new) result }
-    ensures unnamed { KeepsUnnamed (check_inputs (check_terms words.now)) (D.seen desk.old) (D.seen desk.new) }
-    ensures opened { OpensAsNamed (check_inputs (check_terms words.now)) (D.seen desk.old) (D.seen desk.new) }
+    ensures unnamed { KeepsUnnamed (check_names (check_terms words.now)) (D.seen desk.old) (D.seen desk.new) }
+    ensures opened { OpensAsNamed (check_names (check_terms words.now)) (D.seen desk.old) (D.seen desk.new) }
     ensures calm { MeetsNoFault result (D.seen desk.old) (D.seen desk.new) }
     ensures no_note { (D.seen desk.new).outputs Output.Note ≡ (D.seen desk.old).outputs Output.Note }
 {
-    match read_files(alloc, desk, &sources(words)) {
+    match read_files(alloc, desk, &named_files(words)) {
         Ok(files) => check_read(alloc, desk, words, &files),
         Err(outcome) => outcome,
     }
 }
 
 // Judges the printed reports by files that were read, and tells the verdict.
-fn check_read<D: Desk>(
-    alloc: Global,
-    desk: &mut D,
-    words: &CheckWords,
-    files: &ReplayFiles,
-) -> Outcome
+fn check_read<D: Desk>(alloc: Global, desk: &mut D, words: &CheckWords, files: &RunFiles) -> Outcome
     requires fresh_fore { ((D.seen desk.old).inputs Input.ForeReport).opened ≡ false }
     requires fresh_back { ((D.seen desk.old).inputs Input.BackReport).opened ≡ false }
     requires fresh { ((D.seen desk.old).outputs Output.Fore).begun ≡ false }
@@ -78,10 +73,10 @@ fn check_read<D: Desk>(
 }
 
 // The files of the run.
-fn sources(words: &CheckWords) -> Sources<'_>
-    ensures { sources_of result ≡ check_sources (check_terms words.now) }
+fn named_files(words: &CheckWords) -> NamedFiles<'_>
+    ensures { file_names result ≡ check_file_names (check_terms words.now) }
 {
-    Sources {
+    NamedFiles {
         params: words.params.as_str(),
         trace: words.trace.as_str(),
         calls: Some(words.calls.as_str()),
@@ -96,7 +91,7 @@ fn judge_printed<D: Desk>(
     alloc: Global,
     desk: &mut D,
     words: &CheckWords,
-    files: &ReplayFiles,
+    files: &RunFiles,
 ) -> Result<Verdict, Outcome>
     requires fresh_fore { ((D.seen desk.old).inputs Input.ForeReport).opened ≡ false }
     requires fresh_back { ((D.seen desk.old).inputs Input.BackReport).opened ≡ false }
@@ -124,7 +119,7 @@ fn judge_with<D: Desk>(
     alloc: Global,
     desk: &mut D,
     words: &CheckWords,
-    files: &ReplayFiles,
+    files: &RunFiles,
     fore: &ReportLines<'_>,
 ) -> Result<Verdict, Outcome>
     requires fresh { ((D.seen desk.old).inputs Input.BackReport).opened ≡ false }

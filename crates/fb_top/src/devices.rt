@@ -20,7 +20,7 @@ ghost use Rattle.fb_top.specs.Devices.{AcceptsArray, ReadsRebuild, ReadsTraces, 
 ghost use Rattle.fb_top.specs.Devices.{device_inputs, is_rebuilt_from};
 ghost use Rattle.fb_top.specs.Opened.{IsOpenedAs, OpensAsNamed};
 ghost use Rattle.fb_top.specs.Read.{ReadsDisk};
-ghost use Rattle.fb_top.specs.Sources.{array_inputs};
+ghost use Rattle.fb_top.specs.Names.{array_names};
 ghost use Rattle.fb_top.specs.Taken.{KeepsOutputs};
 ghost use Rattle.fb_top.specs.Unnamed.{KeepsUnnamed};
 
@@ -75,8 +75,8 @@ pub fn read_array<D: Desk>(
     ensures sound { IfOk result (λ files. IsSound files.params.disk.map) }
     ensures names { IfOk result (λ files. length files.calls.names ≡ length (tasks files.calls.calls.items)) }
     ensures cause { IfErr result (StopsArray (array_terms words.now) (D.seen desk.old) (D.seen desk.new)) }
-    ensures unnamed { KeepsUnnamed (array_inputs (array_terms words.now)) (D.seen desk.old) (D.seen desk.new) }
-    ensures opened { OpensAsNamed (array_inputs (array_terms words.now)) (D.seen desk.old) (D.seen desk.new) }
+    ensures unnamed { KeepsUnnamed (array_names (array_terms words.now)) (D.seen desk.old) (D.seen desk.new) }
+    ensures opened { OpensAsNamed (array_names (array_terms words.now)) (D.seen desk.old) (D.seen desk.new) }
     ensures calm { IfOk result (λ _. AreInputsCalm (D.seen desk.old) (D.seen desk.new)) }
 {
     let params = match read_disk(alloc, desk, words.params.as_str()) {

@@ -9,7 +9,7 @@ ghost use Rattle.fb_top.specs.Read.{AcceptsPuts, ReadsPuts, files_of};
 ghost use Rattle.fb_top.specs.Spilled.{CanBeSpilled};
 
 use crate::Outcome;
-use crate::reading::{ReplayFiles, read_input};
+use crate::reading::{RunFiles, read_input};
 use fb_desk::{Desk, Input};
 use fb_puts::{Puts, PutsError, read_puts};
 use std::alloc::Global;
@@ -21,7 +21,7 @@ pub fn read_given_puts<D: Desk>(
     alloc: Global,
     desk: &mut D,
     name: Option<&str>,
-    files: &ReplayFiles,
+    files: &RunFiles,
 ) -> Result<Option<Puts>, Outcome>
     requires { ((D.seen desk.old).inputs Input.Puts).opened ≡ false }
     ensures only { ChangesInput Input.Puts (D.seen desk.old) (D.seen desk.new) }
@@ -50,7 +50,7 @@ fn read_named_puts<D: Desk>(
     alloc: Global,
     desk: &mut D,
     name: &str,
-    files: &ReplayFiles,
+    files: &RunFiles,
 ) -> Result<Puts, Outcome>
     requires { ((D.seen desk.old).inputs Input.Puts).opened ≡ false }
     ensures only { ChangesInput Input.Puts (D.seen desk.old) (D.seen desk.new) }

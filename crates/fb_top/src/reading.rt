@@ -13,7 +13,7 @@ ghost use Rattle.fb_script.specs.Verdict.{accepted as accepted_calls};
 ghost use Rattle.fb_decide.specs.RunInputs.{inputs_of};
 ghost use Rattle.fb_model.specs.Accepted.{IsAccepted};
 ghost use Rattle.fb_model.specs.PlainReplay.{Key};
-ghost use Rattle.fb_top.specs.Sources.{files_alone, sources_of};
+ghost use Rattle.fb_top.specs.Names.{files_alone, file_names};
 ghost use Rattle.fb_top.specs.Read.{Accepts, ReadsCalls, ReadsDisk, ReadsScript, ReadsTrace, files_of, inputs_of_files};
 ghost use Rattle.fb_top.specs.Causes.{StopsCalls, StopsDisk, StopsInputs, StopsReading, StopsReport, StopsScript, StopsTrace};
 ghost use Rattle.fb_top.specs.Causes.{input_of};
@@ -39,7 +39,7 @@ use std::alloc::Global;
 
 /// The files of a run, by the names that the words give them.
 #[derive(Clone, Copy)]
-pub struct Sources<'a> {
+pub struct NamedFiles<'a> {
     /// The parameter file.
     pub params: &'a str,
     /// The trace.
@@ -50,9 +50,9 @@ pub struct Sources<'a> {
     pub device: u64,
 }
 
-/// What the files of a replay say.
+/// What the files of a run say.
 #[derive(Drop)]
-pub struct ReplayFiles {
+pub struct RunFiles {
     /// The disk and its latent sectors.
     pub params: Parameters,
     /// The requests of one device, in order of arrival.
@@ -70,9 +70,8 @@ struct Workload {
     calls: Calls,
 }
 
-impl ReplayFiles {
-    /// The inputs of a replay of these files. `until` is the instant, in ns, at most 10^15, up to which
-    /// the head goes on reading background when nothing else is left to do.
+impl RunFiles {
+    /// The inputs of a run of these files up to `until`, in ns (see `RunInputs::until`).
     pub fn run_inputs(&self, until: Ns) -> RunInputs<'_>
         ensures inputs { (key : Key) → inputs_of result key ≡ inputs_of_files (files_of self.now) key until }
         ensures calls { result.calls.now ≡ self.now.calls }
@@ -94,28 +93,28 @@ impl ReplayFiles {
 pub fn read_files<D: Desk>(
     alloc: Global,
     desk: &mut D,
-    sources: &Sources<'_>,
-) -> Result<ReplayFiles, Outcome>
+    named: &NamedFiles<'_>,
+) -> Result<RunFiles, Outcome>
     requires { IsUnused (D.seen desk.old) }
     ensures held { (name : List ℕ) → (D.seen desk.new).held name ≡ (D.seen desk.old).held name }
     ensures outputs { KeepsOutputs (D.seen desk.old) (D.seen desk.new) }
-    ensures accepts { IfOk result (λ files. Accepts (D.seen desk.old) (sources_of sources.now) (files_of files)) }
+    ensures accepts { IfOk result (λ files. Accepts (D.seen desk.old) (file_names named.now) (files_of files)) }
     ensures fit { IfOk result (λ files. (key : Key) (until : ℕ) → until ≤ 10 ^ 15
         → IsAccepted (inputs_of_files (files_of files) key until)) }
     ensures sound { IfOk result (λ files. IsSound files.params.disk.map) }
     ensures names { IfOk result (λ files. length files.calls.names ≡ length (tasks files.calls.calls.items)) }
-    ensures cause { IfErr result (StopsInputs (files_alone (sources_of sources.now)) (D.seen desk.old) (D.seen desk.new)) }
-    ensures unnamed { KeepsUnnamed (files_alone (sources_of sources.now)) (D.seen desk.old) (D.seen desk.new) }
-    ensures opened { OpensAsNamed (files_alone (sources_of sources.now)) (D.seen desk.old) (D.seen desk.new) }
+    ensures cause { IfErr result (StopsInputs (files_alone (file_names named.now)) (D.seen desk.old) (D.seen desk.new)) }
+    ensures unnamed { KeepsUnnamed (files_alone (file_names named.now)) (D.seen desk.old) (D.seen desk.new) }
+    ensures opened { OpensAsNamed (files_alone (file_names named.now)) (D.seen desk.old) (D.seen desk.new) }
     ensures calm { IfOk result (λ _. AreInputsCalm (D.seen desk.old) (D.seen desk.new)) }
 {
-    let params = match read_disk(alloc, desk, sources.params) {
+    let params = match read_disk(alloc, desk, named.params) {
         Ok(params) => params,
         Err(outcome) => return Err(outcome),
     };
     params.disk.map.geometry().sound();
-    match read_workload(alloc, desk, sources, &params.disk) {
-        Ok(workload) => Ok(ReplayFiles {
+    match read_workload(alloc, desk, named, &params.disk) {
+        Ok(workload) => Ok(RunFiles {
             params,
             trace: workload.trace,
             calls: workload.calls,
@@ -130,7 +129,7 @@ pub fn read_files<D: Desk>(
 fn read_workload<D: Desk>(
     alloc: Global,
     desk: &mut D,
-    sources: &Sources<'_>,
+    named: &NamedFiles<'_>,
     disk: &Disk,
 ) -> Result<Workload, Outcome>
     requires fresh_trace { ((D.seen desk.old).inputs Input.Trace).opened ≡ false }
@@ -138,29 +137,29 @@ fn read_workload<D: Desk>(
     ensures held { (name : List ℕ) → (D.seen desk.new).held name ≡ (D.seen desk.old).held name }
     ensures outputs { KeepsOutputs (D.seen desk.old) (D.seen desk.new) }
     ensures accepts { IfOk result
-        (λ workload. (first : DeskView) (latent : List ℕ) → ReadsDisk first (sources_of sources.now).params disk.now latent
-        → ChangesInput Input.Params first (D.seen desk.old) → Accepts first (sources_of sources.now) (files_on disk.now latent workload)) }
+        (λ workload. (first : DeskView) (latent : List ℕ) → ReadsDisk first (file_names named.now).params disk.now latent
+        → ChangesInput Input.Params first (D.seen desk.old) → Accepts first (file_names named.now) (files_on disk.now latent workload)) }
     ensures servable { IfOk result (λ workload. IsTraceOf (length (places disk.now.map)) workload.trace.requests.items) }
     ensures fit { IfOk result (λ workload. IsScript disk.now.map (length workload.trace.requests.items) workload.calls.calls.items) }
     ensures names { IfOk result (λ workload. length workload.calls.names ≡ length (tasks workload.calls.calls.items)) }
     ensures cause { IfErr result (λ outcome. (first : DeskView) (latent : List ℕ)
-        → ReadsDisk first (sources_of sources.now).params disk.now latent → ChangesInput Input.Params first (D.seen desk.old)
-        → StopsInputs (files_alone (sources_of sources.now)) first (D.seen desk.new) outcome) }
+        → ReadsDisk first (file_names named.now).params disk.now latent → ChangesInput Input.Params first (D.seen desk.old)
+        → StopsInputs (files_alone (file_names named.now)) first (D.seen desk.new) outcome) }
     ensures unnamed { (first : DeskView) → ChangesInput Input.Params first (D.seen desk.old)
-        → KeepsUnnamed (files_alone (sources_of sources.now)) first (D.seen desk.new) }
+        → KeepsUnnamed (files_alone (file_names named.now)) first (D.seen desk.new) }
     ensures opened { (first : DeskView) → IsUnused first → ChangesInput Input.Params first (D.seen desk.old)
-        → IsOpenedAs (sources_of sources.now).params first ((D.seen desk.old).inputs Input.Params)
-        → OpensAsNamed (files_alone (sources_of sources.now)) first (D.seen desk.new) }
+        → IsOpenedAs (file_names named.now).params first ((D.seen desk.old).inputs Input.Params)
+        → OpensAsNamed (files_alone (file_names named.now)) first (D.seen desk.new) }
     ensures calm { IfOk result (λ _. (first : DeskView) → ChangesInput Input.Params first (D.seen desk.old)
         → ((D.seen desk.old).inputs Input.Params).faults ≡ (first.inputs Input.Params).faults → AreInputsCalm first (D.seen desk.new)) }
 {
-    let trace = match read_requests(alloc, desk, sources.trace, sources.device, disk) {
+    let trace = match read_requests(alloc, desk, named.trace, named.device, disk) {
         Ok(trace) => trace,
         Err(outcome) => return Err(outcome),
     };
     let requests = trace.requests.as_slice();
     let traced = requests.len() as u64;
-    match read_script(alloc, desk, sources.calls, disk, traced) {
+    match read_script(alloc, desk, named.calls, disk, traced) {
         Ok(calls) => Ok(Workload { trace, calls }),
         Err(outcome) => Err(outcome),
     }

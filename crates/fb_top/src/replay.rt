@@ -15,14 +15,14 @@ ghost use Rattle.fb_top.specs.Causes.{HasCause};
 ghost use Rattle.fb_top.specs.Done.{AreReadBack, CanBeRead, CanBeTold};
 ghost use Rattle.fb_top.specs.Opened.{OpensAsNamed};
 ghost use Rattle.fb_top.specs.Read.{files_of, inputs_of_files, key_of};
-ghost use Rattle.fb_top.specs.Sources.{replay_inputs};
+ghost use Rattle.fb_top.specs.Names.{replay_names};
 ghost use Rattle.fb_top.specs.Spilled.{CanBeSpilled, HoldsReplay, IsRunOfFiles, StopsReplay, WritesGiven};
 ghost use Rattle.fb_top.specs.Taken.{TakesReplay, done_as};
 ghost use Rattle.fb_top.specs.Unnamed.{KeepsInputs, KeepsUnnamed};
 
 use crate::Outcome;
 use crate::policy::replay_by;
-use crate::reading::ReplayFiles;
+use crate::reading::RunFiles;
 use crate::replay_inputs::{ReplayInputs, read_replay_inputs};
 use crate::report::write_reports;
 use crate::spill_text::SpillLines;
@@ -41,8 +41,8 @@ pub fn run_replay<D: Desk>(alloc: Global, desk: &mut D, words: &ReplayWords) -> 
     requires until { words.now.until ≤ 10 ^ 15 }
     requires together { go_together (replay_terms words.now).puts (replay_terms words.now).spill ≡ true }
     ensures cause { HasCause (replay_terms words.now) (D.seen desk.old) (D.seen desk.new) result }
-    ensures unnamed { KeepsUnnamed (replay_inputs (replay_terms words.now)) (D.seen desk.old) (D.seen desk.new) }
-    ensures opened { OpensAsNamed (replay_inputs (replay_terms words.now)) (D.seen desk.old) (D.seen desk.new) }
+    ensures unnamed { KeepsUnnamed (replay_names (replay_terms words.now)) (D.seen desk.old) (D.seen desk.new) }
+    ensures opened { OpensAsNamed (replay_names (replay_terms words.now)) (D.seen desk.old) (D.seen desk.new) }
     ensures calm { MeetsNoFault result (D.seen desk.old) (D.seen desk.new) }
     ensures no_note { (D.seen desk.new).outputs Output.Note ≡ (D.seen desk.old).outputs Output.Note }
 {
@@ -118,7 +118,7 @@ fn write_replay<D: Desk>(
     alloc: Global,
     desk: &mut D,
     words: &ReplayWords,
-    files: &ReplayFiles,
+    files: &RunFiles,
     run: &Run,
     spill: Option<&SpillRun>,
 ) -> Result<(), Outcome>

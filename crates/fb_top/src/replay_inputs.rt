@@ -11,14 +11,14 @@ ghost use Rattle.fb_top.specs.Calm.{AreInputsCalm};
 ghost use Rattle.fb_top.specs.Causes.{StopsInputs};
 ghost use Rattle.fb_top.specs.Opened.{OpensAsNamed};
 ghost use Rattle.fb_top.specs.Read.{Accepts, AcceptsPuts, files_of, inputs_of_files, key_of};
-ghost use Rattle.fb_top.specs.Sources.{replay_inputs, replay_sources, sources_of};
+ghost use Rattle.fb_top.specs.Names.{replay_names, replay_file_names, file_names};
 ghost use Rattle.fb_top.specs.Spilled.{CanBeSpilled};
 ghost use Rattle.fb_top.specs.Taken.{KeepsOutputs};
 ghost use Rattle.fb_top.specs.Unnamed.{KeepsUnnamed};
 
 use crate::Outcome;
 use crate::puts::read_given_puts;
-use crate::reading::{ReplayFiles, Sources, read_files};
+use crate::reading::{NamedFiles, RunFiles, read_files};
 use fb_desk::Desk;
 use fb_puts::Puts;
 use fb_words::ReplayWords;
@@ -28,7 +28,7 @@ use std::alloc::Global;
 #[derive(Drop)]
 pub struct ReplayInputs {
     /// The files of the run.
-    pub files: ReplayFiles,
+    pub files: RunFiles,
     /// What is to be written in free gaps, if the words name a puts file.
     pub puts: Option<Puts>,
 }
@@ -45,19 +45,19 @@ pub fn read_replay_inputs<D: Desk>(
     requires unused { IsUnused (D.seen desk.old) }
     requires until { words.now.until ≤ 10 ^ 15 }
     ensures outputs { KeepsOutputs (D.seen desk.old) (D.seen desk.new) }
-    ensures accepts { IfOk result (λ inputs. Accepts (D.seen desk.old) (replay_sources (replay_terms words.now)) (files_of inputs.files)) }
+    ensures accepts { IfOk result (λ inputs. Accepts (D.seen desk.old) (replay_file_names (replay_terms words.now)) (files_of inputs.files)) }
     ensures puts { IfOk result
         (λ inputs. AcceptsPuts (D.seen desk.old) (replay_terms words.now).puts (files_of inputs.files) (option_map accepted inputs.puts)) }
     ensures fit { IfOk result (λ inputs. IsAccepted (inputs_of_files (files_of inputs.files) (key_of words.now.policy) words.now.until)) }
     ensures fit_puts { IfOk result (λ inputs. IfSome inputs.puts (λ puts. CanBeSpilled (files_of inputs.files) (accepted puts))) }
     ensures sound { IfOk result (λ inputs. IsSound inputs.files.params.disk.map) }
     ensures names { IfOk result (λ inputs. length inputs.files.calls.names ≡ length (tasks inputs.files.calls.calls.items)) }
-    ensures cause { IfErr result (StopsInputs (replay_inputs (replay_terms words.now)) (D.seen desk.old) (D.seen desk.new)) }
-    ensures unnamed { KeepsUnnamed (replay_inputs (replay_terms words.now)) (D.seen desk.old) (D.seen desk.new) }
-    ensures opened { OpensAsNamed (replay_inputs (replay_terms words.now)) (D.seen desk.old) (D.seen desk.new) }
+    ensures cause { IfErr result (StopsInputs (replay_names (replay_terms words.now)) (D.seen desk.old) (D.seen desk.new)) }
+    ensures unnamed { KeepsUnnamed (replay_names (replay_terms words.now)) (D.seen desk.old) (D.seen desk.new) }
+    ensures opened { OpensAsNamed (replay_names (replay_terms words.now)) (D.seen desk.old) (D.seen desk.new) }
     ensures calm { IfOk result (λ _. AreInputsCalm (D.seen desk.old) (D.seen desk.new)) }
 {
-    let files = match read_files(alloc, desk, &sources(words)) {
+    let files = match read_files(alloc, desk, &named_files(words)) {
         Ok(files) => files,
         Err(outcome) => return Err(outcome),
     };
@@ -68,10 +68,10 @@ pub fn read_replay_inputs<D: Desk>(
 }
 
 // The files of the run.
-fn sources(words: &ReplayWords) -> Sources<'_>
-    ensures { sources_of result ≡ replay_sources (replay_terms words.now) }
+fn named_files(words: &ReplayWords) -> NamedFiles<'_>
+    ensures { file_names result ≡ replay_file_names (replay_terms words.now) }
 {
-    Sources {
+    NamedFiles {
         params: words.params.as_str(),
         trace: words.trace.as_str(),
         calls: words.calls.as_deref(),

@@ -15,7 +15,7 @@ ghost use Rattle.fb_top.specs.Calm.{AreOutputsCalm};
 
 use crate::Outcome;
 use crate::lines::{BackLines, ForeLines};
-use crate::reading::ReplayFiles;
+use crate::reading::RunFiles;
 use crate::writing::{write_lines, write_made};
 use fb_desk::{Desk, Output};
 use fb_report::{Bytes, summary_text};
@@ -31,7 +31,7 @@ pub fn write_reports<D: Desk>(
     alloc: Global,
     desk: &mut D,
     words: &ReplayWords,
-    files: &ReplayFiles,
+    files: &RunFiles,
     run: &Run,
 ) -> Result<(), Outcome>
     requires fresh_fore { ((D.seen desk.old).outputs Output.Fore).begun ≡ false }
@@ -60,7 +60,7 @@ fn write_fore<D: Desk>(
     alloc: Global,
     desk: &mut D,
     words: &ReplayWords,
-    files: &ReplayFiles,
+    files: &RunFiles,
     run: &Run,
 ) -> Result<(), Outcome>
     requires fresh { ((D.seen desk.old).outputs Output.Fore).begun ≡ false }
@@ -102,7 +102,7 @@ fn write_back<D: Desk>(
     desk: &mut D,
     name: &str,
     bytes: Bytes,
-    files: &ReplayFiles,
+    files: &RunFiles,
     run: &Run,
 ) -> Result<(), Outcome>
     requires fresh { ((D.seen desk.old).outputs Output.Back).begun ≡ false }

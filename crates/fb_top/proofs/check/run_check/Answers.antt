@@ -2,7 +2,7 @@ use Rattle.std.proofs.Common.{subst}
 use Rattle.fb_words.specs.Verdict.{check_terms}
 use Rattle.fb_top.specs.Causes.{StopsInputs}
 use Rattle.fb_top.specs.Read.{Accepts, files_of, key_of}
-use Rattle.fb_top.specs.Sources.{SourceTerms, files_alone}
+use Rattle.fb_top.specs.Names.{FileNames, files_alone}
 use Rattle.fb_top.specs.Unnamed.{KeepsUnnamed}
 use Rattle.fb_top.proofs.Checking.{check_files_stopped}
 use Rattle.fb_top.proofs.check.run_check.Goals as goal
@@ -12,11 +12,11 @@ returns-in-Ok-clause-cause g c =
     let old = g.D.Desk.seen c.args.desk.now in
     let mid = g.D.Desk.seen c.read_files.new.desk in
     c.check_read.ensures.cause old (record {
-      accepts = subst (λ (s : SourceTerms). Accepts old s (files_of c.in-Ok.files)) c.sources.ensures c.in-Ok.ensures.accepts;
+      accepts = subst (λ (s : FileNames). Accepts old s (files_of c.in-Ok.files)) c.named_files.ensures c.in-Ok.ensures.accepts;
       sound = c.in-Ok.ensures.sound;
       fit = c.in-Ok.ensures.fit (key_of c.args.words.now.policy) c.args.words.now.until c.requires.until;
       held = c.in-Ok.ensures.held;
-      unnamed = subst (λ (s : SourceTerms). KeepsUnnamed (files_alone s) old mid) c.sources.ensures c.in-Ok.ensures.unnamed;
+      unnamed = subst (λ (s : FileNames). KeepsUnnamed (files_alone s) old mid) c.named_files.ensures c.in-Ok.ensures.unnamed;
       outputs = c.in-Ok.ensures.outputs;
     })
 
@@ -25,4 +25,4 @@ returns-in-Err-clause-cause g c =
     let old = g.D.Desk.seen c.args.desk.now in
     let new = g.D.Desk.seen c.read_files.new.desk in
     check_files_stopped (check_terms c.args.words.now) old new c.in-Err.outcome
-    (subst (λ (s : SourceTerms). StopsInputs (files_alone s) old new c.in-Err.outcome) c.sources.ensures c.in-Err.ensures.cause)
+    (subst (λ (s : FileNames). StopsInputs (files_alone s) old new c.in-Err.outcome) c.named_files.ensures c.in-Err.ensures.cause)

@@ -6,9 +6,9 @@ use Rattle.fb_top.specs.Causes.{StopsDisk}
 use Rattle.fb_top.specs.Devices.{array_of}
 use Rattle.fb_top.specs.Opened.{IsOpenedAs, OpensAsNamed}
 use Rattle.fb_top.specs.Read.{ReadsDisk}
-use Rattle.fb_top.specs.Sources.{array_inputs}
+use Rattle.fb_top.specs.Names.{array_file_names, array_names}
 use Rattle.fb_top.specs.Unnamed.{KeepsUnnamed}
-use Rattle.fb_top.proofs.DeviceInputs.{array_at_params, each_fits, sources}
+use Rattle.fb_top.proofs.DeviceInputs.{array_at_params, each_fits}
 use Rattle.fb_top.proofs.Later.{reads_before}
 use Rattle.fb_top.proofs.Opened.{calm_inputs, opened_at_params, opened_at_trace}
 use Rattle.fb_top.proofs.Pieces.{input_same}
@@ -19,18 +19,18 @@ use Rattle.fb_top.proofs.devices.read_array.Goals.{After-read_workloads}
 
 -- the parameter file was read, and then the trace
 unnamed_then : (g : given.Over) (c : After-read_workloads g)
-    → KeepsUnnamed (array_inputs (array_terms c.args.words.now)) (g.D.Desk.seen c.args.desk.now) (g.D.Desk.seen c.read_workloads.new.desk)
+    → KeepsUnnamed (array_names (array_terms c.args.words.now)) (g.D.Desk.seen c.args.desk.now) (g.D.Desk.seen c.read_workloads.new.desk)
 unnamed_then g c =
-    unnamed_at_trace (sources (array_terms c.args.words.now)) (g.D.Desk.seen c.args.desk.now) (g.D.Desk.seen c.read_disk.new.desk)
+    unnamed_at_trace (array_file_names (array_terms c.args.words.now)) (g.D.Desk.seen c.args.desk.now) (g.D.Desk.seen c.read_disk.new.desk)
     (g.D.Desk.seen c.read_workloads.new.desk)
     c.in-Ok.ensures.only c.read_workloads.ensures.only
 
 opened_then : (g : given.Over) (c : After-read_workloads g)
-    → OpensAsNamed (array_inputs (array_terms c.args.words.now)) (g.D.Desk.seen c.args.desk.now) (g.D.Desk.seen c.read_workloads.new.desk)
+    → OpensAsNamed (array_names (array_terms c.args.words.now)) (g.D.Desk.seen c.args.desk.now) (g.D.Desk.seen c.read_workloads.new.desk)
 opened_then g c =
     let old = g.D.Desk.seen c.args.desk.now in
     let mid = g.D.Desk.seen c.read_disk.new.desk in
-    opened_at_trace (sources (array_terms c.args.words.now)) old c.requires.unused mid c.in-Ok.ensures.only
+    opened_at_trace (array_file_names (array_terms c.args.words.now)) old c.requires.unused mid c.in-Ok.ensures.only
     (subst (λ (name : List ℕ). IsOpenedAs name old (mid.inputs Params)) c.as_str.ensures.value c.in-Ok.ensures.opened)
     (g.D.Desk.seen c.read_workloads.new.desk) c.read_workloads.ensures.only c.read_workloads.ensures.opened
 
@@ -43,14 +43,14 @@ returns-in-Err-clause-cause g c =
 
 pub returns-in-Err-clause-unnamed : goal.returns-in-Err-clause-unnamed
 returns-in-Err-clause-unnamed g c =
-    unnamed_at_params (sources (array_terms c.args.words.now)) (g.D.Desk.seen c.args.desk.now)
+    unnamed_at_params (array_file_names (array_terms c.args.words.now)) (g.D.Desk.seen c.args.desk.now)
     (g.D.Desk.seen c.read_disk.new.desk) c.in-Err.ensures.only
 
 pub returns-in-Err-clause-opened : goal.returns-in-Err-clause-opened
 returns-in-Err-clause-opened g c =
     let old = g.D.Desk.seen c.args.desk.now in
     let new = g.D.Desk.seen c.read_disk.new.desk in
-    opened_at_params (sources (array_terms c.args.words.now)) old c.requires.unused new c.in-Err.ensures.only
+    opened_at_params (array_file_names (array_terms c.args.words.now)) old c.requires.unused new c.in-Err.ensures.only
     (subst (λ (name : List ℕ). IsOpenedAs name old (new.inputs Params)) c.as_str.ensures.value c.in-Err.ensures.opened)
 
 pub returns-in-Ok-read_workloads-clause-accepts : goal.returns-in-Ok-read_workloads-clause-accepts

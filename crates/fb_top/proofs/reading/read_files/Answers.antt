@@ -1,6 +1,6 @@
 use Rattle.std.proofs.Common.{subst}
 use Rattle.fb_geometry.specs.Sound.{IsSound}
-use Rattle.fb_top.specs.Sources.{sources_of}
+use Rattle.fb_top.specs.Names.{file_names}
 use Rattle.fb_top.specs.Taken.{files_on}
 use Rattle.fb_top.proofs.Later.{at_params, is_accepted}
 use Rattle.fb_top.proofs.Unnamed.{unnamed_at_params}
@@ -11,16 +11,16 @@ pub returns-in-Err-clause-cause : goal.returns-in-Err-clause-cause
 returns-in-Err-clause-cause g c =
     let old = g.D.Desk.seen c.args.desk.now in
     let new = g.D.Desk.seen c.read_disk.new.desk in
-    at_params (sources_of c.args.sources.now) old new c.in-Err.outcome c.in-Err.ensures.only
+    at_params (file_names c.args.named.now) old new c.in-Err.outcome c.in-Err.ensures.only
     c.in-Err.ensures.stops
 
 pub returns-in-Err-clause-unnamed : goal.returns-in-Err-clause-unnamed
-returns-in-Err-clause-unnamed g c = unnamed_at_params (sources_of c.args.sources.now) (g.D.Desk.seen c.args.desk.now)
+returns-in-Err-clause-unnamed g c = unnamed_at_params (file_names c.args.named.now) (g.D.Desk.seen c.args.desk.now)
     (g.D.Desk.seen c.read_disk.new.desk) c.in-Err.ensures.only
 
 pub returns-in-Err-clause-opened : goal.returns-in-Err-clause-opened
 returns-in-Err-clause-opened g c =
-    opened_at_params (sources_of c.args.sources.now) (g.D.Desk.seen c.args.desk.now) c.requires
+    opened_at_params (file_names c.args.named.now) (g.D.Desk.seen c.args.desk.now) c.requires
     (g.D.Desk.seen c.read_disk.new.desk) c.in-Err.ensures.only
     c.in-Err.ensures.opened
 

@@ -6,7 +6,7 @@ use Rattle.fb_desk.specs.Calls.{ChangesInput}
 use Rattle.fb_desk.specs.View.{DeskView, IsUnused}
 use Rattle.fb_desk.specs.declared.desk.Input.TheVariants.{Params}
 use Rattle.fb_top.specs.Opened.{IsOpenedAs, OpensAsNamed}
-use Rattle.fb_top.specs.Sources.{files_alone, sources_of}
+use Rattle.fb_top.specs.Names.{files_alone, file_names}
 use Rattle.fb_top.specs.Unnamed.{KeepsUnnamed}
 use Rattle.fb_top.specs.Read.{ReadsScript}
 use Rattle.fb_top.specs.Causes.{AcceptsTrace, StopsScript}
@@ -20,34 +20,34 @@ use Rattle.fb_top.proofs.reading.read_workload.Goals.{After-read_script}
 -- the trace was read, and then the script, if there is one
 unnamed_then : (g : given.Over) (c : After-read_script g) (first : DeskView)
     → ChangesInput Params first (g.D.Desk.seen c.args.desk.now)
-    → KeepsUnnamed (files_alone (sources_of c.args.sources.now)) first (g.D.Desk.seen c.read_script.new.desk)
+    → KeepsUnnamed (files_alone (file_names c.args.named.now)) first (g.D.Desk.seen c.read_script.new.desk)
 unnamed_then g c first only =
-    unnamed_at_calls (sources_of c.args.sources.now) first (g.D.Desk.seen c.args.desk.now) (g.D.Desk.seen c.read_requests.new.desk)
+    unnamed_at_calls (file_names c.args.named.now) first (g.D.Desk.seen c.args.desk.now) (g.D.Desk.seen c.read_requests.new.desk)
     (g.D.Desk.seen c.read_script.new.desk)
     only c.in-Ok.ensures.only c.read_script.ensures.only c.read_script.ensures.unnamed
 
 opened_then : (g : given.Over) (c : After-read_script g) (first : DeskView) → IsUnused first
     → ChangesInput Params first (g.D.Desk.seen c.args.desk.now)
-    → IsOpenedAs (sources_of c.args.sources.now).params first ((g.D.Desk.seen c.args.desk.now).inputs Params)
-    → OpensAsNamed (files_alone (sources_of c.args.sources.now)) first (g.D.Desk.seen c.read_script.new.desk)
+    → IsOpenedAs (file_names c.args.named.now).params first ((g.D.Desk.seen c.args.desk.now).inputs Params)
+    → OpensAsNamed (files_alone (file_names c.args.named.now)) first (g.D.Desk.seen c.read_script.new.desk)
 opened_then g c first unused only opened =
-    opened_at_calls (sources_of c.args.sources.now) first unused (g.D.Desk.seen c.args.desk.now) only opened
+    opened_at_calls (file_names c.args.named.now) first unused (g.D.Desk.seen c.args.desk.now) only opened
     (g.D.Desk.seen c.read_requests.new.desk) (g.D.Desk.seen c.read_script.new.desk)
     c.in-Ok.ensures.only c.in-Ok.ensures.opened c.read_script.ensures.only c.read_script.ensures.opened
 
 pub returns-in-Err-clause-cause : goal.returns-in-Err-clause-cause
 returns-in-Err-clause-cause g c = λ first latent reads only.
-    at_trace (sources_of c.args.sources.now) first (g.D.Desk.seen c.args.desk.now) (g.D.Desk.seen c.read_requests.new.desk) c.in-Err.outcome
+    at_trace (file_names c.args.named.now) first (g.D.Desk.seen c.args.desk.now) (g.D.Desk.seen c.read_requests.new.desk) c.in-Err.outcome
     (record { disk = c.args.disk.now; latent = latent; reads_disk = reads }) only c.in-Err.ensures.only c.in-Err.ensures.stops
 
 pub returns-in-Err-clause-unnamed : goal.returns-in-Err-clause-unnamed
 returns-in-Err-clause-unnamed g c = λ first only.
-    unnamed_at_trace (sources_of c.args.sources.now) first (g.D.Desk.seen c.args.desk.now)
+    unnamed_at_trace (file_names c.args.named.now) first (g.D.Desk.seen c.args.desk.now)
     (g.D.Desk.seen c.read_requests.new.desk) only c.in-Err.ensures.only
 
 pub returns-in-Err-clause-opened : goal.returns-in-Err-clause-opened
 returns-in-Err-clause-opened g c = λ first unused only opened.
-    opened_at_trace (sources_of c.args.sources.now) first unused (g.D.Desk.seen c.args.desk.now) only opened
+    opened_at_trace (file_names c.args.named.now) first unused (g.D.Desk.seen c.args.desk.now) only opened
     (g.D.Desk.seen c.read_requests.new.desk)
     c.in-Err.ensures.only c.in-Err.ensures.opened
 
@@ -55,7 +55,7 @@ pub returns-in-Ok-read_script-clause-accepts : goal.returns-in-Ok-read_script-cl
 returns-in-Ok-read_script-clause-accepts g c = λ first latent reads only.
     let mid = g.D.Desk.seen c.args.desk.now in
     let late = g.D.Desk.seen c.read_requests.new.desk in
-    let words = sources_of c.args.sources.now in
+    let words = file_names c.args.named.now in
     let disk = c.args.disk.now in
     let trace = accepted c.in-Ok.trace in
     let script = accepted_calls c.in-Ok-read_script.calls in
@@ -88,7 +88,7 @@ returns-in-Err-read_script-clause-cause g c = λ first latent reads only.
     let mid = g.D.Desk.seen c.args.desk.now in
     let late = g.D.Desk.seen c.read_requests.new.desk in
     let new = g.D.Desk.seen c.read_script.new.desk in
-    let words = sources_of c.args.sources.now in
+    let words = file_names c.args.named.now in
     let disk = c.args.disk.now in
     let trace = accepted c.in-Ok.trace in
     let before : AcceptsTrace first words = record {

@@ -7,7 +7,7 @@ use Rattle.fb_words.specs.Verdict.{replay_terms}
 use Rattle.fb_top.specs.Causes.{AcceptsFiles, StopsInputs, StopsGivenPuts}
 use Rattle.fb_top.specs.Opened.{IsOpenedAs, OpensAsNamed}
 use Rattle.fb_top.specs.Read.{Accepts, AcceptsPuts, files_of, key_of}
-use Rattle.fb_top.specs.Sources.{SourceTerms, files_alone, replay_inputs}
+use Rattle.fb_top.specs.Names.{FileNames, files_alone, replay_names}
 use Rattle.fb_top.specs.Unnamed.{KeepsUnnamed}
 use Rattle.fb_top.proofs.MoreInputs.{files_opened, files_stopped, files_unnamed, puts_before, puts_calm, puts_opened, puts_stopped}
 use Rattle.fb_top.proofs.MoreInputs.{puts_unnamed}
@@ -17,24 +17,24 @@ use Rattle.fb_top.proofs.replay_inputs.read_replay_inputs.Goals.{After-read_give
 
 -- the files were read, and then the puts, if they are given
 unnamed_then : (g : given.Over) (c : After-read_given_puts g)
-    → KeepsUnnamed (replay_inputs (replay_terms c.args.words.now)) (g.D.Desk.seen c.args.desk.now)
+    → KeepsUnnamed (replay_names (replay_terms c.args.words.now)) (g.D.Desk.seen c.args.desk.now)
     (g.D.Desk.seen c.read_given_puts.new.desk)
 unnamed_then g c =
-    puts_unnamed (replay_inputs (replay_terms c.args.words.now)) _ c.sources.ensures
+    puts_unnamed (replay_names (replay_terms c.args.words.now)) _ c.named_files.ensures
     (g.D.Desk.seen c.args.desk.now) (g.D.Desk.seen c.read_files.new.desk) (g.D.Desk.seen c.read_given_puts.new.desk)
     c.in-Ok.ensures.held c.in-Ok.ensures.outputs c.in-Ok.ensures.unnamed c.read_given_puts.ensures.only
     (λ none. c.read_given_puts.ensures.unnamed (c.puts_name.ensures ∙ none))
 
 opened_then : (g : given.Over) (c : After-read_given_puts g)
-    → OpensAsNamed (replay_inputs (replay_terms c.args.words.now)) (g.D.Desk.seen c.args.desk.now)
+    → OpensAsNamed (replay_names (replay_terms c.args.words.now)) (g.D.Desk.seen c.args.desk.now)
     (g.D.Desk.seen c.read_given_puts.new.desk)
 opened_then g c =
     let old = g.D.Desk.seen c.args.desk.now in
     let mid = g.D.Desk.seen c.read_files.new.desk in
     let new = g.D.Desk.seen c.read_given_puts.new.desk in
-    puts_opened (replay_inputs (replay_terms c.args.words.now)) _ c.sources.ensures old mid new c.in-Ok.ensures.held
+    puts_opened (replay_names (replay_terms c.args.words.now)) _ c.named_files.ensures old mid new c.in-Ok.ensures.held
     c.in-Ok.ensures.outputs c.in-Ok.ensures.unnamed
-    c.read_given_puts.ensures.only c.requires.unused (subst (λ (s : SourceTerms). OpensAsNamed (files_alone s) old mid) c.sources.ensures
+    c.read_given_puts.ensures.only c.requires.unused (subst (λ (s : FileNames). OpensAsNamed (files_alone s) old mid) c.named_files.ensures
     c.in-Ok.ensures.opened)
     (subst (λ (given : Option (List ℕ)). IfSome given (λ name. IsOpenedAs name mid (new.inputs Puts))) c.puts_name.ensures
     c.read_given_puts.ensures.opened)
@@ -43,27 +43,27 @@ pub returns-in-Err-clause-cause : goal.returns-in-Err-clause-cause
 returns-in-Err-clause-cause g c =
     let old = g.D.Desk.seen c.args.desk.now in
     let new = g.D.Desk.seen c.read_files.new.desk in
-    files_stopped (replay_inputs (replay_terms c.args.words.now)) old new c.in-Err.outcome
-    (subst (λ (s : SourceTerms). StopsInputs (files_alone s) old new c.in-Err.outcome) c.sources.ensures c.in-Err.ensures.cause)
+    files_stopped (replay_names (replay_terms c.args.words.now)) old new c.in-Err.outcome
+    (subst (λ (s : FileNames). StopsInputs (files_alone s) old new c.in-Err.outcome) c.named_files.ensures c.in-Err.ensures.cause)
 
 pub returns-in-Err-clause-unnamed : goal.returns-in-Err-clause-unnamed
 returns-in-Err-clause-unnamed g c =
     let old = g.D.Desk.seen c.args.desk.now in
     let new = g.D.Desk.seen c.read_files.new.desk in
-    files_unnamed (replay_inputs (replay_terms c.args.words.now)) old new
-    (subst (λ (s : SourceTerms). KeepsUnnamed (files_alone s) old new) c.sources.ensures c.in-Err.ensures.unnamed)
+    files_unnamed (replay_names (replay_terms c.args.words.now)) old new
+    (subst (λ (s : FileNames). KeepsUnnamed (files_alone s) old new) c.named_files.ensures c.in-Err.ensures.unnamed)
 
 pub returns-in-Err-clause-opened : goal.returns-in-Err-clause-opened
 returns-in-Err-clause-opened g c =
     let old = g.D.Desk.seen c.args.desk.now in
     let new = g.D.Desk.seen c.read_files.new.desk in
-    files_opened (replay_inputs (replay_terms c.args.words.now)) old new
-    (subst (λ (s : SourceTerms). KeepsUnnamed (files_alone s) old new) c.sources.ensures c.in-Err.ensures.unnamed)
-    c.requires.unused (subst (λ (s : SourceTerms). OpensAsNamed (files_alone s) old new) c.sources.ensures c.in-Err.ensures.opened)
+    files_opened (replay_names (replay_terms c.args.words.now)) old new
+    (subst (λ (s : FileNames). KeepsUnnamed (files_alone s) old new) c.named_files.ensures c.in-Err.ensures.unnamed)
+    c.requires.unused (subst (λ (s : FileNames). OpensAsNamed (files_alone s) old new) c.named_files.ensures c.in-Err.ensures.opened)
 
 pub returns-in-Ok-read_given_puts-clause-accepts : goal.returns-in-Ok-read_given_puts-clause-accepts
 returns-in-Ok-read_given_puts-clause-accepts g c =
-    subst (λ (s : SourceTerms). Accepts (g.D.Desk.seen c.args.desk.now) s (files_of c.in-Ok.files)) c.sources.ensures
+    subst (λ (s : FileNames). Accepts (g.D.Desk.seen c.args.desk.now) s (files_of c.in-Ok.files)) c.named_files.ensures
     c.in-Ok.ensures.accepts
 
 pub returns-in-Ok-read_given_puts-clause-puts : goal.returns-in-Ok-read_given_puts-clause-puts
@@ -71,10 +71,10 @@ returns-in-Ok-read_given_puts-clause-puts g c =
     let old = g.D.Desk.seen c.args.desk.now in
     let mid = g.D.Desk.seen c.read_files.new.desk in
     let new = g.D.Desk.seen c.read_given_puts.new.desk in
-    let terms = replay_inputs (replay_terms c.args.words.now) in
+    let terms = replay_names (replay_terms c.args.words.now) in
     let files = files_of c.in-Ok.files in
     let puts = option_map accepted c.in-Ok-read_given_puts.puts in
-    puts_before terms _ c.sources.ensures old mid new c.in-Ok.ensures.held c.in-Ok.ensures.outputs c.in-Ok.ensures.unnamed
+    puts_before terms _ c.named_files.ensures old mid new c.in-Ok.ensures.held c.in-Ok.ensures.outputs c.in-Ok.ensures.unnamed
     c.in-Ok-read_given_puts.ensures.only terms.puts files puts
     (subst (λ (given : Option (List ℕ)). AcceptsPuts mid given files puts) c.puts_name.ensures c.in-Ok-read_given_puts.ensures.puts)
 
@@ -91,7 +91,7 @@ returns-in-Ok-read_given_puts-clause-opened g c =
 
 pub returns-in-Ok-read_given_puts-clause-calm : goal.returns-in-Ok-read_given_puts-clause-calm
 returns-in-Ok-read_given_puts-clause-calm g c =
-    puts_calm (replay_inputs (replay_terms c.args.words.now)) _ c.sources.ensures
+    puts_calm (replay_names (replay_terms c.args.words.now)) _ c.named_files.ensures
     (g.D.Desk.seen c.args.desk.now) (g.D.Desk.seen c.read_files.new.desk) (g.D.Desk.seen c.read_given_puts.new.desk)
     c.in-Ok.ensures.held c.in-Ok.ensures.outputs c.in-Ok.ensures.unnamed c.in-Ok-read_given_puts.ensures.only c.in-Ok.ensures.calm
     c.in-Ok-read_given_puts.ensures.calm
@@ -101,13 +101,13 @@ returns-in-Err-read_given_puts-clause-cause g c =
     let old = g.D.Desk.seen c.args.desk.now in
     let mid = g.D.Desk.seen c.read_files.new.desk in
     let new = g.D.Desk.seen c.read_given_puts.new.desk in
-    let terms = replay_inputs (replay_terms c.args.words.now) in
+    let terms = replay_names (replay_terms c.args.words.now) in
     let outcome = c.in-Err-read_given_puts.outcome in
-    let files : AcceptsFiles old terms.sources = record {
+    let files : AcceptsFiles old terms.files = record {
       files = files_of c.in-Ok.files;
-      accepts = subst (λ (s : SourceTerms). Accepts old s (files_of c.in-Ok.files)) c.sources.ensures c.in-Ok.ensures.accepts;
+      accepts = subst (λ (s : FileNames). Accepts old s (files_of c.in-Ok.files)) c.named_files.ensures c.in-Ok.ensures.accepts;
     } in
-    puts_stopped terms _ c.sources.ensures old mid new c.in-Ok.ensures.held c.in-Ok.ensures.outputs c.in-Ok.ensures.unnamed
+    puts_stopped terms _ c.named_files.ensures old mid new c.in-Ok.ensures.held c.in-Ok.ensures.outputs c.in-Ok.ensures.unnamed
     c.in-Err-read_given_puts.ensures.only outcome files
     (subst (λ (given : Option (List ℕ)). StopsGivenPuts given files.files mid new outcome) c.puts_name.ensures
     c.in-Err-read_given_puts.ensures.stops)

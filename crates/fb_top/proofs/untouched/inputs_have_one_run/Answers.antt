@@ -1,17 +1,17 @@
 use Rattle.std.proofs.Common.{ℕ, sym, subst}
 use Rattle.fb_model.specs.FullRun.{IsFull}
 use Rattle.fb_words.specs.declared.command.Policy.{Policy}
-use Rattle.fb_top.specs.Sources.{SourceTerms, replay_sources}
+use Rattle.fb_top.specs.Names.{FileNames, replay_file_names}
 use Rattle.fb_top.specs.Read.{Accepts, Files, inputs_of_files, key_of}
 use Rattle.fb_top.proofs.OneRun.{one_reading}
 use Rattle.fb_top.proofs.untouched.inputs_have_one_run.Goals as goal
 
 pub returns : goal.returns
 returns c = λ one other terms others run run' asks alike is_run is_other.
-    let read : Accepts other (replay_sources terms) is_other.files =
-    subst (λ (s : SourceTerms). Accepts other s is_other.files) (sym asks.sources) is_other.accepts in
+    let read : Accepts other (replay_file_names terms) is_other.files =
+    subst (λ (s : FileNames). Accepts other s is_other.files) (sym asks.names) is_other.accepts in
     c.one_full_run.ensures (inputs_of_files is_run.files (key_of terms.policy) terms.until) run run' is_run.accepted is_run.full
     (subst (λ (files : Files). IsFull (inputs_of_files files (key_of terms.policy) terms.until) run')
-    (sym (one_reading one other (replay_sources terms) is_run.files is_other.files alike is_run.accepts read))
+    (sym (one_reading one other (replay_file_names terms) is_run.files is_other.files alike is_run.accepts read))
     (subst (λ (policy : Policy). IsFull (inputs_of_files is_other.files (key_of policy) terms.until) run') (sym asks.policy)
     (subst (λ (until : ℕ). IsFull (inputs_of_files is_other.files (key_of others.policy) until) run') (sym asks.until) is_other.full)))

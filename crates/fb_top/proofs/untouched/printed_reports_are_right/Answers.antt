@@ -10,7 +10,7 @@ use Rattle.fb_desk.specs.declared.desk.Output.TheVariants.{Back, Fore}
 use Rattle.fb_words.specs.Command.{checks}
 use Rattle.fb_top.specs.Done.{HoldsWanted, back_told}
 use Rattle.fb_top.specs.Read.{Accepts}
-use Rattle.fb_top.specs.Sources.{SourceTerms, check_sources}
+use Rattle.fb_top.specs.Names.{FileNames, check_file_names}
 use Rattle.fb_top.specs.Untouched.{HoldOneInput, HoldsLines, HoldsOwnReports}
 use Rattle.fb_top.specs.Written.{HoldsWhole}
 use Rattle.fb_top.proofs.Completeness.{complete}
@@ -42,10 +42,10 @@ returns c = λ old new other terms asked run replayed asks.
           (sym asks.bytes)
           (held_lines (new.outputs Back) other asked.back asks.back_name back_grammar back asks.back back_whole back_read);
     } in
-    let alike : HoldOneInput old other (check_sources asked) =
-    subst (HoldOneInput old other) (sym asks.checks_run.sources) asks.checks_run.alike in
-    let accepts : Accepts old (check_sources asked) files =
-    subst (λ (s : SourceTerms). Accepts old s files) (sym asks.checks_run.sources) done.is_run.accepts in
+    let alike : HoldOneInput old other (check_file_names asked) =
+    subst (HoldOneInput old other) (sym asks.checks_run.names) asks.checks_run.alike in
+    let accepts : Accepts old (check_file_names asked) files =
+    subst (λ (s : FileNames). Accepts old s files) (sym asks.checks_run.names) done.is_run.accepts in
     record {
       fore = fore_told;
       back = back_told;
@@ -56,7 +56,7 @@ returns c = λ old new other terms asked run replayed asks.
           (complete (Ok (checks asked)) other after outcome cause (record {
             inputs = record {
               files = files;
-              accepts = accepted_there old other (check_sources asked) files alike accepts;
+              accepts = accepted_there old other (check_file_names asked) files alike accepts;
               params_told = told_there old other asked.params alike.params;
               trace_told = told_there old other asked.trace alike.trace;
               calls_told = told_there old other asked.calls alike.calls;

@@ -7,17 +7,17 @@ use Rattle.fb_check.specs.Verdict.{Reports}
 use Rattle.fb_words.specs.declared.command.Policy.{Policy}
 use Rattle.std.specs.Prelude.{map}
 use Rattle.fb_top.specs.Read.{Accepts, Files, inputs_of_files, key_of}
-use Rattle.fb_top.specs.Sources.{SourceTerms, replay_sources}
+use Rattle.fb_top.specs.Names.{FileNames, replay_file_names}
 use Rattle.fb_top.proofs.OneRun.{one_reading}
 use Rattle.fb_top.proofs.RightReports.{is_yes, read_as}
 use Rattle.fb_top.proofs.untouched.right_reports_are_right.Goals as goal
 
 pub returns : goal.returns
 returns c = λ one other terms checks run verdict is_run is_verdict asks own.
-    let read : Accepts other (replay_sources terms) is_verdict.files =
-    subst (λ (s : SourceTerms). Accepts other s is_verdict.files) asks.sources is_verdict.accepts in
+    let read : Accepts other (replay_file_names terms) is_verdict.files =
+    subst (λ (s : FileNames). Accepts other s is_verdict.files) asks.names is_verdict.accepts in
     let same : is_run.files ≡ is_verdict.files =
-    one_reading one other (replay_sources terms) is_run.files is_verdict.files asks.alike is_run.accepts read in
+    one_reading one other (replay_file_names terms) is_run.files is_verdict.files asks.alike is_run.accepts read in
     let judges = is_verdict.judges in
     let printed : Reports =
     record { names = is_verdict.files.script.names; bytes = checks.bytes; fore = judges.fore; back = judges.judges_back.back } in
