@@ -51,7 +51,7 @@ one_is_first a b apart h = grind (arith, nat_tests)
 front : (os : List Catch) (a b : Catch) → is_before a b ≡ true → placed (placed os a) b ≡ placed (placed os b) a
 front [] a b h = rw (not_both a b h, h) refl
 front (o ∷ os) a b h = elim (cases_Bool (is_before b o)) [
-  | inl holds ↦ let also = after_all a b o h holds in rw (also, not_both a b h, holds, h, also) refl
+  | inl holds ↦ let also = after_all a b o h holds in rw (also, not_both a b h, holds, h) refl
   | inr fails ↦ elim (cases_Bool (is_before a o)) [
     | inl first ↦ rw (first, not_both a b h, fails, first) refl
     | inr later ↦ rw (later, fails, later) (ap (λ xs. o ∷ xs) (front os a b h))

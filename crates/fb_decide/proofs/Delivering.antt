@@ -120,7 +120,7 @@ followed-append past (x ∷ xs) ys = ap (λ ds. delivery_of past x ∷ ds) (foll
 pub rows-append : (past : Past) (xs ys : List DeliveryRow)
     → delivery_rows (followed past (xs ++ ys)) ≡ delivery_rows (followed past xs) ++ delivery_rows (followed (past_with past xs) ys)
 rows-append past xs ys =
-    ap delivery_rows (followed-append past xs ys) ∙ flat_map-append _ (followed past xs) (followed (past_with past xs) ys)
+    ap delivery_rows (followed-append past xs ys) ∙ flat_map-append (λ (delivery : Delivery). BackGot delivery.got ∷ delivery.after) (followed past xs) (followed (past_with past xs) ys)
 
 -- a wanted block may be delivered, with what its sectors hold
 pub wanted-on_disk : (disk : Shape) (past : Past) (index : ℕ) (block : Block) (background : Background) → TellsUpToDate disk past background

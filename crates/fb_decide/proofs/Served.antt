@@ -132,12 +132,11 @@ pub has-served : (disk : Disk) (holding : Holding) (past : Past) (served : Serve
     → Tells disk.map (finished served.request ∷ later) after.sessions after.blocks)
     → after.rows ≡ middle.rows → HasServed disk holding past served rows after
 has-served disk holding past served rows middle after all ends same =
-    let line = BackGap (record { name = served.request.name; gap = gap_of disk served; plan = all.plan }) in
     let gots = due disk (held_now holding) (serving served all.plan) (wanted past) in
     record {
       plan = all.plan;
       best = all.best;
       tells = ends (past_with past gots) all.delivered.current.tells;
-      rows_after = same ∙ (all.delivered.rows_after ∙ append_assoc rows (line ∷ []) (delivery_rows (followed past gots)));
+      rows_after = same ∙ all.delivered.rows_after;
       registered = all.delivered.registered;
     }

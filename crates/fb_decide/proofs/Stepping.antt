@@ -195,8 +195,7 @@ module _ (inputs : Inputs) (past : Past) (before : Course) (background : Backgro
       best = has_served.best;
       all = due_same (medium_of inputs) before.store served_act (held_until served)
           (wanted tested_now) refl has_served.best.is_plan over all_some mirrors;
-      rows_behind = has_served.rows_after
-          ∙ sym (append_assoc background.rows (opening inputs.disk served_act) (delivery_rows (followed tested_now served_gots)));
+      rows_behind = has_served.rows_after;
       tells_after = has_served.tells;
       contents = now_served.contents;
       same_called = now_served.same_called;

@@ -225,9 +225,9 @@ module _ (medium : Medium) (holding : Holding) (from to : ℕ) (mirrors : Mirror
     }
 
     -- the rows behind a delivery are the disk's own
-    pub delivery_rows : AreOwn past → IsTrue medium holding past
+    pub own_rows : AreOwn past → IsTrue medium holding past
         → rows_after past got ≡ findings past got ++ test_rows medium (delivered got ∷ past) got.end
-    delivery_rows own before =
+    own_rows own before =
         let begin = found.begin in let order = found.order in let end = found.end in
         ap (λ rows. findings past got ++ rows) (rows-true medium holding (delivered got ∷ past) (delivered_true before) own got.end
         (mirrors_within medium holding from to got.end got.end mirrors (omega (arith, begin, order)) end))
@@ -252,7 +252,7 @@ module _ (medium : Medium) (holding : Holding) (from to : ℕ) (mirrors : Mirror
       (opened-kept new (tested (rows_after past got)) refl (opened-kept past (delivered got) refl opened)) own
       (distinct-kept new (tested (rows_after past got)) refl (distinct-kept past (delivered got) refl distinct))
       (delivery_true past got found.0 there.0 distinct opened before) in
-      ((delivery_rows past got found.0 there.0 distinct own before, rest.0), rest.1)
+      ((own_rows past got found.0 there.0 distinct own before, rest.0), rest.1)
 
 -- a sector that a range has not is none that a write of the range passes
 apart : (lbn first n : ℕ) (block : Block) → shares first n block ≡ false → block.lbn ≤ lbn → lbn < block.lbn + block.count

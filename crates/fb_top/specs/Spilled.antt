@@ -1,5 +1,5 @@
 -- What a replay has written where the words name puts.
-use Rattle.std.specs.Prelude.{◌≡◌, ◌⊎◌, List, ℕ, length, Option, Some, None, false, codes}
+use Rattle.std.specs.Prelude.{◌≡◌, ◌⊎◌, List, ℕ, length, Option, Some, None, false}
 use Rattle.std.specs.List.{AllByRecursion, sum_by}
 use Rattle.fb_geometry.specs.Places.{places}
 use Rattle.fb_service.specs.declared.disk.Disk.{Disk}
