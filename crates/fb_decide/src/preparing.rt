@@ -1,5 +1,5 @@
-// What happens at an instant before its decision: calls, choices of segments, and a test of all
-// tasks.
+// What happens at an instant before its decision: calls take effect, and each task that was touched
+// chooses segments and is tested, which would change nothing for any other.
 ghost use Rattle.std.specs.Prelude.{◌≡◌, ◌+◌, ◌≤◌, ◌<◌, length, IfOk, IfSome, slice_get};
 ghost use Rattle.std.specs.List.{fold};
 ghost use Rattle.fb_model.specs.History.{Past};
@@ -44,7 +44,7 @@ impl Background {
         Ok(next)
     }
 
-    /// Lets the calls up to now take effect and the tasks choose segments, and tests all tasks.
+    /// Lets the calls up to now take effect and each task that was touched choose segments, and tests it.
     ///
     /// Returns how many calls have taken effect by then. The only error is out of memory.
     pub fn prepare(

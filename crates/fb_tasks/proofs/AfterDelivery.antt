@@ -13,7 +13,7 @@ use Rattle.fb_tasks.proofs.Words.{Stands, Told, HasNoChoice, Tells, IsUpToDate, 
 use Rattle.fb_tasks.proofs.Words.{element_at, map_at, each_set, flat_none, all_range, HasBegun, Delivers, HasChosen, ends_of}
 use Rattle.fb_tasks.proofs.Words.{StandsAfterTest}
 use Rattle.fb_tasks.proofs.{RowsOf.rows-given, RowsOf.seals_given, RowsOf.findings-mute, Tested.up_to_date-tested, Tested.AreAllRows}
-use Rattle.fb_tasks.proofs.{Tested.tells-tested, Tested.still-stands, Tested.no-ends, States.flagged-stands, Deliveries.delivered-entries}
+use Rattle.fb_tasks.proofs.{Tested.tells-tested, Tested.still-stands, Tested.no-ends, Frames.touched-tells, Deliveries.delivered-entries}
 use Rattle.fb_tasks.proofs.{Deliveries.WasWanted, Deliveries.was_wanted, Deliveries.delivered-holds, Deliveries.delivered-stands}
 use Rattle.fb_tasks.proofs.{Deliveries.at_work_now, States.seen, RowsOf.reported_rows}
 use Rattle.fb_tasks.proofs.{Leaving.begun_after, Leaving.begun_longer, Leaving.begun_same}
@@ -101,20 +101,18 @@ module _ {disk : Shape} {past : Past} {sessions : List Session} {held : List Ent
         (told.complete ∙ rw (silent task other less) (tested-other task other less)) told.stands told.at_work)
 
     -- the sessions tell the history with its delivery and its test
-    pub tells-delivered : {Rows : Type 0} (new : Session) → (Stands
-        (view (tested (rows_after past got) ∷ delivered got ∷ past) got.block.task) new)
-        × (IsAtWork (view (tested (rows_after past got) ∷ delivered got ∷ past) got.block.task).work new) × Rows
-        → Tells disk (tested (rows_after past got) ∷ delivered got ∷ past) (set sessions got.block.task (record new { touched = true })) now
-    tells-delivered new own =
+    pub tells-delivered : (new : Session) → new.touched ≡ true
+        → Stands (view (tested (rows_after past got) ∷ delivered got ∷ past) got.block.task) new
+        → IsAtWork (view (tested (rows_after past got) ∷ delivered got ∷ past) got.block.task).work new
+        → Tells disk (tested (rows_after past got) ∷ delivered got ∷ past) (set sessions got.block.task new) now
+    tells-delivered new touched stands at_work =
         let after : Past = tested (rows_after past got) ∷ delivered got ∷ past in
-        let touched = record new { touched = true } in
-        tells-tested (rows_after past got) (set sessions got.block.task touched) h
-        (length-set sessions got.block.task touched ∙ may.tells.as_many) all-given
+        tells-tested (rows_after past got) (set sessions got.block.task new) h
+        (length-set sessions got.block.task new ∙ may.tells.as_many) all-given
         (each_set (λ task session. (Stands (view after task) session) × (IsAtWork (view after task).work session)) sessions got.block.task
-        touched
-        (flagged-stands true (view after got.block.task) new own.0, own.1) (λ task session other at. other-tested task session other at))
-        (each_set (λ task session. session.touched ≡ false → HasNoChoice (view (delivered got ∷ past) task)) sessions got.block.task touched
-        (λ untouched. absurd (true≢false untouched))
+        new (stands, at_work) (λ task session other at. other-tested task session other at))
+        (each_set (λ task session. session.touched ≡ false → HasNoChoice (view (delivered got ∷ past) task)) sessions got.block.task new
+        (λ untouched. absurd (true≢false (sym touched ∙ untouched)))
         (λ task session other at untouched.
         let less : task < length (tasks past) = rw may.tells.as_many at (slice_get_within sessions task session at) in
         ((told-other task other less session at).quiet untouched).chosen))
@@ -158,6 +156,18 @@ module _ {disk : Shape} {past : Past} {sessions : List Session} {held : List Ent
         ap₂ (λ a b. a && b) (same_number got.block.task got.block.task refl) (same_number got.block.number got.block.number refl),
         was.shown_wanted,
       )
+
+  -- its session may be touched before
+  pub may-touched : {touched : List Session} → ((session : Session) → slice_get sessions got.block.task ≡ Some session
+      → touched ≡ set sessions got.block.task (record session { touched = true })) → MayDeliver disk past touched held got
+  may-touched flagged = record {
+    tells = touched-tells sessions (within_sessions got may) flagged may.tells;
+    up_to_date = may.up_to_date;
+    index = may.index;
+    wanted = may.wanted;
+    content_at = may.content_at;
+    content = may.content;
+  }
 
   -- the session of the delivered block
   pub delivers : {items : List Session} {now : List Entry} {old : Session} → items ≡ sessions → old ≡ get_or items got.block.task old

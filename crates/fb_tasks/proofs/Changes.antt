@@ -52,27 +52,27 @@ promoted-tells disk past call first count sessions held is h =
     silent-tells disk past (called call []) sessions held (λ t. promoted-silent past call kept t first count is) kept
     (append-nil (registered past)) h
 
-pub call-aborts : (disk : Shape) (past : Past) (call : Call) (first count : ℕ) (sessions touched : List Session) (held now : List Entry)
-    → call.action ≡ Abort first count → now ≡ after call.task (AbortRange first count) held
-    → ((session : Session) → slice_get sessions call.task ≡ Some session
-    → touched ≡ set sessions call.task (record session { touched = true }))
+pub aborted-tells : (disk : Shape) (past : Past) (call : Call) (task first count : ℕ) (sessions touched : List Session)
+    (held now : List Entry) → IsCall task (Abort first count) call → now ≡ after task (AbortRange first count) held
+    → ((session : Session) → slice_get sessions task ≡ Some session → touched ≡ set sessions task (record session { touched = true }))
     → MayTake disk past sessions held call → Tells disk (called call [] ∷ past) touched now
-call-aborts disk past call first count sessions touched held now is is_after flagged may =
+aborted-tells disk past call task first count sessions touched held now is is_after flagged may =
     let h = may.tells in
-    let asks = subst (MayAsk disk (calls_of past) call.task) is may.asks in
-    let opened : call.task < length sessions = omega (arith, (open_there past call.task asks.0).0, h.as_many) in
-    let found = element_at sessions call.task opened in
+    let asks = subst (λ t. MayAsk disk (calls_of past) t (Abort first count)) is.task
+    (subst (MayAsk disk (calls_of past) call.task) is.action may.asks) in
+    let opened : task < length sessions = omega (arith, (open_there past task asks.0).0, h.as_many) in
+    let found = element_at sessions task opened in
     let session = found.0 in
     let other : is_clean session.kind ≡ false =
-    ap (λ t. is_clean t.kind) (sym (terms_there past call.task ∙ (h.each call.task session found.1).terms)) ∙ asks.1 in
-    let kept : tasks (called call [] ∷ past) ≡ tasks past = ap (λ a. opened_by a (tasks past)) is in
+    ap (λ t. is_clean t.kind) (sym (terms_there past task ∙ (h.each task session found.1).terms)) ∙ asks.1 in
+    let kept : tasks (called call [] ∷ past) ≡ tasks past = ap (λ a. opened_by a (tasks past)) is.action in
     subst (λ xs. Tells disk (called call [] ∷ past) xs now) (sym (flagged session found.1))
-    (call-tells disk past call sessions sessions call.task session (record session { touched = true }) held now (AbortRange first count)
-    (aborted_view first count (view past call.task)) kept refl (aborted-view past call kept call.task first count refl is) refl opened
-    (sym (get_or_from_slice_get sessions call.task session session found.1)) is_after (λ placed. assumption placed)
+    (call-tells disk past call sessions sessions task session (record session { touched = true }) held now (AbortRange first count)
+    (aborted_view first count (view past task)) kept is.task (aborted-view past call kept task first count is.task is.action) refl opened
+    (sym (get_or_from_slice_get sessions task session session found.1)) is_after (λ placed. assumption placed)
     (states-told (λ block. ended (shares first count block)) (λ block before done. grind arith)
-    (view past call.task) session true (λ untouched. absurd (true≢false untouched)) other)
-    (λ block on. show_aborted ((view past call.task).bare block) (view past call.task).suspended (shares first count block)) h)
+    (view past task) session true (λ untouched. absurd (true≢false untouched)) other)
+    (λ block on. show_aborted ((view past task).bare block) (view past task).suspended (shares first count block)) h)
 
 fewer : (block : Block) (before : State) → is_delivered (ended true before) ≡ true → is_delivered before ≡ true
 fewer block before done = grind arith
@@ -93,32 +93,31 @@ closed-cleans v log h =
     let segments = ap (map clean.no_longer_waiting) h.segments ∙ left_all v v.segments in
     record { done = h.done; current = h.current; by = assumption (cleaned, taken, over, segments, h.by) }
 
-closed-told : (v : TaskView) (session : Session) → Told v session
-    → Told (closed_view v) (record session { closed = true; touched = true; log = clean.after_drop session.log })
-closed-told v session h =
+closed-told : (v : TaskView) (session : Session) → session.touched ≡ true → Told v session
+    → Told (closed_view v) (record session { closed = true; log = clean.after_drop session.log })
+closed-told v session touched h =
     let image : is_unsealed v ≡ true → HoldsImage (closed_view v).work (held_at session.image) = λ is_open.
     let image = h.image is_open in
     record { each = holds-fewer v.work (λ _. ended true) fewer (held_at session.image) v.blocks image.each; only = image.only } in
     let log = λ (cleans : is_clean session.kind ≡ true). closed-cleans v session.log (h.log cleans) in
     let at_work : IsAtWork (closed_view v).work session = λ cleans. simp ended-done (h.at_work cleans) in
     let reported : AreReported (closed_view v).work = simp ended-done h.reported in
-    let quiet : true ≡ false → IsQuiet (closed_view v) = λ untouched. absurd (true≢false untouched) in
+    let quiet : session.touched ≡ false → IsQuiet (closed_view v) = λ untouched. absurd (true≢false (sym touched ∙ untouched)) in
     assumption (image, log, at_work, reported, quiet, h)
 
 pub closed-tells : (disk : Shape) (past : Past) (call : Call) (items seen : List Session) (task n : ℕ)
     (session : Session) (log : clean.Cleaning) (held now : List Entry) → IsCall task Close call → items ≡ seen → task < length seen
-    → session ≡ get_or items task session
+    → session ≡ get_or items task session → session.touched ≡ true
     → n ≡ length (places disk) → now ≡ after task (AbortRange 0 n) held → log ≡ clean.after_drop session.log → Tells disk past seen held
-    → Tells disk (called call [] ∷ past) (set items task (record session { closed = true; touched = true; log = log })) now
-closed-tells disk past call items seen task n session log held now is same opened at count is_after dropped h =
+    → Tells disk (called call [] ∷ past) (set items task (record session { closed = true; log = log })) now
+closed-tells disk past call items seen task n session log held now is same opened at touched count is_after dropped h =
     let kept : tasks (called call [] ∷ past) ≡ tasks past = ap (λ a. opened_by a (tasks past)) is.action in
     rw dropped (call-tells disk past call items seen task session (record session {
       closed = true;
-      touched = true;
       log = clean.after_drop session.log;
     }) held now (AbortRange 0 n) (closed_view (view past task)) kept is.task
     (closed-view past call kept task is.task is.action) same opened at is_after (λ placed. assumption placed)
-    (closed-told (view past task) session)
+    (closed-told (view past task) session touched)
     (λ block on. let shared : shares 0 n block ≡ true = rw count (grind (arith, nat_tests, on.some, on.on_disk)) in
     show_aborted ((view past task).bare block) (view past task).suspended (shares 0 n block) ∙ rw shared refl) h)
 

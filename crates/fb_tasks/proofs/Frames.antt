@@ -1,10 +1,11 @@
 -- One task changes, and the others stay.
-use Rattle.std.proofs.lemmas.List.{set-get_or}
+use Rattle.std.proofs.lemmas.List.{set-get_or, set-set, get_or-set_same}
 use Rattle.fb_units.proofs.Alike.{same_map}
 use Rattle.fb_tasks.proofs.Words.{◌≡◌, ℕ, suc, ◌<◌, ◌≤◌, ◌==◌, if◌then◌else◌, List, [], ◌∷◌, false, Some, length, map, set, get_or}
 use Rattle.fb_tasks.proofs.Words.{slice_get, append-nil, refl, ap, sym, ◌∙◌, arith, subst, AllByRecursion, length-set, slice_get-get_or}
 use Rattle.fb_tasks.proofs.Words.{Shape, Call, Block, Entry, after, state_after, Event, Past, called, tasks, registered, TaskView, view}
 use Rattle.fb_tasks.proofs.Words.{state_in, called-silent, same_number, Session, entry_by, entry_of, Told, IsPlaced, IsBlockOf, Tells}
+use Rattle.fb_tasks.proofs.Words.{IsQuiet, true, true≢false, element_at}
 use Rattle.fb_tasks.proofs.Words.{all_weaker, ne_eqb, each_set, one_or_other, nat_tests, get_or_from_slice_get}
 use Rattle.fb_wanted.specs.declared.block.Change.{Change}
 
@@ -57,6 +58,38 @@ module _ (disk : Shape) (past : Past) (event : Event) (task : ℕ)
           rw (others t (ne_eqb task t (λ e. absurd (omega arith)))) (h.unopened t beyond);
     };
   }
+
+-- a session is touched
+module _ (sessions : List Session) {touched : List Session} {task : ℕ} (opened : task < length sessions)
+    (flagged : (session : Session) → slice_get sessions task ≡ Some session
+    → touched ≡ set sessions task (record session { touched = true })) where
+  own : (session : Session) × (slice_get sessions task ≡ Some session)
+  own = element_at sessions task opened
+
+  is_set : touched ≡ set sessions task (record own.0 { touched = true })
+  is_set = flagged own.0 own.1
+
+  pub touched-length : length touched ≡ length sessions
+  touched-length = rw is_set (length-set sessions task (record own.0 { touched = true }))
+
+  pub touched-now : (session : Session) → session ≡ get_or touched task session → session.touched ≡ true
+  touched-now session at =
+      ap (λ (s : Session). s.touched) (rw is_set at at ∙ get_or-set_same sessions task (record own.0 { touched = true }) session opened)
+
+  pub touched-set : (new : Session) → set touched task new ≡ set sessions task new
+  touched-set new = rw is_set (set-set sessions task (record own.0 { touched = true }) new)
+
+  -- it tells what it did
+  pub touched-tells : {disk : Shape} {past : Past} {held : List Entry} → Tells disk past sessions held → Tells disk past touched held
+  touched-tells {past} h =
+      let told = h.each task own.0 own.1 in
+      let quiet : true ≡ false → IsQuiet (view past task) = λ untouched. absurd (true≢false untouched) in
+      record {
+        as_many = touched-length ∙ h.as_many;
+        each = rw is_set (each_set (λ t. Told (view past t)) sessions task (record own.0 { touched = true }) (assumption (quiet, told))
+            (λ t session differ at. h.each t session at));
+        blocks = h.blocks;
+      }
 
 -- an event that changes no task
 pub silent-tells : (disk : Shape) (past : Past) (event : Event) (sessions : List Session) (held : List Entry)

@@ -32,6 +32,12 @@ module _ {sessions : List Session} {listed_touched checked_by_writes : BTreeSet 
       → AreListed (set sessions task new) listed_touched checked_by_writes
   listed_set task new there = listed_changed h task new (λ _. there) (λ _. h.covered task there)
 
+  -- or was touched
+  pub listed_touched-set : (task : ℕ) (old new : Session) → task < length sessions → old ≡ get_or sessions task old → old.touched ≡ true
+      → AreListed (set sessions task new) listed_touched checked_by_writes
+  listed_touched-set task old new within at touched =
+      listed_set task new (h.listed task old (slice_get-get_or sessions task old within ∙ ap Some (sym at)) touched)
+
   -- or stays as touched and as open as it was
   pub listed_kept : (task : ℕ) (old new : Session) → task < length sessions → old ≡ get_or sessions task old
       → new.touched ≡ old.touched → (is_backup new.kind && not new.sealed) ≡ (is_backup old.kind && not old.sealed)

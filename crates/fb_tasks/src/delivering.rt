@@ -44,6 +44,7 @@ impl Session {
         ensures err_rows { OnErr result ((disk : Shape) (past : Past) (sessions : List Session) (held : List Entry)
             → Delivers disk past sessions held got self.old blocks.now
             → HasBegun rows.old (BackGot got ∷ rows_after past got) rows.new) }
+        ensures touched { OnOk result (self.new.touched ≡ self.old.touched) }
     {
         let task = got.block.task;
         let end = got.end;

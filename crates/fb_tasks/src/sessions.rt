@@ -3,10 +3,9 @@ ghost use Rattle.std.specs.Prelude.{◌≡◌, ◌≤◌, ◌<◌, ◌^◌, ◌*
 ghost use Rattle.std.specs.Prelude.{Some, OnOk, OnErr};
 ghost use Rattle.std.specs.List.{flat_map};
 ghost use Rattle.fb_geometry.specs.Shape.{Shape};
-ghost use Rattle.fb_geometry.specs.Places.{places};
 ghost use Rattle.fb_units.specs.declared.types.Request.{Request};
 ghost use Rattle.fb_calls.specs.declared.call.Call.{Call};
-ghost use Rattle.fb_calls.specs.declared.call.Action.TheVariants.{Open, Want, Suspend, Resume, Close, Segment};
+ghost use Rattle.fb_calls.specs.declared.call.Action.TheVariants.{Open, Want, Abort, Suspend, Resume, Close, Segment};
 ghost use Rattle.fb_wanted.specs.declared.block.Entry.{Entry};
 ghost use Rattle.fb_wanted.specs.declared.block.Change.TheVariants.{Deliver};
 ghost use Rattle.fb_wanted.specs.States.{after};
@@ -103,11 +102,7 @@ impl Sessions {
                 block,
             } => self.open(*kind, *weight, *block),
             Action::Want { first, count } => self.want(map, blocks, call.task, *first, *count),
-            Action::Abort { first, count } => {
-                self.touch(call.task)?;
-                blocks.abort(call.task, *first, *count);
-                Ok(())
-            }
+            Action::Abort { first, count } => self.abort(blocks, call.task, *first, *count),
             Action::Promote { .. } => Ok(()),
             Action::Suspend => {
                 self.suspend(blocks, call.task);
@@ -123,15 +118,12 @@ impl Sessions {
                 blocks,
                 age,
                 live,
-            } => {
-                let _sectors = map.count();
-                self.add_segment(call.task, *first, *blocks, *age, live)
-            }
+            } => self.add_segment(map, call.task, *first, *blocks, *age, live),
         }
     }
 
-    /// Lets sessions choose segments and tests what is complete; adds the rows that a decision has
-    /// before its plan.
+    /// Lets each touched session choose segments and tests it, which would change nothing for any
+    /// other; adds the rows that a decision has before its plan.
     ///
     /// If memory runs out, all rows and blocks that stood before are unchanged, and so is each session that
     /// was not touched; what was registered are blocks of open clean tasks.
@@ -181,11 +173,9 @@ impl Sessions {
     {
         let task = got.block.task;
         blocks.mark_delivered(task, got.block.number);
-        note_touch(&mut self.listed_touched, &mut self.checked_by_writes, task)?;
-        let session = &mut self.sessions[task as usize];
-        session.take_delivery(self.alloc, blocks, got, rows)?;
-        session.touched = true;
-        Ok(())
+        // The task is tested at once, but a delivery that finishes its segment lets it choose another.
+        self.touch(task)?;
+        self.sessions[task as usize].take_delivery(self.alloc, blocks, got, rows)
     }
 
     /// A write has passed: blocks of open backups that it overwrote are wanted again.
@@ -277,6 +267,24 @@ impl Sessions {
         self.touch(task)
     }
 
+    // Aborts the task's blocks that share a sector with the range.
+    fn abort(
+        &mut self,
+        blocks: &mut Blocks,
+        task: u32,
+        first: u64,
+        count: u64,
+    ) -> Result<(), NoMemory>
+        requires { task < length self.old }
+        ensures ok { OnOk result ((disk : Shape) (past : Past) (call : Call) → IsCall task (Abort first count) call
+            → MayTake disk past self.old blocks.old call → Tells disk (called call [] ∷ past) self.new blocks.new) }
+        ensures err { OnErr result ((self.new ≡ self.old) × (blocks.new ≡ blocks.old)) }
+    {
+        self.touch(task)?;
+        blocks.abort(task, first, count);
+        Ok(())
+    }
+
     fn suspend(&mut self, blocks: &mut Blocks, task: u32)
         requires { task < length self.old }
         ensures { (disk : Shape) (past : Past) (call : Call) → IsCall task Suspend call → Tells disk past self.old blocks.old
@@ -302,10 +310,9 @@ impl Sessions {
             → Tells map.now (called call [] ∷ past) self.new blocks.new) }
         ensures err { OnErr result ((self.new ≡ self.old) × (blocks.new ≡ blocks.old)) }
     {
-        note_touch(&mut self.listed_touched, &mut self.checked_by_writes, task)?;
+        self.touch(task)?;
         let closing = &mut self.sessions[task as usize];
         closing.closed = true;
-        closing.touched = true;
         closing.log.drop_rest();
         blocks.abort(task, 0, map.count());
         Ok(())
@@ -314,6 +321,7 @@ impl Sessions {
     // Adds a segment to a task's log.
     fn add_segment(
         &mut self,
+        map: &SectorMap,
         task: u32,
         first: u64,
         blocks: u32,
@@ -321,13 +329,14 @@ impl Sessions {
         live: &Live,
     ) -> Result<(), NoMemory>
         requires opened { task < length self.old }
-        requires call { (disk : Shape) × (past : Past) × (call : Call)
-            × (held : List Entry) × IsCall task (Segment first blocks age live.now) call × MayTake disk past self.old held call
-            × (length (places disk) ≤ 10 ^ 12) }
-        ensures ok { OnOk result ((disk : Shape) (past : Past) (call : Call) (held : List Entry) → IsCall task (Segment first blocks age
-            live.now) call → MayTake disk past self.old held call → Tells disk (called call [] ∷ past) self.new held) }
+        requires call { (past : Past) × (call : Call) × (held : List Entry) × IsCall task (Segment first blocks age live.now) call
+            × MayTake map.now past self.old held call }
+        ensures ok { OnOk result ((past : Past) (call : Call) (held : List Entry) → IsCall task (Segment first blocks age live.now) call
+            → MayTake map.now past self.old held call → Tells map.now (called call [] ∷ past) self.new held) }
         ensures err { OnErr result (self.new ≡ self.old) }
     {
+        let _sectors = map.count();
+        // Not by `touch`: if the segment can't be added, the session has to stay as it was.
         note_touch(&mut self.listed_touched, &mut self.checked_by_writes, task)?;
         let cleaner = &mut self.sessions[task as usize];
         cleaner.log.add(first, blocks, age, live)?;

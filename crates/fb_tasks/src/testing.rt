@@ -39,6 +39,7 @@ impl Session {
             → (Stands (view past task) self.new) × (IsAtWork (view past task).work self.new)
             × (rows.new ≡ rows.old ++ segment_rows_found past now task)) }
         ensures err { OnErr result (rows.new ≡ rows.old) }
+        ensures touched { self.new.touched ≡ self.old.touched }
     {
         let counts = blocks.counts(task);
         if counts.delivered != counts.registered {
@@ -108,7 +109,7 @@ impl Session {
         ensures err_rows { OnErr result ((disk : Shape) (past : Past) → HasChosen disk past task self.old blocks.now
             → HasBegun rows.old (ends_of past now task) rows.new) }
         ensures grown { HasGrown rows.old rows.new }
-        ensures same { by_calls self.new ≡ by_calls self.old }
+        ensures same { (by_calls self.new ≡ by_calls self.old) × (self.new.touched ≡ self.old.touched) }
     {
         let complete = self.is_complete(blocks.counts(task));
         let stamp = Stamp { task, instant: now };

@@ -1,5 +1,5 @@
 use Rattle.fb_tasks.proofs.Words.{ap, refl, on_ok_weaker, on_err_weaker, on_err, blocks_by, arith}
-use Rattle.fb_tasks.proofs.{Leaving.begun_not, Leaving.begun_same, Changes.promoted-tells, Changes.call-aborts}
+use Rattle.fb_tasks.proofs.{Leaving.begun_not, Leaving.begun_same, Changes.promoted-tells}
 use Rattle.fb_tasks.proofs.Rules.{room_for_one, session_there, takes_none}
 use Rattle.fb_tasks.proofs.sessions.Sessions.apply.Goals as goal
 
@@ -7,15 +7,8 @@ pub open-requires : goal.open-requires
 open-requires c = room_for_one c.args.map.now c.requires.0 c.args.self.now c.args.blocks.now c.args.call.now c.requires.1
 
 pub add_segment-requires-clause-call : goal.add_segment-requires-clause-call
-add_segment-requires-clause-call c = (
-  c.args.map.now,
-  c.requires.0,
-  c.args.call.now,
-  c.args.blocks.now,
-  record { task = refl; action = c.in-Segment.is },
-  c.requires.1,
-  omega (arith, c.count-sectors.ensures.value, c.count-sectors.ensures.bound),
-)
+add_segment-requires-clause-call c =
+    (c.requires.0, c.args.call.now, c.args.blocks.now, record { task = refl; action = c.in-Segment.is }, c.requires.1)
 
 pub returns-in-Open-clause-ok : goal.returns-in-Open-clause-ok
 returns-in-Open-clause-ok c = on_ok_weaker c.open.result (λ says past h. takes_none c.args.map.now
@@ -30,11 +23,14 @@ pub returns-in-Want-clause-err_blocks : goal.returns-in-Want-clause-err_blocks
 returns-in-Want-clause-err_blocks c = on_err_weaker c.want.result
     (λ _ past may. c.want.ensures.blocks past c.args.call.now (record { task = refl; action = c.in-Want.is }) may) c.want.ensures.err
 
-pub returns-in_ok-touch-in-Abort-clause-ok : goal.returns-in_ok-touch-in-Abort-clause-ok
-returns-in_ok-touch-in-Abort-clause-ok c = λ past h. takes_none c.args.map.now past c.args.call.now c.touch.new.self c.abort.new.self
-    (ap (blocks_by c.args.map.now past c.args.call.now.task) c.in-Abort.is)
-    (call-aborts c.args.map.now past c.args.call.now c.in-Abort.first c.in-Abort.count c.args.self.now c.touch.new.self c.args.blocks.now
-    c.abort.new.self c.in-Abort.is c.abort.ensures.states c.in_ok-touch-in-Abort.ensures.ok h)
+pub returns-in-Abort : goal.returns-in-Abort
+returns-in-Abort c = record {
+  ok = on_ok_weaker c.abort.result (λ says past h. takes_none c.args.map.now past c.args.call.now c.abort.new.self c.abort.new.blocks
+      (ap (blocks_by c.args.map.now past c.args.call.now.task) c.in-Abort.is)
+      (says c.args.map.now past c.args.call.now (record { task = refl; action = c.in-Abort.is }) h)) c.abort.ensures.ok;
+  err_sessions = on_err_weaker c.abort.result (λ same. same.0) c.abort.ensures.err;
+  err_blocks = on_err_weaker c.abort.result (λ same past may. begun_same same.1) c.abort.ensures.err;
+}
 
 pub returns-in-Promote-clause-ok : goal.returns-in-Promote-clause-ok
 returns-in-Promote-clause-ok c = λ past h. takes_none c.args.map.now past c.args.call.now c.args.self.now c.args.blocks.now
@@ -64,7 +60,7 @@ returns-in-Close c = record {
 pub returns-in-Segment-clause-ok : goal.returns-in-Segment-clause-ok
 returns-in-Segment-clause-ok c = on_ok_weaker c.add_segment.result (λ says past h. takes_none c.args.map.now past c.args.call.now
     c.add_segment.new.self c.args.blocks.now (ap (blocks_by c.args.map.now past c.args.call.now.task) c.in-Segment.is)
-    (says c.args.map.now past c.args.call.now c.args.blocks.now (record { task = refl; action = c.in-Segment.is }) h))
+    (says past c.args.call.now c.args.blocks.now (record { task = refl; action = c.in-Segment.is }) h))
     c.add_segment.ensures.ok
 
 pub want-requires-clause-opened : goal.want-requires-clause-opened
@@ -73,8 +69,8 @@ want-requires-clause-opened c = session_there (λ asks. (rw c.in-Want.is at asks
 pub want-requires-clause-call : goal.want-requires-clause-call
 want-requires-clause-call c = (c.requires.0, c.args.call.now, record { task = refl; action = c.in-Want.is }, c.requires.1)
 
-pub touch-requires : goal.touch-requires
-touch-requires c = omega (arith, session_there (λ asks. (rw c.in-Abort.is at asks).0) c.requires.1)
+pub abort-requires : goal.abort-requires
+abort-requires c = omega (arith, session_there (λ asks. (rw c.in-Abort.is at asks).0) c.requires.1)
 
 pub suspend-requires : goal.suspend-requires
 suspend-requires c = session_there (λ asks. rw c.in-Suspend.is at asks) c.requires.1
@@ -93,6 +89,3 @@ returns-in-Open-clause-err_blocks c = on_err c.open.result (λ past may. begun_n
 
 pub returns-in-Segment-clause-err_blocks : goal.returns-in-Segment-clause-err_blocks
 returns-in-Segment-clause-err_blocks c = on_err c.add_segment.result (λ past may. begun_not)
-
-pub returns-in_err-touch-in-Abort-clause-err_blocks : goal.returns-in_err-touch-in-Abort-clause-err_blocks
-returns-in_err-touch-in-Abort-clause-err_blocks c = on_err c.from_residual.result (λ past may. begun_not)

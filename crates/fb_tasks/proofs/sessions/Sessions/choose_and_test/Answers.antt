@@ -11,7 +11,8 @@ test_touched-requires c =
 
 pub returns-clause-tells : goal.returns-clause-tells
 returns-clause-tells c = on_ok_weaker c.test_touched.result (λ tested past may.
-    (tested c.args.map.now (with_choices c.args.map.now past) (c.in_ok-choose_touched.ensures.chosen past may).0).0) c.test_touched.ensures.tested
+    (tested c.args.map.now (with_choices c.args.map.now past) (c.in_ok-choose_touched.ensures.chosen past may).0).0)
+    c.test_touched.ensures.tested
 
 pub returns-clause-up_to_date : goal.returns-clause-up_to_date
 returns-clause-up_to_date c = on_ok_weaker c.test_touched.result (λ _ past may.
@@ -31,8 +32,8 @@ returns-clause-rows c = on_ok_weaker c.test_touched.result (λ tested past may.
     (flat_map (ends_of new c.args.now) (task_numbers new)))) c.test_touched.ensures.tested
 
 pub returns-clause-stay_sessions : goal.returns-clause-stay_sessions
-returns-clause-stay_sessions c = touched_more c.args.self.now c.choose_touched.new.self c.test_touched.new.self c.choose_touched.ensures.stay_sessions
-    c.test_touched.ensures.stay_sessions
+returns-clause-stay_sessions c = touched_more c.args.self.now c.choose_touched.new.self c.test_touched.new.self
+    c.choose_touched.ensures.stay_sessions c.test_touched.ensures.stay_sessions
 
 pub returns-clause-stay_rows : goal.returns-clause-stay_rows
 returns-clause-stay_rows c = grown_more c.args.rows.now c.choose_touched.new.rows c.test_touched.new.rows c.choose_touched.ensures.stay_rows

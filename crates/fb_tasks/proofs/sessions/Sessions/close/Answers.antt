@@ -1,19 +1,28 @@
-use Rattle.fb_tasks.proofs.Words.{length, ap, arith}
-use Rattle.fb_tasks.proofs.{Changes.closed-tells, Listed.listed_more, Listed.listed_noted}
+use Rattle.fb_tasks.proofs.Words.{◌<◌, length, ap, arith, refl}
+use Rattle.fb_tasks.proofs.{Changes.closed-tells, Listed.listed_kept, Frames.touched-length, Frames.touched-now, Frames.touched-tells}
 use Rattle.fb_tasks.proofs.sessions.Sessions.close.Goals as goal
 
 pub returns-clause-ok : goal.returns-clause-ok
 returns-clause-ok c = λ past call is h.
-    closed-tells c.args.map.now past call c.self.inside.sessions.items c.args.self.now c.args.task c.count.result
-    c.index_mut-closing.result.now c.drop_rest.new.self c.args.blocks.now c.abort.new.self
-    is c.self.view_is c.requires c.index_mut-closing.ensures.value c.count.ensures.value c.abort.ensures.states c.drop_rest.ensures h
+    let flagged = c.in_ok-touch.ensures.ok in
+    let session = c.index_mut-closing.result.now in
+    closed-tells c.args.map.now past call c.self.inside.sessions.items c.touch.new.self c.args.task c.count.result
+    session c.drop_rest.new.self c.args.blocks.now c.abort.new.self
+    is c.self.view_is (omega (arith, c.requires, touched-length c.args.self.now c.requires flagged)) c.index_mut-closing.ensures.value
+    (touched-now c.args.self.now c.requires flagged session (rw c.self.view_is at c.index_mut-closing.ensures.value))
+    c.count.ensures.value c.abort.ensures.states c.drop_rest.ensures (touched-tells c.args.self.now c.requires flagged h)
 
 pub index_mut-closing-requires : goal.index_mut-closing-requires
-index_mut-closing-requires c = omega (arith, c.requires, ap length c.self.view_is, c.self.inside.sessions.ok.0)
+index_mut-closing-requires c = omega (
+  arith,
+  c.requires,
+  touched-length c.args.self.now c.requires c.in_ok-touch.ensures.ok,
+  ap length c.self.view_is,
+  c.self.inside.sessions.ok.0,
+)
 
 pub invariant_of-self : goal.invariant_of-self
-invariant_of-self c = listed_more c.self.invariant (rw c.self.view_is c.requires) c.note_touch.ensures.stay
-
-pub invariant_of-self-2 : goal.invariant_of-self-2
-invariant_of-self-2 c = listed_noted c.self.invariant (rw c.self.view_is c.requires) c.note_touch.ensures.stay
-    c.in_ok-note_touch.ensures.noted c.in_ok-note_touch.ensures.checked_noted _
+invariant_of-self c =
+    let within : c.args.task < length c.self.inside.sessions.items =
+    omega (arith, c.requires, touched-length c.args.self.now c.requires c.in_ok-touch.ensures.ok, ap length c.self.view_is) in
+    listed_kept c.self.invariant c.args.task c.index_mut-closing.result.now _ within c.index_mut-closing.ensures.value refl refl

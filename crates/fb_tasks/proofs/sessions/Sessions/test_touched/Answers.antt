@@ -49,7 +49,7 @@ loop-task-preserved c =
           let to = tested-to c.loop-task.from n c.in-Some.ensures.from (omega (arith, within))
           (rw c.deref.ensures.value at c.in-Some.ensures.first) chosen (inv.tested disk past chosen) in
           one_tested to (c.in_ok-test.ensures.tested disk past (chosen_at chosen n session (sym (to.later n (omega arith)) ∙ there)));
-      stay = touched_set c.args.self.now items n session cleared there touched c.test.ensures.same inv.stay;
+      stay = touched_set c.args.self.now items n session cleared there touched c.test.ensures.same.0 inv.stay;
       grown = grown_more c.args.rows.now c.loop-task.rows c.test.new.rows inv.grown c.test.ensures.grown;
     }
 
@@ -68,7 +68,7 @@ returns-in_err-test-clause-stay_sessions c =
     let session = c.index_mut-session.result.now in
     let there = listed_there inv.kept c.in-Some.task session c.in-Some.ensures.found c.index_mut-session.ensures.value in
     touched_set c.args.self.now c.loop-task.self-inside.sessions.items c.in-Some.task session c.test.new.self there
-    ((rw c.deref.ensures.value at c.in-Some.ensures.touched) session there) c.test.ensures.same inv.stay
+    ((rw c.deref.ensures.value at c.in-Some.ensures.touched) session there) c.test.ensures.same.0 inv.stay
 
 pub index_mut-session-requires : goal.index_mut-session-requires
 index_mut-session-requires c =
