@@ -36,7 +36,8 @@ module _ {up_to_date : Bool} {disk : Shape} {calls : List Call} {next : ℕ} {se
   pub follows-may-choose : MayChooseAndTest disk h.past sessions held
   follows-may-choose = record { tells = h.tells; few = omega (arith, h.called.few) }
 
-  pub follows-up_to_date : (instant : ℕ) (now : List Session) (after : List Entry) → Tells disk (tested_at (with_choices disk h.past) instant) now after
+  pub follows-up_to_date : (instant : ℕ) (now : List Session) (after : List Entry)
+      → Tells disk (tested_at (with_choices disk h.past) instant) now after
       → IsUpToDate (tested_at (with_choices disk h.past) instant) → Follows true disk calls next now after
   follows-up_to_date instant now after tells all = follows-on true (tested_at (with_choices disk h.past) instant) now after next
       (called-tested disk calls (with_choices disk h.past) next (called-chosen disk calls h.past next h.called sessions held h.tells)
