@@ -128,10 +128,8 @@ fn walk(
             few = FEW;
         }
         if few == 0 {
-            return Walked {
-                best,
-                full: Some(visit),
-            };
+            let full = Some(visit);
+            return Walked { best, full };
         }
         few -= 1;
         let wait = visit.wait(disk, key.0);

@@ -26,7 +26,8 @@ const ROOM: usize = 128;
 #[derive(Drop)]
 pub struct SptfLanes {
     alloc: Global,
-    waiting: BTreeMap<(u64, u64), Request>,
+    // The requests for which their row had no room.
+    overflow: BTreeMap<(u64, u64), Request>,
     rows: Vec<Vec<((u64, u64), Request)>>,
     // The rows that have requests.
     occupied: BTreeSet<u32>,
@@ -41,9 +42,9 @@ impl Model for SptfLanes {
 
     ghost Value = { QueueState };
 
-    ghost view = { λ q. record { waiting = q.waiting.entries ++ all_of_rows q.rows.items; joined = q.joined } };
+    ghost view = { λ q. record { waiting = q.overflow.entries ++ all_of_rows q.rows.items; joined = q.joined } };
 
-    ghost invariant = { λ q. IsDivided q.waiting.entries q.rows.items q.in_rows q.joined × AreOccupied q.occupied q.rows.items };
+    ghost invariant = { λ q. IsDivided q.overflow.entries q.rows.items q.in_rows q.joined × AreOccupied q.occupied q.rows.items };
 }
 
 impl SptfLanes {
@@ -54,7 +55,7 @@ impl SptfLanes {
     {
         SptfLanes {
             alloc,
-            waiting: BTreeMap::new(alloc),
+            overflow: BTreeMap::new(alloc),
             rows: Vec::new(alloc),
             occupied: BTreeSet::new(alloc),
             in_rows: 0,
@@ -88,21 +89,21 @@ impl Queue for SptfLanes {
         let spot = along(disk, &request);
         let row = cylinder_around(disk, spot);
         if !self.has_room(row) {
-            add(&mut self.waiting, spot, self.joined, request)?;
+            add(&mut self.overflow, spot, self.joined, request)?;
             self.joined += 1;
             return Ok(());
         }
-        let waiting = ((spot, self.joined), request);
-        put(self.alloc, &mut self.rows, &mut self.occupied, row, waiting)?;
+        let entry = ((spot, self.joined), request);
+        put(self.alloc, &mut self.rows, &mut self.occupied, row, entry)?;
         self.in_rows += 1;
         self.joined += 1;
         Ok(())
     }
 
     fn take(&mut self, disk: &Disk, head: Track, now: Ns) -> Request {
-        let limit = soonest_in_map(&self.waiting, disk, head, now);
+        let from_map = soonest_in_map(&self.overflow, disk, head, now);
         let from = departure_from(disk, head, now);
-        let pick = soonest_in_rows(self.rows.as_slice(), &self.occupied, disk, &from, limit);
+        let pick = soonest_in_rows(self.rows.as_slice(), &self.occupied, disk, &from, from_map);
         match pick.position {
             Some(position) => {
                 let request = take_from(&mut self.rows, position);
@@ -110,11 +111,11 @@ impl Queue for SptfLanes {
                 self.in_rows -= 1;
                 request
             }
-            None => take_out(&mut self.waiting, limit.key),
+            None => take_out(&mut self.overflow, from_map.key),
         }
     }
 
     fn is_empty(&self) -> bool {
-        self.waiting.is_empty() && self.in_rows == 0
+        self.overflow.is_empty() && self.in_rows == 0
     }
 }

@@ -8,7 +8,7 @@ use Rattle.fb_fastq.proofs.sptf.SptfLanesQueue.add.Goals as goal
 
 pub add-requires : goal.add-requires
 add-requires c =
-    numbers_left c.self.inside.waiting.entries (all_of_rows c.self.inside.rows.items) c.self.inside.joined c.self.invariant.0.numbers
+    numbers_left c.self.inside.overflow.entries (all_of_rows c.self.inside.rows.items) c.self.inside.joined c.self.invariant.0.numbers
 
 module _ (c : After-self) (spot : ℕ) where
   -- the one that joins
@@ -16,22 +16,22 @@ module _ (c : After-self) (spot : ℕ) where
   one = ((spot, c.self.inside.joined), c.args.request)
 
   abbrev all : List Waiting
-  all = c.self.inside.waiting.entries ++ all_of_rows c.self.inside.rows.items
+  all = c.self.inside.overflow.entries ++ all_of_rows c.self.inside.rows.items
 
-  in_map : (new : List Waiting) → new ≡ insert_entry order c.self.inside.waiting.entries (spot, c.self.inside.joined) c.args.request
-      → IsMore one c.self.inside.waiting.entries new
+  in_map : (new : List Waiting) → new ≡ insert_entry order c.self.inside.overflow.entries (spot, c.self.inside.joined) c.args.request
+      → IsMore one c.self.inside.overflow.entries new
   in_map new is =
-      let entries = c.self.inside.waiting.entries in
+      let entries = c.self.inside.overflow.entries in
       let own = numbers_left entries (all_of_rows c.self.inside.rows.items) c.self.inside.joined c.self.invariant.0.numbers in
       subst (IsMore one entries) (sym is) (insert_more spot c.self.inside.joined c.args.request entries own.given)
 
-  beside_rows : (new : List Waiting) → new ≡ insert_entry order c.self.inside.waiting.entries (spot, c.self.inside.joined) c.args.request
+  beside_rows : (new : List Waiting) → new ≡ insert_entry order c.self.inside.overflow.entries (spot, c.self.inside.joined) c.args.request
       → IsMore one all (new ++ all_of_rows c.self.inside.rows.items)
-  beside_rows new is = more_right one c.self.inside.waiting.entries new (in_map new is) (all_of_rows c.self.inside.rows.items)
+  beside_rows new is = more_right one c.self.inside.overflow.entries new (in_map new is) (all_of_rows c.self.inside.rows.items)
 
   beside_map : (new : List Waiting) → IsMore one (all_of_rows c.self.inside.rows.items) new
-      → IsMore one all (c.self.inside.waiting.entries ++ new)
-  beside_map new more = more_left one (all_of_rows c.self.inside.rows.items) new more c.self.inside.waiting.entries
+      → IsMore one all (c.self.inside.overflow.entries ++ new)
+  beside_map new more = more_left one (all_of_rows c.self.inside.rows.items) new more c.self.inside.overflow.entries
 
   module _ (new : List Waiting) (more : IsMore one all new) where
     pending_then : pending_of new ≡ pending_of c.args.self.now.waiting ++ c.args.request ∷ []
@@ -51,7 +51,7 @@ invariant_of-self-then-not-has_room c =
     let spot = c.along-spot.result in
     let more = in_map ((goal.at.invariant_of-self-then-not-has_room c).After-self) spot
     c.add.new.waiting.entries c.in_ok-add.ensures.entries in (
-      map_joined inside.waiting.entries c.add.new.waiting.entries inside.rows.items inside.in_rows spot inside.joined c.args.request
+      map_joined inside.overflow.entries c.add.new.waiting.entries inside.rows.items inside.in_rows spot inside.joined c.args.request
           c.self.invariant.0 more,
       c.self.invariant.1,
     )
@@ -70,7 +70,7 @@ returns-then-not-has_room-clause-serves c =
 pub invariant_of-self-2 : goal.invariant_of-self-2
 invariant_of-self-2 c =
     let inside = c.self.inside in (
-      rows_joined inside.waiting.entries inside.rows.items c.put.new.rows.items inside.in_rows c.along-spot.result inside.joined
+      rows_joined inside.overflow.entries inside.rows.items c.put.new.rows.items inside.in_rows c.along-spot.result inside.joined
           c.args.request c.self.invariant.0 c.in_ok-put.ensures.more (c.in_ok-put.ensures.rows c.self.invariant.0.own_rows),
       c.in_ok-put.ensures.occupied,
     )
@@ -131,7 +131,7 @@ invariant_of-self-in_err-put c =
 pub returns-in_err-put : goal.returns-in_err-put
 returns-in_err-put c =
     let result = c.from_residual-in_err-put.result in
-    let entries = c.self.inside.waiting.entries in
+    let entries = c.self.inside.overflow.entries in
     let same = ap (λ (ws : List Waiting). entries ++ ws) c.in_err-put.ensures.err ∙ ap (λ v. v.waiting) c.self.view_is in record {
       ok = IfOk-from_err result _ c.from_residual-in_err-put.ensures.0;
       counted = IfOk-from_err result _ c.from_residual-in_err-put.ensures.0;

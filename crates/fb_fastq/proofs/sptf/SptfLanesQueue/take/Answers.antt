@@ -11,21 +11,21 @@ use Rattle.fb_fastq.proofs.sptf.SptfLanesQueue.take.Goals as goal
 -- each spot is its request's
 spots : (c : After-self)
     → AllByRecursion (λ (w : Waiting). IsAlong c.args.disk.now w.1 w.0.0)
-    (c.self.inside.waiting.entries ++ all_of_rows c.self.inside.rows.items)
+    (c.self.inside.overflow.entries ++ all_of_rows c.self.inside.rows.items)
 spots c =
     subst (AllByRecursion (λ (w : Waiting). IsAlong c.args.disk.now w.1 w.0.0))
     (sym (ap (λ v. v.waiting) c.self.view_is)) c.requires.serves
 
 -- what was looked for from the departure was looked for from the head's track
 picked : (c : After-soonest_in_rows-pick)
-    → IsPick c.args.disk.now c.args.head c.args.now c.self.inside.rows.items c.soonest_in_map-limit.result c.soonest_in_rows-pick.result
+    → IsPick c.args.disk.now c.args.head c.args.now c.self.inside.rows.items c.soonest_in_map-from_map.result c.soonest_in_rows-pick.result
 picked c =
     let from = c.departure_from-from in
-    subst (λ (rows : List Row). IsPick c.args.disk.now c.args.head c.args.now rows c.soonest_in_map-limit.result
+    subst (λ (rows : List Row). IsPick c.args.disk.now c.args.head c.args.now rows c.soonest_in_map-from_map.result
     c.soonest_in_rows-pick.result) c.as_slice.ensures.value
-    (subst (λ now. IsPick c.args.disk.now c.args.head now c.as_slice.result.now c.soonest_in_map-limit.result
+    (subst (λ now. IsPick c.args.disk.now c.args.head now c.as_slice.result.now c.soonest_in_map-from_map.result
     c.soonest_in_rows-pick.result) from.ensures.instant
-    (subst (λ head. IsPick c.args.disk.now head from.result.instant c.as_slice.result.now c.soonest_in_map-limit.result
+    (subst (λ head. IsPick c.args.disk.now head from.result.instant c.as_slice.result.now c.soonest_in_map-from_map.result
     c.soonest_in_rows-pick.result) from.ensures.track c.soonest_in_rows-pick.ensures.pick))
 
 ruled_out : (c : After-soonest_in_rows-pick)
@@ -41,17 +41,17 @@ ruled_out c =
 -- the one that is picked is no later than any
 no_later_than_both : (c : After-soonest_in_rows-pick) (w : Waiting) → c.soonest_in_rows-pick.result.best.key ≡ w.0
     → c.soonest_in_rows-pick.result.best.wait ≡ sptf c.args.disk.now c.args.head c.args.now w.1
-    → IsFirst (sptf c.args.disk.now c.args.head c.args.now) w (c.self.inside.waiting.entries ++ all_of_rows c.self.inside.rows.items)
+    → IsFirst (sptf c.args.disk.now c.args.head c.args.now) w (c.self.inside.overflow.entries ++ all_of_rows c.self.inside.rows.items)
 no_later_than_both c w key wait =
     let disk = c.args.disk.now in
-    let map = c.self.inside.waiting in
+    let map = c.self.inside.overflow in
     let rows = c.self.inside.rows.items in
-    let limit = c.soonest_in_map-limit.result in
+    let from_map = c.soonest_in_map-from_map.result in
     let best = c.soonest_in_rows-pick.result.best in
     let apart = numbered_left map.entries (all_of_rows rows) c.self.invariant.0.numbers.numbered in
     first_of_both disk c.args.head c.args.now map rows best w key wait
-    (no_later_than_map disk c.args.head c.args.now map rows limit best apart c.soonest_in_map-limit.ensures.found
-    c.soonest_in_map-limit.ensures.first (picked c).before)
+    (no_later_than_map disk c.args.head c.args.now map rows from_map best apart c.soonest_in_map-from_map.ensures.found
+    c.soonest_in_map-from_map.ensures.first (picked c).before)
     (ruled_out c)
 
 -- it is one of the rows'
@@ -59,40 +59,41 @@ in_rows : (c : After-soonest_in_rows-pick) (position : Position) → c.soonest_i
     → IsAt c.args.disk.now c.args.head c.args.now c.self.inside.rows.items position c.soonest_in_rows-pick.result.best
 in_rows c position is =
     let best = c.soonest_in_rows-pick.result.best in
-    subst (λ o. MatchOption o (best ≡ c.soonest_in_map-limit.result)
+    subst (λ o. MatchOption o (best ≡ c.soonest_in_map-from_map.result)
     (λ position. IsAt c.args.disk.now c.args.head c.args.now c.self.inside.rows.items position best)) is (picked c).found
 
 -- or one of the map's
 in_map : (c : After-soonest_in_rows-pick) → c.soonest_in_rows-pick.result.position ≡ None
-    → c.soonest_in_rows-pick.result.best ≡ c.soonest_in_map-limit.result
+    → c.soonest_in_rows-pick.result.best ≡ c.soonest_in_map-from_map.result
 in_map c is =
     let best = c.soonest_in_rows-pick.result.best in
-    subst (λ o. MatchOption o (best ≡ c.soonest_in_map-limit.result)
+    subst (λ o. MatchOption o (best ≡ c.soonest_in_map-from_map.result)
     (λ position. IsAt c.args.disk.now c.args.head c.args.now c.self.inside.rows.items position best)) is (picked c).found
 
 of_map : (c : After-soonest_in_rows-pick) → c.soonest_in_rows-pick.result.position ≡ None
-    → IsCandidate c.args.disk.now c.args.head c.args.now c.self.inside.waiting c.soonest_in_map-limit.result
+    → IsCandidate c.args.disk.now c.args.head c.args.now c.self.inside.overflow c.soonest_in_map-from_map.result
 of_map c is =
     let disk = c.args.disk.now in
-    let map = c.self.inside.waiting in
+    let map = c.self.inside.overflow in
     let rows = c.self.inside.rows.items in
     let rules_out = subst (λ best. RulesOutAll disk c.args.head c.args.now best (all_of_rows rows)) (in_map c is) (ruled_out c) in
     let some = subst (λ ws. 0 < length (pending_of ws)) (sym (ap (λ v. v.waiting) c.self.view_is)) c.requires.some in
-    c.soonest_in_map-limit.ensures.found
-    (some_of_map disk c.args.head c.args.now map rows c.soonest_in_map-limit.result some c.soonest_in_map-limit.ensures.none rules_out)
+    c.soonest_in_map-from_map.ensures.found
+    (some_of_map disk c.args.head c.args.now map rows c.soonest_in_map-from_map.result some c.soonest_in_map-from_map.ensures.none
+    rules_out)
 
-pub soonest_in_map-limit-requires-clause-spots : goal.soonest_in_map-limit-requires-clause-spots
-soonest_in_map-limit-requires-clause-spots c =
+pub soonest_in_map-from_map-requires-clause-spots : goal.soonest_in_map-from_map-requires-clause-spots
+soonest_in_map-from_map-requires-clause-spots c =
     let is_along = λ (w : Waiting). IsAlong c.args.disk.now w.1 w.0.0 in
-    all_held (λ key r. IsAlong c.args.disk.now r key.0) c.self.inside.waiting
-    (all_left is_along c.self.inside.waiting.entries (all_of_rows c.self.inside.rows.items)
-    (spots ((goal.at.soonest_in_map-limit-requires-clause-spots c).After-self)))
+    all_held (λ key r. IsAlong c.args.disk.now r key.0) c.self.inside.overflow
+    (all_left is_along c.self.inside.overflow.entries (all_of_rows c.self.inside.rows.items)
+    (spots ((goal.at.soonest_in_map-from_map-requires-clause-spots c).After-self)))
 
 pub soonest_in_rows-pick-requires-clause-spots : goal.soonest_in_rows-pick-requires-clause-spots
 soonest_in_rows-pick-requires-clause-spots c =
     let is_along = λ (w : Waiting). IsAlong c.args.disk.now w.1 w.0.0 in
     subst (λ (rows : List Row). AllByRecursion is_along (all_of_rows rows)) (sym c.as_slice.ensures.value)
-    (all_right is_along c.self.inside.waiting.entries (all_of_rows c.self.inside.rows.items)
+    (all_right is_along c.self.inside.overflow.entries (all_of_rows c.self.inside.rows.items)
     (spots ((goal.at.soonest_in_rows-pick-requires-clause-spots c).After-self)))
 
 pub take_from-request-requires : goal.take_from-request-requires
@@ -129,20 +130,20 @@ invariant_of-self c =
     let new = c.free_if_empty.new.rows.items in
     let less = one_less ((goal.at.invariant_of-self c).After-free_if_empty) at.waiting at.there in
     let own = c.free_if_empty.ensures.rows (c.take_from-request.ensures.rows c.self.invariant.0.own_rows) in (
-      rows_taken inside.waiting.entries inside.rows.items new inside.in_rows inside.joined at.waiting c.self.invariant.0 less own,
+      rows_taken inside.overflow.entries inside.rows.items new inside.in_rows inside.joined at.waiting c.self.invariant.0 less own,
       c.free_if_empty.ensures.occupied (c.take_from-request.ensures.occupied inside.occupied c.self.invariant.1),
     )
 
 pub take_out-requires : goal.take_out-requires
 take_out-requires c =
     let is = of_map ((goal.at.take_out-requires c).After-soonest_in_rows-pick) c.in-None.is in
-    record { has = waits_there c.self.inside.waiting c.soonest_in_map-limit.result.key is.request is.waits }
+    record { has = waits_there c.self.inside.overflow c.soonest_in_map-from_map.result.key is.request is.waits }
 
 pub invariant_of-self-in-None : goal.invariant_of-self-in-None
 invariant_of-self-in-None c =
     let inside = c.self.inside in
-    let map = inside.waiting in
-    let key = c.soonest_in_map-limit.result.key in
+    let map = inside.overflow in
+    let key = c.soonest_in_map-from_map.result.key in
     let is = of_map ((goal.at.invariant_of-self-in-None c).After-soonest_in_rows-pick) c.in-None.is in
     let w : Waiting = (key, is.request) in
     let apart = numbered_left map.entries (all_of_rows inside.rows.items) c.self.invariant.0.numbers.numbered in
@@ -159,7 +160,7 @@ returns-in-Some-clause-least c =
     let inside = c.self.inside in
     let rank = sptf c.args.disk.now c.args.head c.args.now in
     let new = c.free_if_empty.new.rows.items in
-    let entries = inside.waiting.entries in
+    let entries = inside.overflow.entries in
     let w = at.waiting in
     let less = one_less ((goal.at.returns-in-Some-clause-least c).After-free_if_empty) at.waiting at.there in
     let value = subst (λ o. IfSome o (λ w. c.take_from-request.result ≡ w.1)) at.there c.take_from-request.ensures.value in
@@ -176,7 +177,7 @@ returns-in-Some-clause-serves c =
     let at = in_rows ((goal.at.returns-in-Some-clause-serves c).After-soonest_in_rows-pick) c.in-Some.position c.in-Some.is in
     let inside = c.self.inside in
     let new = c.free_if_empty.new.rows.items in
-    let entries = inside.waiting.entries in
+    let entries = inside.overflow.entries in
     let less = one_less ((goal.at.returns-in-Some-clause-serves c).After-free_if_empty) at.waiting at.there in
     all_less at.waiting (entries ++ all_of_rows new) (entries ++ all_of_rows inside.rows.items)
     (more_left at.waiting (all_of_rows new) (all_of_rows inside.rows.items) less entries)
@@ -185,18 +186,18 @@ returns-in-Some-clause-serves c =
 pub returns-in-None-clause-least : goal.returns-in-None-clause-least
 returns-in-None-clause-least c =
     let inside = c.self.inside in
-    let map = inside.waiting in
+    let map = inside.overflow in
     let rank = sptf c.args.disk.now c.args.head c.args.now in
     let new = c.take_out.new.waiting.entries in
     let rows = all_of_rows inside.rows.items in
-    let limit = c.soonest_in_map-limit.result in
+    let from_map = c.soonest_in_map-from_map.result in
     let same = in_map ((goal.at.returns-in-None-clause-least c).After-soonest_in_rows-pick) c.in-None.is in
     let is = of_map ((goal.at.returns-in-None-clause-least c).After-soonest_in_rows-pick) c.in-None.is in
-    let w : Waiting = (limit.key, is.request) in
+    let w : Waiting = (from_map.key, is.request) in
     let apart = numbered_left map.entries rows c.self.invariant.0.numbers.numbered in
     let less =
     subst (λ es. IsMore w es map.entries) (sym c.take_out.ensures.entries)
-    (remove_more w map.entries apart (held_is_in limit.key.0 limit.key.1 is.request map.entries is.waits)) in
+    (remove_more w map.entries apart (held_is_in from_map.key.0 from_map.key.1 is.request map.entries is.waits)) in
     let value = some_injective is.request c.take_out.result (sym is.waits ∙ c.take_out.ensures.value) in
     let first =
     no_later_than_both ((goal.at.returns-in-None-clause-least c).After-soonest_in_rows-pick) w (ap (λ (b : Candidate). b.key) same)
@@ -209,10 +210,10 @@ returns-in-None-clause-least c =
 pub returns-in-None-clause-serves : goal.returns-in-None-clause-serves
 returns-in-None-clause-serves c =
     let inside = c.self.inside in
-    let map = inside.waiting in
+    let map = inside.overflow in
     let new = c.take_out.new.waiting.entries in
     let rows = all_of_rows inside.rows.items in
-    let key = c.soonest_in_map-limit.result.key in
+    let key = c.soonest_in_map-from_map.result.key in
     let is = of_map ((goal.at.returns-in-None-clause-serves c).After-soonest_in_rows-pick) c.in-None.is in
     let w : Waiting = (key, is.request) in
     let apart = numbered_left map.entries rows c.self.invariant.0.numbers.numbered in
