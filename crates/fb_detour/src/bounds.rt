@@ -76,6 +76,13 @@ pub fn seeks_over(disk: &Disk, gap: &Gap, cylinder: u32) -> Seeks
     }
 }
 
+// The first track of a cylinder.
+pub fn first_track(cylinder: u32) -> Track
+    ensures { result ≡ record { cylinder = cylinder; head = 0 } }
+{
+    Track { cylinder, head: 0 }
+}
+
 // An upper bound on the weight of the wanted blocks that share one sector, over all blocks of these
 // cylinders and of one other track.
 pub fn most_depth(blocks: &Blocks, from: u32, end: u32, other: Track) -> u64

@@ -105,6 +105,14 @@ fn add_limit(last: Ns, begin: Ns, step: Ns, limits: &mut [Ns; LIMITS])
     limits[k as usize + 1] = limit;
 }
 
+// How long each part of the time of the gap is, in ns: together they reach beyond the deadline.
+fn late_step(gap: &Gap) -> Ns
+    requires { gap.now.now ≤ gap.now.deadline }
+    ensures { result ≡ late_step gap.entry.now }
+{
+    (gap.deadline - gap.now) / GAP_PARTS as u64 + 1
+}
+
 // Adds the worth of an offer to each part from whose beginning on it can still be caught, and moves
 // the limit behind the last of these.
 fn add_late(
@@ -131,7 +139,7 @@ fn add_late(
     ensures end { late_gain turning.now gap.entry.now (get_or limits.new 32 0) offer ≡ 0 }
 {
     if let Some(last) = last_catch(disk, gap, turning, offer.sweep) {
-        let step = (gap.deadline - gap.now) / GAP_PARTS as u64 + 1;
+        let step = late_step(gap);
         add_last(last, offer.worth as u64, gap.now, step, parts);
         add_limit(last, gap.now, step, limits);
     }
@@ -145,7 +153,7 @@ pub fn late_parts(disk: &Disk, blocks: &Blocks, gap: &Gap) -> LateParts
 {
     let on_target = blocks_on(blocks, gap.target);
     let stop = stop_at(disk, &on_target, gap.target, gap.now);
-    let step = (gap.deadline - gap.now) / GAP_PARTS as u64 + 1;
+    let step = late_step(gap);
     let mut parts = [0; GAP_PARTS];
     let mut limits = first_limits(gap.now, step);
     for offer in stop.offers {

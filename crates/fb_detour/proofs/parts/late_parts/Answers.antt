@@ -1,5 +1,5 @@
-use Rattle.fb_detour.proofs.Words.{arith, get_or, length, subst, take, ℕ, ◌*◌, ◌+◌, ◌-◌, ◌/◌, ◌<◌, ◌≤◌, get_or-replicate, on_track, Offer}
-use Rattle.fb_detour.proofs.Words.{IsStop, late_gain, late_most}
+use Rattle.fb_detour.proofs.Words.{arith, get_or, length, subst, sym, take, ℕ, ◌*◌, ◌+◌, ◌-◌, ◌<◌, ◌≤◌, get_or-replicate, on_track}
+use Rattle.fb_detour.proofs.Words.{Offer, IsStop, late_gain, late_most, late_step, stay}
 use Rattle.fb_detour.proofs.Offers.{all-of, bound-more, gives, none-more, small-sum, sums-fall, within-more}
 use Rattle.fb_detour.proofs.parts.late_parts.Goals as goal
 
@@ -11,7 +11,9 @@ loop-offer-init c = record {
   parts = λ k less. omega arith;
   small = λ k less. let none = get_or-replicate {A = ℕ} 32 k 0 0 less in omega (arith, none);
   limits = λ k less. omega arith;
-  spread = λ k less. omega (arith, c.first_limits-limits.ensures k less);
+  spread = λ k less.
+      subst (λ step. c.args.gap.now.now + (k - 1) * step ≤ get_or c.first_limits-limits.result k 0) c.late_step-step.ensures
+      (omega (arith, c.first_limits-limits.ensures k less));
   end = omega arith;
   start = omega (arith, c.first_limits-limits.ensures 0 (omega arith));
 }
@@ -32,7 +34,7 @@ loop-offer-preserved c =
     let old = λ (k : ℕ). get_or c.loop-offer.limits k 0 in
     let falls = λ (k : ℕ). sums-fall stop.turning gap (old k) (limit k) (take i offers) some (new.grow k) in record {
       parts = λ k less.
-          let from = gap.now + k * ((gap.deadline - gap.now) / 32 + 1) in
+          let from = gap.now + k * late_step gap in
           bound-more (gain from) offers i _ within _ _ (so_far.parts k less) (new.most k less);
       small = λ k less. within-more (λ (offer : Offer). offer.worth) offers i _ within _ _ (so_far.small k less) (new.small k less);
       limits = λ k less.
@@ -59,10 +61,12 @@ returns c =
     let done = λ (from : ℕ). all-of (late_gain stop.turning gap from) offers i all in
     let stays = λ (from : ℕ). gives disk (late_most gap from) es stop its in record {
       late = record {
-        some = omega arith;
+        some = omega (arith, c.late_step-step.ensures);
         from_now = omega arith;
         each = λ k less.
-            let from = gap.now + k * ((gap.deadline - gap.now) / 32 + 1) in omega (arith, done from, stays from, so_far.parts k less);
+            let from = gap.now + k * late_step gap in
+            subst (λ step. stay disk (late_most gap (gap.now + k * step)) es ≤ get_or c.loop-offer.parts k 0) (sym c.late_step-step.ensures)
+            (omega (arith, done from, stays from, so_far.parts k less));
         small = λ k less. omega (arith, so_far.small k less, small);
         start = so_far.start;
         limits = λ k less. let from = get_or c.loop-offer.limits k 0 in omega (arith, done from, stays from, so_far.limits k less);
