@@ -4,7 +4,7 @@ ghost use Rattle.std.specs.List.{AllByRecursion};
 ghost use Rattle.fb_rows.specs.Tasks.{HasTaskBelow};
 ghost use Rattle.fb_rows.specs.declared.fore.ForeRow.{ForeRow};
 ghost use Rattle.fb_rows.specs.declared.back.BackRow.{BackRow};
-ghost use Rattle.fb_report.specs.declared.bytes.Bytes.{Bytes};
+ghost use Rattle.fb_report.specs.declared.byte_mode.ByteMode.{ByteMode};
 ghost use Rattle.fb_report.specs.Fore.{fore_last};
 ghost use Rattle.fb_report.specs.Back.{back_last};
 ghost use Rattle.fb_report.specs.Grammar.{ended};
@@ -17,7 +17,8 @@ use crate::fields::first_wrong_field;
 use crate::{Mismatch, Rule};
 use fb_calls::TaskNames;
 use fb_report::{
-    Bytes, Report, ReportLines, back_first, back_last, back_line, fore_first, fore_last, fore_line,
+    ByteMode, Report, ReportLines, back_first, back_last, back_line, fore_first, fore_last,
+    fore_line,
 };
 use fb_rows::{BackRow, BackRows, ForeRows};
 use fb_units::{NoMemory, Ns};
@@ -41,7 +42,7 @@ impl<'a> Comparison<'a> {
     pub fn begin_fore(alloc: Global, lines: &'a ReportLines<'a>) -> Result<Comparison<'a>, NoMemory>
         requires ends { EndsOnce lines.now }
         ensures ready { IfOk result CanCompare }
-        ensures compared { (size : ℕ) (bytes : Bytes) → IfOk result (λ comparison. HasComparedFore size bytes lines.now comparison []) }
+        ensures compared { (size : ℕ) (bytes : ByteMode) → IfOk result (λ comparison. HasComparedFore size bytes lines.now comparison []) }
     {
         let due = fore_first(alloc)?;
         let mut comparison = Comparison {
@@ -58,7 +59,7 @@ impl<'a> Comparison<'a> {
     pub fn begin_back(alloc: Global, lines: &'a ReportLines<'a>) -> Result<Comparison<'a>, NoMemory>
         requires ends { EndsOnce lines.now }
         ensures ready { IfOk result CanCompare }
-        ensures compared { (names : List (List ℕ)) (size : ℕ) (bytes : Bytes)
+        ensures compared { (names : List (List ℕ)) (size : ℕ) (bytes : ByteMode)
             → IfOk result (λ comparison. HasComparedBack names size bytes lines.now comparison []) }
     {
         let due = back_first(alloc)?;
@@ -137,7 +138,7 @@ impl<'a> Comparison<'a> {
         alloc: Global,
         rows: &ForeRows,
         sector_bytes: u32,
-        bytes: Bytes,
+        bytes: ByteMode,
     ) -> Result<(), NoMemory>
         requires whole { sector_bytes % 16 ≡ 0 }
         requires ready { CanCompare self.old }
@@ -166,7 +167,7 @@ impl<'a> Comparison<'a> {
         rows: &BackRows,
         names: &TaskNames,
         sector_bytes: u32,
-        bytes: Bytes,
+        bytes: ByteMode,
     ) -> Result<(), NoMemory>
         requires whole { sector_bytes % 16 ≡ 0 }
         requires named { AllByRecursion (HasTaskBelow (length names.now)) rows.now }

@@ -20,7 +20,7 @@ use crate::comparing::Comparison;
 use fb_decide::{Decider, Rows, RunInputs, decisions_make_a_run};
 use fb_plan::Planner;
 use fb_queue::Queue;
-use fb_report::{Bytes, ReportLines, reports_end_once};
+use fb_report::{ByteMode, ReportLines, reports_end_once};
 use fb_units::NoMemory;
 use std::alloc::Global;
 
@@ -28,7 +28,7 @@ use std::alloc::Global;
 #[derive(Clone, Copy)]
 pub struct Printed<'a> {
     /// How the bytes of reads and deliveries are shown.
-    pub bytes: Bytes,
+    pub bytes: ByteMode,
     /// The lines of the foreground report.
     pub fore: &'a ReportLines<'a>,
     /// The lines of the background report.
@@ -103,7 +103,7 @@ fn compare_rows(
     alloc: Global,
     inputs: RunInputs<'_>,
     rows: &Rows,
-    bytes: Bytes,
+    bytes: ByteMode,
     fore: &mut Comparison<'_>,
     back: &mut Comparison<'_>,
 ) -> Result<(), NoMemory>

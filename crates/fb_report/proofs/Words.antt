@@ -14,12 +14,11 @@ pub use Rattle.std.proofs.lemmas.Bool.{and_parts, cases_Bool, cases_lt, not-true
 pub use Rattle.std.proofs.lemmas.Bool.Decides.{Decides-eqb, nat_tests}
 pub use Rattle.std.proofs.lemmas.Fmt.{decimal_by_steps, decimal_digit, decimal_nonempty, first_decimal}
 pub use Rattle.std.proofs.lemmas.List.{at_drop_more, drop_all, drop_more, length-map, length-replicate, map-append, take_all, take_at}
-pub use Rattle.std.proofs.lemmas.List.{take_more}
 pub use Rattle.std.proofs.lemmas.List.Folds.{list_all-append, list_any-append}
 pub use Rattle.std.proofs.lemmas.List.Splits.{join_with_byte-slice_split, length-slice_split, slice_split-cons_no, slice_split-cons_yes}
 pub use Rattle.std.proofs.lemmas.List.Splits.{slice_split_first, slice_split_none}
 pub use Rattle.std.proofs.lemmas.List.Sums.{AllPass-from_list_all, fails_before_first, sum_by-append}
-pub use Rattle.std.proofs.lemmas.Option.{get_or_from_slice_get, slice_get-map, slice_get_within}
+pub use Rattle.std.proofs.lemmas.Option.{slice_get-map, slice_get_within}
 pub use Rattle.std.proofs.lemmas.Result.{IfOk-weaker, on_ok_weaker}
 pub use Rattle.hex.specs.Hex.{encode_lower, lower_digits}
 unfoldable pub use Rattle.hex.specs.Hex.{encode_with}
@@ -46,6 +45,6 @@ pub use Rattle.fb_report.specs.Reading.{AnswersReport, BeginsLikeEnd, EndsOnce, 
 pub use Rattle.fb_report.specs.Shown.{contents_bytes, run_bytes, shown}
 pub use Rattle.fb_report.specs.Summary.{delivery_in, gap_in, last_finish, task_in}
 unfoldable pub use Rattle.fb_report.specs.Summary.{summary_lines}
-pub use Rattle.fb_report.specs.declared.bytes.Bytes.{Bytes}
+pub use Rattle.fb_report.specs.declared.byte_mode.ByteMode.{ByteMode}
 pub use Rattle.fb_report.specs.declared.reading.Report.{Report}
 pub use Rattle.fb_report.specs.declared.reading.ReportsFault.{ReportsFault}

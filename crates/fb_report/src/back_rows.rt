@@ -9,7 +9,7 @@ ghost use Rattle.fb_report.specs.Grammar.{are_bytes, back_grammar, is_number, is
 ghost use Rattle.fb_report.specs.Printed.{AreNames, AreOneOf, CountsSectors, HasSectors, IsField, IsLine, is_row};
 ghost use Rattle.fb_rows.specs.Tasks.{HasTaskBelow};
 
-use crate::Bytes;
+use crate::ByteMode;
 use crate::contents::{sectors, shown};
 use crate::line::Line;
 use fb_calls::{Kind, TaskNames};
@@ -28,7 +28,7 @@ pub fn back_line(
     row: &BackRow,
     names: &TaskNames,
     sector_bytes: u32,
-    bytes: Bytes,
+    bytes: ByteMode,
 ) -> Result<Vec<u8>, NoMemory>
     requires whole { sector_bytes % 16 ≡ 0 }
     requires named { HasTaskBelow (length names.now) row.now }
@@ -103,7 +103,7 @@ fn got_line(
     row: &DeliveryRow,
     names: &TaskNames,
     sector_bytes: u32,
-    bytes: Bytes,
+    bytes: ByteMode,
 ) -> Result<Vec<u8>, NoMemory>
     requires whole { sector_bytes % 16 ≡ 0 }
     requires named { row.now.block.task < length names.now }
@@ -166,7 +166,7 @@ fn seal_line(
     row: &SealRow,
     names: &TaskNames,
     sector_bytes: u32,
-    bytes: Bytes,
+    bytes: ByteMode,
 ) -> Result<Vec<u8>, NoMemory>
     requires whole { sector_bytes % 16 ≡ 0 }
     requires named { row.now.task < length names.now }
@@ -188,7 +188,7 @@ fn segment_line(
     row: &SegmentRow,
     names: &TaskNames,
     sector_bytes: u32,
-    bytes: Bytes,
+    bytes: ByteMode,
 ) -> Result<Vec<u8>, NoMemory>
     requires whole { sector_bytes % 16 ≡ 0 }
     requires named { row.now.task < length names.now }

@@ -4,7 +4,7 @@ ghost use Rattle.fb_report.specs.Shown.{digested};
 
 /// How the bytes that a read or a delivery found are shown.
 #[derive(Clone, Copy)]
-pub enum Bytes {
+pub enum ByteMode {
     /// Not at all: a dash.
     Nothing,
     /// Their SHA-256, in lower-case hexadecimal digits.
@@ -13,14 +13,14 @@ pub enum Bytes {
     Dump,
 }
 
-impl Bytes {
+impl ByteMode {
     /// In the same way, but as a digest wherever the bytes themselves are shown.
-    pub fn digested(self) -> Bytes
+    pub fn digested(self) -> ByteMode
         ensures { result ≡ digested self }
     {
         match self {
-            Bytes::Nothing => Bytes::Nothing,
-            Bytes::Digest | Bytes::Dump => Bytes::Digest,
+            ByteMode::Nothing => ByteMode::Nothing,
+            ByteMode::Digest | ByteMode::Dump => ByteMode::Digest,
         }
     }
 }

@@ -15,7 +15,7 @@
 
 mod back;
 mod back_rows;
-mod bytes;
+mod byte_mode;
 mod contents;
 mod fore;
 mod forms;
@@ -29,7 +29,7 @@ mod summary;
 
 pub use back::{back_first, back_last, back_line_at, back_line_count};
 pub use back_rows::back_line;
-pub use bytes::Bytes;
+pub use byte_mode::ByteMode;
 pub use contents::shown;
 pub use fore::{fore_first, fore_last, fore_line, fore_line_at, fore_line_count};
 pub use line::{Line, first_line};

@@ -4,7 +4,7 @@ ghost use Rattle.fb_report.specs.Grammar.{Grammar};
 ghost use Rattle.fb_report.specs.Printed.{IsLine, is_in_place};
 
 use fb_calls::TaskNames;
-use fb_report::{Bytes, back_line_at, back_line_count, fore_line_at, fore_line_count};
+use fb_report::{ByteMode, back_line_at, back_line_count, fore_line_at, fore_line_count};
 use fb_rows::Run;
 use fb_units::NoMemory;
 use std::alloc::Global;
@@ -48,7 +48,7 @@ pub struct ForeLines<'a> {
     /// The size of a sector in bytes, a multiple of 16.
     pub sector_bytes: u32,
     /// How the bytes of reads are shown.
-    pub bytes: Bytes,
+    pub bytes: ByteMode,
 }
 
 impl Lines for ForeLines<'_> {
@@ -85,7 +85,7 @@ pub struct BackLines<'a> {
     /// The size of a sector in bytes, a multiple of 16.
     pub sector_bytes: u32,
     /// How the bytes of deliveries are shown.
-    pub bytes: Bytes,
+    pub bytes: ByteMode,
 }
 
 impl Lines for BackLines<'_> {

@@ -1,7 +1,7 @@
 // The text of what was written in free gaps, line by line.
 use crate::lines::Lines;
 use fb_bgwrite::{SpillRun, spill_line_at, spill_line_count};
-use fb_report::Bytes;
+use fb_report::ByteMode;
 use fb_units::NoMemory;
 use std::alloc::Global;
 
@@ -13,7 +13,7 @@ pub struct SpillLines<'a> {
     /// The size of a sector in bytes, a multiple of 16.
     pub sector_bytes: u32,
     /// How the bytes that were written are shown.
-    pub bytes: Bytes,
+    pub bytes: ByteMode,
 }
 
 impl Lines for SpillLines<'_> {

@@ -2,8 +2,8 @@
 use Rattle.std.specs.Prelude.{ℕ, List, [], ◌∷◌, Option, codes, find}
 use Rattle.std.specs.Option.{option_map}
 use Rattle.std.specs.Str.{bytes_eq}
-use Rattle.fb_report.specs.declared.bytes.Bytes as modes
-use Rattle.fb_report.specs.declared.bytes.Bytes.TheVariants.{Nothing, Digest, Dump}
+use Rattle.fb_report.specs.declared.byte_mode.ByteMode.{ByteMode}
+use Rattle.fb_report.specs.declared.byte_mode.ByteMode.TheVariants.{Nothing, Digest, Dump}
 use Rattle.fb_words.specs.declared.command.Policy as policies
 use Rattle.fb_words.specs.declared.command.Policy.TheVariants.{Fcfs, Sstf, Clook, Sptf}
 use Rattle.fb_words.specs.declared.names.Verb.{Verb}
@@ -40,5 +40,5 @@ option_of verb = meaning (options_of verb)
 unfoldable pub policy_of : List ℕ → Option policies.Policy
 policy_of = meaning ((codes "fcfs", Fcfs) ∷ (codes "sstf", Sstf) ∷ (codes "clook", Clook) ∷ (codes "sptf", Sptf) ∷ [])
 
-unfoldable pub bytes_of : List ℕ → Option modes.Bytes
+unfoldable pub bytes_of : List ℕ → Option ByteMode
 bytes_of = meaning ((codes "none", Nothing) ∷ (codes "sha256", Digest) ∷ (codes "hex", Dump) ∷ [])

@@ -3,7 +3,7 @@ ghost use Rattle.std.specs.Prelude.{◌≡◌};
 ghost use Rattle.fb_words.specs.Names.{verb_of, option_of, meaning, run_options, policy_of, bytes_of};
 
 use crate::Policy;
-use fb_report::Bytes;
+use fb_report::ByteMode;
 
 /// The verb of a command.
 #[derive(Clone, Copy, PartialEq, Eq)]
@@ -170,13 +170,13 @@ pub fn policy_of(name: &str) -> Option<Policy>
 
 /// The way of showing contents for which a word stands, if it is known.
 #[tactic(auto, unfolding(crate::specs::Names::bytes_of))]
-pub fn bytes_of(name: &str) -> Option<Bytes>
+pub fn bytes_of(name: &str) -> Option<ByteMode>
     ensures { result ≡ bytes_of name.now }
 {
     match name {
-        "none" => Some(Bytes::Nothing),
-        "sha256" => Some(Bytes::Digest),
-        "hex" => Some(Bytes::Dump),
+        "none" => Some(ByteMode::Nothing),
+        "sha256" => Some(ByteMode::Digest),
+        "hex" => Some(ByteMode::Dump),
         _ => None,
     }
 }

@@ -26,7 +26,8 @@ returns-in_ok-back_first-clause-form c =
 
 pub returns-in_ok-back_line-clause-form : goal.returns-in_ok-back_line-clause-form
 returns-in_ok-back_line-clause-form c = λ big named counts.
-    at_row back_grammar (length c.args.run.now.back + 2) c.args.index _ (omega arith) (omega arith) (c.in_ok-back_line.ensures.form big named
+    at_row back_grammar (length c.args.run.now.back + 2) c.args.index _ (omega arith) (omega arith)
+    (c.in_ok-back_line.ensures.form big named
     (all_get CountsSectors c.args.run.now.back (c.args.index - 1) c.get-row.result.now counts c.get-row.ensures))
 
 pub returns-in_ok-back_last-clause-form : goal.returns-in_ok-back_last-clause-form

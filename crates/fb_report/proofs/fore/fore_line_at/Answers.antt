@@ -31,4 +31,5 @@ returns-in_ok-fore_line-clause-form c = λ big reads.
 
 pub returns-in_ok-fore_last-clause-form : goal.returns-in_ok-fore_last-clause-form
 returns-in_ok-fore_last-clause-form c =
-    λ big reads. at_last fore_grammar (length c.args.run.now.fore + 2) c.args.index _ (omega arith) (omega arith) c.in_ok-fore_last.ensures.form
+    λ big reads. at_last fore_grammar (length c.args.run.now.fore + 2) c.args.index _ (omega arith) (omega arith)
+    c.in_ok-fore_last.ensures.form
