@@ -4,9 +4,9 @@ use Rattle.fb_fastq.proofs.Words.{false, inl, inr, Option, Some, None, IsSome, l
 use Rattle.fb_fastq.proofs.Words.{AllByRecursion, lookup, BTreeMap, is_at, cases_Bool, true≢false, nat_tests, Request}
 use Rattle.fb_fastq.proofs.Words.{first_least, better, order, Waits, Holds, AllHeld, Waiting, number_of, join_in, in_order, pending_of}
 use Rattle.fb_fastq.proofs.Words.{NumbersDiffer, IsNoLater, IsFirst, IsFirstHeld, all_from_index, all_get, all_weaker, none-some, Among}
-use Rattle.fb_fastq.proofs.Words.{place_from_lookup}
+use Rattle.fb_fastq.proofs.Words.{place_from_lookup, all_unmapped}
 use Rattle.fb_queue.proofs.FirstLeast.{later_better}
-use Rattle.fb_fastq.proofs.{Swept.some_injective, Swept.all_unmapped, Keys.equal_keys, Keys.here_equal, Keys.same_key}
+use Rattle.fb_fastq.proofs.{Swept.some_injective, Keys.equal_keys, Keys.here_equal, Keys.same_key}
 use Rattle.fb_fastq.proofs.{Joins.all_join, Joins.all_in_order}
 
 abbrev pub IsRising : List Waiting → Type 0

@@ -1,11 +1,10 @@
 -- Lists that rise by a number, and what a walk from one of their ends has seen.
 pub use Rattle.std.proofs.lemmas.Option.{same_Some as some_injective}
-pub use Rattle.fb_units.proofs.Each.{all_unmapped}
 use Rattle.fb_fastq.proofs.Words.{◌≡◌, ℕ, ◌≤◌, List, [], ◌∷◌, ◌++◌, map, filter, refl, sym, subst, arith, Bool, inl, inr, ◌⊎◌, Some}
 use Rattle.fb_fastq.proofs.Words.{none-some, slice_get, AllByRecursion, IsStrictlySortedBy, Ordering, Less, cases_Bool, all_filter}
 use Rattle.fb_fastq.proofs.Words.{all_get, all_left, all_push, all_right, all_weaker, append_at, ◌<◌, length, length-append, Side, Above}
 use Rattle.fb_fastq.proofs.Words.{Below, on_side, IsNoFarther, AreThose, Among, among-append, among-filtered, among-right, among-tail}
-use Rattle.fb_fastq.proofs.Words.{filter_to}
+use Rattle.fb_fastq.proofs.Words.{filter_to, all_unmapped}
 
 -- outwards the next one of a list is the first above, and the last below
 abbrev pub Takes : {A : Type 0} → Side → List A → A → List A → Type 0

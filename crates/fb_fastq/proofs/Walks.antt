@@ -4,8 +4,9 @@ use Rattle.fb_fastq.proofs.Words.{◌⊎◌, Some, lookup, Less, BTreeMap, is_at
 use Rattle.fb_fastq.proofs.Words.{Visit, IsVisit, sptf, distance_of, track_at, Candidate, order, Waiting, Holds, AllHeld, IsAlong}
 use Rattle.fb_fastq.proofs.Words.{IsCandidate, IsBefore, ComesNoLater, ComesNoLaterOn, ComesNoLaterUntil, Ray, Side, Above, Below, IsOn}
 use Rattle.fb_fastq.proofs.Words.{IsNoFarther, IsReached, IsNearer, AreThose, ◌*◌, length, zero, suc, all_get, none-some, Among}
+use Rattle.fb_fastq.proofs.Words.{all_unmapped}
 use Rattle.fb_fastq.proofs.{Keys.here_equal, Keys.follows, Keys.not_at, Least.held_is_in, Sweeps.no_later_trans, Sweeps.is_one}
-use Rattle.fb_fastq.proofs.{Sweeps.farther, Visiting.is_there, Swept.some_injective, Swept.all_unmapped, Swept.rises_sorted}
+use Rattle.fb_fastq.proofs.{Sweeps.farther, Visiting.is_there, Swept.some_injective, Swept.rises_sorted}
 use Rattle.fb_fastq.proofs.Swept.{IsNext, IsSwept, Takes, next_nearest, next_out, swept_begins, swept_on, swept_stops}
 
 -- where a request stands

@@ -18,6 +18,7 @@ pub use Rattle.std.proofs.lemmas.List.{length-append, length-set, map-append, ma
 pub use Rattle.std.proofs.lemmas.Map.Entries.{place_from_lookup}
 pub use Rattle.std.proofs.lemmas.Option.{none-some, slice_get-get_or, slice_get_read, slice_get_within}
 pub use Rattle.fb_units.proofs.Among.{Among, among-append, among-filtered, among-right, among-tail, any-among}
+pub use Rattle.fb_units.proofs.Each.{all_unmapped}
 pub use Rattle.fb_units.proofs.Filtered.{filter_to}
 pub use Rattle.fb_units.proofs.Lists.{all_append, all_filter, all_from_index, all_get, all_left, all_push, all_right, all_weaker}
 pub use Rattle.fb_units.proofs.Lists.{append_at, on_err}
