@@ -146,6 +146,17 @@ fn make_room(
     add_bands(depths, band_of(block), NO_DEPTH)
 }
 
+// The streak that a block begins, if it begins one.
+fn streak_from(block: Block) -> Streak
+    ensures region { result.region ≡ region_of block.lbn }
+    ensures number { result.number ≡ block.number }
+{
+    Streak {
+        region: region_of(block.lbn),
+        number: block.number,
+    }
+}
+
 impl Blocks {
     // How many blocks of the task are registered.
     fn registered_count(&self, task: u32) -> u32
@@ -323,10 +334,7 @@ impl Blocks {
             state: State::Suspended,
         };
         let begins_streak = self.begins_streak(block);
-        let streak = Streak {
-            region: region_of(block.lbn),
-            number: block.number,
-        };
+        let streak = streak_from(block);
         let is_new = self.is_new_near(block);
         let index = self.entries.len() as u32;
         self.entries.reserve(1)?;

@@ -87,24 +87,25 @@ invariant_of-self-in-Ok c =
     let offer_indexes = c.push_reserved.ensures.items ∙ ap (λ l. l ++ 0 ∷ []) c.in_ok-reserve-2.ensures.items in
     let index = c.len-index.ensures ∙ self.entries.ok.0 in
     let next = its_number c.args.block items free in
+    let streak = c.streak_from-streak in
+    let number = streak.ensures.number in
     let kept = with_room (goal.at.invariant_of-self-in-Ok c).After-make_room in (
       kept_pushed entry items self.tasks.items c.add_to_look_up.new.tasks.items self.tracks c.add_to_look_up.new.tracks
           c.push_reserved-in-Ok.new.self.items c.len-index.result list index c.self.invariant.0 free room c.requires.light c.requires.short
           refl c.in-Ok.ensures.tasks c.in-Ok.ensures.tracks,
       subst (λ l. AreNoted l c.note_streak.new.streaks) (sym list)
-          (noted_more items task c.region_of.result c.args.block.number self.streaks c.note_streak.new.streaks
-          c.begins_streak-begins_streak.result c.self.invariant.1 next c.in_ok-note_streak.ensures.stay c.in_ok-note_streak.ensures.more
-          entry refl (sym c.region_of.ensures)
-          c.in_ok-note_streak.ensures.noted
+          (noted_more items task streak.result.region streak.result.number self.streaks c.note_streak.new.streaks
+          c.begins_streak-begins_streak.result c.self.invariant.1 (number ∙ next) c.in_ok-note_streak.ensures.stay
+          c.in_ok-note_streak.ensures.more entry refl (sym streak.ensures.region) c.in_ok-note_streak.ensures.noted
           (λ old. let it = c.begins_streak-begins_streak.ensures.same old in (
             it.0,
-            it.1,
-            ap (λ es. slice_get (lbns task es) (c.args.block.number - 1)) c.self.view_is ∙ it.2,
-            it.3
-                ∙ sym c.region_of.ensures,
+            omega (arith, it.1, number),
+            ap (λ n. slice_get (lbns task items) (n - 1)) number
+                ∙ (ap (λ es. slice_get (lbns task es) (c.args.block.number - 1)) c.self.view_is ∙ it.2),
+            it.3 ∙ sym streak.ensures.region,
           ))
-          (λ new i before to at same. c.begins_streak-begins_streak.ensures.new new i before to
-          (ap (λ es. slice_get (lbns task es) i) (sym c.self.view_is) ∙ at) (same ∙ c.region_of.ensures))),
+          (λ new i before to at same. c.begins_streak-begins_streak.ensures.new new i before (to ∙ number)
+          (ap (λ es. slice_get (lbns task es) i) (sym c.self.view_is) ∙ at) (same ∙ streak.ensures.region))),
       greatest_same self.tracks c.add_to_look_up.new.tracks c.make_room.new.greatest kept.2
           (changed_weight self.tracks c.add_to_look_up.new.tracks c.args.block.track (grown c.len-index.result) (λ o. refl)
           c.in-Ok.ensures.tracks)
@@ -137,6 +138,7 @@ invariant_of-self-in-Err c =
     let stay = c.in-Err.ensures in
     let free = c.requires.numbered ∙ ap (λ es. registered_count c.args.block.task (blocks_of es)) (sym c.self.view_is) in
     let next = its_number c.args.block items free in
+    let streak = c.streak_from-streak in
     let kept = with_room (goal.at.invariant_of-self-in-Err c).After-make_room in (
       subst (λ es. IsKept es c.add_to_look_up.new.tasks.items c.add_to_look_up.new.tracks) list (record {
         in_order = old.in_order;
@@ -149,8 +151,9 @@ invariant_of-self-in-Err c =
         };
       }),
       subst (λ es. AreNoted es c.forget_streak.new.streaks) list
-          (noted_back items c.args.block.task c.region_of.result c.args.block.number self.streaks c.note_streak.new.streaks
-          c.begins_streak-begins_streak.result c.self.invariant.1 next c.in_ok-note_streak.ensures.stay c.in_ok-note_streak.ensures.more
+          (noted_back items c.args.block.task streak.result.region streak.result.number self.streaks c.note_streak.new.streaks
+          c.begins_streak-begins_streak.result c.self.invariant.1 (streak.ensures.number ∙ next) c.in_ok-note_streak.ensures.stay
+          c.in_ok-note_streak.ensures.more
           c.forget_streak.new.streaks c.forget_streak.ensures.gone c.forget_streak.ensures.only c.forget_streak.ensures.others),
       greatest_same self.tracks c.add_to_look_up.new.tracks c.make_room.new.greatest kept.2 (λ t. ap (λ o. o.weight) (stay.tracks_stay t))
           (stay.no_longer (length c.make_room.new.greatest) kept.2.there c.in_ok-make_room.ensures.cylinder),
