@@ -1,17 +1,17 @@
--- A request is served: its gap, when its extents begin, and what the gap and the passages deliver.
-use Rattle.std.proofs.Common.{◌≡◌, ℕ, zero, suc, ◌+◌, ◌<◌, ◌≤◌, ◌*◌, ◌^◌, List, [], ◌∷◌, ◌++◌, Bool, map, append_assoc, ap₂, sym, ◌∙◌}
+-- A request is served: the gap before it, when its extents begin, and what the gap and the passages deliver.
+use Rattle.std.proofs.Common.{◌≡◌, ℕ, zero, suc, ◌+◌, ◌<◌, ◌≤◌, ◌^◌, List, [], ◌∷◌, ◌++◌, Bool, map, append_assoc, sym, ◌∙◌}
 use Rattle.std.proofs.Common.{arith, subst}
 use Rattle.std.specs.List.{AllByRecursion, range_with_len}
 use Rattle.fb_units.proofs.Lists.{all_weaker, all_left, all_right}
 use Rattle.fb_units.specs.declared.types.Track.{Track}
-use Rattle.fb_units.specs.declared.types.Request.{Request}
 use Rattle.fb_geometry.specs.Shape.{Shape, IsTrackOf}
 use Rattle.fb_seek.specs.Positioning.{pos}
 use Rattle.fb_sectormap.specs.LookUp.{track_at}
 use Rattle.fb_service.specs.declared.disk.Disk.{Disk}
+use Rattle.fb_service.specs.declared.service.Service.{Service}
 use Rattle.fb_service.specs.declared.passage.Passage.{Passage}
 use Rattle.fb_service.specs.declared.passage.Extent.{Extent}
-use Rattle.fb_service.specs.Service.{passages, media_of, finish_of, passage_from}
+use Rattle.fb_service.specs.Service.{passages, media_of, passage_from}
 use Rattle.fb_service.specs.Extents.{passages_of, all_passages_of, FollowOn, IsUnbroken}
 use Rattle.fb_store.specs.Ranges.{Holding}
 use Rattle.fb_wanted.specs.declared.block.Block.{Block}
@@ -22,25 +22,18 @@ use Rattle.fb_rows.specs.declared.back.BackRow.TheVariants.{Gap as BackGap}
 use Rattle.fb_rows.specs.declared.back.DeliveryRow.{DeliveryRow}
 use Rattle.fb_model.specs.Decisions.{serving}
 use Rattle.fb_model.specs.History.{Past, finished, wanted}
-use Rattle.fb_model.specs.PlainReplay.{Served, service, target}
+use Rattle.fb_model.specs.PlainReplay.{Served}
 use Rattle.fb_model.specs.Plans.{IsBest}
 use Rattle.fb_model.specs.Deliveries.{gap_of, missed_in_gap, due, rides, caught_in_gap}
 use Rattle.fb_model.proofs.Passages.{from_on, passed_between}
 use Rattle.fb_plan.specs.Ways.{IsGap}
 use Rattle.fb_tasks.specs.Telling.{Tells}
 use Rattle.fb_decide.specs.declared.background.Background.{Background}
+use Rattle.fb_decide.specs.declared.start.Start.{Start}
+use Rattle.fb_decide.specs.Start.{IsStartOn, IsServiceOf, served_from}
 use Rattle.fb_decide.specs.Deliveries.{TellsUpToDate, HasDelivered, HasDeliveredAround, HasServed, followed, past_with, held_now}
 use Rattle.fb_model.specs.Steps.{delivery_rows}
 use Rattle.fb_decide.proofs.Delivering.{delivered-join}
-
-abbrev pub gap_from : Track → ℕ → Bool → Track → ℕ → Gap
-gap_from head start write target deadline = record { source = head; target = target; now = start; deadline = deadline; write = write }
-
--- the gap of a request is the one of its service
-pub gap-is : (disk : Disk) (head : Track) (start : ℕ) (request : Request) (to : Track) (deadline : ℕ) → to ≡ track_at disk.map request.lbn
-    → deadline ≡ media_of (passages disk head start request.write request.lbn request.count)
-    → gap_from head start request.write to deadline ≡ gap_of disk (service disk head start request)
-gap-is disk head start request to deadline same ends = ap₂ (gap_from head start request.write) same ends
 
 -- the first passage begins when the head has come to its track
 in_time : (disk : Disk) (head : Track) (start : ℕ) (write : Bool) (lbn n : ℕ) → 0 < n
@@ -49,19 +42,17 @@ unfolding passages
 in_time disk head start write lbn zero some = absurd (omega arith)
 in_time disk head start write lbn (suc n) some = from_on disk lbn (start + pos disk.mechanism head (track_at disk.map lbn) write)
 
--- and it is one that the planner can plan for
-pub is-gap : (disk : Disk) (head : Track) (start : ℕ) (request : Request) (to : Track) (deadline : ℕ) → IsTrackOf disk.map head
-    → IsTrackOf disk.map to → 0 < request.count
-    → to ≡ track_at disk.map request.lbn → deadline ≡ media_of (passages disk head start request.write request.lbn request.count)
-    → deadline ≤ 9 * 10 ^ 18
-    → IsGap disk (gap_from head start request.write to deadline)
-is-gap disk head start request to deadline source on_disk some same ends soon =
-    subst (IsGap disk) (sym (ap₂ (gap_from head start request.write) same ends)) (record {
-      source = source;
-      target = subst (IsTrackOf disk.map) same on_disk;
-      in_time = in_time disk head start request.write request.lbn request.count some;
-      early_enough = subst (λ d. d ≤ 9 * 10 ^ 18) ends soon;
-    })
+-- so the planner can plan for the gap before the request
+pub is-gap : (disk : Disk) (start : Start) (service : Service) (to : Track) → IsStartOn disk start → IsServiceOf disk start service
+    → IsTrackOf disk.map to → to ≡ track_at disk.map start.request.lbn
+    → IsGap disk (record { source = start.head; target = to; now = start.instant; deadline = service.media; write = start.request.write })
+is-gap disk start service to begins passes on_disk same = record {
+  source = begins.head;
+  target = on_disk;
+  in_time = rw (same, passes.media)
+      (in_time disk start.head start.instant start.request.write start.request.lbn start.request.count begins.request.range.some);
+  early_enough = omega (arith, passes.later, passes.early);
+}
 
 -- an extent begins with its first passage
 first_begins : (f : ℕ → Passage) (n from to most : ℕ) → 0 < n → FollowOn from (map f (range_with_len 0 n)) to
@@ -80,15 +71,13 @@ extents_begin disk (e ∷ es) most unbroken all = (
 )
 
 -- no extent begins later than the service ends
-pub extents-begin : (disk : Disk) (head : Track) (start : ℕ) (write : Bool) (lbn n : ℕ) (extents : List Extent) (end most : ℕ)
-    → AllByRecursion (IsUnbroken disk.map) extents
-    → all_passages_of disk.map extents ≡ passages disk head start write lbn n → end ≡ finish_of start (passages disk head start write lbn n)
-    → end ≤ most
-    → AllByRecursion (λ (e : Extent). e.begin ≤ most) extents
-extents-begin disk head start write lbn n extents end most unbroken same ends soon = extents_begin disk.map extents most unbroken
-    (subst (AllByRecursion (λ (p : Passage). p.begin ≤ most)) (sym same)
-    (all_weaker _ (λ (p : Passage). p.begin ≤ most) (λ (p : Passage) h. omega (arith, h.1, h.2, ends, soon))
-    (passages disk head start write lbn n) (passed_between disk head start write lbn n).1))
+pub extents-begin : (disk : Disk) (start : Start) (service : Service) → IsServiceOf disk start service
+    → AllByRecursion (λ (e : Extent). e.begin ≤ 10 ^ 19) service.extents.items
+extents-begin disk start service passes = extents_begin disk.map service.extents.items (10 ^ 19) passes.unbroken
+    (subst (AllByRecursion (λ (p : Passage). p.begin ≤ 10 ^ 19)) (sym passes.passages)
+    (all_weaker _ (λ (p : Passage). p.begin ≤ 10 ^ 19) (λ (p : Passage) h. omega (arith, h.1, h.2, passes.finish, passes.early))
+    (served_from disk start).passages
+    (passed_between disk start.head start.instant start.request.write start.request.lbn start.request.count).1))
 
 -- the gap's deliveries, then those of the ride
 module _ (disk : Disk) (holding : Holding) (served : Served) (plan : Plan) (past : Past) where
@@ -101,28 +90,19 @@ module _ (disk : Disk) (holding : Holding) (served : Served) (plan : Plan) (past
   abbrev opening : Gap → BackRow
   opening gap = BackGap (record { name = served.request.name; gap = gap; plan = plan })
 
-  all-delivered : (rows : List BackRow) (middle after : Background) → HasDelivered disk.map past (in_gap (gap_of disk served)) rows middle
-      → wanted (past_with past (in_gap (gap_of disk served))) ≡ left (gap_of disk served)
-      → ((later : Past) → TellsUpToDate disk.map later middle
-      → HasDelivered disk.map later (rides (held_now holding) served (wanted later)) middle.rows after)
-      → HasDelivered disk.map past (due disk (held_now holding) (serving served plan) (wanted past)) rows after
-  unfolding due
-  all-delivered rows middle after first are_left next =
-      delivered-join first (subst (λ bs. HasDelivered disk.map (past_with past (in_gap (gap_of disk served)))
-      (rides (held_now holding) served bs) middle.rows after) are_left (next (past_with past (in_gap (gap_of disk served))) first.current))
-
   pub has-delivered-around : (gap : Gap) (rows : List BackRow) (middle after : Background) → gap ≡ gap_of disk served
       → IsBest disk gap (wanted past) plan
       → HasDelivered disk.map past (in_gap gap) (rows ++ opening gap ∷ []) middle → wanted (past_with past (in_gap gap)) ≡ left gap
       → ((later : Past) → TellsUpToDate disk.map later middle
       → HasDelivered disk.map later (rides (held_now holding) served (wanted later)) middle.rows after)
       → HasDeliveredAround disk holding past served rows after
+  unfolding due
   has-delivered-around gap rows middle after its_own best first are_left next = record {
     plan = plan;
     best = subst (λ g. IsBest disk g (wanted past) plan) its_own best;
-    delivered = all-delivered (rows ++ opening (gap_of disk served) ∷ []) middle after
-        (subst (λ g. HasDelivered disk.map past (in_gap g) (rows ++ opening g ∷ []) middle) its_own first)
-        (subst (λ g. wanted (past_with past (in_gap g)) ≡ left g) its_own are_left) next;
+    delivered = subst (λ g. HasDelivered disk.map past (in_gap g ++ rides (held_now holding) served (left g)) (rows ++ opening g ∷ []) after)
+        its_own (delivered-join first (subst (λ bs. HasDelivered disk.map (past_with past (in_gap gap))
+        (rides (held_now holding) served bs) middle.rows after) are_left (next (past_with past (in_gap gap)) first.current)));
   }
 
 -- and then the request has finished

@@ -1,23 +1,25 @@
 // The background of a run, and how deliveries change it.
 ghost use Rattle.std.specs.Prelude.{◌≡◌, ◌+◌, ◌*◌, ◌≤◌, ◌^◌, ℕ, [], ◌∷◌, ◌++◌, Some, map, slice_get, OnOk};
 ghost use Rattle.fb_geometry.specs.Shape.{Shape};
-ghost use Rattle.fb_model.specs.History.{Past, wanted};
+ghost use Rattle.fb_model.specs.History.{Past, finished, wanted};
 ghost use Rattle.fb_model.specs.Deliveries.{delivery_row, caught_rows, missed};
+ghost use Rattle.fb_tasks.specs.Telling.{Tells};
 ghost use Rattle.fb_decide.specs.Deliveries.{TellsUpToDate, HasDelivered, AreDue, held_now, past_with};
 
 use fb_plan::caught;
 use fb_rows::{BackRow, BackRows, Catch, DeliveryRow, Dwell, How};
 use fb_service::Disk;
 use fb_store::{Store, runs_are_fewest};
-use fb_tasks::Sessions;
-use fb_units::NoMemory;
+use fb_tasks::{Sessions, reads_change_nothing};
+use fb_units::{NoMemory, Request};
 use fb_wanted::Blocks;
 use std::alloc::Global;
 
 /// The background between two events of a replay.
 ///
 /// Before a decision it is prepared (`prepare`); around a service blocks are delivered
-/// (`deliver_around`): in the gap (`go_through`) and by the read itself (`ride`).
+/// (`deliver_around`): in the gap (`go_through`) and by the read itself (`ride`). Then the request
+/// has finished (`after_service`). Where the head stays, `deliver_idle` delivers.
 #[derive(Drop)]
 pub struct Background {
     /// The tasks, in order of opening.
@@ -106,7 +108,7 @@ impl Background {
     /// Adds the row of an idle dwell, and delivers all that the head catches in it.
     ///
     /// The only error is out of memory.
-    pub fn idle(
+    pub fn deliver_idle(
         &mut self,
         alloc: Global,
         disk: &Disk,
@@ -121,5 +123,19 @@ impl Background {
     {
         self.rows.push(BackRow::Idle(dwell))?;
         self.deliver_in_dwell(alloc, disk, store, How::Idle, dwell)
+    }
+
+    /// A request has finished: blocks that a write has overwritten may be wanted again.
+    pub fn after_service(&mut self, request: Request)
+        requires { (disk : Shape) × (past : Past) × Tells disk past self.old.sessions self.old.blocks }
+        ensures tells { (disk : Shape) (past : Past) → Tells disk past self.old.sessions self.old.blocks
+            → Tells disk (finished request ∷ past) self.new.sessions self.new.blocks }
+        ensures rows { self.new.rows ≡ self.old.rows }
+    {
+        reads_change_nothing();
+        if request.write {
+            self.sessions
+                .after_write(&mut self.blocks, request.lbn, request.count);
+        }
     }
 }

@@ -22,11 +22,11 @@ ghost use Rattle.fb_rows.specs.Tasks.{HasTaskBelow};
 use crate::background::Background;
 use crate::foreground::foreground;
 use crate::joining::join_arrived;
+use crate::laws::disk_is_sound;
 use crate::requests::Requests;
 use crate::run_inputs::RunInputs;
 use crate::serving::serve_request;
 use crate::start::Start;
-use crate::timing::disk_is_sound;
 use fb_calls::Calls;
 use fb_model::foreground_lists_ascend;
 use fb_plan::Planner;
@@ -343,7 +343,9 @@ fn stay_until(alloc: Global, disk: &Disk, course: &mut Course, instant: Ns) -> R
         begin: course.now,
         end: instant,
     };
-    course.background.idle(alloc, disk, &course.store, dwell)?;
+    course
+        .background
+        .deliver_idle(alloc, disk, &course.store, dwell)?;
     course.now = instant;
     Ok(())
 }

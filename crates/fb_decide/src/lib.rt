@@ -11,16 +11,16 @@
 mod background;
 mod deciding;
 mod foreground;
-mod full_runs;
+mod gap;
 mod joining;
+mod laws;
 mod preparing;
 mod requests;
 mod riding;
 mod run_inputs;
 mod serving;
 mod start;
-mod timing;
 
 pub use deciding::{Decider, Rows};
-pub use full_runs::decisions_make_a_run;
+pub use laws::decisions_make_a_run;
 pub use run_inputs::RunInputs;

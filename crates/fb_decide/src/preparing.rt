@@ -1,6 +1,6 @@
 // What happens at an instant before its decision: calls take effect, and each task that was touched
 // chooses segments and is tested, which would change nothing for any other.
-ghost use Rattle.std.specs.Prelude.{◌≡◌, ◌+◌, ◌≤◌, ◌<◌, length, IfOk, IfSome, slice_get};
+ghost use Rattle.std.specs.Prelude.{◌≡◌, ◌+◌, ◌≤◌, ◌<◌, length, IfOk, OnOk, IfSome, slice_get};
 ghost use Rattle.std.specs.List.{fold};
 ghost use Rattle.fb_model.specs.History.{Past};
 ghost use Rattle.fb_model.specs.Steps.{take_call, calls_due};
@@ -24,7 +24,7 @@ impl Background {
         requires script { IsScriptOf disk.now.map calls.now.calls.items }
         requires called { (past : Past) × IsCalled disk.now.map calls.now.calls.items past next
             × Tells disk.now.map past self.old.sessions self.old.blocks }
-        ensures tells { IfOk result (λ later. (past : Past) → IsCalled disk.now.map calls.now.calls.items past next
+        ensures tells { OnOk result ((past : Past) → IsCalled disk.now.map calls.now.calls.items past next
             → Tells disk.now.map past self.old.sessions self.old.blocks
             → Tells disk.now.map (fold (take_call disk.now.map) past (calls_due calls.now.calls.items past now)) self.new.sessions
             self.new.blocks) }
@@ -33,7 +33,7 @@ impl Background {
             → IsCalled disk.now.map calls.now.calls.items
             (fold (take_call disk.now.map) past (calls_due calls.now.calls.items past now)) later) }
         ensures ahead { IfOk result (λ later. IfSome (slice_get calls.now.calls.items later) (λ call. now < call.instant)) }
-        ensures rows { IfOk result (λ later. self.new.rows ≡ self.old.rows) }
+        ensures rows { OnOk result (self.new.rows ≡ self.old.rows) }
     {
         let mut next = next;
         while next < calls.calls.len() && calls.calls[next].instant <= now {

@@ -1,5 +1,5 @@
 use Rattle.std.proofs.Common.{refl}
-use Rattle.fb_decide.proofs.background.Background.finish.Goals as goal
+use Rattle.fb_decide.proofs.background.Background.after_service.Goals as goal
 
 pub returns-then-request-clause-tells : goal.returns-then-request-clause-tells
 returns-then-request-clause-tells c = λ disk past tells. c.after_write.ensures disk past c.args.request c.if-request.true refl refl tells
