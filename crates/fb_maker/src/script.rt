@@ -42,6 +42,7 @@ pub fn made_scripts_are_read(map: &SectorMap)
         ≡ Ok (record { names = codes "scrub" ∷ codes "backup" ∷ []; calls = script_calls map.now }) }
 {
     map.geometry().sound();
+    // A disk has at most 10^12 sectors.
     let _sectors = map.count();
 }
 

@@ -27,5 +27,6 @@ pub fn rebuild_scripts_are_read(map: &SectorMap)
     ensures { (traced : ℕ) → calls_of map.now traced (rebuild_text map.now) ≡ rebuild_reading map.now }
 {
     map.geometry().sound();
+    // A disk has at most 10^12 sectors.
     let _sectors = map.count();
 }

@@ -61,6 +61,7 @@ const POINTS: &[SeekPoint] = &[
 fn disk_of(alloc: Global, geometry: Geometry) -> Result<Disk, Fail> {
     let points = POINTS.to_vec(alloc)?;
     let map = SectorMap::new(alloc, geometry)?;
+    // A disk has at most 10^12 sectors.
     let _sectors = map.count();
     let geometry = map.geometry();
     geometry.sound();

@@ -44,6 +44,7 @@ fn small_disk(alloc: Global) -> Result<Disk, Fail> {
     };
     let geometry = Geometry::new(alloc, outline)?;
     let map = SectorMap::new(alloc, geometry)?;
+    // A disk has at most 10^12 sectors.
     let _sectors = map.count();
     let geometry = map.geometry();
     geometry.sound();

@@ -76,6 +76,7 @@ impl Session {
         ensures none { IfOk result (λ some. some ≡ false → (past : Past) → MayChoose map.now past stamp.task self.old blocks.old
             → choose_once map.now stamp.task past ≡ past) }
     {
+        // A disk has at most 10^12 sectors.
         let _sectors = map.count();
         match self.log.choose() {
             Some(segment) => {

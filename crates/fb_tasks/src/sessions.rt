@@ -255,6 +255,7 @@ impl Sessions {
         ensures blocks { (past : Past) (call : Call) → IsCall task (Want first count) call → MayTake map.now past self.old blocks.old call
             → HasBegun blocks.old (entries_by map.now past call) blocks.new }
     {
+        // A disk has at most 10^12 sectors.
         let _sectors = map.count();
         want_range(
             map,
@@ -335,6 +336,7 @@ impl Sessions {
             → MayTake map.now past self.old held call → Tells map.now (called call [] ∷ past) self.new held) }
         ensures err { OnErr result (self.new ≡ self.old) }
     {
+        // A disk has at most 10^12 sectors.
         let _sectors = map.count();
         // Not by `touch`: if the segment can't be added, the session has to stay as it was.
         note_touch(&mut self.listed_touched, &mut self.checked_by_writes, task)?;

@@ -35,6 +35,7 @@ pub fn want_range(
     if count == 0 {
         return Ok(());
     }
+    // A disk has at most 10^12 sectors.
     let _sectors = map.count();
     let mut span = map.span(first);
     let mut lbn = first;
