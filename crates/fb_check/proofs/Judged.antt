@@ -4,7 +4,6 @@ use Rattle.std.proofs.Common.{subst, ◌∙◌, arith, append_assoc, length-appe
 use Rattle.std.specs.Prelude.{Option}
 use Rattle.std.specs.List.{AllByRecursion}
 use Rattle.std.proofs.lemmas.List.{map-append, length-map}
-use Rattle.fb_units.specs.declared.types.Request.{Request}
 use Rattle.fb_units.proofs.Lists.{all_weaker}
 use Rattle.fb_calls.specs.Allowed as allowed
 use Rattle.fb_rows.specs.Tasks.{HasTaskBelow}
@@ -16,7 +15,7 @@ use Rattle.fb_model.specs.Content.{medium_of}
 use Rattle.fb_model.specs.Decisions.{decisions, run_end}
 use Rattle.fb_model.specs.Steps.{Step, decision_in, decisions_in, history, step_rows, task_rows}
 use Rattle.fb_model.specs.FullRun.{IsFull}
-use Rattle.fb_decide.specs.declared.deciding.Course.{Course}
+use Rattle.fb_decide.specs.State.{State}
 use Rattle.fb_decide.specs.Making.{fore_row_of, decisions_by, rest_of, HasMade, HasMadeOne, decisions_left}
 use Rattle.fb_report.specs.declared.byte_mode.ByteMode.{ByteMode}
 use Rattle.fb_report.specs.declared.reading.Report.{Report}
@@ -98,12 +97,12 @@ apart report f b = back_fore (sym f ∙ b)
 
 module _ (inputs : Inputs) (printed : Reports) where
   -- before the first decision
-  pub at_first : (list : List Request) (course : Course) (pending : List Request) (count : ℕ) (fore back : Comparison)
-      → HasMade inputs true [] list course pending count → course.fore ≡ [] → course.background.rows ≡ []
+  pub at_first : (state : State) (fore back : Comparison)
+      → HasMade inputs true [] state → state.course.fore ≡ [] → state.course.background.rows ≡ []
       → HasComparedFore inputs.disk.sector_bytes printed.bytes printed.fore fore []
       → HasComparedBack printed.names inputs.disk.sector_bytes printed.bytes printed.back back [] → CanCompare fore → CanCompare back
-      → HasJudged inputs printed true list course pending count fore back
-  at_first list course pending count fore back made no_fore no_back fore_compared back_compared fore_ready back_ready = record {
+      → HasJudged inputs printed true state fore back
+  at_first state fore back made no_fore no_back fore_compared back_compared fore_ready back_ready = record {
     steps = [];
     made = made;
     no_fore = no_fore;
@@ -118,81 +117,67 @@ module _ (inputs : Inputs) (printed : Reports) where
   }
 
   -- where another decision follows, and where none does
-  pub going : (more was : Bool) (list : List Request) (course : Course) (pending : List Request) (count : ℕ) (fore back : Comparison)
-      → was ≡ more → HasJudged inputs printed was list course pending count fore back
-      → HasJudged inputs printed more list course pending count fore back
-  going more was list course pending count fore back e judged =
-      subst (λ b. HasJudged inputs printed b list course pending count fore back) e judged
+  pub going : (more was : Bool) (state : State) (fore back : Comparison)
+      → was ≡ more → HasJudged inputs printed was state fore back → HasJudged inputs printed more state fore back
+  going more was state fore back e judged = subst (λ b. HasJudged inputs printed b state fore back) e judged
 
   -- a wrong foreground line
-  pub fore_wrong : DecisionsMakeARun → (more : Bool) (steps : List Step) (list : List Request) (course : Course) (pending : List Request)
-      (count : ℕ) (rows : List ForeRow) (back : List BackRow) (fore : Comparison) (mismatch : Mismatch)
-      → HasMade inputs more steps list course pending count → AreRowsOf inputs steps rows back
+  pub fore_wrong : DecisionsMakeARun → (more : Bool) (steps : List Step) (state : State)
+      (rows : List ForeRow) (back : List BackRow) (fore : Comparison) (mismatch : Mismatch)
+      → HasMade inputs more steps state → AreRowsOf inputs steps rows back
       → HasComparedFore inputs.disk.sector_bytes printed.bytes printed.fore fore rows → fore.wrong ≡ Some mismatch
       → IsVerdict inputs printed (No mismatch)
-  fore_wrong law more steps list course pending count rows back fore mismatch made are compared wrong =
+  fore_wrong law more steps state rows back fore mismatch made are compared wrong =
       let due : List (List ℕ) = fore_first ∷ map (fore_line inputs.disk.sector_bytes printed.bytes) rows in
       let rules : List (ℕ → Rule) = (λ field. Foreground) ∷ map (λ row field. Foreground) rows in
       let known = named fore.wrong mismatch due rules fore wrong compared.so_far in
-      let rest = law.begin inputs more steps list course pending count rows back made are in (
+      let rest = law.begin inputs more steps state rows back made are in (
         λ is_fore run plain. fore_more inputs.disk.sector_bytes printed.bytes run rows rest.0 printed.fore mismatch
             (rest.1 ∙ sym plain.fore) (subst (λ lines. IsMismatch due rules lines mismatch) compared.lines_are known.0),
         λ is_back. absurd (apart mismatch.report (known.1 ∙ compared.report_is) is_back),
       )
 
--- where the list of requests is the same
-pub kept : (inputs : Inputs) (more : Bool) (steps : List Step) (list now_list : List Request)
-    (course : Course) (pending : List Request) (count : ℕ) → now_list ≡ list → HasMade inputs more steps list course pending count
-    → HasMade inputs more steps now_list course pending count
-kept inputs more steps list now_list course pending count e made =
-    subst (λ list. HasMade inputs more steps list course pending count) (sym e) made
-
 -- how many decisions are left follows from those that have been made
-same_left : (inputs : Inputs) (more : Bool) (steps : List Step) (list now_list : List Request) (course now : Course)
-    (pending now_pending : List Request) (count now_count : ℕ)
-    → HasMade inputs more steps list course pending count → HasMade inputs more steps now_list now now_pending now_count
-    → decisions_left inputs more now now_pending ≡ decisions_left inputs more course pending
-same_left inputs true steps list now_list course now pending now_pending count now_count made after =
+same_left : (inputs : Inputs) (more : Bool) (steps : List Step) (state now : State)
+    → HasMade inputs more steps state → HasMade inputs more steps now → decisions_left inputs more now ≡ decisions_left inputs more state
+same_left inputs true steps state now made after =
     omega (
       arith,
       ap length made.come_to.decided,
       ap length after.come_to.decided,
-      length-append (decisions_in steps) (decisions_by inputs course (rest_of inputs course pending)),
-      length-append (decisions_in steps) (decisions_by inputs now (rest_of inputs now now_pending)),
+      length-append (decisions_in steps) (decisions_by inputs state.course (rest_of inputs state)),
+      length-append (decisions_in steps) (decisions_by inputs now.course (rest_of inputs now)),
     )
-same_left inputs false steps list now_list course now pending now_pending count now_count made after = refl
+same_left inputs false steps state now made after = refl
 
-module _ (inputs : Inputs) (printed : Reports) (more : Bool) (list : List Request) (before after : Course)
-    (pending pending_after : List Request) (count count_after : ℕ) (fore back : Comparison)
-    (judged : HasJudged inputs printed true list before pending count fore back)
-    (one : HasMadeOne inputs judged.steps more list before pending after pending_after count_after) where
-  pub fore_taken : (taken : List ForeRow) → taken ≡ after.fore → taken ≡ fore_row_of (medium_of inputs) (decision_in one.step)
+module _ (inputs : Inputs) (printed : Reports) (more : Bool) (before after : State) (fore back : Comparison)
+    (judged : HasJudged inputs printed true before fore back)
+    (one : HasMadeOne inputs judged.steps more before after) where
+  pub fore_taken : (taken : List ForeRow) → taken ≡ after.course.fore → taken ≡ fore_row_of (medium_of inputs) (decision_in one.step)
   fore_taken taken e = e ∙ (one.fore ∙ ap (λ rows. rows ++ fore_row_of (medium_of inputs) (decision_in one.step)) judged.no_fore)
 
-  pub back_taken : (taken : List BackRow) → taken ≡ after.background.rows → taken ≡ step_rows inputs.disk one.step
+  pub back_taken : (taken : List BackRow) → taken ≡ after.course.background.rows → taken ≡ step_rows inputs.disk one.step
   back_taken taken e = e ∙ (one.back ∙ ap (λ rows. rows ++ step_rows inputs.disk one.step) judged.no_back)
 
   pub back_named : (names : List (List ℕ)) (taken : List BackRow) → length names ≡ length (allowed.tasks inputs.calls)
-      → taken ≡ after.background.rows → AllByRecursion (HasTaskBelow (length names)) taken
+      → taken ≡ after.course.background.rows → AllByRecursion (HasTaskBelow (length names)) taken
   back_named names taken n e =
       rw n (subst (AllByRecursion (HasTaskBelow (length (allowed.tasks inputs.calls)))) (sym (back_taken taken e)) one.back_fits)
 
-  pub less : (was : Bool) → was ≡ true → (now_list : List Request) (now : Course) (now_pending : List Request) (now_count : ℕ)
-      → HasMade inputs more (judged.steps ++ one.step ∷ []) now_list now now_pending now_count
-      → decisions_left inputs more now now_pending < decisions_left inputs was before pending
-  less was e now_list now now_pending now_count made =
+  pub less : (was : Bool) → was ≡ true → (now : State) → HasMade inputs more (judged.steps ++ one.step ∷ []) now
+      → decisions_left inputs more now < decisions_left inputs was before
+  less was e now made =
       let fewer = one.fewer in
-      let same = same_left inputs more (judged.steps ++ one.step
-      ∷ []) list now_list after now pending_after now_pending count_after now_count one.made made in
-      subst (λ n. n < decisions_left inputs was before pending) (sym same)
-      (subst (λ b. decisions_left inputs more after pending_after < decisions_left inputs b before pending) (sym e) fewer)
+      let same = same_left inputs more (judged.steps ++ one.step ∷ []) after now one.made made in
+      subst (λ n. n < decisions_left inputs was before) (sym same)
+      (subst (λ b. decisions_left inputs more after < decisions_left inputs b before) (sym e) fewer)
 
   module _ (law : DecisionsMakeARun) where
     more_rows : AreRowsOf inputs (judged.steps ++ one.step ∷ []) (judged.fore_rows ++ fore_row_of (medium_of inputs) (decision_in one.step))
         (judged.back_rows ++ step_rows inputs.disk one.step)
     more_rows = law.go_on inputs judged.steps one.step judged.fore_rows judged.back_rows judged.rows one.is_made
 
-    compared : (taken : List ForeRow) (fore_after : Comparison) → taken ≡ after.fore
+    compared : (taken : List ForeRow) (fore_after : Comparison) → taken ≡ after.course.fore
         → HasComparedFore inputs.disk.sector_bytes printed.bytes printed.fore fore_after (judged.fore_rows ++ taken)
         → HasComparedFore inputs.disk.sector_bytes printed.bytes printed.fore fore_after
         (judged.fore_rows ++ fore_row_of (medium_of inputs) (decision_in one.step))
@@ -201,22 +186,22 @@ module _ (inputs : Inputs) (printed : Reports) (more : Bool) (list : List Reques
         (fore_taken taken e) h
 
     -- a wrong foreground line among the rows of one more decision
-    pub wrong_now : (taken : List ForeRow) (fore_after : Comparison) (mismatch : Mismatch) → taken ≡ after.fore
+    pub wrong_now : (taken : List ForeRow) (fore_after : Comparison) (mismatch : Mismatch) → taken ≡ after.course.fore
         → HasComparedFore inputs.disk.sector_bytes printed.bytes printed.fore fore_after (judged.fore_rows ++ taken)
         → fore_after.wrong ≡ Some mismatch → IsVerdict inputs printed (No mismatch)
-    wrong_now taken fore_after mismatch e h wrong = fore_wrong inputs printed law more _ list after pending_after count_after _ _ fore_after
+    wrong_now taken fore_after mismatch e h wrong = fore_wrong inputs printed law more _ after _ _ fore_after
         mismatch one.made more_rows (compared taken fore_after e h) wrong
 
     -- one more decision
-    pub next : (now_list : List Request) (now : Course) (now_pending : List Request) (now_count : ℕ)
-        → HasMade inputs more (judged.steps ++ one.step ∷ []) now_list now now_pending now_count → now.fore ≡ [] → now.background.rows ≡ []
-        → (fore_new : List ForeRow) (back_new : List BackRow) → fore_new ≡ after.fore → back_new ≡ after.background.rows
+    pub next : (now : State) → HasMade inputs more (judged.steps ++ one.step ∷ []) now
+        → now.course.fore ≡ [] → now.course.background.rows ≡ []
+        → (fore_new : List ForeRow) (back_new : List BackRow) → fore_new ≡ after.course.fore → back_new ≡ after.course.background.rows
         → (fore_after back_after : Comparison)
         → HasComparedFore inputs.disk.sector_bytes printed.bytes printed.fore fore_after (judged.fore_rows ++ fore_new)
         → HasComparedBack printed.names inputs.disk.sector_bytes printed.bytes printed.back back_after (judged.back_rows ++ back_new)
         → CanCompare fore_after → CanCompare back_after
-        → HasJudged inputs printed more now_list now now_pending now_count fore_after back_after
-    next now_list now now_pending now_count made no_fore no_back fore_new back_new f b fore_after back_after fore_h back_h fore_ready back_ready = record {
+        → HasJudged inputs printed more now fore_after back_after
+    next now made no_fore no_back fore_new back_new f b fore_after back_after fore_h back_h fore_ready back_ready = record {
       steps = judged.steps ++ one.step ∷ [];
       made = made;
       no_fore = no_fore;
@@ -237,8 +222,8 @@ pub none_by : (wrong : Option Mismatch) → ((mismatch : Mismatch) → wrong ≡
 none_by None h = refl
 none_by (Some mismatch) h = absurd (h mismatch refl)
 
-module _ (inputs : Inputs) (printed : Reports) (list : List Request) (course : Course) (pending : List Request) (count : ℕ)
-    (fore back : Comparison) (judged : HasJudged inputs printed false list course pending count fore back) where
+module _ (inputs : Inputs) (printed : Reports) (state : State) (fore back : Comparison)
+    (judged : HasJudged inputs printed false state fore back) where
   abbrev due_fore : List (List ℕ)
   due_fore = fore_first ∷ map (fore_line inputs.disk.sector_bytes printed.bytes) judged.fore_rows
 
@@ -275,7 +260,7 @@ module _ (inputs : Inputs) (printed : Reports) (list : List Request) (course : C
         let there = subst (λ lines. IsMismatch (due_fore ++ fore_last (fore.same - 1) inputs.passed_over ∷ [])
         (fore_kept ++ (λ field. Foreground) ∷ []) lines mismatch) (one.lines ∙ judged.fore_compared.lines_are) known.0 in (
           λ is_fore run plain.
-              let rows = law.end inputs judged.steps list course pending count judged.fore_rows judged.back_rows judged.made judged.rows
+              let rows = law.end inputs judged.steps state judged.fore_rows judged.back_rows judged.made judged.rows
               ∙ sym plain.fore in
               let last = ap (λ n. fore_last n inputs.passed_over) (counted right ∙ ap length rows)
               ∙ ap (fore_last (length run.fore)) (sym plain.passed_over) in
@@ -309,7 +294,7 @@ module _ (inputs : Inputs) (printed : Reports) (list : List Request) (course : C
       back_kept = (λ field. Timeline) ∷ map back_rule (judged.back_rows ++ rows)
 
       is_full : IsFull inputs full_run
-      is_full = law.full inputs judged.steps list course pending count judged.fore_rows judged.back_rows judged.made judged.rows
+      is_full = law.full inputs judged.steps state judged.fore_rows judged.back_rows judged.made judged.rows
 
       -- the background is right too
       pub all_right : ended_back.wrong ≡ None → IsVerdict inputs printed Yes

@@ -1,10 +1,9 @@
 -- What was judged between two decisions.
-use Rattle.std.specs.Prelude.{◌≡◌, ℕ, List, [], Bool}
-use Rattle.fb_units.specs.declared.types.Request.{Request}
+use Rattle.std.specs.Prelude.{◌≡◌, List, [], Bool}
 use Rattle.fb_rows.specs.declared.fore.ForeRow.{ForeRow}
 use Rattle.fb_rows.specs.declared.back.BackRow.{BackRow}
 use Rattle.fb_model.specs.Inputs.{Inputs}
-use Rattle.fb_decide.specs.declared.deciding.Course.{Course}
+use Rattle.fb_decide.specs.State.{State}
 use Rattle.fb_model.specs.Steps.{Step}
 use Rattle.fb_decide.specs.Making.{HasMade}
 use Rattle.fb_check.specs.declared.comparing.Comparison.{Comparison}
@@ -13,12 +12,11 @@ use Rattle.fb_check.specs.Verdict.{Reports}
 use Rattle.fb_check.specs.Comparing.{CanCompare, HasComparedFore, HasComparedBack}
 
 -- these steps have been made, their rows were taken out, and the lines of the rows were compared
-pub record HasJudged (inputs : Inputs) (printed : Reports) (more : Bool) (list : List Request) (course : Course) (pending : List Request)
-    (count : ℕ) (fore back : Comparison) : Type 0 where
+pub record HasJudged (inputs : Inputs) (printed : Reports) (more : Bool) (state : State) (fore back : Comparison) : Type 0 where
   pub steps : List Step
-  pub made : HasMade inputs more steps list course pending count
-  pub no_fore : course.fore ≡ []
-  pub no_back : course.background.rows ≡ []
+  pub made : HasMade inputs more steps state
+  pub no_fore : state.course.fore ≡ []
+  pub no_back : state.course.background.rows ≡ []
   pub fore_rows : List ForeRow
   pub back_rows : List BackRow
   pub rows : AreRowsOf inputs steps fore_rows back_rows

@@ -6,6 +6,7 @@ ghost use Rattle.fb_rows.specs.Tasks.{HasTaskBelow};
 ghost use Rattle.fb_rows.specs.declared.fore.ForeRow.{ForeRow};
 ghost use Rattle.fb_rows.specs.declared.back.BackRow.{BackRow};
 ghost use Rattle.fb_decide.specs.RunInputs.{inputs_of};
+ghost use Rattle.fb_decide.specs.State.{state_of};
 ghost use Rattle.fb_decide.specs.Making.{HasMade};
 ghost use Rattle.fb_model.specs.Accepted.{IsAccepted};
 ghost use Rattle.fb_report.specs.Grammar.{back_grammar, fore_grammar};
@@ -68,8 +69,7 @@ fn judge_over<Q: Queue, P: Planner>(
     planner: &P,
     printed: Printed<'_>,
 ) -> Result<Verdict, NoMemory>
-    requires made { HasMade (inputs_of inputs Q.key) true [] decider.old.requests decider.old.course (Q.pending decider.old.queue)
-        (Q.joined decider.old.queue) }
+    requires made { HasMade (inputs_of inputs Q.key) true [] (state_of Q.pending Q.joined decider.old) }
     requires no_fore { decider.old.course.fore ≡ [] }
     requires no_back { decider.old.course.background.rows ≡ [] }
     requires serves { Q.serves decider.old.queue inputs.disk.now }
@@ -138,8 +138,8 @@ fn judge_ends<Q: Queue>(
     mut fore: Comparison<'_>,
     mut back: Comparison<'_>,
 ) -> Result<Verdict, NoMemory>
-    requires judged { HasJudged (inputs_of inputs Q.key) (reports_of inputs printed) false decider.old.requests decider.old.course
-        (Q.pending decider.old.queue) (Q.joined decider.old.queue) fore back }
+    requires judged { HasJudged (inputs_of inputs Q.key) (reports_of inputs printed) false (state_of Q.pending Q.joined decider.old)
+        fore back }
     requires right { fore.wrong ≡ None }
     requires names { length inputs.calls.now.names ≡ length (tasks inputs.calls.now.calls.items) }
     requires whole { inputs.disk.now.sector_bytes % 16 ≡ 0 }

@@ -171,19 +171,19 @@ rows_of_all inputs = served_rows (medium_of inputs) (decisions inputs) ∙ ap (m
     (decisions_follow (λ r. Unit {0}) inputs (all_any (λ r. Unit {0}) (λ r. tt) (requests inputs))).1
 
 pub fore_rows_end : ForeRowsEnd
-fore_rows_end inputs steps list course pending count fore back made rows =
+fore_rows_end inputs steps state fore back made rows =
     rows.fore_so_far ∙ (ap (flat_map (fore_row_of (medium_of inputs))) made.come_to.decided ∙ rows_of_all inputs)
 
 pub fore_rows_begin : ForeRowsBegin
-fore_rows_begin inputs true steps list course pending count fore back made rows =
-    let later = decisions_by inputs course (rest_of inputs course pending) in (
+fore_rows_begin inputs true steps state fore back made rows =
+    let later = decisions_by inputs state.course (rest_of inputs state) in (
       flat_map (fore_row_of (medium_of inputs)) later,
       ap (λ fore. fore ++ flat_map (fore_row_of (medium_of inputs)) later) rows.fore_so_far
           ∙ (sym (flat_map-append (fore_row_of (medium_of inputs)) (decisions_in steps) later)
           ∙ (ap (flat_map (fore_row_of (medium_of inputs))) made.come_to.decided ∙ rows_of_all inputs)),
     )
-fore_rows_begin inputs false steps list course pending count fore back made rows =
-    ([], append-nil fore ∙ fore_rows_end inputs steps list course pending count fore back made rows)
+fore_rows_begin inputs false steps state fore back made rows =
+    ([], append-nil fore ∙ fore_rows_end inputs steps state fore back made rows)
 
 -- ---- a run that has ended
 
@@ -202,9 +202,9 @@ throughout : (inputs : Inputs) (steps : List Step) → AtEach (IsMade inputs) in
 throughout inputs steps every Q f = each_then (IsMade inputs) (Q inputs (medium_of inputs)) f inputs [] steps every
 
 pub rows_are_full : RowsAreFull
-rows_are_full inputs steps list course pending count fore back made rows =
+rows_are_full inputs steps state fore back made rows =
     let decided = made.come_to.decided in
-    let fore_is = fore_rows_end inputs steps list course pending count fore back made rows in
+    let fore_is = fore_rows_end inputs steps state fore back made rows in
     let tasks = task_rows (history inputs steps) in
     let back_is : back ++ tasks ≡ flat_map (step_rows inputs.disk) steps ++ tasks = ap (λ rows. rows ++ tasks) rows.back_so_far in
     let planned = throughout inputs steps rows.each IsPlanned (λ past step made. made.planned) in

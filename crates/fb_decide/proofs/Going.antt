@@ -33,6 +33,7 @@ use Rattle.fb_model.specs.Accepted.{IsRequestOf}
 use Rattle.fb_model.specs.History.{Past}
 use Rattle.fb_model.proofs.Instants.{IsAmong}
 use Rattle.fb_decide.specs.declared.background.Background.{Background}
+use Rattle.fb_decide.specs.State.{State}
 use Rattle.fb_decide.specs.Waiting.{left, IsWaiting, AreByArrival}
 use Rattle.fb_decide.specs.Deciding.{next_of, dwell_until, ready_to_act, HasServedNext, HasStayed, HasActed, serves_pick, stays_on}
 use Rattle.fb_decide.specs.Deciding.{stays_last, ends_here, IsReadyToAct, HasDecided}
@@ -119,21 +120,27 @@ stays_replayed latent whole done rest now holding later now' holding' so_far sam
 }
 
 -- a decision leads on
-pub record LeadsOn (inputs : Inputs) (before : Course) (pending : List Request) (steps : List Step) (more : Bool) (after : Course)
-    (pending_after : List Request) (count_after : ℕ) : Type 0 where
+pub record LeadsOn (inputs : Inputs) (steps : List Step) (more : Bool) (before after : State) : Type 0 where
   pub step : Step
-  pub stepped : HasStepped inputs (history inputs steps) before step after
-  pub fore : after.fore ≡ before.fore ++ fore_row_of (medium_of inputs) (decision_in step)
-  pub come_to : HasComeTo inputs more after pending_after count_after (steps ++ step ∷ [])
-  pub fewer : decisions_left inputs more after pending_after < decisions_left inputs true before pending
+  pub stepped : HasStepped inputs (history inputs steps) before.course step after.course
+  pub fore : after.course.fore ≡ before.course.fore ++ fore_row_of (medium_of inputs) (decision_in step)
+  pub come_to : HasComeTo inputs more after (steps ++ step ∷ [])
+  pub fewer : decisions_left inputs more after < decisions_left inputs true before
+
+-- where the requests of these inputs stand
+abbrev standing : Inputs → Course → List Request → ℕ → State
+standing inputs course waiting joined = record { requests = requests inputs; course = course; waiting = waiting; joined = joined }
 
 -- ---- from one decision to the next
 
 module _ (inputs : Inputs) (known : AreKnown inputs) (before : Course) (pending : List Request) (count : ℕ) (steps : List Step)
-    (so_far : GoesOn inputs before pending count steps)
-    (background : Background) (joined called : ℕ) (waiting : List Request)
-    (ready : IsReadyToAct inputs.disk (requests inputs) inputs.calls
-    (history inputs steps) before pending background joined called waiting) where
+    (so_far : GoesOn inputs (standing inputs before pending count) steps)
+    (background : Background) (joined called : ℕ) (waiting : List Request) (queued : ℕ)
+    (ready : IsReadyToAct inputs (history inputs steps) (standing inputs before pending count)
+    (standing inputs (ready_to_act before background joined called) waiting queued)) where
+  abbrev state : State
+  state = standing inputs before pending count
+
   abbrev step_of : Act → List DeliveryRow → Step
   step_of act gots = step_by inputs.disk.map inputs.calls (history inputs steps) act gots
 
@@ -147,7 +154,7 @@ module _ (inputs : Inputs) (known : AreKnown inputs) (before : Course) (pending 
   abbrev rest : List Served
   rest = rest_by inputs before left_over
 
-  same_rest : rest ≡ rest_of inputs before pending
+  same_rest : rest ≡ rest_of inputs state
   same_rest = ap (rest_by inputs before) ready.same_left
 
   abbrev run : HasRun inputs rest before steps
@@ -160,7 +167,7 @@ module _ (inputs : Inputs) (known : AreKnown inputs) (before : Course) (pending 
     ends_at = so_far.run.ends_at;
   }
 
-  same_left : length (decisions_by inputs before rest) ≡ decisions_left inputs true before pending
+  same_left : length (decisions_by inputs before rest) ≡ decisions_left inputs true state
   same_left = ap (λ services. length (decisions_by inputs before services)) same_rest
 
   decided : decisions_in steps ++ decisions_by inputs before rest ≡ decisions inputs
@@ -195,12 +202,12 @@ module _ (inputs : Inputs) (known : AreKnown inputs) (before : Course) (pending 
   module _ (request : Request) (others : List Request) (after : Course) (count_after : ℕ)
       (pick : first_least (inputs.key inputs.disk before.head before.now) waiting ≡ Some (request, others))
       (now_served : HasServedNext inputs.disk request (ready_to_act before background joined called) after)
-      (waits : IsWaiting inputs.disk (requests inputs) after.now after.joined count_after others) where
+      (waits : IsWaiting inputs.disk (standing inputs after others count_after)) where
     abbrev this : Served
     this = service inputs.disk before.head before.now request
 
     abbrev later : List Served
-    later = rest_of inputs after others
+    later = rest_of inputs (standing inputs after others count_after)
 
     among : IsRequestOf inputs.disk.map request
         × (AllByRecursion (IsRequestOf inputs.disk.map) others × (length others + 1 ≡ length waiting))
@@ -265,7 +272,7 @@ module _ (inputs : Inputs) (known : AreKnown inputs) (before : Course) (pending 
     longer : length (run.done ++ this ∷ []) ≡ length run.done + 1
     longer = length-append run.done (this ∷ [])
 
-    goes_on_serving : GoesOn inputs after others count_after (steps ++ step ∷ [])
+    goes_on_serving : GoesOn inputs (standing inputs after others count_after) (steps ++ step ∷ [])
     goes_on_serving =
         let late = now_served.later in
         let soon = now_served.soon in
@@ -293,7 +300,7 @@ module _ (inputs : Inputs) (known : AreKnown inputs) (before : Course) (pending 
           );
         }
 
-    leads_serving : LeadsOn inputs before pending steps true after others count_after
+    leads_serving : LeadsOn inputs steps true state (standing inputs after others count_after)
     leads_serving = record {
       step = step;
       stepped = made.stepped;
@@ -311,13 +318,14 @@ module _ (inputs : Inputs) (known : AreKnown inputs) (before : Course) (pending 
         stays_step inputs (history inputs steps) before background joined called ready.test run.tells run.finds instant upto after stayed
         (mirrors_run inputs run.done rest before.now instant before.store run.replayed late)
 
-  leads_by : (instant : ℕ) (after : Course) (count_after : ℕ) (more : Bool)
+  leads_by : (instant : ℕ) (after : Course) (more : Bool)
       → HasStayed inputs.disk instant (ready_to_act before background joined called) after
       → (made : StepsBy inputs (history inputs steps) before (idling (dwell_until before instant)) after)
-      → HasComeTo inputs more after waiting count_after (steps ++ step_of (idling (dwell_until before instant)) made.gots ∷ [])
-      → decisions_left inputs more after waiting < length (decisions_by inputs before rest)
-      → LeadsOn inputs before pending steps more after waiting count_after
-  leads_by instant after count_after more stayed made come_to fewer = record {
+      → HasComeTo inputs more (standing inputs after waiting queued)
+      (steps ++ step_of (idling (dwell_until before instant)) made.gots ∷ [])
+      → decisions_left inputs more (standing inputs after waiting queued) < length (decisions_by inputs before rest)
+      → LeadsOn inputs steps more state (standing inputs after waiting queued)
+  leads_by instant after more stayed made come_to fewer = record {
     step = step_of (idling (dwell_until before instant)) made.gots;
     stepped = made.stepped;
     fore = stayed.same_fore ∙ sym (append-nil before.fore);
@@ -326,10 +334,13 @@ module _ (inputs : Inputs) (known : AreKnown inputs) (before : Course) (pending 
   }
 
   -- until the next instant
-  module _ (instant : ℕ) (after : Course) (count_after : ℕ) (empty : waiting ≡ [])
+  module _ (instant : ℕ) (after : Course) (empty : waiting ≡ [])
       (next : next_of (slice_get (requests inputs) joined) (slice_get inputs.calls called) ≡ Some instant)
       (stayed : HasStayed inputs.disk instant (ready_to_act before background joined called) after)
-      (waits : IsWaiting inputs.disk (requests inputs) after.now after.joined count_after waiting) where
+      (waits : IsWaiting inputs.disk (standing inputs after waiting queued)) where
+    abbrev rest_after : List Served
+    rest_after = rest_of inputs (standing inputs after waiting queued)
+
     less : before.now < instant
     less = to_come inputs before.now joined called come instant next
 
@@ -347,7 +358,7 @@ module _ (inputs : Inputs) (known : AreKnown inputs) (before : Course) (pending 
     same_then = plain_same (length left_over) inputs.disk inputs.key before.head before.now instant left_over
         (omega (arith, less)) order_left late_left
 
-    same_after : rest_then ≡ rest_of inputs after waiting
+    same_after : rest_then ≡ rest_after
     same_after = rw (stayed.same_joined, stayed.same_head, stayed.until) refl
 
     late_writes : AllByRecursion (λ (w : Written). instant < w.passage.end) (all_writes rest)
@@ -361,7 +372,7 @@ module _ (inputs : Inputs) (known : AreKnown inputs) (before : Course) (pending 
     step_stay = step_of (idling (dwell_until before instant)) stays_now.gots
 
     next_stay : decisions_by inputs before rest
-        ≡ idles (dwell_until before instant) ∷ decisions_by inputs after (rest_of inputs after waiting)
+        ≡ idles (dwell_until before instant) ∷ decisions_by inputs after rest_after
     next_stay = rw (stayed.same_joined, stayed.same_head, stayed.until)
         (stays_next inputs.disk (instants_of inputs) inputs.until before.head before.now instant rest less
         (rising_instants inputs before.now joined called come)
@@ -371,20 +382,20 @@ module _ (inputs : Inputs) (known : AreKnown inputs) (before : Course) (pending 
         ∙ ap (λ services. idles (dwell_until before instant)
         ∷ decisions_from inputs.disk (instants_of inputs) inputs.until before.head instant services) same_then)
 
-    replayed_stay : Replayed inputs.latent (served inputs) (rest_of inputs after waiting) after.now after.store run.done
+    replayed_stay : Replayed inputs.latent (served inputs) rest_after after.now after.store run.done
     replayed_stay = stays_replayed inputs.latent (served inputs) run.done rest before.now before.store
-        (rest_of inputs after waiting) after.now after.store
+        rest_after after.now after.store
         run.replayed (same_then ∙ same_after) (let until = stayed.until in omega (arith, until, less)) stayed.same_store
 
-    goes_on_staying : GoesOn inputs after waiting count_after (steps ++ step_stay ∷ [])
+    goes_on_staying : GoesOn inputs (standing inputs after waiting queued) (steps ++ step_stay ∷ [])
     goes_on_staying =
         let until = stayed.until in
         record {
           run =
-              run_more inputs rest (rest_of inputs after waiting) before steps run step_stay after stays_now.stepped run.done replayed_stay;
-          decided = one_decided steps step_stay (decisions_by inputs before rest) (decisions_by inputs after (rest_of inputs after waiting))
+              run_more inputs rest rest_after before steps run step_stay after stays_now.stepped run.done replayed_stay;
+          decided = one_decided steps step_stay (decisions_by inputs before rest) (decisions_by inputs after rest_after)
               (decisions inputs) decided next_stay;
-          called = called_more inputs rest (rest_of inputs after waiting) before steps run step_stay after stays_now.stepped;
+          called = called_more inputs rest rest_after before steps run step_stay after stays_now.stepped;
           arrivals = subst (λ n. AllByRecursion (λ r. r.arrival ≤ after.now) (take n (requests inputs))) (sym stayed.same_joined)
               (all_weaker (λ (r : Request). r.arrival ≤ before.now) (λ r. r.arrival ≤ after.now) (λ r h. omega (arith, h, less, until))
               (take joined (requests inputs)) ready.come);
@@ -403,8 +414,8 @@ module _ (inputs : Inputs) (known : AreKnown inputs) (before : Course) (pending 
           );
         }
 
-    leads_staying : LeadsOn inputs before pending steps true after waiting count_after
-    leads_staying = leads_by instant after count_after true stayed stays_now goes_on_staying (omega (arith, ap length next_stay))
+    leads_staying : LeadsOn inputs steps true state (standing inputs after waiting queued)
+    leads_staying = leads_by instant after true stayed stays_now goes_on_staying (omega (arith, ap length next_stay))
 
   -- nothing is to come: the head stays until the end, or the run ends
   module _ (empty : waiting ≡ []) (next : next_of (slice_get (requests inputs) joined) (slice_get inputs.calls called) ≡ None) where
@@ -447,9 +458,8 @@ module _ (inputs : Inputs) (known : AreKnown inputs) (before : Course) (pending 
             early = omega (arith, until, known.accepted.until);
           }
 
-      leads_last : (count_after : ℕ) → LeadsOn inputs before pending steps false after waiting count_after
-      leads_last count_after =
-          leads_by inputs.until after count_after false stayed stays_last_time ends_staying (omega (arith, ap length last_is))
+      leads_last : LeadsOn inputs steps false state (standing inputs after waiting queued)
+      leads_last = leads_by inputs.until after false stayed stays_last_time ends_staying (omega (arith, ap length last_is))
 
     module _ (over : inputs.until ≤ before.now) where
       ends_now_by : StepsBy inputs (history inputs steps) before (ending before.now) (ready_to_act before background joined called)
@@ -476,9 +486,8 @@ module _ (inputs : Inputs) (known : AreKnown inputs) (before : Course) (pending 
             early = omega (arith, so_far.soon, so_far.counted, known.list.few);
           }
 
-      leads_to_end : (count_after : ℕ)
-          → LeadsOn inputs before pending steps false (ready_to_act before background joined called) waiting count_after
-      leads_to_end count_after = record {
+      leads_to_end : LeadsOn inputs steps false state (standing inputs (ready_to_act before background joined called) waiting queued)
+      leads_to_end = record {
         step = step_end;
         stepped = ends_now_by.stepped;
         fore = sym (append-nil before.fore);
@@ -487,26 +496,36 @@ module _ (inputs : Inputs) (known : AreKnown inputs) (before : Course) (pending 
       }
 
   -- whatever is done
-  by_action : (goes_on : Bool) (pending_after : List Request) (after : Course) (count_after : ℕ)
-      → HasActed inputs.disk inputs.key inputs.until (next_of (slice_get (requests inputs) joined) (slice_get inputs.calls called)) waiting
-      (ready_to_act before background joined called) goes_on pending_after after
-      → (goes_on ≡ true → IsWaiting inputs.disk (requests inputs) after.now after.joined count_after pending_after)
-      → LeadsOn inputs before pending steps goes_on after pending_after count_after
-  by_action goes_on pending_after after count_after (serves_pick request others course pick now_served) waits =
+  by_action : (goes_on : Bool) (after : State)
+      → HasActed inputs (standing inputs (ready_to_act before background joined called) waiting queued) goes_on after
+      → (goes_on ≡ true → IsWaiting inputs.disk after) → LeadsOn inputs steps goes_on state after
+  by_action goes_on after (serves_pick request course others count_after pick now_served) waits =
       leads_serving request others course count_after pick now_served (waits refl)
-  by_action goes_on pending_after after count_after (stays_on instant course empty next stayed) waits =
-      leads_staying instant course count_after empty next stayed (waits refl)
-  by_action goes_on pending_after after count_after (stays_last course empty next later stayed) waits =
-      leads_last empty next later course stayed count_after
-  by_action goes_on pending_after after count_after (ends_here empty next over) waits = leads_to_end empty next over count_after
+  by_action goes_on after (stays_on instant course empty next stayed) waits = leads_staying instant course empty next stayed (waits refl)
+  by_action goes_on after (stays_last course empty next later stayed) waits = leads_last empty next later course stayed
+  by_action goes_on after (ends_here empty next over) waits = leads_to_end empty next over
+
+-- what is ready differs from what stood before just in what it says
+ready_is : {inputs : Inputs} {past : Past} {before ready : State} → IsReadyToAct inputs past before ready
+    → ready ≡ record ready {
+      requests = before.requests;
+      course = ready_to_act before.course ready.course.background ready.course.joined ready.course.called;
+    }
+ready_is {before = before} {ready = ready} is = ap (λ list. record ready { requests = list }) is.same_requests
+    ∙ ap (λ course. record ready { requests = before.requests; course = course }) is.same
 
 -- one decision leads on from where the run had come to
-pub decided_more : (inputs : Inputs) (before : Course) (pending : List Request) (count : ℕ) (steps : List Step) (goes_on : Bool)
-    (after : Course) (pending_after : List Request) (count_after : ℕ) → AreKnown inputs
-    → GoesOn inputs before pending count steps → HasDecided inputs.disk (requests inputs) inputs.calls inputs.key inputs.until
-    (history inputs steps) before pending goes_on after pending_after
-    → (goes_on ≡ true → IsWaiting inputs.disk (requests inputs) after.now after.joined count_after pending_after)
-    → LeadsOn inputs before pending steps goes_on after pending_after count_after
-decided_more inputs before pending count steps goes_on after pending_after count_after known so_far decided waits =
-    by_action inputs known before pending count steps so_far decided.background decided.joined decided.called decided.waiting
-    decided.is_ready goes_on pending_after after count_after decided.acted waits
+pub decided_more : (inputs : Inputs) (steps : List Step) (goes_on : Bool) (before after : State) → AreKnown inputs
+    → before.requests ≡ requests inputs → GoesOn inputs before steps → HasDecided inputs (history inputs steps) before goes_on after
+    → (goes_on ≡ true → IsWaiting inputs.disk after) → LeadsOn inputs steps goes_on before after
+decided_more inputs steps goes_on before after known list_is =
+    subst (λ list. GoesOn inputs (record before { requests = list }) steps
+    → HasDecided inputs (history inputs steps) (record before { requests = list }) goes_on after
+    → (goes_on ≡ true → IsWaiting inputs.disk after) → LeadsOn inputs steps goes_on (record before { requests = list }) after) (sym list_is)
+    (λ so_far decided waits.
+    let ready = decided.ready in
+    let is = decided.is_ready in
+    by_action inputs known before.course before.waiting before.joined steps so_far ready.course.background ready.course.joined
+    ready.course.called ready.waiting ready.joined
+    (subst (IsReadyToAct inputs (history inputs steps) (standing inputs before.course before.waiting before.joined)) (ready_is is) is)
+    goes_on after (subst (λ ready. HasActed inputs ready goes_on after) (ready_is is) decided.acted) waits)

@@ -1,5 +1,5 @@
 -- A run from its beginning on, one decision after another, with the list of requests as the program has it.
-use Rattle.std.proofs.Common.{◌≡◌, ℕ, ◌+◌, ◌≤◌, ◌^◌, List, [], ◌∷◌, ◌++◌, length, arith, inl, inr, refl, sym, ◌∙◌, Bool, true, false, subst}
+use Rattle.std.proofs.Common.{◌≡◌, ℕ, ◌+◌, ◌≤◌, ◌^◌, List, [], ◌∷◌, ◌++◌, length, arith, inl, inr, refl, sym, ◌∙◌, Bool, true, false, subst, ap}
 use Rattle.std.specs.Prelude.{nat_le}
 use Rattle.std.specs.List.{AllByRecursion, fold}
 use Rattle.std.proofs.lemmas.Bool.{cases_Bool}
@@ -15,6 +15,7 @@ use Rattle.fb_model.specs.Foreground.{behind, read_of, promoted_from, promoted}
 use Rattle.fb_model.specs.Accepted.{IsAccepted, IsRequestOf}
 use Rattle.fb_model.specs.Laws.{ForegroundListsAscend}
 use Rattle.fb_model.proofs.Passages.{all_requests}
+use Rattle.fb_decide.specs.State.{State}
 use Rattle.fb_decide.specs.Waiting.{IsForegroundOf, IsWaiting}
 use Rattle.fb_decide.proofs.Replayed.{in_order}
 use Rattle.fb_rows.specs.declared.fore.ForeRow.{ForeRow}
@@ -72,10 +73,11 @@ listed inputs lists accepted = record {
 
 -- ---- where a run begins
 
-pub begins : (inputs : Inputs) (course : Course) (pending : List Request) (count : ℕ) → AreKnown inputs → IsInitial inputs.latent course
-    → pending ≡ [] → count ≡ 0 → GoesOn inputs course pending count []
+begins : (inputs : Inputs) (course : Course) (waiting : List Request) (joined : ℕ) → AreKnown inputs → IsInitial inputs.latent course
+    → waiting ≡ [] → joined ≡ 0
+    → GoesOn inputs (record { requests = requests inputs; course = course; waiting = waiting; joined = joined }) []
 unfolding decisions served
-begins inputs course pending count known begin none zero_count = record {
+begins inputs course waiting joined known begin none zero_joined = record {
   run = record {
     done = [];
     replayed =
@@ -90,7 +92,7 @@ begins inputs course pending count known begin none zero_count = record {
   calls_taken = rw begin.none_called tt;
   waits = record {
     within = omega (arith, begin.none_joined);
-    counted = zero_count ∙ sym begin.none_joined;
+    counted = zero_joined ∙ sym begin.none_joined;
     arrived = rw none tt;
     on_disk = rw (none, begin.none_joined) known.list.on_disk;
   };
@@ -111,77 +113,93 @@ known_inputs inputs accepted lists sound takes_time = record {
   takes_time = takes_time;
 }
 
--- what stands before a decision is as the next one asks, and as it is asked of
-module _ (inputs : Inputs) (steps : List Step) (list : List Request) (course : Course) (pending : List Request) (count : ℕ)
-    (made : HasMade inputs true steps list course pending count)
-    (now_list : List Request) (same : now_list ≡ list) where
-  list_is : now_list ≡ requests inputs
-  list_is = same ∙ made.list_is
+pub made_first : (inputs : Inputs) (state : State) → AreKnown inputs → state.requests ≡ requests inputs
+    → IsInitial inputs.latent state.course → state.waiting ≡ [] → state.joined ≡ 0 → HasMade inputs true [] state
+made_first inputs state known list_is begin none zero_joined = record {
+  known = known;
+  list_is = list_is;
+  come_to = subst (λ list. GoesOn inputs (record state { requests = list }) []) (sym list_is)
+      (begins inputs state.course state.waiting state.joined known begin none zero_joined);
+}
 
-  pub now_may_decide : MayDecide inputs.disk now_list inputs.calls course count pending
-  now_may_decide = subst (λ list. MayDecide inputs.disk list inputs.calls course count pending) (sym list_is) (record {
-    list = made.known.list;
+-- the same of another list of requests that is the same
+pub made_with : {inputs : Inputs} {more : Bool} {steps : List Step} {state : State} (list : List Request) → list ≡ state.requests
+    → HasMade inputs more steps state → HasMade inputs more steps (record state { requests = list })
+made_with {inputs} {more} {steps} {state} list same =
+    subst (λ list. HasMade inputs more steps (record state { requests = list })) (sym same)
+
+pub made_one_with : {inputs : Inputs} {steps : List Step} {more : Bool} {before : State} {course : Course} {waiting : List Request}
+    {joined : ℕ} (list : List Request) → list ≡ before.requests
+    → HasMadeOne inputs steps more (record before { requests = list })
+    (record { requests = list; course = course; waiting = waiting; joined = joined })
+    → HasMadeOne inputs steps more before (record before { course = course; waiting = waiting; joined = joined })
+made_one_with {inputs} {steps} {more} {before} {course} {waiting} {joined} list same = subst (λ list. HasMadeOne inputs steps more
+    (record before { requests = list }) (record { requests = list; course = course; waiting = waiting; joined = joined })) same
+
+-- what stands before a decision is as the next one asks
+module _ (inputs : Inputs) (steps : List Step) (before : State) (made : HasMade inputs true steps before) where
+  pub now_may_decide : MayDecide inputs before
+  now_may_decide = record {
+    list = subst (IsForegroundOf inputs.disk) (sym made.list_is) made.known.list;
     script = record { instants = made.known.accepted.instants; allowed = made.known.accepted.calls; few = made.known.accepted.few_calls };
     waiting = made.come_to.waits;
     come = made.come_to.arrivals;
     head = made.come_to.stands;
-    now = omega (arith, made.come_to.soon, made.come_to.counted, made.known.list.few);
-  })
+    now = omega (arith, made.come_to.soon, made.come_to.counted, ap length made.list_is, made.known.list.few);
+  }
 
-  pub now_called : (past : Past) × IsCalled inputs.disk.map inputs.calls past course.called
-      × Tells inputs.disk.map past course.background.sessions course.background.blocks
+  pub now_called : (past : Past) × IsCalled inputs.disk.map inputs.calls past before.course.called
+      × Tells inputs.disk.map past before.course.background.sessions before.course.background.blocks
   now_called = (history inputs steps, made.come_to.called, made.come_to.run.tells)
 
-  module _ (goes_on : Bool) (after : Course) (pending_after : List Request) (count_after : ℕ)
-      (decided : (past : Past) → IsCalled inputs.disk.map inputs.calls past course.called
-      → Tells inputs.disk.map past course.background.sessions course.background.blocks
-      → HasDecided inputs.disk now_list inputs.calls inputs.key inputs.until past course pending goes_on after pending_after)
-      (waits : goes_on ≡ true → IsWaiting inputs.disk now_list after.now after.joined count_after pending_after) where
-    leads : LeadsOn inputs course pending steps goes_on after pending_after count_after
-    leads = decided_more inputs course pending count steps goes_on after pending_after count_after made.known made.come_to
-        (subst (λ list. HasDecided inputs.disk list inputs.calls inputs.key inputs.until
-        (history inputs steps) course pending goes_on after pending_after) list_is
-        (decided (history inputs steps) made.come_to.called made.come_to.run.tells))
-        (λ e. subst (λ list. IsWaiting inputs.disk list after.now after.joined count_after pending_after) list_is (waits e))
+  module _ (goes_on : Bool) (after : State) (same : after.requests ≡ before.requests)
+      (decided : (past : Past) → IsCalled inputs.disk.map inputs.calls past before.course.called
+      → Tells inputs.disk.map past before.course.background.sessions before.course.background.blocks
+      → HasDecided inputs past before goes_on after)
+      (waits : goes_on ≡ true → IsWaiting inputs.disk after) where
+    leads : LeadsOn inputs steps goes_on before after
+    leads = decided_more inputs steps goes_on before after made.known made.list_is made.come_to
+        (decided (history inputs steps) made.come_to.called made.come_to.run.tells) waits
 
-    pub made_one : HasMadeOne inputs steps goes_on list course pending after pending_after count_after
+    pub made_one : HasMadeOne inputs steps goes_on before after
     made_one = record {
       step = leads.step;
       is_made = leads.stepped.is_made;
       fore = leads.fore;
       back = leads.stepped.rows_after;
       back_fits = step_fits (length (allowed.tasks inputs.calls)) inputs (history inputs steps) leads.step leads.stepped.is_made
-          (fits-told inputs.disk.map inputs.calls (past_after inputs (history inputs steps) leads.step) after.called
-          after.background.sessions after.background.blocks leads.stepped.tells leads.stepped.called.taken);
-      made = record { known = made.known; list_is = made.list_is; come_to = leads.come_to };
+          (fits-told inputs.disk.map inputs.calls (past_after inputs (history inputs steps) leads.step) after.course.called
+          after.course.background.sessions after.course.background.blocks leads.stepped.tells leads.stepped.called.taken);
+      made = record { known = made.known; list_is = same ∙ made.list_is; come_to = leads.come_to };
       fewer = leads.fewer;
     }
 
 -- at the end the tasks' rows fit too
-pub ended_fits : (inputs : Inputs) (steps : List Step) (list : List Request) (course : Course) (pending : List Request) (count : ℕ)
-    → HasMade inputs false steps list course pending count
+pub ended_fits : (inputs : Inputs) (steps : List Step) (state : State) → HasMade inputs false steps state
     → AllByRecursion (HasTaskBelow (length (allowed.tasks inputs.calls))) (task_rows (history inputs steps))
-ended_fits inputs steps list course pending count made = tasks_fit (length (allowed.tasks inputs.calls)) (history inputs steps)
-    (fits-told inputs.disk.map inputs.calls
-    (history inputs steps) course.called course.background.sessions course.background.blocks made.come_to.run.tells made.come_to.calls_made)
+ended_fits inputs steps state made = tasks_fit (length (allowed.tasks inputs.calls)) (history inputs steps)
+    (fits-told inputs.disk.map inputs.calls (history inputs steps) state.course.called state.course.background.sessions
+    state.course.background.blocks made.come_to.run.tells made.come_to.calls_made)
 
 -- rows can be taken between two decisions
-come_without : (inputs : Inputs) (more : Bool) (steps : List Step) (course : Course) (pending : List Request) (count : ℕ)
-    (fore : List ForeRow) (rows : List BackRow)
-    → HasComeTo inputs more course pending count steps
-    → HasComeTo inputs more (record course { fore = fore; background = record course.background { rows = rows } }) pending count steps
-come_without inputs true steps course pending count fore rows h = record {
+abbrev pub without : State → List ForeRow → List BackRow → State
+without state fore rows =
+    record state { course = record state.course { fore = fore; background = record state.course.background { rows = rows } } }
+
+come_without : (inputs : Inputs) (more : Bool) (steps : List Step) (state : State) (fore : List ForeRow) (rows : List BackRow)
+    → HasComeTo inputs more state steps → HasComeTo inputs more (without state fore rows) steps
+come_without inputs true steps state fore rows h = record {
   run = record { done = h.run.done; replayed = h.run.replayed; tells = h.run.tells; finds = h.run.finds; ends_at = h.run.ends_at };
   decided = h.decided;
   called = h.called;
   arrivals = h.arrivals;
   calls_taken = h.calls_taken;
-  waits = h.waits;
+  waits = record { within = h.waits.within; counted = h.waits.counted; arrived = h.waits.arrived; on_disk = h.waits.on_disk };
   stands = h.stands;
   soon = h.soon;
   counted = h.counted;
 }
-come_without inputs false steps course pending count fore rows h = record {
+come_without inputs false steps state fore rows h = record {
   run = record { done = h.run.done; replayed = h.run.replayed; tells = h.run.tells; finds = h.run.finds; ends_at = h.run.ends_at };
   decided = h.decided;
   calls_made = h.calls_made;
@@ -189,9 +207,7 @@ come_without inputs false steps course pending count fore rows h = record {
   early = h.early;
 }
 
-pub made_without : (inputs : Inputs) (more : Bool) (steps : List Step) (list : List Request) (course : Course) (pending : List Request)
-    (count : ℕ) (fore : List ForeRow) (rows : List BackRow)
-    → HasMade inputs more steps list course pending count
-    → HasMade inputs more steps list (record course { fore = fore; background = record course.background { rows = rows } }) pending count
-made_without inputs more steps list course pending count fore rows h =
-    record { known = h.known; list_is = h.list_is; come_to = come_without inputs more steps course pending count fore rows h.come_to }
+pub made_without : (inputs : Inputs) (more : Bool) (steps : List Step) (state : State) (fore : List ForeRow) (rows : List BackRow)
+    → HasMade inputs more steps state → HasMade inputs more steps (without state fore rows)
+made_without inputs more steps state fore rows h =
+    record { known = h.known; list_is = h.list_is; come_to = come_without inputs more steps state fore rows h.come_to }

@@ -17,12 +17,14 @@ use Rattle.fb_rows.specs.declared.fore.ForeRow.{ForeRow}
 use Rattle.fb_rows.specs.declared.gap.Dwell.{Dwell}
 use Rattle.fb_rows.specs.declared.gap.How.TheVariants.{Idle as ByIdle}
 use Rattle.fb_rows.specs.declared.back.BackRow.TheVariants.{Idle as BackIdle}
-use Rattle.fb_model.specs.PlainReplay.{Key, first_track, service, last_track, finish, first_least}
+use Rattle.fb_model.specs.PlainReplay.{first_track, service, last_track, finish, first_least}
+use Rattle.fb_model.specs.Inputs.{Inputs}
 use Rattle.fb_model.specs.History.{Past, wanted}
 use Rattle.fb_model.specs.Deliveries.{caught_rows}
 use Rattle.fb_decide.specs.declared.background.Background.{Background}
 use Rattle.fb_decide.specs.declared.deciding.Course.{Course}
 use Rattle.fb_decide.specs.Contents.{left_by, IsRowOf}
+use Rattle.fb_decide.specs.State.{State}
 use Rattle.fb_decide.specs.Waiting.{left, IsWaiting, IsForegroundOf}
 use Rattle.fb_decide.specs.Deliveries.{TellsUpToDate, HasDelivered, HasServed, held_now}
 use Rattle.fb_decide.specs.Calls.{HasPrepared, IsScriptOf}
@@ -82,51 +84,52 @@ pub record HasStayed (disk : Disk) (instant : ℕ) (before after : Course) : Typ
   pub same_joined : after.joined ≡ before.joined
   pub same_called : after.called ≡ before.called
 
+-- the next instant at which a request arrives or a call takes effect
+abbrev pub next_instant : Inputs → State → Option ℕ
+next_instant inputs state = next_of (slice_get state.requests state.course.joined) (slice_get inputs.calls state.course.called)
+
 -- what a decision does: the pick of the waiting requests is served, or the head stays until the next instant or the end;
 -- another decision follows each but the last
-pub data HasActed (disk : Disk) (key : Key) (until : ℕ) (next : Option ℕ) (waiting : List Request) (before : Course) : Bool → List Request
-    → Course → Type 0 where
-  serves_pick : (request : Request) (others : List Request) (after : Course)
-      → first_least (key disk before.head before.now) waiting ≡ Some (request, others) → HasServedNext disk request before after
-      → HasActed disk key until next waiting before true others after
-  stays_on : (instant : ℕ) (after : Course) → waiting ≡ [] → next ≡ Some instant → HasStayed disk instant before after
-      → HasActed disk key until next waiting before true waiting after
-  stays_last : (after : Course) → waiting ≡ [] → next ≡ None → before.now < until → HasStayed disk until before after
-      → HasActed disk key until next waiting before false waiting after
-  ends_here : waiting ≡ [] → next ≡ None → until ≤ before.now
-      → HasActed disk key until next waiting before false waiting before
-
--- the same with the background after calls, choices and tests up to now, and with the requests that have joined
-abbrev pub ready_to_act : Course → Background → ℕ → ℕ → Course
-ready_to_act course background joined called = record course { background = background; joined = joined; called = called }
+pub data HasActed (inputs : Inputs) (before : State) : Bool → State → Type 0 where
+  serves_pick : (request : Request) (course : Course) (others : List Request) (joined : ℕ)
+      → first_least (inputs.key inputs.disk before.course.head before.course.now) before.waiting ≡ Some (request, others)
+      → HasServedNext inputs.disk request before.course course
+      → HasActed inputs before true (record before { course = course; waiting = others; joined = joined })
+  stays_on : (instant : ℕ) (course : Course) → before.waiting ≡ [] → next_instant inputs before ≡ Some instant
+      → HasStayed inputs.disk instant before.course course → HasActed inputs before true (record before { course = course })
+  stays_last : (course : Course) → before.waiting ≡ [] → next_instant inputs before ≡ None → before.course.now < inputs.until
+      → HasStayed inputs.disk inputs.until before.course course → HasActed inputs before false (record before { course = course })
+  ends_here : before.waiting ≡ [] → next_instant inputs before ≡ None → inputs.until ≤ before.course.now
+      → HasActed inputs before false before
 
 -- what must stand before a decision: requests and calls that a replay can have, of which those that wait have arrived, and a head that
 -- is on a track of the disk, so early that one more service ends at an instant
-pub record MayDecide (disk : Disk) (requests : List Request) (calls : List Call) (course : Course) (count : ℕ)
-    (pending : List Request) : Type 0 where
-  pub list : IsForegroundOf disk requests
-  pub script : IsScriptOf disk.map calls
-  pub waiting : IsWaiting disk requests course.now course.joined count pending
-  pub come : AllByRecursion (λ r. r.arrival ≤ course.now) (take course.joined requests)
-  pub head : IsTrackOf disk.map course.head
-  pub now : course.now ≤ 9 * 10 ^ 18 - 10 ^ 15
+pub record MayDecide (inputs : Inputs) (state : State) : Type 0 where
+  pub list : IsForegroundOf inputs.disk state.requests
+  pub script : IsScriptOf inputs.disk.map inputs.calls
+  pub waiting : IsWaiting inputs.disk state
+  pub come : AllByRecursion (λ r. r.arrival ≤ state.course.now) (take state.course.joined state.requests)
+  pub head : IsTrackOf inputs.disk.map state.course.head
+  pub now : state.course.now ≤ 9 * 10 ^ 18 - 10 ^ 15
+
+-- the same course with the background after calls, choices and tests up to now, and with the requests that have joined
+abbrev pub ready_to_act : Course → Background → ℕ → ℕ → Course
+ready_to_act course background joined called = record course { background = background; joined = joined; called = called }
 
 -- all that is due at an instant has happened: calls have taken effect, with choices and tests, and the requests that have arrived wait
-pub record IsReadyToAct (disk : Disk) (requests : List Request) (calls : List Call) (past : Past) (before : Course) (pending : List Request)
-    (background : Background) (joined called : ℕ) (waiting : List Request) : Type 0 where
-  pub test : HasPrepared disk.map calls past before.now called before.background.rows background
-  pub same_left : left requests joined waiting ≡ left requests before.joined pending
-  pub come : AllByRecursion (λ r. r.arrival ≤ before.now) (take joined requests)
-  pub arrived : AllByRecursion (λ r. r.arrival ≤ before.now) waiting
-  pub ahead : IfSome (slice_get requests joined) (λ r. before.now < r.arrival)
+pub record IsReadyToAct (inputs : Inputs) (past : Past) (before ready : State) : Type 0 where
+  -- nothing but the background and these counts has changed of the course
+  pub same : ready.course ≡ ready_to_act before.course ready.course.background ready.course.joined ready.course.called
+  pub same_requests : ready.requests ≡ before.requests
+  pub test : HasPrepared inputs.disk.map inputs.calls past before.course.now ready.course.called before.course.background.rows
+      ready.course.background
+  pub same_left : left before.requests ready.course.joined ready.waiting ≡ left before.requests before.course.joined before.waiting
+  pub come : AllByRecursion (λ r. r.arrival ≤ before.course.now) (take ready.course.joined before.requests)
+  pub arrived : AllByRecursion (λ r. r.arrival ≤ before.course.now) ready.waiting
+  pub ahead : IfSome (slice_get before.requests ready.course.joined) (λ r. before.course.now < r.arrival)
 
 -- one decision
-pub record HasDecided (disk : Disk) (requests : List Request) (calls : List Call) (key : Key) (until : ℕ) (past : Past)
-    (before : Course) (pending : List Request) (goes_on : Bool) (after : Course) (pending_after : List Request) : Type 0 where
-  pub background : Background
-  pub joined : ℕ
-  pub called : ℕ
-  pub waiting : List Request
-  pub is_ready : IsReadyToAct disk requests calls past before pending background joined called waiting
-  pub acted : HasActed disk key until (next_of (slice_get requests joined) (slice_get calls called)) waiting
-      (ready_to_act before background joined called) goes_on pending_after after
+pub record HasDecided (inputs : Inputs) (past : Past) (before : State) (goes_on : Bool) (after : State) : Type 0 where
+  pub ready : State
+  pub is_ready : IsReadyToAct inputs past before ready
+  pub acted : HasActed inputs ready goes_on after

@@ -1,6 +1,7 @@
 pub mod RunInputs
 pub mod Start
 pub mod Contents
+pub mod State
 pub mod Waiting
 pub mod Carried
 pub mod Deliveries

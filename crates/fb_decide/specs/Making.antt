@@ -24,6 +24,7 @@ use Rattle.fb_model.specs.SoundRun.{IsPlanned, IsTested}
 use Rattle.fb_model.specs.FullRun.{IsBestPlanned, IsAllDelivered}
 use Rattle.fb_tasks.specs.Telling.{Tells, calls_of}
 use Rattle.fb_decide.specs.declared.deciding.Course.{Course}
+use Rattle.fb_decide.specs.State.{State}
 use Rattle.fb_decide.specs.Waiting.{left, IsWaiting, IsForegroundOf}
 use Rattle.fb_decide.specs.Calls.{IsCalled}
 use Rattle.fb_decide.specs.Standing.{IsTrue}
@@ -73,33 +74,33 @@ abbrev pub rest_by : Inputs → Course → List Request → List Served
 rest_by inputs course waiting = plain (length waiting) inputs.disk inputs.key course.head course.now waiting
 
 -- the services that are left: of the requests that wait, and of those that haven't joined yet
-abbrev pub rest_of : Inputs → Course → List Request → List Served
-rest_of inputs course pending = rest_by inputs course (left (requests inputs) course.joined pending)
+abbrev pub rest_of : Inputs → State → List Served
+rest_of inputs state = rest_by inputs state.course (left state.requests state.course.joined state.waiting)
 
 -- the decisions that are left, if these are the services that are left
 abbrev pub decisions_by : Inputs → Course → List Served → List Decision
 decisions_by inputs course rest = decisions_from inputs.disk (instants_of inputs) inputs.until course.head course.now rest
 
 -- another decision follows
-pub record GoesOn (inputs : Inputs) (course : Course) (pending : List Request) (count : ℕ) (steps : List Step) : Type 0 where
+pub record GoesOn (inputs : Inputs) (state : State) (steps : List Step) : Type 0 where
   -- these steps have brought the disk and the background to where they are
-  pub run : HasRun inputs (rest_of inputs course pending) course steps
+  pub run : HasRun inputs (rest_of inputs state) state.course steps
   -- their decisions and those that are left are the run's
-  pub decided : decisions_in steps ++ decisions_by inputs course (rest_of inputs course pending) ≡ decisions inputs
+  pub decided : decisions_in steps ++ decisions_by inputs state.course (rest_of inputs state) ≡ decisions inputs
   -- the first calls of the script have taken effect, and what all of them can register fits
-  pub called : IsCalled inputs.disk.map inputs.calls (history inputs steps) course.called
+  pub called : IsCalled inputs.disk.map inputs.calls (history inputs steps) state.course.called
   -- no request has joined before it arrived, and no call has taken effect before its instant
-  pub arrivals : AllByRecursion (λ r. r.arrival ≤ course.now) (take course.joined (requests inputs))
-  pub calls_taken : AllByRecursion (λ c. c.instant ≤ course.now) (take course.called inputs.calls)
+  pub arrivals : AllByRecursion (λ r. r.arrival ≤ state.course.now) (take state.course.joined state.requests)
+  pub calls_taken : AllByRecursion (λ c. c.instant ≤ state.course.now) (take state.course.called inputs.calls)
   -- the requests that wait have arrived, and they and the later ones lie on the disk
-  pub waits : IsWaiting inputs.disk (requests inputs) course.now course.joined count pending
+  pub waits : IsWaiting inputs.disk state
   -- the head is on a track of the disk
-  pub stands : IsTrackOf inputs.disk.map course.head
+  pub stands : IsTrackOf inputs.disk.map state.course.head
   -- arrivals and calls come by 10^15 ns, and no service takes longer than 2048 * (4 * 10^9) ns: of at most 2,048 sectors each is passed
   -- within 4 s, in which the way to its track, the settle, the wait and the passage take at most 1 s each
-  pub soon : course.now ≤ 10 ^ 15 + length run.done * (2048 * (4 * 10 ^ 9))
+  pub soon : state.course.now ≤ 10 ^ 15 + length run.done * (2048 * (4 * 10 ^ 9))
   -- each request is served or left
-  pub counted : length (left (requests inputs) course.joined pending) + length run.done ≡ length (requests inputs)
+  pub counted : length (left state.requests state.course.joined state.waiting) + length run.done ≡ length state.requests
 
 -- the last decision was made
 pub record HasEnded (inputs : Inputs) (course : Course) (steps : List Step) : Type 0 where
@@ -111,9 +112,9 @@ pub record HasEnded (inputs : Inputs) (course : Course) (steps : List Step) : Ty
   pub early : course.now ≤ 9 * 10 ^ 18
 
 -- another decision follows, or the last one was made
-abbrev pub HasComeTo : Inputs → Bool → Course → List Request → ℕ → List Step → Type 0
-HasComeTo inputs true course pending count steps = GoesOn inputs course pending count steps
-HasComeTo inputs false course pending count steps = HasEnded inputs course steps
+abbrev pub HasComeTo : Inputs → Bool → State → List Step → Type 0
+HasComeTo inputs true state steps = GoesOn inputs state steps
+HasComeTo inputs false state steps = HasEnded inputs state.course steps
 
 -- the inputs are accepted, with what follows for their requests and disk
 pub record AreKnown (inputs : Inputs) : Type 0 where
@@ -124,24 +125,22 @@ pub record AreKnown (inputs : Inputs) : Type 0 where
   pub takes_time : PassagesTakeTime inputs.disk.map
 
 -- these steps have been made, and perhaps more follow
-pub record HasMade (inputs : Inputs) (more : Bool) (steps : List Step) (list : List Request) (course : Course) (pending : List Request)
-    (count : ℕ) : Type 0 where
+pub record HasMade (inputs : Inputs) (more : Bool) (steps : List Step) (state : State) : Type 0 where
   pub known : AreKnown inputs
-  pub list_is : list ≡ requests inputs
-  pub come_to : HasComeTo inputs more course pending count steps
+  pub list_is : state.requests ≡ requests inputs
+  pub come_to : HasComeTo inputs more state steps
 
 -- how many decisions are left
-abbrev pub decisions_left : Inputs → Bool → Course → List Request → ℕ
-decisions_left inputs true course pending = length (decisions_by inputs course (rest_of inputs course pending))
-decisions_left inputs false course pending = 0
+abbrev pub decisions_left : Inputs → Bool → State → ℕ
+decisions_left inputs true state = length (decisions_by inputs state.course (rest_of inputs state))
+decisions_left inputs false state = 0
 
 -- one more decision: its rows stand behind those before it
-pub record HasMadeOne (inputs : Inputs) (steps : List Step) (more : Bool) (list : List Request) (before : Course) (pending : List Request)
-    (after : Course) (pending_after : List Request) (count_after : ℕ) : Type 0 where
+pub record HasMadeOne (inputs : Inputs) (steps : List Step) (more : Bool) (before after : State) : Type 0 where
   pub step : Step
   pub is_made : IsMade inputs (history inputs steps) step
-  pub fore : after.fore ≡ before.fore ++ fore_row_of (medium_of inputs) (decision_in step)
-  pub back : after.background.rows ≡ before.background.rows ++ step_rows inputs.disk step
+  pub fore : after.course.fore ≡ before.course.fore ++ fore_row_of (medium_of inputs) (decision_in step)
+  pub back : after.course.background.rows ≡ before.course.background.rows ++ step_rows inputs.disk step
   pub back_fits : AllByRecursion (HasTaskBelow (length (allowed.tasks inputs.calls))) (step_rows inputs.disk step)
-  pub made : HasMade inputs more (steps ++ step ∷ []) list after pending_after count_after
-  pub fewer : decisions_left inputs more after pending_after < decisions_left inputs true before pending
+  pub made : HasMade inputs more (steps ++ step ∷ []) after
+  pub fewer : decisions_left inputs more after < decisions_left inputs true before

@@ -4,17 +4,18 @@ use Rattle.std.specs.List.{AllByRecursion}
 use Rattle.fb_units.specs.declared.types.Request.{Request}
 use Rattle.fb_service.specs.declared.disk.Disk.{Disk}
 use Rattle.fb_model.specs.Accepted.{IsRequestOf}
+use Rattle.fb_decide.specs.State.{State}
 
 -- the requests that have not been served: those that wait, and those that haven't joined yet
 abbrev pub left : List Request → ℕ → List Request → List Request
-left requests next pending = pending ++ drop next requests
+left requests joined waiting = waiting ++ drop joined requests
 
 -- the requests that wait have arrived, and lie on the disk
-pub record IsWaiting (disk : Disk) (requests : List Request) (now next joined : ℕ) (pending : List Request) : Type 0 where
-  pub within : next ≤ length requests
-  pub counted : joined ≡ next
-  pub arrived : AllByRecursion (λ r. r.arrival ≤ now) pending
-  pub on_disk : AllByRecursion (IsRequestOf disk.map) (left requests next pending)
+pub record IsWaiting (disk : Disk) (state : State) : Type 0 where
+  pub within : state.course.joined ≤ length state.requests
+  pub counted : state.joined ≡ state.course.joined
+  pub arrived : AllByRecursion (λ r. r.arrival ≤ state.course.now) state.waiting
+  pub on_disk : AllByRecursion (IsRequestOf disk.map) (left state.requests state.course.joined state.waiting)
 
 -- requests in order of arrival
 abbrev pub AreByArrival : List Request → Type 0

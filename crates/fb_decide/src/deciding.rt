@@ -12,6 +12,7 @@ ghost use Rattle.fb_model.specs.Steps.{Step, history, task_rows};
 ghost use Rattle.fb_model.specs.PlainReplay.{first_least};
 ghost use Rattle.fb_tasks.specs.Telling.{Tells};
 ghost use Rattle.fb_decide.specs.RunInputs.{inputs_of};
+ghost use Rattle.fb_decide.specs.State.{state_by, state_of};
 ghost use Rattle.fb_decide.specs.Waiting.{IsWaiting};
 ghost use Rattle.fb_decide.specs.Calls.{IsCalled};
 ghost use Rattle.fb_decide.specs.Deliveries.{TellsUpToDate};
@@ -82,8 +83,7 @@ impl<'a, Q: Queue> Decider<'a, Q> {
         requires empty { Q.pending queue ≡ [] }
         requires fresh { Q.joined queue ≡ 0 }
         requires accepted { IsAccepted (inputs_of inputs Q.key) }
-        ensures made { IfOk result (λ decider. HasMade (inputs_of inputs.entry Q.key) true [] decider.requests decider.course
-            (Q.pending decider.queue) (Q.joined decider.queue)) }
+        ensures made { IfOk result (λ decider. HasMade (inputs_of inputs.entry Q.key) true [] (state_of Q.pending Q.joined decider)) }
         ensures no_fore { IfOk result (λ decider. decider.course.fore ≡ []) }
         ensures no_back { IfOk result (λ decider. decider.course.background.rows ≡ []) }
         ensures serves { IfOk result (λ decider. Q.serves decider.queue inputs.entry.disk.now) }
@@ -110,13 +110,12 @@ impl<'a, Q: Queue> Decider<'a, Q> {
         inputs: RunInputs<'_>,
         planner: &P,
     ) -> Result<bool, NoMemory>
-        requires made { (steps : List Step) × HasMade (inputs_of inputs Q.key) true steps self.old.requests self.old.course
-            (Q.pending self.old.queue) (Q.joined self.old.queue) }
+        requires made { (steps : List Step) × HasMade (inputs_of inputs Q.key) true steps (state_of Q.pending Q.joined self.old) }
         requires serves { Q.serves self.old.queue inputs.disk.now }
-        ensures decided { IfOk result (λ goes_on. (steps : List Step) → HasMade
-            (inputs_of inputs.entry Q.key) true steps self.old.requests self.old.course (Q.pending self.old.queue) (Q.joined self.old.queue)
-            → HasMadeOne (inputs_of inputs.entry Q.key) steps goes_on self.old.requests self.old.course
-            (Q.pending self.old.queue) self.new.course (Q.pending self.new.queue) (Q.joined self.new.queue)) }
+        ensures decided { IfOk result (λ goes_on. (steps : List Step)
+            → HasMade (inputs_of inputs.entry Q.key) true steps (state_of Q.pending Q.joined self.old)
+            → HasMadeOne (inputs_of inputs.entry Q.key) steps goes_on (state_of Q.pending Q.joined self.old)
+            (state_of Q.pending Q.joined self.new)) }
         ensures requests { OnOk result (self.new.requests ≡ self.old.requests) }
         ensures serves { OnOk result (Q.serves self.new.queue inputs.entry.disk.now) }
     {
@@ -134,18 +133,17 @@ impl<'a, Q: Queue> Decider<'a, Q> {
     ///
     /// It is called once, when no decision follows. The only error is out of memory.
     pub fn add_task_rows(&mut self) -> Result<(), NoMemory>
-        requires { (inputs : Inputs) × (steps : List Step)
-            × HasMade inputs false steps self.old.requests self.old.course (Q.pending self.old.queue) (Q.joined self.old.queue) }
+        requires { (inputs : Inputs) × (steps : List Step) × HasMade inputs false steps (state_of Q.pending Q.joined self.old) }
         ensures rows { OnOk result ((inputs : Inputs) (steps : List Step)
-            → HasMade inputs false steps self.old.requests self.old.course (Q.pending self.old.queue) (Q.joined self.old.queue)
+            → HasMade inputs false steps (state_of Q.pending Q.joined self.old)
             → self.new.course.background.rows ≡ self.old.course.background.rows ++ task_rows (history inputs steps)) }
         ensures fits { (inputs : Inputs) (steps : List Step)
-            → HasMade inputs false steps self.old.requests self.old.course (Q.pending self.old.queue) (Q.joined self.old.queue)
+            → HasMade inputs false steps (state_of Q.pending Q.joined self.old)
             → AllByRecursion (HasTaskBelow (length (tasks inputs.calls))) (task_rows (history inputs steps)) }
         ensures fore { OnOk result (self.new.course.fore ≡ self.old.course.fore) }
         ensures made { (inputs : Inputs) (steps : List Step)
-            → HasMade inputs false steps self.old.requests self.old.course (Q.pending self.old.queue) (Q.joined self.old.queue)
-            → HasMade inputs false steps self.new.requests self.new.course (Q.pending self.new.queue) (Q.joined self.new.queue) }
+            → HasMade inputs false steps (state_of Q.pending Q.joined self.old)
+            → HasMade inputs false steps (state_of Q.pending Q.joined self.new) }
     {
         self.course.background.sessions.task_rows(
             &self.course.background.blocks,
@@ -157,10 +155,10 @@ impl<'a, Q: Queue> Decider<'a, Q> {
     pub fn instant(&self) -> Ns
         ensures now { result ≡ self.now.course.now }
         ensures end { (inputs : Inputs) (steps : List Step)
-            → HasMade inputs false steps self.now.requests self.now.course (Q.pending self.now.queue) (Q.joined self.now.queue)
+            → HasMade inputs false steps (state_of Q.pending Q.joined self.now)
             → result ≡ run_end (decisions inputs) }
         ensures early { (inputs : Inputs) (steps : List Step)
-            → HasMade inputs false steps self.now.requests self.now.course (Q.pending self.now.queue) (Q.joined self.now.queue)
+            → HasMade inputs false steps (state_of Q.pending Q.joined self.now)
             → result ≤ 9 * 10 ^ 18 }
     {
         self.course.now
@@ -174,8 +172,8 @@ impl<'a, Q: Queue> Decider<'a, Q> {
         ensures no_back { self.new.course.background.rows ≡ [] }
         ensures queue { self.new.queue ≡ self.old.queue }
         ensures made { (inputs : Inputs) (more : Bool) (steps : List Step)
-            → HasMade inputs more steps self.old.requests self.old.course (Q.pending self.old.queue) (Q.joined self.old.queue)
-            → HasMade inputs more steps self.new.requests self.new.course (Q.pending self.new.queue) (Q.joined self.new.queue) }
+            → HasMade inputs more steps (state_of Q.pending Q.joined self.old)
+            → HasMade inputs more steps (state_of Q.pending Q.joined self.new) }
     {
         Rows {
             fore: mem::replace(&mut self.course.fore, ForeRows::new(alloc)),
@@ -218,18 +216,17 @@ fn advance<Q: Queue, P: Planner>(
     queue: &mut Q,
     course: &mut Course,
 ) -> Result<bool, NoMemory>
-    requires may_decide { MayDecide inputs.disk.now requests.now inputs.calls.now.calls.items course.old (Q.joined queue.old)
-        (Q.pending queue.old) }
+    requires may_decide { MayDecide (inputs_of inputs Q.key) (state_by Q.pending Q.joined requests.now course.old queue.old) }
     requires serves { Q.serves queue.old inputs.disk.now }
     requires called { (past : Past) × IsCalled inputs.disk.now.map inputs.calls.now.calls.items past course.old.called
         × Tells inputs.disk.now.map past course.old.background.sessions course.old.background.blocks }
     ensures decided { IfOk result
         (λ goes_on. (past : Past) → IsCalled inputs.entry.disk.now.map inputs.entry.calls.now.calls.items past course.old.called
         → Tells inputs.entry.disk.now.map past course.old.background.sessions course.old.background.blocks
-        → HasDecided inputs.entry.disk.now requests.now inputs.entry.calls.now.calls.items Q.key inputs.entry.until past course.old
-        (Q.pending queue.old) goes_on course.new (Q.pending queue.new)) }
+        → HasDecided (inputs_of inputs.entry Q.key) past (state_by Q.pending Q.joined requests.now course.old queue.old) goes_on
+        (state_by Q.pending Q.joined requests.now course.new queue.new)) }
     ensures waiting { IfOk result (λ goes_on. goes_on ≡ true
-        → IsWaiting inputs.entry.disk.now requests.now course.new.now course.new.joined (Q.joined queue.new) (Q.pending queue.new)) }
+        → IsWaiting inputs.entry.disk.now (state_by Q.pending Q.joined requests.now course.new queue.new)) }
     ensures serves { OnOk result (Q.serves queue.new inputs.entry.disk.now) }
 {
     let now = course.now;
@@ -250,16 +247,16 @@ fn act<Q: Queue, P: Planner>(
     queue: &mut Q,
     course: &mut Course,
 ) -> Result<bool, NoMemory>
-    requires waiting { IsWaiting inputs.disk.now requests.now course.old.now course.old.joined (Q.joined queue.old) (Q.pending queue.old) }
+    requires waiting { IsWaiting inputs.disk.now (state_by Q.pending Q.joined requests.now course.old queue.old) }
     requires serves { Q.serves queue.old inputs.disk.now }
     requires head { IsTrackOf inputs.disk.now.map course.old.head }
     requires now { course.old.now ≤ 9 * 10 ^ 18 - 10 ^ 15 }
     requires current { (past : Past) × TellsUpToDate inputs.disk.now.map past course.old.background }
-    ensures acted { IfOk result (λ goes_on. HasActed inputs.entry.disk.now Q.key inputs.entry.until
-        (next_of (slice_get requests.now course.old.joined) (slice_get inputs.entry.calls.now.calls.items course.old.called))
-        (Q.pending queue.old) course.old goes_on (Q.pending queue.new) course.new) }
+    ensures acted { IfOk result (λ goes_on. HasActed (inputs_of inputs.entry Q.key)
+        (state_by Q.pending Q.joined requests.now course.old queue.old) goes_on
+        (state_by Q.pending Q.joined requests.now course.new queue.new)) }
     ensures waiting { IfOk result (λ goes_on. goes_on ≡ true
-        → IsWaiting inputs.entry.disk.now requests.now course.new.now course.new.joined (Q.joined queue.new) (Q.pending queue.new)) }
+        → IsWaiting inputs.entry.disk.now (state_by Q.pending Q.joined requests.now course.new queue.new)) }
     ensures serves { OnOk result (Q.serves queue.new inputs.entry.disk.now) }
 {
     if !queue.is_empty() {

@@ -6,6 +6,7 @@ ghost use Rattle.fb_calls.specs.Allowed.{tasks};
 ghost use Rattle.fb_model.specs.Accepted.{IsAccepted};
 ghost use Rattle.fb_model.specs.FullRun.{IsFull};
 ghost use Rattle.fb_decide.specs.RunInputs.{inputs_of};
+ghost use Rattle.fb_decide.specs.State.{state_of};
 ghost use Rattle.fb_engine.specs.Progress.{HasAdvanced, IsWhole};
 
 use fb_decide::{Decider, RunInputs, decisions_make_a_run};
@@ -44,8 +45,7 @@ fn run_of<Q: Queue, P: Planner>(
     planner: &P,
     decider: &mut Decider<'_, Q>,
 ) -> Result<Run, NoMemory>
-    requires advanced { HasAdvanced (inputs_of inputs Q.key) true decider.old.requests decider.old.course (Q.pending decider.old.queue)
-        (Q.joined decider.old.queue) }
+    requires advanced { HasAdvanced (inputs_of inputs Q.key) true (state_of Q.pending Q.joined decider.old) }
     requires serves { Q.serves decider.old.queue inputs.disk.now }
     ensures { IfOk result (IsWhole (inputs_of inputs.entry Q.key)) }
 {
@@ -69,11 +69,9 @@ fn decide_all<Q: Queue, P: Planner>(
     planner: &P,
     decider: &mut Decider<'_, Q>,
 ) -> Result<(), NoMemory>
-    requires advanced { HasAdvanced (inputs_of inputs Q.key) true decider.old.requests decider.old.course (Q.pending decider.old.queue)
-        (Q.joined decider.old.queue) }
+    requires advanced { HasAdvanced (inputs_of inputs Q.key) true (state_of Q.pending Q.joined decider.old) }
     requires serves { Q.serves decider.old.queue inputs.disk.now }
-    ensures advanced { OnOk result (HasAdvanced (inputs_of inputs.entry Q.key) false decider.new.requests decider.new.course
-        (Q.pending decider.new.queue) (Q.joined decider.new.queue)) }
+    ensures advanced { OnOk result (HasAdvanced (inputs_of inputs.entry Q.key) false (state_of Q.pending Q.joined decider.new)) }
 {
     decisions_make_a_run();
     let mut goes_on = true;

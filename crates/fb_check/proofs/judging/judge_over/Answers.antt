@@ -2,7 +2,7 @@ use Rattle.std.proofs.Common.{true, true≢false, inl, inr, refl, sym, subst}
 use Rattle.fb_report.specs.Grammar.{fore_grammar, back_grammar}
 use Rattle.fb_decide.specs.RunInputs.{inputs_of}
 use Rattle.fb_check.specs.Printed.{reports_of}
-use Rattle.fb_check.proofs.Judged.{at_first, going, kept, less, back_named, wrong_now, next, none_by}
+use Rattle.fb_check.proofs.Judged.{at_first, going, less, back_named, wrong_now, next, none_by}
 use Rattle.fb_check.proofs.judging.judge_over.Goals as goal
 
 pub begin_fore-requires : goal.begin_fore-requires
@@ -13,7 +13,7 @@ begin_back-requires g c = record { ends = c.reports_end_once.ensures back_gramma
 
 pub loop-goes_on-init : goal.loop-goes_on-init
 loop-goes_on-init g c = record {
-  judged = at_first (inputs_of c.args.inputs g.Q.Queue.key) (reports_of c.args.inputs c.args.printed) _ _ _ _ c.in_ok-fore.fore
+  judged = at_first (inputs_of c.args.inputs g.Q.Queue.key) (reports_of c.args.inputs c.args.printed) _ c.in_ok-fore.fore
       c.in_ok-back.back c.requires.made c.requires.no_fore c.requires.no_back
       (c.in_ok-fore.ensures.compared _ _) (c.in_ok-back.ensures.compared _ _ _) c.in_ok-fore.ensures.ready c.in_ok-back.ensures.ready;
   right = λ e. absurd (true≢false e);
@@ -23,45 +23,43 @@ loop-goes_on-init g c = record {
 pub decide-requires-clause-made : goal.decide-requires-clause-made
 decide-requires-clause-made g c =
     let judged = going (inputs_of c.args.inputs g.Q.Queue.key) (reports_of c.args.inputs
-    c.args.printed) true _ _ _ _ _ _ _ c.loop-goes_on-test.true c.loop-goes_on.invariant.judged in
+    c.args.printed) true _ _ _ _ c.loop-goes_on-test.true c.loop-goes_on.invariant.judged in
     (judged.steps, judged.made)
 
 pub returns-in-Some : goal.returns-in-Some
 returns-in-Some g c =
     let judged = going (inputs_of c.args.inputs g.Q.Queue.key) (reports_of c.args.inputs
-    c.args.printed) true _ _ _ _ _ _ _ c.loop-goes_on-test.true c.loop-goes_on.invariant.judged in
+    c.args.printed) true _ _ _ _ c.loop-goes_on-test.true c.loop-goes_on.invariant.judged in
     let one = c.in_ok-goes_on.ensures.decided judged.steps judged.made in
-    wrong_now _ _ _ _ _ _ _ _ _ _ _ _ judged one c.decisions_make_a_run.ensures c.take_rows-rows.result.fore
+    wrong_now _ _ _ _ _ _ _ judged one c.decisions_make_a_run.ensures c.take_rows-rows.result.fore
     c.compare_rows-compared.new.fore c.in-Some.mismatch c.take_rows-rows.ensures.fore
     (c.in_ok-compared.ensures.fore_compared _ judged.fore_rows judged.fore_compared) c.in-Some.is
 
 pub compare_rows-compared-requires-clause-named : goal.compare_rows-compared-requires-clause-named
 compare_rows-compared-requires-clause-named g c =
     let judged = going (inputs_of c.args.inputs g.Q.Queue.key) (reports_of c.args.inputs
-    c.args.printed) true _ _ _ _ _ _ _ c.loop-goes_on-test.true c.loop-goes_on.invariant.judged in
+    c.args.printed) true _ _ _ _ c.loop-goes_on-test.true c.loop-goes_on.invariant.judged in
     let one = c.in_ok-goes_on.ensures.decided judged.steps judged.made in
-    back_named _ _ _ _ _ _ _ _ _ _ _ _ judged one c.args.inputs.calls.now.names c.take_rows-rows.result.back c.requires.names
+    back_named _ _ _ _ _ _ _ judged one c.args.inputs.calls.now.names c.take_rows-rows.result.back c.requires.names
     c.take_rows-rows.ensures.back
 
 pub loop-goes_on-smaller : goal.loop-goes_on-smaller
 loop-goes_on-smaller g c =
     let judged = going (inputs_of c.args.inputs g.Q.Queue.key) (reports_of c.args.inputs
-    c.args.printed) true _ _ _ _ _ _ _ c.loop-goes_on-test.true c.loop-goes_on.invariant.judged in
+    c.args.printed) true _ _ _ _ c.loop-goes_on-test.true c.loop-goes_on.invariant.judged in
     let one = c.in_ok-goes_on.ensures.decided judged.steps judged.made in
-    let made = c.take_rows-rows.ensures.made (inputs_of c.args.inputs g.Q.Queue.key) _ _ (kept _ _ _ _ _ _ _ _
-    c.in_ok-goes_on.ensures.requests one.made) in
-    less _ _ _ _ _ _ _ _ _ _ _ _ judged one _ c.loop-goes_on-test.true _ _ _ _ made
+    let made = c.take_rows-rows.ensures.made (inputs_of c.args.inputs g.Q.Queue.key) _ _ one.made in
+    less _ _ _ _ _ _ _ judged one _ c.loop-goes_on-test.true _ made
 
 pub loop-goes_on-preserved : goal.loop-goes_on-preserved
 loop-goes_on-preserved g c =
     let judged = going (inputs_of c.args.inputs g.Q.Queue.key) (reports_of c.args.inputs
-    c.args.printed) true _ _ _ _ _ _ _ c.loop-goes_on-test.true c.loop-goes_on.invariant.judged in
+    c.args.printed) true _ _ _ _ c.loop-goes_on-test.true c.loop-goes_on.invariant.judged in
     let one = c.in_ok-goes_on.ensures.decided judged.steps judged.made in
-    let made = c.take_rows-rows.ensures.made (inputs_of c.args.inputs g.Q.Queue.key) _ _ (kept _ _ _ _ _ _ _ _
-    c.in_ok-goes_on.ensures.requests one.made) in
+    let made = c.take_rows-rows.ensures.made (inputs_of c.args.inputs g.Q.Queue.key) _ _ one.made in
     let right = none_by c.compare_rows-compared.new.fore.wrong c.in_default.not-Some in
     record {
-      judged = next _ _ _ _ _ _ _ _ _ _ _ _ judged one c.decisions_make_a_run.ensures _ _ _ _ made c.take_rows-rows.ensures.no_fore
+      judged = next _ _ _ _ _ _ _ judged one c.decisions_make_a_run.ensures _ made c.take_rows-rows.ensures.no_fore
           c.take_rows-rows.ensures.no_back c.take_rows-rows.result.fore c.take_rows-rows.result.back c.take_rows-rows.ensures.fore
           c.take_rows-rows.ensures.back
           c.compare_rows-compared.new.fore c.compare_rows-compared.new.back (c.in_ok-compared.ensures.fore_compared _ judged.fore_rows
@@ -75,7 +73,7 @@ loop-goes_on-preserved g c =
 pub judge_ends-requires : goal.judge_ends-requires
 judge_ends-requires g c = record {
   judged = going (inputs_of c.args.inputs g.Q.Queue.key)
-      (reports_of c.args.inputs c.args.printed) _ _ _ _ _ _ _ _ c.loop-goes_on-test.false c.loop-goes_on.invariant.judged;
+      (reports_of c.args.inputs c.args.printed) _ _ _ _ _ c.loop-goes_on-test.false c.loop-goes_on.invariant.judged;
   right = c.loop-goes_on.invariant.right c.loop-goes_on-test.false;
   names = c.requires.names;
   whole = c.requires.whole;

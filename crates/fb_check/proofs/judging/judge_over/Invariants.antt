@@ -1,18 +1,19 @@
 use Rattle.std.proofs.Common.{◌≡◌, false, None}
 use Rattle.fb_decide.specs.Making.{decisions_left}
 use Rattle.fb_decide.specs.RunInputs.{inputs_of}
+use Rattle.fb_decide.specs.State.{state_of}
 use Rattle.fb_check.specs.Printed.{reports_of}
 use Rattle.fb_check.specs.Judged.{HasJudged}
 use Rattle.fb_check.proofs.judging.judge_over.Given as goal
 
 abbrev pub invariant-loop-goes_on : goal.invariant-loop-goes_on
 invariant-loop-goes_on g l = record {
-  judged : HasJudged (inputs_of l.inputs g.Q.Queue.key) (reports_of l.inputs l.printed) l.goes_on l.decider.requests l.decider.course
-      (g.Q.Queue.pending l.decider.queue) (g.Q.Queue.joined l.decider.queue) l.fore l.back;
+  judged : HasJudged (inputs_of l.inputs g.Q.Queue.key) (reports_of l.inputs l.printed) l.goes_on
+      (state_of g.Q.Queue.pending g.Q.Queue.joined l.decider) l.fore l.back;
   right : l.goes_on ≡ false → l.fore.wrong ≡ None;
   serves : g.Q.Queue.serves l.decider.queue l.inputs.disk.now;
 }
 
 abbrev pub decreases-loop-goes_on : goal.decreases-loop-goes_on
 decreases-loop-goes_on g l =
-    decisions_left (inputs_of l.inputs g.Q.Queue.key) l.goes_on l.decider.course (g.Q.Queue.pending l.decider.queue)
+    decisions_left (inputs_of l.inputs g.Q.Queue.key) l.goes_on (state_of g.Q.Queue.pending g.Q.Queue.joined l.decider)

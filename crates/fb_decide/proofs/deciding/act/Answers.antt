@@ -20,7 +20,7 @@ serve_next-requires-clause-on_disk g c =
 pub returns-then-not-is_empty-clause-acted : goal.returns-then-not-is_empty-clause-acted
 returns-then-not-is_empty-clause-acted g c =
     let served = c.in_ok-serve_next.ensures.served in
-    serves_pick served.0 _ _ served.1 served.2
+    serves_pick served.0 _ _ _ served.1 served.2
 
 pub returns-then-not-is_empty-clause-waiting : goal.returns-then-not-is_empty-clause-waiting
 returns-then-not-is_empty-clause-waiting g c = λ _.

@@ -1,3 +1,4 @@
+use Rattle.std.proofs.Common.{refl}
 use Rattle.fb_decide.proofs.Decided.{join_waiting}
 use Rattle.fb_decide.proofs.Delivering.{if_ok_with}
 use Rattle.fb_decide.proofs.deciding.advance.Goals as goal
@@ -11,11 +12,10 @@ pub returns-clause-decided : goal.returns-clause-decided
 returns-clause-decided g c = if_ok_with _ _ _ c.act.result (λ goes_on acted waits past called tells.
     let joined = c.in_ok-course-2.ensures in
     record {
-      background = c.prepare.new.self;
-      joined = c.in_ok-course-2.field-0;
-      called = c.in_ok-course.field-0;
-      waiting = g.Q.Queue.pending c.join_arrived.new.queue;
+      ready = _;
       is_ready = record {
+        same = refl;
+        same_requests = refl;
         test = c.in_ok-course.ensures past called tells;
         same_left = joined.left;
         come = joined.come;

@@ -10,8 +10,7 @@ pub loop-goes_on-preserved : goal.loop-goes_on-preserved
 loop-goes_on-preserved g c =
     let advanced = gone_on c.loop-goes_on-test.true c.loop-goes_on.invariant.advanced in
     record {
-      advanced = one_on c.decisions_make_a_run.ensures advanced c.in_ok-goes_on.ensures.requests
-          (c.in_ok-goes_on.ensures.decided advanced.steps advanced.made);
+      advanced = one_on c.decisions_make_a_run.ensures advanced (c.in_ok-goes_on.ensures.decided advanced.steps advanced.made);
       serves = c.in_ok-goes_on.ensures.serves;
     }
 

@@ -11,7 +11,7 @@ returns-clause-rows g c = on_ok_weaker c.task_rows.result
     (λ rows inputs steps made. rows inputs.disk.map (history inputs steps) made.come_to.run.tells) c.task_rows.ensures.ok
 
 pub returns-clause-fits : goal.returns-clause-fits
-returns-clause-fits g c = λ inputs steps made. ended_fits inputs steps _ _ _ _ made
+returns-clause-fits g c = λ inputs steps made. ended_fits inputs steps _ made
 
 pub returns-clause-made : goal.returns-clause-made
-returns-clause-made g c = λ inputs steps made. made_without inputs _ steps _ _ _ _ _ _ made
+returns-clause-made g c = λ inputs steps made. made_without inputs _ steps _ _ _ made
