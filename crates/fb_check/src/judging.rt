@@ -69,10 +69,11 @@ fn judge_over<Q: Queue, P: Planner>(
     planner: &P,
     printed: Printed<'_>,
 ) -> Result<Verdict, NoMemory>
-    requires made { HasMade (inputs_of inputs Q.key) true [] (state_of Q.pending Q.joined decider.old) }
+    requires inputs { decider.old.inputs ≡ inputs }
+    requires made { HasMade (inputs_of decider.old.inputs Q.key) true [] (state_of Q.pending Q.joined decider.old) }
     requires no_fore { decider.old.course.fore ≡ [] }
     requires no_back { decider.old.course.background.rows ≡ [] }
-    requires serves { Q.serves decider.old.queue inputs.disk.now }
+    requires serves { Q.serves decider.old.queue decider.old.inputs.disk.now }
     requires names { length inputs.calls.now.names ≡ length (tasks inputs.calls.now.calls.items) }
     requires whole { inputs.disk.now.sector_bytes % 16 ≡ 0 }
     requires fore { IsReport fore_grammar printed.fore.now }
@@ -85,7 +86,7 @@ fn judge_over<Q: Queue, P: Planner>(
     let mut back = Comparison::begin_back(alloc, printed.back)?;
     let mut goes_on = true;
     while goes_on {
-        goes_on = decider.decide(alloc, inputs, planner)?;
+        goes_on = decider.decide(alloc, planner)?;
         let rows = decider.take_rows(alloc);
         let compared = compare_rows(alloc, inputs, &rows, printed.bytes, &mut fore, &mut back);
         drop(rows);

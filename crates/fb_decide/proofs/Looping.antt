@@ -1,5 +1,6 @@
 -- A run from its beginning on, one decision after another, with the list of requests as the program has it.
-use Rattle.std.proofs.Common.{◌≡◌, ℕ, ◌+◌, ◌≤◌, ◌^◌, List, [], ◌∷◌, ◌++◌, length, arith, inl, inr, refl, sym, ◌∙◌, Bool, true, false, subst, ap}
+use Rattle.std.proofs.Common.{◌≡◌, ℕ, ◌+◌, ◌≤◌, ◌^◌, List, [], ◌∷◌, ◌++◌, length, arith, inl, inr, refl, sym, ◌∙◌}
+use Rattle.std.proofs.Common.{Bool, true, false, subst, ap}
 use Rattle.std.specs.Prelude.{nat_le}
 use Rattle.std.specs.List.{AllByRecursion, fold}
 use Rattle.std.proofs.lemmas.Bool.{cases_Bool}
@@ -10,11 +11,14 @@ use Rattle.fb_calls.specs.declared.call.Action.{Action}
 use Rattle.fb_calls.specs.declared.call.Action.TheVariants.{Promote}
 use Rattle.fb_calls.specs.declared.call.Call.{Call}
 use Rattle.fb_calls.specs.Allowed.{AreAllowed, MayAsk}
+use Rattle.fb_model.specs.PlainReplay.{Key}
 use Rattle.fb_model.specs.Inputs.{Inputs, requests, served}
 use Rattle.fb_model.specs.Foreground.{behind, read_of, promoted_from, promoted}
 use Rattle.fb_model.specs.Accepted.{IsAccepted, IsRequestOf}
 use Rattle.fb_model.specs.Laws.{ForegroundListsAscend}
 use Rattle.fb_model.proofs.Passages.{all_requests}
+use Rattle.fb_decide.specs.declared.run_inputs.RunInputs.{RunInputs}
+use Rattle.fb_decide.specs.RunInputs.{inputs_of}
 use Rattle.fb_decide.specs.State.{State}
 use Rattle.fb_decide.specs.Waiting.{IsForegroundOf, IsWaiting}
 use Rattle.fb_decide.proofs.Replayed.{in_order}
@@ -211,3 +215,10 @@ pub made_without : (inputs : Inputs) (more : Bool) (steps : List Step) (state : 
     → HasMade inputs more steps state → HasMade inputs more steps (without state fore rows)
 made_without inputs more steps state fore rows h =
     record { known = h.known; list_is = h.list_is; come_to = come_without inputs more steps state fore rows h.come_to }
+
+-- of inputs that are the same, a decision makes the same
+pub one_by : {held inputs : RunInputs} {key : Key} {more : Bool} {before after : State} → held ≡ inputs
+    → ((steps : List Step) → HasMade (inputs_of held key) true steps before → HasMadeOne (inputs_of held key) steps more before after)
+    → (steps : List Step) → HasMade (inputs_of inputs key) true steps before → HasMadeOne (inputs_of inputs key) steps more before after
+one_by {key = key} {more} {before} {after} = subst (λ inputs. (steps : List Step) → HasMade (inputs_of inputs key) true steps before
+    → HasMadeOne (inputs_of inputs key) steps more before after)

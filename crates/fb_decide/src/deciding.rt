@@ -61,6 +61,7 @@ struct Course {
 /// A replay between two decisions, with those of its rows that haven't been taken yet.
 #[derive(Drop)]
 pub struct Decider<'a, Q: Queue> {
+    inputs: RunInputs<'a>,
     requests: Requests<'a>,
     queue: Q,
     course: Course,
@@ -83,16 +84,18 @@ impl<'a, Q: Queue> Decider<'a, Q> {
         requires empty { Q.pending queue ≡ [] }
         requires fresh { Q.joined queue ≡ 0 }
         requires accepted { IsAccepted (inputs_of inputs Q.key) }
-        ensures made { IfOk result (λ decider. HasMade (inputs_of inputs.entry Q.key) true [] (state_of Q.pending Q.joined decider)) }
+        ensures inputs { IfOk result (λ decider. decider.inputs ≡ inputs.entry) }
+        ensures made { IfOk result (λ decider. HasMade (inputs_of decider.inputs Q.key) true [] (state_of Q.pending Q.joined decider)) }
         ensures no_fore { IfOk result (λ decider. decider.course.fore ≡ []) }
         ensures no_back { IfOk result (λ decider. decider.course.background.rows ≡ []) }
-        ensures serves { IfOk result (λ decider. Q.serves decider.queue inputs.entry.disk.now) }
+        ensures serves { IfOk result (λ decider. Q.serves decider.queue decider.inputs.disk.now) }
     {
         foreground_lists_ascend();
         disk_is_sound(inputs.disk);
         let requests = foreground(alloc, inputs.trace.requests.as_slice(), inputs.calls)?;
         let course = initial_course(alloc, inputs.latent)?;
         Ok(Decider {
+            inputs,
             requests,
             queue,
             course,
@@ -101,27 +104,23 @@ impl<'a, Q: Queue> Decider<'a, Q> {
 
     /// Makes the next decision and adds its rows; returns whether another decision follows.
     ///
-    /// A request that is served has the best plan for its gap. The inputs must be the same at
-    /// each call, and what `new` was given. After it has returned `false` it must not be called
-    /// again. The only error is out of memory, after which nothing is promised of the decider.
-    pub fn decide<P: Planner>(
-        &mut self,
-        alloc: Global,
-        inputs: RunInputs<'_>,
-        planner: &P,
-    ) -> Result<bool, NoMemory>
-        requires made { (steps : List Step) × HasMade (inputs_of inputs Q.key) true steps (state_of Q.pending Q.joined self.old) }
-        requires serves { Q.serves self.old.queue inputs.disk.now }
+    /// A request that is served has the best plan for its gap. After it has returned `false` it
+    /// must not be called again. The only error is out of memory, after which nothing is promised
+    /// of the decider.
+    pub fn decide<P: Planner>(&mut self, alloc: Global, planner: &P) -> Result<bool, NoMemory>
+        requires made { (steps : List Step) × HasMade (inputs_of self.old.inputs Q.key) true steps (state_of Q.pending Q.joined self.old) }
+        requires serves { Q.serves self.old.queue self.old.inputs.disk.now }
         ensures decided { IfOk result (λ goes_on. (steps : List Step)
-            → HasMade (inputs_of inputs.entry Q.key) true steps (state_of Q.pending Q.joined self.old)
-            → HasMadeOne (inputs_of inputs.entry Q.key) steps goes_on (state_of Q.pending Q.joined self.old)
+            → HasMade (inputs_of self.old.inputs Q.key) true steps (state_of Q.pending Q.joined self.old)
+            → HasMadeOne (inputs_of self.old.inputs Q.key) steps goes_on (state_of Q.pending Q.joined self.old)
             (state_of Q.pending Q.joined self.new)) }
+        ensures inputs { self.new.inputs ≡ self.old.inputs }
         ensures requests { OnOk result (self.new.requests ≡ self.old.requests) }
-        ensures serves { OnOk result (Q.serves self.new.queue inputs.entry.disk.now) }
+        ensures serves { OnOk result (Q.serves self.new.queue self.new.inputs.disk.now) }
     {
         advance(
             alloc,
-            inputs,
+            self.inputs,
             self.requests.as_slice(),
             planner,
             &mut self.queue,
@@ -141,6 +140,7 @@ impl<'a, Q: Queue> Decider<'a, Q> {
             → HasMade inputs false steps (state_of Q.pending Q.joined self.old)
             → AllByRecursion (HasTaskBelow (length (tasks inputs.calls))) (task_rows (history inputs steps)) }
         ensures fore { OnOk result (self.new.course.fore ≡ self.old.course.fore) }
+        ensures inputs { self.new.inputs ≡ self.old.inputs }
         ensures made { (inputs : Inputs) (steps : List Step)
             → HasMade inputs false steps (state_of Q.pending Q.joined self.old)
             → HasMade inputs false steps (state_of Q.pending Q.joined self.new) }
@@ -170,6 +170,7 @@ impl<'a, Q: Queue> Decider<'a, Q> {
         ensures back { result.back ≡ self.old.course.background.rows }
         ensures no_fore { self.new.course.fore ≡ [] }
         ensures no_back { self.new.course.background.rows ≡ [] }
+        ensures inputs { self.new.inputs ≡ self.old.inputs }
         ensures queue { self.new.queue ≡ self.old.queue }
         ensures made { (inputs : Inputs) (more : Bool) (steps : List Step)
             → HasMade inputs more steps (state_of Q.pending Q.joined self.old)

@@ -45,11 +45,12 @@ fn run_of<Q: Queue, P: Planner>(
     planner: &P,
     decider: &mut Decider<'_, Q>,
 ) -> Result<Run, NoMemory>
-    requires advanced { HasAdvanced (inputs_of inputs Q.key) true (state_of Q.pending Q.joined decider.old) }
-    requires serves { Q.serves decider.old.queue inputs.disk.now }
+    requires inputs { decider.old.inputs ≡ inputs }
+    requires advanced { HasAdvanced (inputs_of decider.old.inputs Q.key) true (state_of Q.pending Q.joined decider.old) }
+    requires serves { Q.serves decider.old.queue decider.old.inputs.disk.now }
     ensures { IfOk result (IsWhole (inputs_of inputs.entry Q.key)) }
 {
-    decide_all(alloc, inputs, planner, decider)?;
+    decide_all(alloc, planner, decider)?;
     decisions_make_a_run();
     let end = decider.instant();
     decider.add_task_rows()?;
@@ -65,18 +66,17 @@ fn run_of<Q: Queue, P: Planner>(
 // Makes one decision after another until none follows. The only error is out of memory.
 fn decide_all<Q: Queue, P: Planner>(
     alloc: Global,
-    inputs: RunInputs<'_>,
     planner: &P,
     decider: &mut Decider<'_, Q>,
 ) -> Result<(), NoMemory>
-    requires advanced { HasAdvanced (inputs_of inputs Q.key) true (state_of Q.pending Q.joined decider.old) }
-    requires serves { Q.serves decider.old.queue inputs.disk.now }
-    ensures advanced { OnOk result (HasAdvanced (inputs_of inputs.entry Q.key) false (state_of Q.pending Q.joined decider.new)) }
+    requires advanced { HasAdvanced (inputs_of decider.old.inputs Q.key) true (state_of Q.pending Q.joined decider.old) }
+    requires serves { Q.serves decider.old.queue decider.old.inputs.disk.now }
+    ensures advanced { OnOk result (HasAdvanced (inputs_of decider.old.inputs Q.key) false (state_of Q.pending Q.joined decider.new)) }
 {
     decisions_make_a_run();
     let mut goes_on = true;
     while goes_on {
-        goes_on = decider.decide(alloc, inputs, planner)?;
+        goes_on = decider.decide(alloc, planner)?;
     }
     Ok(())
 }

@@ -2,6 +2,7 @@ use Rattle.fb_check.proofs.judging.judge.Goals as goal
 
 pub judge_over-requires : goal.judge_over-requires
 judge_over-requires g c = record {
+  inputs = c.in_ok-decider.ensures.inputs;
   made = c.in_ok-decider.ensures.made;
   no_fore = c.in_ok-decider.ensures.no_fore;
   no_back = c.in_ok-decider.ensures.no_back;

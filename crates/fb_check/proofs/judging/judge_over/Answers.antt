@@ -1,6 +1,9 @@
-use Rattle.std.proofs.Common.{true, true≢false, inl, inr, refl, sym, subst}
+use Rattle.std.proofs.Common.{◌∙◌, [], true, true≢false, inl, inr, refl, sym, subst}
 use Rattle.fb_report.specs.Grammar.{fore_grammar, back_grammar}
 use Rattle.fb_decide.specs.RunInputs.{inputs_of}
+use Rattle.fb_decide.specs.State.{state_of}
+use Rattle.fb_decide.specs.Making.{HasMade}
+use Rattle.fb_decide.proofs.Looping.{one_by}
 use Rattle.fb_check.specs.Printed.{reports_of}
 use Rattle.fb_check.proofs.Judged.{at_first, going, less, back_named, wrong_now, next, none_by}
 use Rattle.fb_check.proofs.judging.judge_over.Goals as goal
@@ -13,8 +16,11 @@ begin_back-requires g c = record { ends = c.reports_end_once.ensures back_gramma
 
 pub loop-goes_on-init : goal.loop-goes_on-init
 loop-goes_on-init g c = record {
+  inputs = c.requires.inputs;
   judged = at_first (inputs_of c.args.inputs g.Q.Queue.key) (reports_of c.args.inputs c.args.printed) _ c.in_ok-fore.fore
-      c.in_ok-back.back c.requires.made c.requires.no_fore c.requires.no_back
+      c.in_ok-back.back (subst (λ inputs. HasMade (inputs_of inputs g.Q.Queue.key) true []
+      (state_of g.Q.Queue.pending g.Q.Queue.joined c.args.decider.now)) c.requires.inputs c.requires.made)
+      c.requires.no_fore c.requires.no_back
       (c.in_ok-fore.ensures.compared _ _) (c.in_ok-back.ensures.compared _ _ _) c.in_ok-fore.ensures.ready c.in_ok-back.ensures.ready;
   right = λ e. absurd (true≢false e);
   serves = c.requires.serves;
@@ -23,14 +29,18 @@ loop-goes_on-init g c = record {
 pub decide-requires-clause-made : goal.decide-requires-clause-made
 decide-requires-clause-made g c =
     let judged = going (inputs_of c.args.inputs g.Q.Queue.key) (reports_of c.args.inputs
-    c.args.printed) true _ _ _ _ c.loop-goes_on-test.true c.loop-goes_on.invariant.judged in
-    (judged.steps, judged.made)
+    c.args.printed) true _ _ _ _ c.loop-goes_on-test.true c.loop-goes_on.invariant.judged in (
+      judged.steps,
+      subst (λ inputs. HasMade (inputs_of inputs g.Q.Queue.key) true judged.steps
+          (state_of g.Q.Queue.pending g.Q.Queue.joined c.loop-goes_on.decider))
+          (sym c.loop-goes_on.invariant.inputs) judged.made,
+    )
 
 pub returns-in-Some : goal.returns-in-Some
 returns-in-Some g c =
     let judged = going (inputs_of c.args.inputs g.Q.Queue.key) (reports_of c.args.inputs
     c.args.printed) true _ _ _ _ c.loop-goes_on-test.true c.loop-goes_on.invariant.judged in
-    let one = c.in_ok-goes_on.ensures.decided judged.steps judged.made in
+    let one = one_by c.loop-goes_on.invariant.inputs c.in_ok-goes_on.ensures.decided judged.steps judged.made in
     wrong_now _ _ _ _ _ _ _ judged one c.decisions_make_a_run.ensures c.take_rows-rows.result.fore
     c.compare_rows-compared.new.fore c.in-Some.mismatch c.take_rows-rows.ensures.fore
     (c.in_ok-compared.ensures.fore_compared _ judged.fore_rows judged.fore_compared) c.in-Some.is
@@ -39,7 +49,7 @@ pub compare_rows-compared-requires-clause-named : goal.compare_rows-compared-req
 compare_rows-compared-requires-clause-named g c =
     let judged = going (inputs_of c.args.inputs g.Q.Queue.key) (reports_of c.args.inputs
     c.args.printed) true _ _ _ _ c.loop-goes_on-test.true c.loop-goes_on.invariant.judged in
-    let one = c.in_ok-goes_on.ensures.decided judged.steps judged.made in
+    let one = one_by c.loop-goes_on.invariant.inputs c.in_ok-goes_on.ensures.decided judged.steps judged.made in
     back_named _ _ _ _ _ _ _ judged one c.args.inputs.calls.now.names c.take_rows-rows.result.back c.requires.names
     c.take_rows-rows.ensures.back
 
@@ -47,7 +57,7 @@ pub loop-goes_on-smaller : goal.loop-goes_on-smaller
 loop-goes_on-smaller g c =
     let judged = going (inputs_of c.args.inputs g.Q.Queue.key) (reports_of c.args.inputs
     c.args.printed) true _ _ _ _ c.loop-goes_on-test.true c.loop-goes_on.invariant.judged in
-    let one = c.in_ok-goes_on.ensures.decided judged.steps judged.made in
+    let one = one_by c.loop-goes_on.invariant.inputs c.in_ok-goes_on.ensures.decided judged.steps judged.made in
     let made = c.take_rows-rows.ensures.made (inputs_of c.args.inputs g.Q.Queue.key) _ _ one.made in
     less _ _ _ _ _ _ _ judged one _ c.loop-goes_on-test.true _ made
 
@@ -55,10 +65,11 @@ pub loop-goes_on-preserved : goal.loop-goes_on-preserved
 loop-goes_on-preserved g c =
     let judged = going (inputs_of c.args.inputs g.Q.Queue.key) (reports_of c.args.inputs
     c.args.printed) true _ _ _ _ c.loop-goes_on-test.true c.loop-goes_on.invariant.judged in
-    let one = c.in_ok-goes_on.ensures.decided judged.steps judged.made in
+    let one = one_by c.loop-goes_on.invariant.inputs c.in_ok-goes_on.ensures.decided judged.steps judged.made in
     let made = c.take_rows-rows.ensures.made (inputs_of c.args.inputs g.Q.Queue.key) _ _ one.made in
     let right = none_by c.compare_rows-compared.new.fore.wrong c.in_default.not-Some in
     record {
+      inputs = c.take_rows-rows.ensures.inputs ∙ (c.in_ok-goes_on.ensures.inputs ∙ c.loop-goes_on.invariant.inputs);
       judged = next _ _ _ _ _ _ _ judged one c.decisions_make_a_run.ensures _ made c.take_rows-rows.ensures.no_fore
           c.take_rows-rows.ensures.no_back c.take_rows-rows.result.fore c.take_rows-rows.result.back c.take_rows-rows.ensures.fore
           c.take_rows-rows.ensures.back
@@ -66,8 +77,9 @@ loop-goes_on-preserved g c =
           judged.fore_compared) (c.in_ok-compared.ensures.back_compared right _ judged.back_rows judged.back_compared)
           c.in_ok-compared.ensures.fore_ready (c.in_ok-compared.ensures.back_ready right);
       right = λ _. right;
-      serves = subst (λ queue. g.Q.Queue.serves queue c.args.inputs.disk.now)
-          (sym c.take_rows-rows.ensures.queue) c.in_ok-goes_on.ensures.serves;
+      serves = subst (λ inputs. g.Q.Queue.serves c.take_rows-rows.new.self.queue inputs.disk.now) (sym c.take_rows-rows.ensures.inputs)
+          (subst (λ queue. g.Q.Queue.serves queue c.decide.new.self.inputs.disk.now)
+          (sym c.take_rows-rows.ensures.queue) c.in_ok-goes_on.ensures.serves);
     }
 
 pub judge_ends-requires : goal.judge_ends-requires

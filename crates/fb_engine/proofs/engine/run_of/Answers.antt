@@ -1,4 +1,7 @@
-use Rattle.std.proofs.Common.{◌∙◌}
+use Rattle.std.proofs.Common.{◌∙◌, subst, false}
+use Rattle.fb_decide.specs.RunInputs.{inputs_of}
+use Rattle.fb_decide.specs.State.{state_of}
+use Rattle.fb_engine.specs.Progress.{HasAdvanced}
 use Rattle.fb_engine.proofs.Looping.{is_full, is_few, rows_fit}
 use Rattle.fb_engine.proofs.engine.run_of.Goals as goal
 
@@ -11,7 +14,8 @@ add_task_rows-requires g c = let advanced = c.in_ok-decide_all.ensures.advanced 
 pub returns : goal.returns
 returns g c =
     let law = c.decisions_make_a_run.ensures in
-    let advanced = c.in_ok-decide_all.ensures.advanced in
+    let advanced = subst (λ inputs. HasAdvanced (inputs_of inputs g.Q.Queue.key) false
+    (state_of g.Q.Queue.pending g.Q.Queue.joined c.decide_all.new.decider)) c.requires.inputs c.in_ok-decide_all.ensures.advanced in
     let rows = c.take_rows-rows.result in
     let fore = c.take_rows-rows.ensures.fore ∙ c.in_ok-add_task_rows.ensures.fore in
     let back = c.take_rows-rows.ensures.back ∙ c.in_ok-add_task_rows.ensures.rows _ advanced.steps advanced.made in
