@@ -105,7 +105,7 @@ fn add_limit(last: Ns, begin: Ns, step: Ns, limits: &mut [Ns; LIMITS])
     limits[k as usize + 1] = limit;
 }
 
-// How long each part of the time of the gap is, in ns: together they reach beyond the deadline.
+// How long each part of a gap is, in ns; together the parts reach beyond its deadline.
 fn late_step(gap: &Gap) -> Ns
     requires { gap.now.now ≤ gap.now.deadline }
     ensures { result ≡ late_step gap.entry.now }
