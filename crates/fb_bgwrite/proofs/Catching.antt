@@ -18,7 +18,7 @@ differ_turned : (a b : Catch) → Differ a b → Differ b a
 differ_turned a b h = grind (arith, nat_tests)
 
 abbrev pub AreDifferent : List Catch → Type 0
-AreDifferent found = AnyTwo Differ differ_turned found
+AreDifferent found = AnyTwo Differ found
 
 -- ---- each is of a block that is pending
 

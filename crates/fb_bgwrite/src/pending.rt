@@ -17,7 +17,7 @@ ghost use Rattle.fb_bgwrite.specs.Standing.{wanted_entry};
 
 use crate::shortest::{NONE, Shortest};
 use fb_plan::{blocks_on, caught};
-use fb_rows::Dwell;
+use fb_rows::{Catch, Dwell};
 use fb_sectormap::Cut;
 use fb_service::Disk;
 use fb_units::{NoMemory, Track};

@@ -94,7 +94,7 @@ apart_either_way : (a b : Catch) → AreApart a b → AreApart b a
 apart_either_way a b h = either_way a.block b.block h
 
 distinct_rows : (row : Catch → DeliveryRow) → ((c : Catch) → (row c).block ≡ c.block) → (found : List Catch)
-    → AnyTwo AreApart apart_either_way found → AreDistinct (map block_in (map row found))
+    → AnyTwo AreApart found → AreDistinct (map block_in (map row found))
 distinct_rows row its [] h = tt
 distinct_rows row its (c ∷ found) h = (
   all_map (λ b. same_block (row c).block b ≡ false) block_in (map row found)
@@ -104,7 +104,7 @@ distinct_rows row its (c ∷ found) h = (
 )
 
 apart_by : (f : Block → Catch) → ((b : Block) → (f b).block ≡ b) → (bs : List Block) → AreDistinct bs
-    → AnyTwo AreApart apart_either_way (map f bs)
+    → AnyTwo AreApart (map f bs)
 apart_by f own [] h = tt
 apart_by f own (b ∷ bs) h = (
   all_map (AreApart (f b)) f bs

@@ -40,7 +40,7 @@ impl Background {
         let plan = planner.best(disk, &self.blocks, &gap);
         let name = start.request.name;
         self.go_through(alloc, disk, store, GapRow { name, gap, plan })?;
-        self.ride(alloc, disk, store, start, service.extents.as_slice())
+        self.ride(alloc, disk, store, start, service)
     }
 
     // Adds the row of a gap, goes through it by the row's plan, and delivers what its dwells catch.

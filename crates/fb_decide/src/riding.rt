@@ -9,13 +9,13 @@ ghost use Rattle.fb_wanted.specs.States.{on_track, wanted_of};
 ghost use Rattle.fb_plan.specs.Ways.{AreOnDisk};
 ghost use Rattle.fb_decide.specs.Carried.{added, begins_in, AreExtents, AreLaid};
 ghost use Rattle.fb_decide.specs.Deliveries.{TellsUpToDate, HasDelivered, AreDistinct, held_now};
-ghost use Rattle.fb_decide.specs.Start.{IsStartOn, served_from};
+ghost use Rattle.fb_decide.specs.Start.{IsStartOn, IsServiceOf, served_from};
 
 use crate::background::Background;
 use crate::start::Start;
 use fb_plan::put_in_order;
 use fb_rows::{Catch, How};
-use fb_service::{Disk, Extent, Passage, nth_passage};
+use fb_service::{Disk, Extent, Passage, Service, nth_passage};
 use fb_store::Store;
 use fb_units::{NoMemory, Request};
 use fb_wanted::{Block, Blocks};
@@ -24,20 +24,18 @@ use std::alloc::Global;
 impl Background {
     /// Delivers the wanted blocks whose sectors a read reads anyway; a write carries none.
     ///
-    /// `extents` are the request's sectors as they pass. The only error is out of memory.
+    /// The only error is out of memory.
     pub fn ride(
         &mut self,
         alloc: Global,
         disk: &Disk,
         store: &Store,
         start: Start,
-        extents: &[Extent],
+        service: &Service,
     ) -> Result<(), NoMemory>
         requires current { (past : Past) × TellsUpToDate disk.now.map past self.old }
         requires start { IsStartOn disk.now start }
-        requires passages { all_passages_of disk.now.map extents.now ≡ (served_from disk.now start).passages }
-        requires unbroken { AllByRecursion (IsUnbroken disk.now.map) extents.now }
-        requires early { AllByRecursion (λ extent. extent.begin ≤ 10 ^ 19) extents.now }
+        requires service { IsServiceOf disk.now start service.now }
         ensures { OnOk result ((past : Past) → TellsUpToDate disk.now.map past self.old
             → HasDelivered disk.now.map past (rides (held_now store.now) (served_from disk.now start) (wanted past))
             self.old.rows self.new) }
@@ -45,6 +43,7 @@ impl Background {
         if start.request.write {
             return Ok(());
         }
+        let extents = service.extents.as_slice();
         let catches = carried(alloc, disk, &self.blocks, start.request, extents)?;
         self.deliver_all(alloc, store, How::Ride, catches.as_slice())
     }

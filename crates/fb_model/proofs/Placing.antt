@@ -58,13 +58,13 @@ all_carried passages request P Q each blocks have = all_in_order P (map (ride_of
 
 -- ---- what holds of any two
 
-module _ (R : Catch → Catch → Type 0) (turned : (a b : Catch) → R a b → R b a) where
-  -- it holds of each and any later one
-  abbrev pub AnyTwo : List Catch → Type 0
-  AnyTwo [] = Unit {0}
-  AnyTwo (catch ∷ found) = AllByRecursion (R catch) found × AnyTwo found
+-- it holds of each and any later one
+abbrev pub AnyTwo : (Catch → Catch → Type 0) → List Catch → Type 0
+AnyTwo R [] = Unit {0}
+AnyTwo R (catch ∷ found) = AllByRecursion (R catch) found × AnyTwo R found
 
-  two_placed : (found : List Catch) (catch : Catch) → AllByRecursion (R catch) found → AnyTwo found → AnyTwo (placed found catch)
+module _ (R : Catch → Catch → Type 0) (turned : (a b : Catch) → R a b → R b a) where
+  two_placed : (found : List Catch) (catch : Catch) → AllByRecursion (R catch) found → AnyTwo R found → AnyTwo R (placed found catch)
   two_placed [] catch own two = (tt, tt)
   two_placed (first ∷ others) catch own two = elim (cases_Bool (is_before catch first)) [
     | inl front ↦ rw front (own, two)
@@ -81,14 +81,14 @@ module _ (R : Catch → Catch → Type 0) (turned : (a b : Catch) → R a b → 
   each_placed found (other ∷ others) catch own each =
       (all_placed (R other) found catch each.0 (turned catch other own.0), each_placed found others catch own.1 each.1)
 
-  two_folded : (found before : List Catch) → AnyTwo before → AnyTwo found → AllByRecursion (λ catch. AllByRecursion (R catch) before) found
-      → AnyTwo (fold placed before found)
+  two_folded : (found before : List Catch) → AnyTwo R before → AnyTwo R found
+      → AllByRecursion (λ catch. AllByRecursion (R catch) before) found → AnyTwo R (fold placed before found)
   two_folded [] before first two each = first
   two_folded (catch ∷ found) before first two each =
       two_folded found (placed before catch) (two_placed before catch each.0 first) two.1 (each_placed before found catch two.0 each.1)
 
   -- put in order too
-  pub two_in_order : (found : List Catch) → AnyTwo found → AnyTwo (in_order found)
+  pub two_in_order : (found : List Catch) → AnyTwo R found → AnyTwo R (in_order found)
   two_in_order found two = two_folded found [] tt two (all_any _ (λ catch. tt) found)
 
 -- ---- none ends before the one before it

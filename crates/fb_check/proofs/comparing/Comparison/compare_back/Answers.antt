@@ -1,4 +1,4 @@
-use Rattle.std.proofs.Common.{sym, subst, ◌∙◌, arith}
+use Rattle.std.proofs.Common.{length, sym, subst, ◌∙◌, arith}
 use Rattle.fb_units.proofs.Lists.{all_get}
 use Rattle.fb_rows.specs.Tasks.{HasTaskBelow}
 use Rattle.fb_report.specs.Reading.{BeginsLikeEnd}

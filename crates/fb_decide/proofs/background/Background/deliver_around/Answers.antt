@@ -1,20 +1,14 @@
-use Rattle.std.proofs.Common.{◌^◌, ◌≤◌, sym, subst}
-use Rattle.std.specs.List.{AllByRecursion}
+use Rattle.std.proofs.Common.{subst}
 use Rattle.std.proofs.lemmas.Result.{on_ok_weaker}
-use Rattle.fb_service.specs.declared.passage.Extent.{Extent}
 use Rattle.fb_model.specs.Plans.{IsBest}
 use Rattle.fb_decide.specs.Start.{served_from}
 use Rattle.fb_decide.proofs.Delivering.{fits-told, wanted-told}
-use Rattle.fb_decide.proofs.Served.{extents-begin, has-delivered-around}
+use Rattle.fb_decide.proofs.Served.{has-delivered-around}
 use Rattle.fb_decide.proofs.background.Background.deliver_around.Goals as goal
 
 pub best-plan-requires-clause-blocks : goal.best-plan-requires-clause-blocks
 best-plan-requires-clause-blocks g c =
     fits-told c.args.disk.now c.requires.current.0 c.args.self.now.sessions c.args.self.now.blocks c.requires.current.1.tells
-
-pub ride-requires-clause-early : goal.ride-requires-clause-early
-ride-requires-clause-early g c = subst (AllByRecursion (λ (e : Extent). e.begin ≤ 10 ^ 19)) (sym c.as_slice.ensures)
-    (extents-begin c.args.disk.now c.args.start c.args.service.now c.requires.service)
 
 pub returns : goal.returns
 returns g c = on_ok_weaker c.ride.result (λ ridden past current.

@@ -5,26 +5,38 @@ use Rattle.fb_rows.specs.declared.gap.How.TheVariants.{Ride as ByRide}
 use Rattle.fb_wanted.specs.States.{wanted_of}
 use Rattle.fb_model.specs.History.{wanted}
 use Rattle.fb_decide.specs.Deliveries.{HasDelivered, AreDistinct, AreDue, held_now}
-use Rattle.fb_decide.specs.Start.{served_from}
+use Rattle.fb_service.specs.declared.disk.Disk.{Disk}
+use Rattle.fb_service.specs.declared.service.Service.{Service}
+use Rattle.fb_service.specs.Extents.{all_passages_of}
+use Rattle.fb_decide.specs.declared.start.Start.{Start}
+use Rattle.fb_decide.specs.Start.{IsServiceOf, served_from}
+use Rattle.fb_decide.specs.Carried.{AreExtents, AreLaid}
+use Rattle.fb_decide.proofs.Served.{extents-begin}
 use Rattle.fb_decide.proofs.Placing.{wanted-distinct}
 use Rattle.fb_decide.proofs.Delivering.{fits-told, wanted-told}
 use Rattle.fb_decide.proofs.Extents.{laid, laid_within}
 use Rattle.fb_decide.proofs.Carrying.{rows-carried, due-carried, all-extents}
 use Rattle.fb_decide.proofs.background.Background.ride.Goals as goal
 
+-- the extents of the service lie end to end over the request
+its_extents : (disk : Disk) (start : Start) (service : Service) → IsServiceOf disk start service
+    → AreLaid start.request.lbn service.extents.items start.request.count
+its_extents disk start service is =
+    laid disk service.extents.items start.head start.instant start.request.write start.request.lbn start.request.count is.passages is.unbroken
+
 pub carried-requires-clause-extents : goal.carried-requires-clause-extents
 carried-requires-clause-extents c =
     let disk = c.args.disk.now in
+    let service = c.args.service.now in
     let request = c.args.start.request in
-    all-extents disk c.args.extents.now
-    (laid_within c.args.extents.now request.lbn request.count _ (laid disk c.args.extents.now c.args.start.head c.args.start.instant
-    request.write request.lbn request.count c.requires.passages c.requires.unbroken) c.requires.start.request.range.inside)
-    c.requires.unbroken c.requires.early disk.few_blocks
+    subst (AreExtents disk.map) (sym c.as_slice-extents.ensures) (all-extents disk service.extents.items
+    (laid_within service.extents.items request.lbn request.count _ (its_extents disk c.args.start service c.requires.service)
+    c.requires.start.request.range.inside) c.requires.service.unbroken
+    (extents-begin disk c.args.start service c.requires.service) disk.few_blocks)
 
 pub carried-requires-clause-covers : goal.carried-requires-clause-covers
-carried-requires-clause-covers c =
-    laid c.args.disk.now c.args.extents.now c.args.start.head c.args.start.instant c.args.start.request.write c.args.start.request.lbn
-    c.args.start.request.count c.requires.passages c.requires.unbroken
+carried-requires-clause-covers c = subst (λ extents. AreLaid c.args.start.request.lbn extents c.args.start.request.count)
+    (sym c.as_slice-extents.ensures) (its_extents c.args.disk.now c.args.start c.args.service.now c.requires.service)
 
 pub carried-requires-clause-registered : goal.carried-requires-clause-registered
 carried-requires-clause-registered c =
@@ -41,7 +53,8 @@ deliver_all-requires c =
     let served = served_from c.args.disk.now c.args.start in
     let rows : map (delivery_row (held_now c.args.store.now) ByRide) c.as_slice.result.now ≡ rides (held_now c.args.store.now) served (wanted past) =
     ap (map (delivery_row (held_now c.args.store.now) ByRide)) (c.as_slice.ensures.value ∙ c.in_ok-catches.ensures
-    ∙ ap (λ ps. carried_of ps c.args.start.request (wanted_of c.args.self.now.blocks)) c.requires.passages
+    ∙ ap (λ ps. carried_of ps c.args.start.request (wanted_of c.args.self.now.blocks))
+    (ap (all_passages_of c.args.disk.now.map) c.as_slice-extents.ensures ∙ c.requires.service.passages)
     ∙ ap (carried_of served.passages c.args.start.request) (wanted-told current.tells))
     ∙ rows-carried c.args.store.now served (wanted past) c.if-start.false in (
       c.args.disk.now.map,
@@ -55,7 +68,8 @@ returns c = on_ok_weaker c.deliver_all.result (λ all past current.
     let served = served_from c.args.disk.now c.args.start in
     let rows : map (delivery_row (held_now c.args.store.now) ByRide) c.as_slice.result.now ≡ rides (held_now c.args.store.now) served (wanted past) =
     ap (map (delivery_row (held_now c.args.store.now) ByRide)) (c.as_slice.ensures.value ∙ c.in_ok-catches.ensures
-    ∙ ap (λ ps. carried_of ps c.args.start.request (wanted_of c.args.self.now.blocks)) c.requires.passages
+    ∙ ap (λ ps. carried_of ps c.args.start.request (wanted_of c.args.self.now.blocks))
+    (ap (all_passages_of c.args.disk.now.map) c.as_slice-extents.ensures ∙ c.requires.service.passages)
     ∙ ap (carried_of served.passages c.args.start.request) (wanted-told current.tells))
     ∙ rows-carried c.args.store.now served (wanted past) c.if-start.false in
     subst (λ gots. HasDelivered c.args.disk.now.map past gots c.args.self.now.rows c.deliver_all.new.self) rows
