@@ -4,7 +4,7 @@ use Rattle.fb_units.proofs.Lists.{none_of_any, append_at, map_at}
 use Rattle.fb_bgwrite.proofs.Words.{all_get, all_push, ◌≡◌, ℕ, ◌+◌, ◌*◌, ◌^◌, ◌≤◌, List, [], ◌∷◌, ◌++◌, Bool}
 use Rattle.fb_bgwrite.proofs.Words.{true, false, not, Some, slice_get, take, drop, map, length, refl, sym, ap, ◌∙◌, subst, arith}
 use Rattle.fb_bgwrite.proofs.Words.{if◌then◌else◌, ◌==◌, ◌&&◌, filter, AllByRecursion, sum_by, sum_by_push, places, Disk, Block}
-use Rattle.fb_bgwrite.proofs.Words.{Entry, Wanted, Delivered, Deliver, after, is_block, Catch, SpillItem, SpillLine, WroteLine, SpillRow}
+use Rattle.fb_bgwrite.proofs.Words.{Entry, Wanted, Delivered, Deliver, after, is_block, Catch, SpillItem, ItemSpill, ItemWrote, SpillRow}
 use Rattle.fb_bgwrite.proofs.Words.{Put, Spilling, PutBlock, blocks_from, is_written, put_blocks, sectors, writes, left_over, sectors_in}
 use Rattle.fb_bgwrite.proofs.Words.{AreOnce, IsInTime, entry_of, first_blocks, ArePutsOn, IsSpilling, IsToWrite, IsUpTo, wrote_row}
 use Rattle.fb_bgwrite.proofs.Words.{HasRange}
@@ -56,7 +56,7 @@ changed s pending items written = record {
 
 -- ---- a stay
 
-pub stay_added : (old : Spilling) (row : SpillRow) (items : List SpillItem) → IsSpilling old → items ≡ old.items ++ SpillLine row ∷ []
+pub stay_added : (old : Spilling) (row : SpillRow) (items : List SpillItem) → IsSpilling old → items ≡ old.items ++ ItemSpill row ∷ []
     → IsSpilling (changed old old.pending items old.written)
 stay_added old row items is added =
     let disk = old.disk.now in
@@ -65,12 +65,12 @@ stay_added old row items is added =
       first = is.first;
       come = is.come;
       registered = is.registered ∙ sym (stay_registered old.items row (first_blocks disk puts old.admitted));
-      upto = all_push (IsUpTo old.admitted) old.items (SpillLine row) is.upto tt;
-      written = omega (arith, is.written, sum_by_push sectors_in old.items (SpillLine row));
+      upto = all_push (IsUpTo old.admitted) old.items (ItemSpill row) is.upto tt;
+      written = omega (arith, is.written, sum_by_push sectors_in old.items (ItemSpill row));
       parts = omega (arith, is.parts, stay_left old.items row (put_blocks disk.map puts));
       once = once_stay old.items row is.once;
-      in_time = all_push (IsInTime disk puts) old.items (SpillLine row) is.in_time tt;
-      ranges = all_push HasRange old.items (SpillLine row) is.ranges tt;
+      in_time = all_push (IsInTime disk puts) old.items (ItemSpill row) is.in_time tt;
+      ranges = all_push HasRange old.items (ItemSpill row) is.ranges tt;
     })
 
 -- ---- a block
@@ -112,7 +112,7 @@ wanted_there old catch is to =
 
 pub block_added : (old : Spilling) (catch : Catch) (pending : List Entry) (items : List SpillItem) (written : ℕ) → IsSpilling old
     → ArePutsOn (length (places old.disk.now.map)) old.puts.now → IsToWrite old catch
-    → items ≡ old.items ++ WroteLine (wrote_row catch) ∷ [] → pending ≡ after catch.block.task (Deliver catch.block.number) old.pending
+    → items ≡ old.items ++ ItemWrote (wrote_row catch) ∷ [] → pending ≡ after catch.block.task (Deliver catch.block.number) old.pending
     → written ≡ old.written + catch.block.count
     → IsSpilling (changed old pending items written)
 block_added old catch pending items written is are to added delivers more_written =
@@ -138,18 +138,18 @@ block_added old catch pending items written is are to added delivers more_writte
       come = is.come;
       registered = delivers ∙ ap (after block.task (Deliver block.number)) is.registered
           ∙ delivered old.items row block refl refl (first_blocks disk puts n) to.index to.put first_order to.stands own;
-      upto = all_push (IsUpTo n) old.items (WroteLine row) is.upto (omega (arith, upto, task));
-      written = omega (arith, more_written, is.written, sum_by_push sectors_in old.items (WroteLine row));
+      upto = all_push (IsUpTo n) old.items (ItemWrote row) is.upto (omega (arith, upto, task));
+      written = omega (arith, more_written, is.written, sum_by_push sectors_in old.items (ItemWrote row));
       parts = omega (arith, more_written, is.parts, less);
       once = once_more old.items row block refl refl old.items (none_of_any (writes block) old.items unwritten) is.once;
-      in_time = all_push (IsInTime disk puts) old.items (WroteLine row) is.in_time (record {
+      in_time = all_push (IsInTime disk puts) old.items (ItemWrote row) is.in_time (record {
         put = to.put;
         among = (to.index, at_all');
-        writes = ap (λ (b : Block). writes b (WroteLine row)) own ∙ told old.items row block refl refl;
+        writes = ap (λ (b : Block). writes b (ItemWrote row)) own ∙ told old.items row block refl refl;
         count = count;
         after = to.after;
       });
-      ranges = all_push HasRange old.items (WroteLine row) is.ranges (
+      ranges = all_push HasRange old.items (ItemWrote row) is.ranges (
         omega (arith, upto, task, is.first, are.few),
         omega (arith, lbn, count, of_puts.is.fits.on_disk, disk.few_blocks),
       );

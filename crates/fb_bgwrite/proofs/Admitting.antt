@@ -5,7 +5,7 @@ use Rattle.fb_bgwrite.proofs.Words.{false, Some, slice_get, take, drop, map, len
 use Rattle.fb_bgwrite.proofs.Words.{inr, append_assoc, append-nil, if◌then◌else◌, ◌==◌, AllByRecursion, sum_by, cases_Bool}
 use Rattle.fb_bgwrite.proofs.Words.{nat_tests, map-append, length-map, sum_by-cons, IsRising, Shape, places, Cut, cutting, Disk}
 use Rattle.fb_bgwrite.proofs.Words.{all_weaker, Block, Entry, Wanted, Delivered, blocks_of, registered_count, wanted_of, numbered}
-use Rattle.fb_bgwrite.proofs.Words.{AreOnDisk, IsBlockOn, SpillItem, SpillLine, WroteLine, Put, Spilling, share, AreApart, PutBlock}
+use Rattle.fb_bgwrite.proofs.Words.{AreOnDisk, IsBlockOn, SpillItem, ItemSpill, ItemWrote, Put, Spilling, share, AreApart, PutBlock}
 use Rattle.fb_bgwrite.proofs.Words.{blocks_from, is_written, pending, put_blocks, writes, block_range, ArePending, entry_of}
 use Rattle.fb_bgwrite.proofs.Words.{first_blocks, wanted_entry, ArePutsOn, HasChosen, HasKept, IsSpilling, IsUpTo, IsBest}
 use Rattle.fb_bgwrite.proofs.Words.{WritesNothing, spill_rows, Spill, GapRow, none_any, some_one}
@@ -178,8 +178,8 @@ wanted_pending spilling is are next =
 -- ---- one more put
 
 told_earlier : (n : ℕ) (block : Block) → n < block.task → (item : SpillItem) → IsUpTo n item → writes block item ≡ false
-told_earlier n block behind (SpillLine row) upto = refl
-told_earlier n block behind (WroteLine row) upto = grind (arith, nat_tests)
+told_earlier n block behind (ItemSpill row) upto = refl
+told_earlier n block behind (ItemWrote row) upto = grind (arith, nat_tests)
 
 not_yet : (n : ℕ) (items : List SpillItem) (block : Block) → n < block.task → AllByRecursion (IsUpTo n) items
     → is_written items block ≡ false
@@ -200,8 +200,8 @@ own_numbered number n [] = tt
 own_numbered number n (cut ∷ cuts) = (omega arith, own_numbered number (n + 1) cuts)
 
 further : (n : ℕ) (item : SpillItem) → IsUpTo n item → IsUpTo (n + 1) item
-further n (SpillLine row) upto = tt
-further n (WroteLine row) upto = omega (arith, upto)
+further n (ItemSpill row) upto = tt
+further n (ItemWrote row) upto = omega (arith, upto)
 
 pub put_admitted : (old : Spilling) (put : Put) (pending : List Entry) → IsSpilling old
     → ArePutsOn (length (places old.disk.now.map)) old.puts.now → slice_get old.puts.now old.admitted ≡ Some put → put.instant ≤ old.instant

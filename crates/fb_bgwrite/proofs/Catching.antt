@@ -3,7 +3,7 @@ use Rattle.fb_bgwrite.proofs.Words.{◌⊎◌, one_more, all_get, Bor, ◌≡◌
 use Rattle.fb_bgwrite.proofs.Words.{◌||◌, Some, slice_get, take, map, length, refl, sym, ap, ◌∙◌, subst, arith, inl, inr}
 use Rattle.fb_bgwrite.proofs.Words.{append_assoc, ◌==◌, ◌&&◌, filter, AllByRecursion, list_any, cases_Bool, nat_tests}
 use Rattle.fb_bgwrite.proofs.Words.{map-append, list_any-append, places, Disk, all_weaker, wanted_of, Dwell, catches, Catch}
-use Rattle.fb_bgwrite.proofs.Words.{catch_of, caught_of, begin-from-le, SpillItem, SpillLine, WroteLine}
+use Rattle.fb_bgwrite.proofs.Words.{catch_of, caught_of, begin-from-le, SpillItem, ItemSpill, ItemWrote}
 use Rattle.fb_bgwrite.proofs.Words.{SpillRow, Put, Spilling, PutBlock, is_written, writes, entry_of, first_blocks, ArePutsOn}
 use Rattle.fb_bgwrite.proofs.Words.{HasKept, IsSpilling, IsToWrite, wrote_row, all_of, none_any}
 use Rattle.fb_model.proofs.Placing.{AnyTwo, all_in_order, two_in_order}
@@ -109,17 +109,17 @@ module _ (disk : Disk) (puts : List Put) (n : ℕ) (items : List SpillItem) (dwe
 -- ---- one after another
 
 abbrev pub wrote_rows : List Catch → List SpillItem
-wrote_rows cs = map (λ catch. WroteLine (wrote_row catch)) cs
+wrote_rows cs = map (λ catch. ItemWrote (wrote_row catch)) cs
 
 -- one row more
 pub wrote_more : (old : List SpillItem) (first : SpillItem) (cs : List Catch) (i : ℕ) (catch : Catch) (before after : List SpillItem)
     → slice_get cs i ≡ Some catch → before ≡ old ++ first ∷ wrote_rows (take i cs)
-    → after ≡ before ++ WroteLine (wrote_row catch) ∷ [] → after ≡ old ++ first ∷ wrote_rows (take (i + 1) cs)
+    → after ≡ before ++ ItemWrote (wrote_row catch) ∷ [] → after ≡ old ++ first ∷ wrote_rows (take (i + 1) cs)
 wrote_more old first cs i catch before after at was is =
-    let row = WroteLine (wrote_row catch) in
+    let row = ItemWrote (wrote_row catch) in
     is ∙ (ap (λ items. items ++ row ∷ []) was ∙ (append_assoc old (first ∷ wrote_rows (take i cs)) (row ∷ [])
     ∙ ap (λ items. old ++ first ∷ items)
-    (sym (map-append (λ c. WroteLine (wrote_row c)) (take i cs) (catch ∷ [])) ∙ ap wrote_rows (sym (one_more cs i catch at)))))
+    (sym (map-append (λ c. ItemWrote (wrote_row c)) (take i cs) (catch ∷ [])) ∙ ap wrote_rows (sym (one_more cs i catch at)))))
 
 -- the rows of the catches before one don't tell of its block
 earlier_told : (cs : List Catch) (i : ℕ) (catch : Catch) → AreDifferent cs → slice_get cs i ≡ Some catch
@@ -133,18 +133,18 @@ neither a b off_a off_b = rw (off_a, off_b) refl
 
 not_told : (items : List SpillItem) (row : SpillRow) (cs : List Catch) (i : ℕ) (catch : Catch) → AreDifferent cs
     → slice_get cs i ≡ Some catch → is_written items catch.block ≡ false
-    → is_written (items ++ SpillLine row ∷ wrote_rows (take i cs)) catch.block ≡ false
+    → is_written (items ++ ItemSpill row ∷ wrote_rows (take i cs)) catch.block ≡ false
 not_told items row cs i catch apart at unwritten =
-    let later : list_any (writes catch.block) (SpillLine row ∷ wrote_rows (take i cs)) ≡ false =
-    none_any (writes catch.block) (SpillLine row ∷ wrote_rows (take i cs)) (refl, earlier_told cs i catch apart at) in
-    list_any-append (writes catch.block) items (SpillLine row ∷ wrote_rows (take i cs))
-    ∙ neither (is_written items catch.block) (list_any (writes catch.block) (SpillLine row ∷ wrote_rows (take i cs))) unwritten later
+    let later : list_any (writes catch.block) (ItemSpill row ∷ wrote_rows (take i cs)) ≡ false =
+    none_any (writes catch.block) (ItemSpill row ∷ wrote_rows (take i cs)) (refl, earlier_told cs i catch apart at) in
+    list_any-append (writes catch.block) items (ItemSpill row ∷ wrote_rows (take i cs))
+    ∙ neither (is_written items catch.block) (list_any (writes catch.block) (ItemSpill row ∷ wrote_rows (take i cs))) unwritten later
 
 -- the next catch is of a block that is still to write
 pub to_write : (old new : Spilling) (dwell : Dwell) (row : SpillRow) (i : ℕ) (catch : Catch) → IsSpilling old
     → ArePutsOn (length (places old.disk.now.map)) old.puts.now → old.instant ≤ dwell.begin
     → HasKept old new → new.admitted ≡ old.admitted → (let cs = caught_of old.disk.now dwell (wanted_of old.pending) in
-    slice_get cs i ≡ Some catch → new.items ≡ old.items ++ SpillLine row ∷ wrote_rows (take i cs) → IsToWrite new catch)
+    slice_get cs i ≡ Some catch → new.items ≡ old.items ++ ItemSpill row ∷ wrote_rows (take i cs) → IsToWrite new catch)
 to_write old new dwell row i catch is are begin kept admitted at items =
     let disk = old.disk.now in
     let puts = old.puts.now in
@@ -155,8 +155,8 @@ to_write old new dwell row i catch is are begin kept admitted at items =
     (λ p le. omega (arith, le, begin)) (first_blocks disk puts n) (first_come old is are) in
     let its = all_get (IsCaught disk puts n old.items) cs i catch (caught_are disk puts n old.items dwell come) here in
     let apart = caught_differ disk puts n old.items dwell (first_in_order disk puts n are is.first) in
-    let rows : new.items ≡ old.items ++ SpillLine row ∷ wrote_rows (take i cs) = items
-    ∙ ap (λ es. old.items ++ SpillLine row ∷ wrote_rows (take i (caught_of disk dwell (wanted_of es)))) is.registered in
+    let rows : new.items ≡ old.items ++ ItemSpill row ∷ wrote_rows (take i cs) = items
+    ∙ ap (λ es. old.items ++ ItemSpill row ∷ wrote_rows (take i (caught_of disk dwell (wanted_of es)))) is.registered in
     let unwritten = not_told old.items row cs i catch apart here (ap (is_written old.items) its.block ∙ its.unwritten) in
     record {
       index = its.index;
@@ -166,6 +166,6 @@ to_write old new dwell row i catch is are begin kept admitted at items =
           ∙ ap (λ m. slice_get (first_blocks disk puts m) its.index) admitted ∙ its.stands;
       block = its.block;
       unwritten = ap (λ xs. is_written xs its.put.block) rows
-          ∙ ap (is_written (old.items ++ SpillLine row ∷ wrote_rows (take i cs))) (sym its.block) ∙ unwritten;
+          ∙ ap (is_written (old.items ++ ItemSpill row ∷ wrote_rows (take i cs))) (sym its.block) ∙ unwritten;
       after = its.after;
     }

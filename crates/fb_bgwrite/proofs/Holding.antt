@@ -3,7 +3,7 @@ use Rattle.fb_units.proofs.Among.{among-right}
 use Rattle.fb_bgwrite.proofs.Words.{none_kept, all_get, ◌≡◌, ℕ, zero, suc, ◌+◌, ◌^◌, ◌<◌, List, [], ◌∷◌, Bool, true, false}
 use Rattle.fb_bgwrite.proofs.Words.{Option, Some, None, map, length, slice_get, refl, sym, ap, ◌∙◌, subst, arith, inl, inr, ◌==◌}
 use Rattle.fb_bgwrite.proofs.Words.{filter, nat_lt, AllByRecursion, flat_map, cases_Bool, cases_lt, and_parts, nat_tests, places}
-use Rattle.fb_bgwrite.proofs.Words.{Disk, all_weaker, Block, ForeRow, Run, all_append, SpillItem, SpillLine, WroteLine, WroteRow}
+use Rattle.fb_bgwrite.proofs.Words.{Disk, all_weaker, Block, ForeRow, Run, all_append, SpillItem, ItemSpill, ItemWrote, WroteRow}
 use Rattle.fb_bgwrite.proofs.Words.{Put, Puts, SectorRange, request_range, PutBlock, put_blocks, writes, block_range, share}
 use Rattle.fb_bgwrite.proofs.Words.{ArePuts, fore_ranges, IsInTime, IsOfPut, accepted, some_one}
 use Rattle.fb_store.specs.declared.content.Content.TheVariants.{Filled}
@@ -91,7 +91,7 @@ record IsRowOf (row : WroteRow) (block : Block) : Type 0 where
   put : row.put ≡ block.task
   range : wrote_range row ≡ block_range block
 
-row_of : (row : WroteRow) (block : Block) → writes block (WroteLine row) ≡ true → row.count ≡ block.count → IsRowOf row block
+row_of : (row : WroteRow) (block : Block) → writes block (ItemWrote row) ≡ true → row.count ≡ block.count → IsRowOf row block
 row_of row block is count =
     let both = and_parts (row.put == block.task) (row.lbn == block.lbn) is in
     let put = both.0 in
@@ -134,8 +134,8 @@ of_puts : (disk : Disk) (puts : List Put) → AreInOrder (put_blocks disk.map pu
     → is_in (wrote_range row) lbn ≡ true → (items : List SpillItem) → AllByRecursion (IsInTime disk puts) items
     → AllByRecursion (λ (g : Fill). is_in g.range lbn ≡ true → g.writer ≡ 2 ^ 32 + row.put) (flat_map put_fills items)
 of_puts disk puts order row is lbn inside [] all = tt
-of_puts disk puts order row is lbn inside (SpillLine stay ∷ items) all = of_puts disk puts order row is lbn inside items all.1
-of_puts disk puts order row is lbn inside (WroteLine other ∷ items) all = (
+of_puts disk puts order row is lbn inside (ItemSpill stay ∷ items) all = of_puts disk puts order row is lbn inside items all.1
+of_puts disk puts order row is lbn inside (ItemWrote other ∷ items) all = (
   λ there. ap (λ n. 2 ^ 32 + n) (one_put disk puts order row other is all.0 lbn inside there),
   of_puts disk puts order row is lbn inside items all.1,
 )
@@ -143,16 +143,16 @@ of_puts disk puts order row is lbn inside (WroteLine other ∷ items) all = (
 none_told : (lbn : ℕ) (items : List SpillItem) → AllByRecursion (λ item. is_told lbn item ≡ false) items
     → AllByRecursion (λ (g : Fill). is_in g.range lbn ≡ false) (flat_map put_fills items)
 none_told lbn [] all = tt
-none_told lbn (SpillLine stay ∷ items) all = none_told lbn items all.1
-none_told lbn (WroteLine row ∷ items) all = (all.0, none_told lbn items all.1)
+none_told lbn (ItemSpill stay ∷ items) all = none_told lbn items all.1
+none_told lbn (ItemWrote row ∷ items) all = (all.0, none_told lbn items all.1)
 
 -- where the row's fill stands
 told_fill : (items : List SpillItem) (i : ℕ) (row : WroteRow)
-    → slice_get items i ≡ Some (WroteLine row) → (j : ℕ) × (slice_get (flat_map put_fills items) j
+    → slice_get items i ≡ Some (ItemWrote row) → (j : ℕ) × (slice_get (flat_map put_fills items) j
     ≡ Some (let fill : Fill = record { instant = row.end; range = wrote_range row; writer = 2 ^ 32 + row.put } in fill))
 told_fill [] i row at = absurd (grind arith)
 told_fill (item ∷ items) zero row at =
-    let same : item ≡ WroteLine row = some_one item (WroteLine row) at in
+    let same : item ≡ ItemWrote row = some_one item (ItemWrote row) at in
     (0, ap (λ x. slice_get (flat_map put_fills (x ∷ items)) 0) same)
 told_fill (item ∷ items) (suc i) row at = among-right (put_fills item) (flat_map put_fills items) _ (told_fill items i row at)
 
@@ -169,7 +169,7 @@ holds disk run puts items are apart in_time =
           let Own : Fill → Type 0 = λ g. is_in g.range lbn ≡ true → g.writer ≡ 2 ^ 32 + row.put in
           let others = all_weaker (λ (g : Fill). is_in g.range lbn ≡ false) Own (λ g off there. absurd (grind arith)) (flat_map fore_fills
           run.fore) none in
-          let is = all_get (IsInTime disk puts.puts.items) items i (WroteLine row) in_time at in
+          let is = all_get (IsInTime disk puts.puts.items) items i (ItemWrote row) in_time at in
           let all = all_append Own (flat_map fore_fills run.fore) (flat_map put_fills items) others (of_puts disk puts.puts.items order row
           is lbn told items in_time) in
           let stands = told_fill items i row at in

@@ -99,7 +99,7 @@ unfoldable pub use Rattle.fb_bgwrite.specs.Text.{spill_lines}
 pub use Rattle.fb_bgwrite.specs.declared.choice.Spill.{Spill}
 pub use Rattle.fb_bgwrite.specs.declared.choice.Valued.{Valued}
 pub use Rattle.fb_bgwrite.specs.declared.items.SpillItem.{SpillItem}
-pub use Rattle.fb_bgwrite.specs.declared.items.SpillItem.TheVariants.{Spill as SpillLine, Wrote as WroteLine}
+pub use Rattle.fb_bgwrite.specs.declared.items.SpillItem.TheVariants.{Spill as ItemSpill, Wrote as ItemWrote}
 pub use Rattle.fb_bgwrite.specs.declared.items.SpillRow.{SpillRow}
 pub use Rattle.fb_bgwrite.specs.declared.items.WroteRow.{WroteRow}
 pub use Rattle.fb_bgwrite.specs.declared.search.Part.{Part}

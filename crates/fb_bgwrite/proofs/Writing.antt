@@ -7,13 +7,13 @@ use Rattle.fb_bgwrite.proofs.Words.{◌≢◌, ◌⊎◌, append-nil, all_weaker
 use Rattle.fb_bgwrite.proofs.Words.{[], ◌∷◌, ◌++◌, Bool, true, false, ◌&&◌, ◌||◌, not, Some, slice_get, map, refl, sym, ap, ap₂}
 use Rattle.fb_bgwrite.proofs.Words.{◌∙◌, subst, arith, inl, inr, if◌then◌else◌, ◌==◌, filter, nat_le, AllByRecursion, list_any}
 use Rattle.fb_bgwrite.proofs.Words.{cases_Bool, true≢false, nat_tests, list_any-append, sum_by-cons, Block, Entry, Wanted}
-use Rattle.fb_bgwrite.proofs.Words.{Delivered, Deliver, after, entry_after, wanted_of, SpillItem, SpillLine, WroteLine, SpillRow}
+use Rattle.fb_bgwrite.proofs.Words.{Delivered, Deliver, after, entry_after, wanted_of, SpillItem, ItemSpill, ItemWrote, SpillRow}
 use Rattle.fb_bgwrite.proofs.Words.{WroteRow, PutBlock, is_pending, is_written, pending, sectors, writes, AreOnce, entry_of}
 use Rattle.fb_bgwrite.proofs.Words.{some_one}
 use Rattle.fb_wanted.specs.declared.block.State.{State}
 use Rattle.fb_bgwrite.proofs.{PutBlocks.its_blocks, PutBlocks.AreInOrder, PutBlocks.IsBefore}
 
-wrote_one : (a b : WroteRow) → WroteLine a ≡ WroteLine b → a ≡ b
+wrote_one : (a b : WroteRow) → ItemWrote a ≡ ItemWrote b → a ≡ b
 wrote_one a b e = grind arith
 
 -- ---- blocks that are told apart
@@ -50,13 +50,13 @@ behind_other a b is = different a b (elim is.order [
 
 module _ (items : List SpillItem) (row : WroteRow) (block : Block) (put_is : row.put ≡ block.task) (lbn_is : row.lbn ≡ block.lbn) where
   abbrev more : List SpillItem
-  more = items ++ WroteLine row ∷ []
+  more = items ++ ItemWrote row ∷ []
 
   -- the row tells of no other block
-  not_told : (other : Block) → IsOther other block → writes other (WroteLine row) ≡ false
+  not_told : (other : Block) → IsOther other block → writes other (ItemWrote row) ≡ false
   not_told other is = let off = is.by_lbn in grind (arith, nat_tests)
 
-  pub told : writes block (WroteLine row) ≡ true
+  pub told : writes block (ItemWrote row) ≡ true
   told = grind (arith, nat_tests)
 
   tail : (p : SpillItem → Bool) (item : SpillItem) (a : Bool) → p item ≡ false → (a || list_any p (item ∷ [])) ≡ a
@@ -64,8 +64,8 @@ module _ (items : List SpillItem) (row : WroteRow) (block : Block) (put_is : row
   tail p item false off = rw off refl
 
   as_before : (other : Block) → IsOther other block → is_written more other ≡ is_written items other
-  as_before other is = list_any-append (writes other) items (WroteLine row ∷ [])
-      ∙ tail (writes other) (WroteLine row) (is_written items other) (not_told other is)
+  as_before other is = list_any-append (writes other) items (ItemWrote row ∷ [])
+      ∙ tail (writes other) (ItemWrote row) (is_written items other) (not_told other is)
 
   tail_on : (p : SpillItem → Bool) (item : SpillItem) (a : Bool) → p item ≡ true → (a || list_any p (item ∷ [])) ≡ true
   tail_on p item true on = refl
@@ -73,7 +73,7 @@ module _ (items : List SpillItem) (row : WroteRow) (block : Block) (put_is : row
 
   now_written : is_written more block ≡ true
   now_written =
-      list_any-append (writes block) items (WroteLine row ∷ []) ∙ tail_on (writes block) (WroteLine row) (is_written items block) told
+      list_any-append (writes block) items (ItemWrote row ∷ []) ∙ tail_on (writes block) (ItemWrote row) (is_written items block) told
 
   -- ---- registered blocks
 
@@ -180,27 +180,27 @@ module _ (items : List SpillItem) (row : WroteRow) (block : Block) (put_is : row
   -- ---- once
 
   -- the row is of no block that was written before
-  clash : (own : WroteRow) → writes block (WroteLine own) ≡ false → own.put ≡ row.put → own.lbn ≡ row.lbn → ⊥
+  clash : (own : WroteRow) → writes block (ItemWrote own) ≡ false → own.put ≡ row.put → own.lbn ≡ row.lbn → ⊥
   clash own off put lbn =
       let task : own.put ≡ block.task = put ∙ put_is in
       let first : own.lbn ≡ block.lbn = lbn ∙ lbn_is in
-      let on : writes block (WroteLine own) ≡ true = grind (arith, nat_tests) in
+      let on : writes block (ItemWrote own) ≡ true = grind (arith, nat_tests) in
       true≢false (sym on ∙ off)
 
   pub once_more : (rows : List SpillItem) → AllByRecursion (λ item. writes block item ≡ false) rows → AreOnce rows
-      → AreOnce (rows ++ WroteLine row ∷ [])
-  once_more rows off once i j one other at_i at_j puts lbns = elim (old_or_last rows (WroteLine row) (WroteLine one) i at_i) [
-    | inl one_before ↦ elim (old_or_last rows (WroteLine row) (WroteLine other) j at_j) [
+      → AreOnce (rows ++ ItemWrote row ∷ [])
+  once_more rows off once i j one other at_i at_j puts lbns = elim (old_or_last rows (ItemWrote row) (ItemWrote one) i at_i) [
+    | inl one_before ↦ elim (old_or_last rows (ItemWrote row) (ItemWrote other) j at_j) [
       | inl other_before ↦ once i j one other one_before.1 other_before.1 puts lbns
       | inr other_last ↦
           let same = wrote_one other row other_last.1 in
-          absurd (clash one (all_get _ rows i (WroteLine one) off one_before.1) (puts ∙ ap (λ (r : WroteRow). r.put) same)
+          absurd (clash one (all_get _ rows i (ItemWrote one) off one_before.1) (puts ∙ ap (λ (r : WroteRow). r.put) same)
           (lbns ∙ ap (λ (r : WroteRow). r.lbn) same))
     ]
-    | inr one_last ↦ elim (old_or_last rows (WroteLine row) (WroteLine other) j at_j) [
+    | inr one_last ↦ elim (old_or_last rows (ItemWrote row) (ItemWrote other) j at_j) [
       | inl other_before ↦
           let same = wrote_one one row one_last.1 in
-          absurd (clash other (all_get _ rows j (WroteLine other) off other_before.1) (sym puts ∙ ap (λ (r : WroteRow). r.put) same)
+          absurd (clash other (all_get _ rows j (ItemWrote other) off other_before.1) (sym puts ∙ ap (λ (r : WroteRow). r.put) same)
           (sym lbns ∙ ap (λ (r : WroteRow). r.lbn) same))
       | inr other_last ↦ one_last.0 ∙ sym other_last.0
     ]
@@ -211,29 +211,29 @@ none_once i j row other at_i at_j puts lbns = absurd (grind arith)
 
 -- a stay writes nothing
 pub stay_writes : (items : List SpillItem) (row : SpillRow) (block : Block)
-    → is_written (items ++ SpillLine row ∷ []) block ≡ is_written items block
-stay_writes items row block = list_any-append (writes block) items (SpillLine row ∷ []) ∙ or-false (is_written items block)
+    → is_written (items ++ ItemSpill row ∷ []) block ≡ is_written items block
+stay_writes items row block = list_any-append (writes block) items (ItemSpill row ∷ []) ∙ or-false (is_written items block)
 
 pub stay_registered : (items : List SpillItem) (row : SpillRow) (puts : List PutBlock)
-    → map (entry_of (items ++ SpillLine row ∷ [])) puts ≡ map (entry_of items) puts
+    → map (entry_of (items ++ ItemSpill row ∷ [])) puts ≡ map (entry_of items) puts
 stay_registered items row [] = refl
 stay_registered items row (put ∷ puts) =
     ap₂ (λ e es. e ∷ es) (ap (λ b. let e : Entry = record { block = put.block; state = if b then Delivered else Wanted } in e)
     (stay_writes items row put.block)) (stay_registered items row puts)
 
 pub stay_left : (items : List SpillItem) (row : SpillRow) (puts : List PutBlock)
-    → sectors (filter (λ b. not (is_written (items ++ SpillLine row ∷ []) b)) (its_blocks puts))
+    → sectors (filter (λ b. not (is_written (items ++ ItemSpill row ∷ []) b)) (its_blocks puts))
     ≡ sectors (filter (λ b. not (is_written items b)) (its_blocks puts))
 stay_left items row [] = refl
 stay_left items row (put ∷ puts) = elim (cases_Bool (is_written items put.block)) [
   | inl yes' ↦
-      let now : is_written (items ++ SpillLine row ∷ []) put.block ≡ true = stay_writes items row put.block ∙ yes' in
+      let now : is_written (items ++ ItemSpill row ∷ []) put.block ≡ true = stay_writes items row put.block ∙ yes' in
       rw (now, yes') (stay_left items row puts)
   | inr no' ↦
-      let now : is_written (items ++ SpillLine row ∷ []) put.block ≡ false = stay_writes items row put.block ∙ no' in
+      let now : is_written (items ++ ItemSpill row ∷ []) put.block ≡ false = stay_writes items row put.block ∙ no' in
       rw (now, no') (omega (
         arith,
-        sum_by-cons (λ (b : Block). b.count) put.block (filter (λ b. not (is_written (items ++ SpillLine row ∷ []) b)) (its_blocks puts)),
+        sum_by-cons (λ (b : Block). b.count) put.block (filter (λ b. not (is_written (items ++ ItemSpill row ∷ []) b)) (its_blocks puts)),
         sum_by-cons (λ (b : Block). b.count) put.block (filter (λ b. not (is_written items b)) (its_blocks puts)),
         stay_left items row puts,
       ))
@@ -241,13 +241,13 @@ stay_left items row (put ∷ puts) = elim (cases_Bool (is_written items put.bloc
 
 -- a row of a stay is none of a block
 wrote_before : (rows : List SpillItem) (stay : SpillRow) (row : WroteRow) (i : ℕ)
-    → slice_get (rows ++ SpillLine stay ∷ []) i ≡ Some (WroteLine row) → slice_get rows i ≡ Some (WroteLine row)
-wrote_before rows stay row i is = elim (old_or_last rows (SpillLine stay) (WroteLine row) i is) [
+    → slice_get (rows ++ ItemSpill stay ∷ []) i ≡ Some (ItemWrote row) → slice_get rows i ≡ Some (ItemWrote row)
+wrote_before rows stay row i is = elim (old_or_last rows (ItemSpill stay) (ItemWrote row) i is) [
   | inl before ↦ before.1
   | inr last ↦ absurd (let stay_is_row = last.1 in grind arith)
 ]
 
-pub once_stay : (rows : List SpillItem) (stay : SpillRow) → AreOnce rows → AreOnce (rows ++ SpillLine stay ∷ [])
+pub once_stay : (rows : List SpillItem) (stay : SpillRow) → AreOnce rows → AreOnce (rows ++ ItemSpill stay ∷ [])
 once_stay rows stay once i j row other at_i at_j =
     once i j row other (wrote_before rows stay row i at_i) (wrote_before rows stay other j at_j)
 

@@ -8,7 +8,7 @@ use Rattle.fb_store.specs.Writes.{is_within, writer_of, unwritten}
 use Rattle.fb_rows.specs.declared.fore.ForeRow.{ForeRow}
 use Rattle.fb_rows.specs.declared.run.Run.{Run}
 use Rattle.fb_bgwrite.specs.declared.items.SpillItem.{SpillItem}
-use Rattle.fb_bgwrite.specs.declared.items.SpillItem.TheVariants.{Spill as SpillLine, Wrote as WroteLine}
+use Rattle.fb_bgwrite.specs.declared.items.SpillItem.TheVariants.{Spill as ItemSpill, Wrote as ItemWrote}
 use Rattle.fb_bgwrite.specs.declared.items.WroteRow.{WroteRow}
 use Rattle.fb_puts.specs.declared.range.SectorRange.{SectorRange}
 use Rattle.fb_puts.specs.Asked.{request_range}
@@ -30,8 +30,8 @@ wrote_range row = record { first = row.lbn; count = row.count }
 
 -- a put's block that was written takes effect when it has passed; put i leaves 2^32 + i
 abbrev pub put_fills : SpillItem → List Fill
-put_fills (SpillLine row) = []
-put_fills (WroteLine row) = record { instant = row.end; range = wrote_range row; writer = 2 ^ 32 + row.put } ∷ []
+put_fills (ItemSpill row) = []
+put_fills (ItemWrote row) = record { instant = row.end; range = wrote_range row; writer = 2 ^ 32 + row.put } ∷ []
 
 -- all that is written in a run with these rows of spills
 abbrev pub fills : Run → List SpillItem → List Fill
@@ -62,14 +62,14 @@ held latent fills lbn = held_by (latest (filter (λ fill. is_in fill.range lbn) 
 
 -- the row tells that the sector was written
 abbrev pub is_told : ℕ → SpillItem → Bool
-is_told lbn (SpillLine row) = false
-is_told lbn (WroteLine row) = is_in (wrote_range row) lbn
+is_told lbn (ItemSpill row) = false
+is_told lbn (ItemWrote row) = is_in (wrote_range row) lbn
 
 -- at a run's end each sector of the reserve holds its put's fill where a row tells that it was written, and else what it held before any
 -- write
 pub record HoldsPuts (run : Run) (reserve : SectorRange) (items : List SpillItem) : Type 0 where
-  pub written : (latent : List ℕ) (lbn i : ℕ) (row : WroteRow) → is_in reserve lbn ≡ true → slice_get items i ≡ Some (WroteLine row)
-      → is_told lbn (WroteLine row) ≡ true
+  pub written : (latent : List ℕ) (lbn i : ℕ) (row : WroteRow) → is_in reserve lbn ≡ true → slice_get items i ≡ Some (ItemWrote row)
+      → is_told lbn (ItemWrote row) ≡ true
       → held latent (fills run items) lbn ≡ Filled (2 ^ 32 + row.put)
   pub others : (latent : List ℕ) (lbn : ℕ) → is_in reserve lbn ≡ true → AllByRecursion (λ item. is_told lbn item ≡ false) items
       → held latent (fills run items) lbn ≡ unwritten latent lbn

@@ -13,7 +13,7 @@ use Rattle.fb_model.specs.SoundRun.{IsSublist}
 use Rattle.fb_model.specs.Timeline.{IsPossible}
 use Rattle.fb_bgwrite.specs.declared.choice.Spill.{Spill}
 use Rattle.fb_bgwrite.specs.declared.items.SpillItem.{SpillItem}
-use Rattle.fb_bgwrite.specs.declared.items.SpillItem.TheVariants.{Spill as SpillLine, Wrote as WroteLine}
+use Rattle.fb_bgwrite.specs.declared.items.SpillItem.TheVariants.{Spill as ItemSpill, Wrote as ItemWrote}
 use Rattle.fb_bgwrite.specs.declared.items.WroteRow.{WroteRow}
 use Rattle.fb_puts.specs.declared.puts.Put.{Put}
 use Rattle.fb_puts.specs.declared.range.SectorRange.{SectorRange}
@@ -64,25 +64,25 @@ pub record IsSpillRun (disk : Disk) (run : Run) (puts : List Put) (items : List 
 
 -- no block is written twice: no two rows tell of one put and one LBN
 abbrev pub AreOnce : List SpillItem → Type 0
-AreOnce items = (i j : ℕ) (row other : WroteRow) → slice_get items i ≡ Some (WroteLine row) → slice_get items j ≡ Some (WroteLine other)
+AreOnce items = (i j : ℕ) (row other : WroteRow) → slice_get items i ≡ Some (ItemWrote row) → slice_get items j ≡ Some (ItemWrote other)
     → row.put ≡ other.put → row.lbn ≡ other.lbn → i ≡ j
 
 -- what is written is a block of a put whose instant has come
 pub record IsOfPut (disk : Disk) (puts : List Put) (row : WroteRow) : Type 0 where
   pub put : PutBlock
   pub among : (i : ℕ) × (slice_get (put_blocks disk.map puts) i ≡ Some put)
-  pub writes : writes put.block (WroteLine row) ≡ true
+  pub writes : writes put.block (ItemWrote row) ≡ true
   pub count : row.count ≡ put.block.count
   pub after : put.instant ≤ row.begin
 
 abbrev pub IsInTime : Disk → List Put → SpillItem → Type 0
-IsInTime disk puts (SpillLine row) = Unit {0}
-IsInTime disk puts (WroteLine row) = IsOfPut disk puts row
+IsInTime disk puts (ItemSpill row) = Unit {0}
+IsInTime disk puts (ItemWrote row) = IsOfPut disk puts row
 
 -- the sectors that a row tells to be written
 abbrev pub sectors_in : SpillItem → ℕ
-sectors_in (SpillLine row) = 0
-sectors_in (WroteLine row) = row.count
+sectors_in (ItemSpill row) = 0
+sectors_in (ItemWrote row) = row.count
 
 -- the sectors of all blocks that no row tells to be written
 abbrev pub left_over : Disk → List Put → List SpillItem → ℕ

@@ -9,7 +9,7 @@ use Rattle.fb_rows.specs.declared.back.GapRow.{GapRow}
 use Rattle.fb_rows.specs.declared.gap.Catch.{Catch}
 use Rattle.fb_bgwrite.specs.declared.choice.Spill.{Spill}
 use Rattle.fb_bgwrite.specs.declared.items.SpillItem.{SpillItem}
-use Rattle.fb_bgwrite.specs.declared.items.SpillItem.TheVariants.{Spill as SpillLine, Wrote as WroteLine}
+use Rattle.fb_bgwrite.specs.declared.items.SpillItem.TheVariants.{Spill as ItemSpill, Wrote as ItemWrote}
 use Rattle.fb_bgwrite.specs.declared.spilling.Spilling.{Spilling}
 use Rattle.fb_puts.specs.declared.puts.Put.{Put}
 use Rattle.fb_units.specs.Rising.{IsRising}
@@ -43,8 +43,8 @@ first_blocks disk puts n = blocks_from disk.map 1 (take n puts)
 
 -- the row is of one of the first puts
 abbrev pub IsUpTo : ℕ → SpillItem → Type 0
-IsUpTo n (SpillLine row) = Unit {0}
-IsUpTo n (WroteLine row) = row.put ≤ n
+IsUpTo n (ItemSpill row) = Unit {0}
+IsUpTo n (ItemWrote row) = row.put ≤ n
 
 -- the blocks of the first puts, whose instants have come, are registered; and all that holds of the rows so far
 pub record IsSpilling (spilling : Spilling) : Type 0 where

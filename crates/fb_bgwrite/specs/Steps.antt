@@ -7,7 +7,7 @@ use Rattle.fb_rows.specs.declared.gap.Catch.{Catch}
 use Rattle.fb_model.specs.Deliveries.{caught_of}
 use Rattle.fb_bgwrite.specs.declared.choice.Spill.{Spill}
 use Rattle.fb_bgwrite.specs.declared.items.SpillItem.{SpillItem}
-use Rattle.fb_bgwrite.specs.declared.items.SpillItem.TheVariants.{Spill as SpillLine, Wrote as WroteLine}
+use Rattle.fb_bgwrite.specs.declared.items.SpillItem.TheVariants.{Spill as ItemSpill, Wrote as ItemWrote}
 use Rattle.fb_bgwrite.specs.declared.items.SpillRow.{SpillRow}
 use Rattle.fb_bgwrite.specs.declared.items.WroteRow.{WroteRow}
 use Rattle.fb_bgwrite.specs.Blocks.{PutBlock, pending}
@@ -29,7 +29,7 @@ wrote_row catch = record { put = catch.block.task; lbn = catch.block.lbn; count 
 -- the rows of a spill: the stay, and the pending blocks that pass whole in it, by end
 abbrev pub spill_rows : Disk → GapRow → List Block → Spill → List SpillItem
 spill_rows disk row pending spill =
-    SpillLine (spill_row disk row spill) ∷ map (λ catch. WroteLine (wrote_row catch)) (caught_of disk (dwell_of disk row.gap spill) pending)
+    ItemSpill (spill_row disk row spill) ∷ map (λ catch. ItemWrote (wrote_row catch)) (caught_of disk (dwell_of disk row.gap spill) pending)
 
 abbrev pub rows_of : Disk → GapRow → List Block → Option Spill → List SpillItem
 rows_of disk row pending None = []

@@ -5,7 +5,7 @@ ghost use Rattle.fb_sectormap.specs.Cutting.{cutting};
 ghost use Rattle.fb_wanted.specs.Numbering.{blocks_of, registered_count};
 ghost use Rattle.fb_wanted.specs.States.{wanted_of};
 ghost use Rattle.fb_model.specs.Segments.{numbered};
-ghost use Rattle.fb_bgwrite.specs.declared.items.SpillItem.TheVariants.{Spill as SpillLine, Wrote as WroteLine};
+ghost use Rattle.fb_bgwrite.specs.declared.items.SpillItem.TheVariants.{Spill as ItemSpill, Wrote as ItemWrote};
 ghost use Rattle.fb_puts.specs.declared.puts.Put.{Put};
 ghost use Rattle.fb_bgwrite.specs.Choosing.{IsGap};
 ghost use Rattle.fb_bgwrite.specs.Spilling.{dwell_of, IsSpill};
@@ -173,7 +173,7 @@ impl<'a> Spilling<'a> {
         ensures kept { OnOk result (HasKept self.old self.new) }
         ensures admitted { OnOk result (self.new.admitted ≡ self.old.admitted) }
         ensures instant { OnOk result (self.new.instant ≡ self.old.instant) }
-        ensures items { OnOk result (self.new.items ≡ self.old.items ++ SpillLine row ∷ []) }
+        ensures items { OnOk result (self.new.items ≡ self.old.items ++ ItemSpill row ∷ []) }
     {
         self.items.push(SpillItem::Spill(row))
     }
@@ -187,7 +187,7 @@ impl<'a> Spilling<'a> {
         ensures kept { OnOk result (HasKept self.old self.new) }
         ensures admitted { OnOk result (self.new.admitted ≡ self.old.admitted) }
         ensures instant { OnOk result (self.new.instant ≡ self.old.instant) }
-        ensures items { OnOk result (self.new.items ≡ self.old.items ++ WroteLine (wrote_row catch) ∷ []) }
+        ensures items { OnOk result (self.new.items ≡ self.old.items ++ ItemWrote (wrote_row catch) ∷ []) }
     {
         self.items.push(SpillItem::Wrote(wrote_row(catch)))?;
         self.pending.deliver(catch.block.task, catch.block.number);

@@ -20,7 +20,7 @@ use Rattle.fb_model.specs.Blocks.{IsBlockOn}
 use Rattle.fb_model.specs.History.{same_block, Past, wanted}
 use Rattle.fb_rows.specs.declared.gap.Catch.{Catch}
 use Rattle.fb_plan.proofs.Sorted.{not_both}
-use Rattle.fb_decide.specs.Deliveries.{AreDistinct, AreDue, held_now}
+use Rattle.fb_decide.specs.Deliveries.{AreDistinct, AreDeliverable, held_now}
 use Rattle.fb_geometry.specs.Shape.{Shape}
 use Rattle.fb_sectormap.specs.LookUp.{track_at}
 use Rattle.fb_service.specs.Extents.{IsUnbroken}
@@ -28,7 +28,7 @@ use Rattle.fb_service.specs.declared.passage.Extent.{Extent}
 use Rattle.fb_service.specs.declared.passage.Passage.{Passage}
 use Rattle.fb_wanted.specs.declared.block.Entry.{Entry}
 use Rattle.fb_wanted.specs.States.{on_track, wanted_of}
-use Rattle.fb_model.specs.Deliveries.{is_before, placed, lies_in, ride_of, carried_of, rides, delivery_row}
+use Rattle.fb_model.specs.Deliveries.{is_before, placed, lies_in, ride_of, carried_of, carried_rows, delivery_row}
 use Rattle.fb_decide.specs.Carried.{added, begins_in, begun_in, AreLaid, AreExtents}
 use Rattle.fb_geometry.specs.Places.{places}
 use Rattle.fb_service.specs.declared.disk.Disk.{Disk}
@@ -239,11 +239,11 @@ extent_at P extents all i d within = all_get P extents i (get_or extents i d) al
 -- the deliveries of what is carried
 pub rows-carried : (holding : Holding) (served : Served) (blocks : List Block) → served.request.write ≡ false
     → map (delivery_row (held_now holding) ByRide) (carried_of served.passages served.request blocks)
-    ≡ rides (held_now holding) served blocks
+    ≡ carried_rows (held_now holding) served blocks
 rows-carried holding served blocks reads = rw reads refl
 
 pub due-carried : (holding : Holding) (served : Served) (past : Past) → served.request.write ≡ false → AreDistinct (wanted past)
-    → AreDue past (rides (held_now holding) served (wanted past))
+    → AreDeliverable past (carried_rows (held_now holding) served (wanted past))
 unfolding carried_of
 due-carried holding served past reads distinct =
     rw reads (due-filtered (held_now holding) ByRide past (lies_in served.request) (ride_of served.passages) (λ b. refl) distinct)

@@ -34,7 +34,7 @@ use Rattle.fb_tasks.specs.Taken.{delivery_of, rows_after}
 use Rattle.fb_tasks.specs.Telling.{Tells, MayDeliver, IsUpToDate, IsBlockOf, entry_of}
 use Rattle.fb_tasks.proofs.States.{shown}
 use Rattle.fb_decide.specs.declared.background.Background.{Background}
-use Rattle.fb_decide.specs.Deliveries.{TellsUpToDate, HasDelivered, IsRegistered, AreDistinct, AreDue, IsOneOf, block_in, followed}
+use Rattle.fb_decide.specs.Deliveries.{TellsUpToDate, HasDelivered, IsRegistered, AreDistinct, AreDeliverable, IsOneOf, block_in, followed}
 use Rattle.fb_decide.specs.Deliveries.{past_with, held_now}
 
 -- of the registered blocks, those that are wanted are the history's
@@ -201,7 +201,7 @@ not_yet (g ∷ gots) (suc k) got distinct at =
     rw other (not_yet gots k got distinct.1 at)
 
 -- the next of them is still wanted
-pub next-wanted : (past : Past) (gots : List DeliveryRow) (k : ℕ) (got : DeliveryRow) → AreDue past gots → slice_get gots k ≡ Some got
+pub next-wanted : (past : Past) (gots : List DeliveryRow) (k : ℕ) (got : DeliveryRow) → AreDeliverable past gots → slice_get gots k ≡ Some got
     → IsOneOf (wanted (past_with past (take k gots))) got.block
 next-wanted past gots k got due at =
     let found = all_get (λ g. IsOneOf (wanted past) g.block) gots k got due.each at in

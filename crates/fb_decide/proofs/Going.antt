@@ -127,7 +127,7 @@ pub record LeadsOn (inputs : Inputs) (steps : List Step) (more : Bool) (before a
   pub come_to : HasComeTo inputs more after (steps ++ step ∷ [])
   pub fewer : decisions_left inputs more after < decisions_left inputs true before
 
--- where the requests of these inputs stand
+-- where a replay of these inputs stands
 abbrev standing : Inputs → Course → List Request → ℕ → State
 standing inputs course waiting joined = record { requests = requests inputs; course = course; waiting = waiting; joined = joined }
 
@@ -199,15 +199,15 @@ module _ (inputs : Inputs) (known : AreKnown inputs) (before : Course) (pending 
   }
 
   -- a request is served
-  module _ (request : Request) (others : List Request) (after : Course) (count_after : ℕ)
+  module _ (request : Request) (others : List Request) (after : Course)
       (pick : first_least (inputs.key inputs.disk before.head before.now) waiting ≡ Some (request, others))
       (now_served : HasServedNext inputs.disk request (ready_to_act before background joined called) after)
-      (waits : IsWaiting inputs.disk (standing inputs after others count_after)) where
+      (waits : IsWaiting inputs.disk (standing inputs after others queued)) where
     abbrev this : Served
     this = service inputs.disk before.head before.now request
 
     abbrev later : List Served
-    later = rest_of inputs (standing inputs after others count_after)
+    later = rest_of inputs (standing inputs after others queued)
 
     among : IsRequestOf inputs.disk.map request
         × (AllByRecursion (IsRequestOf inputs.disk.map) others × (length others + 1 ≡ length waiting))
@@ -272,7 +272,7 @@ module _ (inputs : Inputs) (known : AreKnown inputs) (before : Course) (pending 
     longer : length (run.done ++ this ∷ []) ≡ length run.done + 1
     longer = length-append run.done (this ∷ [])
 
-    goes_on_serving : GoesOn inputs (standing inputs after others count_after) (steps ++ step ∷ [])
+    goes_on_serving : GoesOn inputs (standing inputs after others queued) (steps ++ step ∷ [])
     goes_on_serving =
         let late = now_served.later in
         let soon = now_served.soon in
@@ -300,7 +300,7 @@ module _ (inputs : Inputs) (known : AreKnown inputs) (before : Course) (pending 
           );
         }
 
-    leads_serving : LeadsOn inputs steps true state (standing inputs after others count_after)
+    leads_serving : LeadsOn inputs steps true state (standing inputs after others queued)
     leads_serving = record {
       step = step;
       stepped = made.stepped;
@@ -499,8 +499,8 @@ module _ (inputs : Inputs) (known : AreKnown inputs) (before : Course) (pending 
   by_action : (goes_on : Bool) (after : State)
       → HasActed inputs (standing inputs (ready_to_act before background joined called) waiting queued) goes_on after
       → (goes_on ≡ true → IsWaiting inputs.disk after) → LeadsOn inputs steps goes_on state after
-  by_action goes_on after (serves_pick request course others count_after pick now_served) waits =
-      leads_serving request others course count_after pick now_served (waits refl)
+  by_action goes_on after (serves_pick request course others pick now_served) waits =
+      leads_serving request others course pick now_served (waits refl)
   by_action goes_on after (stays_on instant course empty next stayed) waits = leads_staying instant course empty next stayed (waits refl)
   by_action goes_on after (stays_last course empty next later stayed) waits = leads_last empty next later course stayed
   by_action goes_on after (ends_here empty next over) waits = leads_to_end empty next over
@@ -518,10 +518,10 @@ ready_is {before = before} {ready = ready} is = ap (λ list. record ready { requ
 pub decided_more : (inputs : Inputs) (steps : List Step) (goes_on : Bool) (before after : State) → AreKnown inputs
     → before.requests ≡ requests inputs → GoesOn inputs before steps → HasDecided inputs (history inputs steps) before goes_on after
     → (goes_on ≡ true → IsWaiting inputs.disk after) → LeadsOn inputs steps goes_on before after
-decided_more inputs steps goes_on before after known list_is =
+decided_more inputs steps goes_on before after known requests_are =
     subst (λ list. GoesOn inputs (record before { requests = list }) steps
     → HasDecided inputs (history inputs steps) (record before { requests = list }) goes_on after
-    → (goes_on ≡ true → IsWaiting inputs.disk after) → LeadsOn inputs steps goes_on (record before { requests = list }) after) (sym list_is)
+    → (goes_on ≡ true → IsWaiting inputs.disk after) → LeadsOn inputs steps goes_on (record before { requests = list }) after) (sym requests_are)
     (λ so_far decided waits.
     let ready = decided.ready in
     let is = decided.is_ready in

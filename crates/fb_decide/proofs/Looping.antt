@@ -119,14 +119,14 @@ known_inputs inputs accepted lists sound takes_time = record {
 
 pub made_first : (inputs : Inputs) (state : State) → AreKnown inputs → state.requests ≡ requests inputs
     → IsInitial inputs.latent state.course → state.waiting ≡ [] → state.joined ≡ 0 → HasMade inputs true [] state
-made_first inputs state known list_is begin none zero_joined = record {
+made_first inputs state known requests_are begin none zero_joined = record {
   known = known;
-  list_is = list_is;
-  come_to = subst (λ list. GoesOn inputs (record state { requests = list }) []) (sym list_is)
+  requests_are = requests_are;
+  come_to = subst (λ list. GoesOn inputs (record state { requests = list }) []) (sym requests_are)
       (begins inputs state.course state.waiting state.joined known begin none zero_joined);
 }
 
--- the same of another list of requests that is the same
+-- so with an equal list of requests
 pub made_with : {inputs : Inputs} {more : Bool} {steps : List Step} {state : State} (list : List Request) → list ≡ state.requests
     → HasMade inputs more steps state → HasMade inputs more steps (record state { requests = list })
 made_with {inputs} {more} {steps} {state} list same =
@@ -144,12 +144,12 @@ made_one_with {inputs} {steps} {more} {before} {course} {waiting} {joined} list 
 module _ (inputs : Inputs) (steps : List Step) (before : State) (made : HasMade inputs true steps before) where
   pub now_may_decide : MayDecide inputs before
   now_may_decide = record {
-    list = subst (IsForegroundOf inputs.disk) (sym made.list_is) made.known.list;
+    requests = subst (IsForegroundOf inputs.disk) (sym made.requests_are) made.known.list;
     script = record { instants = made.known.accepted.instants; allowed = made.known.accepted.calls; few = made.known.accepted.few_calls };
     waiting = made.come_to.waits;
     come = made.come_to.arrivals;
     head = made.come_to.stands;
-    now = omega (arith, made.come_to.soon, made.come_to.counted, ap length made.list_is, made.known.list.few);
+    now = omega (arith, made.come_to.soon, made.come_to.counted, ap length made.requests_are, made.known.list.few);
   }
 
   pub now_called : (past : Past) × IsCalled inputs.disk.map inputs.calls past before.course.called
@@ -162,7 +162,7 @@ module _ (inputs : Inputs) (steps : List Step) (before : State) (made : HasMade 
       → HasDecided inputs past before goes_on after)
       (waits : goes_on ≡ true → IsWaiting inputs.disk after) where
     leads : LeadsOn inputs steps goes_on before after
-    leads = decided_more inputs steps goes_on before after made.known made.list_is made.come_to
+    leads = decided_more inputs steps goes_on before after made.known made.requests_are made.come_to
         (decided (history inputs steps) made.come_to.called made.come_to.run.tells) waits
 
     pub made_one : HasMadeOne inputs steps goes_on before after
@@ -174,7 +174,7 @@ module _ (inputs : Inputs) (steps : List Step) (before : State) (made : HasMade 
       back_fits = step_fits (length (allowed.tasks inputs.calls)) inputs (history inputs steps) leads.step leads.stepped.is_made
           (fits-told inputs.disk.map inputs.calls (past_after inputs (history inputs steps) leads.step) after.course.called
           after.course.background.sessions after.course.background.blocks leads.stepped.tells leads.stepped.called.taken);
-      made = record { known = made.known; list_is = same ∙ made.list_is; come_to = leads.come_to };
+      made = record { known = made.known; requests_are = same ∙ made.requests_are; come_to = leads.come_to };
       fewer = leads.fewer;
     }
 
@@ -214,7 +214,7 @@ come_without inputs false steps state fore rows h = record {
 pub made_without : (inputs : Inputs) (more : Bool) (steps : List Step) (state : State) (fore : List ForeRow) (rows : List BackRow)
     → HasMade inputs more steps state → HasMade inputs more steps (without state fore rows)
 made_without inputs more steps state fore rows h =
-    record { known = h.known; list_is = h.list_is; come_to = come_without inputs more steps state fore rows h.come_to }
+    record { known = h.known; requests_are = h.requests_are; come_to = come_without inputs more steps state fore rows h.come_to }
 
 -- of inputs that are the same, a decision makes the same
 pub one_by : {held inputs : RunInputs} {key : Key} {more : Bool} {before after : State} → held ≡ inputs

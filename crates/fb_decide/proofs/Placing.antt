@@ -21,7 +21,7 @@ use Rattle.fb_tasks.specs.declared.session.Session.{Session}
 use Rattle.fb_tasks.specs.Standing.{AreNumbered}
 use Rattle.fb_tasks.specs.Telling.{Tells}
 use Rattle.fb_tasks.proofs.Deliveries.{numbered_from}
-use Rattle.fb_decide.specs.Deliveries.{AreDistinct, AreDue, IsOneOf, block_in, past_with, TellsUpToDate, HasDelivered, held_now}
+use Rattle.fb_decide.specs.Deliveries.{AreDistinct, AreDeliverable, IsOneOf, block_in, past_with, TellsUpToDate, HasDelivered, held_now}
 use Rattle.fb_rows.specs.declared.gap.Dwell.{Dwell}
 use Rattle.fb_rows.specs.declared.gap.How.{How}
 use Rattle.fb_rows.specs.declared.back.DeliveryRow.{DeliveryRow}
@@ -115,7 +115,7 @@ apart_by f own (b ∷ bs) h = (
 -- the deliveries of some of the wanted blocks, in order, are of different wanted blocks
 pub due-filtered : (contents : ContentsAt) (how : How) (past : Past) (p : Block → Bool) (f : Block → Catch)
     → ((b : Block) → (f b).block ≡ b) → AreDistinct (wanted past)
-    → AreDue past (map (delivery_row contents how) (in_order (map f (filter p (wanted past)))))
+    → AreDeliverable past (map (delivery_row contents how) (in_order (map f (filter p (wanted past)))))
 due-filtered contents how past p f own distinct =
     let found = map f (filter p (wanted past)) in
     let row = delivery_row contents how in
@@ -182,7 +182,7 @@ left-filtered contents how past p f own distinct =
 
 -- what a dwell catches, and what it misses
 pub due-caught : (disk : Disk) (holding : Holding) (how : How) (dwell : Dwell) (past : Past) → AreDistinct (wanted past)
-    → AreDue past (caught_rows disk (held_now holding) how dwell (wanted past))
+    → AreDeliverable past (caught_rows disk (held_now holding) how dwell (wanted past))
 unfolding caught_of
 due-caught disk holding how dwell past distinct =
     due-filtered (held_now holding) how past (catches disk dwell) (catch_of disk dwell) (λ b. refl) distinct
@@ -208,7 +208,7 @@ pub row-at : (holding : Holding) (how : How) (cs : List Catch) (k : ℕ) (d : Ca
     → slice_get (map (delivery_row (held_now holding) how) cs) k ≡ Some (delivery_row (held_now holding) how (get_or cs k d))
 row-at holding how cs k d less = map_at (delivery_row (held_now holding) how) cs k (get_or cs k d) (slice_get-get_or cs k d less)
 
-pub next-catch : (holding : Holding) (how : How) (past : Past) (cs : List Catch) → AreDue past (map (delivery_row (held_now holding) how) cs)
+pub next-catch : (holding : Holding) (how : How) (past : Past) (cs : List Catch) → AreDeliverable past (map (delivery_row (held_now holding) how) cs)
     → (k : ℕ) (d : Catch) → k < length cs
     → IsOneOf (wanted (past_with past (take k (map (delivery_row (held_now holding) how) cs)))) (get_or cs k d).block
 next-catch holding how past cs due k d less =

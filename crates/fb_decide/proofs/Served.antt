@@ -24,7 +24,7 @@ use Rattle.fb_model.specs.Decisions.{serving}
 use Rattle.fb_model.specs.History.{Past, finished, wanted}
 use Rattle.fb_model.specs.PlainReplay.{Served}
 use Rattle.fb_model.specs.Plans.{IsBest}
-use Rattle.fb_model.specs.Deliveries.{gap_of, missed_in_gap, due, rides, caught_in_gap}
+use Rattle.fb_model.specs.Deliveries.{gap_of, missed_in_gap, due, carried_rows, caught_in_gap}
 use Rattle.fb_model.proofs.Passages.{from_on, passed_between}
 use Rattle.fb_plan.specs.Ways.{IsGap}
 use Rattle.fb_tasks.specs.Telling.{Tells}
@@ -94,15 +94,15 @@ module _ (disk : Disk) (holding : Holding) (served : Served) (plan : Plan) (past
       → IsBest disk gap (wanted past) plan
       → HasDelivered disk.map past (in_gap gap) (rows ++ opening gap ∷ []) middle → wanted (past_with past (in_gap gap)) ≡ left gap
       → ((later : Past) → TellsUpToDate disk.map later middle
-      → HasDelivered disk.map later (rides (held_now holding) served (wanted later)) middle.rows after)
+      → HasDelivered disk.map later (carried_rows (held_now holding) served (wanted later)) middle.rows after)
       → HasDeliveredAround disk holding past served rows after
   unfolding due
   has-delivered-around gap rows middle after its_own best first are_left next = record {
     plan = plan;
     best = subst (λ g. IsBest disk g (wanted past) plan) its_own best;
-    delivered = subst (λ g. HasDelivered disk.map past (in_gap g ++ rides (held_now holding) served (left g)) (rows ++ opening g ∷ []) after)
+    delivered = subst (λ g. HasDelivered disk.map past (in_gap g ++ carried_rows (held_now holding) served (left g)) (rows ++ opening g ∷ []) after)
         its_own (delivered-join first (subst (λ bs. HasDelivered disk.map (past_with past (in_gap gap))
-        (rides (held_now holding) served bs) middle.rows after) are_left (next (past_with past (in_gap gap)) first.current)));
+        (carried_rows (held_now holding) served bs) middle.rows after) are_left (next (past_with past (in_gap gap)) first.current)));
   }
 
 -- and then the request has finished
@@ -111,12 +111,9 @@ pub has-served : (disk : Disk) (holding : Holding) (past : Past) (served : Serve
     → ((later : Past) → Tells disk.map later middle.sessions middle.blocks
     → Tells disk.map (finished served.request ∷ later) after.sessions after.blocks)
     → after.rows ≡ middle.rows → HasServed disk holding past served rows after
-has-served disk holding past served rows middle after all ends same =
-    let gots = due disk (held_now holding) (serving served all.plan) (wanted past) in
-    record {
-      plan = all.plan;
-      best = all.best;
-      tells = ends (past_with past gots) all.delivered.current.tells;
-      rows_after = same ∙ all.delivered.rows_after;
-      registered = all.delivered.registered;
-    }
+has-served disk holding past served rows middle after all ends same = record {
+  around = middle;
+  delivered_around = all;
+  tells = ends (past_with past (due disk (held_now holding) (serving served all.plan) (wanted past))) all.delivered.current.tells;
+  same_rows = same;
+}

@@ -191,11 +191,11 @@ module _ (inputs : Inputs) (past : Past) (before : Course) (background : Backgro
       mirrors = mirrors;
       found =
           due_found inputs.disk before.store served_act (held_until served) (wanted tested_now) refl has_served.best.is_plan over all_some;
-      there = has_served.registered;
+      there = has_served.delivered.registered;
       best = has_served.best;
       all = due_same (medium_of inputs) before.store served_act (held_until served)
           (wanted tested_now) refl has_served.best.is_plan over all_some mirrors;
-      rows_behind = has_served.rows_after;
+      rows_behind = has_served.same_rows ∙ has_served.delivered.rows_after;
       tells_after = has_served.tells;
       contents = now_served.contents;
       same_called = now_served.same_called;

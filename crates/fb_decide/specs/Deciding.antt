@@ -1,4 +1,4 @@
--- What stands between two decisions, and what a decision makes of it.
+-- What one decision makes of where a replay stands.
 use Rattle.std.specs.Prelude.{◌≡◌, ◌≤◌, ◌<◌, ◌+◌, ◌-◌, ◌*◌, ◌^◌, ℕ, List, [], ◌∷◌, ◌++◌, Bool, true, false, Option, None, Some, min, length}
 use Rattle.std.specs.Prelude.{take, IfSome, slice_get}
 use Rattle.std.specs.List.{AllByRecursion}
@@ -91,10 +91,10 @@ next_instant inputs state = next_of (slice_get state.requests state.course.joine
 -- what a decision does: the pick of the waiting requests is served, or the head stays until the next instant or the end;
 -- another decision follows each but the last
 pub data HasActed (inputs : Inputs) (before : State) : Bool → State → Type 0 where
-  serves_pick : (request : Request) (course : Course) (others : List Request) (joined : ℕ)
+  serves_pick : (request : Request) (course : Course) (others : List Request)
       → first_least (inputs.key inputs.disk before.course.head before.course.now) before.waiting ≡ Some (request, others)
       → HasServedNext inputs.disk request before.course course
-      → HasActed inputs before true (record before { course = course; waiting = others; joined = joined })
+      → HasActed inputs before true (record before { course = course; waiting = others })
   stays_on : (instant : ℕ) (course : Course) → before.waiting ≡ [] → next_instant inputs before ≡ Some instant
       → HasStayed inputs.disk instant before.course course → HasActed inputs before true (record before { course = course })
   stays_last : (course : Course) → before.waiting ≡ [] → next_instant inputs before ≡ None → before.course.now < inputs.until
@@ -105,7 +105,7 @@ pub data HasActed (inputs : Inputs) (before : State) : Bool → State → Type 0
 -- what must stand before a decision: requests and calls that a replay can have, of which those that wait have arrived, and a head that
 -- is on a track of the disk, so early that one more service ends at an instant
 pub record MayDecide (inputs : Inputs) (state : State) : Type 0 where
-  pub list : IsForegroundOf inputs.disk state.requests
+  pub requests : IsForegroundOf inputs.disk state.requests
   pub script : IsScriptOf inputs.disk.map inputs.calls
   pub waiting : IsWaiting inputs.disk state
   pub come : AllByRecursion (λ r. r.arrival ≤ state.course.now) (take state.course.joined state.requests)

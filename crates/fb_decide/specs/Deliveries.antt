@@ -32,9 +32,13 @@ followed past (got ∷ gots) = delivery_of past got ∷ followed (with_delivery 
 abbrev pub past_with : Past → List DeliveryRow → Past
 past_with past gots = fold with_delivery past (followed past gots)
 
+-- the block stands in the list
+abbrev pub IsOneOf : List Block → Block → Type 0
+IsOneOf blocks block = (index : ℕ) × (slice_get blocks index ≡ Some block)
+
 -- the block is registered
 abbrev pub IsRegistered : Past → Block → Type 0
-IsRegistered past block = (index : ℕ) × (slice_get (registered past) index ≡ Some block)
+IsRegistered past block = IsOneOf (registered past) block
 
 -- the sessions and the registered blocks tell the history, and all of it was tested
 pub record TellsUpToDate (disk : Shape) (past : Past) (background : Background) : Type 0 where
@@ -46,16 +50,12 @@ abbrev pub AreDistinct : List Block → Type 0
 AreDistinct [] = Unit {0}
 AreDistinct (block ∷ blocks) = AllByRecursion (λ other. same_block block other ≡ false) blocks × AreDistinct blocks
 
--- the block stands in the list
-abbrev pub IsOneOf : List Block → Block → Type 0
-IsOneOf blocks block = (index : ℕ) × (slice_get blocks index ≡ Some block)
-
 -- the block that is delivered
 abbrev pub block_in : DeliveryRow → Block
 block_in got = got.block
 
 -- deliveries of different blocks that are wanted
-pub record AreDue (past : Past) (gots : List DeliveryRow) : Type 0 where
+pub record AreDeliverable (past : Past) (gots : List DeliveryRow) : Type 0 where
   pub each : AllByRecursion (λ got. IsOneOf (wanted past) got.block) gots
   pub distinct : AreDistinct (map block_in gots)
 
@@ -73,13 +73,12 @@ pub record HasDeliveredAround (disk : Disk) (holding : Holding) (past : Past) (s
   pub delivered : HasDelivered disk.map past (due disk (held_now holding) (serving served plan) (wanted past))
       (rows ++ opening disk (serving served plan)) after
 
--- a request was served by the best plan for its gap, and the background rows were added
+-- and then the request has finished, which adds no background row
 pub record HasServed (disk : Disk) (holding : Holding) (past : Past) (served : Served) (rows : List BackRow)
     (after : Background) : Type 0 where
-  pub plan : Plan
-  pub best : IsBest disk (gap_of disk served) (wanted past) plan
+  pub around : Background
+  pub delivered_around : HasDeliveredAround disk holding past served rows around
+  pub open delivered_around use *
   pub tells : Tells disk.map (finished served.request ∷ past_with past (due disk (held_now holding) (serving served plan) (wanted past)))
       after.sessions after.blocks
-  pub rows_after : after.rows ≡ rows ++ opening disk (serving served plan)
-      ++ delivery_rows (followed past (due disk (held_now holding) (serving served plan) (wanted past)))
-  pub registered : AllByRecursion (λ got. IsRegistered past got.block) (due disk (held_now holding) (serving served plan) (wanted past))
+  pub same_rows : after.rows ≡ around.rows

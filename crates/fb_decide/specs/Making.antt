@@ -1,4 +1,4 @@
--- How far a replay has come between two decisions, and what a decision adds.
+-- Which steps of a full run have been made between two decisions, and one more.
 use Rattle.std.specs.Prelude.{◌≡◌, ◌≤◌, ◌<◌, ◌+◌, ◌*◌, ◌^◌, ℕ, List, [], ◌∷◌, ◌++◌, Bool, true, false, None, ◌==◌, filter, length, map}
 use Rattle.std.specs.Prelude.{take}
 use Rattle.std.specs.List.{AllByRecursion, flat_map, last_or}
@@ -127,7 +127,7 @@ pub record AreKnown (inputs : Inputs) : Type 0 where
 -- these steps have been made, and perhaps more follow
 pub record HasMade (inputs : Inputs) (more : Bool) (steps : List Step) (state : State) : Type 0 where
   pub known : AreKnown inputs
-  pub list_is : state.requests ≡ requests inputs
+  pub requests_are : state.requests ≡ requests inputs
   pub come_to : HasComeTo inputs more state steps
 
 -- how many decisions are left

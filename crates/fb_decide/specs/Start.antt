@@ -19,7 +19,7 @@ pub record IsStartOn (disk : Disk) (start : Start) : Type 0 where
   pub head : IsTrackOf disk.map start.head
   pub instant : start.instant ≤ 9 * 10 ^ 18 - 10 ^ 14
 
--- the service that starts so has these extents, this media instant and this finish, which is an instant too
+-- the service that starts so has these extents, this media instant and this finish, at most 9 * 10^18 ns
 pub record IsServiceOf (disk : Disk) (start : Start) (service : Service) : Type 0 where
   pub passages : all_passages_of disk.map service.extents.items ≡ (served_from disk start).passages
   pub unbroken : AllByRecursion (IsUnbroken disk.map) service.extents.items

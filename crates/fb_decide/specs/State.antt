@@ -1,4 +1,4 @@
--- Where a replay stands between two decisions.
+-- Where a replay stands, as one record.
 use Rattle.std.specs.Prelude.{ℕ, List}
 use Rattle.fb_units.specs.declared.types.Request.{Request}
 use Rattle.fb_decide.specs.declared.deciding.Course.{Course}

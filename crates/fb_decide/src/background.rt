@@ -4,7 +4,7 @@ ghost use Rattle.fb_geometry.specs.Shape.{Shape};
 ghost use Rattle.fb_model.specs.History.{Past, finished, wanted};
 ghost use Rattle.fb_model.specs.Deliveries.{delivery_row, caught_rows, missed};
 ghost use Rattle.fb_tasks.specs.Telling.{Tells};
-ghost use Rattle.fb_decide.specs.Deliveries.{TellsUpToDate, HasDelivered, AreDue, held_now, past_with};
+ghost use Rattle.fb_decide.specs.Deliveries.{TellsUpToDate, HasDelivered, AreDeliverable, held_now, past_with};
 
 use fb_plan::caught;
 use fb_rows::{BackRow, BackRows, Catch, DeliveryRow, Dwell, How};
@@ -17,7 +17,7 @@ use std::alloc::Global;
 
 /// The background between two events of a replay.
 ///
-/// Before a decision it is prepared (`prepare`); around a service blocks are delivered
+/// At a decision it is prepared first (`prepare`); around a service blocks are delivered
 /// (`deliver_around`): in the gap (`go_through`) and by the read itself (`ride`). Then the request
 /// has finished (`after_service`). Where the head stays, `deliver_idle` delivers.
 #[derive(Drop)]
@@ -71,9 +71,9 @@ impl Background {
         catches: &[Catch],
     ) -> Result<(), NoMemory>
         requires { (disk : Shape) × (past : Past) × TellsUpToDate disk past self.old
-            × AreDue past (map (delivery_row (held_now store.now) how) catches.now) }
+            × AreDeliverable past (map (delivery_row (held_now store.now) how) catches.now) }
         ensures { OnOk result ((disk : Shape) (past : Past) → TellsUpToDate disk past self.old
-            → AreDue past (map (delivery_row (held_now store.now) how) catches.now)
+            → AreDeliverable past (map (delivery_row (held_now store.now) how) catches.now)
             → HasDelivered disk past (map (delivery_row (held_now store.now) how) catches.now) self.old.rows self.new) }
     {
         for catch in catches {

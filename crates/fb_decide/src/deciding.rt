@@ -183,7 +183,7 @@ impl<'a, Q: Queue> Decider<'a, Q> {
     }
 }
 
-// The state in which nothing has happened yet. The only error is out of memory.
+// The course in which nothing has happened yet. The only error is out of memory.
 fn initial_course(alloc: Global, latent: &[u64]) -> Result<Course, NoMemory>
     ensures initial { IfOk result (λ course. IsInitial latent.now course) }
     ensures no_fore { IfOk result (λ course. course.fore ≡ []) }

@@ -1,4 +1,4 @@
-// What happens at an instant before its decision: calls take effect, and each task that was touched
+// What happens at a decision before the head acts: calls take effect, and each task that was touched
 // chooses segments and is tested, which would change nothing for any other.
 ghost use Rattle.std.specs.Prelude.{◌≡◌, ◌+◌, ◌≤◌, ◌<◌, length, IfOk, OnOk, IfSome, slice_get};
 ghost use Rattle.std.specs.List.{fold};
@@ -14,7 +14,7 @@ use fb_units::{NoMemory, Ns};
 
 impl Background {
     // Lets the calls up to now take effect; returns how many calls have taken effect by then.
-    fn take_calls(
+    fn apply_calls(
         &mut self,
         disk: &Disk,
         calls: &Calls,
@@ -44,7 +44,8 @@ impl Background {
         Ok(next)
     }
 
-    /// Lets the calls up to now take effect and each task that was touched choose segments, and tests it.
+    /// Lets the calls up to now take effect; then each task that was touched chooses segments and is
+    /// tested.
     ///
     /// Returns how many calls have taken effect by then. The only error is out of memory.
     pub fn prepare(
@@ -61,7 +62,7 @@ impl Background {
             → Tells disk.now.map past self.old.sessions self.old.blocks
             → HasPrepared disk.now.map calls.now.calls.items past now later self.old.rows self.new) }
     {
-        let next = self.take_calls(disk, calls, next, now)?;
+        let next = self.apply_calls(disk, calls, next, now)?;
         self.sessions
             .choose_and_test(&disk.map, &mut self.blocks, now, &mut self.rows)?;
         Ok(next)

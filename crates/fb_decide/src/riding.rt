@@ -4,7 +4,7 @@ ghost use Rattle.std.specs.List.{AllByRecursion};
 ghost use Rattle.fb_service.specs.Extents.{all_passages_of, IsUnbroken};
 ghost use Rattle.fb_model.specs.Blocks.{IsBlockOn};
 ghost use Rattle.fb_model.specs.History.{Past, wanted};
-ghost use Rattle.fb_model.specs.Deliveries.{in_order, lies_in, carried_of, ride_of, rides};
+ghost use Rattle.fb_model.specs.Deliveries.{in_order, lies_in, carried_of, ride_of, carried_rows};
 ghost use Rattle.fb_wanted.specs.States.{on_track, wanted_of};
 ghost use Rattle.fb_plan.specs.Ways.{AreOnDisk};
 ghost use Rattle.fb_decide.specs.Carried.{added, begins_in, AreExtents, AreLaid};
@@ -37,7 +37,7 @@ impl Background {
         requires start { IsStartOn disk.now start }
         requires service { IsServiceOf disk.now start service.now }
         ensures { OnOk result ((past : Past) → TellsUpToDate disk.now.map past self.old
-            → HasDelivered disk.now.map past (rides (held_now store.now) (served_from disk.now start) (wanted past))
+            → HasDelivered disk.now.map past (carried_rows (held_now store.now) (served_from disk.now start) (wanted past))
             self.old.rows self.new) }
     {
         if start.request.write {

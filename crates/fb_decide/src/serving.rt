@@ -57,6 +57,7 @@ pub fn serve_request<P: Planner>(
         write: request.write,
     };
     let service = serve(alloc, disk, start.head, start.instant, access)?;
+    // Before the request writes: what the gap delivers was on the disk before that.
     background.deliver_around(alloc, disk, planner, store, start, &service)?;
     let row = row_of(alloc, store, start, &service)?;
     write_sectors(store, request)?;
@@ -67,7 +68,7 @@ pub fn serve_request<P: Planner>(
     })
 }
 
-// The row of a request that was served so, with what it finds on the disk. The only error is out of memory.
+// The row of a request that had this service, with what it finds on the disk. The only error is out of memory.
 fn row_of(
     alloc: Global,
     store: &Store,

@@ -77,7 +77,7 @@ pub fn seeks_over(disk: &Disk, gap: &Gap, cylinder: u32) -> Seeks
 }
 
 // The first track of a cylinder.
-pub fn first_track(cylinder: u32) -> Track
+pub fn first_track_on(cylinder: u32) -> Track
     ensures { result ≡ record { cylinder = cylinder; head = 0 } }
 {
     Track { cylinder, head: 0 }

@@ -9,7 +9,7 @@ ghost use Rattle.fb_plan.specs.Ways.{AreOnDisk};
 ghost use Rattle.fb_detour.specs.Bounds.{AreRated, AreSeeks, IsCeiling, IsKey, IsReach, IsSearch, IsFound, IsNoWorseIn};
 ghost use Rattle.fb_detour.specs.Bounds.{IsNoWorseThanTrack, IsNoWorseThanTracks};
 
-use crate::bounds::{Seeks, first_track, is_enough, seeks_over};
+use crate::bounds::{Seeks, first_track_on, is_enough, seeks_over};
 use crate::candidates::try_leaves;
 use crate::given::Search;
 use crate::intervals::ceilings_of;
@@ -212,7 +212,7 @@ fn visit(search: &Search, from: u32, end: u32, most: u64, rate: u64, best: Score
     if end <= from {
         return best;
     }
-    if is_enough(best, most, first_track(from)) {
+    if is_enough(best, most, first_track_on(from)) {
         return best;
     }
     if end - from == 1 {

@@ -7,7 +7,7 @@ ghost use Rattle.fb_wanted.specs.Tracks.{wanted_weight};
 ghost use Rattle.fb_plan.specs.Ways.{AreOnDisk};
 ghost use Rattle.fb_detour.specs.Bounds.{value_in, AreRated, AreSeeks, AreSmallSums, IsCeiling, IsDetourIn, IsRate, IsReach, IsSearch};
 
-use crate::bounds::{Seeks, first_track, least_moves, most_depth, most_slots};
+use crate::bounds::{Seeks, first_track_on, least_moves, most_depth, most_slots};
 use crate::given::Search;
 use crate::parts::{GAP_PARTS, LateParts};
 use fb_service::Disk;
@@ -43,7 +43,7 @@ pub fn rate_over(disk: &Disk, blocks: &Blocks, from: u32, end: u32) -> u64
     let geometry = disk.map.geometry();
     geometry.sound();
     geometry.own_places();
-    let first = first_track(from);
+    let first = first_track_on(from);
     let depth = most_depth(blocks, from, end, first);
     let share = geometry.rotation() / most_slots(disk, from, end, first) as u64;
     (depth * UNIT).div_ceil(share)

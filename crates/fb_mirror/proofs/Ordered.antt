@@ -27,7 +27,7 @@ use Rattle.fb_model.specs.Plans.{IsPlan, block_begin, block_end, catches, early_
 use Rattle.fb_model.specs.Decisions.{Decision, serves, Act, serving, idling, ending, decision_of, decisions_from, end_of, idle_until}
 use Rattle.fb_model.specs.Decisions.{instant_of, last_decision}
 use Rattle.fb_model.specs.Deliveries.{catch_of, caught_of, caught_rows, carried_of, delivery_row, due, end_at, gap_of, lies_in, missed}
-use Rattle.fb_model.specs.Deliveries.{ride_of, rides}
+use Rattle.fb_model.specs.Deliveries.{ride_of, carried_rows}
 use Rattle.fb_model.specs.SoundRun.{HasPlan}
 use Rattle.fb_model.proofs.Placing.{AreRising, all_caught, all_carried, rising_in_order}
 use Rattle.fb_model.proofs.Due.{IsCaughtIn, caught_true}
@@ -159,7 +159,7 @@ ride_end disk served block is some lies =
     (passed_between disk served.source served.start served.request.write served.request.lbn served.request.count).1)))
 
 rides_ascend : (medium : Medium) (served : Served) (blocks : List Block) → IsServiceOf medium.disk served
-    → AllByRecursion HasSector blocks → Ascend (media served) (rides (contents_at medium) served blocks)
+    → AllByRecursion HasSector blocks → Ascend (media served) (carried_rows (contents_at medium) served blocks)
 unfolding carried_of
 rides_ascend medium served blocks is all = by served.request.write
   where
@@ -202,7 +202,7 @@ due_ascends medium (serving served plan) wanted of_disk is all =
     let second = ascend_from early.end late.begin (caught_rows medium.disk
     (contents_at medium) ByGap late left) turns.2 (caught_ascend medium ByGap late left left_all) in
     ascend_append served.start (media served) (caught_rows medium.disk (contents_at medium) ByGap early wanted
-    ++ caught_rows medium.disk (contents_at medium) ByGap late left) (rides (contents_at medium) served last)
+    ++ caught_rows medium.disk (contents_at medium) ByGap late left) (carried_rows (contents_at medium) served last)
     (ascend_append served.start early.end (caught_rows medium.disk (contents_at medium) ByGap early wanted)
     (caught_rows medium.disk (contents_at medium) ByGap late left) first first_by (omega (arith, turns.0, turns.1)) second)
     (all_append (λ (row : DeliveryRow). row.end ≤ media served) (caught_rows medium.disk (contents_at medium) ByGap early wanted)

@@ -18,7 +18,7 @@ use Rattle.fb_model.specs.Inputs.{Inputs}
 use Rattle.fb_model.specs.Decisions.{Act, serving, idling, ending}
 use Rattle.fb_model.specs.History.{Past, wanted}
 use Rattle.fb_model.specs.Steps.{Step, decision_in, chosen_past}
-use Rattle.fb_model.specs.Deliveries.{gap_of, due, delivery_row, caught_of, caught_rows, carried_of, missed, lies_in, rides, begin_at, end_at}
+use Rattle.fb_model.specs.Deliveries.{gap_of, due, delivery_row, caught_of, caught_rows, carried_of, missed, lies_in, carried_rows, begin_at, end_at}
 use Rattle.fb_model.specs.SoundRun.{IsSublist, none, left_out, taken, IsDelivered}
 use Rattle.fb_model.proofs.Placing.{all_caught, all_carried}
 
@@ -63,15 +63,15 @@ pub record IsCarriedBy (contents : ContentsAt) (served : Served) (Q : Block → 
   pub end : row.end ≡ end_at served.passages (row.block.lbn + row.block.count - 1)
   pub bytes : HasBytes contents row
 
-abbrev rides_if : Bool → ContentsAt → Served → List Block → List DeliveryRow
-rides_if write contents served blocks =
+abbrev carried_if : Bool → ContentsAt → Served → List Block → List DeliveryRow
+carried_if write contents served blocks =
     if write then [] else map (delivery_row contents ByRide) (carried_of served.passages served.request blocks)
 
-rides_by : (write : Bool) (contents : ContentsAt) (served : Served) (Q : Block → Type 0) (blocks : List Block)
+carried_by : (write : Bool) (contents : ContentsAt) (served : Served) (Q : Block → Type 0) (blocks : List Block)
     → served.request.write ≡ write → AllByRecursion Q blocks
-    → AllByRecursion (IsCarriedBy contents served Q) (rides_if write contents served blocks)
-rides_by true contents served Q blocks e qs = tt
-rides_by false contents served Q blocks e qs =
+    → AllByRecursion (IsCarriedBy contents served Q) (carried_if write contents served blocks)
+carried_by true contents served Q blocks e qs = tt
+carried_by false contents served Q blocks e qs =
     let row = delivery_row contents ByRide in
     all_map (IsCarriedBy contents served Q) row (carried_of served.passages served.request blocks)
     (all_carried served.passages served.request (λ catch. IsCarriedBy contents served Q (row catch)) Q (λ block q test. record {
@@ -85,9 +85,9 @@ rides_by false contents served Q blocks e qs =
     }) blocks qs)
 
 -- what a read carries of blocks that all have a property
-pub rides_true : (contents : ContentsAt) (served : Served) (Q : Block → Type 0) (blocks : List Block) → AllByRecursion Q blocks
-    → AllByRecursion (IsCarriedBy contents served Q) (rides contents served blocks)
-rides_true contents served Q blocks qs = rides_by served.request.write contents served Q blocks refl qs
+pub carried_true : (contents : ContentsAt) (served : Served) (Q : Block → Type 0) (blocks : List Block) → AllByRecursion Q blocks
+    → AllByRecursion (IsCarriedBy contents served Q) (carried_rows contents served blocks)
+carried_true contents served Q blocks qs = carried_by served.request.write contents served Q blocks refl qs
 
 -- what a delivery at a decision is: caught by the early dwell, by the late dwell, by the idle dwell, or carried by the read
 abbrev pub IsDueRow : Disk → ContentsAt → Act → (Block → Type 0) → DeliveryRow → Type 0
@@ -135,7 +135,7 @@ due_true disk contents (serving served plan) Q wanted qs =
     let left_all = all_filter Q (λ block. not (catches disk early block)) wanted qs in
     let last_all = all_filter Q (λ block. not (catches disk late block)) left left_all in
     all_append (IsDueRow disk contents (serving served plan) Q)
-    (caught_rows disk contents ByGap early wanted ++ caught_rows disk contents ByGap late left) (rides contents served last)
+    (caught_rows disk contents ByGap early wanted ++ caught_rows disk contents ByGap late left) (carried_rows contents served last)
     (all_append (IsDueRow disk contents (serving served plan) Q) (caught_rows disk contents ByGap early wanted)
     (caught_rows disk contents ByGap late left)
     (all_weaker (IsCaughtIn disk contents ByGap early Q) (IsDueRow disk contents (serving served plan) Q) (λ row p. inl p)
@@ -143,7 +143,7 @@ due_true disk contents (serving served plan) Q wanted qs =
     (all_weaker (IsCaughtIn disk contents ByGap late Q) (IsDueRow disk contents (serving served plan) Q) (λ row p. inr (inl p))
     (caught_rows disk contents ByGap late left) (caught_true disk contents ByGap late Q left left_all)))
     (all_weaker (IsCarriedBy contents served Q) (IsDueRow disk contents (serving served plan) Q) (λ row p. inr (inr p))
-    (rides contents served last) (rides_true contents served Q last last_all))
+    (carried_rows contents served last) (carried_true contents served Q last last_all))
 due_true disk contents (idling dwell) Q wanted qs = caught_true disk contents ByIdle dwell Q wanted qs
 due_true disk contents (ending now) Q wanted qs = tt
 

@@ -52,9 +52,13 @@ catch_of disk dwell block = record {
   end = block_end disk.map block dwell.begin;
 }
 
--- what a dwell catches of these blocks, in the order of delivery
+-- what a dwell catches of these blocks, in their order
+abbrev pub caught_among : Disk → Dwell → List Block → List Catch
+caught_among disk dwell blocks = map (catch_of disk dwell) (filter (catches disk dwell) blocks)
+
+-- the same in the order of delivery
 unfoldable pub caught_of : Disk → Dwell → List Block → List Catch
-caught_of disk dwell blocks = in_order (map (catch_of disk dwell) (filter (catches disk dwell) blocks))
+caught_of disk dwell blocks = in_order (caught_among disk dwell blocks)
 
 -- those of these blocks that a dwell doesn't catch
 abbrev pub missed : Disk → Dwell → List Block → List Block
@@ -91,8 +95,8 @@ abbrev pub caught_rows : Disk → ContentsAt → How → Dwell → List Block �
 caught_rows disk contents how dwell blocks = map (delivery_row contents how) (caught_of disk dwell blocks)
 
 -- the rows of what a read carries of these blocks; a write carries none
-abbrev pub rides : ContentsAt → Served → List Block → List DeliveryRow
-rides contents served blocks =
+abbrev pub carried_rows : ContentsAt → Served → List Block → List DeliveryRow
+carried_rows contents served blocks =
     if served.request.write then [] else map (delivery_row contents ByRide) (carried_of served.passages served.request blocks)
 
 -- what the early dwell of a gap catches, and then what the late dwell catches of the blocks that are left
@@ -109,6 +113,6 @@ missed_in_gap disk gap plan wanted = missed disk (late_dwell disk gap plan) (mis
 unfoldable pub due : Disk → ContentsAt → Act → List Block → List DeliveryRow
 due disk contents (serving served plan) wanted =
     let gap = gap_of disk served in
-    caught_in_gap disk contents gap plan wanted ++ rides contents served (missed_in_gap disk gap plan wanted)
+    caught_in_gap disk contents gap plan wanted ++ carried_rows contents served (missed_in_gap disk gap plan wanted)
 due disk contents (idling dwell) wanted = caught_rows disk contents ByIdle dwell wanted
 due disk contents (ending now) wanted = []

@@ -16,8 +16,7 @@ use Rattle.fb_wanted.specs.States.{is_wanted, on_track, wanted_of}
 use Rattle.fb_rows.specs.declared.gap.Dwell.{Dwell}
 use Rattle.fb_model.specs.Plans.{catches}
 use Rattle.fb_rows.specs.declared.gap.Catch.{Catch}
-use Rattle.fb_model.specs.Deliveries.{in_order, catch_of, caught_of}
-use Rattle.fb_plan.specs.Order.{caught_among}
+use Rattle.fb_model.specs.Deliveries.{in_order, catch_of, caught_of, caught_among}
 use Rattle.fb_plan.proofs.Gains.{chosen-sum}
 use Rattle.fb_plan.proofs.Offered.{entry-of}
 use Rattle.fb_plan.proofs.Orders.{on_its_track}

@@ -15,8 +15,7 @@ use Rattle.fb_rows.specs.declared.gap.Dwell.{Dwell}
 use Rattle.fb_model.specs.Blocks.{IsBlockOn}
 use Rattle.fb_model.specs.Plans.{catches, block_end}
 use Rattle.fb_plan.specs.declared.turning.Turning.{Turning}
-use Rattle.fb_model.specs.Deliveries.{catch_of}
-use Rattle.fb_plan.specs.Order.{caught_among}
+use Rattle.fb_model.specs.Deliveries.{catch_of, caught_among}
 use Rattle.fb_plan.specs.Turns.{passes_by, IsTurning}
 use Rattle.fb_plan.proofs.Swept.{passes-as}
 

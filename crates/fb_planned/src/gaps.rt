@@ -154,7 +154,7 @@ fn block_of(disk: &Disk, number: u32, wish: Wish) -> Option<Block>
 }
 
 // The blocks of one task; `None` where a wish isn't exactly one block of the disk.
-fn wanted_of(alloc: Global, disk: &Disk, wishes: &[Wish]) -> Result<Option<Blocks>, NoMemory>
+fn registered(alloc: Global, disk: &Disk, wishes: &[Wish]) -> Result<Option<Blocks>, NoMemory>
     ensures { IfOk result (λ some. IfSome some (λ blocks. AreOnDisk disk.now blocks)) }
 {
     let mut blocks = Blocks::new(alloc);
@@ -210,7 +210,7 @@ pub fn answers(
     let Some(disk) = disk_of(alloc, setting)? else {
         return Ok(None);
     };
-    let Some(blocks) = wanted_of(alloc, &disk, wishes)? else {
+    let Some(blocks) = registered(alloc, &disk, wishes)? else {
         return Ok(None);
     };
     answers_on(alloc, &disk, &blocks, &setting.gap)

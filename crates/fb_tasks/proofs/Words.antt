@@ -98,8 +98,8 @@ pub use Rattle.fb_tasks.specs.Standing.{HasNoChoice, HaveChosen}
 pub use Rattle.fb_tasks.specs.Standing.{HoldsBlock, HoldsBlocks, HoldsChoice, HoldsImage, IsAtNumber, IsAtWork, IsBlockOf, IsCutFrom}
 pub use Rattle.fb_tasks.specs.Standing.{IsPlaced, IsQuiet, IsSegmentOf, IsUntouched, MayChoose, MayFinish, StandsAfterTest}
 pub use Rattle.fb_tasks.specs.Standing.{Stands, Told, choice_in}
-pub use Rattle.fb_tasks.specs.Standing.{choosable_by, ends_of, entry_by, entry_in, entry_of, kept_segment}
-pub use Rattle.fb_tasks.specs.Taken.{delivery_of, found_for, rows_after, seal_rows_found, segment_rows_found}
+pub use Rattle.fb_tasks.specs.Standing.{choosable_by, entry_by, entry_in, entry_of, kept_segment}
+pub use Rattle.fb_tasks.specs.Taken.{delivery_of, found_for, rows_after, seal_rows_found, segment_rows_found, ends_of}
 unfoldable pub use Rattle.fb_tasks.specs.Taken.{test_rows_found}
 pub use Rattle.fb_tasks.specs.Telling.{Delivers, IsCall, IsUpToDate, MayDeliver, MayChooseAndTest, MayTake, Tells, choosable}
 pub use Rattle.fb_tasks.specs.Writing.{left_by_write, left_in, state_left}

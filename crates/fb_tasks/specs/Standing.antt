@@ -21,10 +21,10 @@ use Rattle.fb_model.specs.History.{Past, LogSegment, tasks, registered, tested, 
 use Rattle.fb_model.specs.Completion.{Choice, Work, work, TaskView, view, state_in, is_cleaned, is_over, is_done, is_segment_of}
 use Rattle.fb_model.specs.Completion.{is_unsealed}
 use Rattle.fb_model.specs.Segments.{is_chosen, is_busy, unchosen}
-use Rattle.fb_model.specs.Images.{is_newly_cleaned, complete_rows}
+use Rattle.fb_model.specs.Images.{is_newly_cleaned}
 use Rattle.fb_tasks.specs.declared.session.Session.{Session}
 use Rattle.fb_tasks.specs.Keeping.{is_none}
-use Rattle.fb_tasks.specs.Taken.{segment_rows_found, seal_rows_found}
+use Rattle.fb_tasks.specs.Taken.{segment_rows_found, ends_of}
 
 -- a registered block with its state
 abbrev pub entry_in : TaskView → Block → Entry
@@ -154,7 +154,7 @@ pub record IsPlaced (disk : Shape) (work : Work) : Type 0 where
   pub numbered : AreNumbered 0 work.blocks
   pub segments : AllByRecursion (IsSegmentOf disk work.terms.block) work.segments
 
--- the history and the wanted set, whatever the sessions
+-- the registered blocks tell the history, whatever the sessions
 pub record HoldsBlocks (disk : Shape) (past : Past) (held : List Entry) : Type 0 where
   pub entries : held ≡ map (entry_of past) (registered past)
   pub on_disk : AllByRecursion (IsBlockOf disk (length (tasks past))) (registered past)
@@ -192,10 +192,6 @@ pub record AreTestRowsOf (task : ℕ) (view : TaskView) (rows : List BackRow) : 
   pub seals : list_any (is_seal_of task) rows ≡ (is_unsealed view && is_done view.work)
   pub segments : (number : ℕ) → list_any (is_segment_of task number) rows
       ≡ list_any (λ choice. (choice.segment.number == number) && is_newly_cleaned view.work choice) view.choices
-
--- the rows of a task's seal and of its completion
-abbrev pub ends_of : Past → ℕ → ℕ → List BackRow
-ends_of past now task = seal_rows_found past now task ++ complete_rows past now task
 
 -- a session is tested: it is as its task stands after a test that gives these rows and any of other tasks
 pub record StandsAfterTest (past : Past) (task now : ℕ) (new : Session) (old more : List BackRow) : Type 0 where

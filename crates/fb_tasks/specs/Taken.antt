@@ -26,10 +26,14 @@ seal_rows_found past now task =
     let so_far = work past task in
     seal_rows (found_for so_far (filter (λ block. is_delivered (so_far.bare block)) so_far.blocks)) past now task
 
+-- the rows of a task's seal and of its completion
+abbrev pub ends_of : Past → ℕ → ℕ → List BackRow
+ends_of past now task = seal_rows_found past now task ++ complete_rows past now task
+
 -- the rows of a test as a sound run has them, but with what the deliveries found in place of what the disk holds
 unfoldable pub test_rows_found : Past → ℕ → List BackRow
 test_rows_found past now = flat_map (segment_rows_found past now) (task_numbers past)
-    ++ flat_map (λ task. seal_rows_found past now task ++ complete_rows past now task) (task_numbers past)
+    ++ flat_map (ends_of past now) (task_numbers past)
 
 -- the rows that follow a delivery: its findings, and those of its test
 abbrev pub rows_after : Past → DeliveryRow → List BackRow

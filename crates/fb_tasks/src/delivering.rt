@@ -48,7 +48,7 @@ impl Session {
     {
         let task = got.block.task;
         let end = got.end;
-        self.take(got.block, &got.content)?;
+        self.keep(got.block, &got.content)?;
         let findings = self.findings(alloc, &got)?;
         rows.push(BackRow::Got(got))?;
         push_findings(rows, task, &findings)?;
@@ -57,7 +57,7 @@ impl Session {
     }
 
     // Keeps what a delivered block holds, where the session's rows will give it.
-    fn take(&mut self, block: Block, content: &Contents) -> Result<(), NoMemory>
+    fn keep(&mut self, block: Block, content: &Contents) -> Result<(), NoMemory>
         requires covers { (content_at : ℕ → Content) × Gives content.now content_at block.lbn block.count }
         requires chosen { is_clean self.old.kind ≡ true → self.old.log.unfinished ≢ None }
         ensures { OnOk result ((content_at : ℕ → Content) → Gives content.now content_at block.lbn block.count

@@ -15,8 +15,8 @@ ghost use Rattle.fb_model.specs.Completion.{is_complete};
 ghost use Rattle.fb_model.specs.Steps.{take_call, with_delivery, task_rows};
 ghost use Rattle.fb_model.specs.Segments.{with_choices};
 ghost use Rattle.fb_tasks.specs.declared.session.Session.{Session};
-ghost use Rattle.fb_tasks.specs.Taken.{segment_rows_found, test_rows_found, rows_after, delivery_of};
-ghost use Rattle.fb_tasks.specs.Standing.{HaveChosen, ends_of};
+ghost use Rattle.fb_tasks.specs.Taken.{segment_rows_found, test_rows_found, rows_after, delivery_of, ends_of};
+ghost use Rattle.fb_tasks.specs.Standing.{HaveChosen};
 ghost use Rattle.fb_tasks.specs.Leaving.{HasGrown, HasBegun, entries_by, OnlyRegisters, MayClean, OnlyTouched};
 ghost use Rattle.fb_tasks.specs.Writing.{left_by_write, left_in};
 ghost use Rattle.fb_tasks.specs.Telling.{Tells, MayTake, MayChooseAndTest, MayDeliver, IsUpToDate, IsCall, tested_at};
@@ -115,10 +115,10 @@ impl Sessions {
             Action::Close => self.close(map, blocks, call.task),
             Action::Segment {
                 first,
-                blocks,
+                blocks: count,
                 age,
                 live,
-            } => self.add_segment(map, call.task, *first, *blocks, *age, live),
+            } => self.add_segment(map, call.task, *first, *count, *age, live),
         }
     }
 
@@ -319,20 +319,20 @@ impl Sessions {
         Ok(())
     }
 
-    // Adds a segment to a task's log.
+    // Adds a segment of `count` blocks to a task's log.
     fn add_segment(
         &mut self,
         map: &SectorMap,
         task: u32,
         first: u64,
-        blocks: u32,
+        count: u32,
         age: u64,
         live: &Live,
     ) -> Result<(), NoMemory>
         requires opened { task < length self.old }
-        requires call { (past : Past) × (call : Call) × (held : List Entry) × IsCall task (Segment first blocks age live.now) call
+        requires call { (past : Past) × (call : Call) × (held : List Entry) × IsCall task (Segment first count age live.now) call
             × MayTake map.now past self.old held call }
-        ensures ok { OnOk result ((past : Past) (call : Call) (held : List Entry) → IsCall task (Segment first blocks age live.now) call
+        ensures ok { OnOk result ((past : Past) (call : Call) (held : List Entry) → IsCall task (Segment first count age live.now) call
             → MayTake map.now past self.old held call → Tells map.now (called call [] ∷ past) self.new held) }
         ensures err { OnErr result (self.new ≡ self.old) }
     {
@@ -341,7 +341,7 @@ impl Sessions {
         // Not by `touch`: if the segment can't be added, the session has to stay as it was.
         note_touch(&mut self.listed_touched, &mut self.checked_by_writes, task)?;
         let cleaner = &mut self.sessions[task as usize];
-        cleaner.log.add(first, blocks, age, live)?;
+        cleaner.log.add(first, count, age, live)?;
         cleaner.touched = true;
         Ok(())
     }

@@ -13,9 +13,9 @@ ghost use Rattle.fb_model.specs.History.{Past, tested, is_open_backup};
 ghost use Rattle.fb_model.specs.Completion.{view, is_complete};
 ghost use Rattle.fb_model.specs.Images.{complete_rows};
 ghost use Rattle.fb_tasks.specs.Keeping.{IsSealed, without_aborted};
-ghost use Rattle.fb_tasks.specs.Taken.{found_for, segment_rows_found, seal_rows_found};
+ghost use Rattle.fb_tasks.specs.Taken.{found_for, segment_rows_found, seal_rows_found, ends_of};
 ghost use Rattle.fb_tasks.specs.Leaving.{HasGrown, HasBegun, by_calls};
-ghost use Rattle.fb_tasks.specs.Standing.{Stands, HoldsBlocks, IsAtWork, HasChosen, MayFinish, StandsAfterTest, ends_of};
+ghost use Rattle.fb_tasks.specs.Standing.{Stands, HoldsBlocks, IsAtWork, HasChosen, MayFinish, StandsAfterTest};
 
 use crate::session::{Session, Stamp};
 use fb_calls::Kind;

@@ -231,10 +231,10 @@ fn check_second(rt: &impl Abort, blocks: &Blocks) {
 }
 
 fn check_first(rt: &impl Abort, blocks: &Blocks) {
-    let blocks = blocks.on(NEAR);
-    assert_eq!(rt; blocks.len(), 2);
-    assert_eq!(rt; blocks.wanted_weight(), 0);
-    let first = blocks.get(0);
+    let near = blocks.on(NEAR);
+    assert_eq!(rt; near.len(), 2);
+    assert_eq!(rt; near.wanted_weight(), 0);
+    let first = near.get(0);
     assert_eq!(rt; first.block, FIRST);
     assert_eq!(rt; first.state, State::Aborted);
 }

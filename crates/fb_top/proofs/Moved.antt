@@ -11,7 +11,7 @@ use Rattle.fb_top.specs.declared.outcome.Outcome.TheVariants as outcomes
 use Rattle.fb_top.specs.Read.{Files}
 use Rattle.fb_top.specs.Written.{HoldsWhole, HoldsFront, KeepsReports, KeepsBut, KeepsButBoth, CutsOff, CutsSecond, OutputFaultsRose}
 use Rattle.fb_top.specs.Written.{StopsText}
-use Rattle.fb_top.specs.Done.{AreReported, HoldsWanted, HoldsReports, StopsReports, CutsFore, CutsBack, fore_told, back_told}
+use Rattle.fb_top.specs.Done.{AreReported, HoldsGiven, HoldsReports, StopsReports, CutsFore, CutsBack, fore_told, back_told}
 
 pub fore_is_no_note : Fore ≢ Note
 fore_is_no_note e = cc
@@ -68,8 +68,8 @@ module _ (old mid late new : DeskView) (first : KeepsReports old mid) (last : Ke
   stops_text which name text outcomes.NoMemory no_note h = front which name text no_note h
   stops_text which name text _ no_note h = absurd h
 
-  pub wanted : (given : Option (List ℕ)) (text : List ℕ) → HoldsWanted given text (mid.outputs Back) (late.outputs Back)
-      → HoldsWanted given text (old.outputs Back) (new.outputs Back)
+  pub wanted : (given : Option (List ℕ)) (text : List ℕ) → HoldsGiven given text (mid.outputs Back) (late.outputs Back)
+      → HoldsGiven given text (old.outputs Back) (new.outputs Back)
   wanted None text same = last Back back_is_no_note ∙ same ∙ first Back back_is_no_note
   wanted (Some name) text holds = whole Back name text back_is_no_note holds
 

@@ -13,7 +13,7 @@ use Rattle.fb_script.specs.Reading.{Accepted as Script, calls_of}
 use Rattle.fb_desk.specs.View.{DeskView}
 use Rattle.fb_top.specs.Names.{FileNames}
 use Rattle.fb_top.specs.Read.{Accepts, Files, ReadsDisk, ReadsTrace, ReadsScript}
-use Rattle.fb_top.specs.Untouched.{HoldAlike, HoldOneInput}
+use Rattle.fb_top.specs.Untouched.{HoldAlike, HoldFilesAlike}
 use Rattle.fb_top.proofs.Completeness.{same_ok}
 
 -- what was read are the bytes that are told
@@ -111,7 +111,7 @@ all_one a b disk latent trace script =
     ∙ ap (λ s. record { disk = b.disk; latent = b.latent; trace = b.trace; script = s }) script
 
 -- the files of a replay
-pub one_reading : (one other : DeskView) (terms : FileNames) (a b : Files) → HoldOneInput one other terms → Accepts one terms a
+pub one_reading : (one other : DeskView) (terms : FileNames) (a b : Files) → HoldFilesAlike one other terms → Accepts one terms a
     → Accepts other terms b → a ≡ b
 one_reading one other terms a b alike reads reads' =
     let value = one_value one other terms.params a.disk b.disk a.latent b.latent alike.params reads.disk reads'.disk in

@@ -17,11 +17,11 @@ use Rattle.fb_top.specs.declared.outcome.Outcome.TheVariants as outcomes
 use Rattle.fb_top.specs.Causes.{CheckHasCause}
 use Rattle.fb_top.specs.Checked.{IsVerdictOf}
 use Rattle.fb_top.specs.Complete.{IsJudged, TellsReport}
-use Rattle.fb_top.specs.Done.{AreReadBack, HoldsWanted, IsRunOf, back_told, fore_told}
+use Rattle.fb_top.specs.Done.{AreReadBack, HoldsGiven, IsRunOf, back_told, fore_told}
 use Rattle.fb_top.specs.Read.{Accepts, Files, ReadsScript}
 use Rattle.fb_top.specs.Names.{FileNames}
 use Rattle.fb_top.specs.Streams.{IsHeld, ReadsAs}
-use Rattle.fb_top.specs.Untouched.{HasReplayed, HoldAlike, HoldOneInput, HoldsLines, HoldsWritten}
+use Rattle.fb_top.specs.Untouched.{HasReplayed, HoldAlike, HoldFilesAlike, HoldsLines, HoldsWritten}
 use Rattle.fb_top.specs.Written.{HoldsWhole, joined}
 use Rattle.fb_top.proofs.OneRun.{held_here}
 
@@ -29,7 +29,7 @@ use Rattle.fb_top.proofs.OneRun.{held_here}
 pub record Prints (old new : DeskView) (terms : ReplayTerms) (run : Run) : Type 0 where
   pub is_run : IsRunOf old terms run
   pub fore : HoldsWhole (new.outputs Fore) (codes "-") (fore_told terms is_run.files run)
-  pub back : HoldsWanted terms.back (back_told terms is_run.files run) (old.outputs Back) (new.outputs Back)
+  pub back : HoldsGiven terms.back (back_told terms is_run.files run) (old.outputs Back) (new.outputs Back)
   pub read : AreReadBack terms is_run.files run
 
 pub prints : (old new : DeskView) (terms : ReplayTerms) (run : Run) → HasReplayed old new terms run → Prints old new terms run
@@ -78,7 +78,7 @@ module _ (one other : DeskView) where
   script_there None disk traced script alike reads = reads
   script_there (Some name) disk traced script alike reads = reads_there name alike reads
 
-  pub accepted_there : (terms : FileNames) (files : Files) → HoldOneInput one other terms → Accepts one terms files
+  pub accepted_there : (terms : FileNames) (files : Files) → HoldFilesAlike one other terms → Accepts one terms files
       → Accepts other terms files
   accepted_there terms files alike reads = record {
     disk = reads_there terms.params alike.params reads.disk;

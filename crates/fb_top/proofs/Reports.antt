@@ -10,7 +10,7 @@ use Rattle.fb_top.specs.declared.outcome.Outcome.{Outcome}
 use Rattle.fb_top.specs.declared.outcome.Outcome.TheVariants as outcomes
 use Rattle.fb_top.specs.Read.{Files}
 use Rattle.fb_top.specs.Written.{HoldsWhole, HoldsFront, StopsText}
-use Rattle.fb_top.specs.Done.{CutsFore, CutsBack, HoldsReports, HoldsWanted, StopsReports, fore_told, back_told}
+use Rattle.fb_top.specs.Done.{CutsFore, CutsBack, HoldsReports, HoldsGiven, StopsReports, fore_told, back_told}
 
 fore_is_no_back : Fore ≢ Back
 fore_is_no_back e = cc
@@ -60,7 +60,7 @@ module _ (terms : ReplayTerms) (files : Files) (run : Run) where
       others = λ output not_fore not_back no_note. second.outputs output not_back ∙ first.outputs output not_fore;
       reported = record {
         fore = fore_stands;
-        back = subst (λ (told : Option (List ℕ)). HoldsWanted told (back_told terms files run) (old.outputs Back) (new.outputs Back))
+        back = subst (λ (told : Option (List ℕ)). HoldsGiven told (back_told terms files run) (old.outputs Back) (new.outputs Back))
             (sym given) back;
       };
     }

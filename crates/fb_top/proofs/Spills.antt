@@ -14,7 +14,7 @@ use Rattle.fb_top.specs.declared.outcome.Outcome.{Outcome}
 use Rattle.fb_top.specs.declared.outcome.Outcome.TheVariants as outcomes
 use Rattle.fb_top.specs.Calm.{IsCalm, MeetsNoFault}
 use Rattle.fb_top.specs.Causes.{HasCause, IsCut, RunsOut}
-use Rattle.fb_top.specs.Done.{AreReadBack, CanBeRead, HoldsReports, HoldsWanted, IsRunOf, back_told, fore_told}
+use Rattle.fb_top.specs.Done.{AreReadBack, CanBeRead, HoldsReports, HoldsGiven, IsRunOf, back_told, fore_told}
 use Rattle.fb_top.specs.Read.{AcceptsPuts, Files, inputs_of_files, key_of}
 use Rattle.fb_top.specs.Names.{replay_names}
 use Rattle.fb_top.specs.Spilled.{CutsSpill, HoldsBoth, HoldsReplay, HoldsSpill, IsSpillOf, StopsReplay, StopsSpill, WritesGiven, WritesPuts}
@@ -71,7 +71,7 @@ module _ (terms : ReplayTerms) (files : Files) (run : Run) (spill : SpillRun) (o
     reported = record {
       fore = subst (λ (v : OutputView). HoldsWhole v (codes "-") (fore_told terms files run)) (sym (only.outputs Fore (λ e. cc)))
           reports.fore;
-      back = subst (λ (v : OutputView). HoldsWanted terms.back (back_told terms files run) (old.outputs Back) v)
+      back = subst (λ (v : OutputView). HoldsGiven terms.back (back_told terms files run) (old.outputs Back) v)
           (sym (only.outputs Back (λ e. cc))) reports.back;
     };
   }

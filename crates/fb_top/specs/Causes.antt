@@ -40,32 +40,32 @@ pub record AcceptsDisk (desk : DeskView) (name : List ℕ) : Type 0 where
   pub reads_disk : ReadsDisk desk name disk latent
 
 -- and a trace that is accepted for it
-pub record AcceptsTrace (desk : DeskView) (terms : FileNames) : Type 0 where
-  pub params : AcceptsDisk desk terms.params
+pub record AcceptsTrace (desk : DeskView) (names : FileNames) : Type 0 where
+  pub params : AcceptsDisk desk names.params
   pub trace : Accepted
-  pub reads_trace : ReadsTrace desk terms.trace terms.device params.disk trace
+  pub reads_trace : ReadsTrace desk names.trace names.device params.disk trace
 
 -- all files of a run that are accepted
-pub record AcceptsFiles (desk : DeskView) (terms : FileNames) : Type 0 where
+pub record AcceptsFiles (desk : DeskView) (names : FileNames) : Type 0 where
   pub files : Files
-  pub accepts : Accepts desk terms files
+  pub accepts : Accepts desk names files
 
 -- and a foreground report that is accepted
-pub record AcceptsFore (desk : DeskView) (terms : InputNames) : Type 0 where
-  pub files : AcceptsFiles desk terms.files
+pub record AcceptsFore (desk : DeskView) (names : InputNames) : Type 0 where
+  pub files : AcceptsFiles desk names.files
   pub name : List ℕ
-  pub given : terms.fore ≡ Some name
+  pub given : names.fore ≡ Some name
   pub lines : List (List ℕ)
   pub reads_fore : ReadsReport desk name fore_grammar lines
 
 -- the inputs that come before this one are accepted
 abbrev pub AcceptsBefore : DeskView → InputNames → Input → Type 0
-AcceptsBefore desk terms Params = Unit {0}
-AcceptsBefore desk terms Trace = AcceptsDisk desk terms.files.params
-AcceptsBefore desk terms Calls = AcceptsTrace desk terms.files
-AcceptsBefore desk terms Puts = AcceptsFiles desk terms.files
-AcceptsBefore desk terms ForeReport = AcceptsFiles desk terms.files
-AcceptsBefore desk terms BackReport = AcceptsFore desk terms
+AcceptsBefore desk names Params = Unit {0}
+AcceptsBefore desk names Trace = AcceptsDisk desk names.files.params
+AcceptsBefore desk names Calls = AcceptsTrace desk names.files
+AcceptsBefore desk names Puts = AcceptsFiles desk names.files
+AcceptsBefore desk names ForeReport = AcceptsFiles desk names.files
+AcceptsBefore desk names BackReport = AcceptsFore desk names
 
 -- no input that is read after this one was touched
 abbrev pub KeepsLater : Input → DeskView → DeskView → Type 0
@@ -86,22 +86,22 @@ pub record EndsAt (input : Input) (old new : DeskView) : Type 0 where
   pub reports : KeepsReports old new
 
 -- an accepted disk, and a trace that is refused for it
-pub record RefusesTraceInTurn (desk : DeskView) (terms : FileNames) (fault : TraceFault) : Type 0 where
-  pub before : AcceptsDisk desk terms.params
-  pub refuses : RefusesTrace desk terms.trace terms.device before.disk fault
+pub record RefusesTraceInTurn (desk : DeskView) (names : FileNames) (fault : TraceFault) : Type 0 where
+  pub before : AcceptsDisk desk names.params
+  pub refuses : RefusesTrace desk names.trace names.device before.disk fault
 
 -- an accepted disk and an accepted trace, and a script that is refused for them
-pub record RefusesCallsInTurn (desk : DeskView) (terms : FileNames) (fault : CallsFault) : Type 0 where
-  pub before : AcceptsTrace desk terms
+pub record RefusesCallsInTurn (desk : DeskView) (names : FileNames) (fault : CallsFault) : Type 0 where
+  pub before : AcceptsTrace desk names
   pub name : List ℕ
-  pub given : terms.calls ≡ Some name
+  pub given : names.calls ≡ Some name
   pub refuses : RefusesCalls desk name before.params.disk (length before.trace.requests) fault
 
 -- accepted files, and puts that are refused for them
-pub record RefusesPutsInTurn (desk : DeskView) (terms : InputNames) (fault : PutsFault) : Type 0 where
-  pub before : AcceptsFiles desk terms.files
+pub record RefusesPutsInTurn (desk : DeskView) (names : InputNames) (fault : PutsFault) : Type 0 where
+  pub before : AcceptsFiles desk names.files
   pub name : List ℕ
-  pub given : terms.puts ≡ Some name
+  pub given : names.puts ≡ Some name
   pub refuses : RefusesPuts desk name before.files fault
 
 -- the input that holds a report
@@ -110,42 +110,42 @@ input_of reports.Fore = ForeReport
 input_of reports.Back = BackReport
 
 -- accepted files, and a report that is refused; before the background report the foreground report is accepted
-pub record RefusesReportInTurn (desk : DeskView) (terms : InputNames) (fault : ReportsFault) : Type 0 where
-  pub before : AcceptsBefore desk terms (input_of fault.report)
+pub record RefusesReportInTurn (desk : DeskView) (names : InputNames) (fault : ReportsFault) : Type 0 where
+  pub before : AcceptsBefore desk names (input_of fault.report)
   pub name : List ℕ
-  pub given : name_of terms (input_of fault.report) ≡ Some name
+  pub given : name_of names (input_of fault.report) ≡ Some name
   pub refuses : RefusesReport desk name (grammar_of fault.report) fault.line
 
 -- an input that the words give has more bytes than it may have
-pub record IsTooLong (desk : DeskView) (terms : InputNames) (input : Input) : Type 0 where
-  pub before : AcceptsBefore desk terms input
+pub record IsTooLong (desk : DeskView) (names : InputNames) (input : Input) : Type 0 where
+  pub before : AcceptsBefore desk names input
   pub name : List ℕ
-  pub given : name_of terms input ≡ Some name
+  pub given : name_of names input ≡ Some name
   pub longer : IsLonger desk name (limit_of input)
 
 -- a call that reads an input that the words give has failed
-pub record IsUnread (old new : DeskView) (terms : InputNames) (input : Input) : Type 0 where
-  pub before : AcceptsBefore old terms input
-  pub given : is_some (name_of terms input) ≡ true
+pub record IsUnread (old new : DeskView) (names : InputNames) (input : Input) : Type 0 where
+  pub before : AcceptsBefore old names input
+  pub given : is_some (name_of names input) ≡ true
   pub rose : FaultsRose old new input
 
 -- memory ran out at an input, or after all of them: those before it are accepted, and nothing after it was touched
-pub record RunsOut (old new : DeskView) (terms : InputNames) : Type 0 where
+pub record RunsOut (old new : DeskView) (names : InputNames) : Type 0 where
   pub input : Input
-  pub before : AcceptsBefore old terms input
+  pub before : AcceptsBefore old names input
   pub ends : EndsAt input old new
 
 -- why the inputs were not all accepted
 abbrev pub StopsInputs : InputNames → DeskView → DeskView → Outcome → Type 0
-StopsInputs terms old new (outcomes.Params fault) = RefusesDisk old terms.files.params fault × EndsAt Params old new
-StopsInputs terms old new (outcomes.Trace fault) = RefusesTraceInTurn old terms.files fault × EndsAt Trace old new
-StopsInputs terms old new (outcomes.Calls fault) = RefusesCallsInTurn old terms.files fault × EndsAt Calls old new
-StopsInputs terms old new (outcomes.Puts fault) = RefusesPutsInTurn old terms fault × EndsAt Puts old new
-StopsInputs terms old new (outcomes.Reports fault) = RefusesReportInTurn old terms fault × EndsAt (input_of fault.report) old new
-StopsInputs terms old new (outcomes.TooLong input) = IsTooLong old terms input × EndsAt input old new
-StopsInputs terms old new (outcomes.ReadFault input) = IsUnread old new terms input × EndsAt input old new
-StopsInputs terms old new outcomes.NoMemory = RunsOut old new terms
-StopsInputs terms old new _ = ⊥
+StopsInputs names old new (outcomes.Params fault) = RefusesDisk old names.files.params fault × EndsAt Params old new
+StopsInputs names old new (outcomes.Trace fault) = RefusesTraceInTurn old names.files fault × EndsAt Trace old new
+StopsInputs names old new (outcomes.Calls fault) = RefusesCallsInTurn old names.files fault × EndsAt Calls old new
+StopsInputs names old new (outcomes.Puts fault) = RefusesPutsInTurn old names fault × EndsAt Puts old new
+StopsInputs names old new (outcomes.Reports fault) = RefusesReportInTurn old names fault × EndsAt (input_of fault.report) old new
+StopsInputs names old new (outcomes.TooLong input) = IsTooLong old names input × EndsAt input old new
+StopsInputs names old new (outcomes.ReadFault input) = IsUnread old new names input × EndsAt input old new
+StopsInputs names old new outcomes.NoMemory = RunsOut old new names
+StopsInputs names old new _ = ⊥
 
 -- what a replay writes was not all written: a report was cut off, or the text of what was written in free gaps
 abbrev pub IsCut : DeskView → DeskView → ReplayTerms → Outcome → Type 0

@@ -29,15 +29,15 @@ pub record TellsPuts (desk : DeskView) (files : Files) (name : List ℕ) : Type 
   pub told : is_some (desk.held name) ≡ true
 
 -- the desk tells what each input holds, all are accepted, and no call of an input failed
-pub record ReadsWell (old new : DeskView) (terms : InputNames) : Type 0 where
+pub record ReadsWell (old new : DeskView) (names : InputNames) : Type 0 where
   pub files : Files
-  pub accepts : Accepts old terms.files files
-  pub params_told : is_some (old.held terms.files.params) ≡ true
-  pub trace_told : is_some (old.held terms.files.trace) ≡ true
-  pub calls_told : IfSome terms.files.calls (λ name. is_some (old.held name) ≡ true)
-  pub puts_told : IfSome terms.puts (TellsPuts old files)
-  pub fore_told : IfSome terms.fore (TellsReport old fore_grammar)
-  pub back_told : IfSome terms.back (TellsReport old back_grammar)
+  pub accepts : Accepts old names.files files
+  pub params_told : is_some (old.held names.files.params) ≡ true
+  pub trace_told : is_some (old.held names.files.trace) ≡ true
+  pub calls_told : IfSome names.files.calls (λ name. is_some (old.held name) ≡ true)
+  pub puts_told : IfSome names.puts (TellsPuts old files)
+  pub fore_told : IfSome names.fore (TellsReport old fore_grammar)
+  pub back_told : IfSome names.back (TellsReport old back_grammar)
   pub calm : (input : Input) → FaultsRose old new input → ⊥
 
 -- the inputs of a replay are read well, and no count of faults rises but perhaps the note's

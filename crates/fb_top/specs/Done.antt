@@ -55,14 +55,14 @@ abbrev pub back_told : ReplayTerms → Files → Run → List ℕ
 back_told terms files run = back_text files.script.names files.disk.sector_bytes terms.bytes run
 
 -- the text under the name that is given; without one the output is as it was
-abbrev pub HoldsWanted : Option (List ℕ) → List ℕ → OutputView → OutputView → Type 0
-HoldsWanted None text old new = new ≡ old
-HoldsWanted (Some name) text old new = HoldsWhole new name text
+abbrev pub HoldsGiven : Option (List ℕ) → List ℕ → OutputView → OutputView → Type 0
+HoldsGiven None text old new = new ≡ old
+HoldsGiven (Some name) text old new = HoldsWhole new name text
 
 -- the foreground is written under the name `-`, and the background under the name that the words give, if any
 pub record AreReported (terms : ReplayTerms) (files : Files) (run : Run) (old new : DeskView) : Type 0 where
   pub fore : HoldsWhole (new.outputs Fore) (codes "-") (fore_told terms files run)
-  pub back : HoldsWanted terms.back (back_told terms files run) (old.outputs Back) (new.outputs Back)
+  pub back : HoldsGiven terms.back (back_told terms files run) (old.outputs Back) (new.outputs Back)
 
 -- both are written, and nothing else
 pub record HoldsReports (terms : ReplayTerms) (files : Files) (run : Run) (old new : DeskView) : Type 0 where

@@ -14,7 +14,7 @@ IsOpenedAs name desk input = input.opened ≡ true → IsLeftOf (desk.held name)
 
 -- each input that the words name was opened under their name, if it is opened
 abbrev pub OpensAsNamed : InputNames → DeskView → DeskView → Type 0
-OpensAsNamed terms old new = (input : Input) (name : List ℕ) → name_of terms input ≡ Some name → IsOpenedAs name old (new.inputs input)
+OpensAsNamed names old new = (input : Input) (name : List ℕ) → name_of names input ≡ Some name → IsOpenedAs name old (new.inputs input)
 
 -- inputs are opened under the names that the words give them
 abbrev pub OpensNamed : Result Terms UsageFault → DeskView → DeskView → Type 0

@@ -73,10 +73,10 @@ files_of read = record {
 }
 
 -- all files that the words name are accepted, each for those before it, and say this
-pub record Accepts (desk : DeskView) (terms : FileNames) (files : Files) : Type 0 where
-  pub disk : ReadsDisk desk terms.params files.disk files.latent
-  pub trace : ReadsTrace desk terms.trace terms.device files.disk files.trace
-  pub script : ReadsScript desk terms.calls files.disk (length files.trace.requests) files.script
+pub record Accepts (desk : DeskView) (names : FileNames) (files : Files) : Type 0 where
+  pub disk : ReadsDisk desk names.params files.disk files.latent
+  pub trace : ReadsTrace desk names.trace names.device files.disk files.trace
+  pub script : ReadsScript desk names.calls files.disk (length files.trace.requests) files.script
 
 -- what a puts file is judged by: the disk, and all that the trace and the script ask for
 abbrev pub puts_terms : Files → PutsTerms

@@ -23,7 +23,7 @@ use Rattle.fb_top.specs.Unnamed.{KeepsUnnamed}
 abbrev pub KeepsOutputs : DeskView → DeskView → Type 0
 KeepsOutputs old new = (output : Output) → new.outputs output ≡ old.outputs output
 
--- what the files of a replay say, with a disk that was read before the others
+-- what the files of a run say, with a disk that was read before the others
 abbrev pub files_on : Disk → List ℕ → Workload → Files
 files_on disk latent workload =
     record { disk = disk; latent = latent; trace = accepted workload.trace; script = accepted_calls workload.calls }

@@ -14,7 +14,7 @@ KeepsInputs old new = (input : Input) → new.inputs input ≡ old.inputs input
 
 -- no input has changed that the words don't name
 abbrev pub KeepsUnnamed : InputNames → DeskView → DeskView → Type 0
-KeepsUnnamed terms old new = (input : Input) → name_of terms input ≡ None → new.inputs input ≡ old.inputs input
+KeepsUnnamed names old new = (input : Input) → name_of names input ≡ None → new.inputs input ≡ old.inputs input
 
 -- no input has changed that the words don't name: a make names the parameter file alone, and refused words name none
 abbrev pub LeavesUnnamed : Result Terms UsageFault → DeskView → DeskView → Type 0

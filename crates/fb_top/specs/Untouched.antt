@@ -48,10 +48,10 @@ abbrev pub HoldAlike : DeskView → DeskView → List ℕ → Type 0
 HoldAlike one other name = (bytes : List ℕ) × (one.held name ≡ Some bytes) × (other.held name ≡ Some bytes)
 
 -- and so under the name of each file of a run
-pub record HoldOneInput (one other : DeskView) (terms : FileNames) : Type 0 where
-  pub params : HoldAlike one other terms.params
-  pub trace : HoldAlike one other terms.trace
-  pub calls : IfSome terms.calls (HoldAlike one other)
+pub record HoldFilesAlike (one other : DeskView) (names : FileNames) : Type 0 where
+  pub params : HoldAlike one other names.params
+  pub trace : HoldAlike one other names.trace
+  pub calls : IfSome names.calls (HoldAlike one other)
 
 -- two replays ask for one run: the same files and device, the same policy and the same end; what they print, and what they write in gaps,
 -- may differ
@@ -63,7 +63,7 @@ pub record AskForOneRun (terms others : ReplayTerms) : Type 0 where
 -- such words over the same bytes have one run
 abbrev pub InputsHaveOneRun : Type 0
 InputsHaveOneRun = (one other : DeskView) (terms others : ReplayTerms) (run run' : Run) → AskForOneRun terms others
-    → HoldOneInput one other (replay_file_names terms)
+    → HoldFilesAlike one other (replay_file_names terms)
     → IsRunOf one terms run → IsRunOf other others run' → run ≡ run'
 
 -- two runs of files that agree up to an instant before both ends are the same in what is known by then
@@ -80,7 +80,7 @@ pub record ChecksRun (one other : DeskView) (terms : ReplayTerms) (checks : Chec
   pub names : check_file_names checks ≡ replay_file_names terms
   pub policy : checks.policy ≡ terms.policy
   pub until : checks.until ≡ terms.until
-  pub alike : HoldOneInput one other (replay_file_names terms)
+  pub alike : HoldFilesAlike one other (replay_file_names terms)
 
 -- the text of these lines is held under a name, and is read as these lines
 pub record HoldsLines (desk : DeskView) (name : List ℕ) (grammar : Grammar) (lines : List (List ℕ)) : Type 0 where

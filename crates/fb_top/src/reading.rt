@@ -86,8 +86,7 @@ impl RunFiles {
     }
 }
 
-/// Reads the files of a run: the parameter file, then the trace, then the script, if
-/// any.
+/// Reads the files of a run: the parameter file, then the trace, then the script, if any.
 ///
 /// The error is the outcome of the first file that can't be read or is refused.
 pub fn read_files<D: Desk>(

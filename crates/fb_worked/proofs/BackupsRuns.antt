@@ -4,7 +4,7 @@ use Rattle.fb_calls.specs.declared.call.Kind.TheVariants.{Backup}
 use Rattle.fb_rows.specs.declared.gap.Plan.TheVariants.{Direct}
 use Rattle.fb_rows.specs.declared.gap.How.TheVariants.{Idle as ByIdle}
 use Rattle.fb_worked.specs.SmallDisk.{small_disk}
-use Rattle.fb_worked.specs.Rows.{at, gap, untouched, written, block, got, done_line, seal_line, task_line}
+use Rattle.fb_worked.specs.Rows.{at, gap, untouched, written, block, got, done_row, seal_row, task_row}
 use Rattle.fb_rows.specs.declared.back.BackRow.{BackRow}
 use Rattle.fb_model.specs.Decisions.{decisions}
 use Rattle.fb_model.specs.Steps.{Step}
@@ -23,12 +23,12 @@ steps_of_overwritten_backup = steps_at (decisions overwritten_backup.inputs) (
     ∷ rest [] (
     with_rows (got (block 0 1 2 2 (at 0 0) 1) 1400 1600 ByIdle 0 (untouched 2 2 ∷ [])) []
     ∷ with_rows (got (block 0 0 0 2 (at 0 0) 1) 2400 2600 ByIdle 0 (written 1 0 1 ∷ untouched 1 1 ∷ []))
-    (seal_line 0 2600 (written 1 0 1 ∷ untouched 1 3 ∷ []) ∷ done_line 0 2600 ∷ [])
+    (seal_row 0 2600 (written 1 0 1 ∷ untouched 1 3 ∷ []) ∷ done_row 0 2600 ∷ [])
     ∷ [])
     ∷ [])
 
 abbrev tasks_of_overwritten_backup : List BackRow
-tasks_of_overwritten_backup = task_line 0 Backup 2 2 0 true ∷ []
+tasks_of_overwritten_backup = task_row 0 Backup 2 2 0 true ∷ []
 
 sound_overwritten_backup : IsSoundBy overwritten_backup.inputs steps_of_overwritten_backup overwritten_backup.run
 unfolding on_small_disks
@@ -78,14 +78,14 @@ abbrev steps_of_backup_without_aborted : List Step
 steps_of_backup_without_aborted = steps_at (decisions backup_without_aborted.inputs) (
     rest [] (
     with_rows (got (block 0 0 0 2 (at 0 0) 1) 0 200 ByIdle 0 (untouched 0 2 ∷ []))
-    (seal_line 0 200 (untouched 0 2 ∷ []) ∷ done_line 0 200 ∷ [])
+    (seal_row 0 200 (untouched 0 2 ∷ []) ∷ done_row 0 200 ∷ [])
     ∷ [])
     ∷ serve [] (Direct 250) []
     ∷ rest [] []
     ∷ [])
 
 abbrev tasks_of_backup_without_aborted : List BackRow
-tasks_of_backup_without_aborted = task_line 0 Backup 2 1 1 true ∷ []
+tasks_of_backup_without_aborted = task_row 0 Backup 2 1 1 true ∷ []
 
 sound_backup_without_aborted : IsSoundBy backup_without_aborted.inputs steps_of_backup_without_aborted backup_without_aborted.run
 unfolding on_small_disks

@@ -4,7 +4,7 @@ use Rattle.fb_calls.specs.declared.call.Kind.TheVariants.{Clean}
 use Rattle.fb_rows.specs.declared.gap.Plan.TheVariants.{Direct}
 use Rattle.fb_rows.specs.declared.gap.How.TheVariants.{Gap as ByGap, Idle as ByIdle}
 use Rattle.fb_worked.specs.SmallDisk.{small_disk}
-use Rattle.fb_worked.specs.Rows.{at, gap, untouched, block, got, done_line, segment_line, task_line}
+use Rattle.fb_worked.specs.Rows.{at, gap, untouched, block, got, done_row, segment_row, task_row}
 use Rattle.fb_rows.specs.declared.back.BackRow.{BackRow}
 use Rattle.fb_model.specs.Decisions.{decisions}
 use Rattle.fb_model.specs.Steps.{Step}
@@ -18,18 +18,18 @@ use Rattle.fb_worked.proofs.BestPlans.{none_in_time, all_at_once}
 abbrev steps_of_segments_by_benefit : List Step
 steps_of_segments_by_benefit = steps_at (decisions segments_by_benefit.inputs) (
     rest [] (
-    with_rows (got (block 0 0 5 1 (at 0 0) 1) 500 600 ByIdle 0 (untouched 5 1 ∷ [])) (segment_line 0 2 600 1 (untouched 5 1 ∷ []) ∷ [])
+    with_rows (got (block 0 0 5 1 (at 0 0) 1) 500 600 ByIdle 0 (untouched 5 1 ∷ [])) (segment_row 0 2 600 1 (untouched 5 1 ∷ []) ∷ [])
     ∷ [])
     ∷ serve [] (Direct 700) []
     ∷ rest [] (
     with_rows (got (block 0 1 0 1 (at 0 0) 1) 1200 1300 ByIdle 0 (untouched 0 1 ∷ [])) []
     ∷ with_rows (got (block 0 2 2 1 (at 0 0) 1) 1400 1500 ByIdle 0 (untouched 2 1 ∷ []))
-    (segment_line 0 1 1500 2 (untouched 0 1 ∷ untouched 2 1 ∷ []) ∷ done_line 0 1500 ∷ [])
+    (segment_row 0 1 1500 2 (untouched 0 1 ∷ untouched 2 1 ∷ []) ∷ done_row 0 1500 ∷ [])
     ∷ [])
     ∷ [])
 
 abbrev tasks_of_segments_by_benefit : List BackRow
-tasks_of_segments_by_benefit = task_line 0 Clean 3 3 0 true ∷ []
+tasks_of_segments_by_benefit = task_row 0 Clean 3 3 0 true ∷ []
 
 sound_segments_by_benefit : IsSoundBy segments_by_benefit.inputs steps_of_segments_by_benefit segments_by_benefit.run
 unfolding on_small_disks
@@ -78,11 +78,11 @@ segments_by_benefit_is_full = record {
 
 abbrev steps_of_segment_without_live_blocks : List Step
 steps_of_segment_without_live_blocks = steps_at (decisions segment_without_live_blocks.inputs) (
-    rest (segment_line 0 1 0 0 [] ∷ done_line 0 0 ∷ []) []
+    rest (segment_row 0 1 0 0 [] ∷ done_row 0 0 ∷ []) []
     ∷ [])
 
 abbrev tasks_of_segment_without_live_blocks : List BackRow
-tasks_of_segment_without_live_blocks = task_line 0 Clean 0 0 0 true ∷ []
+tasks_of_segment_without_live_blocks = task_row 0 Clean 0 0 0 true ∷ []
 
 sound_segment_without_live_blocks : IsSoundBy segment_without_live_blocks.inputs steps_of_segment_without_live_blocks
     segment_without_live_blocks.run
@@ -127,13 +127,13 @@ steps_of_segment_keeps_its_passages = steps_at (decisions segment_keeps_its_pass
     ∷ rest [] []
     ∷ serve [] (Direct 2000) (
     with_rows (got (block 0 1 12 1 (at 0 1) 1) 2400 2500 ByGap 0 (untouched 12 1 ∷ []))
-    (segment_line 0 1 2500 2 (untouched 0 1 ∷ untouched 12 1 ∷ []) ∷ done_line 0 2500 ∷ [])
+    (segment_row 0 1 2500 2 (untouched 0 1 ∷ untouched 12 1 ∷ []) ∷ done_row 0 2500 ∷ [])
     ∷ [])
     ∷ rest [] []
     ∷ [])
 
 abbrev tasks_of_segment_keeps_its_passages : List BackRow
-tasks_of_segment_keeps_its_passages = task_line 0 Clean 2 2 0 true ∷ []
+tasks_of_segment_keeps_its_passages = task_row 0 Clean 2 2 0 true ∷ []
 
 sound_segment_keeps_its_passages : IsSoundBy segment_keeps_its_passages.inputs steps_of_segment_keeps_its_passages
     segment_keeps_its_passages.run
@@ -192,11 +192,11 @@ segment_keeps_its_passages_is_full = record {
 abbrev steps_of_closed_with_chosen_segment : List Step
 steps_of_closed_with_chosen_segment = steps_at (decisions closed_with_chosen_segment.inputs) (
     rest [] []
-    ∷ rest (done_line 0 100 ∷ []) []
+    ∷ rest (done_row 0 100 ∷ []) []
     ∷ [])
 
 abbrev tasks_of_closed_with_chosen_segment : List BackRow
-tasks_of_closed_with_chosen_segment = task_line 0 Clean 1 0 1 true ∷ []
+tasks_of_closed_with_chosen_segment = task_row 0 Clean 1 0 1 true ∷ []
 
 sound_closed_with_chosen_segment : IsSoundBy closed_with_chosen_segment.inputs steps_of_closed_with_chosen_segment
     closed_with_chosen_segment.run
@@ -239,12 +239,12 @@ steps_of_suspended_session_chooses = steps_at (decisions suspended_session_choos
     rest [] []
     ∷ rest [] (
     with_rows (got (block 0 0 0 1 (at 0 0) 1) 1200 1300 ByIdle 0 (untouched 0 1 ∷ []))
-    (segment_line 0 1 1300 1 (untouched 0 1 ∷ []) ∷ done_line 0 1300 ∷ [])
+    (segment_row 0 1 1300 1 (untouched 0 1 ∷ []) ∷ done_row 0 1300 ∷ [])
     ∷ [])
     ∷ [])
 
 abbrev tasks_of_suspended_session_chooses : List BackRow
-tasks_of_suspended_session_chooses = task_line 0 Clean 1 1 0 true ∷ []
+tasks_of_suspended_session_chooses = task_row 0 Clean 1 1 0 true ∷ []
 
 sound_suspended_session_chooses : IsSoundBy suspended_session_chooses.inputs steps_of_suspended_session_chooses
     suspended_session_chooses.run

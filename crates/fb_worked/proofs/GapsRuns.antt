@@ -4,7 +4,7 @@ use Rattle.fb_calls.specs.declared.call.Kind.TheVariants.{Plain}
 use Rattle.fb_rows.specs.declared.gap.Plan.TheVariants.{Direct, Detour}
 use Rattle.fb_rows.specs.declared.gap.How.TheVariants.{Gap as ByGap}
 use Rattle.fb_worked.specs.SmallDisk.{small_disk, quick_disk, turned_disk}
-use Rattle.fb_worked.specs.Rows.{at, gap, untouched, block, got, done_line, task_line}
+use Rattle.fb_worked.specs.Rows.{at, gap, untouched, block, got, done_row, task_row}
 use Rattle.fb_rows.specs.declared.back.BackRow.{BackRow}
 use Rattle.fb_model.specs.Decisions.{decisions}
 use Rattle.fb_model.specs.Steps.{Step}
@@ -22,13 +22,13 @@ steps_of_both_dwells = steps_at (decisions both_dwells.inputs) (
     ∷ serve [] (Direct 800) (
     with_rows (got (block 0 0 6 1 (at 0 0) 1) 600 700 ByGap 0 (untouched 6 1 ∷ [])) []
     ∷ with_rows (got (block 0 1 7 1 (at 0 0) 1) 700 800 ByGap 0 (untouched 7 1 ∷ [])) []
-    ∷ with_rows (got (block 0 2 35 1 (at 1 0) 1) 1100 1200 ByGap 0 (untouched 35 1 ∷ [])) (done_line 0 1200 ∷ [])
+    ∷ with_rows (got (block 0 2 35 1 (at 1 0) 1) 1100 1200 ByGap 0 (untouched 35 1 ∷ [])) (done_row 0 1200 ∷ [])
     ∷ [])
     ∷ rest [] []
     ∷ [])
 
 abbrev tasks_of_both_dwells : List BackRow
-tasks_of_both_dwells = task_line 0 Plain 3 3 0 true ∷ []
+tasks_of_both_dwells = task_row 0 Plain 3 3 0 true ∷ []
 
 sound_both_dwells : IsSoundBy both_dwells.inputs steps_of_both_dwells both_dwells.run
 unfolding on_small_disks
@@ -75,13 +75,13 @@ abbrev steps_of_detour : List Step
 steps_of_detour = steps_at (decisions detour.inputs) (
     serve [] (Direct 0) []
     ∷ serve [] (Detour (at 0 1) 900) (
-    with_rows (got (block 0 0 20 1 (at 0 1) 1) 800 900 ByGap 0 (untouched 20 1 ∷ [])) (done_line 0 900 ∷ [])
+    with_rows (got (block 0 0 20 1 (at 0 1) 1) 800 900 ByGap 0 (untouched 20 1 ∷ [])) (done_row 0 900 ∷ [])
     ∷ [])
     ∷ rest [] []
     ∷ [])
 
 abbrev tasks_of_detour : List BackRow
-tasks_of_detour = task_line 0 Plain 1 1 0 true ∷ []
+tasks_of_detour = task_row 0 Plain 1 1 0 true ∷ []
 
 sound_detour : IsSoundBy detour.inputs steps_of_detour detour.run
 unfolding on_small_disks
@@ -152,7 +152,7 @@ steps_of_no_time_to_settle = steps_at (decisions no_time_to_settle.inputs) (
     ∷ [])
 
 abbrev tasks_of_no_time_to_settle : List BackRow
-tasks_of_no_time_to_settle = task_line 0 Plain 1 0 0 false ∷ []
+tasks_of_no_time_to_settle = task_row 0 Plain 1 0 0 false ∷ []
 
 sound_no_time_to_settle : IsSoundBy no_time_to_settle.inputs steps_of_no_time_to_settle no_time_to_settle.run
 unfolding on_small_disks
@@ -202,13 +202,13 @@ no_time_to_settle_is_full = record {
 abbrev steps_of_detour_on_the_way : List Step
 steps_of_detour_on_the_way = steps_at (decisions detour_on_the_way.inputs) (
     serve [] (Detour (at 1 0) 200) (
-    with_rows (got (block 0 0 25 1 (at 1 0) 1) 100 200 ByGap 0 (untouched 25 1 ∷ [])) (done_line 0 200 ∷ [])
+    with_rows (got (block 0 0 25 1 (at 1 0) 1) 100 200 ByGap 0 (untouched 25 1 ∷ [])) (done_row 0 200 ∷ [])
     ∷ [])
     ∷ rest [] []
     ∷ [])
 
 abbrev tasks_of_detour_on_the_way : List BackRow
-tasks_of_detour_on_the_way = task_line 0 Plain 1 1 0 true ∷ []
+tasks_of_detour_on_the_way = task_row 0 Plain 1 1 0 true ∷ []
 
 sound_detour_on_the_way : IsSoundBy detour_on_the_way.inputs steps_of_detour_on_the_way detour_on_the_way.run
 unfolding on_small_disks
@@ -270,13 +270,13 @@ detour_on_the_way_is_full = record {
 abbrev steps_of_detour_over_nothing : List Step
 steps_of_detour_over_nothing = steps_at (decisions detour_over_nothing.inputs) (
     serve [] (Detour (at 1 0) 100) (
-    with_rows (got (block 0 0 51 1 (at 2 0) 1) 300 400 ByGap 0 (untouched 51 1 ∷ [])) (done_line 0 400 ∷ [])
+    with_rows (got (block 0 0 51 1 (at 2 0) 1) 300 400 ByGap 0 (untouched 51 1 ∷ [])) (done_row 0 400 ∷ [])
     ∷ [])
     ∷ rest [] []
     ∷ [])
 
 abbrev tasks_of_detour_over_nothing : List BackRow
-tasks_of_detour_over_nothing = task_line 0 Plain 1 1 0 true ∷ []
+tasks_of_detour_over_nothing = task_row 0 Plain 1 1 0 true ∷ []
 
 sound_detour_over_nothing : IsSoundBy detour_over_nothing.inputs steps_of_detour_over_nothing detour_over_nothing.run
 unfolding on_small_disks
@@ -326,13 +326,13 @@ abbrev steps_of_weight_decides : List Step
 steps_of_weight_decides = steps_at (decisions weight_decides.inputs) (
     serve [] (Direct 0) []
     ∷ serve [] (Direct 600) (
-    with_rows (got (block 1 0 33 1 (at 1 0) 5) 900 1000 ByGap 0 (untouched 33 1 ∷ [])) (done_line 1 1000 ∷ [])
+    with_rows (got (block 1 0 33 1 (at 1 0) 5) 900 1000 ByGap 0 (untouched 33 1 ∷ [])) (done_row 1 1000 ∷ [])
     ∷ [])
     ∷ rest [] []
     ∷ [])
 
 abbrev tasks_of_weight_decides : List BackRow
-tasks_of_weight_decides = task_line 0 Plain 2 0 0 false ∷ task_line 1 Plain 1 1 0 true ∷ []
+tasks_of_weight_decides = task_row 0 Plain 2 0 0 false ∷ task_row 1 Plain 1 1 0 true ∷ []
 
 sound_weight_decides : IsSoundBy weight_decides.inputs steps_of_weight_decides weight_decides.run
 unfolding on_small_disks
@@ -375,13 +375,13 @@ weight_decides_is_full =
 abbrev steps_of_block_over_the_turn : List Step
 steps_of_block_over_the_turn = steps_at (decisions block_over_the_turn.inputs) (
     serve [] (Direct 0) (
-    with_rows (got last_and_first 1100 1300 ByGap 0 (untouched 12 2 ∷ [])) (done_line 0 1300 ∷ [])
+    with_rows (got last_and_first 1100 1300 ByGap 0 (untouched 12 2 ∷ [])) (done_row 0 1300 ∷ [])
     ∷ [])
     ∷ rest [] []
     ∷ [])
 
 abbrev tasks_of_block_over_the_turn : List BackRow
-tasks_of_block_over_the_turn = task_line 0 Plain 1 1 0 true ∷ []
+tasks_of_block_over_the_turn = task_row 0 Plain 1 1 0 true ∷ []
 
 sound_block_over_the_turn : IsSoundBy block_over_the_turn.inputs steps_of_block_over_the_turn block_over_the_turn.run
 unfolding on_small_disks

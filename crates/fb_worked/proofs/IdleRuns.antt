@@ -4,7 +4,7 @@ use Rattle.fb_calls.specs.declared.call.Kind.TheVariants.{Plain}
 use Rattle.fb_rows.specs.declared.gap.Plan.TheVariants.{Direct}
 use Rattle.fb_rows.specs.declared.gap.How.TheVariants.{Gap as ByGap, Idle as ByIdle, Ride as ByRide}
 use Rattle.fb_worked.specs.SmallDisk.{small_disk}
-use Rattle.fb_worked.specs.Rows.{at, gap, untouched, block, got, done_line, task_line}
+use Rattle.fb_worked.specs.Rows.{at, gap, untouched, block, got, done_row, task_row}
 use Rattle.fb_rows.specs.declared.back.BackRow.{BackRow}
 use Rattle.fb_model.specs.Decisions.{decisions}
 use Rattle.fb_model.specs.Steps.{Step}
@@ -17,14 +17,14 @@ use Rattle.fb_worked.proofs.BestPlans.{none_in_time, all_at_once}
 abbrev steps_of_idle_to_the_end : List Step
 steps_of_idle_to_the_end = steps_at (decisions idle_to_the_end.inputs) (
     rest [] (
-    with_rows (got (block 0 0 5 1 (at 0 0) 1) 500 600 ByIdle 0 (untouched 5 1 ∷ [])) (done_line 0 600 ∷ [])
+    with_rows (got (block 0 0 5 1 (at 0 0) 1) 500 600 ByIdle 0 (untouched 5 1 ∷ [])) (done_row 0 600 ∷ [])
     ∷ [])
     ∷ serve [] (Direct 600) []
     ∷ rest [] []
     ∷ [])
 
 abbrev tasks_of_idle_to_the_end : List BackRow
-tasks_of_idle_to_the_end = task_line 0 Plain 1 1 0 true ∷ []
+tasks_of_idle_to_the_end = task_row 0 Plain 1 1 0 true ∷ []
 
 sound_idle_to_the_end : IsSoundBy idle_to_the_end.inputs steps_of_idle_to_the_end idle_to_the_end.run
 unfolding on_small_disks
@@ -68,7 +68,7 @@ steps_of_idle_too_short = steps_at (decisions idle_too_short.inputs) (
     ∷ [])
 
 abbrev tasks_of_idle_too_short : List BackRow
-tasks_of_idle_too_short = task_line 0 Plain 1 0 0 false ∷ []
+tasks_of_idle_too_short = task_row 0 Plain 1 0 0 false ∷ []
 
 sound_idle_too_short : IsSoundBy idle_too_short.inputs steps_of_idle_too_short idle_too_short.run
 unfolding on_small_disks
@@ -119,7 +119,7 @@ steps_of_grown_defect_cuts = steps_at (decisions grown_defect_cuts.inputs) (
     ∷ [])
 
 abbrev tasks_of_grown_defect_cuts : List BackRow
-tasks_of_grown_defect_cuts = task_line 0 Plain 3 2 0 false ∷ []
+tasks_of_grown_defect_cuts = task_row 0 Plain 3 2 0 false ∷ []
 
 sound_grown_defect_cuts : IsSoundBy grown_defect_cuts.inputs steps_of_grown_defect_cuts grown_defect_cuts.run
 unfolding on_small_disks
@@ -158,17 +158,17 @@ abbrev steps_of_promoted_read_carries : List Step
 steps_of_promoted_read_carries = steps_at (decisions promoted_read_carries.inputs) (
     rest [] (
     with_rows (got (block 0 0 5 1 (at 0 0) 1) 500 600 ByIdle 0 (untouched 5 1 ∷ [])) []
-    ∷ with_rows (got (block 0 1 6 1 (at 0 0) 1) 600 700 ByIdle 0 (untouched 6 1 ∷ [])) (done_line 0 700 ∷ [])
+    ∷ with_rows (got (block 0 1 6 1 (at 0 0) 1) 600 700 ByIdle 0 (untouched 6 1 ∷ [])) (done_row 0 700 ∷ [])
     ∷ [])
     ∷ serve [] (Direct 1700) (
     with_rows (got (block 0 2 7 1 (at 0 0) 1) 1900 2000 ByRide 0 (untouched 7 1 ∷ [])) []
-    ∷ with_rows (got (block 0 3 8 1 (at 0 0) 1) 2000 2100 ByRide 0 (untouched 8 1 ∷ [])) (done_line 0 2100 ∷ [])
+    ∷ with_rows (got (block 0 3 8 1 (at 0 0) 1) 2000 2100 ByRide 0 (untouched 8 1 ∷ [])) (done_row 0 2100 ∷ [])
     ∷ [])
     ∷ rest [] []
     ∷ [])
 
 abbrev tasks_of_promoted_read_carries : List BackRow
-tasks_of_promoted_read_carries = task_line 0 Plain 4 4 0 true ∷ []
+tasks_of_promoted_read_carries = task_row 0 Plain 4 4 0 true ∷ []
 
 sound_promoted_read_carries : IsSoundBy promoted_read_carries.inputs steps_of_promoted_read_carries promoted_read_carries.run
 unfolding on_small_disks
@@ -219,13 +219,13 @@ abbrev steps_of_caught_not_carried : List Step
 steps_of_caught_not_carried = steps_at (decisions caught_not_carried.inputs) (
     rest [] []
     ∷ serve [] (Direct 100) (
-    with_rows (got (block 0 0 6 1 (at 0 0) 1) 600 700 ByGap 0 (untouched 6 1 ∷ [])) (done_line 0 700 ∷ [])
+    with_rows (got (block 0 0 6 1 (at 0 0) 1) 600 700 ByGap 0 (untouched 6 1 ∷ [])) (done_row 0 700 ∷ [])
     ∷ [])
     ∷ rest [] []
     ∷ [])
 
 abbrev tasks_of_caught_not_carried : List BackRow
-tasks_of_caught_not_carried = task_line 0 Plain 1 1 0 true ∷ []
+tasks_of_caught_not_carried = task_row 0 Plain 1 1 0 true ∷ []
 
 sound_caught_not_carried : IsSoundBy caught_not_carried.inputs steps_of_caught_not_carried caught_not_carried.run
 unfolding on_small_disks

@@ -4,7 +4,7 @@ use Rattle.fb_calls.specs.declared.call.Kind.TheVariants.{Plain}
 use Rattle.fb_rows.specs.declared.gap.Plan.TheVariants.{Direct}
 use Rattle.fb_rows.specs.declared.gap.How.TheVariants.{Gap as ByGap}
 use Rattle.fb_worked.specs.SmallDisk.{small_disk}
-use Rattle.fb_worked.specs.Rows.{at, gap, untouched, block, got, done_line, task_line}
+use Rattle.fb_worked.specs.Rows.{at, gap, untouched, block, got, done_row, task_row}
 use Rattle.fb_rows.specs.declared.back.BackRow.{BackRow}
 use Rattle.fb_model.specs.Decisions.{decisions}
 use Rattle.fb_model.specs.Steps.{Step}
@@ -21,13 +21,13 @@ steps_of_run_without_third = steps_at (decisions run_without_third.inputs) (
     ∷ serve [] (Direct 800) (
     with_rows (got (block 0 0 6 1 (at 0 0) 1) 600 700 ByGap 0 (untouched 6 1 ∷ [])) []
     ∷ with_rows (got (block 0 1 7 1 (at 0 0) 1) 700 800 ByGap 0 (untouched 7 1 ∷ [])) []
-    ∷ with_rows (got (block 0 2 35 1 (at 1 0) 1) 1100 1200 ByGap 0 (untouched 35 1 ∷ [])) (done_line 0 1200 ∷ [])
+    ∷ with_rows (got (block 0 2 35 1 (at 1 0) 1) 1100 1200 ByGap 0 (untouched 35 1 ∷ [])) (done_row 0 1200 ∷ [])
     ∷ [])
     ∷ rest [] []
     ∷ [])
 
 abbrev tasks_of_run_without_third : List BackRow
-tasks_of_run_without_third = task_line 0 Plain 3 3 0 true ∷ []
+tasks_of_run_without_third = task_row 0 Plain 3 3 0 true ∷ []
 
 sound_run_without_third : IsSoundBy run_without_third.inputs steps_of_run_without_third run_without_third.run
 unfolding on_small_disks
@@ -81,14 +81,14 @@ steps_of_run_with_third = steps_at (decisions run_with_third.inputs) (
     ∷ serve [] (Direct 800) (
     with_rows (got (block 0 0 6 1 (at 0 0) 1) 600 700 ByGap 0 (untouched 6 1 ∷ [])) []
     ∷ with_rows (got (block 0 1 7 1 (at 0 0) 1) 700 800 ByGap 0 (untouched 7 1 ∷ [])) []
-    ∷ with_rows (got (block 0 2 35 1 (at 1 0) 1) 1100 1200 ByGap 0 (untouched 35 1 ∷ [])) (done_line 0 1200 ∷ [])
+    ∷ with_rows (got (block 0 2 35 1 (at 1 0) 1) 1100 1200 ByGap 0 (untouched 35 1 ∷ [])) (done_row 0 1200 ∷ [])
     ∷ [])
     ∷ serve [] (Direct 1300) []
     ∷ rest [] []
     ∷ [])
 
 abbrev tasks_of_run_with_third : List BackRow
-tasks_of_run_with_third = task_line 0 Plain 3 3 0 true ∷ []
+tasks_of_run_with_third = task_row 0 Plain 3 3 0 true ∷ []
 
 sound_run_with_third : IsSoundBy run_with_third.inputs steps_of_run_with_third run_with_third.run
 unfolding on_small_disks

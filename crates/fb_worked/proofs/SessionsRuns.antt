@@ -4,7 +4,7 @@ use Rattle.fb_calls.specs.declared.call.Kind.TheVariants.{Plain}
 use Rattle.fb_rows.specs.declared.gap.Plan.TheVariants.{Direct}
 use Rattle.fb_rows.specs.declared.gap.How.TheVariants.{Gap as ByGap}
 use Rattle.fb_worked.specs.SmallDisk.{small_disk}
-use Rattle.fb_worked.specs.Rows.{at, gap, untouched, block, got, done_line, task_line}
+use Rattle.fb_worked.specs.Rows.{at, gap, untouched, block, got, done_row, task_row}
 use Rattle.fb_rows.specs.declared.back.BackRow.{BackRow}
 use Rattle.fb_model.specs.Decisions.{decisions}
 use Rattle.fb_model.specs.Steps.{Step}
@@ -19,13 +19,13 @@ steps_of_abort_while_waiting = steps_at (decisions abort_while_waiting.inputs) (
     serve [] (Direct 0) []
     ∷ serve [] (Direct 700) (
     with_rows (got (block 0 0 6 1 (at 0 0) 1) 600 700 ByGap 0 (untouched 6 1 ∷ [])) []
-    ∷ with_rows (got (block 0 2 35 1 (at 1 0) 1) 1100 1200 ByGap 0 (untouched 35 1 ∷ [])) (done_line 0 1200 ∷ [])
+    ∷ with_rows (got (block 0 2 35 1 (at 1 0) 1) 1100 1200 ByGap 0 (untouched 35 1 ∷ [])) (done_row 0 1200 ∷ [])
     ∷ [])
     ∷ rest [] []
     ∷ [])
 
 abbrev tasks_of_abort_while_waiting : List BackRow
-tasks_of_abort_while_waiting = task_line 0 Plain 3 2 1 true ∷ []
+tasks_of_abort_while_waiting = task_row 0 Plain 3 2 1 true ∷ []
 
 sound_abort_while_waiting : IsSoundBy abort_while_waiting.inputs steps_of_abort_while_waiting abort_while_waiting.run
 unfolding on_small_disks
@@ -79,13 +79,13 @@ steps_of_abort_too_late = steps_at (decisions abort_too_late.inputs) (
     ∷ serve [] (Direct 800) (
     with_rows (got (block 0 0 6 1 (at 0 0) 1) 600 700 ByGap 0 (untouched 6 1 ∷ [])) []
     ∷ with_rows (got (block 0 1 7 1 (at 0 0) 1) 700 800 ByGap 0 (untouched 7 1 ∷ [])) []
-    ∷ with_rows (got (block 0 2 35 1 (at 1 0) 1) 1100 1200 ByGap 0 (untouched 35 1 ∷ [])) (done_line 0 1200 ∷ [])
+    ∷ with_rows (got (block 0 2 35 1 (at 1 0) 1) 1100 1200 ByGap 0 (untouched 35 1 ∷ [])) (done_row 0 1200 ∷ [])
     ∷ [])
     ∷ rest [] []
     ∷ [])
 
 abbrev tasks_of_abort_too_late : List BackRow
-tasks_of_abort_too_late = task_line 0 Plain 3 3 0 true ∷ []
+tasks_of_abort_too_late = task_row 0 Plain 3 3 0 true ∷ []
 
 sound_abort_too_late : IsSoundBy abort_too_late.inputs steps_of_abort_too_late abort_too_late.run
 unfolding on_small_disks
@@ -137,7 +137,7 @@ steps_of_suspended = steps_at (decisions suspended.inputs) (
     ∷ [])
 
 abbrev tasks_of_suspended : List BackRow
-tasks_of_suspended = task_line 0 Plain 3 0 0 false ∷ []
+tasks_of_suspended = task_row 0 Plain 3 0 0 false ∷ []
 
 sound_suspended : IsSoundBy suspended.inputs steps_of_suspended suspended.run
 unfolding on_small_disks
@@ -179,12 +179,12 @@ suspended_is_full = record { steps = steps_of_suspended; sound = sound_suspended
 abbrev steps_of_closed : List Step
 steps_of_closed = steps_at (decisions closed.inputs) (
     serve [] (Direct 0) []
-    ∷ serve (done_line 0 600 ∷ []) (Direct 600) []
+    ∷ serve (done_row 0 600 ∷ []) (Direct 600) []
     ∷ rest [] []
     ∷ [])
 
 abbrev tasks_of_closed : List BackRow
-tasks_of_closed = task_line 0 Plain 3 0 3 true ∷ []
+tasks_of_closed = task_row 0 Plain 3 0 3 true ∷ []
 
 sound_closed : IsSoundBy closed.inputs steps_of_closed closed.run
 unfolding on_small_disks

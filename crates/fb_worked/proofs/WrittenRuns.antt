@@ -4,7 +4,7 @@ use Rattle.fb_calls.specs.declared.call.Kind.TheVariants.{Plain, Scrub}
 use Rattle.fb_rows.specs.declared.gap.Plan.TheVariants.{Direct}
 use Rattle.fb_rows.specs.declared.gap.How.TheVariants.{Idle as ByIdle}
 use Rattle.fb_worked.specs.SmallDisk.{small_disk, one_sector_disk}
-use Rattle.fb_worked.specs.Rows.{at, gap, untouched, written, unreadable, block, got, done_line, bad_line, task_line}
+use Rattle.fb_worked.specs.Rows.{at, gap, untouched, written, unreadable, block, got, done_row, bad_row, task_row}
 use Rattle.fb_rows.specs.declared.back.BackRow.{BackRow}
 use Rattle.fb_model.specs.Decisions.{decisions}
 use Rattle.fb_model.specs.Steps.{Step}
@@ -17,17 +17,17 @@ use Rattle.fb_worked.proofs.BestPlans.{none_in_time}
 abbrev steps_of_overwritten_between : List Step
 steps_of_overwritten_between = steps_at (decisions overwritten_between.inputs) (
     rest [] (
-    with_rows (got (block 0 0 6 1 (at 0 0) 1) 600 700 ByIdle 0 (untouched 6 1 ∷ [])) (done_line 0 700 ∷ [])
+    with_rows (got (block 0 0 6 1 (at 0 0) 1) 600 700 ByIdle 0 (untouched 6 1 ∷ [])) (done_row 0 700 ∷ [])
     ∷ [])
     ∷ serve [] (Direct 700) []
     ∷ rest [] []
     ∷ rest [] (
-    with_rows (got (block 0 1 6 1 (at 0 0) 1) 3000 3100 ByIdle 0 (written 1 6 1 ∷ [])) (done_line 0 3100 ∷ [])
+    with_rows (got (block 0 1 6 1 (at 0 0) 1) 3000 3100 ByIdle 0 (written 1 6 1 ∷ [])) (done_row 0 3100 ∷ [])
     ∷ [])
     ∷ [])
 
 abbrev tasks_of_overwritten_between : List BackRow
-tasks_of_overwritten_between = task_line 0 Plain 2 2 0 true ∷ []
+tasks_of_overwritten_between = task_row 0 Plain 2 2 0 true ∷ []
 
 sound_overwritten_between : IsSoundBy overwritten_between.inputs steps_of_overwritten_between overwritten_between.run
 unfolding on_small_disks
@@ -73,17 +73,17 @@ overwritten_between_is_full = record {
 abbrev steps_of_latent_until_written : List Step
 steps_of_latent_until_written = steps_at (decisions latent_until_written.inputs) (
     rest [] (
-    with_rows (got (block 0 0 6 1 (at 0 0) 1) 600 700 ByIdle 1 (unreadable 6 1 ∷ [])) (done_line 0 700 ∷ [])
+    with_rows (got (block 0 0 6 1 (at 0 0) 1) 600 700 ByIdle 1 (unreadable 6 1 ∷ [])) (done_row 0 700 ∷ [])
     ∷ [])
     ∷ serve [] (Direct 700) []
     ∷ rest [] []
     ∷ rest [] (
-    with_rows (got (block 0 1 6 1 (at 0 0) 1) 3000 3100 ByIdle 0 (written 1 6 1 ∷ [])) (done_line 0 3100 ∷ [])
+    with_rows (got (block 0 1 6 1 (at 0 0) 1) 3000 3100 ByIdle 0 (written 1 6 1 ∷ [])) (done_row 0 3100 ∷ [])
     ∷ [])
     ∷ [])
 
 abbrev tasks_of_latent_until_written : List BackRow
-tasks_of_latent_until_written = task_line 0 Plain 2 2 0 true ∷ []
+tasks_of_latent_until_written = task_row 0 Plain 2 2 0 true ∷ []
 
 sound_latent_until_written : IsSoundBy latent_until_written.inputs steps_of_latent_until_written latent_until_written.run
 unfolding on_small_disks
@@ -130,12 +130,12 @@ abbrev steps_of_read_as_the_write_ends : List Step
 steps_of_read_as_the_write_ends = steps_at (decisions read_as_the_write_ends.inputs) (
     serve [] (Direct 0) []
     ∷ rest [] (
-    with_rows (got whole_track 1200 2400 ByIdle 0 (written 1 0 1 ∷ [])) (done_line 0 2400 ∷ [])
+    with_rows (got whole_track 1200 2400 ByIdle 0 (written 1 0 1 ∷ [])) (done_row 0 2400 ∷ [])
     ∷ [])
     ∷ [])
 
 abbrev tasks_of_read_as_the_write_ends : List BackRow
-tasks_of_read_as_the_write_ends = task_line 0 Plain 1 1 0 true ∷ []
+tasks_of_read_as_the_write_ends = task_row 0 Plain 1 1 0 true ∷ []
 
 sound_read_as_the_write_ends : IsSoundBy read_as_the_write_ends.inputs steps_of_read_as_the_write_ends read_as_the_write_ends.run
 unfolding on_small_disks
@@ -176,12 +176,12 @@ abbrev steps_of_scrub_finds_latent : List Step
 steps_of_scrub_finds_latent = steps_at (decisions scrub_finds_latent.inputs) (
     rest [] (
     with_rows (got (block 0 0 4 4 (at 0 0) 1) 400 800 ByIdle 1 (untouched 4 2 ∷ unreadable 6 1 ∷ untouched 7 1 ∷ []))
-    (bad_line 0 6 ∷ done_line 0 800 ∷ [])
+    (bad_row 0 6 ∷ done_row 0 800 ∷ [])
     ∷ [])
     ∷ [])
 
 abbrev tasks_of_scrub_finds_latent : List BackRow
-tasks_of_scrub_finds_latent = task_line 0 Scrub 1 1 0 true ∷ []
+tasks_of_scrub_finds_latent = task_row 0 Scrub 1 1 0 true ∷ []
 
 sound_scrub_finds_latent : IsSoundBy scrub_finds_latent.inputs steps_of_scrub_finds_latent scrub_finds_latent.run
 unfolding on_small_disks

@@ -19,7 +19,7 @@ use Rattle.fb_model.specs.Decisions.{Decision, serves, idles, Act, serving, idli
 use Rattle.fb_model.specs.Steps.{Delivery, Step, decisions_in}
 use Rattle.fb_model.specs.SoundRun.{IsSublist, none, left_out, taken, IsSoundBy, IsSound, Throughout}
 use Rattle.fb_model.specs.FullRun.{IsFull, IsAllDelivered}
-use Rattle.fb_worked.specs.Rows.{at, untouched, block, got, done_line, task_line}
+use Rattle.fb_worked.specs.Rows.{at, untouched, block, got, done_row, task_row}
 use Rattle.fb_worked.specs.SmallDisk.{small_disk}
 use Rattle.fb_worked.specs.Wrong.{delivered_too_late, delivered_twice, delivered_after_abort, completion_left_out, delivery_left_out}
 use Rattle.fb_worked.specs.Wrong.{contents_of_later, settling_gap, detour_without_settle, served_sooner}
@@ -90,7 +90,7 @@ delivered_too_late_refuted p = late p.steps (find_one 599 p.steps p.sound.decide
 abbrev row_of_twice : DeliveryRow
 row_of_twice = got (block 0 0 6 1 (at 0 0) 1) 600 700 ByIdle 0 (untouched 6 1 ∷ [])
 
-twice_known : IsSoundBy delivered_twice.inputs (idle 2400 [] (with_rows row_of_twice (done_line 0 700 ∷ []) ∷ []) ∷ []) delivered_twice.run
+twice_known : IsSoundBy delivered_twice.inputs (idle 2400 [] (with_rows row_of_twice (done_row 0 700 ∷ []) ∷ []) ∷ []) delivered_twice.run
     → ⊥
 unfolding on_small_disks
 twice_known s =
@@ -124,7 +124,7 @@ delivered_twice_refuted p = twice p.steps (find_one 2400 p.steps p.sound.decided
 abbrev row_of_aborted : DeliveryRow
 row_of_aborted = got (block 0 0 6 1 (at 0 0) 1) 600 700 ByIdle 0 (untouched 6 1 ∷ [])
 
-aborted_known : IsSoundBy delivered_after_abort.inputs (idle 1200 [] (with_rows row_of_aborted (done_line 0 700 ∷ []) ∷ [])
+aborted_known : IsSoundBy delivered_after_abort.inputs (idle 1200 [] (with_rows row_of_aborted (done_row 0 700 ∷ []) ∷ [])
     ∷ []) delivered_after_abort.run → ⊥
 unfolding on_small_disks
 aborted_known s =
@@ -158,7 +158,7 @@ delivered_after_abort_refuted p = aborted p.steps (find_one 1200 p.steps p.sound
 abbrev row_of_silent : DeliveryRow
 row_of_silent = got (block 0 0 6 1 (at 0 0) 1) 600 700 ByIdle 0 (untouched 6 1 ∷ [])
 
-silent_known : IsSoundBy completion_left_out.inputs (idle 1200 [] (with_rows row_of_silent (done_line 0 700 ∷ []) ∷ [])
+silent_known : IsSoundBy completion_left_out.inputs (idle 1200 [] (with_rows row_of_silent (done_row 0 700 ∷ []) ∷ [])
     ∷ []) completion_left_out.run → ⊥
 unfolding on_small_disks
 silent_known s =
@@ -276,7 +276,7 @@ delivery_left_out_is_sound = record {
     possible = refl;
     end = refl;
     decided = refl;
-    tasks = task_line 0 Plain 1 0 0 false ∷ [];
+    tasks = task_row 0 Plain 1 0 0 false ∷ [];
     back = refl;
     planned = (tt, tt);
     deliveries = (left_out none, tt);

@@ -7,8 +7,8 @@ use Rattle.fb_rows.specs.declared.gap.Plan.TheVariants.{Direct}
 use Rattle.fb_rows.specs.declared.gap.How.TheVariants.{Idle as ByIdle}
 use Rattle.fb_model.specs.PlainReplay.{fcfs}
 use Rattle.fb_worked.specs.SmallDisk.{small_disk}
-use Rattle.fb_worked.specs.Rows.{Worked, at, writing, untouched, written, row, call, block, got, got_line, gap_line, idle_line, done_line}
-use Rattle.fb_worked.specs.Rows.{seal_line, task_line}
+use Rattle.fb_worked.specs.Rows.{Worked, at, writing, untouched, written, row, call, block, got, got_row, gap_row, idle_row, done_row}
+use Rattle.fb_worked.specs.Rows.{seal_row, task_row}
 
 -- a backup whose block is overwritten after its delivery, and delivered again
 abbrev pub overwritten_backup : Worked
@@ -25,15 +25,15 @@ overwritten_backup = record {
   run = record {
     fore = row (writing (Traced 1) 250 0 1) 250 1200 1300 0 [] ∷ [];
     back =
-        idle_line (at 0 0) 0 250
-        ∷ got_line (got (block 0 0 0 2 (at 0 0) 1) 0 200 ByIdle 0 (untouched 0 2 ∷ []))
-        ∷ gap_line (Traced 1) (at 0 0) (at 0 0) 250 1200 true (Direct 250)
-        ∷ idle_line (at 0 0) 1300 4000
-        ∷ got_line (got (block 0 1 2 2 (at 0 0) 1) 1400 1600 ByIdle 0 (untouched 2 2 ∷ []))
-        ∷ got_line (got (block 0 0 0 2 (at 0 0) 1) 2400 2600 ByIdle 0 (written 1 0 1 ∷ untouched 1 1 ∷ []))
-        ∷ seal_line 0 2600 (written 1 0 1 ∷ untouched 1 3 ∷ [])
-        ∷ done_line 0 2600
-        ∷ task_line 0 Backup 2 2 0 true
+        idle_row (at 0 0) 0 250
+        ∷ got_row (got (block 0 0 0 2 (at 0 0) 1) 0 200 ByIdle 0 (untouched 0 2 ∷ []))
+        ∷ gap_row (Traced 1) (at 0 0) (at 0 0) 250 1200 true (Direct 250)
+        ∷ idle_row (at 0 0) 1300 4000
+        ∷ got_row (got (block 0 1 2 2 (at 0 0) 1) 1400 1600 ByIdle 0 (untouched 2 2 ∷ []))
+        ∷ got_row (got (block 0 0 0 2 (at 0 0) 1) 2400 2600 ByIdle 0 (written 1 0 1 ∷ untouched 1 1 ∷ []))
+        ∷ seal_row 0 2600 (written 1 0 1 ∷ untouched 1 3 ∷ [])
+        ∷ done_row 0 2600
+        ∷ task_row 0 Backup 2 2 0 true
         ∷ [];
     passed_over = 0;
     end = 4000;
@@ -55,13 +55,13 @@ backup_without_aborted = record {
   run = record {
     fore = row (writing (Traced 1) 250 0 1) 250 1200 1300 0 [] ∷ [];
     back =
-        idle_line (at 0 0) 0 250
-        ∷ got_line (got (block 0 0 0 2 (at 0 0) 1) 0 200 ByIdle 0 (untouched 0 2 ∷ []))
-        ∷ seal_line 0 200 (untouched 0 2 ∷ [])
-        ∷ done_line 0 200
-        ∷ gap_line (Traced 1) (at 0 0) (at 0 0) 250 1200 true (Direct 250)
-        ∷ idle_line (at 0 0) 1300 4000
-        ∷ task_line 0 Backup 2 1 1 true
+        idle_row (at 0 0) 0 250
+        ∷ got_row (got (block 0 0 0 2 (at 0 0) 1) 0 200 ByIdle 0 (untouched 0 2 ∷ []))
+        ∷ seal_row 0 200 (untouched 0 2 ∷ [])
+        ∷ done_row 0 200
+        ∷ gap_row (Traced 1) (at 0 0) (at 0 0) 250 1200 true (Direct 250)
+        ∷ idle_row (at 0 0) 1300 4000
+        ∷ task_row 0 Backup 2 1 1 true
         ∷ [];
     passed_over = 0;
     end = 4000;

@@ -7,8 +7,8 @@ use Rattle.fb_rows.specs.declared.gap.Plan.TheVariants.{Direct}
 use Rattle.fb_rows.specs.declared.gap.How.TheVariants.{Gap as ByGap, Idle as ByIdle}
 use Rattle.fb_model.specs.PlainReplay.{fcfs}
 use Rattle.fb_worked.specs.SmallDisk.{small_disk}
-use Rattle.fb_worked.specs.Rows.{Worked, at, reading, writing, untouched, row, call, block, got, got_line, gap_line, idle_line, done_line}
-use Rattle.fb_worked.specs.Rows.{segment_line, task_line}
+use Rattle.fb_worked.specs.Rows.{Worked, at, reading, writing, untouched, row, call, block, got, got_row, gap_row, idle_row, done_row}
+use Rattle.fb_worked.specs.Rows.{segment_row, task_row}
 
 -- two segments, the later one with the greater ratio of benefit to cost
 abbrev pub segments_by_benefit : Worked
@@ -29,16 +29,16 @@ segments_by_benefit = record {
   run = record {
     fore = row (reading (Traced 1) 700 11 1) 700 1100 1200 0 (untouched 11 1 ∷ []) ∷ [];
     back =
-        idle_line (at 0 0) 0 700
-        ∷ got_line (got (block 0 0 5 1 (at 0 0) 1) 500 600 ByIdle 0 (untouched 5 1 ∷ []))
-        ∷ segment_line 0 2 600 1 (untouched 5 1 ∷ [])
-        ∷ gap_line (Traced 1) (at 0 0) (at 0 0) 700 1100 false (Direct 700)
-        ∷ idle_line (at 0 0) 1200 3000
-        ∷ got_line (got (block 0 1 0 1 (at 0 0) 1) 1200 1300 ByIdle 0 (untouched 0 1 ∷ []))
-        ∷ got_line (got (block 0 2 2 1 (at 0 0) 1) 1400 1500 ByIdle 0 (untouched 2 1 ∷ []))
-        ∷ segment_line 0 1 1500 2 (untouched 0 1 ∷ untouched 2 1 ∷ [])
-        ∷ done_line 0 1500
-        ∷ task_line 0 Clean 3 3 0 true
+        idle_row (at 0 0) 0 700
+        ∷ got_row (got (block 0 0 5 1 (at 0 0) 1) 500 600 ByIdle 0 (untouched 5 1 ∷ []))
+        ∷ segment_row 0 2 600 1 (untouched 5 1 ∷ [])
+        ∷ gap_row (Traced 1) (at 0 0) (at 0 0) 700 1100 false (Direct 700)
+        ∷ idle_row (at 0 0) 1200 3000
+        ∷ got_row (got (block 0 1 0 1 (at 0 0) 1) 1200 1300 ByIdle 0 (untouched 0 1 ∷ []))
+        ∷ got_row (got (block 0 2 2 1 (at 0 0) 1) 1400 1500 ByIdle 0 (untouched 2 1 ∷ []))
+        ∷ segment_row 0 1 1500 2 (untouched 0 1 ∷ untouched 2 1 ∷ [])
+        ∷ done_row 0 1500
+        ∷ task_row 0 Clean 3 3 0 true
         ∷ [];
     passed_over = 0;
     end = 3000;
@@ -59,7 +59,7 @@ segment_without_live_blocks = record {
   };
   run = record {
     fore = [];
-    back = segment_line 0 1 0 0 [] ∷ done_line 0 0 ∷ task_line 0 Clean 0 0 0 true ∷ [];
+    back = segment_row 0 1 0 0 [] ∷ done_row 0 0 ∷ task_row 0 Clean 0 0 0 true ∷ [];
     passed_over = 0;
     end = 0;
   };
@@ -87,15 +87,15 @@ segment_keeps_its_passages = record {
         ∷ row (reading (Traced 2) 2000 15 1) 2000 2700 2800 0 (untouched 15 1 ∷ [])
         ∷ [];
     back =
-        idle_line (at 0 0) 0 150
-        ∷ got_line (got (block 0 0 0 1 (at 0 0) 1) 0 100 ByIdle 0 (untouched 0 1 ∷ []))
-        ∷ gap_line (Traced 1) (at 0 0) (at 0 0) 150 1200 true (Direct 150)
-        ∷ idle_line (at 0 0) 1300 2000
-        ∷ gap_line (Traced 2) (at 0 0) (at 0 1) 2000 2700 false (Direct 2000)
-        ∷ got_line (got (block 0 1 12 1 (at 0 1) 1) 2400 2500 ByGap 0 (untouched 12 1 ∷ []))
-        ∷ segment_line 0 1 2500 2 (untouched 0 1 ∷ untouched 12 1 ∷ [])
-        ∷ done_line 0 2500
-        ∷ task_line 0 Clean 2 2 0 true
+        idle_row (at 0 0) 0 150
+        ∷ got_row (got (block 0 0 0 1 (at 0 0) 1) 0 100 ByIdle 0 (untouched 0 1 ∷ []))
+        ∷ gap_row (Traced 1) (at 0 0) (at 0 0) 150 1200 true (Direct 150)
+        ∷ idle_row (at 0 0) 1300 2000
+        ∷ gap_row (Traced 2) (at 0 0) (at 0 1) 2000 2700 false (Direct 2000)
+        ∷ got_row (got (block 0 1 12 1 (at 0 1) 1) 2400 2500 ByGap 0 (untouched 12 1 ∷ []))
+        ∷ segment_row 0 1 2500 2 (untouched 0 1 ∷ untouched 12 1 ∷ [])
+        ∷ done_row 0 2500
+        ∷ task_row 0 Clean 2 2 0 true
         ∷ [];
     passed_over = 0;
     end = 2800;
@@ -121,7 +121,7 @@ closed_with_chosen_segment = record {
   };
   run = record {
     fore = [];
-    back = idle_line (at 0 0) 0 100 ∷ done_line 0 100 ∷ task_line 0 Clean 1 0 1 true ∷ [];
+    back = idle_row (at 0 0) 0 100 ∷ done_row 0 100 ∷ task_row 0 Clean 1 0 1 true ∷ [];
     passed_over = 0;
     end = 100;
   };
@@ -147,12 +147,12 @@ suspended_session_chooses = record {
   run = record {
     fore = [];
     back =
-        idle_line (at 0 0) 0 200
-        ∷ idle_line (at 0 0) 200 2000
-        ∷ got_line (got (block 0 0 0 1 (at 0 0) 1) 1200 1300 ByIdle 0 (untouched 0 1 ∷ []))
-        ∷ segment_line 0 1 1300 1 (untouched 0 1 ∷ [])
-        ∷ done_line 0 1300
-        ∷ task_line 0 Clean 1 1 0 true
+        idle_row (at 0 0) 0 200
+        ∷ idle_row (at 0 0) 200 2000
+        ∷ got_row (got (block 0 0 0 1 (at 0 0) 1) 1200 1300 ByIdle 0 (untouched 0 1 ∷ []))
+        ∷ segment_row 0 1 1300 1 (untouched 0 1 ∷ [])
+        ∷ done_row 0 1300
+        ∷ task_row 0 Clean 1 1 0 true
         ∷ [];
     passed_over = 0;
     end = 2000;

@@ -8,8 +8,8 @@ use Rattle.fb_rows.specs.declared.gap.Plan.TheVariants.{Direct, Detour}
 use Rattle.fb_rows.specs.declared.gap.How.TheVariants.{Gap as ByGap}
 use Rattle.fb_model.specs.PlainReplay.{fcfs}
 use Rattle.fb_worked.specs.SmallDisk.{small_disk, quick_disk, turned_disk}
-use Rattle.fb_worked.specs.Rows.{Worked, at, reading, writing, untouched, row, call, block, swept_block, got, got_line, gap_line, done_line}
-use Rattle.fb_worked.specs.Rows.{task_line}
+use Rattle.fb_worked.specs.Rows.{Worked, at, reading, writing, untouched, row, call, block, swept_block, got, got_row, gap_row, done_row}
+use Rattle.fb_worked.specs.Rows.{task_row}
 
 -- three blocks that the two dwells of a gap catch
 abbrev pub both_dwells : Worked
@@ -29,13 +29,13 @@ both_dwells = record {
         ∷ row (reading (Traced 2) 0 24 1) 600 1200 1300 0 (untouched 24 1 ∷ [])
         ∷ [];
     back =
-        gap_line (Traced 1) (at 0 0) (at 0 0) 0 500 false (Direct 0)
-        ∷ gap_line (Traced 2) (at 0 0) (at 1 0) 600 1200 false (Direct 800)
-        ∷ got_line (got (block 0 0 6 1 (at 0 0) 1) 600 700 ByGap 0 (untouched 6 1 ∷ []))
-        ∷ got_line (got (block 0 1 7 1 (at 0 0) 1) 700 800 ByGap 0 (untouched 7 1 ∷ []))
-        ∷ got_line (got (block 0 2 35 1 (at 1 0) 1) 1100 1200 ByGap 0 (untouched 35 1 ∷ []))
-        ∷ done_line 0 1200
-        ∷ task_line 0 Plain 3 3 0 true
+        gap_row (Traced 1) (at 0 0) (at 0 0) 0 500 false (Direct 0)
+        ∷ gap_row (Traced 2) (at 0 0) (at 1 0) 600 1200 false (Direct 800)
+        ∷ got_row (got (block 0 0 6 1 (at 0 0) 1) 600 700 ByGap 0 (untouched 6 1 ∷ []))
+        ∷ got_row (got (block 0 1 7 1 (at 0 0) 1) 700 800 ByGap 0 (untouched 7 1 ∷ []))
+        ∷ got_row (got (block 0 2 35 1 (at 1 0) 1) 1100 1200 ByGap 0 (untouched 35 1 ∷ []))
+        ∷ done_row 0 1200
+        ∷ task_row 0 Plain 3 3 0 true
         ∷ [];
     passed_over = 0;
     end = 1300;
@@ -60,11 +60,11 @@ detour = record {
         ∷ row (reading (Traced 2) 0 24 1) 600 1200 1300 0 (untouched 24 1 ∷ [])
         ∷ [];
     back =
-        gap_line (Traced 1) (at 0 0) (at 0 0) 0 500 false (Direct 0)
-        ∷ gap_line (Traced 2) (at 0 0) (at 1 0) 600 1200 false (Detour (at 0 1) 900)
-        ∷ got_line (got (block 0 0 20 1 (at 0 1) 1) 800 900 ByGap 0 (untouched 20 1 ∷ []))
-        ∷ done_line 0 900
-        ∷ task_line 0 Plain 1 1 0 true
+        gap_row (Traced 1) (at 0 0) (at 0 0) 0 500 false (Direct 0)
+        ∷ gap_row (Traced 2) (at 0 0) (at 1 0) 600 1200 false (Detour (at 0 1) 900)
+        ∷ got_row (got (block 0 0 20 1 (at 0 1) 1) 800 900 ByGap 0 (untouched 20 1 ∷ []))
+        ∷ done_row 0 900
+        ∷ task_row 0 Plain 1 1 0 true
         ∷ [];
     passed_over = 0;
     end = 1300;
@@ -89,9 +89,9 @@ no_time_to_settle = record {
         ∷ row (writing (Traced 2) 0 24 1) 600 1200 1300 0 []
         ∷ [];
     back =
-        gap_line (Traced 1) (at 0 0) (at 0 0) 0 500 false (Direct 0)
-        ∷ gap_line (Traced 2) (at 0 0) (at 1 0) 600 1200 true (Direct 600)
-        ∷ task_line 0 Plain 1 0 0 false
+        gap_row (Traced 1) (at 0 0) (at 0 0) 0 500 false (Direct 0)
+        ∷ gap_row (Traced 2) (at 0 0) (at 1 0) 600 1200 true (Direct 600)
+        ∷ task_row 0 Plain 1 0 0 false
         ∷ [];
     passed_over = 0;
     end = 1300;
@@ -113,10 +113,10 @@ detour_on_the_way = record {
   run = record {
     fore = row (reading (Traced 1) 0 51 1) 0 1500 1600 0 (untouched 51 1 ∷ []) ∷ [];
     back =
-        gap_line (Traced 1) (at 0 0) (at 2 0) 0 1500 false (Detour (at 1 0) 200)
-        ∷ got_line (got (block 0 0 25 1 (at 1 0) 1) 100 200 ByGap 0 (untouched 25 1 ∷ []))
-        ∷ done_line 0 200
-        ∷ task_line 0 Plain 1 1 0 true
+        gap_row (Traced 1) (at 0 0) (at 2 0) 0 1500 false (Detour (at 1 0) 200)
+        ∷ got_row (got (block 0 0 25 1 (at 1 0) 1) 100 200 ByGap 0 (untouched 25 1 ∷ []))
+        ∷ done_row 0 200
+        ∷ task_row 0 Plain 1 1 0 true
         ∷ [];
     passed_over = 0;
     end = 1600;
@@ -138,10 +138,10 @@ detour_over_nothing = record {
   run = record {
     fore = row (reading (Traced 1) 0 51 1) 0 1500 1600 0 (untouched 51 1 ∷ []) ∷ [];
     back =
-        gap_line (Traced 1) (at 0 0) (at 2 0) 0 1500 false (Detour (at 1 0) 100)
-        ∷ got_line (got (block 0 0 51 1 (at 2 0) 1) 300 400 ByGap 0 (untouched 51 1 ∷ []))
-        ∷ done_line 0 400
-        ∷ task_line 0 Plain 1 1 0 true
+        gap_row (Traced 1) (at 0 0) (at 2 0) 0 1500 false (Detour (at 1 0) 100)
+        ∷ got_row (got (block 0 0 51 1 (at 2 0) 1) 300 400 ByGap 0 (untouched 51 1 ∷ []))
+        ∷ done_row 0 400
+        ∷ task_row 0 Plain 1 1 0 true
         ∷ [];
     passed_over = 0;
     end = 1600;
@@ -171,12 +171,12 @@ weight_decides = record {
         ∷ row (reading (Traced 2) 0 24 1) 600 1200 1300 0 (untouched 24 1 ∷ [])
         ∷ [];
     back =
-        gap_line (Traced 1) (at 0 0) (at 0 0) 0 500 false (Direct 0)
-        ∷ gap_line (Traced 2) (at 0 0) (at 1 0) 600 1200 false (Direct 600)
-        ∷ got_line (got (block 1 0 33 1 (at 1 0) 5) 900 1000 ByGap 0 (untouched 33 1 ∷ []))
-        ∷ done_line 1 1000
-        ∷ task_line 0 Plain 2 0 0 false
-        ∷ task_line 1 Plain 1 1 0 true
+        gap_row (Traced 1) (at 0 0) (at 0 0) 0 500 false (Direct 0)
+        ∷ gap_row (Traced 2) (at 0 0) (at 1 0) 600 1200 false (Direct 600)
+        ∷ got_row (got (block 1 0 33 1 (at 1 0) 5) 900 1000 ByGap 0 (untouched 33 1 ∷ []))
+        ∷ done_row 1 1000
+        ∷ task_row 0 Plain 2 0 0 false
+        ∷ task_row 1 Plain 1 1 0 true
         ∷ [];
     passed_over = 0;
     end = 1300;
@@ -202,10 +202,10 @@ block_over_the_turn = record {
   run = record {
     fore = row (reading (Traced 1) 0 14 1) 0 1300 1400 0 (untouched 14 1 ∷ []) ∷ [];
     back =
-        gap_line (Traced 1) (at 0 0) (at 0 1) 0 1300 false (Direct 0)
-        ∷ got_line (got last_and_first 1100 1300 ByGap 0 (untouched 12 2 ∷ []))
-        ∷ done_line 0 1300
-        ∷ task_line 0 Plain 1 1 0 true
+        gap_row (Traced 1) (at 0 0) (at 0 1) 0 1300 false (Direct 0)
+        ∷ got_row (got last_and_first 1100 1300 ByGap 0 (untouched 12 2 ∷ []))
+        ∷ done_row 0 1300
+        ∷ task_row 0 Plain 1 1 0 true
         ∷ [];
     passed_over = 0;
     end = 1400;

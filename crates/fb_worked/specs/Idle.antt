@@ -7,7 +7,7 @@ use Rattle.fb_rows.specs.declared.gap.Plan.TheVariants.{Direct}
 use Rattle.fb_rows.specs.declared.gap.How.TheVariants.{Gap as ByGap, Idle as ByIdle, Ride as ByRide}
 use Rattle.fb_model.specs.PlainReplay.{fcfs}
 use Rattle.fb_worked.specs.SmallDisk.{small_disk, remapped_disk}
-use Rattle.fb_worked.specs.Rows.{Worked, at, reading, untouched, row, call, block, got, got_line, gap_line, idle_line, done_line, task_line}
+use Rattle.fb_worked.specs.Rows.{Worked, at, reading, untouched, row, call, block, got, got_row, gap_row, idle_row, done_row, task_row}
 
 -- a block that ends as the idle dwell does
 abbrev pub idle_to_the_end : Worked
@@ -24,11 +24,11 @@ idle_to_the_end = record {
   run = record {
     fore = row (reading (Traced 1) 600 24 1) 600 1200 1300 0 (untouched 24 1 ∷ []) ∷ [];
     back =
-        idle_line (at 0 0) 0 600
-        ∷ got_line (got (block 0 0 5 1 (at 0 0) 1) 500 600 ByIdle 0 (untouched 5 1 ∷ []))
-        ∷ done_line 0 600
-        ∷ gap_line (Traced 1) (at 0 0) (at 1 0) 600 1200 false (Direct 600)
-        ∷ task_line 0 Plain 1 1 0 true
+        idle_row (at 0 0) 0 600
+        ∷ got_row (got (block 0 0 5 1 (at 0 0) 1) 500 600 ByIdle 0 (untouched 5 1 ∷ []))
+        ∷ done_row 0 600
+        ∷ gap_row (Traced 1) (at 0 0) (at 1 0) 600 1200 false (Direct 600)
+        ∷ task_row 0 Plain 1 1 0 true
         ∷ [];
     passed_over = 0;
     end = 1300;
@@ -50,9 +50,9 @@ idle_too_short = record {
   run = record {
     fore = row (reading (Traced 1) 599 24 1) 599 1200 1300 0 (untouched 24 1 ∷ []) ∷ [];
     back =
-        idle_line (at 0 0) 0 599
-        ∷ gap_line (Traced 1) (at 0 0) (at 1 0) 599 1200 false (Direct 599)
-        ∷ task_line 0 Plain 1 0 0 false
+        idle_row (at 0 0) 0 599
+        ∷ gap_row (Traced 1) (at 0 0) (at 1 0) 599 1200 false (Direct 599)
+        ∷ task_row 0 Plain 1 0 0 false
         ∷ [];
     passed_over = 0;
     end = 1300;
@@ -74,10 +74,10 @@ grown_defect_cuts = record {
   run = record {
     fore = [];
     back =
-        idle_line (at 0 0) 0 1200
-        ∷ got_line (got (block 0 0 2 1 (at 0 0) 1) 200 300 ByIdle 0 (untouched 2 1 ∷ []))
-        ∷ got_line (got (block 0 2 4 1 (at 0 0) 1) 400 500 ByIdle 0 (untouched 4 1 ∷ []))
-        ∷ task_line 0 Plain 3 2 0 false
+        idle_row (at 0 0) 0 1200
+        ∷ got_row (got (block 0 0 2 1 (at 0 0) 1) 200 300 ByIdle 0 (untouched 2 1 ∷ []))
+        ∷ got_row (got (block 0 2 4 1 (at 0 0) 1) 400 500 ByIdle 0 (untouched 4 1 ∷ []))
+        ∷ task_row 0 Plain 3 2 0 false
         ∷ [];
     passed_over = 0;
     end = 1200;
@@ -104,15 +104,15 @@ promoted_read_carries = record {
   run = record {
     fore = row (reading (Promoted 1) 1700 5 4) 1700 1700 2100 0 (untouched 5 4 ∷ []) ∷ [];
     back =
-        idle_line (at 0 0) 0 1700
-        ∷ got_line (got (block 0 0 5 1 (at 0 0) 1) 500 600 ByIdle 0 (untouched 5 1 ∷ []))
-        ∷ got_line (got (block 0 1 6 1 (at 0 0) 1) 600 700 ByIdle 0 (untouched 6 1 ∷ []))
-        ∷ done_line 0 700
-        ∷ gap_line (Promoted 1) (at 0 0) (at 0 0) 1700 1700 false (Direct 1700)
-        ∷ got_line (got (block 0 2 7 1 (at 0 0) 1) 1900 2000 ByRide 0 (untouched 7 1 ∷ []))
-        ∷ got_line (got (block 0 3 8 1 (at 0 0) 1) 2000 2100 ByRide 0 (untouched 8 1 ∷ []))
-        ∷ done_line 0 2100
-        ∷ task_line 0 Plain 4 4 0 true
+        idle_row (at 0 0) 0 1700
+        ∷ got_row (got (block 0 0 5 1 (at 0 0) 1) 500 600 ByIdle 0 (untouched 5 1 ∷ []))
+        ∷ got_row (got (block 0 1 6 1 (at 0 0) 1) 600 700 ByIdle 0 (untouched 6 1 ∷ []))
+        ∷ done_row 0 700
+        ∷ gap_row (Promoted 1) (at 0 0) (at 0 0) 1700 1700 false (Direct 1700)
+        ∷ got_row (got (block 0 2 7 1 (at 0 0) 1) 1900 2000 ByRide 0 (untouched 7 1 ∷ []))
+        ∷ got_row (got (block 0 3 8 1 (at 0 0) 1) 2000 2100 ByRide 0 (untouched 8 1 ∷ []))
+        ∷ done_row 0 2100
+        ∷ task_row 0 Plain 4 4 0 true
         ∷ [];
     passed_over = 0;
     end = 2100;
@@ -134,11 +134,11 @@ caught_not_carried = record {
   run = record {
     fore = row (reading (Traced 1) 100 0 12) 100 1200 2400 0 (untouched 0 12 ∷ []) ∷ [];
     back =
-        idle_line (at 0 0) 0 100
-        ∷ gap_line (Traced 1) (at 0 0) (at 0 0) 100 1200 false (Direct 100)
-        ∷ got_line (got (block 0 0 6 1 (at 0 0) 1) 600 700 ByGap 0 (untouched 6 1 ∷ []))
-        ∷ done_line 0 700
-        ∷ task_line 0 Plain 1 1 0 true
+        idle_row (at 0 0) 0 100
+        ∷ gap_row (Traced 1) (at 0 0) (at 0 0) 100 1200 false (Direct 100)
+        ∷ got_row (got (block 0 0 6 1 (at 0 0) 1) 600 700 ByGap 0 (untouched 6 1 ∷ []))
+        ∷ done_row 0 700
+        ∷ task_row 0 Plain 1 1 0 true
         ∷ [];
     passed_over = 0;
     end = 2400;

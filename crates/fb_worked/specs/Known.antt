@@ -7,7 +7,7 @@ use Rattle.fb_rows.specs.declared.gap.Plan.TheVariants.{Direct}
 use Rattle.fb_rows.specs.declared.gap.How.TheVariants.{Gap as ByGap}
 use Rattle.fb_model.specs.PlainReplay.{fcfs}
 use Rattle.fb_worked.specs.SmallDisk.{small_disk}
-use Rattle.fb_worked.specs.Rows.{Worked, at, reading, untouched, row, call, block, got, got_line, gap_line, idle_line, done_line, task_line}
+use Rattle.fb_worked.specs.Rows.{Worked, at, reading, untouched, row, call, block, got, got_row, gap_row, idle_row, done_row, task_row}
 
 -- a run
 abbrev pub run_without_third : Worked
@@ -27,14 +27,14 @@ run_without_third = record {
         ∷ row (reading (Traced 2) 0 24 1) 600 1200 1300 0 (untouched 24 1 ∷ [])
         ∷ [];
     back =
-        gap_line (Traced 1) (at 0 0) (at 0 0) 0 500 false (Direct 0)
-        ∷ gap_line (Traced 2) (at 0 0) (at 1 0) 600 1200 false (Direct 800)
-        ∷ got_line (got (block 0 0 6 1 (at 0 0) 1) 600 700 ByGap 0 (untouched 6 1 ∷ []))
-        ∷ got_line (got (block 0 1 7 1 (at 0 0) 1) 700 800 ByGap 0 (untouched 7 1 ∷ []))
-        ∷ got_line (got (block 0 2 35 1 (at 1 0) 1) 1100 1200 ByGap 0 (untouched 35 1 ∷ []))
-        ∷ done_line 0 1200
-        ∷ idle_line (at 1 0) 1300 10000
-        ∷ task_line 0 Plain 3 3 0 true
+        gap_row (Traced 1) (at 0 0) (at 0 0) 0 500 false (Direct 0)
+        ∷ gap_row (Traced 2) (at 0 0) (at 1 0) 600 1200 false (Direct 800)
+        ∷ got_row (got (block 0 0 6 1 (at 0 0) 1) 600 700 ByGap 0 (untouched 6 1 ∷ []))
+        ∷ got_row (got (block 0 1 7 1 (at 0 0) 1) 700 800 ByGap 0 (untouched 7 1 ∷ []))
+        ∷ got_row (got (block 0 2 35 1 (at 1 0) 1) 1100 1200 ByGap 0 (untouched 35 1 ∷ []))
+        ∷ done_row 0 1200
+        ∷ idle_row (at 1 0) 1300 10000
+        ∷ task_row 0 Plain 3 3 0 true
         ∷ [];
     passed_over = 0;
     end = 10000;
@@ -60,15 +60,15 @@ run_with_third = record {
         ∷ row (reading (Traced 3) 1260 72 1) 1300 2400 2500 0 (untouched 72 1 ∷ [])
         ∷ [];
     back =
-        gap_line (Traced 1) (at 0 0) (at 0 0) 0 500 false (Direct 0)
-        ∷ gap_line (Traced 2) (at 0 0) (at 1 0) 600 1200 false (Direct 800)
-        ∷ got_line (got (block 0 0 6 1 (at 0 0) 1) 600 700 ByGap 0 (untouched 6 1 ∷ []))
-        ∷ got_line (got (block 0 1 7 1 (at 0 0) 1) 700 800 ByGap 0 (untouched 7 1 ∷ []))
-        ∷ got_line (got (block 0 2 35 1 (at 1 0) 1) 1100 1200 ByGap 0 (untouched 35 1 ∷ []))
-        ∷ done_line 0 1200
-        ∷ gap_line (Traced 3) (at 1 0) (at 3 0) 1300 2400 false (Direct 1300)
-        ∷ idle_line (at 3 0) 2500 10000
-        ∷ task_line 0 Plain 3 3 0 true
+        gap_row (Traced 1) (at 0 0) (at 0 0) 0 500 false (Direct 0)
+        ∷ gap_row (Traced 2) (at 0 0) (at 1 0) 600 1200 false (Direct 800)
+        ∷ got_row (got (block 0 0 6 1 (at 0 0) 1) 600 700 ByGap 0 (untouched 6 1 ∷ []))
+        ∷ got_row (got (block 0 1 7 1 (at 0 0) 1) 700 800 ByGap 0 (untouched 7 1 ∷ []))
+        ∷ got_row (got (block 0 2 35 1 (at 1 0) 1) 1100 1200 ByGap 0 (untouched 35 1 ∷ []))
+        ∷ done_row 0 1200
+        ∷ gap_row (Traced 3) (at 1 0) (at 3 0) 1300 2400 false (Direct 1300)
+        ∷ idle_row (at 3 0) 2500 10000
+        ∷ task_row 0 Plain 3 3 0 true
         ∷ [];
     passed_over = 0;
     end = 10000;

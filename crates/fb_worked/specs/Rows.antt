@@ -72,40 +72,40 @@ block task number lbn count track weight =
 abbrev pub got : Block → ℕ → ℕ → How → ℕ → List ContentRun → DeliveryRow
 got block begin end how bad content = record { block = block; begin = begin; end = end; how = how; bad = bad; content = content }
 
-abbrev pub got_line : DeliveryRow → BackRow
-got_line row = BackGot row
+abbrev pub got_row : DeliveryRow → BackRow
+got_row row = BackGot row
 
 -- source, target, start, deadline, whether the request writes
 abbrev pub gap : Track → Track → ℕ → ℕ → Bool → Gap
 gap source target now deadline write = record { source = source; target = target; now = now; deadline = deadline; write = write }
 
 -- and the gap's plan
-abbrev pub gap_line : Name → Track → Track → ℕ → ℕ → Bool → Plan → BackRow
-gap_line name source target now deadline write plan =
+abbrev pub gap_row : Name → Track → Track → ℕ → ℕ → Bool → Plan → BackRow
+gap_row name source target now deadline write plan =
     BackGap (record { name = name; gap = gap source target now deadline write; plan = plan })
 
-abbrev pub idle_line : Track → ℕ → ℕ → BackRow
-idle_line track begin end = BackIdle (record { track = track; begin = begin; end = end })
+abbrev pub idle_row : Track → ℕ → ℕ → BackRow
+idle_row track begin end = BackIdle (record { track = track; begin = begin; end = end })
 
 -- task and instant
-abbrev pub done_line : ℕ → ℕ → BackRow
-done_line task instant = BackComplete (record { task = task; instant = instant })
+abbrev pub done_row : ℕ → ℕ → BackRow
+done_row task instant = BackComplete (record { task = task; instant = instant })
 
 -- task and sector
-abbrev pub bad_line : ℕ → ℕ → BackRow
-bad_line task lbn = BackBad (record { task = task; lbn = lbn })
+abbrev pub bad_row : ℕ → ℕ → BackRow
+bad_row task lbn = BackBad (record { task = task; lbn = lbn })
 
-abbrev pub seal_line : ℕ → ℕ → List ContentRun → BackRow
-seal_line task instant content = BackSeal (record { task = task; instant = instant; content = content })
+abbrev pub seal_row : ℕ → ℕ → List ContentRun → BackRow
+seal_row task instant content = BackSeal (record { task = task; instant = instant; content = content })
 
 -- task, segment, instant, live blocks, contents
-abbrev pub segment_line : ℕ → ℕ → ℕ → ℕ → List ContentRun → BackRow
-segment_line task segment instant live content =
+abbrev pub segment_row : ℕ → ℕ → ℕ → ℕ → List ContentRun → BackRow
+segment_row task segment instant live content =
     BackSegment (record { task = task; segment = segment; instant = instant; live = live; content = content })
 
 -- blocks registered, delivered and aborted, and whether the task is complete
-abbrev pub task_line : ℕ → Kind → ℕ → ℕ → ℕ → Bool → BackRow
-task_line task kind registered delivered aborted complete = BackTask (record {
+abbrev pub task_row : ℕ → Kind → ℕ → ℕ → ℕ → Bool → BackRow
+task_row task kind registered delivered aborted complete = BackTask (record {
   task = task;
   kind = kind;
   registered = registered;

@@ -7,7 +7,7 @@ use Rattle.fb_rows.specs.declared.gap.Plan.TheVariants.{Direct}
 use Rattle.fb_rows.specs.declared.gap.How.TheVariants.{Gap as ByGap}
 use Rattle.fb_model.specs.PlainReplay.{fcfs}
 use Rattle.fb_worked.specs.SmallDisk.{small_disk}
-use Rattle.fb_worked.specs.Rows.{Worked, at, reading, untouched, row, call, block, got, got_line, gap_line, done_line, task_line}
+use Rattle.fb_worked.specs.Rows.{Worked, at, reading, untouched, row, call, block, got, got_row, gap_row, done_row, task_row}
 
 -- an abort as the second request starts
 abbrev pub abort_while_waiting : Worked
@@ -32,12 +32,12 @@ abort_while_waiting = record {
         ∷ row (reading (Traced 2) 0 24 1) 600 1200 1300 0 (untouched 24 1 ∷ [])
         ∷ [];
     back =
-        gap_line (Traced 1) (at 0 0) (at 0 0) 0 500 false (Direct 0)
-        ∷ gap_line (Traced 2) (at 0 0) (at 1 0) 600 1200 false (Direct 700)
-        ∷ got_line (got (block 0 0 6 1 (at 0 0) 1) 600 700 ByGap 0 (untouched 6 1 ∷ []))
-        ∷ got_line (got (block 0 2 35 1 (at 1 0) 1) 1100 1200 ByGap 0 (untouched 35 1 ∷ []))
-        ∷ done_line 0 1200
-        ∷ task_line 0 Plain 3 2 1 true
+        gap_row (Traced 1) (at 0 0) (at 0 0) 0 500 false (Direct 0)
+        ∷ gap_row (Traced 2) (at 0 0) (at 1 0) 600 1200 false (Direct 700)
+        ∷ got_row (got (block 0 0 6 1 (at 0 0) 1) 600 700 ByGap 0 (untouched 6 1 ∷ []))
+        ∷ got_row (got (block 0 2 35 1 (at 1 0) 1) 1100 1200 ByGap 0 (untouched 35 1 ∷ []))
+        ∷ done_row 0 1200
+        ∷ task_row 0 Plain 3 2 1 true
         ∷ [];
     passed_over = 0;
     end = 1300;
@@ -67,13 +67,13 @@ abort_too_late = record {
         ∷ row (reading (Traced 2) 0 24 1) 600 1200 1300 0 (untouched 24 1 ∷ [])
         ∷ [];
     back =
-        gap_line (Traced 1) (at 0 0) (at 0 0) 0 500 false (Direct 0)
-        ∷ gap_line (Traced 2) (at 0 0) (at 1 0) 600 1200 false (Direct 800)
-        ∷ got_line (got (block 0 0 6 1 (at 0 0) 1) 600 700 ByGap 0 (untouched 6 1 ∷ []))
-        ∷ got_line (got (block 0 1 7 1 (at 0 0) 1) 700 800 ByGap 0 (untouched 7 1 ∷ []))
-        ∷ got_line (got (block 0 2 35 1 (at 1 0) 1) 1100 1200 ByGap 0 (untouched 35 1 ∷ []))
-        ∷ done_line 0 1200
-        ∷ task_line 0 Plain 3 3 0 true
+        gap_row (Traced 1) (at 0 0) (at 0 0) 0 500 false (Direct 0)
+        ∷ gap_row (Traced 2) (at 0 0) (at 1 0) 600 1200 false (Direct 800)
+        ∷ got_row (got (block 0 0 6 1 (at 0 0) 1) 600 700 ByGap 0 (untouched 6 1 ∷ []))
+        ∷ got_row (got (block 0 1 7 1 (at 0 0) 1) 700 800 ByGap 0 (untouched 7 1 ∷ []))
+        ∷ got_row (got (block 0 2 35 1 (at 1 0) 1) 1100 1200 ByGap 0 (untouched 35 1 ∷ []))
+        ∷ done_row 0 1200
+        ∷ task_row 0 Plain 3 3 0 true
         ∷ [];
     passed_over = 0;
     end = 1300;
@@ -103,9 +103,9 @@ suspended = record {
         ∷ row (reading (Traced 2) 0 24 1) 600 1200 1300 0 (untouched 24 1 ∷ [])
         ∷ [];
     back =
-        gap_line (Traced 1) (at 0 0) (at 0 0) 0 500 false (Direct 0)
-        ∷ gap_line (Traced 2) (at 0 0) (at 1 0) 600 1200 false (Direct 600)
-        ∷ task_line 0 Plain 3 0 0 false
+        gap_row (Traced 1) (at 0 0) (at 0 0) 0 500 false (Direct 0)
+        ∷ gap_row (Traced 2) (at 0 0) (at 1 0) 600 1200 false (Direct 600)
+        ∷ task_row 0 Plain 3 0 0 false
         ∷ [];
     passed_over = 0;
     end = 1300;
@@ -135,10 +135,10 @@ closed = record {
         ∷ row (reading (Traced 2) 0 24 1) 600 1200 1300 0 (untouched 24 1 ∷ [])
         ∷ [];
     back =
-        gap_line (Traced 1) (at 0 0) (at 0 0) 0 500 false (Direct 0)
-        ∷ done_line 0 600
-        ∷ gap_line (Traced 2) (at 0 0) (at 1 0) 600 1200 false (Direct 600)
-        ∷ task_line 0 Plain 3 0 3 true
+        gap_row (Traced 1) (at 0 0) (at 0 0) 0 500 false (Direct 0)
+        ∷ done_row 0 600
+        ∷ gap_row (Traced 2) (at 0 0) (at 1 0) 600 1200 false (Direct 600)
+        ∷ task_row 0 Plain 3 0 3 true
         ∷ [];
     passed_over = 0;
     end = 1300;

@@ -8,8 +8,8 @@ use Rattle.fb_rows.specs.declared.gap.Plan.TheVariants.{Direct}
 use Rattle.fb_rows.specs.declared.gap.How.TheVariants.{Idle as ByIdle}
 use Rattle.fb_model.specs.PlainReplay.{fcfs}
 use Rattle.fb_worked.specs.SmallDisk.{small_disk, one_sector_disk}
-use Rattle.fb_worked.specs.Rows.{Worked, at, writing, untouched, written, unreadable, row, call, block, swept_block, got, got_line}
-use Rattle.fb_worked.specs.Rows.{gap_line, idle_line, done_line, bad_line, task_line}
+use Rattle.fb_worked.specs.Rows.{Worked, at, writing, untouched, written, unreadable, row, call, block, swept_block, got, got_row}
+use Rattle.fb_worked.specs.Rows.{gap_row, idle_row, done_row, bad_row, task_row}
 
 -- a sector that is read before it is written and after it
 abbrev pub overwritten_between : Worked
@@ -26,15 +26,15 @@ overwritten_between = record {
   run = record {
     fore = row (writing (Traced 1) 700 6 1) 700 1800 1900 0 [] ∷ [];
     back =
-        idle_line (at 0 0) 0 700
-        ∷ got_line (got (block 0 0 6 1 (at 0 0) 1) 600 700 ByIdle 0 (untouched 6 1 ∷ []))
-        ∷ done_line 0 700
-        ∷ gap_line (Traced 1) (at 0 0) (at 0 0) 700 1800 true (Direct 700)
-        ∷ idle_line (at 0 0) 1900 2000
-        ∷ idle_line (at 0 0) 2000 4000
-        ∷ got_line (got (block 0 1 6 1 (at 0 0) 1) 3000 3100 ByIdle 0 (written 1 6 1 ∷ []))
-        ∷ done_line 0 3100
-        ∷ task_line 0 Plain 2 2 0 true
+        idle_row (at 0 0) 0 700
+        ∷ got_row (got (block 0 0 6 1 (at 0 0) 1) 600 700 ByIdle 0 (untouched 6 1 ∷ []))
+        ∷ done_row 0 700
+        ∷ gap_row (Traced 1) (at 0 0) (at 0 0) 700 1800 true (Direct 700)
+        ∷ idle_row (at 0 0) 1900 2000
+        ∷ idle_row (at 0 0) 2000 4000
+        ∷ got_row (got (block 0 1 6 1 (at 0 0) 1) 3000 3100 ByIdle 0 (written 1 6 1 ∷ []))
+        ∷ done_row 0 3100
+        ∷ task_row 0 Plain 2 2 0 true
         ∷ [];
     passed_over = 0;
     end = 4000;
@@ -56,15 +56,15 @@ latent_until_written = record {
   run = record {
     fore = row (writing (Traced 1) 700 6 1) 700 1800 1900 0 [] ∷ [];
     back =
-        idle_line (at 0 0) 0 700
-        ∷ got_line (got (block 0 0 6 1 (at 0 0) 1) 600 700 ByIdle 1 (unreadable 6 1 ∷ []))
-        ∷ done_line 0 700
-        ∷ gap_line (Traced 1) (at 0 0) (at 0 0) 700 1800 true (Direct 700)
-        ∷ idle_line (at 0 0) 1900 2000
-        ∷ idle_line (at 0 0) 2000 4000
-        ∷ got_line (got (block 0 1 6 1 (at 0 0) 1) 3000 3100 ByIdle 0 (written 1 6 1 ∷ []))
-        ∷ done_line 0 3100
-        ∷ task_line 0 Plain 2 2 0 true
+        idle_row (at 0 0) 0 700
+        ∷ got_row (got (block 0 0 6 1 (at 0 0) 1) 600 700 ByIdle 1 (unreadable 6 1 ∷ []))
+        ∷ done_row 0 700
+        ∷ gap_row (Traced 1) (at 0 0) (at 0 0) 700 1800 true (Direct 700)
+        ∷ idle_row (at 0 0) 1900 2000
+        ∷ idle_row (at 0 0) 2000 4000
+        ∷ got_row (got (block 0 1 6 1 (at 0 0) 1) 3000 3100 ByIdle 0 (written 1 6 1 ∷ []))
+        ∷ done_row 0 3100
+        ∷ task_row 0 Plain 2 2 0 true
         ∷ [];
     passed_over = 0;
     end = 4000;
@@ -90,11 +90,11 @@ read_as_the_write_ends = record {
   run = record {
     fore = row (writing (Traced 1) 0 0 1) 0 0 1200 0 [] ∷ [];
     back =
-        gap_line (Traced 1) (at 0 0) (at 0 0) 0 0 true (Direct 0)
-        ∷ idle_line (at 0 0) 1200 3000
-        ∷ got_line (got whole_track 1200 2400 ByIdle 0 (written 1 0 1 ∷ []))
-        ∷ done_line 0 2400
-        ∷ task_line 0 Plain 1 1 0 true
+        gap_row (Traced 1) (at 0 0) (at 0 0) 0 0 true (Direct 0)
+        ∷ idle_row (at 0 0) 1200 3000
+        ∷ got_row (got whole_track 1200 2400 ByIdle 0 (written 1 0 1 ∷ []))
+        ∷ done_row 0 2400
+        ∷ task_row 0 Plain 1 1 0 true
         ∷ [];
     passed_over = 0;
     end = 3000;
@@ -116,11 +116,11 @@ scrub_finds_latent = record {
   run = record {
     fore = [];
     back =
-        idle_line (at 0 0) 0 1200
-        ∷ got_line (got (block 0 0 4 4 (at 0 0) 1) 400 800 ByIdle 1 (untouched 4 2 ∷ unreadable 6 1 ∷ untouched 7 1 ∷ []))
-        ∷ bad_line 0 6
-        ∷ done_line 0 800
-        ∷ task_line 0 Scrub 1 1 0 true
+        idle_row (at 0 0) 0 1200
+        ∷ got_row (got (block 0 0 4 4 (at 0 0) 1) 400 800 ByIdle 1 (untouched 4 2 ∷ unreadable 6 1 ∷ untouched 7 1 ∷ []))
+        ∷ bad_row 0 6
+        ∷ done_row 0 800
+        ∷ task_row 0 Scrub 1 1 0 true
         ∷ [];
     passed_over = 0;
     end = 1200;

@@ -12,8 +12,8 @@ use Rattle.fb_rows.specs.declared.back.BackRow.{BackRow}
 use Rattle.fb_model.specs.PlainReplay.{fcfs}
 use Rattle.fb_model.specs.Inputs.{Inputs}
 use Rattle.fb_worked.specs.SmallDisk.{small_disk, quick_disk}
-use Rattle.fb_worked.specs.Rows.{Worked, at, gap, reading, writing, untouched, written, row, call, block, got, got_line, gap_line}
-use Rattle.fb_worked.specs.Rows.{idle_line, done_line, task_line}
+use Rattle.fb_worked.specs.Rows.{Worked, at, gap, reading, writing, untouched, written, row, call, block, got, got_row, gap_row}
+use Rattle.fb_worked.specs.Rows.{idle_row, done_row, task_row}
 
 -- calls alone, and the head idle from the beginning
 abbrev pub idle_inputs : List Call → ℕ → Inputs
@@ -22,42 +22,42 @@ idle_inputs calls until = record { disk = small_disk; latent = []; trace = []; p
 abbrev pub idle_run : List Call → ℕ → List BackRow → Worked
 idle_run calls until rows = record {
   inputs = idle_inputs calls until;
-  run = record { fore = []; back = idle_line (at 0 0) 0 until ∷ rows; passed_over = 0; end = until };
+  run = record { fore = []; back = idle_row (at 0 0) 0 until ∷ rows; passed_over = 0; end = until };
 }
 
 -- the block ends a nanosecond after the dwell
 abbrev pub delivered_too_late : Worked
 delivered_too_late = idle_run (call 1 0 0 (Open Plain 1 1) ∷ call 2 0 0 (Want 5 1) ∷ []) 599 (
-    got_line (got (block 0 0 5 1 (at 0 0) 1) 500 600 ByIdle 0 (untouched 5 1 ∷ []))
-    ∷ done_line 0 600
-    ∷ task_line 0 Plain 1 1 0 true
+    got_row (got (block 0 0 5 1 (at 0 0) 1) 500 600 ByIdle 0 (untouched 5 1 ∷ []))
+    ∷ done_row 0 600
+    ∷ task_row 0 Plain 1 1 0 true
     ∷ [])
 
 abbrev pub delivered_twice : Worked
 delivered_twice = idle_run (call 1 0 0 (Open Plain 1 1) ∷ call 2 0 0 (Want 6 1) ∷ []) 2400 (
-    got_line (got (block 0 0 6 1 (at 0 0) 1) 600 700 ByIdle 0 (untouched 6 1 ∷ []))
-    ∷ done_line 0 700
-    ∷ got_line (got (block 0 0 6 1 (at 0 0) 1) 1800 1900 ByIdle 0 (untouched 6 1 ∷ []))
-    ∷ task_line 0 Plain 1 1 0 true
+    got_row (got (block 0 0 6 1 (at 0 0) 1) 600 700 ByIdle 0 (untouched 6 1 ∷ []))
+    ∷ done_row 0 700
+    ∷ got_row (got (block 0 0 6 1 (at 0 0) 1) 1800 1900 ByIdle 0 (untouched 6 1 ∷ []))
+    ∷ task_row 0 Plain 1 1 0 true
     ∷ [])
 
 abbrev pub delivered_after_abort : Worked
 delivered_after_abort = idle_run (call 1 0 0 (Open Plain 1 1) ∷ call 2 0 0 (Want 6 2) ∷ call 3 0 0 (Abort 7 1) ∷ []) 1200 (
-    got_line (got (block 0 0 6 1 (at 0 0) 1) 600 700 ByIdle 0 (untouched 6 1 ∷ []))
-    ∷ got_line (got (block 0 1 7 1 (at 0 0) 1) 700 800 ByIdle 0 (untouched 7 1 ∷ []))
-    ∷ done_line 0 800
-    ∷ task_line 0 Plain 2 2 0 true
+    got_row (got (block 0 0 6 1 (at 0 0) 1) 600 700 ByIdle 0 (untouched 6 1 ∷ []))
+    ∷ got_row (got (block 0 1 7 1 (at 0 0) 1) 700 800 ByIdle 0 (untouched 7 1 ∷ []))
+    ∷ done_row 0 800
+    ∷ task_row 0 Plain 2 2 0 true
     ∷ [])
 
 abbrev pub completion_left_out : Worked
 completion_left_out = idle_run (call 1 0 0 (Open Plain 1 1) ∷ call 2 0 0 (Want 6 1) ∷ []) 1200 (
-    got_line (got (block 0 0 6 1 (at 0 0) 1) 600 700 ByIdle 0 (untouched 6 1 ∷ []))
-    ∷ task_line 0 Plain 1 1 0 true
+    got_row (got (block 0 0 6 1 (at 0 0) 1) 600 700 ByIdle 0 (untouched 6 1 ∷ []))
+    ∷ task_row 0 Plain 1 1 0 true
     ∷ [])
 
 -- this one is sound, but a block that passes isn't delivered
 abbrev pub delivery_left_out : Worked
-delivery_left_out = idle_run (call 1 0 0 (Open Plain 1 1) ∷ call 2 0 0 (Want 6 1) ∷ []) 1200 (task_line 0 Plain 1 0 0 false ∷ [])
+delivery_left_out = idle_run (call 1 0 0 (Open Plain 1 1) ∷ call 2 0 0 (Want 6 1) ∷ []) 1200 (task_row 0 Plain 1 0 0 false ∷ [])
 
 -- a delivery with what was written after it
 abbrev pub contents_of_later : Worked
@@ -74,11 +74,11 @@ contents_of_later = record {
   run = record {
     fore = row (writing (Traced 1) 700 6 1) 700 1800 1900 0 [] ∷ [];
     back =
-        idle_line (at 0 0) 0 700
-        ∷ got_line (got (block 0 0 6 1 (at 0 0) 1) 600 700 ByIdle 0 (written 1 6 1 ∷ []))
-        ∷ done_line 0 700
-        ∷ gap_line (Traced 1) (at 0 0) (at 0 0) 700 1800 true (Direct 700)
-        ∷ task_line 0 Plain 1 1 0 true
+        idle_row (at 0 0) 0 700
+        ∷ got_row (got (block 0 0 6 1 (at 0 0) 1) 600 700 ByIdle 0 (written 1 6 1 ∷ []))
+        ∷ done_row 0 700
+        ∷ gap_row (Traced 1) (at 0 0) (at 0 0) 700 1800 true (Direct 700)
+        ∷ task_row 0 Plain 1 1 0 true
         ∷ [];
     passed_over = 0;
     end = 1900;
@@ -103,10 +103,10 @@ detour_without_settle = record {
   run = record {
     fore = row (writing (Traced 1) 0 24 1) 0 1200 1300 0 [] ∷ [];
     back =
-        gap_line (Traced 1) (at 0 0) (at 1 0) 0 1200 true (Detour (at 0 1) 900)
-        ∷ got_line (got (block 0 0 20 1 (at 0 1) 1) 800 900 ByGap 0 (untouched 20 1 ∷ []))
-        ∷ done_line 0 900
-        ∷ task_line 0 Plain 1 1 0 true
+        gap_row (Traced 1) (at 0 0) (at 1 0) 0 1200 true (Detour (at 0 1) 900)
+        ∷ got_row (got (block 0 0 20 1 (at 0 1) 1) 800 900 ByGap 0 (untouched 20 1 ∷ []))
+        ∷ done_row 0 900
+        ∷ task_row 0 Plain 1 1 0 true
         ∷ [];
     passed_over = 0;
     end = 1300;
@@ -128,10 +128,10 @@ served_sooner = record {
   run = record {
     fore = row (reading (Traced 1) 0 51 1) 0 300 400 0 (untouched 51 1 ∷ []) ∷ [];
     back =
-        gap_line (Traced 1) (at 0 0) (at 2 0) 0 300 false (Detour (at 1 0) 200)
-        ∷ got_line (got (block 0 0 25 1 (at 1 0) 1) 100 200 ByGap 0 (untouched 25 1 ∷ []))
-        ∷ done_line 0 200
-        ∷ task_line 0 Plain 1 1 0 true
+        gap_row (Traced 1) (at 0 0) (at 2 0) 0 300 false (Detour (at 1 0) 200)
+        ∷ got_row (got (block 0 0 25 1 (at 1 0) 1) 100 200 ByGap 0 (untouched 25 1 ∷ []))
+        ∷ done_row 0 200
+        ∷ task_row 0 Plain 1 1 0 true
         ∷ [];
     passed_over = 0;
     end = 400;

@@ -10,7 +10,7 @@ ghost use Rattle.std.specs.Prelude.{◌≡◌, IfOk};
 ghost use Rattle.std.specs.Vec.Iter.{into_iter_items};
 
 use fb_desk::RealDesk;
-use fb_top::run;
+use fb_top::{Outcome, run, status};
 use fb_units::NoMemory;
 use std::alloc::Global;
 use std::env;
@@ -18,9 +18,6 @@ use std::process::ExitCode;
 
 // The exit status where the runtime doesn't give the command line; no outcome has it.
 const NO_WORDS: u8 = 12;
-
-// The exit status of out of memory.
-const NO_MEMORY: u8 = 8;
 
 // All words of the command line, in order. The only error is out of memory.
 fn collected(alloc: Global, args: env::Args) -> Result<Vec<String>, NoMemory>
@@ -39,7 +36,7 @@ fn main(rt: HostRuntime) -> ExitCode {
         return ExitCode::from(NO_WORDS);
     };
     let Ok(words) = collected(alloc, args) else {
-        return ExitCode::from(NO_MEMORY);
+        return ExitCode::from(status(&Outcome::NoMemory));
     };
     let mut desk = RealDesk::new(&rt);
     ExitCode::from(run(alloc, &mut desk, words.as_slice()))

@@ -1,9 +1,11 @@
-use Rattle.std.proofs.Common.{◌≡◌, ◌≤◌, drop, length, sym, subst, ◌∙◌, arith}
+use Rattle.std.proofs.Common.{◌≡◌, ◌≤◌, true, drop, length, sym, subst, ◌∙◌, arith}
 use Rattle.std.specs.List.{AllByRecursion}
 use Rattle.fb_units.proofs.Comparing.{some_number}
 use Rattle.fb_units.proofs.Lists.{all_weaker, all_append, all_left, all_right}
 use Rattle.fb_model.specs.Accepted.{IsRequestOf}
-use Rattle.fb_decide.specs.Deciding.{serves_pick, stays_on, stays_last, ends_here}
+use Rattle.fb_decide.specs.RunInputs.{inputs_of}
+use Rattle.fb_decide.specs.State.{state_by}
+use Rattle.fb_decide.specs.Deciding.{HasActed, serves_pick, stays_on, stays_last, ends_here}
 use Rattle.fb_decide.proofs.Decided.{taken, none_waits, still_waiting}
 use Rattle.fb_decide.proofs.deciding.act.Goals as goal
 
@@ -20,7 +22,11 @@ serve_next-requires-clause-on_disk g c =
 pub returns-then-not-is_empty-clause-acted : goal.returns-then-not-is_empty-clause-acted
 returns-then-not-is_empty-clause-acted g c =
     let served = c.in_ok-serve_next.ensures.served in
-    serves_pick served.0 _ _ _ served.1 served.2
+    let inputs = inputs_of c.args.inputs g.Q.Queue.key in
+    let before = state_by g.Q.Queue.pending g.Q.Queue.joined c.args.requests.now c.args.course.now c.args.queue.now in
+    let after = state_by g.Q.Queue.pending g.Q.Queue.joined c.args.requests.now c.serve_next.new.course c.serve_next.new.queue in
+    subst (λ n. HasActed inputs before true (record after { joined = n })) (sym c.in_ok-serve_next.ensures.counted)
+    (serves_pick served.0 _ _ served.1 served.2)
 
 pub returns-then-not-is_empty-clause-waiting : goal.returns-then-not-is_empty-clause-waiting
 returns-then-not-is_empty-clause-waiting g c = λ _.

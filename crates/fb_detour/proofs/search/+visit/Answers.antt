@@ -31,7 +31,7 @@ returns-then-is_enough-clause-keeps n c = itself c.args.search.now c.args.best.p
 pub returns-then-is_enough-clause-tried : goal.returns-then-is_enough-clause-tried
 returns-then-is_enough-clause-tried n c = λ track low high leave is.
     not_better c.args.search.now c.args.best c.args.most (record { cylinder = c.args.from; head = 0 }) track leave c.requires.best
-    (subst (IsEnough c.args.best c.args.most) c.first_track.ensures (c.is_enough.ensures c.if-is_enough.true))
+    (subst (IsEnough c.args.best c.args.most) c.first_track_on.ensures (c.is_enough.ensures c.if-is_enough.true))
     (λ before. elim before [ inl less ↦ absurd (omega (arith, less, low)) | inr same ↦ absurd (omega (arith, same.1)) ])
     (c.requires.most track leave low high is)
 

@@ -6,11 +6,11 @@ use Rattle.fb_wanted.specs.Numbering.{registered_count}
 use Rattle.fb_tasks.proofs.wanting.want_range.Goals as goal
 
 -- a range without sectors gives nothing
-none-new : (disk : Shape) (session : Session) (task number lbn left : ℕ) (wanted : List Entry) → left ≡ 0
-    → wanted ≡ wanted ++ new_entries session (numbered task session.weight number (cutting disk session.block lbn left))
+none-new : (disk : Shape) (session : Session) (task number lbn left : ℕ) (held : List Entry) → left ≡ 0
+    → held ≡ held ++ new_entries session (numbered task session.weight number (cutting disk session.block lbn left))
 unfolding cutting
-none-new disk session task number lbn left wanted none = sym (append-nil wanted)
-    ∙ ap (λ n. wanted ++ new_entries session (numbered task session.weight number (cutting disk session.block lbn n))) (sym none)
+none-new disk session task number lbn left held none = sym (append-nil held)
+    ∙ ap (λ n. held ++ new_entries session (numbered task session.weight number (cutting disk session.block lbn n))) (sym none)
 
 pub returns-then-count-eq0-clause-all : goal.returns-then-count-eq0-clause-all
 returns-then-count-eq0-clause-all c = none-new c.args.map.now c.args.session.now c.args.task (registered_count c.args.task

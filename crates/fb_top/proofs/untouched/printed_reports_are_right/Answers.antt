@@ -8,10 +8,10 @@ use Rattle.fb_report.specs.Printed.{IsReadBack}
 use Rattle.fb_report.specs.Summary.{summary_text}
 use Rattle.fb_desk.specs.declared.desk.Output.TheVariants.{Back, Fore}
 use Rattle.fb_words.specs.Command.{checks}
-use Rattle.fb_top.specs.Done.{HoldsWanted, back_told}
+use Rattle.fb_top.specs.Done.{HoldsGiven, back_told}
 use Rattle.fb_top.specs.Read.{Accepts}
 use Rattle.fb_top.specs.Names.{FileNames, check_file_names}
-use Rattle.fb_top.specs.Untouched.{HoldOneInput, HoldsLines, HoldsOwnReports}
+use Rattle.fb_top.specs.Untouched.{HoldFilesAlike, HoldsLines, HoldsOwnReports}
 use Rattle.fb_top.specs.Written.{HoldsWhole}
 use Rattle.fb_top.proofs.Completeness.{complete}
 use Rattle.fb_top.proofs.Printed.{accepted_there, answers_yes, held_lines, prints, told_lines, told_there}
@@ -28,7 +28,7 @@ returns c = λ old new other terms asked run replayed asks.
     subst (λ (summary : Bool). HoldsWhole (new.outputs Fore) (codes "-")
     (if summary then summary_text run else fore_text size terms.bytes run)) asks.no_summary done.fore in
     let back_whole : HoldsWhole (new.outputs Back) asks.back_name (back_told terms files run) =
-    subst (λ (given : Option (List ℕ)). HoldsWanted given (back_told terms files run) (old.outputs Back) (new.outputs Back)) asks.back_given
+    subst (λ (given : Option (List ℕ)). HoldsGiven given (back_told terms files run) (old.outputs Back) (new.outputs Back)) asks.back_given
     done.back in
     let fore_read = done.read.fore asks.no_summary in
     let back_read : IsReadBack back_grammar back =
@@ -42,8 +42,8 @@ returns c = λ old new other terms asked run replayed asks.
           (sym asks.bytes)
           (held_lines (new.outputs Back) other asked.back asks.back_name back_grammar back asks.back back_whole back_read);
     } in
-    let alike : HoldOneInput old other (check_file_names asked) =
-    subst (HoldOneInput old other) (sym asks.checks_run.names) asks.checks_run.alike in
+    let alike : HoldFilesAlike old other (check_file_names asked) =
+    subst (HoldFilesAlike old other) (sym asks.checks_run.names) asks.checks_run.alike in
     let accepts : Accepts old (check_file_names asked) files =
     subst (λ (s : FileNames). Accepts old s files) (sym asks.checks_run.names) done.is_run.accepts in
     record {

@@ -1,5 +1,5 @@
 use Rattle.fb_bgwrite.proofs.Words.{◌≡◌, ◌∷◌, ◌++◌, ◌≤◌, slice_get, take, ap, sym, ◌∙◌, arith, slice_index_or, Dwell, wanted_of, Catch}
-use Rattle.fb_bgwrite.proofs.Words.{Block, Sweep, Track, caught_of, SpillLine, spill_row, slice_get-get_or}
+use Rattle.fb_bgwrite.proofs.Words.{Block, Sweep, Track, caught_of, ItemSpill, spill_row, slice_get-get_or}
 use Rattle.fb_bgwrite.proofs.Words.{[], take_all, SpillRow}
 use Rattle.fb_bgwrite.proofs.{Admitting.are_pending, Admitting.puts_kept, Catching.to_write, Catching.wrote_more, Catching.wrote_rows}
 use Rattle.fb_bgwrite.proofs.spilling.Spilling.write.Goals as goal
@@ -16,7 +16,7 @@ loop-catch-init c =
       kept = stay.kept;
       admitted = stay.admitted;
       instant = stay.instant;
-      items = stay.items ∙ ap (λ d. c.args.self.now.items ++ SpillLine (row d) ∷ []) c.dwell_of-stay.ensures.stay;
+      items = stay.items ∙ ap (λ d. c.args.self.now.items ++ ItemSpill (row d) ∷ []) c.dwell_of-stay.ensures.stay;
     }
 
 pub write_block-requires-clause-puts : goal.write_block-requires-clause-puts
@@ -41,7 +41,7 @@ write_block-requires-clause-pending c =
     to_write old l.self stay.result (spill_row old.disk.now row c.args.spill) l.catch-index catch c.requires.spilling c.requires.puts begin
     l.invariant.kept l.invariant.admitted at
     (l.invariant.items
-    ∙ ap (λ xs. old.items ++ SpillLine (spill_row old.disk.now row c.args.spill) ∷ wrote_rows (take l.catch-index xs)) are)
+    ∙ ap (λ xs. old.items ++ ItemSpill (spill_row old.disk.now row c.args.spill) ∷ wrote_rows (take l.catch-index xs)) are)
 
 pub loop-catch-preserved : goal.loop-catch-preserved
 loop-catch-preserved c =
@@ -54,7 +54,7 @@ loop-catch-preserved c =
       kept = record { disk = new.kept.disk ∙ l.invariant.kept.disk; puts = new.kept.puts ∙ l.invariant.kept.puts };
       admitted = new.admitted ∙ l.invariant.admitted;
       instant = new.instant ∙ l.invariant.instant;
-      items = wrote_more old.items (SpillLine (spill_row old.disk.now c.args.row.now c.args.spill)) items l.catch-index _ l.self.items _
+      items = wrote_more old.items (ItemSpill (spill_row old.disk.now c.args.row.now c.args.spill)) items l.catch-index _ l.self.items _
           (slice_get-get_or items l.catch-index _ c.loop-catch-test.true) l.invariant.items new.items;
     }
 
@@ -71,6 +71,6 @@ returns-clause-items c =
     let old = c.args.self.now in
     let items = c.deref-catch-items.result.now in
     c.loop-catch.invariant.items
-    ∙ ap (λ cs. old.items ++ SpillLine (spill_row old.disk.now c.args.row.now c.args.spill) ∷ wrote_rows cs)
+    ∙ ap (λ cs. old.items ++ ItemSpill (spill_row old.disk.now c.args.row.now c.args.spill) ∷ wrote_rows cs)
     (take_all c.loop-catch.catch-index items c.loop-catch-test.false ∙ (c.deref-catch-items.ensures.value ∙ (c.in_ok-found.ensures.all
     ∙ ap (λ d. caught_of old.disk.now d (wanted_of old.pending)) c.dwell_of-stay.ensures.stay)))

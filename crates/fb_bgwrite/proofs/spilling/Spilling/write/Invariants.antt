@@ -1,4 +1,4 @@
-use Rattle.fb_bgwrite.proofs.Words.{◌≡◌, ◌∷◌, ◌++◌, take, SpillLine, HasKept, IsSpilling, spill_row}
+use Rattle.fb_bgwrite.proofs.Words.{◌≡◌, ◌∷◌, ◌++◌, take, ItemSpill, HasKept, IsSpilling, spill_row}
 use Rattle.fb_bgwrite.proofs.Catching.{wrote_rows}
 use Rattle.fb_bgwrite.proofs.spilling.Spilling.write.Given as goal
 
@@ -8,6 +8,6 @@ invariant-loop-catch l = record {
   kept : HasKept l.fn.self l.self;
   admitted : l.self.admitted ≡ l.fn.self.admitted;
   instant : l.self.instant ≡ l.fn.self.instant;
-  items : l.self.items ≡ l.fn.self.items ++ SpillLine (spill_row l.fn.self.disk.now l.row l.fn.spill)
+  items : l.self.items ≡ l.fn.self.items ++ ItemSpill (spill_row l.fn.self.disk.now l.row l.fn.spill)
       ∷ wrote_rows (take l.catch-index l.catch-items);
 }

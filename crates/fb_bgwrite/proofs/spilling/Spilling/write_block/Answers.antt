@@ -1,4 +1,4 @@
-use Rattle.fb_bgwrite.proofs.Words.{◌+◌, ◌++◌, ◌∷◌, [], refl, ap, ◌∙◌, arith, WroteLine, WroteRow}
+use Rattle.fb_bgwrite.proofs.Words.{◌+◌, ◌++◌, ◌∷◌, [], refl, ap, ◌∙◌, arith, ItemWrote, WroteRow}
 use Rattle.fb_bgwrite.proofs.Adding.{block_added, wanted_there, written_few}
 use Rattle.fb_bgwrite.proofs.spilling.Spilling.write_block.Goals as goal
 
@@ -14,4 +14,4 @@ returns-clause-spilling c =
     let old = c.args.self.now in
     block_added old c.args.catch c.deliver.new.self c.push.new.self
     (old.written + c.args.catch.block.count) c.requires.spilling c.requires.puts c.requires.pending
-    (c.in_ok-push.ensures.ok ∙ ap (λ (row : WroteRow). old.items ++ WroteLine row ∷ []) c.wrote_row.ensures) c.deliver.ensures refl
+    (c.in_ok-push.ensures.ok ∙ ap (λ (row : WroteRow). old.items ++ ItemWrote row ∷ []) c.wrote_row.ensures) c.deliver.ensures refl

@@ -1,12 +1,12 @@
 use Rattle.std.proofs.Common.{map, take}
 use Rattle.fb_geometry.specs.Shape.{Shape}
 use Rattle.fb_model.specs.History.{Past}
-use Rattle.fb_decide.specs.Deliveries.{TellsUpToDate, HasDelivered, AreDue, held_now}
+use Rattle.fb_decide.specs.Deliveries.{TellsUpToDate, HasDelivered, AreDeliverable, held_now}
 use Rattle.fb_model.specs.Deliveries.{delivery_row}
 use Rattle.fb_decide.proofs.background.Background.deliver_all.Given as goal
 
 -- the first catches were delivered
 abbrev pub invariant-loop-catch : goal.invariant-loop-catch
 invariant-loop-catch l = (disk : Shape) (past : Past) → TellsUpToDate disk past l.fn.self
-    → AreDue past (map (delivery_row (held_now l.store) l.how) l.catches)
+    → AreDeliverable past (map (delivery_row (held_now l.store) l.how) l.catches)
     → HasDelivered disk past (take l.catch-index (map (delivery_row (held_now l.store) l.how) l.catches)) l.fn.self.rows l.self

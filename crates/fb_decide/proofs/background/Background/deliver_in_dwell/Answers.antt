@@ -1,6 +1,6 @@
 use Rattle.std.proofs.Common.{◌∙◌, sym, subst}
 use Rattle.std.proofs.lemmas.Result.{on_ok_weaker}
-use Rattle.fb_decide.specs.Deliveries.{HasDelivered, AreDue}
+use Rattle.fb_decide.specs.Deliveries.{HasDelivered, AreDeliverable}
 use Rattle.fb_decide.proofs.Placing.{wanted-distinct, due-caught, left-caught, rows-of_catches}
 use Rattle.fb_decide.proofs.Delivering.{fits-told}
 use Rattle.fb_decide.proofs.background.Background.deliver_in_dwell.Goals as goal
@@ -16,7 +16,7 @@ deliver_all-requires c =
       c.args.disk.now.map,
       past,
       current,
-      subst (AreDue past) (sym (rows-of_catches c.args.disk.now c.args.store.now c.args.how c.args.dwell past c.args.self.now current
+      subst (AreDeliverable past) (sym (rows-of_catches c.args.disk.now c.args.store.now c.args.how c.args.dwell past c.args.self.now current
           c.as_slice.result.now (c.as_slice.ensures.value ∙ c.in_ok-catches.ensures.all)))
           (due-caught c.args.disk.now c.args.store.now c.args.how c.args.dwell past (wanted-distinct current.tells)),
     )
@@ -26,7 +26,7 @@ returns-clause-delivered c = on_ok_weaker c.deliver_all.result (λ all past curr
     let rows = rows-of_catches c.args.disk.now c.args.store.now c.args.how c.args.dwell past c.args.self.now current c.as_slice.result.now
     (c.as_slice.ensures.value ∙ c.in_ok-catches.ensures.all) in
     subst (λ gots. HasDelivered c.args.disk.now.map past gots c.args.self.now.rows c.deliver_all.new.self) rows
-    (all c.args.disk.now.map past current (subst (AreDue past) (sym rows)
+    (all c.args.disk.now.map past current (subst (AreDeliverable past) (sym rows)
     (due-caught c.args.disk.now c.args.store.now c.args.how c.args.dwell past (wanted-distinct current.tells)))))
     c.deliver_all.ensures
 

@@ -14,7 +14,7 @@ choose_and_test-requires c =
     let past = c.requires.called.0 in
     let taken = fold (take_call disk) past (calls_due calls past c.args.now) in (
       taken,
-      may-choose disk calls c.requires.script taken c.in_ok-next.next c.take_calls.new.self.sessions c.take_calls.new.self.blocks
+      may-choose disk calls c.requires.script taken c.in_ok-next.next c.apply_calls.new.self.sessions c.apply_calls.new.self.blocks
           (c.in_ok-next.ensures.called past c.requires.called.1 c.requires.called.2)
           (c.in_ok-next.ensures.tells past c.requires.called.1 c.requires.called.2),
     )
@@ -27,7 +27,7 @@ returns c = λ past called tells.
     let taken = fold (take_call disk) past (calls_due calls past c.args.now) in
     let taken_called = c.in_ok-next.ensures.called past called tells in
     let taken_tells = c.in_ok-next.ensures.tells past called tells in
-    let may = may-choose disk calls c.requires.script taken next c.take_calls.new.self.sessions c.take_calls.new.self.blocks taken_called
+    let may = may-choose disk calls c.requires.script taken next c.apply_calls.new.self.sessions c.apply_calls.new.self.blocks taken_called
     taken_tells in
     record {
       current = record {
@@ -35,7 +35,7 @@ returns c = λ past called tells.
         up_to_date = c.in_ok-choose_and_test.ensures.up_to_date taken may;
       };
       called = called-tested disk calls (with_choices disk taken) next (called-chosen disk calls taken next taken_called
-          c.take_calls.new.self.sessions c.take_calls.new.self.blocks taken_tells) (test_rows_by disk calls past c.args.now);
+          c.apply_calls.new.self.sessions c.apply_calls.new.self.blocks taken_tells) (test_rows_by disk calls past c.args.now);
       rows_after = c.in_ok-choose_and_test.ensures.rows taken may
           ∙ ap (λ rows. rows ++ test_rows_by disk calls past c.args.now) c.in_ok-next.ensures.rows;
       ahead = c.in_ok-next.ensures.ahead;

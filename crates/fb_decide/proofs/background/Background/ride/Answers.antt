@@ -1,10 +1,10 @@
 use Rattle.std.proofs.Common.{◌∙◌, ◌≡◌, ap, sym, subst, map}
 use Rattle.std.proofs.lemmas.Result.{on_ok_weaker}
-use Rattle.fb_model.specs.Deliveries.{carried_of, delivery_row, rides}
+use Rattle.fb_model.specs.Deliveries.{carried_of, delivery_row, carried_rows}
 use Rattle.fb_rows.specs.declared.gap.How.TheVariants.{Ride as ByRide}
 use Rattle.fb_wanted.specs.States.{wanted_of}
 use Rattle.fb_model.specs.History.{wanted}
-use Rattle.fb_decide.specs.Deliveries.{HasDelivered, AreDistinct, AreDue, held_now}
+use Rattle.fb_decide.specs.Deliveries.{HasDelivered, AreDistinct, AreDeliverable, held_now}
 use Rattle.fb_service.specs.declared.disk.Disk.{Disk}
 use Rattle.fb_service.specs.declared.service.Service.{Service}
 use Rattle.fb_service.specs.Extents.{all_passages_of}
@@ -51,7 +51,7 @@ deliver_all-requires c =
     let past = c.requires.current.0 in
     let current = c.requires.current.1 in
     let served = served_from c.args.disk.now c.args.start in
-    let rows : map (delivery_row (held_now c.args.store.now) ByRide) c.as_slice.result.now ≡ rides (held_now c.args.store.now) served (wanted past) =
+    let rows : map (delivery_row (held_now c.args.store.now) ByRide) c.as_slice.result.now ≡ carried_rows (held_now c.args.store.now) served (wanted past) =
     ap (map (delivery_row (held_now c.args.store.now) ByRide)) (c.as_slice.ensures.value ∙ c.in_ok-catches.ensures
     ∙ ap (λ ps. carried_of ps c.args.start.request (wanted_of c.args.self.now.blocks))
     (ap (all_passages_of c.args.disk.now.map) c.as_slice-extents.ensures ∙ c.requires.service.passages)
@@ -60,13 +60,13 @@ deliver_all-requires c =
       c.args.disk.now.map,
       past,
       current,
-      subst (AreDue past) (sym rows) (due-carried c.args.store.now served past c.if-start.false (wanted-distinct current.tells)),
+      subst (AreDeliverable past) (sym rows) (due-carried c.args.store.now served past c.if-start.false (wanted-distinct current.tells)),
     )
 
 pub returns : goal.returns
 returns c = on_ok_weaker c.deliver_all.result (λ all past current.
     let served = served_from c.args.disk.now c.args.start in
-    let rows : map (delivery_row (held_now c.args.store.now) ByRide) c.as_slice.result.now ≡ rides (held_now c.args.store.now) served (wanted past) =
+    let rows : map (delivery_row (held_now c.args.store.now) ByRide) c.as_slice.result.now ≡ carried_rows (held_now c.args.store.now) served (wanted past) =
     ap (map (delivery_row (held_now c.args.store.now) ByRide)) (c.as_slice.ensures.value ∙ c.in_ok-catches.ensures
     ∙ ap (λ ps. carried_of ps c.args.start.request (wanted_of c.args.self.now.blocks))
     (ap (all_passages_of c.args.disk.now.map) c.as_slice-extents.ensures ∙ c.requires.service.passages)
@@ -74,5 +74,5 @@ returns c = on_ok_weaker c.deliver_all.result (λ all past current.
     ∙ rows-carried c.args.store.now served (wanted past) c.if-start.false in
     subst (λ gots. HasDelivered c.args.disk.now.map past gots c.args.self.now.rows c.deliver_all.new.self) rows
     (all c.args.disk.now.map past current
-    (subst (AreDue past) (sym rows) (due-carried c.args.store.now served past c.if-start.false (wanted-distinct current.tells)))))
+    (subst (AreDeliverable past) (sym rows) (due-carried c.args.store.now served past c.if-start.false (wanted-distinct current.tells)))))
     c.deliver_all.ensures

@@ -9,7 +9,7 @@ add-requires c =
     let r = c.requires.call in
     let there = slice_get-get_or c.args.self.now c.args.task c.index_mut-cleaner.result.now c.requires.opened
     ∙ ap Some (sym (rw c.self.view_is at c.index_mut-cleaner.ensures.value)) in
-    let may = may_add c.args.map.now r.0 r.1 c.args.task c.args.first c.args.blocks c.args.age c.args.live.now c.args.self.now
+    let may = may_add c.args.map.now r.0 r.1 c.args.task c.args.first c.args.count c.args.age c.args.live.now c.args.self.now
     c.index_mut-cleaner.result.now r.2 r.3 there r.4 in
     record {
       few = may.few;
@@ -21,7 +21,7 @@ add-requires c =
 pub returns-clause-ok : goal.returns-clause-ok
 returns-clause-ok c = λ past call held is h. rw c.self.view_is
     (added-tells c.args.map.now past call c.args.task c.args.first
-    c.args.blocks c.args.age c.args.live.now c.args.self.now c.index_mut-cleaner.result.now c.add.new.self held is c.requires.opened
+    c.args.count c.args.age c.args.live.now c.args.self.now c.index_mut-cleaner.result.now c.add.new.self held is c.requires.opened
     (rw c.self.view_is at c.index_mut-cleaner.ensures.value) c.in_ok-add.ensures.ok h)
 
 pub index_mut-cleaner-requires : goal.index_mut-cleaner-requires

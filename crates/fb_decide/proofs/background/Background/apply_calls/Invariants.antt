@@ -3,7 +3,7 @@ use Rattle.fb_model.specs.History.{Past}
 use Rattle.fb_tasks.specs.Telling.{Tells}
 use Rattle.fb_decide.specs.Calls.{IsCalled}
 use Rattle.fb_decide.proofs.Calling.{HasTaken}
-use Rattle.fb_decide.proofs.background.Background.take_calls.Given as goal
+use Rattle.fb_decide.proofs.background.Background.apply_calls.Given as goal
 
 -- the calls so far have been taken
 abbrev pub invariant-loop-next : goal.invariant-loop-next

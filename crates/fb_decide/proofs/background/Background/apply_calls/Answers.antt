@@ -3,7 +3,7 @@ use Rattle.std.specs.Prelude.{IfSome}
 use Rattle.std.proofs.lemmas.Option.{slice_get_read, slice_get_past}
 use Rattle.fb_calls.specs.declared.call.Call.{Call}
 use Rattle.fb_decide.proofs.Calling.{taken-may, taken-more, taken-tells, taken-called}
-use Rattle.fb_decide.proofs.background.Background.take_calls.Goals as goal
+use Rattle.fb_decide.proofs.background.Background.apply_calls.Goals as goal
 
 pub loop-next-init : goal.loop-next-init
 loop-next-init c = record {

@@ -1,5 +1,5 @@
 use Rattle.fb_plan.proofs.Samples.{sample-more}
-use Rattle.fb_planned.proofs.gaps.wanted_of.Goals as goal
+use Rattle.fb_planned.proofs.gaps.registered.Goals as goal
 
 pub loop-i-preserved : goal.loop-i-preserved
 loop-i-preserved c = sample-more c.args.disk.now c.loop-i.blocks c.register.new.self _ c.loop-i.i c.in_ok-register-in-Some.ensures.ok
