@@ -4,7 +4,6 @@ use Rattle.std.proofs.Common.{subst, ◌∙◌, arith, append_assoc, length-appe
 use Rattle.std.specs.Prelude.{Option}
 use Rattle.std.specs.List.{AllByRecursion}
 use Rattle.std.proofs.lemmas.List.{map-append, length-map}
-use Rattle.fb_units.proofs.Lists.{all_weaker}
 use Rattle.fb_calls.specs.Allowed as allowed
 use Rattle.fb_rows.specs.Tasks.{HasTaskBelow}
 use Rattle.fb_rows.specs.declared.fore.ForeRow.{ForeRow}

@@ -33,7 +33,6 @@ use Rattle.fb_decide.specs.Carried.{added, begins_in, begun_in, AreLaid, AreExte
 use Rattle.fb_geometry.specs.Places.{places}
 use Rattle.fb_service.specs.declared.disk.Disk.{Disk}
 use Rattle.fb_store.specs.Ranges.{Holding}
-use Rattle.fb_rows.specs.declared.back.DeliveryRow.{DeliveryRow}
 use Rattle.fb_rows.specs.declared.gap.How.TheVariants.{Ride as ByRide}
 use Rattle.fb_model.specs.PlainReplay.{Served}
 use Rattle.fb_decide.proofs.Placing.{due-filtered}

@@ -14,13 +14,9 @@ use Rattle.fb_calls.specs.Allowed as allowed
 use Rattle.fb_wanted.specs.declared.block.Block.{Block}
 use Rattle.fb_wanted.specs.declared.block.Entry.{Entry}
 use Rattle.fb_wanted.specs.States.{is_wanted}
-use Rattle.fb_rows.specs.declared.gap.How.{How}
 use Rattle.fb_rows.specs.declared.back.DeliveryRow.{DeliveryRow}
-use Rattle.fb_rows.specs.declared.back.BackRow.TheVariants.{Got as BackGot}
 use Rattle.fb_model.specs.Inputs.{Inputs}
-use Rattle.fb_model.specs.PlainReplay.{Served}
 use Rattle.fb_model.specs.Content.{Medium, medium_of, contents_at}
-use Rattle.fb_model.specs.Plans.{catches, early_dwell, late_dwell}
 use Rattle.fb_model.specs.Deliveries.{due}
 use Rattle.fb_model.proofs.Due.{IsDueRow, due_block, due_true}
 use Rattle.fb_model.specs.Decisions.{Decision, serves, idles, ends, instant_of, Act, serving, idling, ending}

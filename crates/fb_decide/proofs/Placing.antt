@@ -8,7 +8,7 @@ use Rattle.std.proofs.Math.Bool.{or-false}
 use Rattle.std.proofs.lemmas.Option.{slice_get-get_or}
 use Rattle.std.proofs.lemmas.List.{length-map}
 use Rattle.fb_units.proofs.Lists.{all_filter, all_weaker, map_at, take_at}
-use Rattle.fb_units.proofs.Each.{all_any, all_map, all_with}
+use Rattle.fb_units.proofs.Each.{all_map, all_with}
 use Rattle.fb_units.proofs.Alike.{filter_same, list_any-map}
 use Rattle.fb_tasks.proofs.Registered.{itself}
 use Rattle.fb_geometry.specs.Shape.{Shape}
@@ -29,7 +29,7 @@ use Rattle.fb_service.specs.declared.disk.Disk.{Disk}
 use Rattle.fb_store.specs.Ranges.{Holding}
 use Rattle.fb_model.specs.Content.{ContentsAt}
 use Rattle.fb_model.specs.Plans.{catches}
-use Rattle.fb_model.specs.Deliveries.{is_before, placed, in_order, missed, catch_of, caught_of, delivery_row, caught_rows}
+use Rattle.fb_model.specs.Deliveries.{placed, in_order, missed, catch_of, caught_of, delivery_row, caught_rows}
 use Rattle.fb_model.proofs.Placing.{AnyTwo, all_filtered, all_in_order, two_in_order}
 use Rattle.fb_rows.specs.declared.gap.Catch.{Catch}
 use Rattle.fb_decide.proofs.Delivering.{none_of, wanted-with, next-wanted, delivered-join, past_with-append, wanted-told}

@@ -1,5 +1,5 @@
 -- A request is served: the gap before it, when its extents begin, and what the gap and the passages deliver.
-use Rattle.std.proofs.Common.{◌≡◌, ℕ, zero, suc, ◌+◌, ◌<◌, ◌≤◌, ◌^◌, List, [], ◌∷◌, ◌++◌, Bool, map, append_assoc, sym, ◌∙◌}
+use Rattle.std.proofs.Common.{◌≡◌, ℕ, zero, suc, ◌+◌, ◌<◌, ◌≤◌, ◌^◌, List, [], ◌∷◌, ◌++◌, Bool, map, sym, ◌∙◌}
 use Rattle.std.proofs.Common.{arith, subst}
 use Rattle.std.specs.List.{AllByRecursion, range_with_len}
 use Rattle.fb_units.proofs.Lists.{all_weaker, all_left, all_right}
@@ -31,8 +31,7 @@ use Rattle.fb_tasks.specs.Telling.{Tells}
 use Rattle.fb_decide.specs.declared.background.Background.{Background}
 use Rattle.fb_decide.specs.declared.start.Start.{Start}
 use Rattle.fb_decide.specs.Start.{IsStartOn, IsServiceOf, served_from}
-use Rattle.fb_decide.specs.Deliveries.{TellsUpToDate, HasDelivered, HasDeliveredAround, HasServed, followed, past_with, held_now}
-use Rattle.fb_model.specs.Steps.{delivery_rows}
+use Rattle.fb_decide.specs.Deliveries.{TellsUpToDate, HasDelivered, HasDeliveredAround, HasServed, past_with, held_now}
 use Rattle.fb_decide.proofs.Delivering.{delivered-join}
 
 -- the first passage begins when the head has come to its track

@@ -25,7 +25,7 @@ use Rattle.fb_model.specs.History.{Event, called, chose, tested, Past, LogSegmen
 use Rattle.fb_model.specs.History.{content_of, is_sealed, is_seal_of, is_open_backup, ends_block, same_block, opened_by, delivered}
 use Rattle.fb_model.specs.History.{finished}
 use Rattle.fb_model.specs.Segments.{with_choices}
-use Rattle.fb_model.specs.Steps.{Step, take_call, calls_due, with_delivery, chosen_past, past_after, delivery_rows, chosen_by}
+use Rattle.fb_model.specs.Steps.{Step, take_call, calls_due, with_delivery, chosen_past, past_after, chosen_by}
 use Rattle.fb_model.specs.Images.{held_at_delivery, test_rows, findings}
 use Rattle.fb_decide.specs.Calls.{test_rows_by, tested_by}
 use Rattle.fb_decide.specs.Deliveries.{IsRegistered, followed, past_with}

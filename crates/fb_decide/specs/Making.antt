@@ -12,7 +12,6 @@ use Rattle.fb_store.specs.Writes.{unwritten}
 use Rattle.fb_store.specs.Ranges.{Holding, content_in}
 use Rattle.fb_rows.specs.Tasks.{HasTaskBelow}
 use Rattle.fb_rows.specs.declared.fore.ForeRow.{ForeRow}
-use Rattle.fb_rows.specs.declared.back.BackRow.{BackRow}
 use Rattle.fb_model.specs.PlainReplay.{Served, plain}
 use Rattle.fb_model.specs.Inputs.{Inputs, requests, served}
 use Rattle.fb_model.specs.Accepted.{IsAccepted}

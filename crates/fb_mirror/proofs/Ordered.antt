@@ -23,7 +23,7 @@ use Rattle.fb_rows.specs.declared.gap.Plan.TheVariants.{Direct, Detour}
 use Rattle.fb_rows.specs.declared.back.DeliveryRow.{DeliveryRow}
 use Rattle.fb_model.specs.PlainReplay.{Served, finish, last_track, media}
 use Rattle.fb_model.specs.Content.{contents_at, Medium}
-use Rattle.fb_model.specs.Plans.{IsPlan, block_begin, block_end, catches, early_dwell, late_dwell}
+use Rattle.fb_model.specs.Plans.{IsPlan, catches, early_dwell, late_dwell}
 use Rattle.fb_model.specs.Decisions.{Decision, serves, Act, serving, idling, ending, decision_of, decisions_from, end_of, idle_until}
 use Rattle.fb_model.specs.Decisions.{instant_of, last_decision}
 use Rattle.fb_model.specs.Deliveries.{catch_of, caught_of, caught_rows, carried_of, delivery_row, due, end_at, gap_of, lies_in, missed}
