@@ -164,6 +164,13 @@ impl<'a, Q: Queue> Decider<'a, Q> {
         self.course.now
     }
 
+    /// The inputs of the replay.
+    pub fn inputs(&self) -> RunInputs<'a>
+        ensures { result ≡ self.now.inputs }
+    {
+        self.inputs
+    }
+
     /// Takes out the rows that were added since the last call, or since `new`.
     pub fn take_rows(&mut self, alloc: Global) -> Rows
         ensures fore { result.fore ≡ self.old.course.fore }

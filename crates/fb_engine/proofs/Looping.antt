@@ -55,10 +55,10 @@ less_by {inputs} {more = more} {before = before} {after} e one =
 module _ {inputs : Inputs} {state : State} (advanced : HasAdvanced inputs false state) where
   pub is_full : (fore : List ForeRow) (back : List BackRow) → fore ≡ state.course.fore
       → back ≡ state.course.background.rows ++ task_rows (history inputs advanced.steps)
-      → (end : ℕ) → DecisionsMakeARun → end ≡ run_end (decisions inputs)
-      → IsFull inputs (record { fore = fore; back = back; passed_over = inputs.passed_over; end = end })
-  is_full fore back same rows end law ends =
-      rw (same, rows, ends)
+      → (passed_over end : ℕ) → passed_over ≡ inputs.passed_over → DecisionsMakeARun → end ≡ run_end (decisions inputs)
+      → IsFull inputs (record { fore = fore; back = back; passed_over = passed_over; end = end })
+  is_full fore back same rows passed_over end over law ends =
+      rw (same, rows, over, ends)
       (law.full inputs advanced.steps state state.course.fore state.course.background.rows advanced.made advanced.rows)
 
   pub is_few : (fore : List ForeRow) → fore ≡ state.course.fore → DecisionsMakeARun → length fore ≤ 10 ^ 6

@@ -35,21 +35,20 @@ pub fn replay<Q: Queue, P: Planner>(
     ensures tasks { IfOk result (λ run. AllByRecursion (HasTaskBelow (length (tasks inputs.entry.calls.now.calls.items))) run.back) }
 {
     let mut decider = Decider::new(alloc, inputs, queue)?;
-    run_of(alloc, inputs, planner, &mut decider)
+    run_of(alloc, planner, &mut decider)
 }
 
 // The run that a decider makes from its first decision on. The only error is out of memory.
 fn run_of<Q: Queue, P: Planner>(
     alloc: Global,
-    inputs: RunInputs<'_>,
     planner: &P,
     decider: &mut Decider<'_, Q>,
 ) -> Result<Run, NoMemory>
-    requires inputs { decider.old.inputs ≡ inputs }
     requires advanced { HasAdvanced (inputs_of decider.old.inputs Q.key) true (state_of Q.pending Q.joined decider.old) }
     requires serves { Q.serves decider.old.queue decider.old.inputs.disk.now }
-    ensures { IfOk result (IsWhole (inputs_of inputs.entry Q.key)) }
+    ensures { IfOk result (IsWhole (inputs_of decider.old.inputs Q.key)) }
 {
+    let inputs = decider.inputs();
     decide_all(alloc, planner, decider)?;
     decisions_make_a_run();
     let end = decider.instant();

@@ -1,3 +1,5 @@
+use Rattle.std.specs.Prelude.{IfOk}
+use Rattle.std.proofs.Common.{subst}
 use Rattle.std.proofs.lemmas.Result.{IfOk-weaker}
 use Rattle.fb_decide.specs.RunInputs.{inputs_of}
 use Rattle.fb_engine.specs.Progress.{IsWhole}
@@ -9,10 +11,12 @@ run_of-requires-clause-advanced g c = at_first c.in_ok-decider.ensures.made c.in
 
 pub returns : goal.returns
 returns g c =
+    let whole = subst (λ inputs. IfOk c.run_of.result (IsWhole (inputs_of inputs g.Q.Queue.key)))
+    c.in_ok-decider.ensures.inputs c.run_of.ensures in
     let by = IfOk-weaker c.run_of.result (IsWhole (inputs_of c.args.inputs g.Q.Queue.key)) in
     record {
-      full = by _ (λ run whole. whole.full) c.run_of.ensures;
-      few = by _ (λ run whole. whole.few) c.run_of.ensures;
-      early = by _ (λ run whole. whole.early) c.run_of.ensures;
-      tasks = by _ (λ run whole. whole.tasks) c.run_of.ensures;
+      full = by _ (λ run is. is.full) whole;
+      few = by _ (λ run is. is.few) whole;
+      early = by _ (λ run is. is.early) whole;
+      tasks = by _ (λ run is. is.tasks) whole;
     }
