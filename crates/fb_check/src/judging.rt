@@ -58,28 +58,27 @@ pub fn judge<Q: Queue, P: Planner>(
     ensures { IfOk result (IsVerdict (inputs_of inputs.entry Q.key) (reports_of inputs.entry printed.entry)) }
 {
     let mut decider = Decider::new(alloc, inputs, queue)?;
-    judge_over(alloc, inputs, &mut decider, planner, printed)
+    judge_over(alloc, &mut decider, planner, printed)
 }
 
 // The verdict, where no decision has been made.
 fn judge_over<Q: Queue, P: Planner>(
     alloc: Global,
-    inputs: RunInputs<'_>,
     decider: &mut Decider<'_, Q>,
     planner: &P,
     printed: Printed<'_>,
 ) -> Result<Verdict, NoMemory>
-    requires inputs { decider.old.inputs ≡ inputs }
     requires made { HasMade (inputs_of decider.old.inputs Q.key) true [] (state_of Q.pending Q.joined decider.old) }
     requires no_fore { decider.old.course.fore ≡ [] }
     requires no_back { decider.old.course.background.rows ≡ [] }
     requires serves { Q.serves decider.old.queue decider.old.inputs.disk.now }
-    requires names { length inputs.calls.now.names ≡ length (tasks inputs.calls.now.calls.items) }
-    requires whole { inputs.disk.now.sector_bytes % 16 ≡ 0 }
+    requires names { length decider.old.inputs.calls.now.names ≡ length (tasks decider.old.inputs.calls.now.calls.items) }
+    requires whole { decider.old.inputs.disk.now.sector_bytes % 16 ≡ 0 }
     requires fore { IsReport fore_grammar printed.fore.now }
     requires back { IsReport back_grammar printed.back.now }
-    ensures { IfOk result (IsVerdict (inputs_of inputs.entry Q.key) (reports_of inputs.entry printed.entry)) }
+    ensures { IfOk result (IsVerdict (inputs_of decider.old.inputs Q.key) (reports_of decider.old.inputs printed.entry)) }
 {
+    let inputs = decider.inputs();
     decisions_make_a_run();
     reports_end_once();
     let mut fore = Comparison::begin_fore(alloc, printed.fore)?;

@@ -1,14 +1,17 @@
+use Rattle.std.proofs.Common.{sym}
 use Rattle.fb_check.proofs.judging.judge.Goals as goal
 
 pub judge_over-requires : goal.judge_over-requires
 judge_over-requires g c = record {
-  inputs = c.in_ok-decider.ensures.inputs;
   made = c.in_ok-decider.ensures.made;
   no_fore = c.in_ok-decider.ensures.no_fore;
   no_back = c.in_ok-decider.ensures.no_back;
   serves = c.in_ok-decider.ensures.serves;
-  names = c.requires.names;
-  whole = c.requires.whole;
+  names = rw c.in_ok-decider.ensures.inputs c.requires.names;
+  whole = rw c.in_ok-decider.ensures.inputs c.requires.whole;
   fore = c.requires.fore;
   back = c.requires.back;
 }
+
+pub returns : goal.returns
+returns g c = rw (sym c.in_ok-decider.ensures.inputs) c.judge_over.ensures

@@ -16,10 +16,10 @@ begin_back-requires g c = record { ends = c.reports_end_once.ensures back_gramma
 
 pub loop-goes_on-init : goal.loop-goes_on-init
 loop-goes_on-init g c = record {
-  inputs = c.requires.inputs;
-  judged = at_first (inputs_of c.args.inputs g.Q.Queue.key) (reports_of c.args.inputs c.args.printed) _ c.in_ok-fore.fore
+  inputs = sym c.inputs-inputs.ensures;
+  judged = at_first (inputs_of c.inputs-inputs.result g.Q.Queue.key) (reports_of c.inputs-inputs.result c.args.printed) _ c.in_ok-fore.fore
       c.in_ok-back.back (subst (λ inputs. HasMade (inputs_of inputs g.Q.Queue.key) true []
-      (state_of g.Q.Queue.pending g.Q.Queue.joined c.args.decider.now)) c.requires.inputs c.requires.made)
+      (state_of g.Q.Queue.pending g.Q.Queue.joined c.args.decider.now)) (sym c.inputs-inputs.ensures) c.requires.made)
       c.requires.no_fore c.requires.no_back
       (c.in_ok-fore.ensures.compared _ _) (c.in_ok-back.ensures.compared _ _ _) c.in_ok-fore.ensures.ready c.in_ok-back.ensures.ready;
   right = λ e. absurd (true≢false e);
@@ -28,7 +28,7 @@ loop-goes_on-init g c = record {
 
 pub decide-requires-clause-made : goal.decide-requires-clause-made
 decide-requires-clause-made g c =
-    let judged = going (inputs_of c.args.inputs g.Q.Queue.key) (reports_of c.args.inputs
+    let judged = going (inputs_of c.inputs-inputs.result g.Q.Queue.key) (reports_of c.inputs-inputs.result
     c.args.printed) true _ _ _ _ c.loop-goes_on-test.true c.loop-goes_on.invariant.judged in (
       judged.steps,
       subst (λ inputs. HasMade (inputs_of inputs g.Q.Queue.key) true judged.steps
@@ -38,35 +38,39 @@ decide-requires-clause-made g c =
 
 pub returns-in-Some : goal.returns-in-Some
 returns-in-Some g c =
-    let judged = going (inputs_of c.args.inputs g.Q.Queue.key) (reports_of c.args.inputs
+    let judged = going (inputs_of c.inputs-inputs.result g.Q.Queue.key) (reports_of c.inputs-inputs.result
     c.args.printed) true _ _ _ _ c.loop-goes_on-test.true c.loop-goes_on.invariant.judged in
     let one = one_by c.loop-goes_on.invariant.inputs c.in_ok-goes_on.ensures.decided judged.steps judged.made in
-    wrong_now _ _ _ _ _ _ _ judged one c.decisions_make_a_run.ensures c.take_rows-rows.result.fore
+    rw (sym c.inputs-inputs.ensures)
+    (wrong_now _ _ _ _ _ _ _ judged one c.decisions_make_a_run.ensures c.take_rows-rows.result.fore
     c.compare_rows-compared.new.fore c.in-Some.mismatch c.take_rows-rows.ensures.fore
-    (c.in_ok-compared.ensures.fore_compared _ judged.fore_rows judged.fore_compared) c.in-Some.is
+    (c.in_ok-compared.ensures.fore_compared _ judged.fore_rows judged.fore_compared) c.in-Some.is)
+
+pub compare_rows-compared-requires-clause-whole : goal.compare_rows-compared-requires-clause-whole
+compare_rows-compared-requires-clause-whole g c = rw c.inputs-inputs.ensures c.requires.whole
 
 pub compare_rows-compared-requires-clause-named : goal.compare_rows-compared-requires-clause-named
 compare_rows-compared-requires-clause-named g c =
-    let judged = going (inputs_of c.args.inputs g.Q.Queue.key) (reports_of c.args.inputs
+    let judged = going (inputs_of c.inputs-inputs.result g.Q.Queue.key) (reports_of c.inputs-inputs.result
     c.args.printed) true _ _ _ _ c.loop-goes_on-test.true c.loop-goes_on.invariant.judged in
     let one = one_by c.loop-goes_on.invariant.inputs c.in_ok-goes_on.ensures.decided judged.steps judged.made in
-    back_named _ _ _ _ _ _ _ judged one c.args.inputs.calls.now.names c.take_rows-rows.result.back c.requires.names
-    c.take_rows-rows.ensures.back
+    back_named _ _ _ _ _ _ _ judged one c.inputs-inputs.result.calls.now.names c.take_rows-rows.result.back
+    (rw c.inputs-inputs.ensures c.requires.names) c.take_rows-rows.ensures.back
 
 pub loop-goes_on-smaller : goal.loop-goes_on-smaller
 loop-goes_on-smaller g c =
-    let judged = going (inputs_of c.args.inputs g.Q.Queue.key) (reports_of c.args.inputs
+    let judged = going (inputs_of c.inputs-inputs.result g.Q.Queue.key) (reports_of c.inputs-inputs.result
     c.args.printed) true _ _ _ _ c.loop-goes_on-test.true c.loop-goes_on.invariant.judged in
     let one = one_by c.loop-goes_on.invariant.inputs c.in_ok-goes_on.ensures.decided judged.steps judged.made in
-    let made = c.take_rows-rows.ensures.made (inputs_of c.args.inputs g.Q.Queue.key) _ _ one.made in
+    let made = c.take_rows-rows.ensures.made (inputs_of c.inputs-inputs.result g.Q.Queue.key) _ _ one.made in
     less _ _ _ _ _ _ _ judged one _ c.loop-goes_on-test.true _ made
 
 pub loop-goes_on-preserved : goal.loop-goes_on-preserved
 loop-goes_on-preserved g c =
-    let judged = going (inputs_of c.args.inputs g.Q.Queue.key) (reports_of c.args.inputs
+    let judged = going (inputs_of c.inputs-inputs.result g.Q.Queue.key) (reports_of c.inputs-inputs.result
     c.args.printed) true _ _ _ _ c.loop-goes_on-test.true c.loop-goes_on.invariant.judged in
     let one = one_by c.loop-goes_on.invariant.inputs c.in_ok-goes_on.ensures.decided judged.steps judged.made in
-    let made = c.take_rows-rows.ensures.made (inputs_of c.args.inputs g.Q.Queue.key) _ _ one.made in
+    let made = c.take_rows-rows.ensures.made (inputs_of c.inputs-inputs.result g.Q.Queue.key) _ _ one.made in
     let right = none_by c.compare_rows-compared.new.fore.wrong c.in_default.not-Some in
     record {
       inputs = c.take_rows-rows.ensures.inputs ∙ (c.in_ok-goes_on.ensures.inputs ∙ c.loop-goes_on.invariant.inputs);
@@ -84,9 +88,12 @@ loop-goes_on-preserved g c =
 
 pub judge_ends-requires : goal.judge_ends-requires
 judge_ends-requires g c = record {
-  judged = going (inputs_of c.args.inputs g.Q.Queue.key)
-      (reports_of c.args.inputs c.args.printed) _ _ _ _ _ c.loop-goes_on-test.false c.loop-goes_on.invariant.judged;
+  judged = going (inputs_of c.inputs-inputs.result g.Q.Queue.key)
+      (reports_of c.inputs-inputs.result c.args.printed) _ _ _ _ _ c.loop-goes_on-test.false c.loop-goes_on.invariant.judged;
   right = c.loop-goes_on.invariant.right c.loop-goes_on-test.false;
-  names = c.requires.names;
-  whole = c.requires.whole;
+  names = rw c.inputs-inputs.ensures c.requires.names;
+  whole = rw c.inputs-inputs.ensures c.requires.whole;
 }
+
+pub returns : goal.returns
+returns g c = rw (sym c.inputs-inputs.ensures) c.judge_ends.ensures
