@@ -1,4 +1,8 @@
-use Rattle.std.proofs.Common.{sym}
+use Rattle.std.specs.Prelude.{IfOk}
+use Rattle.std.proofs.Common.{subst}
+use Rattle.fb_decide.specs.RunInputs.{inputs_of}
+use Rattle.fb_check.specs.Printed.{reports_of}
+use Rattle.fb_check.specs.Verdict.{IsVerdict}
 use Rattle.fb_check.proofs.judging.judge.Goals as goal
 
 pub judge_over-requires : goal.judge_over-requires
@@ -14,4 +18,5 @@ judge_over-requires g c = record {
 }
 
 pub returns : goal.returns
-returns g c = rw (sym c.in_ok-decider.ensures.inputs) c.judge_over.ensures
+returns g c = subst (λ inputs. IfOk c.judge_over.result (IsVerdict (inputs_of inputs g.Q.Queue.key) (reports_of inputs c.args.printed)))
+    c.in_ok-decider.ensures.inputs c.judge_over.ensures
