@@ -18,7 +18,8 @@ use Rattle.fb_model.specs.History.{delivered, Past, task_numbers, terms_of, bloc
 use Rattle.fb_model.specs.Completion.{work, choices, is_complete, was_complete}
 use Rattle.fb_model.specs.Images.{findings, is_scrub, bad_sectors, is_newly_cleaned, segment_rows, seal_rows, complete_rows, test_rows}
 use Rattle.fb_model.specs.Images.{packed, image}
-use Rattle.fb_model.specs.Steps.{Delivery, Step, decision_in, chosen_past, with_delivery, tested_past, past_after, AtEach, opening, delivery_rows}
+use Rattle.fb_model.specs.Steps.{Delivery, Step, decision_in, chosen_past, with_delivery, tested_past, past_after, AtEach, opening}
+use Rattle.fb_model.specs.Steps.{delivery_rows}
 use Rattle.fb_model.specs.Steps.{step_rows, task_row, task_rows, history}
 use Rattle.fb_model.specs.SoundRun.{AreFollowed, IsTested}
 use Rattle.fb_model.specs.FullRun.{IsAllDelivered}

@@ -120,7 +120,8 @@ followed-append past (x ∷ xs) ys = ap (λ ds. delivery_of past x ∷ ds) (foll
 pub rows-append : (past : Past) (xs ys : List DeliveryRow)
     → delivery_rows (followed past (xs ++ ys)) ≡ delivery_rows (followed past xs) ++ delivery_rows (followed (past_with past xs) ys)
 rows-append past xs ys =
-    ap delivery_rows (followed-append past xs ys) ∙ flat_map-append (λ (delivery : Delivery). BackGot delivery.got ∷ delivery.after) (followed past xs) (followed (past_with past xs) ys)
+    ap delivery_rows (followed-append past xs ys)
+    ∙ flat_map-append (λ (delivery : Delivery). BackGot delivery.got ∷ delivery.after) (followed past xs) (followed (past_with past xs) ys)
 
 -- a wanted block may be delivered, with what its sectors hold
 pub wanted-on_disk : (disk : Shape) (past : Past) (index : ℕ) (block : Block) (background : Background) → TellsUpToDate disk past background
@@ -201,7 +202,8 @@ not_yet (g ∷ gots) (suc k) got distinct at =
     rw other (not_yet gots k got distinct.1 at)
 
 -- the next of them is still wanted
-pub next-wanted : (past : Past) (gots : List DeliveryRow) (k : ℕ) (got : DeliveryRow) → AreDeliverable past gots → slice_get gots k ≡ Some got
+pub next-wanted : (past : Past) (gots : List DeliveryRow) (k : ℕ) (got : DeliveryRow) → AreDeliverable past gots
+    → slice_get gots k ≡ Some got
     → IsOneOf (wanted (past_with past (take k gots))) got.block
 next-wanted past gots k got due at =
     let found = all_get (λ g. IsOneOf (wanted past) g.block) gots k got due.each at in

@@ -97,7 +97,8 @@ module _ (n : ℕ) where
     tests_fit = all_append (HasTaskBelow n) (flat_map (segment_rows (packed medium past) past now) (task_numbers past))
         (flat_map (λ task. seal_rows (image medium past task now) past now task ++ complete_rows past now task) (task_numbers past))
         (flat_all (HasTaskBelow n) (segment_rows (packed medium past) past now) (task_numbers past)
-        (all_weaker (λ task. task < n) (λ task. AllByRecursion (HasTaskBelow n) (segment_rows (packed medium past) past now task)) segments_fit
+        (all_weaker (λ task. task < n)
+        (λ task. AllByRecursion (HasTaskBelow n) (segment_rows (packed medium past) past now task)) segments_fit
         (task_numbers past) (in_range past fits)))
         (flat_all (HasTaskBelow n) (λ task. seal_rows (image medium past task now) past now task ++ complete_rows past now task)
         (task_numbers past)

@@ -521,7 +521,8 @@ pub decided_more : (inputs : Inputs) (steps : List Step) (goes_on : Bool) (befor
 decided_more inputs steps goes_on before after known requests_are =
     subst (λ list. GoesOn inputs (record before { requests = list }) steps
     → HasDecided inputs (history inputs steps) (record before { requests = list }) goes_on after
-    → (goes_on ≡ true → IsWaiting inputs.disk after) → LeadsOn inputs steps goes_on (record before { requests = list }) after) (sym requests_are)
+    → (goes_on ≡ true → IsWaiting inputs.disk after)
+    → LeadsOn inputs steps goes_on (record before { requests = list }) after) (sym requests_are)
     (λ so_far decided waits.
     let ready = decided.ready in
     let is = decided.is_ready in

@@ -124,7 +124,8 @@ due-filtered contents how past p f own distinct =
           (all_filtered (λ (c : Catch). IsOneOf (wanted past) c.block) (IsOneOf (wanted past)) p f
           (λ b h passes. subst (IsOneOf (wanted past)) (sym (own b)) h) (wanted past) (each_in (wanted past))));
       distinct = distinct_rows row (λ c. refl) (in_order found)
-          (two_in_order AreApart apart_either_way found (apart_by f own (filter p (wanted past)) (filter-distinct p (wanted past) distinct)));
+          (two_in_order AreApart apart_either_way found
+          (apart_by f own (filter p (wanted past)) (filter-distinct p (wanted past) distinct)));
     }
 
 any-placed : (p : Catch → Bool) (rows : List Catch) (row : Catch)
@@ -208,15 +209,18 @@ pub row-at : (holding : Holding) (how : How) (cs : List Catch) (k : ℕ) (d : Ca
     → slice_get (map (delivery_row (held_now holding) how) cs) k ≡ Some (delivery_row (held_now holding) how (get_or cs k d))
 row-at holding how cs k d less = map_at (delivery_row (held_now holding) how) cs k (get_or cs k d) (slice_get-get_or cs k d less)
 
-pub next-catch : (holding : Holding) (how : How) (past : Past) (cs : List Catch) → AreDeliverable past (map (delivery_row (held_now holding) how) cs)
+pub next-catch : (holding : Holding) (how : How) (past : Past) (cs : List Catch)
+    → AreDeliverable past (map (delivery_row (held_now holding) how) cs)
     → (k : ℕ) (d : Catch) → k < length cs
     → IsOneOf (wanted (past_with past (take k (map (delivery_row (held_now holding) how) cs)))) (get_or cs k d).block
 next-catch holding how past cs due k d less =
-    next-wanted past (map (delivery_row (held_now holding) how) cs) k (delivery_row (held_now holding) how (get_or cs k d)) due (row-at holding how cs k d less)
+    let row = delivery_row (held_now holding) how in
+    next-wanted past (map row cs) k (row (get_or cs k d)) due (row-at holding how cs k d less)
 
 pub all-taken : (holding : Holding) (how : How) (cs : List Catch) (n : ℕ) → length cs ≤ n
     → take n (map (delivery_row (held_now holding) how) cs) ≡ map (delivery_row (held_now holding) how) cs
-all-taken holding how cs n enough = take_all n (map (delivery_row (held_now holding) how) cs) (omega (arith, enough, length-map cs (delivery_row (held_now holding) how)))
+all-taken holding how cs n enough =
+    let row = delivery_row (held_now holding) how in take_all n (map row cs) (omega (arith, enough, length-map cs row))
 
 -- the catches of a dwell are its deliveries
 pub rows-of_catches : (disk : Disk) (holding : Holding) (how : How) (dwell : Dwell) (past : Past) (before : Background)

@@ -99,7 +99,8 @@ module _ (disk : Disk) (holding : Holding) (served : Served) (plan : Plan) (past
   has-delivered-around gap rows middle after its_own best first are_left next = record {
     plan = plan;
     best = subst (λ g. IsBest disk g (wanted past) plan) its_own best;
-    delivered = subst (λ g. HasDelivered disk.map past (in_gap g ++ carried_rows (held_now holding) served (left g)) (rows ++ opening g ∷ []) after)
+    delivered = subst (λ g. HasDelivered disk.map past (in_gap g ++ carried_rows (held_now holding) served (left g))
+        (rows ++ opening g ∷ []) after)
         its_own (delivered-join first (subst (λ bs. HasDelivered disk.map (past_with past (in_gap gap))
         (carried_rows (held_now holding) served bs) middle.rows after) are_left (next (past_with past (in_gap gap)) first.current)));
   }

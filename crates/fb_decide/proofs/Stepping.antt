@@ -16,7 +16,8 @@ use Rattle.fb_model.specs.PlainReplay.{Served, service}
 use Rattle.fb_model.specs.Decisions.{Decision, serves, idles, ends, instant_of, end_of, Act, serving, idling, ending, decision_of}
 use Rattle.fb_model.specs.Deliveries.{due, caught_rows}
 use Rattle.fb_model.specs.History.{Past, tested, tasks, registered, wanted, state, bare_state}
-use Rattle.fb_model.specs.Steps.{Delivery, Step, decision_in, chosen_past, past_after, with_delivery, with_finish, opening, step_rows, delivery_rows, chosen_by}
+use Rattle.fb_model.specs.Steps.{Delivery, Step, decision_in, chosen_past, past_after, with_delivery, with_finish, opening, step_rows}
+use Rattle.fb_model.specs.Steps.{delivery_rows, chosen_by}
 use Rattle.fb_model.specs.SoundRun.{IsTested}
 use Rattle.fb_model.specs.FullRun.{HasBestPlan}
 use Rattle.fb_tasks.specs.Taken.{delivery_of}

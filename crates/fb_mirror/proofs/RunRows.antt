@@ -19,7 +19,8 @@ use Rattle.fb_model.specs.History.{Past, delivered, is_open_backup, task_numbers
 use Rattle.fb_model.specs.Completion.{Choice, choices, is_complete, was_complete, work}
 use Rattle.fb_model.specs.Images.{bad_sectors, complete_rows, findings, image, is_newly_cleaned, is_scrub, packed, seal_rows, segment_rows}
 use Rattle.fb_model.specs.Images.{segment_row, test_rows}
-use Rattle.fb_model.specs.Steps.{AtEach, Delivery, Step, decision_in, history, opening, step_rows, past_after, chosen_past, task_row, delivery_rows}
+use Rattle.fb_model.specs.Steps.{AtEach, Delivery, Step, decision_in, history, opening, step_rows, past_after, chosen_past, task_row}
+use Rattle.fb_model.specs.Steps.{delivery_rows}
 use Rattle.fb_model.specs.Steps.{task_rows, tested_past, with_delivery}
 use Rattle.fb_model.specs.SoundRun.{AreFollowed, IsSoundBy, IsTested}
 

@@ -18,7 +18,8 @@ use Rattle.fb_model.specs.Inputs.{Inputs}
 use Rattle.fb_model.specs.Decisions.{Act, serving, idling, ending}
 use Rattle.fb_model.specs.History.{Past, wanted}
 use Rattle.fb_model.specs.Steps.{Step, decision_in, chosen_past}
-use Rattle.fb_model.specs.Deliveries.{gap_of, due, delivery_row, caught_of, caught_rows, carried_of, missed, lies_in, carried_rows, begin_at, end_at}
+use Rattle.fb_model.specs.Deliveries.{gap_of, due, delivery_row, caught_of, caught_rows, carried_of, missed, lies_in, carried_rows}
+use Rattle.fb_model.specs.Deliveries.{begin_at, end_at}
 use Rattle.fb_model.specs.SoundRun.{IsSublist, none, left_out, taken, IsDelivered}
 use Rattle.fb_model.proofs.Placing.{all_caught, all_carried}
 

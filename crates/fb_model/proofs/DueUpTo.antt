@@ -126,7 +126,8 @@ abbrev pub AgreeBetween : ℕ → ℕ → ContentsAt → ContentsAt → Type 0
 AgreeBetween from to x y = (lbn n t : ℕ) → from ≤ t → t ≤ to → x lbn n t ≡ y lbn n t
 
 module _ (disk : Disk) (x y : ContentsAt) (from to : ℕ) (same : AgreeBetween from to x y) where
-  pub same_delivery : (how : How) (catch : Catch) → from ≤ catch.begin → catch.begin ≤ to → delivery_row x how catch ≡ delivery_row y how catch
+  pub same_delivery : (how : How) (catch : Catch) → from ≤ catch.begin → catch.begin ≤ to
+      → delivery_row x how catch ≡ delivery_row y how catch
   same_delivery how catch after before =
       ap (λ sectors. let runs = runs_of sectors in record {
         block = catch.block;
@@ -143,7 +144,8 @@ module _ (disk : Disk) (x y : ContentsAt) (from to : ℕ) (same : AgreeBetween f
       (all_caught disk dwell (λ catch. delivery_row x how catch ≡ delivery_row y how catch) (λ block. Unit {0}) (λ block any is.
       let later = begins_later disk block dwell.begin in
       same_delivery how (catch_of disk dwell block) (omega (arith, later, after))
-      (omega (arith, ends_in_time disk dwell block is, ends_behind disk block dwell.begin, before))) blocks (all_any _ (λ block. tt) blocks))
+      (omega (arith, ends_in_time disk dwell block is, ends_behind disk block dwell.begin, before))) blocks
+      (all_any _ (λ block. tt) blocks))
 
   same_ride : (served : Served) (blocks : List Block) → IsServiceOf disk served → from ≤ served.start
       → finish served ≤ to → AllByRecursion HasSector blocks
@@ -187,8 +189,10 @@ module _ (disk : Disk) (x y : ContentsAt) (from to : ℕ) (same : AgreeBetween f
 
 rows_rise : (contents : ContentsAt) (how : How) (found : List Catch) → AreRising found → RisingEnds (map (delivery_row contents how) found)
 rows_rise contents how [] rising = tt
-rows_rise contents how (catch ∷ found) rising =
-    (all_map (λ (later : DeliveryRow). catch.end ≤ later.end) (delivery_row contents how) found rising.0, rows_rise contents how found rising.1)
+rows_rise contents how (catch ∷ found) rising = (
+  all_map (λ (later : DeliveryRow). catch.end ≤ later.end) (delivery_row contents how) found rising.0,
+  rows_rise contents how found rising.1,
+)
 
 pub rising_caught : (disk : Disk) (contents : ContentsAt) (how : How) (dwell : Dwell) (blocks : List Block)
     → RisingEnds (caught_rows disk contents how dwell blocks)
@@ -248,7 +252,8 @@ module _ (disk : Disk) (a b : ContentsAt) (t done : ℕ) (since : t ≤ done) (s
       (all_with (λ catch. catch.begin ≤ catch.end) (λ catch. ends_by t catch ≡ true)
       (λ catch. delivery_row a how catch ≡ delivery_row b how catch)
       (λ catch turn by. let in_time : catch.end ≤ t = grind (arith, nat_tests) in
-      same_delivery disk a b 0 done same how catch (omega arith) (omega (arith, in_time, turn, since))) (filter (ends_by t) (in_order found_a))
+      same_delivery disk a b 0 done same how catch (omega arith) (omega (arith, in_time, turn, since)))
+      (filter (ends_by t) (in_order found_a))
       (all_filter (λ (catch : Catch). catch.begin ≤ catch.end) (ends_by t) (in_order found_a)
       (all_caught disk (dwell_until until_a) (λ catch. catch.begin ≤ catch.end) (λ block. Unit {0})
       (λ block any is. ends_behind disk block now) blocks (all_any _ (λ block. tt) blocks)))

@@ -26,7 +26,8 @@ use Rattle.fb_model.specs.Decisions.{decisions, among}
 use Rattle.fb_model.specs.History.{Past, tested, wanted}
 use Rattle.fb_model.specs.Images.{test_rows}
 use Rattle.fb_model.specs.Deliveries.{due}
-use Rattle.fb_model.specs.Steps.{Delivery, Step, decision_in, decisions_in, chosen_past, with_delivery, with_finish, tested_past, delivery_rows}
+use Rattle.fb_model.specs.Steps.{Delivery, Step, decision_in, decisions_in, chosen_past, with_delivery, with_finish, tested_past}
+use Rattle.fb_model.specs.Steps.{delivery_rows}
 use Rattle.fb_model.specs.Steps.{past_after, AtEach, opening, step_rows}
 use Rattle.fb_model.specs.Accepted.{IsAccepted, IsRising}
 use Rattle.fb_model.specs.SoundRun.{AreFollowed}

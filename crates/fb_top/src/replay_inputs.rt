@@ -45,7 +45,8 @@ pub fn read_replay_inputs<D: Desk>(
     requires unused { IsUnused (D.seen desk.old) }
     requires until { words.now.until ≤ 10 ^ 15 }
     ensures outputs { KeepsOutputs (D.seen desk.old) (D.seen desk.new) }
-    ensures accepts { IfOk result (λ inputs. Accepts (D.seen desk.old) (replay_file_names (replay_terms words.now)) (files_of inputs.files)) }
+    ensures accepts { IfOk result
+        (λ inputs. Accepts (D.seen desk.old) (replay_file_names (replay_terms words.now)) (files_of inputs.files)) }
     ensures puts { IfOk result
         (λ inputs. AcceptsPuts (D.seen desk.old) (replay_terms words.now).puts (files_of inputs.files) (option_map accepted inputs.puts)) }
     ensures fit { IfOk result (λ inputs. IsAccepted (inputs_of_files (files_of inputs.files) (key_of words.now.policy) words.now.until)) }

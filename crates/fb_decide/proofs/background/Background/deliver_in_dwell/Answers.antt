@@ -16,8 +16,8 @@ deliver_all-requires c =
       c.args.disk.now.map,
       past,
       current,
-      subst (AreDeliverable past) (sym (rows-of_catches c.args.disk.now c.args.store.now c.args.how c.args.dwell past c.args.self.now current
-          c.as_slice.result.now (c.as_slice.ensures.value ∙ c.in_ok-catches.ensures.all)))
+      subst (AreDeliverable past) (sym (rows-of_catches c.args.disk.now c.args.store.now c.args.how c.args.dwell past c.args.self.now
+          current c.as_slice.result.now (c.as_slice.ensures.value ∙ c.in_ok-catches.ensures.all)))
           (due-caught c.args.disk.now c.args.store.now c.args.how c.args.dwell past (wanted-distinct current.tells)),
     )
 

@@ -22,7 +22,8 @@ use Rattle.fb_decide.proofs.background.Background.ride.Goals as goal
 its_extents : (disk : Disk) (start : Start) (service : Service) → IsServiceOf disk start service
     → AreLaid start.request.lbn service.extents.items start.request.count
 its_extents disk start service is =
-    laid disk service.extents.items start.head start.instant start.request.write start.request.lbn start.request.count is.passages is.unbroken
+    laid disk service.extents.items start.head start.instant start.request.write start.request.lbn start.request.count
+    is.passages is.unbroken
 
 pub carried-requires-clause-extents : goal.carried-requires-clause-extents
 carried-requires-clause-extents c =
@@ -51,7 +52,8 @@ deliver_all-requires c =
     let past = c.requires.current.0 in
     let current = c.requires.current.1 in
     let served = served_from c.args.disk.now c.args.start in
-    let rows : map (delivery_row (held_now c.args.store.now) ByRide) c.as_slice.result.now ≡ carried_rows (held_now c.args.store.now) served (wanted past) =
+    let rows : map (delivery_row (held_now c.args.store.now) ByRide) c.as_slice.result.now
+    ≡ carried_rows (held_now c.args.store.now) served (wanted past) =
     ap (map (delivery_row (held_now c.args.store.now) ByRide)) (c.as_slice.ensures.value ∙ c.in_ok-catches.ensures
     ∙ ap (λ ps. carried_of ps c.args.start.request (wanted_of c.args.self.now.blocks))
     (ap (all_passages_of c.args.disk.now.map) c.as_slice-extents.ensures ∙ c.requires.service.passages)
@@ -66,7 +68,8 @@ deliver_all-requires c =
 pub returns : goal.returns
 returns c = on_ok_weaker c.deliver_all.result (λ all past current.
     let served = served_from c.args.disk.now c.args.start in
-    let rows : map (delivery_row (held_now c.args.store.now) ByRide) c.as_slice.result.now ≡ carried_rows (held_now c.args.store.now) served (wanted past) =
+    let rows : map (delivery_row (held_now c.args.store.now) ByRide) c.as_slice.result.now
+    ≡ carried_rows (held_now c.args.store.now) served (wanted past) =
     ap (map (delivery_row (held_now c.args.store.now) ByRide)) (c.as_slice.ensures.value ∙ c.in_ok-catches.ensures
     ∙ ap (λ ps. carried_of ps c.args.start.request (wanted_of c.args.self.now.blocks))
     (ap (all_passages_of c.args.disk.now.map) c.as_slice-extents.ensures ∙ c.requires.service.passages)
