@@ -71,7 +71,7 @@ fn judge_over<Q: Queue, P: Planner>(
     requires made { HasMade (inputs_of decider.old.inputs Q.key) true [] (state_of Q.pending Q.joined decider.old) }
     requires no_fore { decider.old.course.fore ≡ [] }
     requires no_back { decider.old.course.background.rows ≡ [] }
-    requires serves { Q.serves decider.old.queue decider.old.inputs.disk.now }
+    requires fits { Q.fits decider.old.queue decider.old.inputs.disk.now }
     requires names { length decider.old.inputs.calls.now.names ≡ length (tasks decider.old.inputs.calls.now.calls.items) }
     requires whole { decider.old.inputs.disk.now.sector_bytes % 16 ≡ 0 }
     requires fore { IsReport fore_grammar printed.fore.now }

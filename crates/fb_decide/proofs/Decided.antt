@@ -121,7 +121,7 @@ pub join_waiting : {disk : Disk} {before : State} {course : Course} {waiting : L
     → course.joined ≤ length before.requests → joined ≡ course.joined
     → left before.requests course.joined waiting ≡ left before.requests before.course.joined before.waiting
     → AllByRecursion (λ r. r.arrival ≤ course.now) waiting
-    → IsWaiting disk (record before { course = course; waiting = waiting; joined = joined })
+    → IsWaiting disk (record before { course = course; waiting = waiting; counted = joined })
 join_waiting {disk} h within counted same arrived = record {
   within = within;
   counted = counted;

@@ -129,7 +129,7 @@ pub record LeadsOn (inputs : Inputs) (steps : List Step) (more : Bool) (before a
 
 -- where a replay of these inputs stands
 abbrev standing : Inputs → Course → List Request → ℕ → State
-standing inputs course waiting joined = record { requests = requests inputs; course = course; waiting = waiting; joined = joined }
+standing inputs course waiting joined = record { requests = requests inputs; course = course; waiting = waiting; counted = joined }
 
 -- ---- from one decision to the next
 
@@ -526,7 +526,7 @@ decided_more inputs steps goes_on before after known requests_are =
     (λ so_far decided waits.
     let ready = decided.ready in
     let is = decided.is_ready in
-    by_action inputs known before.course before.waiting before.joined steps so_far ready.course.background ready.course.joined
-    ready.course.called ready.waiting ready.joined
-    (subst (IsReadyToAct inputs (history inputs steps) (standing inputs before.course before.waiting before.joined)) (ready_is is) is)
+    by_action inputs known before.course before.waiting before.counted steps so_far ready.course.background ready.course.joined
+    ready.course.called ready.waiting ready.counted
+    (subst (IsReadyToAct inputs (history inputs steps) (standing inputs before.course before.waiting before.counted)) (ready_is is) is)
     goes_on after (subst (λ ready. HasActed inputs ready goes_on after) (ready_is is) decided.acted) waits)

@@ -79,7 +79,7 @@ listed inputs lists accepted = record {
 
 begins : (inputs : Inputs) (course : Course) (waiting : List Request) (joined : ℕ) → AreKnown inputs → IsInitial inputs.latent course
     → waiting ≡ [] → joined ≡ 0
-    → GoesOn inputs (record { requests = requests inputs; course = course; waiting = waiting; joined = joined }) []
+    → GoesOn inputs (record { requests = requests inputs; course = course; waiting = waiting; counted = joined }) []
 unfolding decisions served
 begins inputs course waiting joined known begin none zero_joined = record {
   run = record {
@@ -118,12 +118,12 @@ known_inputs inputs accepted lists sound takes_time = record {
 }
 
 pub made_first : (inputs : Inputs) (state : State) → AreKnown inputs → state.requests ≡ requests inputs
-    → IsInitial inputs.latent state.course → state.waiting ≡ [] → state.joined ≡ 0 → HasMade inputs true [] state
+    → IsInitial inputs.latent state.course → state.waiting ≡ [] → state.counted ≡ 0 → HasMade inputs true [] state
 made_first inputs state known requests_are begin none zero_joined = record {
   known = known;
   requests_are = requests_are;
   come_to = subst (λ list. GoesOn inputs (record state { requests = list }) []) (sym requests_are)
-      (begins inputs state.course state.waiting state.joined known begin none zero_joined);
+      (begins inputs state.course state.waiting state.counted known begin none zero_joined);
 }
 
 -- so with an equal list of requests
@@ -135,10 +135,10 @@ made_with {inputs} {more} {steps} {state} list same =
 pub made_one_with : {inputs : Inputs} {steps : List Step} {more : Bool} {before : State} {course : Course} {waiting : List Request}
     {joined : ℕ} (list : List Request) → list ≡ before.requests
     → HasMadeOne inputs steps more (record before { requests = list })
-    (record { requests = list; course = course; waiting = waiting; joined = joined })
-    → HasMadeOne inputs steps more before (record before { course = course; waiting = waiting; joined = joined })
+    (record { requests = list; course = course; waiting = waiting; counted = joined })
+    → HasMadeOne inputs steps more before (record before { course = course; waiting = waiting; counted = joined })
 made_one_with {inputs} {steps} {more} {before} {course} {waiting} {joined} list same = subst (λ list. HasMadeOne inputs steps more
-    (record before { requests = list }) (record { requests = list; course = course; waiting = waiting; joined = joined })) same
+    (record before { requests = list }) (record { requests = list; course = course; waiting = waiting; counted = joined })) same
 
 -- what stands before a decision is as the next one asks
 module _ (inputs : Inputs) (steps : List Step) (before : State) (made : HasMade inputs true steps before) where

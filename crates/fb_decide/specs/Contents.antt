@@ -10,10 +10,13 @@ use Rattle.fb_store.specs.Ranges.{Holding, content_in}
 use Rattle.fb_rows.specs.declared.fore.ForeRow.{ForeRow}
 use Rattle.fb_model.specs.PlainReplay.{Served, media, finish}
 
+-- what n sectors from an LBN on hold on the disk as it is
+abbrev pub held : Holding → ℕ → ℕ → List (ℕ × Content)
+held holding lbn n = map (λ sector. (sector, content_in holding sector)) (range_with_len lbn n)
+
 -- what a read finds on the disk as it is; a write finds nothing
 abbrev pub found_in : Holding → Request → List ContentRun
-found_in holding request = if request.write then []
-    else runs_of (map (λ lbn. (lbn, content_in holding lbn)) (range_with_len request.lbn request.count))
+found_in holding request = if request.write then [] else runs_of (held holding request.lbn request.count)
 
 -- what a sector holds when the request is served
 abbrev pub left_by : Request → ℕ → Content → Content

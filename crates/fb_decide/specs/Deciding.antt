@@ -103,7 +103,7 @@ pub data HasActed (inputs : Inputs) (before : State) : Bool → State → Type 0
       → HasActed inputs before false before
 
 -- what must stand before a decision: requests and calls that a replay can have, of which those that wait have arrived, and a head that
--- is on a track of the disk, so early that one more service ends at an instant
+-- is on a track of the disk, so early that one more service ends by 9 * 10^18 ns
 pub record MayDecide (inputs : Inputs) (state : State) : Type 0 where
   pub requests : IsForegroundOf inputs.disk state.requests
   pub script : IsScriptOf inputs.disk.map inputs.calls

@@ -1,9 +1,9 @@
 -- What is delivered from a disk as it is, and what the deliveries make of a history.
 use Rattle.std.specs.Prelude.{◌≡◌, ℕ, List, [], ◌∷◌, ◌++◌, false, map, Some, slice_get}
-use Rattle.std.specs.List.{AllByRecursion, fold, range_with_len}
+use Rattle.std.specs.List.{AllByRecursion, fold}
 use Rattle.fb_geometry.specs.Shape.{Shape}
 use Rattle.fb_service.specs.declared.disk.Disk.{Disk}
-use Rattle.fb_store.specs.Ranges.{Holding, content_in}
+use Rattle.fb_store.specs.Ranges.{Holding}
 use Rattle.fb_wanted.specs.declared.block.Block.{Block}
 use Rattle.fb_rows.specs.declared.gap.Plan.{Plan}
 use Rattle.fb_rows.specs.declared.back.DeliveryRow.{DeliveryRow}
@@ -18,10 +18,11 @@ use Rattle.fb_model.specs.Steps.{Delivery, with_delivery, delivery_rows, opening
 use Rattle.fb_tasks.specs.Taken.{delivery_of}
 use Rattle.fb_tasks.specs.Telling.{Tells, IsUpToDate}
 use Rattle.fb_decide.specs.declared.background.Background.{Background}
+use Rattle.fb_decide.specs.Contents.{held}
 
--- the contents of n sectors from an LBN on as the disk is now, whatever the instant
+-- the contents of sectors as the disk is now, whatever the instant
 abbrev pub held_now : Holding → ContentsAt
-held_now holding lbn n t = map (λ sector. (sector, content_in holding sector)) (range_with_len lbn n)
+held_now holding lbn n t = held holding lbn n
 
 -- these deliveries one after another, each with its findings and what its test gives
 abbrev pub followed : Past → List DeliveryRow → List Delivery

@@ -1,6 +1,5 @@
 -- What the disk holds, and what deliveries found.
-use Rattle.std.specs.Prelude.{◌≡◌, ◌≤◌, ℕ, true, map}
-use Rattle.std.specs.List.{range_with_len}
+use Rattle.std.specs.Prelude.{◌≡◌, ◌≤◌, ℕ, true}
 use Rattle.fb_store.specs.Runs.{runs_of}
 use Rattle.fb_store.specs.Ranges.{Holding, content_in}
 use Rattle.fb_wanted.specs.declared.block.Block.{Block}
@@ -10,6 +9,7 @@ use Rattle.fb_model.specs.Content.{Medium, content}
 use Rattle.fb_model.specs.History.{Past, bare_state, content_of, is_open_backup}
 use Rattle.fb_model.specs.Images.{held_at_delivery}
 use Rattle.fb_model.specs.Deliveries.{delivery_row}
+use Rattle.fb_decide.specs.Contents.{held}
 use Rattle.fb_decide.specs.Deliveries.{IsRegistered, held_now}
 
 -- between these instants each sector holds what the disk holds now
@@ -28,4 +28,4 @@ pub record IsTrue (medium : Medium) (holding : Holding) (past : Past) : Type 0 w
   pub found : (block : Block) → IsRegistered past block → is_delivered (bare_state past block) ≡ true
       → content_of past block ≡ runs_of (held_at_delivery medium past block)
   pub kept : (block : Block) → IsRegistered past block → is_delivered (bare_state past block) ≡ true → is_open_backup past block.task ≡ true
-      → content_of past block ≡ runs_of (map (λ lbn. (lbn, content_in holding lbn)) (range_with_len block.lbn block.count))
+      → content_of past block ≡ runs_of (held holding block.lbn block.count)

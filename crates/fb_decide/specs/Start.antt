@@ -13,7 +13,7 @@ use Rattle.fb_decide.specs.declared.start.Start.{Start}
 abbrev pub served_from : Disk → Start → Served
 served_from disk start = service disk start.head start.instant start.request
 
--- the disk has the request's sectors and the head's track, and the service starts so early that its end is an instant too
+-- the disk has the request's sectors and the head's track, and the service starts so early that it ends by 9 * 10^18 ns
 pub record IsStartOn (disk : Disk) (start : Start) : Type 0 where
   pub request : IsRequestOf disk.map start.request
   pub head : IsTrackOf disk.map start.head

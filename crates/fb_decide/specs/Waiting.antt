@@ -13,7 +13,7 @@ left requests joined waiting = waiting ++ drop joined requests
 -- the requests that wait have arrived, and lie on the disk
 pub record IsWaiting (disk : Disk) (state : State) : Type 0 where
   pub within : state.course.joined ≤ length state.requests
-  pub counted : state.joined ≡ state.course.joined
+  pub counted : state.counted ≡ state.course.joined
   pub arrived : AllByRecursion (λ r. r.arrival ≤ state.course.now) state.waiting
   pub on_disk : AllByRecursion (IsRequestOf disk.map) (left state.requests state.course.joined state.waiting)
 

@@ -88,7 +88,7 @@ impl<'a, Q: Queue> Decider<'a, Q> {
         ensures made { IfOk result (λ decider. HasMade (inputs_of decider.inputs Q.key) true [] (state_of Q.pending Q.joined decider)) }
         ensures no_fore { IfOk result (λ decider. decider.course.fore ≡ []) }
         ensures no_back { IfOk result (λ decider. decider.course.background.rows ≡ []) }
-        ensures serves { IfOk result (λ decider. Q.serves decider.queue decider.inputs.disk.now) }
+        ensures fits { IfOk result (λ decider. Q.fits decider.queue decider.inputs.disk.now) }
     {
         foreground_lists_ascend();
         disk_is_sound(inputs.disk);
@@ -109,14 +109,14 @@ impl<'a, Q: Queue> Decider<'a, Q> {
     /// of the decider.
     pub fn decide<P: Planner>(&mut self, alloc: Global, planner: &P) -> Result<bool, NoMemory>
         requires made { (steps : List Step) × HasMade (inputs_of self.old.inputs Q.key) true steps (state_of Q.pending Q.joined self.old) }
-        requires serves { Q.serves self.old.queue self.old.inputs.disk.now }
+        requires fits { Q.fits self.old.queue self.old.inputs.disk.now }
         ensures decided { IfOk result (λ goes_on. (steps : List Step)
             → HasMade (inputs_of self.old.inputs Q.key) true steps (state_of Q.pending Q.joined self.old)
             → HasMadeOne (inputs_of self.old.inputs Q.key) steps goes_on (state_of Q.pending Q.joined self.old)
             (state_of Q.pending Q.joined self.new)) }
         ensures inputs { self.new.inputs ≡ self.old.inputs }
         ensures requests { OnOk result (self.new.requests ≡ self.old.requests) }
-        ensures serves { OnOk result (Q.serves self.new.queue self.new.inputs.disk.now) }
+        ensures fits { OnOk result (Q.fits self.new.queue self.new.inputs.disk.now) }
     {
         advance(
             alloc,
@@ -225,7 +225,7 @@ fn advance<Q: Queue, P: Planner>(
     course: &mut Course,
 ) -> Result<bool, NoMemory>
     requires may_decide { MayDecide (inputs_of inputs Q.key) (state_by Q.pending Q.joined requests.now course.old queue.old) }
-    requires serves { Q.serves queue.old inputs.disk.now }
+    requires fits { Q.fits queue.old inputs.disk.now }
     requires called { (past : Past) × IsCalled inputs.disk.now.map inputs.calls.now.calls.items past course.old.called
         × Tells inputs.disk.now.map past course.old.background.sessions course.old.background.blocks }
     ensures decided { IfOk result
@@ -235,7 +235,7 @@ fn advance<Q: Queue, P: Planner>(
         (state_by Q.pending Q.joined requests.now course.new queue.new)) }
     ensures waiting { IfOk result (λ goes_on. goes_on ≡ true
         → IsWaiting inputs.entry.disk.now (state_by Q.pending Q.joined requests.now course.new queue.new)) }
-    ensures serves { OnOk result (Q.serves queue.new inputs.entry.disk.now) }
+    ensures fits { OnOk result (Q.fits queue.new inputs.entry.disk.now) }
 {
     let now = course.now;
     course.called = course
@@ -256,7 +256,7 @@ fn act<Q: Queue, P: Planner>(
     course: &mut Course,
 ) -> Result<bool, NoMemory>
     requires waiting { IsWaiting inputs.disk.now (state_by Q.pending Q.joined requests.now course.old queue.old) }
-    requires serves { Q.serves queue.old inputs.disk.now }
+    requires fits { Q.fits queue.old inputs.disk.now }
     requires head { IsTrackOf inputs.disk.now.map course.old.head }
     requires now { course.old.now ≤ 9 * 10 ^ 18 - 10 ^ 15 }
     requires current { (past : Past) × TellsUpToDate inputs.disk.now.map past course.old.background }
@@ -265,7 +265,7 @@ fn act<Q: Queue, P: Planner>(
         (state_by Q.pending Q.joined requests.now course.new queue.new)) }
     ensures waiting { IfOk result (λ goes_on. goes_on ≡ true
         → IsWaiting inputs.entry.disk.now (state_by Q.pending Q.joined requests.now course.new queue.new)) }
-    ensures serves { OnOk result (Q.serves queue.new inputs.entry.disk.now) }
+    ensures fits { OnOk result (Q.fits queue.new inputs.entry.disk.now) }
 {
     if !queue.is_empty() {
         serve_next(alloc, inputs.disk, planner, queue, course)?;
@@ -306,7 +306,7 @@ fn serve_next<Q: Queue, P: Planner>(
     course: &mut Course,
 ) -> Result<(), NoMemory>
     requires some { 0 < length (Q.pending queue.old) }
-    requires serves { Q.serves queue.old disk.now }
+    requires fits { Q.fits queue.old disk.now }
     requires on_disk { AllByRecursion (IsRequestOf disk.now.map) (Q.pending queue.old) }
     requires head { IsTrackOf disk.now.map course.old.head }
     requires now { course.old.now ≤ 9 * 10 ^ 18 - 10 ^ 15 }
@@ -315,7 +315,7 @@ fn serve_next<Q: Queue, P: Planner>(
         × (first_least (Q.key disk.now course.old.head course.old.now) (Q.pending queue.old) ≡ Some (request, Q.pending queue.new))
         × HasServedNext disk.now request course.old course.new) }
     ensures counted { OnOk result (Q.joined queue.new ≡ Q.joined queue.old) }
-    ensures serves { OnOk result (Q.serves queue.new disk.now) }
+    ensures fits { OnOk result (Q.fits queue.new disk.now) }
 {
     let request = queue.take(disk, course.head, course.now);
     let start = Start {

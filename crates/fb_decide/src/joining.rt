@@ -21,7 +21,7 @@ pub fn join_arrived<Q: Queue>(
     requires within { next ≤ length requests.now }
     requires few { length requests.now ≤ 10 ^ 6 }
     requires on_disk { AllByRecursion (IsRequestOf disk.now.map) requests.now }
-    requires serves { Q.serves queue.old disk.now }
+    requires fits { Q.fits queue.old disk.now }
     requires joined { Q.joined queue.old ≡ next }
     requires arrived { AllByRecursion (λ r. r.arrival ≤ now) (Q.pending queue.old) }
     requires come { AllByRecursion (λ r. r.arrival ≤ now) (take next requests.now) }
@@ -30,7 +30,7 @@ pub fn join_arrived<Q: Queue>(
     ensures left { IfOk result (λ later. left requests.now later (Q.pending queue.new) ≡ left requests.now next (Q.pending queue.old)) }
     ensures arrived { OnOk result (AllByRecursion (λ r. r.arrival ≤ now) (Q.pending queue.new)) }
     ensures come { IfOk result (λ later. AllByRecursion (λ r. r.arrival ≤ now) (take later requests.now)) }
-    ensures serves { OnOk result (Q.serves queue.new disk.now) }
+    ensures fits { OnOk result (Q.fits queue.new disk.now) }
     ensures ahead { IfOk result (λ later. IfSome (slice_get requests.now later) (λ r. now < r.arrival)) }
 {
     let mut next = next;

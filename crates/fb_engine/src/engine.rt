@@ -45,7 +45,7 @@ fn run_of<Q: Queue, P: Planner>(
     decider: &mut Decider<'_, Q>,
 ) -> Result<Run, NoMemory>
     requires advanced { HasAdvanced (inputs_of decider.old.inputs Q.key) true (state_of Q.pending Q.joined decider.old) }
-    requires serves { Q.serves decider.old.queue decider.old.inputs.disk.now }
+    requires fits { Q.fits decider.old.queue decider.old.inputs.disk.now }
     ensures { IfOk result (IsWhole (inputs_of decider.old.inputs Q.key)) }
 {
     let inputs = decider.inputs();
@@ -69,7 +69,7 @@ fn decide_all<Q: Queue, P: Planner>(
     decider: &mut Decider<'_, Q>,
 ) -> Result<(), NoMemory>
     requires advanced { HasAdvanced (inputs_of decider.old.inputs Q.key) true (state_of Q.pending Q.joined decider.old) }
-    requires serves { Q.serves decider.old.queue decider.old.inputs.disk.now }
+    requires fits { Q.fits decider.old.queue decider.old.inputs.disk.now }
     ensures advanced { OnOk result (HasAdvanced (inputs_of decider.old.inputs Q.key) false (state_of Q.pending Q.joined decider.new)) }
 {
     decisions_make_a_run();

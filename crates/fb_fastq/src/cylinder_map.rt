@@ -54,11 +54,11 @@ impl<C: Choice> Queue for CylinderMap<C> {
 
     ghost key = { C.key };
 
-    ghost serves = { λ q disk. AllByRecursion (λ w. IsCylinderOf disk w.1 w.0.0) q.waiting };
+    ghost fits = { λ q disk. AllByRecursion (λ w. IsCylinderOf disk w.1 w.0.0) q.waiting };
 
     ghost use Rattle.fb_fastq.specs.NonePending.{all_of_none};
 
-    ghost serves_any = { λ q disk none. all_of_none (λ w. IsCylinderOf disk w.1 w.0.0) q.waiting none };
+    ghost fits_any = { λ q disk none. all_of_none (λ w. IsCylinderOf disk w.1 w.0.0) q.waiting none };
 
     fn add(&mut self, disk: &Disk, request: Request) -> Result<(), NoMemory> {
         let cylinder = cylinder_of(disk, &request);

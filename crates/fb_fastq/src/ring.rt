@@ -35,9 +35,9 @@ impl Queue for FcfsRing {
 
     ghost key = { fcfs };
 
-    ghost serves = { λ queue disk. Unit {0} };
+    ghost fits = { λ queue disk. Unit {0} };
 
-    ghost serves_any = { λ queue disk none. tt };
+    ghost fits_any = { λ queue disk none. tt };
 
     fn add(&mut self, _disk: &Disk, request: Request) -> Result<(), NoMemory> {
         self.waiting.push_back(request)?;

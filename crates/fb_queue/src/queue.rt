@@ -21,38 +21,38 @@ pub trait Queue: Drop {
     /// The key that decides: the first request with the least key is taken.
     ghost key: { Key };
 
-    /// What the queue keeps about its requests is true of this disk.
-    ghost serves: { Self → Disk → Type 0 };
+    /// The queue fits this disk: what it keeps about its requests is true of it.
+    ghost fits: { Self → Disk → Type 0 };
 
     /// Adds a request behind all others.
     ///
     /// The only error is out of memory, after which nothing has changed.
     fn add(&mut self, disk: &Disk, request: Request) -> Result<(), NoMemory>
         requires few { joined self.old < 2 ^ 32 }
-        requires serves { serves self.old disk.now }
+        requires fits { fits self.old disk.now }
         requires on_disk { IsRequestOf disk.now.map request }
         ensures ok { OnOk result (pending self.new ≡ pending self.old ++ request ∷ []) }
         ensures counted { OnOk result (joined self.new ≡ joined self.old + 1) }
         ensures err { OnErr result (pending self.new ≡ pending self.old) }
         ensures not_counted { OnErr result (joined self.new ≡ joined self.old) }
-        ensures serves { serves self.new disk.now };
+        ensures fits { fits self.new disk.now };
 
     /// Takes out the first request with the least key, while the head is on this track at the
     /// instant `now`, in ns.
     fn take(&mut self, disk: &Disk, head: Track, now: Ns) -> Request
         requires some { 0 < length (pending self.old) }
-        requires serves { serves self.old disk.now }
+        requires fits { fits self.old disk.now }
         requires on_disk { AllByRecursion (IsRequestOf disk.now.map) (pending self.old) }
         requires head { IsTrackOf disk.now.map head }
         requires now { now ≤ 9 * 10 ^ 18 }
         ensures least { first_least (key disk.now head now) (pending self.old) ≡ Some (result, pending self.new) }
         ensures counted { joined self.new ≡ joined self.old }
-        ensures serves { serves self.new disk.now };
+        ensures fits { fits self.new disk.now };
 
     /// Whether no request is pending.
     fn is_empty(&self) -> bool
         ensures { result ≡ (length (pending self.now) == 0) };
 
-    /// A queue with no pending request serves any disk.
-    ghost serves_any: { (queue : Self) (disk : Disk) → pending queue ≡ [] → serves queue disk };
+    /// A queue with no pending request fits any disk.
+    ghost fits_any: { (queue : Self) (disk : Disk) → pending queue ≡ [] → fits queue disk };
 }

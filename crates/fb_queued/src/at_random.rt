@@ -133,10 +133,10 @@ fn step<Q: Queue>(
     requires heads { 2 ≤ disk.now.map.heads }
     requires joined { Q.joined queue.old ≤ number }
     requires few { number < 2 ^ 32 }
-    requires serves { Q.serves queue.old disk.now }
+    requires fits { Q.fits queue.old disk.now }
     requires on_disk { AllByRecursion (IsRequestOf disk.now.map) (Q.pending queue.old) }
     ensures joined { OnOk result (Q.joined queue.new ≤ number + 1) }
-    ensures serves { OnOk result (Q.serves queue.new disk.now) }
+    ensures fits { OnOk result (Q.fits queue.new disk.now) }
     ensures on_disk { OnOk result (AllByRecursion (IsRequestOf disk.now.map) (Q.pending queue.new)) }
 {
     let joins = if number < STEPS / 2 { 3 } else { 1 };

@@ -23,7 +23,7 @@ loop-goes_on-init g c = record {
       c.requires.no_fore c.requires.no_back
       (c.in_ok-fore.ensures.compared _ _) (c.in_ok-back.ensures.compared _ _ _) c.in_ok-fore.ensures.ready c.in_ok-back.ensures.ready;
   right = λ e. absurd (true≢false e);
-  serves = c.requires.serves;
+  fits = c.requires.fits;
 }
 
 pub decide-requires-clause-made : goal.decide-requires-clause-made
@@ -81,9 +81,9 @@ loop-goes_on-preserved g c =
           judged.fore_compared) (c.in_ok-compared.ensures.back_compared right _ judged.back_rows judged.back_compared)
           c.in_ok-compared.ensures.fore_ready (c.in_ok-compared.ensures.back_ready right);
       right = λ _. right;
-      serves = subst (λ inputs. g.Q.Queue.serves c.take_rows-rows.new.self.queue inputs.disk.now) (sym c.take_rows-rows.ensures.inputs)
-          (subst (λ queue. g.Q.Queue.serves queue c.decide.new.self.inputs.disk.now)
-          (sym c.take_rows-rows.ensures.queue) c.in_ok-goes_on.ensures.serves);
+      fits = subst (λ inputs. g.Q.Queue.fits c.take_rows-rows.new.self.queue inputs.disk.now) (sym c.take_rows-rows.ensures.inputs)
+          (subst (λ queue. g.Q.Queue.fits queue c.decide.new.self.inputs.disk.now)
+          (sym c.take_rows-rows.ensures.queue) c.in_ok-goes_on.ensures.fits);
     }
 
 pub judge_ends-requires : goal.judge_ends-requires

@@ -12,7 +12,7 @@ invariant-loop-goes_on g l = record {
   judged : HasJudged (inputs_of l.inputs g.Q.Queue.key) (reports_of l.inputs l.printed) l.goes_on
       (state_of g.Q.Queue.pending g.Q.Queue.joined l.decider) l.fore l.back;
   right : l.goes_on ≡ false → l.fore.wrong ≡ None;
-  serves : g.Q.Queue.serves l.decider.queue l.decider.inputs.disk.now;
+  fits : g.Q.Queue.fits l.decider.queue l.decider.inputs.disk.now;
 }
 
 abbrev pub decreases-loop-goes_on : goal.decreases-loop-goes_on

@@ -29,7 +29,7 @@ loop-next-preserved g c =
     let joins = get_or requests next _ in
     record {
       within = omega (arith, within);
-      serves = c.in_ok-add.ensures.serves;
+      fits = c.in_ok-add.ensures.fits;
       counted = c.in_ok-add.ensures.counted ∙ ap (λ n. n + 1) before.counted;
       same = next_joined requests waiting (g.Q.Queue.pending c.add.new.self) next _ within added ∙ before.same;
       arrived = subst (AllByRecursion has_come) (sym added)

@@ -6,7 +6,7 @@ use Rattle.fb_decide.proofs.joining.join_arrived.Given as goal
 abbrev pub invariant-loop-next : goal.invariant-loop-next
 invariant-loop-next g l = record {
   within : l.next ≤ length l.requests;
-  serves : g.Q.Queue.serves l.queue l.disk;
+  fits : g.Q.Queue.fits l.queue l.disk;
   counted : g.Q.Queue.joined l.queue ≡ l.next;
   same : left l.requests l.next (g.Q.Queue.pending l.queue) ≡ left l.requests l.fn.next (g.Q.Queue.pending l.fn.queue);
   arrived : AllByRecursion (λ r. r.arrival ≤ l.now) (g.Q.Queue.pending l.queue);

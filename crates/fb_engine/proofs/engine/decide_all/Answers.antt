@@ -22,7 +22,7 @@ loop-goes_on-preserved g c =
       inputs = c.in_ok-goes_on.ensures.inputs ∙ c.loop-goes_on.invariant.inputs;
       advanced = one_on c.decisions_make_a_run.ensures advanced
           (one_by c.loop-goes_on.invariant.inputs c.in_ok-goes_on.ensures.decided advanced.steps advanced.made);
-      serves = c.in_ok-goes_on.ensures.serves;
+      fits = c.in_ok-goes_on.ensures.fits;
     }
 
 pub loop-goes_on-smaller : goal.loop-goes_on-smaller

@@ -9,7 +9,7 @@ abbrev pub invariant-loop-goes_on : goal.invariant-loop-goes_on
 invariant-loop-goes_on g l = record {
   inputs : l.decider.inputs ≡ l.fn.decider.inputs;
   advanced : HasAdvanced (inputs_of l.fn.decider.inputs g.Q.Queue.key) l.goes_on (state_of g.Q.Queue.pending g.Q.Queue.joined l.decider);
-  serves : g.Q.Queue.serves l.decider.queue l.decider.inputs.disk.now;
+  fits : g.Q.Queue.fits l.decider.queue l.decider.inputs.disk.now;
 }
 
 abbrev pub decreases-loop-goes_on : goal.decreases-loop-goes_on

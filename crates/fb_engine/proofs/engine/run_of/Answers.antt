@@ -4,7 +4,7 @@ use Rattle.fb_engine.proofs.Looping.{is_full, is_few, rows_fit}
 use Rattle.fb_engine.proofs.engine.run_of.Goals as goal
 
 pub decide_all-requires : goal.decide_all-requires
-decide_all-requires g c = record { advanced = c.requires.advanced; serves = c.requires.serves }
+decide_all-requires g c = record { advanced = c.requires.advanced; fits = c.requires.fits }
 
 pub add_task_rows-requires : goal.add_task_rows-requires
 add_task_rows-requires g c = let advanced = c.in_ok-decide_all.ensures.advanced in (_, advanced.steps, advanced.made)

@@ -6,6 +6,6 @@ use Rattle.fb_queued.proofs.at_random.taken.Goals as goal
 pub loop-number-init : goal.loop-number-init
 loop-number-init g c = record {
   joined = omega (arith, c.requires.fresh);
-  serves = g.met.Q.Queue.serves_any c.args.queue c.args.disk.now c.requires.empty;
+  fits = g.met.Q.Queue.fits_any c.args.queue c.args.disk.now c.requires.empty;
   on_disk = subst (AllByRecursion (IsRequestOf c.args.disk.now.map)) (sym c.requires.empty) tt;
 }

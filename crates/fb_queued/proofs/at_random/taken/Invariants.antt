@@ -6,6 +6,6 @@ use Rattle.fb_queued.proofs.at_random.taken.Given as goal
 abbrev pub invariant-loop-number : goal.invariant-loop-number
 invariant-loop-number g l = record {
   joined : g.Q.Queue.joined l.queue ≤ l.number;
-  serves : g.Q.Queue.serves l.queue l.disk;
+  fits : g.Q.Queue.fits l.queue l.disk;
   on_disk : AllByRecursion (IsRequestOf l.disk.map) (g.Q.Queue.pending l.queue);
 }

@@ -6,7 +6,7 @@ use Rattle.fb_decide.proofs.deciding.Decider.decide.Goals as goal
 pub advance-requires : goal.advance-requires
 advance-requires g c =
     let made = made_with _ c.as_slice.ensures.value c.requires.made.1 in
-    record { may_decide = now_may_decide _ _ _ made; serves = c.requires.serves; called = now_called _ _ _ made }
+    record { may_decide = now_may_decide _ _ _ made; fits = c.requires.fits; called = now_called _ _ _ made }
 
 pub returns-clause-decided : goal.returns-clause-decided
 returns-clause-decided g c = if_ok_with _ _ _ c.advance.result

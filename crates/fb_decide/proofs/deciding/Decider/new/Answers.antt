@@ -9,5 +9,5 @@ returns-clause-made g c = made_first _ _
     (c.in_ok-requests.ensures ∙ ap (λ trace. foreground_list trace c.args.inputs.calls.now.calls.items) c.as_slice.ensures.value)
     c.in_ok-course.ensures.initial c.requires.empty c.requires.fresh
 
-pub returns-clause-serves : goal.returns-clause-serves
-returns-clause-serves g c = g.met.Q.Queue.serves_any c.args.queue c.args.inputs.disk.now c.requires.empty
+pub returns-clause-fits : goal.returns-clause-fits
+returns-clause-fits g c = g.met.Q.Queue.fits_any c.args.queue c.args.inputs.disk.now c.requires.empty

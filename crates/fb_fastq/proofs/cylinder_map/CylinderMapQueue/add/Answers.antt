@@ -3,10 +3,10 @@ use Rattle.fb_fastq.specs.Spots.{IsCylinderOf}
 use Rattle.fb_fastq.proofs.OneMore.{all_more, insert_more}
 use Rattle.fb_fastq.proofs.cylinder_map.CylinderMapQueue.add.Goals as goal
 
-pub returns-clause-serves : goal.returns-clause-serves
-returns-clause-serves g c =
+pub returns-clause-fits : goal.returns-clause-fits
+returns-clause-fits g c =
     let stands = λ (w : Waiting). IsCylinderOf c.args.disk.now w.1 w.0.0 in
     let more =
     insert_more c.cylinder_of-cylinder.result c.self.inside.joined c.args.request c.self.inside.waiting.entries c.self.invariant.given in
     subst (AllByRecursion stands) (sym c.in_ok-add.ensures.entries) (all_more _ _ _ more stands c.cylinder_of-cylinder.ensures
-    (subst (AllByRecursion stands) (sym (ap (λ v. v.waiting) c.self.view_is)) c.requires.serves))
+    (subst (AllByRecursion stands) (sym (ap (λ v. v.waiting) c.self.view_is)) c.requires.fits))

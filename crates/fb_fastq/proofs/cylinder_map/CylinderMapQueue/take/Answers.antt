@@ -14,7 +14,7 @@ pub choose-key-requires-clause-spots : goal.choose-key-requires-clause-spots
 choose-key-requires-clause-spots g c =
     all_held (λ key r. IsCylinderOf c.args.disk.now r key.0) c.self.inside.waiting
     (subst (AllByRecursion (λ (w : Waiting). IsCylinderOf c.args.disk.now w.1 w.0.0))
-    (sym (ap (λ v. v.waiting) c.self.view_is)) c.requires.serves)
+    (sym (ap (λ v. v.waiting) c.self.view_is)) c.requires.fits)
 
 pub invariant_of-self : goal.invariant_of-self
 invariant_of-self g c = c.take_out.ensures.numbers c.self.inside.joined c.self.invariant
@@ -26,9 +26,9 @@ returns-clause-least g c =
     (ap (λ v. v.waiting) c.self.view_is)
     (c.take_out.ensures.least c.self.inside.joined rank c.self.invariant c.choose-key.ensures.first)
 
-pub returns-clause-serves : goal.returns-clause-serves
-returns-clause-serves g c =
+pub returns-clause-fits : goal.returns-clause-fits
+returns-clause-fits g c =
     let stands = λ (w : Waiting). IsCylinderOf c.args.disk.now w.1 w.0.0 in
     let less = taken_more c.self.inside.waiting.entries c.choose-key.result c.self.invariant.numbered c.choose-key.ensures.found in
     subst (AllByRecursion stands) (sym c.take_out.ensures.entries)
-    (all_less _ _ _ less.1 stands (subst (AllByRecursion stands) (sym (ap (λ v. v.waiting) c.self.view_is)) c.requires.serves))
+    (all_less _ _ _ less.1 stands (subst (AllByRecursion stands) (sym (ap (λ v. v.waiting) c.self.view_is)) c.requires.fits))

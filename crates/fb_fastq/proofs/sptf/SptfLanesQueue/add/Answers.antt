@@ -43,7 +43,7 @@ module _ (c : After-self) (spot : ℕ) where
     along_then : IsAlong c.args.disk.now c.args.request spot → AllByRecursion (λ w. IsAlong c.args.disk.now w.1 w.0.0) new
     along_then along = all_more one all new more (λ w. IsAlong c.args.disk.now w.1 w.0.0) along
         (subst (AllByRecursion (λ (w : Waiting). IsAlong c.args.disk.now w.1 w.0.0))
-        (sym (ap (λ v. v.waiting) c.self.view_is)) c.requires.serves)
+        (sym (ap (λ v. v.waiting) c.self.view_is)) c.requires.fits)
 
 pub invariant_of-self-then-not-has_room : goal.invariant_of-self-then-not-has_room
 invariant_of-self-then-not-has_room c =
@@ -61,9 +61,9 @@ returns-then-not-has_room-clause-ok c =
     let at = (goal.at.returns-then-not-has_room-clause-ok c).After-self in
     pending_then at c.along-spot.result _ (beside_rows at c.along-spot.result c.add.new.waiting.entries c.in_ok-add.ensures.entries)
 
-pub returns-then-not-has_room-clause-serves : goal.returns-then-not-has_room-clause-serves
-returns-then-not-has_room-clause-serves c =
-    let at = (goal.at.returns-then-not-has_room-clause-serves c).After-self in
+pub returns-then-not-has_room-clause-fits : goal.returns-then-not-has_room-clause-fits
+returns-then-not-has_room-clause-fits c =
+    let at = (goal.at.returns-then-not-has_room-clause-fits c).After-self in
     along_then at c.along-spot.result _ (beside_rows at c.along-spot.result c.add.new.waiting.entries c.in_ok-add.ensures.entries)
     c.along-spot.ensures
 
@@ -80,9 +80,9 @@ returns-clause-ok c =
     let at = (goal.at.returns-clause-ok c).After-self in
     pending_then at c.along-spot.result _ (beside_map at c.along-spot.result (all_of_rows c.put.new.rows.items) c.in_ok-put.ensures.more)
 
-pub returns-clause-serves : goal.returns-clause-serves
-returns-clause-serves c =
-    let at = (goal.at.returns-clause-serves c).After-self in
+pub returns-clause-fits : goal.returns-clause-fits
+returns-clause-fits c =
+    let at = (goal.at.returns-clause-fits c).After-self in
     along_then at c.along-spot.result _ (beside_map at c.along-spot.result (all_of_rows c.put.new.rows.items) c.in_ok-put.ensures.more)
     c.along-spot.ensures
 
@@ -111,7 +111,7 @@ returns-in_err-add c =
       counted = IfOk-from_err result _ c.from_residual.ensures.0;
       err = on_err result (ap pending_of same);
       not_counted = on_err result (ap (λ v. v.joined) c.self.view_is);
-      serves = subst (AllByRecursion (λ (w : Waiting). IsAlong c.args.disk.now w.1 w.0.0)) (sym same) c.requires.serves;
+      fits = subst (AllByRecursion (λ (w : Waiting). IsAlong c.args.disk.now w.1 w.0.0)) (sym same) c.requires.fits;
     }
 
 -- out of memory for a row
@@ -137,5 +137,5 @@ returns-in_err-put c =
       counted = IfOk-from_err result _ c.from_residual-in_err-put.ensures.0;
       err = on_err result (ap pending_of same);
       not_counted = on_err result (ap (λ v. v.joined) c.self.view_is);
-      serves = subst (AllByRecursion (λ (w : Waiting). IsAlong c.args.disk.now w.1 w.0.0)) (sym same) c.requires.serves;
+      fits = subst (AllByRecursion (λ (w : Waiting). IsAlong c.args.disk.now w.1 w.0.0)) (sym same) c.requires.fits;
     }

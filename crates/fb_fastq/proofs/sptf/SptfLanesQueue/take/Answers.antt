@@ -14,7 +14,7 @@ spots : (c : After-self)
     (c.self.inside.overflow.entries ++ all_of_rows c.self.inside.rows.items)
 spots c =
     subst (AllByRecursion (λ (w : Waiting). IsAlong c.args.disk.now w.1 w.0.0))
-    (sym (ap (λ v. v.waiting) c.self.view_is)) c.requires.serves
+    (sym (ap (λ v. v.waiting) c.self.view_is)) c.requires.fits
 
 -- what was looked for from the departure was looked for from the head's track
 picked : (c : After-soonest_in_rows-pick)
@@ -172,16 +172,16 @@ returns-in-Some-clause-least c =
     (least_more w (entries ++ all_of_rows new) (entries ++ all_of_rows inside.rows.items)
     (more_left w (all_of_rows new) (all_of_rows inside.rows.items) less entries) rank c.self.invariant.0.numbers.numbered first))
 
-pub returns-in-Some-clause-serves : goal.returns-in-Some-clause-serves
-returns-in-Some-clause-serves c =
-    let at = in_rows ((goal.at.returns-in-Some-clause-serves c).After-soonest_in_rows-pick) c.in-Some.position c.in-Some.is in
+pub returns-in-Some-clause-fits : goal.returns-in-Some-clause-fits
+returns-in-Some-clause-fits c =
+    let at = in_rows ((goal.at.returns-in-Some-clause-fits c).After-soonest_in_rows-pick) c.in-Some.position c.in-Some.is in
     let inside = c.self.inside in
     let new = c.free_if_empty.new.rows.items in
     let entries = inside.overflow.entries in
-    let less = one_less ((goal.at.returns-in-Some-clause-serves c).After-free_if_empty) at.waiting at.there in
+    let less = one_less ((goal.at.returns-in-Some-clause-fits c).After-free_if_empty) at.waiting at.there in
     all_less at.waiting (entries ++ all_of_rows new) (entries ++ all_of_rows inside.rows.items)
     (more_left at.waiting (all_of_rows new) (all_of_rows inside.rows.items) less entries)
-    (λ w. IsAlong c.args.disk.now w.1 w.0.0) (spots ((goal.at.returns-in-Some-clause-serves c).After-self))
+    (λ w. IsAlong c.args.disk.now w.1 w.0.0) (spots ((goal.at.returns-in-Some-clause-fits c).After-self))
 
 pub returns-in-None-clause-least : goal.returns-in-None-clause-least
 returns-in-None-clause-least c =
@@ -207,18 +207,18 @@ returns-in-None-clause-least c =
     (least_more w (new ++ rows) (map.entries ++ rows)
     (more_right w new map.entries less rows) rank c.self.invariant.0.numbers.numbered first))
 
-pub returns-in-None-clause-serves : goal.returns-in-None-clause-serves
-returns-in-None-clause-serves c =
+pub returns-in-None-clause-fits : goal.returns-in-None-clause-fits
+returns-in-None-clause-fits c =
     let inside = c.self.inside in
     let map = inside.overflow in
     let new = c.take_out.new.waiting.entries in
     let rows = all_of_rows inside.rows.items in
     let key = c.soonest_in_map-from_map.result.key in
-    let is = of_map ((goal.at.returns-in-None-clause-serves c).After-soonest_in_rows-pick) c.in-None.is in
+    let is = of_map ((goal.at.returns-in-None-clause-fits c).After-soonest_in_rows-pick) c.in-None.is in
     let w : Waiting = (key, is.request) in
     let apart = numbered_left map.entries rows c.self.invariant.0.numbers.numbered in
     let less =
     subst (λ es. IsMore w es map.entries) (sym c.take_out.ensures.entries)
     (remove_more w map.entries apart (held_is_in key.0 key.1 is.request map.entries is.waits)) in
     all_less w (new ++ rows) (map.entries ++ rows) (more_right w new map.entries less rows) (λ x. IsAlong c.args.disk.now x.1 x.0.0)
-    (spots ((goal.at.returns-in-None-clause-serves c).After-self))
+    (spots ((goal.at.returns-in-None-clause-fits c).After-self))
