@@ -3,8 +3,8 @@ use Rattle.std.proofs.lemmas.Result.{on_ok_weaker}
 use Rattle.fb_model.specs.Deliveries.{carried_of, delivery_row, carried_rows}
 use Rattle.fb_rows.specs.declared.gap.How.TheVariants.{Ride as ByRide}
 use Rattle.fb_wanted.specs.States.{wanted_of}
-use Rattle.fb_model.specs.History.{wanted}
-use Rattle.fb_decide.specs.Deliveries.{HasDelivered, AreDistinct, AreDeliverable, held_now}
+use Rattle.fb_model.specs.History.{Past, wanted}
+use Rattle.fb_decide.specs.Deliveries.{TellsUpToDate, HasDelivered, AreDistinct, AreDeliverable, held_now}
 use Rattle.fb_service.specs.declared.disk.Disk.{Disk}
 use Rattle.fb_service.specs.declared.service.Service.{Service}
 use Rattle.fb_service.specs.Extents.{all_passages_of}
@@ -16,6 +16,7 @@ use Rattle.fb_decide.proofs.Placing.{wanted-distinct}
 use Rattle.fb_decide.proofs.Delivering.{fits-told, wanted-told}
 use Rattle.fb_decide.proofs.Extents.{laid, laid_within}
 use Rattle.fb_decide.proofs.Carrying.{rows-carried, due-carried, all-extents}
+use Rattle.fb_decide.proofs.background.Background.ride.Goals.{After-as_slice}
 use Rattle.fb_decide.proofs.background.Background.ride.Goals as goal
 
 -- the extents of the service lie end to end over the request
@@ -47,35 +48,32 @@ pub carried-requires-clause-distinct : goal.carried-requires-clause-distinct
 carried-requires-clause-distinct c =
     subst AreDistinct (sym (wanted-told c.requires.current.1.tells)) (wanted-distinct c.requires.current.1.tells)
 
+-- the rows of what was found are those of what is carried
+rows : (c : After-as_slice) (past : Past) → TellsUpToDate c.args.disk.now.map past c.args.self.now
+    → map (delivery_row (held_now c.args.store.now) ByRide) c.as_slice.result.now
+    ≡ carried_rows (held_now c.args.store.now) (served_from c.args.disk.now c.args.start) (wanted past)
+rows c past current =
+    let served = served_from c.args.disk.now c.args.start in
+    ap (map (delivery_row (held_now c.args.store.now) ByRide)) (c.as_slice.ensures.value ∙ c.in_ok-catches.ensures
+    ∙ ap (λ ps. carried_of ps c.args.start.request (wanted_of c.args.self.now.blocks))
+    (ap (all_passages_of c.args.disk.now.map) c.as_slice-extents.ensures ∙ c.requires.service.passages)
+    ∙ ap (carried_of served.passages c.args.start.request) (wanted-told current.tells))
+    ∙ rows-carried c.args.store.now served (wanted past) c.if-start.false
+
+-- and may be delivered
+due : (c : After-as_slice) (past : Past) → TellsUpToDate c.args.disk.now.map past c.args.self.now
+    → AreDeliverable past (map (delivery_row (held_now c.args.store.now) ByRide) c.as_slice.result.now)
+due c past current = subst (AreDeliverable past) (sym (rows c past current))
+    (due-carried c.args.store.now (served_from c.args.disk.now c.args.start) past c.if-start.false (wanted-distinct current.tells))
+
 pub deliver_all-requires : goal.deliver_all-requires
 deliver_all-requires c =
     let past = c.requires.current.0 in
     let current = c.requires.current.1 in
-    let served = served_from c.args.disk.now c.args.start in
-    let rows : map (delivery_row (held_now c.args.store.now) ByRide) c.as_slice.result.now
-    ≡ carried_rows (held_now c.args.store.now) served (wanted past) =
-    ap (map (delivery_row (held_now c.args.store.now) ByRide)) (c.as_slice.ensures.value ∙ c.in_ok-catches.ensures
-    ∙ ap (λ ps. carried_of ps c.args.start.request (wanted_of c.args.self.now.blocks))
-    (ap (all_passages_of c.args.disk.now.map) c.as_slice-extents.ensures ∙ c.requires.service.passages)
-    ∙ ap (carried_of served.passages c.args.start.request) (wanted-told current.tells))
-    ∙ rows-carried c.args.store.now served (wanted past) c.if-start.false in (
-      c.args.disk.now.map,
-      past,
-      current,
-      subst (AreDeliverable past) (sym rows) (due-carried c.args.store.now served past c.if-start.false (wanted-distinct current.tells)),
-    )
+    (c.args.disk.now.map, past, current, due (goal.at.deliver_all-requires c).After-as_slice past current)
 
 pub returns : goal.returns
 returns c = on_ok_weaker c.deliver_all.result (λ all past current.
-    let served = served_from c.args.disk.now c.args.start in
-    let rows : map (delivery_row (held_now c.args.store.now) ByRide) c.as_slice.result.now
-    ≡ carried_rows (held_now c.args.store.now) served (wanted past) =
-    ap (map (delivery_row (held_now c.args.store.now) ByRide)) (c.as_slice.ensures.value ∙ c.in_ok-catches.ensures
-    ∙ ap (λ ps. carried_of ps c.args.start.request (wanted_of c.args.self.now.blocks))
-    (ap (all_passages_of c.args.disk.now.map) c.as_slice-extents.ensures ∙ c.requires.service.passages)
-    ∙ ap (carried_of served.passages c.args.start.request) (wanted-told current.tells))
-    ∙ rows-carried c.args.store.now served (wanted past) c.if-start.false in
-    subst (λ gots. HasDelivered c.args.disk.now.map past gots c.args.self.now.rows c.deliver_all.new.self) rows
-    (all c.args.disk.now.map past current
-    (subst (AreDeliverable past) (sym rows) (due-carried c.args.store.now served past c.if-start.false (wanted-distinct current.tells)))))
-    c.deliver_all.ensures
+    let at = (goal.at.returns c).After-as_slice in
+    subst (λ gots. HasDelivered c.args.disk.now.map past gots c.args.self.now.rows c.deliver_all.new.self) (rows at past current)
+    (all c.args.disk.now.map past current (due at past current))) c.deliver_all.ensures
