@@ -14,7 +14,7 @@ use Rattle.fb_model.specs.Content.{medium_of}
 use Rattle.fb_model.specs.Decisions.{decisions, run_end}
 use Rattle.fb_model.specs.Steps.{Step, decision_in, decisions_in, history, step_rows, task_rows}
 use Rattle.fb_model.specs.FullRun.{IsFull}
-use Rattle.fb_decide.specs.State.{State}
+use Rattle.fb_decide.specs.RunState.{RunState}
 use Rattle.fb_decide.specs.Making.{fore_row_of, decisions_by, rest_of, HasMade, HasMadeOne, decisions_left}
 use Rattle.fb_report.specs.declared.byte_mode.ByteMode.{ByteMode}
 use Rattle.fb_report.specs.declared.reading.Report.{Report}
@@ -96,7 +96,7 @@ apart report f b = back_fore (sym f ∙ b)
 
 module _ (inputs : Inputs) (printed : Reports) where
   -- before the first decision
-  pub at_first : (state : State) (fore back : Comparison)
+  pub at_first : (state : RunState) (fore back : Comparison)
       → HasMade inputs true [] state → state.course.fore ≡ [] → state.course.background.rows ≡ []
       → HasComparedFore inputs.disk.sector_bytes printed.bytes printed.fore fore []
       → HasComparedBack printed.names inputs.disk.sector_bytes printed.bytes printed.back back [] → CanCompare fore → CanCompare back
@@ -116,12 +116,12 @@ module _ (inputs : Inputs) (printed : Reports) where
   }
 
   -- where another decision follows, and where none does
-  pub going : (more was : Bool) (state : State) (fore back : Comparison)
+  pub going : (more was : Bool) (state : RunState) (fore back : Comparison)
       → was ≡ more → HasJudged inputs printed was state fore back → HasJudged inputs printed more state fore back
   going more was state fore back e judged = subst (λ b. HasJudged inputs printed b state fore back) e judged
 
   -- a wrong foreground line
-  pub fore_wrong : DecisionsMakeARun → (more : Bool) (steps : List Step) (state : State)
+  pub fore_wrong : DecisionsMakeARun → (more : Bool) (steps : List Step) (state : RunState)
       (rows : List ForeRow) (back : List BackRow) (fore : Comparison) (mismatch : Mismatch)
       → HasMade inputs more steps state → AreRowsOf inputs steps rows back
       → HasComparedFore inputs.disk.sector_bytes printed.bytes printed.fore fore rows → fore.wrong ≡ Some mismatch
@@ -137,7 +137,7 @@ module _ (inputs : Inputs) (printed : Reports) where
       )
 
 -- how many decisions are left follows from those that have been made
-same_left : (inputs : Inputs) (more : Bool) (steps : List Step) (state now : State)
+same_left : (inputs : Inputs) (more : Bool) (steps : List Step) (state now : RunState)
     → HasMade inputs more steps state → HasMade inputs more steps now → decisions_left inputs more now ≡ decisions_left inputs more state
 same_left inputs true steps state now made after =
     omega (
@@ -149,7 +149,7 @@ same_left inputs true steps state now made after =
     )
 same_left inputs false steps state now made after = refl
 
-module _ (inputs : Inputs) (printed : Reports) (more : Bool) (before after : State) (fore back : Comparison)
+module _ (inputs : Inputs) (printed : Reports) (more : Bool) (before after : RunState) (fore back : Comparison)
     (judged : HasJudged inputs printed true before fore back)
     (one : HasMadeOne inputs judged.steps more before after) where
   pub fore_taken : (taken : List ForeRow) → taken ≡ after.course.fore → taken ≡ fore_row_of (medium_of inputs) (decision_in one.step)
@@ -163,7 +163,7 @@ module _ (inputs : Inputs) (printed : Reports) (more : Bool) (before after : Sta
   back_named names taken n e =
       rw n (subst (AllByRecursion (HasTaskBelow (length (allowed.tasks inputs.calls)))) (sym (back_taken taken e)) one.back_fits)
 
-  pub less : (was : Bool) → was ≡ true → (now : State) → HasMade inputs more (judged.steps ++ one.step ∷ []) now
+  pub less : (was : Bool) → was ≡ true → (now : RunState) → HasMade inputs more (judged.steps ++ one.step ∷ []) now
       → decisions_left inputs more now < decisions_left inputs was before
   less was e now made =
       let fewer = one.fewer in
@@ -192,7 +192,7 @@ module _ (inputs : Inputs) (printed : Reports) (more : Bool) (before after : Sta
         mismatch one.made more_rows (compared taken fore_after e h) wrong
 
     -- one more decision
-    pub next : (now : State) → HasMade inputs more (judged.steps ++ one.step ∷ []) now
+    pub next : (now : RunState) → HasMade inputs more (judged.steps ++ one.step ∷ []) now
         → now.course.fore ≡ [] → now.course.background.rows ≡ []
         → (fore_new : List ForeRow) (back_new : List BackRow) → fore_new ≡ after.course.fore → back_new ≡ after.course.background.rows
         → (fore_after back_after : Comparison)
@@ -221,7 +221,7 @@ pub none_by : (wrong : Option Mismatch) → ((mismatch : Mismatch) → wrong ≡
 none_by None h = refl
 none_by (Some mismatch) h = absurd (h mismatch refl)
 
-module _ (inputs : Inputs) (printed : Reports) (state : State) (fore back : Comparison)
+module _ (inputs : Inputs) (printed : Reports) (state : RunState) (fore back : Comparison)
     (judged : HasJudged inputs printed false state fore back) where
   abbrev due_fore : List (List ℕ)
   due_fore = fore_first ∷ map (fore_line inputs.disk.sector_bytes printed.bytes) judged.fore_rows

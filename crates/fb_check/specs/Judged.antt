@@ -3,7 +3,7 @@ use Rattle.std.specs.Prelude.{◌≡◌, List, [], Bool}
 use Rattle.fb_rows.specs.declared.fore.ForeRow.{ForeRow}
 use Rattle.fb_rows.specs.declared.back.BackRow.{BackRow}
 use Rattle.fb_model.specs.Inputs.{Inputs}
-use Rattle.fb_decide.specs.State.{State}
+use Rattle.fb_decide.specs.RunState.{RunState}
 use Rattle.fb_model.specs.Steps.{Step}
 use Rattle.fb_decide.specs.Making.{HasMade}
 use Rattle.fb_check.specs.declared.comparing.Comparison.{Comparison}
@@ -12,7 +12,7 @@ use Rattle.fb_check.specs.Verdict.{Reports}
 use Rattle.fb_check.specs.Comparing.{CanCompare, HasComparedFore, HasComparedBack}
 
 -- these steps have been made, their rows were taken out, and the lines of the rows were compared
-pub record HasJudged (inputs : Inputs) (printed : Reports) (more : Bool) (state : State) (fore back : Comparison) : Type 0 where
+pub record HasJudged (inputs : Inputs) (printed : Reports) (more : Bool) (state : RunState) (fore back : Comparison) : Type 0 where
   pub steps : List Step
   pub made : HasMade inputs more steps state
   pub no_fore : state.course.fore ≡ []

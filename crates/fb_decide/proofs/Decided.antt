@@ -18,7 +18,7 @@ use Rattle.fb_service.specs.declared.disk.Disk.{Disk}
 use Rattle.fb_model.specs.PlainReplay.{Key, better, first_least, first_ready, start_of, service, finish, last_track, plain}
 use Rattle.fb_model.specs.PlainReplay.{Served}
 use Rattle.fb_model.specs.Accepted.{IsRequestOf}
-use Rattle.fb_decide.specs.State.{State}
+use Rattle.fb_decide.specs.RunState.{RunState}
 use Rattle.fb_decide.specs.Waiting.{left, IsWaiting, AreByArrival}
 use Rattle.fb_decide.specs.declared.deciding.Course.{Course}
 use Rattle.fb_model.specs.Laws.{IsFirstLeast, IsPickOf}
@@ -116,12 +116,12 @@ pub taken_ready : (key : Request → ℕ) (now : ℕ) (ps qs : List Request) (r 
 taken_ready key now ps qs r rest here ahead e = ready_waiting key now ps qs here ahead ∙ ap (option_map (with_rest qs)) e
 
 -- requests that have arrived join those that wait
-pub join_waiting : {disk : Disk} {before : State} {course : Course} {waiting : List Request} {joined : ℕ}
+pub join_waiting : {disk : Disk} {before : RunState} {course : Course} {waiting : List Request} {joined : ℕ}
     → IsWaiting disk before
     → course.joined ≤ length before.requests → joined ≡ course.joined
-    → left before.requests course.joined waiting ≡ left before.requests before.course.joined before.waiting
+    → left before.requests course.joined waiting ≡ left before.requests before.course.joined before.pending
     → AllByRecursion (λ r. r.arrival ≤ course.now) waiting
-    → IsWaiting disk (record before { course = course; waiting = waiting; counted = joined })
+    → IsWaiting disk (record before { course = course; pending = waiting; joined = joined })
 join_waiting {disk} h within counted same arrived = record {
   within = within;
   counted = counted;
@@ -137,13 +137,13 @@ next_joined requests before after i d within is =
     ∙ ap (λ rs. before ++ rs) (sym (drop_more requests i d within)))
 
 -- where none waits, the same is so at any other instant
-pub still_waiting : {disk : Disk} {before : State} {course : Course} → IsWaiting disk before → course.joined ≡ before.course.joined
-    → before.waiting ≡ [] → IsWaiting disk (record before { course = course })
+pub still_waiting : {disk : Disk} {before : RunState} {course : Course} → IsWaiting disk before → course.joined ≡ before.course.joined
+    → before.pending ≡ [] → IsWaiting disk (record before { course = course })
 still_waiting {disk} {before} {course} h same none = record {
   within = subst (λ n. n ≤ length before.requests) (sym same) h.within;
   counted = h.counted ∙ sym same;
   arrived = subst (AllByRecursion (λ r. r.arrival ≤ course.now)) (sym none) tt;
-  on_disk = subst (λ n. AllByRecursion (IsRequestOf disk.map) (left before.requests n before.waiting)) (sym same) h.on_disk;
+  on_disk = subst (λ n. AllByRecursion (IsRequestOf disk.map) (left before.requests n before.pending)) (sym same) h.on_disk;
 }
 
 -- nothing is left, so nothing follows

@@ -33,7 +33,7 @@ use Rattle.fb_model.specs.Accepted.{IsRequestOf}
 use Rattle.fb_model.specs.History.{Past}
 use Rattle.fb_model.proofs.Instants.{IsAmong}
 use Rattle.fb_decide.specs.declared.background.Background.{Background}
-use Rattle.fb_decide.specs.State.{State}
+use Rattle.fb_decide.specs.RunState.{RunState}
 use Rattle.fb_decide.specs.Waiting.{left, IsWaiting, AreByArrival}
 use Rattle.fb_decide.specs.Deciding.{next_of, dwell_until, ready_to_act, HasServedNext, HasStayed, HasActed, serves_pick, stays_on}
 use Rattle.fb_decide.specs.Deciding.{stays_last, ends_here, IsReadyToAct, HasDecided}
@@ -120,7 +120,7 @@ stays_replayed latent whole done rest now holding later now' holding' so_far sam
 }
 
 -- a decision leads on
-pub record LeadsOn (inputs : Inputs) (steps : List Step) (more : Bool) (before after : State) : Type 0 where
+pub record LeadsOn (inputs : Inputs) (steps : List Step) (more : Bool) (before after : RunState) : Type 0 where
   pub step : Step
   pub stepped : HasStepped inputs (history inputs steps) before.course step after.course
   pub fore : after.course.fore ≡ before.course.fore ++ fore_row_of (medium_of inputs) (decision_in step)
@@ -128,8 +128,8 @@ pub record LeadsOn (inputs : Inputs) (steps : List Step) (more : Bool) (before a
   pub fewer : decisions_left inputs more after < decisions_left inputs true before
 
 -- where a replay of these inputs stands
-abbrev standing : Inputs → Course → List Request → ℕ → State
-standing inputs course waiting joined = record { requests = requests inputs; course = course; waiting = waiting; counted = joined }
+abbrev standing : Inputs → Course → List Request → ℕ → RunState
+standing inputs course waiting joined = record { requests = requests inputs; course = course; pending = waiting; joined = joined }
 
 -- ---- from one decision to the next
 
@@ -138,7 +138,7 @@ module _ (inputs : Inputs) (known : AreKnown inputs) (before : Course) (pending 
     (background : Background) (joined called : ℕ) (waiting : List Request) (queued : ℕ)
     (ready : IsReadyToAct inputs (history inputs steps) (standing inputs before pending count)
     (standing inputs (ready_to_act before background joined called) waiting queued)) where
-  abbrev state : State
+  abbrev state : RunState
   state = standing inputs before pending count
 
   abbrev step_of : Act → List DeliveryRow → Step
@@ -496,7 +496,7 @@ module _ (inputs : Inputs) (known : AreKnown inputs) (before : Course) (pending 
       }
 
   -- whatever is done
-  by_action : (goes_on : Bool) (after : State)
+  by_action : (goes_on : Bool) (after : RunState)
       → HasActed inputs (standing inputs (ready_to_act before background joined called) waiting queued) goes_on after
       → (goes_on ≡ true → IsWaiting inputs.disk after) → LeadsOn inputs steps goes_on state after
   by_action goes_on after (serves_pick request course others pick now_served) waits =
@@ -506,7 +506,7 @@ module _ (inputs : Inputs) (known : AreKnown inputs) (before : Course) (pending 
   by_action goes_on after (ends_here empty next over) waits = leads_to_end empty next over
 
 -- what is ready differs from what stood before just in what it says
-ready_is : {inputs : Inputs} {past : Past} {before ready : State} → IsReadyToAct inputs past before ready
+ready_is : {inputs : Inputs} {past : Past} {before ready : RunState} → IsReadyToAct inputs past before ready
     → ready ≡ record ready {
       requests = before.requests;
       course = ready_to_act before.course ready.course.background ready.course.joined ready.course.called;
@@ -515,7 +515,7 @@ ready_is {before = before} {ready = ready} is = ap (λ list. record ready { requ
     ∙ ap (λ course. record ready { requests = before.requests; course = course }) is.same
 
 -- one decision leads on from where the run had come to
-pub decided_more : (inputs : Inputs) (steps : List Step) (goes_on : Bool) (before after : State) → AreKnown inputs
+pub decided_more : (inputs : Inputs) (steps : List Step) (goes_on : Bool) (before after : RunState) → AreKnown inputs
     → before.requests ≡ requests inputs → GoesOn inputs before steps → HasDecided inputs (history inputs steps) before goes_on after
     → (goes_on ≡ true → IsWaiting inputs.disk after) → LeadsOn inputs steps goes_on before after
 decided_more inputs steps goes_on before after known requests_are =
@@ -526,7 +526,7 @@ decided_more inputs steps goes_on before after known requests_are =
     (λ so_far decided waits.
     let ready = decided.ready in
     let is = decided.is_ready in
-    by_action inputs known before.course before.waiting before.counted steps so_far ready.course.background ready.course.joined
-    ready.course.called ready.waiting ready.counted
-    (subst (IsReadyToAct inputs (history inputs steps) (standing inputs before.course before.waiting before.counted)) (ready_is is) is)
+    by_action inputs known before.course before.pending before.joined steps so_far ready.course.background ready.course.joined
+    ready.course.called ready.pending ready.joined
+    (subst (IsReadyToAct inputs (history inputs steps) (standing inputs before.course before.pending before.joined)) (ready_is is) is)
     goes_on after (subst (λ ready. HasActed inputs ready goes_on after) (ready_is is) decided.acted) waits)

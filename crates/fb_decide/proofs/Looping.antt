@@ -19,7 +19,7 @@ use Rattle.fb_model.specs.Laws.{ForegroundListsAscend}
 use Rattle.fb_model.proofs.Passages.{all_requests}
 use Rattle.fb_decide.specs.declared.run_inputs.RunInputs.{RunInputs}
 use Rattle.fb_decide.specs.RunInputs.{inputs_of}
-use Rattle.fb_decide.specs.State.{State}
+use Rattle.fb_decide.specs.RunState.{RunState}
 use Rattle.fb_decide.specs.Waiting.{IsForegroundOf, IsWaiting}
 use Rattle.fb_decide.proofs.Replayed.{in_order}
 use Rattle.fb_rows.specs.declared.fore.ForeRow.{ForeRow}
@@ -79,7 +79,7 @@ listed inputs lists accepted = record {
 
 begins : (inputs : Inputs) (course : Course) (waiting : List Request) (joined : ℕ) → AreKnown inputs → IsInitial inputs.latent course
     → waiting ≡ [] → joined ≡ 0
-    → GoesOn inputs (record { requests = requests inputs; course = course; waiting = waiting; counted = joined }) []
+    → GoesOn inputs (record { requests = requests inputs; course = course; pending = waiting; joined = joined }) []
 unfolding decisions served
 begins inputs course waiting joined known begin none zero_joined = record {
   run = record {
@@ -117,31 +117,31 @@ known_inputs inputs accepted lists sound takes_time = record {
   takes_time = takes_time;
 }
 
-pub made_first : (inputs : Inputs) (state : State) → AreKnown inputs → state.requests ≡ requests inputs
-    → IsInitial inputs.latent state.course → state.waiting ≡ [] → state.counted ≡ 0 → HasMade inputs true [] state
+pub made_first : (inputs : Inputs) (state : RunState) → AreKnown inputs → state.requests ≡ requests inputs
+    → IsInitial inputs.latent state.course → state.pending ≡ [] → state.joined ≡ 0 → HasMade inputs true [] state
 made_first inputs state known requests_are begin none zero_joined = record {
   known = known;
   requests_are = requests_are;
   come_to = subst (λ list. GoesOn inputs (record state { requests = list }) []) (sym requests_are)
-      (begins inputs state.course state.waiting state.counted known begin none zero_joined);
+      (begins inputs state.course state.pending state.joined known begin none zero_joined);
 }
 
 -- so with an equal list of requests
-pub made_with : {inputs : Inputs} {more : Bool} {steps : List Step} {state : State} (list : List Request) → list ≡ state.requests
+pub made_with : {inputs : Inputs} {more : Bool} {steps : List Step} {state : RunState} (list : List Request) → list ≡ state.requests
     → HasMade inputs more steps state → HasMade inputs more steps (record state { requests = list })
 made_with {inputs} {more} {steps} {state} list same =
     subst (λ list. HasMade inputs more steps (record state { requests = list })) (sym same)
 
-pub made_one_with : {inputs : Inputs} {steps : List Step} {more : Bool} {before : State} {course : Course} {waiting : List Request}
+pub made_one_with : {inputs : Inputs} {steps : List Step} {more : Bool} {before : RunState} {course : Course} {waiting : List Request}
     {joined : ℕ} (list : List Request) → list ≡ before.requests
     → HasMadeOne inputs steps more (record before { requests = list })
-    (record { requests = list; course = course; waiting = waiting; counted = joined })
-    → HasMadeOne inputs steps more before (record before { course = course; waiting = waiting; counted = joined })
+    (record { requests = list; course = course; pending = waiting; joined = joined })
+    → HasMadeOne inputs steps more before (record before { course = course; pending = waiting; joined = joined })
 made_one_with {inputs} {steps} {more} {before} {course} {waiting} {joined} list same = subst (λ list. HasMadeOne inputs steps more
-    (record before { requests = list }) (record { requests = list; course = course; waiting = waiting; counted = joined })) same
+    (record before { requests = list }) (record { requests = list; course = course; pending = waiting; joined = joined })) same
 
 -- what stands before a decision is as the next one asks
-module _ (inputs : Inputs) (steps : List Step) (before : State) (made : HasMade inputs true steps before) where
+module _ (inputs : Inputs) (steps : List Step) (before : RunState) (made : HasMade inputs true steps before) where
   pub now_may_decide : MayDecide inputs before
   now_may_decide = record {
     requests = subst (IsForegroundOf inputs.disk) (sym made.requests_are) made.known.list;
@@ -156,7 +156,7 @@ module _ (inputs : Inputs) (steps : List Step) (before : State) (made : HasMade 
       × Tells inputs.disk.map past before.course.background.sessions before.course.background.blocks
   now_called = (history inputs steps, made.come_to.called, made.come_to.run.tells)
 
-  module _ (goes_on : Bool) (after : State) (same : after.requests ≡ before.requests)
+  module _ (goes_on : Bool) (after : RunState) (same : after.requests ≡ before.requests)
       (decided : (past : Past) → IsCalled inputs.disk.map inputs.calls past before.course.called
       → Tells inputs.disk.map past before.course.background.sessions before.course.background.blocks
       → HasDecided inputs past before goes_on after)
@@ -179,18 +179,18 @@ module _ (inputs : Inputs) (steps : List Step) (before : State) (made : HasMade 
     }
 
 -- at the end the tasks' rows fit too
-pub ended_fits : (inputs : Inputs) (steps : List Step) (state : State) → HasMade inputs false steps state
+pub ended_fits : (inputs : Inputs) (steps : List Step) (state : RunState) → HasMade inputs false steps state
     → AllByRecursion (HasTaskBelow (length (allowed.tasks inputs.calls))) (task_rows (history inputs steps))
 ended_fits inputs steps state made = tasks_fit (length (allowed.tasks inputs.calls)) (history inputs steps)
     (fits-told inputs.disk.map inputs.calls (history inputs steps) state.course.called state.course.background.sessions
     state.course.background.blocks made.come_to.run.tells made.come_to.calls_made)
 
 -- rows can be taken between two decisions
-abbrev pub without : State → List ForeRow → List BackRow → State
+abbrev pub without : RunState → List ForeRow → List BackRow → RunState
 without state fore rows =
     record state { course = record state.course { fore = fore; background = record state.course.background { rows = rows } } }
 
-come_without : (inputs : Inputs) (more : Bool) (steps : List Step) (state : State) (fore : List ForeRow) (rows : List BackRow)
+come_without : (inputs : Inputs) (more : Bool) (steps : List Step) (state : RunState) (fore : List ForeRow) (rows : List BackRow)
     → HasComeTo inputs more state steps → HasComeTo inputs more (without state fore rows) steps
 come_without inputs true steps state fore rows h = record {
   run = record { done = h.run.done; replayed = h.run.replayed; tells = h.run.tells; finds = h.run.finds; ends_at = h.run.ends_at };
@@ -211,13 +211,13 @@ come_without inputs false steps state fore rows h = record {
   early = h.early;
 }
 
-pub made_without : (inputs : Inputs) (more : Bool) (steps : List Step) (state : State) (fore : List ForeRow) (rows : List BackRow)
+pub made_without : (inputs : Inputs) (more : Bool) (steps : List Step) (state : RunState) (fore : List ForeRow) (rows : List BackRow)
     → HasMade inputs more steps state → HasMade inputs more steps (without state fore rows)
 made_without inputs more steps state fore rows h =
     record { known = h.known; requests_are = h.requests_are; come_to = come_without inputs more steps state fore rows h.come_to }
 
 -- of inputs that are the same, a decision makes the same
-pub one_by : {held inputs : RunInputs} {key : Key} {more : Bool} {before after : State} → held ≡ inputs
+pub one_by : {held inputs : RunInputs} {key : Key} {more : Bool} {before after : RunState} → held ≡ inputs
     → ((steps : List Step) → HasMade (inputs_of held key) true steps before → HasMadeOne (inputs_of held key) steps more before after)
     → (steps : List Step) → HasMade (inputs_of inputs key) true steps before → HasMadeOne (inputs_of inputs key) steps more before after
 one_by {key = key} {more} {before} {after} = subst (λ inputs. (steps : List Step) → HasMade (inputs_of inputs key) true steps before

@@ -24,7 +24,7 @@ use Rattle.fb_model.specs.Deliveries.{caught_rows}
 use Rattle.fb_decide.specs.declared.background.Background.{Background}
 use Rattle.fb_decide.specs.declared.deciding.Course.{Course}
 use Rattle.fb_decide.specs.Contents.{left_by, IsRowOf}
-use Rattle.fb_decide.specs.State.{State}
+use Rattle.fb_decide.specs.RunState.{RunState}
 use Rattle.fb_decide.specs.Waiting.{left, IsWaiting, IsForegroundOf}
 use Rattle.fb_decide.specs.Deliveries.{TellsUpToDate, HasDelivered, HasServed, held_now}
 use Rattle.fb_decide.specs.Calls.{HasPrepared, IsScriptOf}
@@ -85,26 +85,26 @@ pub record HasStayed (disk : Disk) (instant : ℕ) (before after : Course) : Typ
   pub same_called : after.called ≡ before.called
 
 -- the next instant at which a request arrives or a call takes effect
-abbrev pub next_instant : Inputs → State → Option ℕ
+abbrev pub next_instant : Inputs → RunState → Option ℕ
 next_instant inputs state = next_of (slice_get state.requests state.course.joined) (slice_get inputs.calls state.course.called)
 
 -- what a decision does: the pick of the waiting requests is served, or the head stays until the next instant or the end;
 -- another decision follows each but the last
-pub data HasActed (inputs : Inputs) (before : State) : Bool → State → Type 0 where
+pub data HasActed (inputs : Inputs) (before : RunState) : Bool → RunState → Type 0 where
   serves_pick : (request : Request) (course : Course) (others : List Request)
-      → first_least (inputs.key inputs.disk before.course.head before.course.now) before.waiting ≡ Some (request, others)
+      → first_least (inputs.key inputs.disk before.course.head before.course.now) before.pending ≡ Some (request, others)
       → HasServedNext inputs.disk request before.course course
-      → HasActed inputs before true (record before { course = course; waiting = others })
-  stays_on : (instant : ℕ) (course : Course) → before.waiting ≡ [] → next_instant inputs before ≡ Some instant
+      → HasActed inputs before true (record before { course = course; pending = others })
+  stays_on : (instant : ℕ) (course : Course) → before.pending ≡ [] → next_instant inputs before ≡ Some instant
       → HasStayed inputs.disk instant before.course course → HasActed inputs before true (record before { course = course })
-  stays_last : (course : Course) → before.waiting ≡ [] → next_instant inputs before ≡ None → before.course.now < inputs.until
+  stays_last : (course : Course) → before.pending ≡ [] → next_instant inputs before ≡ None → before.course.now < inputs.until
       → HasStayed inputs.disk inputs.until before.course course → HasActed inputs before false (record before { course = course })
-  ends_here : before.waiting ≡ [] → next_instant inputs before ≡ None → inputs.until ≤ before.course.now
+  ends_here : before.pending ≡ [] → next_instant inputs before ≡ None → inputs.until ≤ before.course.now
       → HasActed inputs before false before
 
 -- what must stand before a decision: requests and calls that a replay can have, of which those that wait have arrived, and a head that
 -- is on a track of the disk, so early that one more service ends by 9 * 10^18 ns
-pub record MayDecide (inputs : Inputs) (state : State) : Type 0 where
+pub record MayDecide (inputs : Inputs) (state : RunState) : Type 0 where
   pub requests : IsForegroundOf inputs.disk state.requests
   pub script : IsScriptOf inputs.disk.map inputs.calls
   pub waiting : IsWaiting inputs.disk state
@@ -117,19 +117,19 @@ abbrev pub ready_to_act : Course → Background → ℕ → ℕ → Course
 ready_to_act course background joined called = record course { background = background; joined = joined; called = called }
 
 -- all that is due at an instant has happened: calls have taken effect, with choices and tests, and the requests that have arrived wait
-pub record IsReadyToAct (inputs : Inputs) (past : Past) (before ready : State) : Type 0 where
+pub record IsReadyToAct (inputs : Inputs) (past : Past) (before ready : RunState) : Type 0 where
   -- nothing but the background and these counts has changed of the course
   pub same : ready.course ≡ ready_to_act before.course ready.course.background ready.course.joined ready.course.called
   pub same_requests : ready.requests ≡ before.requests
   pub test : HasPrepared inputs.disk.map inputs.calls past before.course.now ready.course.called before.course.background.rows
       ready.course.background
-  pub same_left : left before.requests ready.course.joined ready.waiting ≡ left before.requests before.course.joined before.waiting
+  pub same_left : left before.requests ready.course.joined ready.pending ≡ left before.requests before.course.joined before.pending
   pub come : AllByRecursion (λ r. r.arrival ≤ before.course.now) (take ready.course.joined before.requests)
-  pub arrived : AllByRecursion (λ r. r.arrival ≤ before.course.now) ready.waiting
+  pub arrived : AllByRecursion (λ r. r.arrival ≤ before.course.now) ready.pending
   pub ahead : IfSome (slice_get before.requests ready.course.joined) (λ r. before.course.now < r.arrival)
 
 -- one decision
-pub record HasDecided (inputs : Inputs) (past : Past) (before : State) (goes_on : Bool) (after : State) : Type 0 where
-  pub ready : State
+pub record HasDecided (inputs : Inputs) (past : Past) (before : RunState) (goes_on : Bool) (after : RunState) : Type 0 where
+  pub ready : RunState
   pub is_ready : IsReadyToAct inputs past before ready
   pub acted : HasActed inputs ready goes_on after

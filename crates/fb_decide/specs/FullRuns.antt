@@ -8,7 +8,7 @@ use Rattle.fb_model.specs.Content.{medium_of, fore_rows}
 use Rattle.fb_model.specs.Decisions.{decisions, run_end}
 use Rattle.fb_model.specs.Steps.{Step, decision_in, decisions_in, history, AtEach, step_rows, task_rows}
 use Rattle.fb_model.specs.FullRun.{IsFull}
-use Rattle.fb_decide.specs.State.{State}
+use Rattle.fb_decide.specs.RunState.{RunState}
 use Rattle.fb_decide.specs.Making.{IsMade, fore_row_of, HasMade}
 
 -- each of these steps is as a full run has it, and the rows are theirs
@@ -25,18 +25,18 @@ RowsGoOn = (inputs : Inputs) (steps : List Step) (step : Step) (fore : List Fore
 
 -- the foreground rows of the decisions so far are the first of the plain replay's
 abbrev pub ForeRowsBegin : Type 0
-ForeRowsBegin = (inputs : Inputs) (more : Bool) (steps : List Step) (state : State) (fore : List ForeRow) (back : List BackRow)
+ForeRowsBegin = (inputs : Inputs) (more : Bool) (steps : List Step) (state : RunState) (fore : List ForeRow) (back : List BackRow)
     → HasMade inputs more steps state → AreRowsOf inputs steps fore back
     → (rest : List ForeRow) × (fore ++ rest ≡ fore_rows inputs)
 
 -- where no decision is left, the foreground rows are all of the plain replay's
 abbrev pub ForeRowsEnd : Type 0
-ForeRowsEnd = (inputs : Inputs) (steps : List Step) (state : State) (fore : List ForeRow) (back : List BackRow)
+ForeRowsEnd = (inputs : Inputs) (steps : List Step) (state : RunState) (fore : List ForeRow) (back : List BackRow)
     → HasMade inputs false steps state → AreRowsOf inputs steps fore back → fore ≡ fore_rows inputs
 
 -- and with the rows of the tasks they are a full run
 abbrev pub RowsAreFull : Type 0
-RowsAreFull = (inputs : Inputs) (steps : List Step) (state : State) (fore : List ForeRow) (back : List BackRow)
+RowsAreFull = (inputs : Inputs) (steps : List Step) (state : RunState) (fore : List ForeRow) (back : List BackRow)
     → HasMade inputs false steps state → AreRowsOf inputs steps fore back
     → IsFull inputs (record {
       fore = fore;

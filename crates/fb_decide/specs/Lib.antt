@@ -1,7 +1,7 @@
 pub mod RunInputs
 pub mod Start
 pub mod Contents
-pub mod State
+pub mod RunState
 pub mod Waiting
 pub mod Carried
 pub mod Deliveries

@@ -23,7 +23,7 @@ use Rattle.fb_model.specs.SoundRun.{IsPlanned, IsTested}
 use Rattle.fb_model.specs.FullRun.{IsBestPlanned, IsAllDelivered}
 use Rattle.fb_tasks.specs.Telling.{Tells, calls_of}
 use Rattle.fb_decide.specs.declared.deciding.Course.{Course}
-use Rattle.fb_decide.specs.State.{State}
+use Rattle.fb_decide.specs.RunState.{RunState}
 use Rattle.fb_decide.specs.Waiting.{left, IsWaiting, IsForegroundOf}
 use Rattle.fb_decide.specs.Calls.{IsCalled}
 use Rattle.fb_decide.specs.Standing.{IsTrue}
@@ -73,15 +73,15 @@ abbrev pub rest_by : Inputs → Course → List Request → List Served
 rest_by inputs course waiting = plain (length waiting) inputs.disk inputs.key course.head course.now waiting
 
 -- the services that are left: of the requests that wait, and of those that haven't joined yet
-abbrev pub rest_of : Inputs → State → List Served
-rest_of inputs state = rest_by inputs state.course (left state.requests state.course.joined state.waiting)
+abbrev pub rest_of : Inputs → RunState → List Served
+rest_of inputs state = rest_by inputs state.course (left state.requests state.course.joined state.pending)
 
 -- the decisions that are left, if these are the services that are left
 abbrev pub decisions_by : Inputs → Course → List Served → List Decision
 decisions_by inputs course rest = decisions_from inputs.disk (instants_of inputs) inputs.until course.head course.now rest
 
 -- another decision follows
-pub record GoesOn (inputs : Inputs) (state : State) (steps : List Step) : Type 0 where
+pub record GoesOn (inputs : Inputs) (state : RunState) (steps : List Step) : Type 0 where
   -- these steps have brought the disk and the background to where they are
   pub run : HasRun inputs (rest_of inputs state) state.course steps
   -- their decisions and those that are left are the run's
@@ -99,7 +99,7 @@ pub record GoesOn (inputs : Inputs) (state : State) (steps : List Step) : Type 0
   -- within 4 s, in which the way to its track, the settle, the wait and the passage take at most 1 s each
   pub soon : state.course.now ≤ 10 ^ 15 + length run.done * (2048 * (4 * 10 ^ 9))
   -- each request is served or left
-  pub counted : length (left state.requests state.course.joined state.waiting) + length run.done ≡ length state.requests
+  pub counted : length (left state.requests state.course.joined state.pending) + length run.done ≡ length state.requests
 
 -- the last decision was made
 pub record HasEnded (inputs : Inputs) (course : Course) (steps : List Step) : Type 0 where
@@ -111,7 +111,7 @@ pub record HasEnded (inputs : Inputs) (course : Course) (steps : List Step) : Ty
   pub early : course.now ≤ 9 * 10 ^ 18
 
 -- another decision follows, or the last one was made
-abbrev pub HasComeTo : Inputs → Bool → State → List Step → Type 0
+abbrev pub HasComeTo : Inputs → Bool → RunState → List Step → Type 0
 HasComeTo inputs true state steps = GoesOn inputs state steps
 HasComeTo inputs false state steps = HasEnded inputs state.course steps
 
@@ -124,18 +124,18 @@ pub record AreKnown (inputs : Inputs) : Type 0 where
   pub takes_time : PassagesTakeTime inputs.disk.map
 
 -- these steps have been made, and perhaps more follow
-pub record HasMade (inputs : Inputs) (more : Bool) (steps : List Step) (state : State) : Type 0 where
+pub record HasMade (inputs : Inputs) (more : Bool) (steps : List Step) (state : RunState) : Type 0 where
   pub known : AreKnown inputs
   pub requests_are : state.requests ≡ requests inputs
   pub come_to : HasComeTo inputs more state steps
 
 -- how many decisions are left
-abbrev pub decisions_left : Inputs → Bool → State → ℕ
+abbrev pub decisions_left : Inputs → Bool → RunState → ℕ
 decisions_left inputs true state = length (decisions_by inputs state.course (rest_of inputs state))
 decisions_left inputs false state = 0
 
 -- one more decision: its rows stand behind those before it
-pub record HasMadeOne (inputs : Inputs) (steps : List Step) (more : Bool) (before after : State) : Type 0 where
+pub record HasMadeOne (inputs : Inputs) (steps : List Step) (more : Bool) (before after : RunState) : Type 0 where
   pub step : Step
   pub is_made : IsMade inputs (history inputs steps) step
   pub fore : after.course.fore ≡ before.course.fore ++ fore_row_of (medium_of inputs) (decision_in step)

@@ -4,18 +4,18 @@ use Rattle.std.specs.List.{AllByRecursion}
 use Rattle.fb_units.specs.declared.types.Request.{Request}
 use Rattle.fb_service.specs.declared.disk.Disk.{Disk}
 use Rattle.fb_model.specs.Accepted.{IsRequestOf}
-use Rattle.fb_decide.specs.State.{State}
+use Rattle.fb_decide.specs.RunState.{RunState}
 
 -- the requests that have not been served: those that wait, and those that haven't joined yet
 abbrev pub left : List Request → ℕ → List Request → List Request
 left requests joined waiting = waiting ++ drop joined requests
 
 -- the requests that wait have arrived, and lie on the disk
-pub record IsWaiting (disk : Disk) (state : State) : Type 0 where
+pub record IsWaiting (disk : Disk) (state : RunState) : Type 0 where
   pub within : state.course.joined ≤ length state.requests
-  pub counted : state.counted ≡ state.course.joined
-  pub arrived : AllByRecursion (λ r. r.arrival ≤ state.course.now) state.waiting
-  pub on_disk : AllByRecursion (IsRequestOf disk.map) (left state.requests state.course.joined state.waiting)
+  pub counted : state.joined ≡ state.course.joined
+  pub arrived : AllByRecursion (λ r. r.arrival ≤ state.course.now) state.pending
+  pub on_disk : AllByRecursion (IsRequestOf disk.map) (left state.requests state.course.joined state.pending)
 
 -- requests in order of arrival
 abbrev pub AreByArrival : List Request → Type 0

@@ -12,7 +12,7 @@ ghost use Rattle.fb_model.specs.Steps.{Step, history, task_rows};
 ghost use Rattle.fb_model.specs.PlainReplay.{first_least};
 ghost use Rattle.fb_tasks.specs.Telling.{Tells};
 ghost use Rattle.fb_decide.specs.RunInputs.{inputs_of};
-ghost use Rattle.fb_decide.specs.State.{state_by, state_of};
+ghost use Rattle.fb_decide.specs.RunState.{state_by, state_of};
 ghost use Rattle.fb_decide.specs.Waiting.{IsWaiting};
 ghost use Rattle.fb_decide.specs.Calls.{IsCalled};
 ghost use Rattle.fb_decide.specs.Deliveries.{TellsUpToDate};

@@ -12,13 +12,13 @@ use Rattle.fb_model.specs.Decisions.{decisions, run_end}
 use Rattle.fb_model.specs.Steps.{Step, history, task_rows}
 use Rattle.fb_model.specs.FullRun.{IsFull}
 use Rattle.fb_rows.specs.Tasks.{HasTaskBelow}
-use Rattle.fb_decide.specs.State.{State}
+use Rattle.fb_decide.specs.RunState.{RunState}
 use Rattle.fb_decide.specs.Making.{HasMade, HasMadeOne, decisions_left}
 use Rattle.fb_decide.specs.FullRuns.{DecisionsMakeARun}
 use Rattle.fb_engine.specs.Progress.{HasAdvanced}
 
 -- at first
-pub at_first : {inputs : Inputs} {state : State} → HasMade inputs true [] state → state.course.fore ≡ []
+pub at_first : {inputs : Inputs} {state : RunState} → HasMade inputs true [] state → state.course.fore ≡ []
     → state.course.background.rows ≡ [] → HasAdvanced inputs true state
 at_first {inputs} made no_fore no_back = record {
   steps = [];
@@ -28,12 +28,12 @@ at_first {inputs} made no_fore no_back = record {
 }
 
 -- where another decision follows, and where none does
-pub gone_on : {inputs : Inputs} {more goes_on : Bool} {state : State}
+pub gone_on : {inputs : Inputs} {more goes_on : Bool} {state : RunState}
     → more ≡ goes_on → HasAdvanced inputs more state → HasAdvanced inputs goes_on state
 gone_on {inputs} {state = state} e advanced = subst (λ b. HasAdvanced inputs b state) e advanced
 
 -- after one more decision
-pub one_on : {inputs : Inputs} {more : Bool} {before after : State} → DecisionsMakeARun → (advanced : HasAdvanced inputs true before)
+pub one_on : {inputs : Inputs} {more : Bool} {before after : RunState} → DecisionsMakeARun → (advanced : HasAdvanced inputs true before)
     → HasMadeOne inputs advanced.steps more before after → HasAdvanced inputs more after
 one_on {inputs} {before = before} law advanced one = record {
   steps = advanced.steps ++ one.step ∷ [];
@@ -45,14 +45,14 @@ one_on {inputs} {before = before} law advanced one = record {
 }
 
 -- and fewer are left
-pub less_by : {inputs : Inputs} {steps : List Step} {more was : Bool} {before after : State}
+pub less_by : {inputs : Inputs} {steps : List Step} {more was : Bool} {before after : RunState}
     → was ≡ true → HasMadeOne inputs steps more before after → decisions_left inputs more after < decisions_left inputs was before
 less_by {inputs} {more = more} {before = before} {after} e one =
     subst (λ b. decisions_left inputs more after < decisions_left inputs b before) (sym e) one.fewer
 
 -- ---- where no decision follows
 
-module _ {inputs : Inputs} {state : State} (advanced : HasAdvanced inputs false state) where
+module _ {inputs : Inputs} {state : RunState} (advanced : HasAdvanced inputs false state) where
   pub is_full : (fore : List ForeRow) (back : List BackRow) → fore ≡ state.course.fore
       → back ≡ state.course.background.rows ++ task_rows (history inputs advanced.steps)
       → (passed_over end : ℕ) → passed_over ≡ inputs.passed_over → DecisionsMakeARun → end ≡ run_end (decisions inputs)

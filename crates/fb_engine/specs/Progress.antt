@@ -7,12 +7,12 @@ use Rattle.fb_rows.specs.declared.run.Run.{Run}
 use Rattle.fb_model.specs.FullRun.{IsFull}
 use Rattle.fb_model.specs.Inputs.{Inputs}
 use Rattle.fb_model.specs.Steps.{Step}
-use Rattle.fb_decide.specs.State.{State}
+use Rattle.fb_decide.specs.RunState.{RunState}
 use Rattle.fb_decide.specs.Making.{HasMade}
 use Rattle.fb_decide.specs.FullRuns.{AreRowsOf}
 
 -- these decisions have been made, none of their rows has been taken, and perhaps more follow
-pub record HasAdvanced (inputs : Inputs) (more : Bool) (state : State) : Type 0 where
+pub record HasAdvanced (inputs : Inputs) (more : Bool) (state : RunState) : Type 0 where
   pub steps : List Step
   pub made : HasMade inputs more steps state
   pub rows : AreRowsOf inputs steps state.course.fore state.course.background.rows

@@ -6,7 +6,7 @@ ghost use Rattle.fb_calls.specs.Allowed.{tasks};
 ghost use Rattle.fb_model.specs.Accepted.{IsAccepted};
 ghost use Rattle.fb_model.specs.FullRun.{IsFull};
 ghost use Rattle.fb_decide.specs.RunInputs.{inputs_of};
-ghost use Rattle.fb_decide.specs.State.{state_of};
+ghost use Rattle.fb_decide.specs.RunState.{state_of};
 ghost use Rattle.fb_engine.specs.Progress.{HasAdvanced, IsWhole};
 
 use fb_decide::{Decider, RunInputs, decisions_make_a_run};

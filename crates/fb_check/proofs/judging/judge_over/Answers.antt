@@ -1,7 +1,7 @@
 use Rattle.std.proofs.Common.{◌∙◌, [], true, true≢false, inl, inr, refl, sym, subst}
 use Rattle.fb_report.specs.Grammar.{fore_grammar, back_grammar}
 use Rattle.fb_decide.specs.RunInputs.{inputs_of}
-use Rattle.fb_decide.specs.State.{state_of}
+use Rattle.fb_decide.specs.RunState.{state_of}
 use Rattle.fb_decide.specs.Making.{HasMade}
 use Rattle.fb_decide.proofs.Looping.{one_by}
 use Rattle.fb_check.specs.Printed.{reports_of}

@@ -1,7 +1,7 @@
 use Rattle.std.proofs.Common.{◌≡◌, false, None}
 use Rattle.fb_decide.specs.Making.{decisions_left}
 use Rattle.fb_decide.specs.RunInputs.{inputs_of}
-use Rattle.fb_decide.specs.State.{state_of}
+use Rattle.fb_decide.specs.RunState.{state_of}
 use Rattle.fb_check.specs.Printed.{reports_of}
 use Rattle.fb_check.specs.Judged.{HasJudged}
 use Rattle.fb_check.proofs.judging.judge_over.Given as goal

@@ -4,7 +4,7 @@ use Rattle.fb_units.proofs.Comparing.{some_number}
 use Rattle.fb_units.proofs.Lists.{all_weaker, all_append, all_left, all_right}
 use Rattle.fb_model.specs.Accepted.{IsRequestOf}
 use Rattle.fb_decide.specs.RunInputs.{inputs_of}
-use Rattle.fb_decide.specs.State.{state_by}
+use Rattle.fb_decide.specs.RunState.{state_by}
 use Rattle.fb_decide.specs.Deciding.{HasActed, serves_pick, stays_on, stays_last, ends_here}
 use Rattle.fb_decide.proofs.Decided.{taken, none_waits, still_waiting}
 use Rattle.fb_decide.proofs.deciding.act.Goals as goal
@@ -25,7 +25,7 @@ returns-then-not-is_empty-clause-acted g c =
     let inputs = inputs_of c.args.inputs g.Q.Queue.key in
     let before = state_by g.Q.Queue.pending g.Q.Queue.joined c.args.requests.now c.args.course.now c.args.queue.now in
     let after = state_by g.Q.Queue.pending g.Q.Queue.joined c.args.requests.now c.serve_next.new.course c.serve_next.new.queue in
-    subst (λ n. HasActed inputs before true (record after { counted = n })) (sym c.in_ok-serve_next.ensures.counted)
+    subst (λ n. HasActed inputs before true (record after { joined = n })) (sym c.in_ok-serve_next.ensures.counted)
     (serves_pick served.0 _ _ served.1 served.2)
 
 pub returns-then-not-is_empty-clause-waiting : goal.returns-then-not-is_empty-clause-waiting

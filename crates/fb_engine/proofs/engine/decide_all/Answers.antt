@@ -1,7 +1,7 @@
 use Rattle.std.proofs.Common.{◌∙◌, sym, subst, true}
 use Rattle.fb_decide.specs.Making.{HasMade}
 use Rattle.fb_decide.specs.RunInputs.{inputs_of}
-use Rattle.fb_decide.specs.State.{state_of}
+use Rattle.fb_decide.specs.RunState.{state_of}
 use Rattle.fb_decide.proofs.Looping.{one_by}
 use Rattle.fb_engine.proofs.Looping.{gone_on, one_on, less_by}
 use Rattle.fb_engine.proofs.engine.decide_all.Goals as goal

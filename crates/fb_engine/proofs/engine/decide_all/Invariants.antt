@@ -1,7 +1,7 @@
 use Rattle.std.proofs.Common.{◌≡◌}
 use Rattle.fb_decide.specs.Making.{decisions_left}
 use Rattle.fb_decide.specs.RunInputs.{inputs_of}
-use Rattle.fb_decide.specs.State.{state_of}
+use Rattle.fb_decide.specs.RunState.{state_of}
 use Rattle.fb_engine.specs.Progress.{HasAdvanced}
 use Rattle.fb_engine.proofs.engine.decide_all.Given as goal
 
