@@ -93,7 +93,7 @@ of_all old catch is are to =
     all_get (IsOfPuts disk 1 puts) (put_blocks disk.map puts) to.index to.put (all_of_puts disk 1 puts are.on_disk) at_all'
 
 pub wanted_there : (old : Spilling) (catch : Catch) → IsSpilling old → IsToWrite old catch
-    → (e : Entry) × (i : ℕ) × (slice_get old.pending i ≡ Some e) × (is_block catch.block.task catch.block.number e ≡ true)
+    → (e : Entry) × (i : ℕ) × (slice_get old.pending i ≡ Some e) × (is_block catch.block.task catch.block.index e ≡ true)
     × (e.state ≡ Wanted)
 wanted_there old catch is to =
     let entry = entry_of old.items to.put in
@@ -101,18 +101,18 @@ wanted_there old catch is to =
     ∙ map_at (entry_of old.items) (first_blocks old.disk.now old.puts.now old.admitted) to.index to.put to.stands in
     let task : (to.put.block.task == catch.block.task) ≡ true = ap (λ (b : Block). to.put.block.task == b.task) to.block
     ∙ same_number to.put.block.task to.put.block.task refl in
-    let number : (to.put.block.number == catch.block.number) ≡ true = ap (λ (b : Block). to.put.block.number == b.number) to.block
-    ∙ same_number to.put.block.number to.put.block.number refl in (
+    let number : (to.put.block.index == catch.block.index) ≡ true = ap (λ (b : Block). to.put.block.index == b.index) to.block
+    ∙ same_number to.put.block.index to.put.block.index refl in (
       entry,
       to.index,
       at,
-      both (to.put.block.task == catch.block.task) (to.put.block.number == catch.block.number) task number,
+      both (to.put.block.task == catch.block.task) (to.put.block.index == catch.block.index) task number,
       ap (λ b. if b then Delivered else Wanted) to.unwritten,
     )
 
 pub block_added : (old : Spilling) (catch : Catch) (pending : List Entry) (items : List SpillItem) (written : ℕ) → IsSpilling old
     → ArePutsOn (length (places old.disk.now.map)) old.puts.now → IsToWrite old catch
-    → items ≡ old.items ++ ItemWrote (wrote_row catch) ∷ [] → pending ≡ after catch.block.task (Deliver catch.block.number) old.pending
+    → items ≡ old.items ++ ItemWrote (wrote_row catch) ∷ [] → pending ≡ after catch.block.task (Deliver catch.block.index) old.pending
     → written ≡ old.written + catch.block.count
     → IsSpilling (changed old pending items written)
 block_added old catch pending items written is are to added delivers more_written =
@@ -136,7 +136,7 @@ block_added old catch pending items written is are to added delivers more_writte
     subst (λ rows. IsSpilling (changed old pending rows written)) (sym added) (record {
       first = is.first;
       come = is.come;
-      registered = delivers ∙ ap (after block.task (Deliver block.number)) is.registered
+      registered = delivers ∙ ap (after block.task (Deliver block.index)) is.registered
           ∙ delivered old.items row block refl refl (first_blocks disk puts n) to.index to.put first_order to.stands own;
       upto = all_push (IsUpTo n) old.items (ItemWrote row) is.upto (omega (arith, upto, task));
       written = omega (arith, more_written, is.written, sum_by_push sectors_in old.items (ItemWrote row));

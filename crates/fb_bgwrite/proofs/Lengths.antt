@@ -57,7 +57,7 @@ passing_wanted disk dwell e passing = grind (arith, nat_tests)
 
 still_wanted : (put number : ℕ) (e : Entry) → is_wanted (entry_after put (Deliver number) e).state ≡ true → is_wanted e.state ≡ true
 still_wanted put number e wanted = elim (cases_Bool (e.block.task == put)) [
-  | inl own ↦ elim (cases_Bool (e.block.number == number)) [
+  | inl own ↦ elim (cases_Bool (e.block.index == number)) [
     | inl this ↦ absurd (true≢false (sym wanted ∙ rw (own, this) refl))
     | inr other ↦ rw (own, other) at wanted
   ]

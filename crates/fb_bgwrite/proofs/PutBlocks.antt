@@ -11,7 +11,7 @@ use Rattle.fb_model.proofs.Cuts.{AreCuts, cuts_are, cuts_rise}
 
 -- the first block has the lesser put, or is an earlier one of the same put; and they share no sector
 pub record IsBefore (a b : Block) : Type 0 where
-  pub order : (a.task < b.task) ⊎ ((a.task ≡ b.task) × (a.number < b.number) × (a.lbn < b.lbn))
+  pub order : (a.task < b.task) ⊎ ((a.task ≡ b.task) × (a.index < b.index) × (a.lbn < b.lbn))
   pub apart : share (block_range a) (block_range b) ≡ false
 
 abbrev pub AreInOrder : List PutBlock → Type 0
@@ -22,7 +22,7 @@ AreInOrder (put ∷ puts) = AllByRecursion (λ other. IsBefore put.block other.b
 abbrev pub block_of : ℕ → ℕ → Cut → Block
 block_of number n cut = record {
   task = number;
-  number = n;
+  index = n;
   lbn = cut.lbn;
   count = cut.count;
   track = cut.track;
@@ -35,7 +35,7 @@ pub record IsOf (disk : Disk) (number n from end : ℕ) (block : Block) : Type 0
   pub fits : IsBlockOn disk.map block
   pub light : block.weight ≡ 1
   pub task : block.task ≡ number
-  pub later : n ≤ block.number
+  pub later : n ≤ block.index
   pub low : from ≤ block.lbn
   pub high : block.lbn + block.count ≤ end
 
@@ -76,7 +76,7 @@ all_numbered disk number n from end (cut ∷ cuts) on_disk are =
           (all_numbered disk number (n + 1) (from + cut.count) end cuts on_disk are.4),
     )
 
-first_before : (disk : Disk) (number n from end count : ℕ) (block other : Block) → 0 < count → block.task ≡ number → block.number ≡ n
+first_before : (disk : Disk) (number n from end count : ℕ) (block other : Block) → 0 < count → block.task ≡ number → block.index ≡ n
     → block.lbn ≡ from → block.count ≡ count → IsOf disk number (n + 1) (from + count) end other → IsBefore block other
 first_before disk number n from end count block other some task same lbn its is = record {
   order = inr (task ∙ sym is.task, omega (arith, same, is.later), omega (arith, lbn, is.low, some));

@@ -4,10 +4,10 @@ use Rattle.fb_bgwrite.proofs.Words.{AreLines, item_line, spill_first, spill_last
 use Rattle.std.proofs.Common.{Global}
 use Rattle.std.specs.declared.vec.Vec.{Vec}
 use Rattle.fb_units.specs.declared.types.NoMemory.{NoMemory}
-use Rattle.fb_report.specs.declared.byte_mode.ByteMode.{ByteMode}
+use Rattle.fb_report.specs.declared.bytes.Bytes.{Bytes}
 use Rattle.fb_bgwrite.specs.declared.items.SpillRun.{SpillRun}
 
-pub lines_are : (size : ℕ) (bytes : ByteMode) (spill : SpillRun)
+pub lines_are : (size : ℕ) (bytes : Bytes) (spill : SpillRun)
     → AreLines spill_first (item_line size bytes) spill.items (spill_last spill.written spill.left) (spill_lines size bytes spill)
 unfolding spill_lines
 lines_are size bytes spill = record { are = refl }

@@ -20,12 +20,12 @@ wrote_one a b e = grind arith
 
 -- neither by number nor by sector is it the same block
 pub record IsOther (a b : Block) : Type 0 where
-  pub by_number : (a.task == b.task) && (a.number == b.number) ≡ false
+  pub by_number : (a.task == b.task) && (a.index == b.index) ≡ false
   pub by_lbn : (b.task == a.task) && (b.lbn == a.lbn) ≡ false
   pub turned : (a.task == b.task) && (a.lbn == b.lbn) ≡ false
 
 -- not the same task, or neither the same number nor the same sector
-different : (a b : Block) → (a.task ≢ b.task) ⊎ ((a.number ≢ b.number) × (a.lbn ≢ b.lbn)) → IsOther a b
+different : (a b : Block) → (a.task ≢ b.task) ⊎ ((a.index ≢ b.index) × (a.lbn ≢ b.lbn)) → IsOther a b
 different a b (inl task) = record {
   by_number = grind (arith, nat_tests);
   by_lbn = grind (arith, nat_tests);
@@ -83,11 +83,11 @@ module _ (items : List SpillItem) (row : WroteRow) (block : Block) (put_is : row
   neither false b state off = refl
 
   deliver_other : (put : PutBlock) → IsOther put.block block
-      → entry_after block.task (Deliver block.number) (entry_of items put) ≡ entry_of more put
+      → entry_after block.task (Deliver block.index) (entry_of items put) ≡ entry_of more put
   deliver_other put is =
       let state : State = if is_written items put.block then Delivered else Wanted in
-      let kept : (if put.block.task == block.task then (if put.block.number == block.number then Delivered else state) else state) ≡ state =
-      neither (put.block.task == block.task) (put.block.number == block.number) state is.by_number in
+      let kept : (if put.block.task == block.task then (if put.block.index == block.index then Delivered else state) else state) ≡ state =
+      neither (put.block.task == block.task) (put.block.index == block.index) state is.by_number in
       ap (λ s. let e : Entry = record { block = put.block; state = s } in e) kept
       ∙ ap (λ b. let e : Entry = record { block = put.block; state = if b then Delivered else Wanted } in e) (sym (as_before put.block is))
 
@@ -95,20 +95,20 @@ module _ (items : List SpillItem) (row : WroteRow) (block : Block) (put_is : row
   both a b state on_a on_b = rw (on_a, on_b) refl
 
   deliver_own : (put : PutBlock) → put.block ≡ block
-      → entry_after block.task (Deliver block.number) (entry_of items put) ≡ entry_of more put
+      → entry_after block.task (Deliver block.index) (entry_of items put) ≡ entry_of more put
   deliver_own put same =
       let state : State = if is_written items put.block then Delivered else Wanted in
       let task : (put.block.task == block.task) ≡ true = ap (λ (b : Block). b.task == block.task) same
       ∙ same_number block.task block.task refl in
-      let number : (put.block.number == block.number) ≡ true = ap (λ (b : Block). b.number == block.number) same
-      ∙ same_number block.number block.number refl in
+      let number : (put.block.index == block.index) ≡ true = ap (λ (b : Block). b.index == block.index) same
+      ∙ same_number block.index block.index refl in
       ap (λ s. let e : Entry = record { block = put.block; state = s } in e)
-      (both (put.block.task == block.task) (put.block.number == block.number) state task number)
+      (both (put.block.task == block.task) (put.block.index == block.index) state task number)
       ∙ ap (λ b. let e : Entry = record { block = put.block; state = if b then Delivered else Wanted } in e)
       (sym (ap (is_written more) same ∙ now_written))
 
   others_delivered : (puts : List PutBlock) → AllByRecursion (λ (put : PutBlock). IsOther put.block block) puts
-      → map (entry_after block.task (Deliver block.number)) (map (entry_of items) puts) ≡ map (entry_of more) puts
+      → map (entry_after block.task (Deliver block.index)) (map (entry_of items) puts) ≡ map (entry_of more) puts
   others_delivered [] all = refl
   others_delivered (put ∷ puts) all = ap₂ (λ e es. e ∷ es) (deliver_other put all.0) (others_delivered puts all.1)
 
@@ -126,7 +126,7 @@ module _ (items : List SpillItem) (row : WroteRow) (block : Block) (put_is : row
   is_behind put (p ∷ puts) (suc i) own at same all = is_behind put puts i own at same all.1
 
   pub delivered : (puts : List PutBlock) (i : ℕ) (own : PutBlock) → AreInOrder puts → slice_get puts i ≡ Some own → own.block ≡ block
-      → after block.task (Deliver block.number) (map (entry_of items) puts) ≡ map (entry_of more) puts
+      → after block.task (Deliver block.index) (map (entry_of items) puts) ≡ map (entry_of more) puts
   delivered [] i own order at same = absurd (grind arith)
   delivered (put ∷ puts) zero own order at same =
       let its : put.block ≡ block = ap (λ (q : PutBlock). q.block) (some_one put own at) ∙ same in

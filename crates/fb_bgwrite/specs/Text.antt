@@ -2,7 +2,7 @@
 use Rattle.std.specs.Prelude.{ℕ, ◌+◌, ◌^◌, ◌≤◌, List, [], ◌∷◌, ◌++◌, map, decimal, codes}
 use Rattle.fb_store.specs.declared.content.Content.TheVariants.{Filled}
 use Rattle.fb_store.specs.declared.content.ContentRun.{ContentRun}
-use Rattle.fb_report.specs.declared.byte_mode.ByteMode.{ByteMode}
+use Rattle.fb_report.specs.declared.bytes.Bytes.{Bytes}
 use Rattle.fb_report.specs.Lines.{first_line, line_of, name_text, track_text}
 use Rattle.fb_report.specs.Shown.{shown}
 use Rattle.fb_bgwrite.specs.declared.items.SpillItem.{SpillItem}
@@ -28,7 +28,7 @@ abbrev pub wrote_fields : WroteRow → List ℕ → List (List ℕ)
 wrote_fields row written = decimal row.put ∷ decimal row.lbn ∷ decimal row.count ∷ decimal row.begin ∷ decimal row.end ∷ written ∷ []
 
 -- the line of a row
-abbrev pub item_line : ℕ → ByteMode → SpillItem → List ℕ
+abbrev pub item_line : ℕ → Bytes → SpillItem → List ℕ
 item_line size bytes (Spill row) = line_of (codes "spill") (spill_fields row)
 item_line size bytes (Wrote row) = line_of (codes "wrote") (wrote_fields row (shown bytes size (content_of row)))
 
@@ -40,7 +40,7 @@ abbrev pub spill_last : ℕ → ℕ → List ℕ
 spill_last written left = line_of (codes "end") (decimal written ∷ decimal left ∷ [])
 
 -- the first line, a line for each row in order, and the last
-unfoldable pub spill_lines : ℕ → ByteMode → SpillRun → List (List ℕ)
+unfoldable pub spill_lines : ℕ → Bytes → SpillRun → List (List ℕ)
 spill_lines size bytes spill = spill_first ∷ (map (item_line size bytes) spill.items ++ spill_last spill.written spill.left ∷ [])
 
 -- the put's number isn't too large, nor the block's sectors

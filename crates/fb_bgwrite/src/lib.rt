@@ -19,6 +19,7 @@ mod spilling;
 mod spills;
 mod text;
 
+pub use fb_puts::{Put, Puts, PutsError, PutsFault, PutsReason, read_puts};
 pub use items::{SpillItem, SpillItems, SpillRow, SpillRun, WroteRow};
 pub use spills::spill;
-pub use text::{spill_line_at, spill_line_count};
+pub use text::{spill_piece, spill_pieces};

@@ -21,7 +21,7 @@ use fb_rows::{Catch, Dwell};
 use fb_sectormap::Cut;
 use fb_service::Disk;
 use fb_units::{NoMemory, Track};
-use fb_wanted::{Block, Blocks, TrackBlocks};
+use fb_wanted::{Block, Wanted, TrackBlocks};
 use std::alloc::Global;
 use std::marker::Model;
 
@@ -32,7 +32,7 @@ use std::marker::Model;
 /// cylinder.
 #[derive(Drop)]
 pub struct Pending {
-    blocks: Blocks,
+    blocks: Wanted,
     shortest: Shortest,
 }
 
@@ -70,7 +70,7 @@ impl Pending {
         ensures { result ≡ [] }
     {
         Pending {
-            blocks: Blocks::new(alloc),
+            blocks: Wanted::new(alloc),
             shortest: Shortest::new(alloc),
         }
     }
@@ -86,7 +86,7 @@ impl Pending {
         self.shortest.lower(cut.track.cylinder, cut.count)?;
         let block = Block {
             task: put,
-            number,
+            index: number,
             lbn: cut.lbn,
             count: cut.count,
             track: cut.track,
@@ -101,7 +101,7 @@ impl Pending {
         requires { (e : Entry) × (i : ℕ) × (slice_get self.old i ≡ Some e) × (is_block put number e ≡ true) × (e.state ≡ StillWanted) }
         ensures { self.new ≡ after put (Change.Deliver number) self.old }
     {
-        self.blocks.mark_delivered(put, number);
+        self.blocks.deliver(put, number);
     }
 
     /// Looks at all pending blocks of a cylinder, so that those that were written no longer count when

@@ -190,7 +190,7 @@ impl<'a> Spilling<'a> {
         ensures items { OnOk result (self.new.items ≡ self.old.items ++ ItemWrote (wrote_row catch) ∷ []) }
     {
         self.items.push(SpillItem::Wrote(wrote_row(catch)))?;
-        self.pending.deliver(catch.block.task, catch.block.number);
+        self.pending.deliver(catch.block.task, catch.block.index);
         self.written += catch.block.count as u64;
         Ok(())
     }

@@ -1,12 +1,12 @@
 // The text of spills.
 ghost use Rattle.std.specs.Prelude.{◌≡◌, ℕ, ◌+◌, ◌%◌, ◌<◌, ◌≤◌, ◌^◌, [], ◌∷◌, ◌++◌, length, slice_get, Some, IfOk, OnOk, decimal};
 ghost use Rattle.std.specs.List.{AllByRecursion};
-ghost use Rattle.fb_report.specs.declared.byte_mode.ByteMode.{ByteMode};
+ghost use Rattle.fb_report.specs.declared.bytes.Bytes.{Bytes};
 ghost use Rattle.fb_report.specs.Lines.{with_fields};
 ghost use Rattle.fb_bgwrite.specs.Text.{content_of, item_line, spill_last, spill_lines, HasRange};
 
 use crate::{SpillItem, SpillRow, SpillRun, WroteRow};
-use fb_report::{ByteMode, Line, first_line, shown};
+use fb_report::{Bytes, Line, first_line, shown};
 use fb_store::{Content, ContentRun, Contents};
 use fb_units::NoMemory;
 use std::alloc::Global;
@@ -15,20 +15,20 @@ use std::alloc::Global;
 const FIRST_WRITER: u64 = 4_294_967_296;
 
 /// The number of lines in the text of spills: one for each row, the first and the last.
-pub fn spill_line_count(spill: &SpillRun) -> u64
+pub fn spill_pieces(spill: &SpillRun) -> u64
     ensures value { result ≡ length spill.now.items + 2 }
-    ensures lines { (size : ℕ) (bytes : ByteMode) → result ≡ length (spill_lines size bytes spill.now) }
+    ensures lines { (size : ℕ) (bytes : Bytes) → result ≡ length (spill_lines size bytes spill.now) }
 {
     spill.items.len() as u64 + 2
 }
 
 /// The line at this index, counted from 0, in the text of spills, with its line feed.
 /// `sector_bytes` is the size of a sector, a multiple of 16. The only error is `NoMemory`.
-pub fn spill_line_at(
+pub fn spill_piece(
     alloc: Global,
     spill: &SpillRun,
     sector_bytes: u32,
-    bytes: ByteMode,
+    bytes: Bytes,
     index: u64,
 ) -> Result<Vec<u8>, NoMemory>
     requires whole { sector_bytes % 16 ≡ 0 }
@@ -60,7 +60,7 @@ fn item_line(
     alloc: Global,
     item: &SpillItem,
     sector_bytes: u32,
-    bytes: ByteMode,
+    bytes: Bytes,
 ) -> Result<Vec<u8>, NoMemory>
     requires whole { sector_bytes % 16 ≡ 0 }
     requires range { HasRange item.now }
@@ -73,7 +73,7 @@ fn item_line(
 }
 
 fn stay_line(alloc: Global, row: &SpillRow) -> Result<Vec<u8>, NoMemory>
-    ensures { (size : ℕ) (bytes : ByteMode) → IfOk result (λ line. line.items ≡ item_line size bytes (SpillItem.Spill row.now)) }
+    ensures { (size : ℕ) (bytes : Bytes) → IfOk result (λ line. line.items ≡ item_line size bytes (SpillItem.Spill row.now)) }
 {
     let mut line = Line::new(alloc, b"spill")?;
     line.name(row.name)?;
@@ -87,7 +87,7 @@ fn wrote_line(
     alloc: Global,
     row: &WroteRow,
     sector_bytes: u32,
-    bytes: ByteMode,
+    bytes: Bytes,
 ) -> Result<Vec<u8>, NoMemory>
     requires whole { sector_bytes % 16 ≡ 0 }
     requires put { row.now.put ≤ 10 ^ 12 }

@@ -1,5 +1,8 @@
-pub mod Names
+pub mod Words
+pub mod Live
+pub mod Line
 pub mod Sessions
-pub mod Blocks
-pub mod Promoted
-pub mod Allowed
+pub mod Judgement
+pub mod Reading
+pub mod Verdict
+pub mod Reader

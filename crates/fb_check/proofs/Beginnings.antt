@@ -11,7 +11,7 @@ use Rattle.fb_units.specs.declared.types.Name.TheVariants.{Traced, Promoted}
 use Rattle.fb_rows.specs.declared.fore.ForeRow.{ForeRow}
 use Rattle.fb_rows.specs.declared.back.BackRow.{BackRow}
 use Rattle.fb_rows.specs.declared.back.BackRow.TheVariants.{Gap, Idle, Got, Bad, Seal, Segment, Complete, Task}
-use Rattle.fb_report.specs.declared.byte_mode.ByteMode.{ByteMode}
+use Rattle.fb_report.specs.declared.bytes.Bytes.{Bytes}
 use Rattle.fb_report.specs.Lines.{with_fields, line_of, name_text, track_text}
 use Rattle.fb_report.specs.Fore.{fore_line, row_fields, row_bytes}
 use Rattle.fb_report.specs.Shown.{shown}
@@ -74,7 +74,7 @@ fore_not_end_by : (text : List ℕ) (fields : List (List ℕ)) → BeginsRow tex
 fore_not_end_by text fields row begins =
     not_end row.byte row.bytes fields (λ e. omega (arith, row.low)) (subst (λ t. BeginsLikeEnd (line_of t fields)) row.is begins)
 
-pub fore_not_end : (size : ℕ) (bytes : ByteMode) (row : ForeRow) → BeginsLikeEnd (fore_line size bytes row) → ⊥
+pub fore_not_end : (size : ℕ) (bytes : Bytes) (row : ForeRow) → BeginsLikeEnd (fore_line size bytes row) → ⊥
 fore_not_end size bytes row =
     fore_not_end_by (name_text row.request.name) (row_fields row (row_bytes size bytes row)) (name_begins row.request.name)
 
@@ -86,7 +86,7 @@ record IsRowLine (text : List ℕ) : Type 0 where
   is : text ≡ line_of (byte ∷ bytes) fields
   other : byte ≡ 101 → ⊥
 
-back_row_line : (names : List (List ℕ)) (size : ℕ) (bytes : ByteMode) (row : BackRow) → IsRowLine (back_line names size bytes row)
+back_row_line : (names : List (List ℕ)) (size : ℕ) (bytes : Bytes) (row : BackRow) → IsRowLine (back_line names size bytes row)
 back_row_line names size bytes (Gap row) =
     record { byte = 103; bytes = codes "ap"; fields = gap_fields row; is = refl; other = λ e. omega arith }
 back_row_line names size bytes (Idle dwell) = record {
@@ -130,12 +130,12 @@ back_row_line names size bytes (Complete row) = record {
 back_row_line names size bytes (Task row) =
     record { byte = 116; bytes = codes "ask"; fields = task_fields names row; is = refl; other = λ e. omega arith }
 
-pub back_ended : (names : List (List ℕ)) (size : ℕ) (bytes : ByteMode) (row : BackRow)
+pub back_ended : (names : List (List ℕ)) (size : ℕ) (bytes : Bytes) (row : BackRow)
     → (line : List ℕ) × (back_line names size bytes row ≡ ended line)
 back_ended names size bytes row = let line = back_row_line names size bytes row in
     (with_fields (line.byte ∷ line.bytes) line.fields, line.is)
 
-pub back_not_end : (names : List (List ℕ)) (size : ℕ) (bytes : ByteMode) (row : BackRow)
+pub back_not_end : (names : List (List ℕ)) (size : ℕ) (bytes : Bytes) (row : BackRow)
     → BeginsLikeEnd (back_line names size bytes row) → ⊥
 back_not_end names size bytes row begins = let line = back_row_line names size bytes row in
     not_end line.byte line.bytes line.fields line.other (subst BeginsLikeEnd line.is begins)

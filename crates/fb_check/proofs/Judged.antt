@@ -4,7 +4,7 @@ use Rattle.std.proofs.Common.{subst, ◌∙◌, arith, append_assoc, length-appe
 use Rattle.std.specs.Prelude.{Option}
 use Rattle.std.specs.List.{AllByRecursion}
 use Rattle.std.proofs.lemmas.List.{map-append, length-map}
-use Rattle.fb_calls.specs.Allowed as allowed
+use Rattle.fb_script.specs.Allowed as allowed
 use Rattle.fb_rows.specs.Tasks.{HasTaskBelow}
 use Rattle.fb_rows.specs.declared.fore.ForeRow.{ForeRow}
 use Rattle.fb_rows.specs.declared.back.BackRow.{BackRow}
@@ -16,7 +16,7 @@ use Rattle.fb_model.specs.Steps.{Step, decision_in, decisions_in, history, step_
 use Rattle.fb_model.specs.FullRun.{IsFull}
 use Rattle.fb_decide.specs.RunState.{RunState}
 use Rattle.fb_decide.specs.Making.{fore_row_of, decisions_by, rest_of, HasMade, HasMadeOne, decisions_left}
-use Rattle.fb_report.specs.declared.byte_mode.ByteMode.{ByteMode}
+use Rattle.fb_report.specs.declared.bytes.Bytes.{Bytes}
 use Rattle.fb_report.specs.declared.reading.Report.{Report}
 use Rattle.fb_report.specs.declared.reading.Report.TheVariants.{Fore, Back}
 use Rattle.fb_report.specs.Fore.{fore_first, fore_line, fore_last, fore_lines}
@@ -52,7 +52,7 @@ rules_are run = let next : length run.fore + 2 ≡ suc (length run.fore + 1) = o
     ap (λ n. replicate {A = ℕ → Rule} n (λ field. Foreground)) next ∙ ap (λ rules. (λ field. Foreground) ∷ rules) (rules_behind run.fore)
 
 -- a wrong line among the first rows is one of the whole report
-fore_more : (size : ℕ) (bytes : ByteMode) (run : Run) (rows rest : List ForeRow) (printed : List (List ℕ)) (mismatch : Mismatch)
+fore_more : (size : ℕ) (bytes : Bytes) (run : Run) (rows rest : List ForeRow) (printed : List (List ℕ)) (mismatch : Mismatch)
     → rows ++ rest ≡ run.fore
     → IsMismatch (fore_first ∷ map (fore_line size bytes) rows) ((λ field. Foreground)
     ∷ map (λ row field. Foreground) rows) printed mismatch → IsMismatch (fore_lines size bytes run) (fore_rules run) printed mismatch
@@ -72,7 +72,7 @@ fore_more size bytes run rows rest printed mismatch e wrong =
     (map (λ row field. Foreground) rest ++ (λ field. Foreground) ∷ []) printed mismatch wrong))
 
 -- the whole report, where its last line was compared
-fore_whole : (size : ℕ) (bytes : ByteMode) (run : Run) (printed : List (List ℕ)) (mismatch : Mismatch)
+fore_whole : (size : ℕ) (bytes : Bytes) (run : Run) (printed : List (List ℕ)) (mismatch : Mismatch)
     → IsMismatch ((fore_first ∷ map (fore_line size bytes) run.fore) ++ fore_last (length run.fore) run.passed_over ∷ [])
     (((λ field. Foreground) ∷ map (λ (row : ForeRow) field. Foreground) run.fore) ++ (λ field. Foreground) ∷ []) printed mismatch
     → IsMismatch (fore_lines size bytes run) (fore_rules run) printed mismatch

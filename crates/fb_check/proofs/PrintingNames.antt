@@ -8,16 +8,16 @@ use Rattle.fb_units.specs.Judging.{or_refuse}
 use Rattle.fb_units.specs.Lines.{lines_of, fields_of}
 use Rattle.fb_units.specs.Numbers.{millis_of}
 use Rattle.fb_geometry.specs.Shape.{Shape}
-use Rattle.fb_calls.specs.declared.call.Action.{Action}
-use Rattle.fb_calls.specs.declared.call.Action.TheVariants.{Open}
-use Rattle.fb_script.specs.declared.fault.CallsReason.TheVariants.{BadLine, BadTime}
-use Rattle.fb_calls.specs.Names.{is_name}
-use Rattle.fb_script.specs.Words.{verb_of}
-use Rattle.fb_script.specs.Sessions.{names_after}
-use Rattle.fb_script.specs.Judgement.{Progress, call_of, with_call}
-use Rattle.fb_script.specs.Line.{Entry, entry_of, has_its_fields, asked_by}
-use Rattle.fb_script.specs.Reading.{Accepted, at_start, at_end, line_read, fault_at, next_progress, lines_from}
-use Rattle.fb_script.proofs.Accepting.{passed}
+use Rattle.fb_script.specs.declared.call.Action.{Action}
+use Rattle.fb_script.specs.declared.call.Action.TheVariants.{Open}
+use Rattle.fb_calls.specs.declared.fault.CallsReason.TheVariants.{BadLine, BadTime}
+use Rattle.fb_script.specs.Names.{is_name}
+use Rattle.fb_calls.specs.Words.{verb_of}
+use Rattle.fb_calls.specs.Sessions.{names_after}
+use Rattle.fb_calls.specs.Judgement.{Progress, call_of, with_call}
+use Rattle.fb_calls.specs.Line.{Entry, entry_of, has_its_fields, asked_by}
+use Rattle.fb_calls.specs.Reading.{Accepted, at_start, at_end, line_read, fault_at, next_progress, lines_from}
+use Rattle.fb_calls.proofs.Accepting.{passed}
 use Rattle.fb_report.specs.Printed.{AreNames}
 use Rattle.fb_check.specs.Printing.{ScriptsNameTasks}
 

@@ -5,7 +5,7 @@ use Rattle.std.specs.List.{AllByRecursion, flat_map}
 use Rattle.std.proofs.lemmas.Bool.{cases_Bool, and_parts}
 use Rattle.fb_units.proofs.Lists.{all_append, all_filter, all_weaker}
 use Rattle.fb_units.proofs.Each.{all_any, all_map, flat_all}
-use Rattle.fb_calls.specs.Sessions.{is_backup}
+use Rattle.fb_script.specs.Sessions.{is_backup}
 use Rattle.fb_wanted.specs.declared.block.Block.{Block}
 use Rattle.fb_wanted.specs.States.{is_delivered, is_wanted}
 use Rattle.fb_rows.specs.declared.back.DeliveryRow.{DeliveryRow}

@@ -11,7 +11,7 @@ use Rattle.fb_units.proofs.Lists.{all_append}
 use Rattle.fb_geometry.specs.Shape.{Shape}
 use Rattle.fb_sectormap.specs.declared.cut.Cut.{Cut}
 use Rattle.fb_sectormap.specs.Cutting.{cut_of, cutting, with_sector, is_cut_before}
-use Rattle.fb_calls.specs.Blocks.{live_cuts}
+use Rattle.fb_script.specs.Blocks.{live_cuts}
 use Rattle.fb_store.specs.declared.content.Content.{Content}
 use Rattle.fb_store.specs.declared.content.ContentRun.{ContentRun}
 use Rattle.fb_store.specs.Runs.{runs_of, with_content, same_content}
@@ -107,7 +107,7 @@ pub numbered_have : (task weight n : ℕ) (cuts : List Cut) → sectors (numbere
 numbered_have task weight n [] = refl
 numbered_have task weight n (cut ∷ cuts) =
     let block : Block =
-    record { task = task; number = n; lbn = cut.lbn; count = cut.count; track = cut.track; weight = weight; sweep = cut.sweep } in
+    record { task = task; index = n; lbn = cut.lbn; count = cut.count; track = cut.track; weight = weight; sweep = cut.sweep } in
     omega (
       arith,
       sum_by-cons (λ (block : Block). block.count) block (numbered task weight (n + 1) cuts),

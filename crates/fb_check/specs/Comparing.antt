@@ -2,7 +2,7 @@
 use Rattle.std.specs.Prelude.{◌≡◌, ℕ, ◌+◌, ◌<◌, List, ◌∷◌, length, map, take, Option, None, Some, slice_get}
 use Rattle.fb_rows.specs.declared.fore.ForeRow.{ForeRow}
 use Rattle.fb_rows.specs.declared.back.BackRow.{BackRow}
-use Rattle.fb_report.specs.declared.byte_mode.ByteMode.{ByteMode}
+use Rattle.fb_report.specs.declared.bytes.Bytes.{Bytes}
 use Rattle.fb_report.specs.declared.reading.Report.{Report}
 use Rattle.fb_report.specs.declared.reading.Report.TheVariants.{Fore, Back}
 use Rattle.fb_report.specs.Fore.{fore_first, fore_line}
@@ -83,10 +83,10 @@ pub record HasCompared {X : Type 0} (report : Report) (first : List ℕ) (first_
   pub so_far : SoFar comparison.wrong (first ∷ map line rows)
       ((λ field. first_rule) ∷ map rule rows) comparison.report comparison.lines.now comparison.same
 
-abbrev pub HasComparedFore : ℕ → ByteMode → List (List ℕ) → Comparison → List ForeRow → Type 0
+abbrev pub HasComparedFore : ℕ → Bytes → List (List ℕ) → Comparison → List ForeRow → Type 0
 HasComparedFore size bytes printed comparison rows =
     HasCompared Fore fore_first Foreground (fore_line size bytes) (λ row field. Foreground) printed comparison rows
 
-abbrev pub HasComparedBack : List (List ℕ) → ℕ → ByteMode → List (List ℕ) → Comparison → List BackRow → Type 0
+abbrev pub HasComparedBack : List (List ℕ) → ℕ → Bytes → List (List ℕ) → Comparison → List BackRow → Type 0
 HasComparedBack names size bytes printed comparison rows =
     HasCompared Back back_first Timeline (back_line names size bytes) back_rule printed comparison rows

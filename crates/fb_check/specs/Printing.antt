@@ -2,7 +2,7 @@
 use Rattle.std.specs.Prelude.{◌≡◌, ℕ, List, Ok}
 use Rattle.std.specs.List.{AllByRecursion}
 use Rattle.fb_geometry.specs.Shape.{Shape}
-use Rattle.fb_script.specs.Reading.{Accepted, calls_of}
+use Rattle.fb_calls.specs.Reading.{Accepted, calls_of}
 use Rattle.fb_rows.specs.declared.run.Run.{Run}
 use Rattle.fb_model.specs.Inputs.{Inputs}
 use Rattle.fb_model.specs.Accepted.{IsAccepted}

@@ -6,7 +6,7 @@ use Rattle.fb_rows.specs.declared.run.Run.{Run}
 use Rattle.fb_model.specs.Inputs.{Inputs}
 use Rattle.fb_model.specs.Content.{fore_rows}
 use Rattle.fb_model.specs.FullRun.{IsFull}
-use Rattle.fb_report.specs.declared.byte_mode.ByteMode.{ByteMode}
+use Rattle.fb_report.specs.declared.bytes.Bytes.{Bytes}
 use Rattle.fb_report.specs.declared.reading.Report.TheVariants.{Fore, Back}
 use Rattle.fb_report.specs.Fore.{fore_lines}
 use Rattle.fb_report.specs.Back.{back_lines}
@@ -65,7 +65,7 @@ pub record HasPlainForeground (inputs : Inputs) (run : Run) : Type 0 where
 -- the lines of both printed reports, and how their bytes are shown
 pub record Reports : Type 0 where
   pub names : List (List ℕ)
-  pub bytes : ByteMode
+  pub bytes : Bytes
   pub fore : List (List ℕ)
   pub back : List (List ℕ)
 

@@ -4,7 +4,7 @@ ghost use Rattle.std.specs.List.{AllByRecursion};
 ghost use Rattle.fb_rows.specs.Tasks.{HasTaskBelow};
 ghost use Rattle.fb_rows.specs.declared.fore.ForeRow.{ForeRow};
 ghost use Rattle.fb_rows.specs.declared.back.BackRow.{BackRow};
-ghost use Rattle.fb_report.specs.declared.byte_mode.ByteMode.{ByteMode};
+ghost use Rattle.fb_report.specs.declared.bytes.Bytes.{Bytes};
 ghost use Rattle.fb_report.specs.Fore.{fore_last};
 ghost use Rattle.fb_report.specs.Back.{back_last};
 ghost use Rattle.fb_report.specs.Grammar.{ended};
@@ -15,9 +15,9 @@ ghost use Rattle.fb_check.specs.Comparing.{CanCompare, IsDue, IsNotDue, HasCompa
 
 use crate::fields::first_wrong_field;
 use crate::{Mismatch, Rule};
-use fb_calls::TaskNames;
+use fb_script::Names;
 use fb_report::{
-    ByteMode, Report, ReportLines, back_first, back_last, back_line, fore_first, fore_last,
+    Bytes, Report, ReportLines, back_first, back_last, back_line, fore_first, fore_last,
     fore_line,
 };
 use fb_rows::{BackRow, BackRows, ForeRows};
@@ -42,7 +42,7 @@ impl<'a> Comparison<'a> {
     pub fn begin_fore(alloc: Global, lines: &'a ReportLines<'a>) -> Result<Comparison<'a>, NoMemory>
         requires ends { EndsOnce lines.now }
         ensures ready { IfOk result CanCompare }
-        ensures compared { (size : ℕ) (bytes : ByteMode) → IfOk result (λ comparison. HasComparedFore size bytes lines.now comparison []) }
+        ensures compared { (size : ℕ) (bytes : Bytes) → IfOk result (λ comparison. HasComparedFore size bytes lines.now comparison []) }
     {
         let due = fore_first(alloc)?;
         let mut comparison = Comparison {
@@ -59,7 +59,7 @@ impl<'a> Comparison<'a> {
     pub fn begin_back(alloc: Global, lines: &'a ReportLines<'a>) -> Result<Comparison<'a>, NoMemory>
         requires ends { EndsOnce lines.now }
         ensures ready { IfOk result CanCompare }
-        ensures compared { (names : List (List ℕ)) (size : ℕ) (bytes : ByteMode)
+        ensures compared { (names : List (List ℕ)) (size : ℕ) (bytes : Bytes)
             → IfOk result (λ comparison. HasComparedBack names size bytes lines.now comparison []) }
     {
         let due = back_first(alloc)?;
@@ -138,7 +138,7 @@ impl<'a> Comparison<'a> {
         alloc: Global,
         rows: &ForeRows,
         sector_bytes: u32,
-        bytes: ByteMode,
+        bytes: Bytes,
     ) -> Result<(), NoMemory>
         requires whole { sector_bytes % 16 ≡ 0 }
         requires ready { CanCompare self.old }
@@ -165,9 +165,9 @@ impl<'a> Comparison<'a> {
         &mut self,
         alloc: Global,
         rows: &BackRows,
-        names: &TaskNames,
+        names: &Names,
         sector_bytes: u32,
-        bytes: ByteMode,
+        bytes: Bytes,
     ) -> Result<(), NoMemory>
         requires whole { sector_bytes % 16 ≡ 0 }
         requires named { AllByRecursion (HasTaskBelow (length names.now)) rows.now }

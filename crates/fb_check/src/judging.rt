@@ -1,7 +1,7 @@
 // Judges printed reports, decision by decision.
 ghost use Rattle.std.specs.Prelude.{◌≡◌, ◌%◌, ◌++◌, ℕ, List, [], true, false, length, None, IfOk, OnOk};
 ghost use Rattle.std.specs.List.{AllByRecursion};
-ghost use Rattle.fb_calls.specs.Allowed.{tasks};
+ghost use Rattle.fb_script.specs.Allowed.{tasks};
 ghost use Rattle.fb_rows.specs.Tasks.{HasTaskBelow};
 ghost use Rattle.fb_rows.specs.declared.fore.ForeRow.{ForeRow};
 ghost use Rattle.fb_rows.specs.declared.back.BackRow.{BackRow};
@@ -21,7 +21,7 @@ use crate::comparing::Comparison;
 use fb_decide::{Decider, Rows, RunInputs, decisions_make_a_run};
 use fb_plan::Planner;
 use fb_queue::Queue;
-use fb_report::{ByteMode, ReportLines, reports_end_once};
+use fb_report::{Bytes, ReportLines, reports_end_once};
 use fb_units::NoMemory;
 use std::alloc::Global;
 
@@ -29,7 +29,7 @@ use std::alloc::Global;
 #[derive(Clone, Copy)]
 pub struct Printed<'a> {
     /// How the bytes of reads and deliveries are shown.
-    pub bytes: ByteMode,
+    pub bytes: Bytes,
     /// The lines of the foreground report.
     pub fore: &'a ReportLines<'a>,
     /// The lines of the background report.
@@ -103,7 +103,7 @@ fn compare_rows(
     alloc: Global,
     inputs: RunInputs<'_>,
     rows: &Rows,
-    bytes: ByteMode,
+    bytes: Bytes,
     fore: &mut Comparison<'_>,
     back: &mut Comparison<'_>,
 ) -> Result<(), NoMemory>

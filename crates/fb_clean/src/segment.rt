@@ -3,7 +3,7 @@ ghost use Rattle.std.specs.Prelude.{◌≡◌, ◌+◌, ◌-◌, ◌*◌, ◌≤
 ghost use Rattle.std.specs.List.{AllByRecursion};
 ghost use Rattle.fb_clean.specs.Segments.{is_better, live_blocks, no_longer_waiting};
 
-use fb_calls::Live;
+use fb_script::Live;
 use fb_units::NoMemory;
 use std::alloc::Global;
 use std::marker::Model;

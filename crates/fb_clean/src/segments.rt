@@ -12,7 +12,7 @@ ghost use Rattle.fb_clean.specs.Segments.{taken_for, packed_sectors};
 
 use crate::choice::best_waiting;
 use crate::segment::Segment;
-use fb_calls::Live;
+use fb_script::Live;
 use fb_store::{Contents, SparseContents};
 use fb_units::NoMemory;
 use fb_wanted::Block;

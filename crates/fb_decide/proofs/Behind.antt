@@ -9,10 +9,10 @@ use Rattle.fb_units.specs.Rising.{IsRising}
 use Rattle.fb_units.proofs.Lists.{all_append, all_weaker}
 use Rattle.fb_units.proofs.Each.{all_any, all_unmapped}
 use Rattle.fb_units.proofs.Comparing.{after_is, by_is}
-use Rattle.fb_calls.specs.declared.call.Call.{Call}
-use Rattle.fb_calls.specs.declared.call.Action.{Action}
-use Rattle.fb_calls.specs.declared.call.Action.TheVariants.{Promote}
-use Rattle.fb_calls.specs.Promoted.{read_of, promoted_from, promoted}
+use Rattle.fb_script.specs.declared.call.Call.{Call}
+use Rattle.fb_script.specs.declared.call.Action.{Action}
+use Rattle.fb_script.specs.declared.call.Action.TheVariants.{Promote}
+use Rattle.fb_script.specs.Promoted.{read_of, promoted_from, promoted}
 use Rattle.fb_model.specs.Foreground.{behind}
 
 -- a read goes behind all of these

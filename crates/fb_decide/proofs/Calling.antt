@@ -7,15 +7,15 @@ use Rattle.std.proofs.lemmas.List.{drop_all}
 use Rattle.fb_units.specs.Rising.{IsRising}
 use Rattle.fb_units.proofs.Comparing.{after_is, by_is}
 use Rattle.fb_geometry.specs.Shape.{Shape}
-use Rattle.fb_calls.specs.declared.call.Call.{Call}
-use Rattle.fb_calls.specs.Allowed.{blocks_from}
+use Rattle.fb_script.specs.declared.call.Call.{Call}
+use Rattle.fb_script.specs.Allowed.{blocks_from}
 use Rattle.fb_wanted.specs.declared.block.Entry.{Entry}
 use Rattle.fb_rows.specs.declared.back.DeliveryRow.{DeliveryRow}
 use Rattle.fb_model.specs.History.{Past}
 use Rattle.fb_model.specs.Steps.{take_call, calls_due, with_delivery}
 use Rattle.fb_tasks.specs.declared.session.Session.{Session}
 use Rattle.fb_tasks.specs.Taken.{delivery_of}
-use Rattle.fb_tasks.specs.Telling.{Tells, MayTake, MayChooseAndTest}
+use Rattle.fb_tasks.specs.Telling.{Tells, MayTake, MaySettle}
 use Rattle.fb_tasks.proofs.Calls.{count-is, left-is, may-take, called-more, called-delivered}
 use Rattle.fb_decide.specs.Calls.{IsScriptOf, IsCalled}
 use Rattle.fb_decide.specs.Deliveries.{past_with}
@@ -37,7 +37,7 @@ module _ (disk : Shape) (calls : List Call) (script : IsScriptOf disk calls) whe
   none_due past next now h ahead = due_is past next now h ∙ none_ahead now next calls script.instants ahead
 
   pub may-choose : (past : Past) (next : ℕ) (sessions : List Session) (held : List Entry) → IsCalled disk calls past next
-      → Tells disk past sessions held → MayChooseAndTest disk past sessions held
+      → Tells disk past sessions held → MaySettle disk past sessions held
   may-choose past next sessions held h tells = record { tells = tells; few = omega (arith, h.few) }
 
   module _ (past : Past) (next : ℕ) (h : IsCalled disk calls past next) (call : Call) (at : slice_get calls next ≡ Some call)

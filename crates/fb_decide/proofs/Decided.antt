@@ -24,7 +24,7 @@ use Rattle.fb_decide.specs.declared.deciding.Course.{Course}
 use Rattle.fb_model.specs.Laws.{IsFirstLeast, IsPickOf}
 use Rattle.fb_model.proofs.Picks.{pick_of-first_least}
 use Rattle.fb_model.proofs.Picks.{all_without}
-use Rattle.fb_calls.specs.declared.call.Call.{Call}
+use Rattle.fb_script.specs.declared.call.Call.{Call}
 use Rattle.fb_model.specs.Inputs.{Inputs, requests}
 use Rattle.fb_model.specs.Decisions.{instants_of, serves, idles, idle_until, last_decision, decisions_from}
 use Rattle.fb_model.proofs.Instants.{IsAmong, rising_all_among, was_all_among}

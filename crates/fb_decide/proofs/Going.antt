@@ -26,8 +26,8 @@ use Rattle.fb_rows.specs.declared.back.DeliveryRow.{DeliveryRow}
 use Rattle.fb_decide.proofs.Truth.{step_by}
 use Rattle.fb_decide.proofs.Stepping.{HasStepped, StepsBy, served_act, serves_step, stays_step, ends_step}
 use Rattle.fb_geometry.specs.Shape.{Shape, IsTrackOf}
-use Rattle.fb_calls.specs.declared.call.Call.{Call}
-use Rattle.fb_calls.specs.Allowed.{AreAllowed}
+use Rattle.fb_script.specs.declared.call.Call.{Call}
+use Rattle.fb_script.specs.Allowed.{AreAllowed}
 use Rattle.fb_store.specs.Ranges.{Holding, content_in}
 use Rattle.fb_model.specs.Accepted.{IsRequestOf}
 use Rattle.fb_model.specs.History.{Past}

@@ -7,10 +7,10 @@ use Rattle.std.proofs.lemmas.Bool.{cases_Bool}
 use Rattle.fb_units.proofs.Lists.{all_append}
 use Rattle.fb_units.specs.declared.types.Request.{Request}
 use Rattle.fb_geometry.specs.Shape.{Shape}
-use Rattle.fb_calls.specs.declared.call.Action.{Action}
-use Rattle.fb_calls.specs.declared.call.Action.TheVariants.{Promote}
-use Rattle.fb_calls.specs.declared.call.Call.{Call}
-use Rattle.fb_calls.specs.Allowed.{AreAllowed, MayAsk}
+use Rattle.fb_script.specs.declared.call.Action.{Action}
+use Rattle.fb_script.specs.declared.call.Action.TheVariants.{Promote}
+use Rattle.fb_script.specs.declared.call.Call.{Call}
+use Rattle.fb_script.specs.Allowed.{AreAllowed, MayAsk}
 use Rattle.fb_model.specs.PlainReplay.{Key}
 use Rattle.fb_model.specs.Inputs.{Inputs, requests, served}
 use Rattle.fb_model.specs.Foreground.{behind, read_of, promoted_from, promoted}
@@ -39,7 +39,7 @@ use Rattle.fb_model.specs.Steps.{Step, history, past_after, task_rows}
 use Rattle.fb_decide.specs.Calls.{IsCalled}
 use Rattle.fb_decide.proofs.FittingRows.{step_fits, tasks_fit, fits-told}
 use Rattle.fb_decide.proofs.Going.{LeadsOn, decided_more}
-use Rattle.fb_calls.specs.Allowed as allowed
+use Rattle.fb_script.specs.Allowed as allowed
 
 -- ---- the foreground list of accepted inputs is one that the disk can serve
 

@@ -46,11 +46,11 @@ abbrev own : ℕ → List Block → List Block
 own task bs = filter (λ b. b.task == task) bs
 
 -- a block whose task's further blocks have greater numbers is none of the further blocks
-alone : (a : Block) (bs : List Block) → AllByRecursion (λ b. a.number < b.number) (own a.task bs)
+alone : (a : Block) (bs : List Block) → AllByRecursion (λ b. a.index < b.index) (own a.task bs)
     → AllByRecursion (λ b. same_block a b ≡ false) bs
 alone a [] h = tt
 alone a (b ∷ bs) h = elim (cases_Bool (b.task == a.task)) [
-  | inl mine ↦ let k = rw mine at h in ((let less : a.number < b.number = k.0 in grind (arith, nat_tests)), alone a bs k.1)
+  | inl mine ↦ let k = rw mine at h in ((let less : a.index < b.index = k.0 in grind (arith, nat_tests)), alone a bs k.1)
   | inr other ↦ (grind (arith, nat_tests), alone a bs (rw other at h))
 ]
 
@@ -69,7 +69,7 @@ numbered-distinct [] h = tt
 numbered-distinct (b ∷ bs) h =
     let k = subst (λ x. (n : ℕ) × AreNumbered n (if x then b ∷ own b.task bs else own b.task bs))
     (let own : (b.task == b.task) ≡ true = grind (arith, nat_tests) in own) (h b.task) in (
-      alone b bs (all_weaker (λ c. k.0 + 1 ≤ c.number) (λ c. b.number < c.number) (λ c le. omega (arith, le, k.1.0)) (own b.task bs)
+      alone b bs (all_weaker (λ c. k.0 + 1 ≤ c.number) (λ c. b.index < c.number) (λ c le. omega (arith, le, k.1.0)) (own b.task bs)
           (numbered_from (k.0 + 1) (own b.task bs) k.1.1)),
       numbered-distinct bs (fewer b bs h),
     )

@@ -12,9 +12,9 @@ use Rattle.fb_units.proofs.Filtered.{filter_to}
 use Rattle.fb_geometry.specs.Shape.{Shape}
 use Rattle.fb_wanted.specs.declared.block.Block.{Block}
 use Rattle.fb_wanted.specs.declared.block.Entry.{Entry}
-use Rattle.fb_calls.specs.Sessions.{is_clean}
-use Rattle.fb_calls.specs.declared.call.Action.{Action}
-use Rattle.fb_calls.specs.declared.call.Action.TheVariants.{Open}
+use Rattle.fb_script.specs.Sessions.{is_clean}
+use Rattle.fb_script.specs.declared.call.Action.{Action}
+use Rattle.fb_script.specs.declared.call.Action.TheVariants.{Open}
 use Rattle.fb_model.specs.History.{Event, called, chose, tested, delivered, finished, Past, tasks, opened_by, registered, registered_by}
 use Rattle.fb_model.specs.History.{blocks_of, same_block}
 use Rattle.fb_model.specs.Completion.{Choice, choices, view}
@@ -136,16 +136,16 @@ opened-kept past event none h =
     (λ block less. let more = tasks_more past event in omega (arith, less, more)) (registered past) h)
 
 number_at : (n : ℕ) (blocks : List Block) (i : ℕ) (block : Block) → AreNumbered n blocks → slice_get blocks i ≡ Some block
-    → block.number ≡ n + i
+    → block.index ≡ n + i
 number_at n [] i block numbered at = absurd (grind arith)
-number_at n (b ∷ blocks) zero block numbered at = subst (λ b. b.number ≡ n + 0) (same_Some b block at) (omega (arith, numbered.0))
+number_at n (b ∷ blocks) zero block numbered at = subst (λ b. b.index ≡ n + 0) (same_Some b block at) (omega (arith, numbered.0))
 number_at n (b ∷ blocks) (suc i) block numbered at = let rest = number_at (n + 1) blocks i block numbered.1 at in omega (arith, rest)
 
 pub distinct : (past : Past) → ((task : ℕ) → AreNumbered 0 (blocks_of past task)) → AreDistinct past
 distinct past numbered a b there_a there_b same =
-    let parts = and_parts (a.task == b.task) (a.number == b.number) same in
+    let parts = and_parts (a.task == b.task) (a.index == b.index) same in
     let task = eqb-true a.task b.task parts.0 in
-    let number = eqb-true a.number b.number parts.1 in
+    let number = eqb-true a.index b.index parts.1 in
     let first = filter_to (λ block. block.task == b.task) (registered past) there_a.0 a there_a.1 parts.0 in
     let second = filter_to (λ block. block.task == b.task) (registered past) there_b.0 b there_b.1 (same_number b.task b.task refl) in
     let first_number = number_at 0 (blocks_of past b.task) first.0 a (numbered b.task) first.1 in

@@ -8,11 +8,11 @@ use Rattle.fb_units.specs.declared.types.Request.{Request}
 use Rattle.fb_units.proofs.Lists.{all_range, all_weaker}
 use Rattle.fb_units.proofs.Alike.{map_same}
 use Rattle.fb_geometry.specs.Shape.{Shape}
-use Rattle.fb_calls.specs.declared.call.Action.{Action}
-use Rattle.fb_calls.specs.declared.call.Action.TheVariants.{Open}
-use Rattle.fb_calls.specs.declared.call.Call.{Call}
-use Rattle.fb_calls.specs.declared.call.Kind.TheVariants.{Plain}
-use Rattle.fb_calls.specs.Sessions.{is_backup}
+use Rattle.fb_script.specs.declared.call.Action.{Action}
+use Rattle.fb_script.specs.declared.call.Action.TheVariants.{Open}
+use Rattle.fb_script.specs.declared.call.Call.{Call}
+use Rattle.fb_script.specs.declared.call.Kind.TheVariants.{Plain}
+use Rattle.fb_script.specs.Sessions.{is_backup}
 use Rattle.fb_store.specs.Runs.{runs_of}
 use Rattle.fb_store.specs.Ranges.{Holding, content_in}
 use Rattle.fb_wanted.specs.declared.block.Block.{Block}

@@ -9,7 +9,7 @@ use Rattle.fb_sectormap.specs.LookUp.{place_at}
 use Rattle.fb_service.specs.Passing.{length_of}
 use Rattle.fb_service.specs.declared.disk.Disk.{Disk}
 use Rattle.fb_service.specs.Service.{passages}
-use Rattle.fb_calls.specs.declared.call.Call.{Call}
+use Rattle.fb_script.specs.declared.call.Call.{Call}
 use Rattle.fb_store.specs.Writes.{unwritten}
 use Rattle.fb_store.specs.Ranges.{content_in}
 use Rattle.fb_tasks.specs.Telling.{Tells}

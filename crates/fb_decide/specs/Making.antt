@@ -6,7 +6,7 @@ use Rattle.fb_units.specs.declared.types.Request.{Request}
 use Rattle.fb_units.specs.Rising.{IsRising}
 use Rattle.fb_geometry.specs.Shape.{IsTrackOf}
 use Rattle.fb_geometry.specs.Sound.{IsSound}
-use Rattle.fb_calls.specs.Allowed as allowed
+use Rattle.fb_script.specs.Allowed as allowed
 use Rattle.fb_store.specs.declared.content.Content.{Content}
 use Rattle.fb_store.specs.Writes.{unwritten}
 use Rattle.fb_store.specs.Ranges.{Holding, content_in}

@@ -12,7 +12,7 @@ use fb_service::Disk;
 use fb_store::{Store, runs_are_fewest};
 use fb_tasks::{Sessions, reads_change_nothing};
 use fb_units::{NoMemory, Request};
-use fb_wanted::Blocks;
+use fb_wanted::Wanted;
 use std::alloc::Global;
 
 /// The background between two events of a replay.
@@ -25,7 +25,7 @@ pub struct Background {
     /// The tasks, in order of opening.
     pub sessions: Sessions,
     /// Their registered blocks, each with its state.
-    pub blocks: Blocks,
+    pub blocks: Wanted,
     /// The background rows that haven't been taken yet.
     pub rows: BackRows,
 }
@@ -57,7 +57,7 @@ impl Background {
             bad: content.bad() as u32,
             content,
         };
-        self.sessions.deliver(&mut self.blocks, got, &mut self.rows)
+        self.sessions.delivered(&mut self.blocks, got, &mut self.rows)
     }
 
     /// Delivers these blocks one after another.

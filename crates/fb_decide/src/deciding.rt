@@ -3,7 +3,7 @@ ghost use Rattle.std.specs.Prelude.{◌≡◌, ℕ, ◌-◌, ◌*◌, ◌<◌, �
 ghost use Rattle.std.specs.Prelude.{slice_get};
 ghost use Rattle.std.specs.List.{AllByRecursion};
 ghost use Rattle.fb_geometry.specs.Shape.{IsTrackOf};
-ghost use Rattle.fb_calls.specs.Allowed.{tasks};
+ghost use Rattle.fb_script.specs.Allowed.{tasks};
 ghost use Rattle.fb_model.specs.Inputs.{Inputs};
 ghost use Rattle.fb_model.specs.Accepted.{IsAccepted, IsRequestOf};
 ghost use Rattle.fb_model.specs.Decisions.{decisions, run_end};
@@ -28,7 +28,7 @@ use crate::requests::Requests;
 use crate::run_inputs::RunInputs;
 use crate::serving::serve_request;
 use crate::start::Start;
-use fb_calls::Calls;
+use fb_script::Calls;
 use fb_model::foreground_lists_ascend;
 use fb_plan::Planner;
 use fb_queue::Queue;
@@ -38,7 +38,7 @@ use fb_store::Store;
 use fb_tasks::Sessions;
 use fb_trace::Trace;
 use fb_units::{NoMemory, Ns, Request, Track};
-use fb_wanted::Blocks;
+use fb_wanted::Wanted;
 use std::alloc::Global;
 use std::mem;
 
@@ -200,7 +200,7 @@ fn initial_course(alloc: Global, latent: &[u64]) -> Result<Course, NoMemory>
         store: Store::new(alloc, latent)?,
         background: Background {
             sessions: Sessions::new(alloc),
-            blocks: Blocks::new(alloc),
+            blocks: Wanted::new(alloc),
             rows: BackRows::new(alloc),
         },
         fore: ForeRows::new(alloc),

@@ -2,12 +2,12 @@
 ghost use Rattle.std.specs.Prelude.{List, ◌≡◌, ◌≤◌, ◌<◌, ◌++◌, map, length, drop, IfOk, IfSome, OnOk, slice_get};
 ghost use Rattle.std.specs.List.{AllByRecursion, fold};
 ghost use Rattle.fb_units.specs.Rising.{IsRising};
-ghost use Rattle.fb_calls.specs.declared.call.Call.{Call};
-ghost use Rattle.fb_calls.specs.Promoted.{promoted};
+ghost use Rattle.fb_script.specs.declared.call.Call.{Call};
+ghost use Rattle.fb_script.specs.Promoted.{promoted};
 ghost use Rattle.fb_model.specs.Foreground.{behind, foreground_list};
 
 use crate::requests::Requests;
-use fb_calls::{Calls, promoted};
+use fb_script::{Calls, promoted};
 use fb_units::{NoMemory, Ns, Request};
 use std::alloc::Global;
 

@@ -8,7 +8,7 @@ ghost use Rattle.fb_tasks.specs.Telling.{Tells};
 ghost use Rattle.fb_decide.specs.Calls.{IsScriptOf, IsCalled, HasPrepared};
 
 use crate::background::Background;
-use fb_calls::Calls;
+use fb_script::Calls;
 use fb_service::Disk;
 use fb_units::{NoMemory, Ns};
 
@@ -64,7 +64,7 @@ impl Background {
     {
         let next = self.apply_calls(disk, calls, next, now)?;
         self.sessions
-            .choose_and_test(&disk.map, &mut self.blocks, now, &mut self.rows)?;
+            .settle(&disk.map, &mut self.blocks, now, &mut self.rows)?;
         Ok(next)
     }
 }

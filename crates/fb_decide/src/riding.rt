@@ -18,7 +18,7 @@ use fb_rows::{Catch, How};
 use fb_service::{Disk, Extent, Passage, Service, nth_passage};
 use fb_store::Store;
 use fb_units::{NoMemory, Request};
-use fb_wanted::{Block, Blocks};
+use fb_wanted::{Block, Wanted};
 use std::alloc::Global;
 
 impl Background {
@@ -53,20 +53,20 @@ impl Background {
 fn carried(
     alloc: Global,
     disk: &Disk,
-    blocks: &Blocks,
+    wanted: &Wanted,
     request: Request,
     extents: &[Extent],
 ) -> Result<Vec<Catch>, NoMemory>
     requires extents { AreExtents disk.now.map extents.now }
     requires covers { AreLaid request.lbn extents.now request.count }
     requires request { request.lbn + request.count ≤ 10 ^ 12 }
-    requires registered { AreOnDisk disk.now blocks.now }
-    requires distinct { AreDistinct (wanted_of blocks.now) }
-    ensures { IfOk result (λ found. found.items ≡ carried_of (all_passages_of disk.now.map extents.now) request (wanted_of blocks.now)) }
+    requires registered { AreOnDisk disk.now wanted.now }
+    requires distinct { AreDistinct (wanted_of wanted.now) }
+    ensures { IfOk result (λ found. found.items ≡ carried_of (all_passages_of disk.now.map extents.now) request (wanted_of wanted.now)) }
 {
     let mut found = Vec::new(alloc);
     for extent in extents {
-        add_carried(disk, blocks, request, extents, extent, &mut found)?;
+        add_carried(disk, wanted, request, extents, extent, &mut found)?;
     }
     put_in_order(&mut found)?;
     Ok(found)
@@ -75,7 +75,7 @@ fn carried(
 // Adds the wanted blocks that the read carries and whose first sector passes in this extent, in any order.
 fn add_carried(
     disk: &Disk,
-    blocks: &Blocks,
+    wanted: &Wanted,
     request: Request,
     extents: &[Extent],
     extent: &Extent,
@@ -84,13 +84,13 @@ fn add_carried(
     requires extents { AreExtents disk.now.map extents.now }
     requires extent { extent.now.first + extent.now.count ≤ 10 ^ 12 }
     requires request { request.lbn + request.count ≤ 10 ^ 12 }
-    requires registered { AreOnDisk disk.now blocks.now }
+    requires registered { AreOnDisk disk.now wanted.now }
     ensures { OnOk result (in_order found.new.items
         ≡ in_order (added (all_passages_of disk.now.map extents.now) extent.now request found.old.items
-        (wanted_of (on_track extent.now.track blocks.now)))) }
+        (wanted_of (on_track extent.now.track wanted.now)))) }
 {
-    blocks.numbered_in_order();
-    let candidates = blocks.on(extent.track).wanted();
+    wanted.numbered_in_order();
+    let candidates = wanted.on(extent.track).wanted();
     for i in 0..candidates.len() {
         add_ride(disk, request, extents, extent, candidates.get(i), found)?;
     }

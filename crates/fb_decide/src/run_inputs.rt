@@ -1,5 +1,5 @@
 // The inputs of a run, lent to its replay.
-use fb_calls::Calls;
+use fb_script::Calls;
 use fb_service::Disk;
 use fb_trace::Trace;
 use fb_units::Ns;

@@ -11,7 +11,7 @@ use fb_plan::{Scored, is_no_worse};
 use fb_rows::{Gap, Plan};
 use fb_service::Disk;
 use fb_units::{Ns, Track};
-use fb_wanted::{BAND, Blocks};
+use fb_wanted::{BAND, Wanted};
 
 // How many cylinders the cylinder lies outside a range; 0 inside it.
 fn distance_to(from: u32, end: u32, cylinder: u32) -> u32
@@ -85,15 +85,15 @@ pub fn first_track_on(cylinder: u32) -> Track
 
 // An upper bound on the weight of the wanted blocks that share one sector, over all blocks of these
 // cylinders and of one other track.
-pub fn most_depth(blocks: &Blocks, from: u32, end: u32, other: Track) -> u64
+pub fn most_depth(wanted: &Wanted, from: u32, end: u32, other: Track) -> u64
     requires some { from < end }
-    ensures each { (track : Track) (lbn : ℕ) → from ≤ track.cylinder → track.cylinder < end → depth_at track lbn blocks.now ≤ result }
-    ensures other { (lbn : ℕ) → depth_at other lbn blocks.now ≤ result }
+    ensures each { (track : Track) (lbn : ℕ) → from ≤ track.cylinder → track.cylinder < end → depth_at track lbn wanted.now ≤ result }
+    ensures other { (lbn : ℕ) → depth_at other lbn wanted.now ≤ result }
     ensures small { result ≤ 16000000 * 1000 }
 {
-    let mut depth = blocks.depth_in(other.cylinder / BAND);
+    let mut depth = wanted.depth_in(other.cylinder / BAND);
     for band in from / BAND..(end - 1) / BAND + 1 {
-        depth = depth.max(blocks.depth_in(band));
+        depth = depth.max(wanted.depth_in(band));
     }
     depth
 }

@@ -19,7 +19,7 @@ use fb_plan::{
 use fb_rows::Gap;
 use fb_service::Disk;
 use fb_units::Ns;
-use fb_wanted::Blocks;
+use fb_wanted::Wanted;
 
 // Whether the plan of the way that leaves at this instant, of no more value than the ceiling, is no
 // better than the best so far.

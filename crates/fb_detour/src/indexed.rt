@@ -13,34 +13,41 @@ use crate::search::try_all;
 use fb_plan::{Planner, scored};
 use fb_rows::{Gap, Plan};
 use fb_service::Disk;
-use fb_wanted::Blocks;
+use fb_wanted::Wanted;
 
 /// Passes over the cylinders out of reach, those where too little can pass in the time that is left, and the
 /// tracks whose wanted blocks, together with what the target can still give, can't beat the best so far.
 #[derive(Clone, Copy)]
 pub struct IndexedPlanner;
 
+impl IndexedPlanner {
+    /// The planner. It keeps nothing.
+    pub fn new() -> IndexedPlanner {
+        IndexedPlanner
+    }
+}
+
 // True only if no wanted block weighs anything. Then the direct plan that leaves at once is the best of each
 // gap, as the first in the order of ties.
-fn wants_nothing(disk: &Disk, blocks: &Blocks) -> bool
-    ensures { result ≡ true → (gap : Gap) → IsGap disk.now gap → IsBest disk.now gap (wanted_of blocks.now) (Plan.Direct gap.now) }
+fn wants_nothing(disk: &Disk, wanted: &Wanted) -> bool
+    ensures { result ≡ true → (gap : Gap) → IsGap disk.now gap → IsBest disk.now gap (wanted_of wanted.now) (Plan.Direct gap.now) }
 {
-    blocks.greatest_weight_in(0, disk.map.geometry().cylinders()) == 0
+    wanted.greatest_weight_in(0, disk.map.geometry().cylinders()) == 0
 }
 
 impl Planner for IndexedPlanner {
-    fn best(&self, disk: &Disk, blocks: &Blocks, gap: &Gap) -> Plan {
-        if wants_nothing(disk, blocks) {
+    fn best(&self, disk: &Disk, wanted: &Wanted, gap: &Gap) -> Plan {
+        if wants_nothing(disk, wanted) {
             return Plan::Direct { leave: gap.now };
         }
-        let late = late_parts(disk, blocks, gap);
+        let late = late_parts(disk, wanted, gap);
         let search = Search {
             disk,
-            blocks,
+            blocks: wanted,
             gap,
             late: &late,
         };
-        let first = scored(disk, blocks, gap, Plan::Direct { leave: gap.now });
+        let first = scored(disk, wanted, gap, Plan::Direct { leave: gap.now });
         let direct = try_source(&search, first);
         try_all(&search, direct).plan
     }

@@ -10,7 +10,7 @@ use fb_plan::{Turning, blocks_on};
 use fb_rows::Gap;
 use fb_service::Disk;
 use fb_units::{Ns, Sweep};
-use fb_wanted::{Blocks, Offer};
+use fb_wanted::{Wanted, Offer};
 
 // Into how many parts the time of the gap is divided.
 pub const GAP_PARTS: usize = 32;
@@ -146,12 +146,12 @@ fn add_late(
 }
 
 // Upper bounds on what the target can still give from the beginning of each part of the gap on.
-pub fn late_parts(disk: &Disk, blocks: &Blocks, gap: &Gap) -> LateParts
+pub fn late_parts(disk: &Disk, wanted: &Wanted, gap: &Gap) -> LateParts
     requires gap { IsGap disk.now gap.now }
-    requires blocks { AreOnDisk disk.now blocks.now }
-    ensures late { IsLate disk.now gap.entry.now blocks.now result }
+    requires blocks { AreOnDisk disk.now wanted.now }
+    ensures late { IsLate disk.now gap.entry.now wanted.now result }
 {
-    let on_target = blocks_on(blocks, gap.target);
+    let on_target = blocks_on(wanted, gap.target);
     let stop = stop_at(disk, &on_target, gap.target, gap.now);
     let step = late_step(gap);
     let mut parts = [0; GAP_PARTS];

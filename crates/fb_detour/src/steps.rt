@@ -12,7 +12,7 @@ use crate::given::Search;
 use crate::parts::{GAP_PARTS, LateParts};
 use fb_service::Disk;
 use fb_units::{Ns, Track};
-use fb_wanted::{BAND, Blocks};
+use fb_wanted::{BAND, Wanted};
 
 // The unit of rates: one for each ns.
 const UNIT: u64 = 1 << 24;
@@ -34,17 +34,17 @@ pub struct Reach {
 
 // An upper bound on what passes in each ns on a track of these cylinders, in units of 2^-24: one sector for
 // each least length of a slot, with the most weight that is wanted of one sector.
-pub fn rate_over(disk: &Disk, blocks: &Blocks, from: u32, end: u32) -> u64
+pub fn rate_over(disk: &Disk, wanted: &Wanted, from: u32, end: u32) -> u64
     requires some { from < end }
     requires cylinders { end ≤ disk.now.mechanism.cylinders }
-    requires blocks { AreOnDisk disk.now blocks.now }
-    ensures { (track : Track) → from ≤ track.cylinder → track.cylinder < end → IsRate disk.now blocks.now track result }
+    requires blocks { AreOnDisk disk.now wanted.now }
+    ensures { (track : Track) → from ≤ track.cylinder → track.cylinder < end → IsRate disk.now wanted.now track result }
 {
     let geometry = disk.map.geometry();
     geometry.sound();
     geometry.own_places();
     let first = first_track_on(from);
-    let depth = most_depth(blocks, from, end, first);
+    let depth = most_depth(wanted, from, end, first);
     let share = geometry.rotation() / most_slots(disk, from, end, first) as u64;
     (depth * UNIT).div_ceil(share)
 }

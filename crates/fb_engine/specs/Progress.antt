@@ -1,7 +1,7 @@
 -- How far the loop over decisions has come.
 use Rattle.std.specs.Prelude.{◌≤◌, ◌*◌, ◌^◌, List, Bool, length}
 use Rattle.std.specs.List.{AllByRecursion}
-use Rattle.fb_calls.specs.Allowed as allowed
+use Rattle.fb_script.specs.Allowed as allowed
 use Rattle.fb_rows.specs.Tasks.{HasTaskBelow}
 use Rattle.fb_rows.specs.declared.run.Run.{Run}
 use Rattle.fb_model.specs.FullRun.{IsFull}

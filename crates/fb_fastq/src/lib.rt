@@ -5,11 +5,11 @@
 //! spot stand in order of joining.
 //!
 //! For `SstfMap` and `ClookMap` the spot is the cylinder, so that the first request of the nearest
-//! one or of the next one is found at once. For `SptfLanes` all tracks are laid end to end, each
+//! one or of the next one is found at once. For `SptfBuckets` all tracks are laid end to end, each
 //! once for reads and once for writes, since a write has to settle. The spot is how far along these
 //! lanes the request's first sector begins, which is all that its wait depends on.
 //!
-//! `SptfLanes` keeps a row for each cylinder, and a set of those whose rows have requests. Rows are
+//! `SptfBuckets` keeps a row for each cylinder, and a set of those whose rows have requests. Rows are
 //! looked at from the head's cylinder upwards and then downwards, until the seek alone takes longer
 //! than the shortest wait found, and of a row's requests only those are valued that could be sooner.
 //! What a row has no room for waits in the map, where in each lane the next request from the angle
@@ -36,5 +36,5 @@ pub use choice::Choice;
 pub use cylinder_map::CylinderMap;
 pub use nearest::{Nearest, SstfMap};
 pub use ring::FcfsRing;
-pub use sptf::SptfLanes;
+pub use sptf::SptfBuckets;
 pub use upwards::{ClookMap, Upwards};

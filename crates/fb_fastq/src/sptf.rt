@@ -24,7 +24,7 @@ const ROOM: usize = 128;
 /// Requests wait in a row for each cylinder, whose requests are looked at one after another; where
 /// more wait than a row has room for, they wait in a map by lane and angle, which is searched.
 #[derive(Drop)]
-pub struct SptfLanes {
+pub struct SptfBuckets {
     alloc: Global,
     // The requests for which their row had no room.
     overflow: BTreeMap<(u64, u64), Request>,
@@ -35,7 +35,7 @@ pub struct SptfLanes {
     joined: u64,
 }
 
-impl Model for SptfLanes {
+impl Model for SptfBuckets {
     ghost use Rattle.std.specs.Prelude.{◌++◌};
     ghost use Rattle.fb_fastq.specs.Joining.{QueueState};
     ghost use Rattle.fb_fastq.specs.ByCylinder.{all_of_rows, IsDivided, AreOccupied};
@@ -47,13 +47,13 @@ impl Model for SptfLanes {
     ghost invariant = { λ q. IsDivided q.overflow.entries q.rows.items q.in_rows q.joined × AreOccupied q.occupied q.rows.items };
 }
 
-impl SptfLanes {
+impl SptfBuckets {
     /// An empty queue.
-    pub fn new(alloc: Global) -> SptfLanes
+    pub fn new(alloc: Global) -> SptfBuckets
         ensures pending { pending_of result.waiting ≡ [] }
         ensures joined { result.joined ≡ 0 }
     {
-        SptfLanes {
+        SptfBuckets {
             alloc,
             overflow: BTreeMap::new(alloc),
             rows: Vec::new(alloc),
@@ -72,7 +72,7 @@ impl SptfLanes {
     }
 }
 
-impl Queue for SptfLanes {
+impl Queue for SptfBuckets {
     ghost pending = { λ q. pending_of q.waiting };
 
     ghost joined = { λ q. q.joined };

@@ -5,12 +5,12 @@ use Rattle.fb_maker.proofs.Words.{flat_map, range_with_len, list_all-append, len
 use Rattle.fb_maker.proofs.Words.{whole_number, Shape, places, zone_places, data_list, IsSound, Zone, PerTrack, PerCylinder, cutting}
 use Rattle.fb_maker.proofs.Words.{number_of, first_zone, most, script_lines, script_text, script_calls, call_at, is_long, has_long_tracks}
 use Rattle.fb_geometry.specs.declared.layout.Layout.{Layout}
-use Rattle.fb_calls.specs.declared.call.Action.TheVariants.{Open, Want}
-use Rattle.fb_calls.specs.declared.call.Kind.TheVariants.{Scrub, Backup}
-use Rattle.fb_script.specs.Words.{verb_of, kind_of}
-use Rattle.fb_script.specs.Line.{asked_by, entry_of}
-use Rattle.fb_script.specs.Judgement.{Progress, opened, allowed, allowed_for, task_for, call_of, with_call}
-use Rattle.fb_script.specs.Reading.{at_start, at_end, line_read, next_progress, lines_from, calls_of}
+use Rattle.fb_script.specs.declared.call.Action.TheVariants.{Open, Want}
+use Rattle.fb_script.specs.declared.call.Kind.TheVariants.{Scrub, Backup}
+use Rattle.fb_calls.specs.Words.{verb_of, kind_of}
+use Rattle.fb_calls.specs.Line.{asked_by, entry_of}
+use Rattle.fb_calls.specs.Judgement.{Progress, opened, allowed, allowed_for, task_for, call_of, with_call}
+use Rattle.fb_calls.specs.Reading.{at_start, at_end, line_read, next_progress, lines_from, calls_of}
 use Rattle.fb_maker.proofs.{LongTracks.long_tracks_spread, Blocks.few_blocks, Blocks.no_more_blocks, Splitting.printed, Splitting.IsWord}
 use Rattle.fb_maker.proofs.{Splitting.field_then, Splitting.field_last, Splitting.word_printed, Splitting.line_then, Splitting.no_lines}
 use Rattle.fb_maker.proofs.{Spelling.decimal_word}

@@ -4,10 +4,10 @@ use Rattle.std.specs.List.{flat_map, list_all}
 use Rattle.fb_geometry.specs.declared.layout.Layout.{Layout}
 use Rattle.fb_geometry.specs.declared.layout.Layout.TheVariants.{PerTrack, PerCylinder}
 use Rattle.fb_geometry.specs.declared.zone.Zone.{Zone}
-use Rattle.fb_calls.specs.declared.call.Action.{Action}
-use Rattle.fb_calls.specs.declared.call.Action.TheVariants.{Open, Want}
-use Rattle.fb_calls.specs.declared.call.Call.{Call}
-use Rattle.fb_calls.specs.declared.call.Kind.TheVariants.{Scrub, Backup}
+use Rattle.fb_script.specs.declared.call.Action.{Action}
+use Rattle.fb_script.specs.declared.call.Action.TheVariants.{Open, Want}
+use Rattle.fb_script.specs.declared.call.Call.{Call}
+use Rattle.fb_script.specs.declared.call.Kind.TheVariants.{Scrub, Backup}
 use Rattle.fb_geometry.specs.Shape.{Shape}
 use Rattle.fb_geometry.specs.Places.{places, zone_places}
 

@@ -99,7 +99,7 @@ fn draw(words: &mut SplitMix64, sectors: u64, behind: u64, before: Ns) -> Reques
     let lbn = words.next_word() % (sectors - count + 1);
     let write = words.next_word() % 3 == 0;
     Request {
-        name: Name::Traced(behind as u32 + 1),
+        name: Name::Traced(behind + 1),
         arrival,
         lbn,
         count: count as u32,

@@ -2,7 +2,7 @@
 ghost use Rattle.std.specs.Prelude.{◌≡◌, ℕ, ◌++◌, ◌∷◌, [], Ok, OnOk, IfOk, codes, decimal};
 ghost use Rattle.std.specs.List.{list_all};
 ghost use Rattle.fb_maker.specs.Script.{script_text, most, first_zone, has_long_tracks, is_long, script_calls};
-ghost use Rattle.fb_script.specs.Reading.{calls_of};
+ghost use Rattle.fb_calls.specs.Reading.{calls_of};
 
 use fb_geometry::{Geometry, Layout, Zone};
 use fb_sectormap::SectorMap;

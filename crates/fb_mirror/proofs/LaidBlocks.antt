@@ -16,14 +16,14 @@ use Rattle.fb_geometry.specs.Shape.{Shape}
 use Rattle.fb_geometry.specs.Places.{places}
 use Rattle.fb_sectormap.specs.declared.cut.Cut.{Cut}
 use Rattle.fb_sectormap.specs.Cutting.{cutting}
-use Rattle.fb_calls.specs.declared.call.Action.{Action}
-use Rattle.fb_calls.specs.declared.call.Action.TheVariants.{Open, Want, Abort, Promote, Suspend, Resume, Close, Segment}
-use Rattle.fb_calls.specs.declared.call.Call.{Call}
-use Rattle.fb_calls.specs.declared.call.Kind.TheVariants.{Plain}
-use Rattle.fb_calls.specs.Allowed as allowed
-use Rattle.fb_calls.specs.Allowed.{AreAllowed, MayAsk, Terms, terms_in}
-use Rattle.fb_calls.specs.Blocks.{live_cuts}
-use Rattle.fb_calls.specs.Sessions.{is_clean}
+use Rattle.fb_script.specs.declared.call.Action.{Action}
+use Rattle.fb_script.specs.declared.call.Action.TheVariants.{Open, Want, Abort, Promote, Suspend, Resume, Close, Segment}
+use Rattle.fb_script.specs.declared.call.Call.{Call}
+use Rattle.fb_script.specs.declared.call.Kind.TheVariants.{Plain}
+use Rattle.fb_script.specs.Allowed as allowed
+use Rattle.fb_script.specs.Allowed.{AreAllowed, MayAsk, Terms, terms_in}
+use Rattle.fb_script.specs.Blocks.{live_cuts}
+use Rattle.fb_script.specs.Sessions.{is_clean}
 use Rattle.fb_wanted.specs.declared.block.Block.{Block}
 use Rattle.fb_wanted.specs.States.{is_wanted}
 use Rattle.fb_rows.specs.declared.back.BackRow.{BackRow}

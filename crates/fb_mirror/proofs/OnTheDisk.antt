@@ -13,7 +13,7 @@ use Rattle.fb_rows.specs.declared.back.BackRow.{BackRow}
 use Rattle.fb_rows.specs.declared.back.BackRow.TheVariants.{Gap, Idle, Got, Bad, Seal, Segment, Complete, Task}
 use Rattle.fb_rows.specs.declared.back.DeliveryRow.{DeliveryRow}
 use Rattle.fb_rows.specs.declared.run.Run.{Run}
-use Rattle.fb_calls.specs.declared.call.Call.{Call}
+use Rattle.fb_script.specs.declared.call.Call.{Call}
 use Rattle.fb_model.specs.Accepted.{IsAccepted}
 use Rattle.fb_store.specs.Writes.{writer_of}
 use Rattle.fb_model.specs.Content.{contents_at, Medium, content, fore_row, fore_rows, medium_of}

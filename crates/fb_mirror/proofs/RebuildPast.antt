@@ -13,11 +13,11 @@ use Rattle.fb_geometry.specs.Shape.{Shape}
 use Rattle.fb_geometry.specs.Places.{places}
 use Rattle.fb_sectormap.specs.declared.cut.Cut.{Cut}
 use Rattle.fb_sectormap.specs.Cutting.{cutting}
-use Rattle.fb_calls.specs.declared.call.Action.TheVariants.{Open, Want}
-use Rattle.fb_calls.specs.declared.call.Call.{Call}
-use Rattle.fb_calls.specs.declared.call.Kind.TheVariants.{Backup, Plain}
-use Rattle.fb_calls.specs.Sessions.{is_backup, is_clean}
-use Rattle.fb_calls.specs.Allowed.{Terms}
+use Rattle.fb_script.specs.declared.call.Action.TheVariants.{Open, Want}
+use Rattle.fb_script.specs.declared.call.Call.{Call}
+use Rattle.fb_script.specs.declared.call.Kind.TheVariants.{Backup, Plain}
+use Rattle.fb_script.specs.Sessions.{is_backup, is_clean}
+use Rattle.fb_script.specs.Allowed.{Terms}
 use Rattle.fb_wanted.specs.declared.block.Block.{Block}
 use Rattle.fb_wanted.specs.declared.block.State.{State}
 use Rattle.fb_wanted.specs.declared.block.State.TheVariants.{Wanted, Delivered}
@@ -199,11 +199,11 @@ wanted_have P disk past Q is all =
     all_filter Q (λ block. is_wanted (state past block)) (registered past) (subst (AllByRecursion Q) (sym (blocks_are P disk past is)) all)
 
 numbered_at : (task weight n : ℕ) (cuts : List Cut) (i : ℕ) (block : Block) → slice_get (numbered task weight n cuts) i ≡ Some block
-    → (block.task ≡ task) × (block.number ≡ n + i)
+    → (block.task ≡ task) × (block.index ≡ n + i)
 numbered_at task weight n [] i block at = absurd (grind arith)
 numbered_at task weight n (cut ∷ cuts) zero block at =
     let same = some_is at in
-    (sym (ap (λ (b : Block). b.task) same), omega (arith, ap (λ (b : Block). b.number) same))
+    (sym (ap (λ (b : Block). b.task) same), omega (arith, ap (λ (b : Block). b.index) same))
   where
     some_is : {a b : Block} → Some a ≡ Some b → a ≡ b
     some_is e = grind arith
@@ -214,7 +214,7 @@ numbered_at task weight n (cut ∷ cuts) (suc i) block at = let rest = numbered_
 one_number : (disk : Shape) (a b : Block) → Among (disk_blocks disk) a → Among (disk_blocks disk) b → same_block a b ≡ true → a ≡ b
 one_number disk a b is_a is_b same =
     let cuts = cutting disk 16 0 (length (places disk)) in
-    let number = eqb-true a.number b.number (and_parts (a.task == b.task) (a.number == b.number) same).1 in
+    let number = eqb-true a.index b.index (and_parts (a.task == b.task) (a.index == b.index) same).1 in
     let place : is_a.0 ≡ is_b.0 =
     omega (arith, (numbered_at 0 1 0 cuts is_a.0 a is_a.1).1, (numbered_at 0 1 0 cuts is_b.0 b is_b.1).1, number) in
     same_Some a b (sym is_a.1 ∙ ap (slice_get (disk_blocks disk)) place ∙ is_b.1)
@@ -276,7 +276,7 @@ own_blocks : (weight n : ℕ) (cuts : List Cut)
 own_blocks weight n [] = refl
 own_blocks weight n (cut ∷ cuts) = ap (λ blocks. record {
   task = 0;
-  number = n;
+  index = n;
   lbn = cut.lbn;
   count = cut.count;
   track = cut.track;

@@ -11,15 +11,15 @@ use Rattle.fb_units.proofs.Written.{whole_number}
 use Rattle.fb_geometry.specs.Shape.{Shape}
 use Rattle.fb_geometry.specs.Places.{places}
 use Rattle.fb_geometry.specs.Sound.{IsSound}
-use Rattle.fb_calls.specs.declared.call.Action.TheVariants.{Open, Want}
-use Rattle.fb_calls.specs.declared.call.Kind.TheVariants.{Backup}
-use Rattle.fb_script.specs.declared.fault.CallsFault.{CallsFault}
-use Rattle.fb_script.specs.declared.fault.CallsReason.TheVariants.{TooManyBlocks}
-use Rattle.fb_calls.specs.Blocks.{blocks_in}
-use Rattle.fb_script.specs.Words.{verb_of, kind_of}
-use Rattle.fb_script.specs.Line.{asked_by, entry_of}
-use Rattle.fb_script.specs.Judgement.{Progress, opened, allowed, allowed_for, task_for, call_of, with_call, are_too_many}
-use Rattle.fb_script.specs.Reading.{at_start, at_end, fault_at, line_read, next_progress, lines_from, calls_of}
+use Rattle.fb_script.specs.declared.call.Action.TheVariants.{Open, Want}
+use Rattle.fb_script.specs.declared.call.Kind.TheVariants.{Backup}
+use Rattle.fb_calls.specs.declared.fault.CallsFault.{CallsFault}
+use Rattle.fb_calls.specs.declared.fault.CallsReason.TheVariants.{TooManyBlocks}
+use Rattle.fb_script.specs.Blocks.{blocks_in}
+use Rattle.fb_calls.specs.Words.{verb_of, kind_of}
+use Rattle.fb_calls.specs.Line.{asked_by, entry_of}
+use Rattle.fb_calls.specs.Judgement.{Progress, opened, allowed, allowed_for, task_for, call_of, with_call, are_too_many}
+use Rattle.fb_calls.specs.Reading.{at_start, at_end, fault_at, line_read, next_progress, lines_from, calls_of}
 use Rattle.fb_maker.proofs.Splitting.{printed, field_then, field_last, word_printed, line_then, no_lines}
 use Rattle.fb_maker.proofs.Spelling.{decimal_word}
 use Rattle.fb_mirror.specs.Script.{rebuild_text, rebuild_reading, disk_blocks}

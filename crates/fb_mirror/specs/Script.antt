@@ -2,14 +2,14 @@
 use Rattle.std.specs.Prelude.{ℕ, List, [], ◌∷◌, ◌++◌, length, decimal, codes, Result, Ok, Err, if◌then◌else◌}
 use Rattle.fb_geometry.specs.Shape.{Shape}
 use Rattle.fb_geometry.specs.Places.{places}
-use Rattle.fb_calls.specs.declared.call.Action.TheVariants.{Open, Want}
-use Rattle.fb_calls.specs.declared.call.Call.{Call}
-use Rattle.fb_calls.specs.declared.call.Kind.TheVariants.{Backup}
-use Rattle.fb_script.specs.declared.fault.CallsFault.{CallsFault}
-use Rattle.fb_script.specs.declared.fault.CallsReason.TheVariants.{TooManyBlocks}
-use Rattle.fb_calls.specs.Blocks.{blocks_in}
-use Rattle.fb_script.specs.Judgement.{are_too_many}
-use Rattle.fb_script.specs.Reading.{Accepted, fault_at}
+use Rattle.fb_script.specs.declared.call.Action.TheVariants.{Open, Want}
+use Rattle.fb_script.specs.declared.call.Call.{Call}
+use Rattle.fb_script.specs.declared.call.Kind.TheVariants.{Backup}
+use Rattle.fb_calls.specs.declared.fault.CallsFault.{CallsFault}
+use Rattle.fb_calls.specs.declared.fault.CallsReason.TheVariants.{TooManyBlocks}
+use Rattle.fb_script.specs.Blocks.{blocks_in}
+use Rattle.fb_calls.specs.Judgement.{are_too_many}
+use Rattle.fb_calls.specs.Reading.{Accepted, fault_at}
 
 -- the text of the script: a backup named `rebuild`, which wants all sectors of the disk
 abbrev pub rebuild_text : Shape → List ℕ

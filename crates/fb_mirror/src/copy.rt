@@ -9,7 +9,7 @@ use itoa::Buffer;
 use std::alloc::Global;
 
 /// The number of lines in the text of a copy.
-pub fn copy_line_count(copy: &Rebuilt) -> u64
+pub fn copy_pieces(copy: &Rebuilt) -> u64
     requires { length copy.now.content ≤ 10 ^ 12 }
     ensures { (count : ℕ) → result ≡ length (copy_lines copy.now count) }
 {
@@ -18,7 +18,7 @@ pub fn copy_line_count(copy: &Rebuilt) -> u64
 
 /// The line at this index, counted from 0, in the text of a copy of a disk of `count` sectors, with
 /// its line feed. The only error is `NoMemory`.
-pub fn copy_line_at(
+pub fn copy_piece(
     alloc: Global,
     copy: &Rebuilt,
     count: u64,

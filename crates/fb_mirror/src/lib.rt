@@ -17,7 +17,7 @@ mod laws;
 mod rebuilt;
 mod script;
 
-pub use copy::{copy_line_at, copy_line_count};
+pub use copy::{copy_piece, copy_pieces};
 pub use laws::{
     covered_sectors_are_the_survivors, events_concern_their_sectors, latest_events_decide,
     runs_lie_on_the_disk, sealed_rebuilds_are_whole,

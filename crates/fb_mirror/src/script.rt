@@ -1,6 +1,6 @@
 // The call script of a rebuild.
 ghost use Rattle.std.specs.Prelude.{◌≡◌, ℕ, IfOk, OnOk};
-ghost use Rattle.fb_script.specs.Reading.{calls_of};
+ghost use Rattle.fb_calls.specs.Reading.{calls_of};
 ghost use Rattle.fb_mirror.specs.Script.{rebuild_text, rebuild_reading};
 
 use fb_sectormap::SectorMap;

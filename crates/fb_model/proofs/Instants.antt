@@ -10,7 +10,7 @@ use Rattle.fb_units.proofs.Lists.{all_weaker}
 use Rattle.fb_units.specs.declared.types.Request.{Request}
 use Rattle.fb_units.specs.Rising.{IsRising}
 use Rattle.fb_units.proofs.Filtered.{kept_map, none_kept}
-use Rattle.fb_calls.specs.declared.call.Call.{Call}
+use Rattle.fb_script.specs.declared.call.Call.{Call}
 use Rattle.fb_model.specs.Decisions.{among}
 
 abbrev pub is_by_then : ℕ → ℕ → Bool

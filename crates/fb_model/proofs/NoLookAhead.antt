@@ -10,7 +10,7 @@ use Rattle.fb_units.specs.declared.types.Request.{Request}
 use Rattle.fb_units.proofs.Filtered.{kept_map}
 use Rattle.fb_units.proofs.Comparing.{after_is}
 use Rattle.fb_geometry.specs.Sound.{IsSound}
-use Rattle.fb_calls.specs.declared.call.Call.{Call}
+use Rattle.fb_script.specs.declared.call.Call.{Call}
 use Rattle.fb_service.specs.declared.disk.Disk.{Disk}
 use Rattle.fb_rows.specs.declared.gap.Dwell.{Dwell}
 use Rattle.fb_rows.specs.declared.gap.How.TheVariants.{Idle as ByIdle}

@@ -18,10 +18,10 @@ use Rattle.fb_geometry.proofs.Rotation.{cover}
 use Rattle.fb_sectormap.specs.LookUp.{place_at, track_at}
 use Rattle.fb_sectormap.proofs.ByCylinder.{has_place}
 use Rattle.fb_seek.specs.Positioning.{pos}
-use Rattle.fb_calls.specs.declared.call.Action.{Action}
-use Rattle.fb_calls.specs.declared.call.Action.TheVariants.{Promote}
-use Rattle.fb_calls.specs.declared.call.Call.{Call}
-use Rattle.fb_calls.specs.Allowed.{IsRange, AreAllowed, MayAsk}
+use Rattle.fb_script.specs.declared.call.Action.{Action}
+use Rattle.fb_script.specs.declared.call.Action.TheVariants.{Promote}
+use Rattle.fb_script.specs.declared.call.Call.{Call}
+use Rattle.fb_script.specs.Allowed.{IsRange, AreAllowed, MayAsk}
 use Rattle.fb_service.specs.declared.disk.Disk.{Disk}
 use Rattle.fb_service.specs.declared.passage.Passage.{Passage}
 use Rattle.fb_service.specs.Passing.{begin_from, length_of}

@@ -95,7 +95,7 @@ module _ (R : Catch → Catch → Type 0) (turned : (a b : Catch) → R a b → 
 
 before_end : (a b : Catch) → is_before a b ≡ true → a.end ≤ b.end
 before_end a b h =
-    let later = nat_lt a.block.task b.block.task || ((a.block.task == b.block.task) && nat_lt a.block.number b.block.number) in
+    let later = nat_lt a.block.task b.block.task || ((a.block.task == b.block.task) && nat_lt a.block.index b.block.index) in
     elim (or_cases (nat_lt a.end b.end) ((a.end == b.end) && later) h) [
       | inl less ↦ grind (arith, nat_tests)
       | inr tie ↦ let same = eqb-true a.end b.end (and_parts (a.end == b.end) later tie).0 in omega arith

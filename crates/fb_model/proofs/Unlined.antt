@@ -8,12 +8,12 @@ use Rattle.std.proofs.lemmas.List.Elements.{filter_agree}
 use Rattle.fb_units.proofs.Filtered.{kept_map}
 use Rattle.fb_units.proofs.Alike.{flat_map_same, same_map}
 use Rattle.fb_geometry.specs.Shape.{Shape}
-use Rattle.fb_calls.specs.declared.call.Action.{Action}
-use Rattle.fb_calls.specs.declared.call.Action.TheVariants.{Want}
-use Rattle.fb_calls.specs.declared.call.Call.{Call}
-use Rattle.fb_calls.specs.Allowed.{Terms}
-use Rattle.fb_calls.specs.Blocks.{live_cuts}
-use Rattle.fb_calls.specs.Sessions.{is_backup, is_clean}
+use Rattle.fb_script.specs.declared.call.Action.{Action}
+use Rattle.fb_script.specs.declared.call.Action.TheVariants.{Want}
+use Rattle.fb_script.specs.declared.call.Call.{Call}
+use Rattle.fb_script.specs.Allowed.{Terms}
+use Rattle.fb_script.specs.Blocks.{live_cuts}
+use Rattle.fb_script.specs.Sessions.{is_backup, is_clean}
 use Rattle.fb_sectormap.specs.Cutting.{cutting}
 use Rattle.fb_store.specs.Runs.{runs_of}
 use Rattle.fb_wanted.specs.declared.block.Block.{Block}

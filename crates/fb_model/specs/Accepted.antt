@@ -6,7 +6,7 @@ use Rattle.fb_units.specs.declared.types.Request.{Request}
 use Rattle.fb_units.specs.declared.types.Name.TheVariants.{Traced}
 use Rattle.fb_geometry.specs.Shape.{Shape}
 use Rattle.fb_geometry.specs.Places.{places}
-use Rattle.fb_calls.specs.Allowed.{IsRange, AreAllowed, blocks_from}
+use Rattle.fb_script.specs.Allowed.{IsRange, AreAllowed, blocks_from}
 use Rattle.fb_model.specs.Foreground.{promoted}
 use Rattle.fb_model.specs.Inputs.{Inputs}
 

@@ -3,12 +3,12 @@ use Rattle.std.specs.Prelude.{ℕ, ◌+◌, List, [], ◌∷◌, ◌++◌, lengt
 use Rattle.std.specs.Prelude.{find, if◌then◌else◌}
 use Rattle.std.specs.List.{list_any, list_all}
 use Rattle.fb_units.specs.declared.types.Request.{Request}
-use Rattle.fb_calls.specs.declared.call.Kind.{Kind}
-use Rattle.fb_calls.specs.declared.call.Kind.TheVariants.{Clean}
-use Rattle.fb_calls.specs.declared.call.Action.{Action}
-use Rattle.fb_calls.specs.declared.call.Action.TheVariants.{Close, Segment}
-use Rattle.fb_calls.specs.Allowed.{has_want}
-use Rattle.fb_calls.specs.Sessions.{is_backup}
+use Rattle.fb_script.specs.declared.call.Kind.{Kind}
+use Rattle.fb_script.specs.declared.call.Kind.TheVariants.{Clean}
+use Rattle.fb_script.specs.declared.call.Action.{Action}
+use Rattle.fb_script.specs.declared.call.Action.TheVariants.{Close, Segment}
+use Rattle.fb_script.specs.Allowed.{has_want}
+use Rattle.fb_script.specs.Sessions.{is_backup}
 use Rattle.fb_store.specs.declared.content.ContentRun.{ContentRun}
 use Rattle.fb_wanted.specs.declared.block.Block.{Block}
 use Rattle.fb_wanted.specs.declared.block.State.{State}
@@ -215,8 +215,8 @@ chosen_view task choice view =
 abbrev pub delivered_view : DeliveryRow → TaskView → TaskView
 delivered_view row view = record view {
   work = record view.work {
-    bare = λ block. if row.block.number == block.number then Delivered else view.bare block;
-    found = λ block. if row.block.number == block.number then row.content else view.found block;
+    bare = λ block. if row.block.index == block.index then Delivered else view.bare block;
+    found = λ block. if row.block.index == block.index then row.content else view.found block;
   };
 }
 

@@ -33,7 +33,7 @@ gap_of disk served = record {
 -- the first is delivered before the second: by end, then by task, then by number
 abbrev pub is_before : Catch → Catch → Bool
 is_before a b = nat_lt a.end b.end
-    || ((a.end == b.end) && (nat_lt a.block.task b.block.task || ((a.block.task == b.block.task) && nat_lt a.block.number b.block.number)))
+    || ((a.end == b.end) && (nat_lt a.block.task b.block.task || ((a.block.task == b.block.task) && nat_lt a.block.index b.block.index)))
 
 -- a catch put in its place among catches in the order of delivery
 abbrev pub placed : List Catch → Catch → List Catch

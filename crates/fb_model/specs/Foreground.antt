@@ -2,8 +2,8 @@
 use Rattle.std.specs.Prelude.{List, [], ◌∷◌, nat_le, if◌then◌else◌}
 use Rattle.std.specs.List.{fold}
 use Rattle.fb_units.specs.declared.types.Request.{Request}
-use Rattle.fb_calls.specs.declared.call.Call.{Call}
-pub use Rattle.fb_calls.specs.Promoted.{read_of, promoted_from, promoted}
+use Rattle.fb_script.specs.declared.call.Call.{Call}
+pub use Rattle.fb_script.specs.Promoted.{read_of, promoted_from, promoted}
 
 -- a read put behind all requests that arrive no later than it
 abbrev pub behind : List Request → Request → List Request

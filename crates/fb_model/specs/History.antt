@@ -2,12 +2,12 @@
 use Rattle.std.specs.Prelude.{ℕ, List, [], ◌∷◌, ◌++◌, length, Bool, true, false, ◌&&◌, ◌||◌, not, ◌==◌, filter, if◌then◌else◌}
 use Rattle.std.specs.List.{list_any, range_with_len, slice_index_or}
 use Rattle.fb_units.specs.declared.types.Request.{Request}
-use Rattle.fb_calls.specs.declared.call.Kind.TheVariants.{Plain}
-use Rattle.fb_calls.specs.Sessions.{is_backup}
-pub use Rattle.fb_calls.specs.Allowed.{Terms}
-use Rattle.fb_calls.specs.declared.call.Action.{Action}
-use Rattle.fb_calls.specs.declared.call.Action.TheVariants.{Open, Abort, Suspend, Resume, Close}
-use Rattle.fb_calls.specs.declared.call.Call.{Call}
+use Rattle.fb_script.specs.declared.call.Kind.TheVariants.{Plain}
+use Rattle.fb_script.specs.Sessions.{is_backup}
+pub use Rattle.fb_script.specs.Allowed.{Terms}
+use Rattle.fb_script.specs.declared.call.Action.{Action}
+use Rattle.fb_script.specs.declared.call.Action.TheVariants.{Open, Abort, Suspend, Resume, Close}
+use Rattle.fb_script.specs.declared.call.Call.{Call}
 use Rattle.fb_store.specs.declared.content.ContentRun.{ContentRun}
 use Rattle.fb_wanted.specs.declared.block.Block.{Block}
 use Rattle.fb_wanted.specs.declared.block.State.{State}
@@ -83,7 +83,7 @@ blocks_of past task = filter (λ block. block.task == task) (registered past)
 
 -- two blocks are one: the same task and the same number in it
 abbrev pub same_block : Block → Block → Bool
-same_block a b = (a.task == b.task) && (a.number == b.number)
+same_block a b = (a.task == b.task) && (a.index == b.index)
 
 -- the event registers the block
 abbrev pub registers : Event → Block → Bool

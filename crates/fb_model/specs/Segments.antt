@@ -3,8 +3,8 @@
 use Rattle.std.specs.Prelude.{ℕ, zero, suc, ◌+◌, ◌-◌, ◌*◌, List, [], ◌∷◌, length, Bool, ◌&&◌, not, nat_lt, filter, if◌then◌else◌}
 use Rattle.std.specs.List.{list_any, fold, best_of}
 use Rattle.fb_geometry.specs.Shape.{Shape}
-use Rattle.fb_calls.specs.Blocks.{live_cuts}
-use Rattle.fb_calls.specs.Sessions.{is_clean}
+use Rattle.fb_script.specs.Blocks.{live_cuts}
+use Rattle.fb_script.specs.Sessions.{is_clean}
 use Rattle.fb_sectormap.specs.declared.cut.Cut.{Cut}
 use Rattle.fb_wanted.specs.declared.block.Block.{Block}
 use Rattle.fb_model.specs.History.{chose, Past, LogSegment, terms_of, task_numbers, blocks_of}
@@ -14,7 +14,7 @@ use Rattle.fb_model.specs.Completion.{Choice, Work, work, segments, is_choice_of
 abbrev pub numbered : ℕ → ℕ → ℕ → List Cut → List Block
 numbered task weight n [] = []
 numbered task weight n (cut ∷ cuts) =
-    record { task = task; number = n; lbn = cut.lbn; count = cut.count; track = cut.track; weight = weight; sweep = cut.sweep }
+    record { task = task; index = n; lbn = cut.lbn; count = cut.count; track = cut.track; weight = weight; sweep = cut.sweep }
     ∷ numbered task weight (n + 1) cuts
 
 -- the next blocks of a task

@@ -1,9 +1,9 @@
 -- The steps of a run, the history that they make, and their rows.
 use Rattle.std.specs.Prelude.{ℕ, List, [], ◌∷◌, ◌++◌, length, drop, nat_le, map, filter}
 use Rattle.std.specs.List.{flat_map, fold, count_by}
-use Rattle.fb_calls.specs.declared.call.Action.{Action}
-use Rattle.fb_calls.specs.declared.call.Action.TheVariants.{Want}
-use Rattle.fb_calls.specs.declared.call.Call.{Call}
+use Rattle.fb_script.specs.declared.call.Action.{Action}
+use Rattle.fb_script.specs.declared.call.Action.TheVariants.{Want}
+use Rattle.fb_script.specs.declared.call.Call.{Call}
 use Rattle.fb_geometry.specs.Shape.{Shape}
 use Rattle.fb_sectormap.specs.Cutting.{cutting}
 use Rattle.fb_service.specs.declared.disk.Disk.{Disk}

@@ -29,7 +29,7 @@ one-block : (x y : Block) → ((measure : Block → ℕ) → measure x ≡ measu
 one-block x y same = grind (
   arith,
   same (λ b. b.task),
-  same (λ b. b.number),
+  same (λ b. b.index),
   same (λ b. b.lbn),
   same (λ b. b.count),
   same (λ b. b.track.cylinder),
@@ -55,7 +55,7 @@ one-chosen p xs ys same most = one-list (filter p xs) (filter p ys)
 -- ---- registered blocks are told apart by task and number
 
 abbrev numbered : ℕ → ℕ → Block → Bool
-numbered task number b = (b.task == task) && (b.number == number)
+numbered task number b = (b.task == task) && (b.index == number)
 
 both-tests : (p q : Block → Bool) (bs : List Block) → filter q (filter p bs) ≡ filter (λ b. p b && q b) bs
 both-tests p q [] = refl
@@ -65,22 +65,22 @@ both-tests p q (b ∷ bs) = elim (cases_Bool (p b)) [
 ]
 
 -- a number stands once among numbers that go up one by one
-once : (number from : ℕ) (bs : List Block) → ((k : ℕ) (b : Block) → slice_get bs k ≡ Some b → b.number ≡ from + k)
-    → (length (filter (λ b. b.number == number) bs) ≤ 1) × (number < from → length (filter (λ b. b.number == number) bs) ≤ 0)
+once : (number from : ℕ) (bs : List Block) → ((k : ℕ) (b : Block) → slice_get bs k ≡ Some b → b.index ≡ from + k)
+    → (length (filter (λ b. b.index == number) bs) ≤ 1) × (number < from → length (filter (λ b. b.index == number) bs) ≤ 0)
 once number from [] up = (omega arith, λ less. omega arith)
 once number from (b ∷ bs) up =
     let rest = once number (suc from) bs (λ k c at. omega (arith, up (suc k) c at)) in
-    let here : b.number ≡ from = omega (arith, up 0 b refl) in
-    elim (cases_Bool (b.number == number)) [
+    let here : b.index ≡ from = omega (arith, up 0 b refl) in
+    elim (cases_Bool (b.index == number)) [
       | inl t ↦
-          let same : b.number ≡ number = eqb-true b.number number t in
+          let same : b.index ≡ number = eqb-true b.index number t in
           let none = rest.1 (omega arith) in
           rw t (omega (arith, none), λ less. absurd (omega (arith, less)))
       | inr f ↦ rw f (rest.0, λ less. rest.1 (omega (arith, less)))
     ]
 
 numbered-once : (bs : List Block) → AreInOrder bs → (task number : ℕ) → length (filter (numbered task number) bs) ≤ 1
-numbered-once bs numbers task number = subst (λ l. length l ≤ 1) (both-tests (λ b. b.task == task) (λ b. b.number == number) bs)
+numbered-once bs numbers task number = subst (λ l. length l ≤ 1) (both-tests (λ b. b.task == task) (λ b. b.index == number) bs)
     (once number 0 (filter (λ b. b.task == task) bs) (λ k b at. omega (arith, numbers task k b at))).0
 
 -- of fewer entries no more blocks pass a narrower test
@@ -129,10 +129,10 @@ module _ (track : Track) (es xs : List Entry) (blocks : List Block) (numbers : A
   pub on-its-track : (P : Block → Type 0) → ((i : ℕ) (e : Entry) → slice_get es i ≡ Some e → P e.block) → (i : ℕ) (b : Block)
       → slice_get blocks i ≡ Some b → P b × (same_track track b.track ≡ true)
   on-its-track P each i b at =
-      let itself = and_from (b.task == b.task) (b.number == b.number) (eq-eqb b.task b.task refl) (eq-eqb b.number b.number refl) in
-      let among = filter_to (numbered b.task b.number) blocks i b at itself in
-      let here = ap (λ l. slice_get l among.0) (sym (the-one (numbered b.task b.number) b.task b.number (λ c h. h))) ∙ among.1 in
-      let there = filter_from (numbered b.task b.number) (wanted_of (on_track track es)) among.0 b here in
+      let itself = and_from (b.task == b.task) (b.index == b.index) (eq-eqb b.task b.task refl) (eq-eqb b.index b.index refl) in
+      let among = filter_to (numbered b.task b.index) blocks i b at itself in
+      let here = ap (λ l. slice_get l among.0) (sym (the-one (numbered b.task b.index) b.task b.index (λ c h. h))) ∙ among.1 in
+      let there = filter_from (numbered b.task b.index) (wanted_of (on_track track es)) among.0 b here in
       let e = entry-of (on_track track es) there.0 b there.1 in
       let f = filter_from (λ (x : Entry). same_track track x.block.track) es e.0 e.1 e.2 in
       (subst P e.3 (each f.0 e.1 f.1), subst (λ (x : Block). same_track track x.track ≡ true) e.3 f.2)
@@ -148,14 +148,14 @@ module _ (track : Track) (es xs : List Entry) (blocks : List Block) (numbers : A
       added : List Block → List Catch
       added bs = map f (filter p bs)
 
-      narrow : (c : Catch) (b : Block) → p b && tied c (f b) ≡ true → numbered c.block.task c.block.number b ≡ true
-      narrow c b h = subst (λ x. numbered c.block.task c.block.number x ≡ true) (own b)
+      narrow : (c : Catch) (b : Block) → p b && tied c (f b) ≡ true → numbered c.block.task c.block.index b ≡ true
+      narrow c b h = subst (λ x. numbered c.block.task c.block.index x ≡ true) (own b)
           (tied-numbers c (f b) (and_parts (p b) (tied c (f b)) h).1)
 
       alike : (c : Catch) → filter (tied c) (found ++ added blocks) ≡ filter (tied c) (found ++ added others)
       alike c =
           let both = through f p (tied c) blocks
-          ∙ (ap (map f) (the-one _ c.block.task c.block.number (narrow c)) ∙ sym (through f p (tied c) others)) in
+          ∙ (ap (map f) (the-one _ c.block.task c.block.index (narrow c)) ∙ sym (through f p (tied c) others)) in
           filter-append (tied c) found (added blocks)
           ∙ (ap (λ l. filter (tied c) found ++ l) both ∙ sym (filter-append (tied c) found (added others)))
 

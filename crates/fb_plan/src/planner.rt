@@ -5,7 +5,7 @@ ghost use Rattle.fb_plan.specs.Ways.{AreOnDisk, IsGap};
 
 use fb_rows::{Gap, Plan};
 use fb_service::Disk;
-use fb_wanted::Blocks;
+use fb_wanted::Wanted;
 
 /// Chooses the best plan of a gap.
 pub trait Planner {
@@ -13,7 +13,7 @@ pub trait Planner {
     ///
     /// Direct plans come before detours, then the lesser track, then the earlier leave. Each block lies
     /// on the disk, and the gap ends by 9 * 10^18 ns.
-    fn best(&self, disk: &Disk, blocks: &Blocks, gap: &Gap) -> Plan
+    fn best(&self, disk: &Disk, blocks: &Wanted, gap: &Gap) -> Plan
         requires gap { IsGap disk.now gap.now }
         requires blocks { AreOnDisk disk.now blocks.now }
         ensures { IsBest disk.now gap.entry.now (wanted_of blocks.now) result };

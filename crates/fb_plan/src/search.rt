@@ -14,7 +14,7 @@ use crate::{Scored, Turning, Way};
 use fb_rows::{Dwell, Gap, Plan};
 use fb_service::Disk;
 use fb_units::{Ns, Sweep, Track};
-use fb_wanted::Blocks;
+use fb_wanted::Wanted;
 
 /// The plan that goes this way and leaves for the target at the instant `leave`, in ns.
 pub fn plan_by(way: Way, leave: Ns) -> Plan
@@ -64,39 +64,39 @@ pub fn move_on(disk: &Disk, gap: &Gap, way: Way) -> Ns
 /// The plan with its value.
 ///
 /// It looks up the blocks of both tracks; `try_plan` takes those that were looked up before.
-pub fn scored(disk: &Disk, blocks: &Blocks, gap: &Gap, plan: Plan) -> Scored
+pub fn scored(disk: &Disk, wanted: &Wanted, gap: &Gap, plan: Plan) -> Scored
     requires plan { IsPlan disk.now gap.now plan }
     requires gap { IsGap disk.now gap.now }
-    requires blocks { AreOnDisk disk.now blocks.now }
-    ensures scored { IsScored disk.now gap.entry.now (wanted_of blocks.now) result }
+    requires blocks { AreOnDisk disk.now wanted.now }
+    ensures scored { IsScored disk.now gap.entry.now (wanted_of wanted.now) result }
     ensures plan { result.plan ≡ plan }
 {
     Scored {
         plan,
-        value: plan_value(disk, blocks, gap, plan),
+        value: plan_value(disk, wanted, gap, plan),
     }
 }
 
 // The same, from the blocks of the plan's two tracks.
-fn scored_by(disk: &Disk, blocks: &Blocks, gap: &Gap, sides: &Sides, plan: Plan) -> Scored
+fn scored_by(disk: &Disk, wanted: &Wanted, gap: &Gap, sides: &Sides, plan: Plan) -> Scored
     requires plan { IsPlan disk.now gap.now plan }
     requires gap { IsGap disk.now gap.now }
-    requires sides { AreSides disk.now gap.now.target blocks.now (early_dwell disk.now gap.now plan) sides.now }
+    requires sides { AreSides disk.now gap.now.target wanted.now (early_dwell disk.now gap.now plan) sides.now }
     requires early { AreOnDisk disk.now sides.now.early }
     requires late { AreOnDisk disk.now sides.now.late }
-    ensures scored { IsScored disk.now gap.entry.now (wanted_of blocks.now) result }
+    ensures scored { IsScored disk.now gap.entry.now (wanted_of wanted.now) result }
     ensures plan { result.plan ≡ plan }
 {
     Scored {
         plan,
-        value: value_by(disk, blocks, gap, sides, plan),
+        value: value_by(disk, wanted, gap, sides, plan),
     }
 }
 
 /// The better of the best so far and a plan.
 pub fn try_plan(
     disk: &Disk,
-    blocks: &Blocks,
+    wanted: &Wanted,
     gap: &Gap,
     sides: &Sides,
     plan: Plan,
@@ -104,15 +104,15 @@ pub fn try_plan(
 ) -> Scored
     requires plan { IsPlan disk.now gap.now plan }
     requires gap { IsGap disk.now gap.now }
-    requires sides { AreSides disk.now gap.now.target blocks.now (early_dwell disk.now gap.now plan) sides.now }
+    requires sides { AreSides disk.now gap.now.target wanted.now (early_dwell disk.now gap.now plan) sides.now }
     requires early { AreOnDisk disk.now sides.now.early }
     requires late { AreOnDisk disk.now sides.now.late }
-    requires best { IsScored disk.now gap.now (wanted_of blocks.now) best }
-    ensures scored { IsScored disk.now gap.entry.now (wanted_of blocks.now) result }
-    ensures keeps { IsNoWorse disk.now gap.entry.now (wanted_of blocks.now) result.plan best.plan }
-    ensures tried { IsNoWorse disk.now gap.entry.now (wanted_of blocks.now) result.plan plan }
+    requires best { IsScored disk.now gap.now (wanted_of wanted.now) best }
+    ensures scored { IsScored disk.now gap.entry.now (wanted_of wanted.now) result }
+    ensures keeps { IsNoWorse disk.now gap.entry.now (wanted_of wanted.now) result.plan best.plan }
+    ensures tried { IsNoWorse disk.now gap.entry.now (wanted_of wanted.now) result.plan plan }
 {
-    choose(best, scored_by(disk, blocks, gap, sides, plan))
+    choose(best, scored_by(disk, wanted, gap, sides, plan))
 }
 
 // The instant, in ns, at which the sweep ends, if that is no later than `latest`.
@@ -144,28 +144,28 @@ pub fn longest_stay(disk: &Disk, gap: &Gap, way: Way) -> Dwell
 ///
 /// It tries to leave on arrival and as each wanted block's passage ends: no other plan of this way
 /// is better.
-pub fn try_way(disk: &Disk, blocks: &Blocks, gap: &Gap, way: Way, best: Scored) -> Scored
+pub fn try_way(disk: &Disk, wanted: &Wanted, gap: &Gap, way: Way, best: Scored) -> Scored
     requires way { IsWay disk.now gap.now way }
     requires track { IsTrackOf disk.now.map (early_track gap.now way) }
     requires gap { IsGap disk.now gap.now }
-    requires blocks { AreOnDisk disk.now blocks.now }
-    requires best { IsScored disk.now gap.now (wanted_of blocks.now) best }
-    ensures scored { IsScored disk.now gap.entry.now (wanted_of blocks.now) result }
-    ensures keeps { IsNoWorse disk.now gap.entry.now (wanted_of blocks.now) result.plan best.plan }
+    requires blocks { AreOnDisk disk.now wanted.now }
+    requires best { IsScored disk.now gap.now (wanted_of wanted.now) best }
+    ensures scored { IsScored disk.now gap.entry.now (wanted_of wanted.now) result }
+    ensures keeps { IsNoWorse disk.now gap.entry.now (wanted_of wanted.now) result.plan best.plan }
     ensures tried { (leave : ℕ) → IsPlan disk.now gap.entry.now (plan_by way leave)
-        → IsNoWorse disk.now gap.entry.now (wanted_of blocks.now) result.plan (plan_by way leave) }
+        → IsNoWorse disk.now gap.entry.now (wanted_of wanted.now) result.plan (plan_by way leave) }
 {
     let stay = longest_stay(disk, gap, way);
     let on = move_on(disk, gap, way);
     if gap.deadline < stay.begin + on {
         return best;
     }
-    let both = sides_of(disk, blocks, gap.target, stay);
-    let mut best = try_plan(disk, blocks, gap, &both, plan_by(way, stay.begin), best);
+    let both = sides_of(disk, wanted, gap.target, stay);
+    let mut best = try_plan(disk, wanted, gap, &both, plan_by(way, stay.begin), best);
     let offers = both.early.offers();
     for offer in offers {
         best = match end_by(&both.turning, offer.sweep, gap.deadline - on) {
-            Some(end) => try_plan(disk, blocks, gap, &both, plan_by(way, end), best),
+            Some(end) => try_plan(disk, wanted, gap, &both, plan_by(way, end), best),
             None => best,
         };
     }
@@ -173,15 +173,15 @@ pub fn try_way(disk: &Disk, blocks: &Blocks, gap: &Gap, way: Way, best: Scored) 
 }
 
 // Tries all detours over a track; there is none over the source or the target.
-fn try_track(disk: &Disk, blocks: &Blocks, gap: &Gap, track: Track, best: Scored) -> Scored
+fn try_track(disk: &Disk, wanted: &Wanted, gap: &Gap, track: Track, best: Scored) -> Scored
     requires track { IsTrackOf disk.now.map track }
     requires gap { IsGap disk.now gap.now }
-    requires blocks { AreOnDisk disk.now blocks.now }
-    requires best { IsScored disk.now gap.now (wanted_of blocks.now) best }
-    ensures scored { IsScored disk.now gap.entry.now (wanted_of blocks.now) result }
-    ensures keeps { IsNoWorse disk.now gap.entry.now (wanted_of blocks.now) result.plan best.plan }
+    requires blocks { AreOnDisk disk.now wanted.now }
+    requires best { IsScored disk.now gap.now (wanted_of wanted.now) best }
+    ensures scored { IsScored disk.now gap.entry.now (wanted_of wanted.now) result }
+    ensures keeps { IsNoWorse disk.now gap.entry.now (wanted_of wanted.now) result.plan best.plan }
     ensures tried { (leave : ℕ) → IsPlan disk.now gap.entry.now (Plan.Detour track leave)
-        → IsNoWorse disk.now gap.entry.now (wanted_of blocks.now) result.plan (Plan.Detour track leave) }
+        → IsNoWorse disk.now gap.entry.now (wanted_of wanted.now) result.plan (Plan.Detour track leave) }
 {
     if is_same(track, gap.source) {
         return best;
@@ -189,24 +189,24 @@ fn try_track(disk: &Disk, blocks: &Blocks, gap: &Gap, track: Track, best: Scored
     if is_same(track, gap.target) {
         return best;
     }
-    try_way(disk, blocks, gap, Way::Over(track), best)
+    try_way(disk, wanted, gap, Way::Over(track), best)
 }
 
 /// Tries all detours over the tracks of a cylinder.
-pub fn try_cylinder(disk: &Disk, blocks: &Blocks, gap: &Gap, cylinder: u32, best: Scored) -> Scored
+pub fn try_cylinder(disk: &Disk, wanted: &Wanted, gap: &Gap, cylinder: u32, best: Scored) -> Scored
     requires cylinder { cylinder < disk.now.mechanism.cylinders }
     requires gap { IsGap disk.now gap.now }
-    requires blocks { AreOnDisk disk.now blocks.now }
-    requires best { IsScored disk.now gap.now (wanted_of blocks.now) best }
-    ensures scored { IsScored disk.now gap.entry.now (wanted_of blocks.now) result }
-    ensures keeps { IsNoWorse disk.now gap.entry.now (wanted_of blocks.now) result.plan best.plan }
+    requires blocks { AreOnDisk disk.now wanted.now }
+    requires best { IsScored disk.now gap.now (wanted_of wanted.now) best }
+    ensures scored { IsScored disk.now gap.entry.now (wanted_of wanted.now) result }
+    ensures keeps { IsNoWorse disk.now gap.entry.now (wanted_of wanted.now) result.plan best.plan }
     ensures tried { (head leave : ℕ) → IsPlan disk.now gap.entry.now (Plan.Detour (record { cylinder = cylinder; head = head }) leave)
-        → IsNoWorse disk.now gap.entry.now (wanted_of blocks.now) result.plan
+        → IsNoWorse disk.now gap.entry.now (wanted_of wanted.now) result.plan
         (Plan.Detour (record { cylinder = cylinder; head = head }) leave) }
 {
     let mut best = best;
     for head in 0..disk.map.geometry().heads() {
-        best = try_track(disk, blocks, gap, Track { cylinder, head }, best);
+        best = try_track(disk, wanted, gap, Track { cylinder, head }, best);
     }
     best
 }

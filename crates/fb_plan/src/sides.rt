@@ -9,7 +9,7 @@ use crate::Turning;
 use fb_rows::Dwell;
 use fb_service::Disk;
 use fb_units::Track;
-use fb_wanted::{Blocks, TrackBlocks};
+use fb_wanted::{Wanted, TrackBlocks};
 
 /// The registered blocks of a plan's two tracks, and where the platter stands.
 #[derive(Drop)]
@@ -23,25 +23,25 @@ pub struct Sides<'a> {
 }
 
 /// The registered blocks of a track, wanted or not.
-pub fn blocks_on(blocks: &Blocks, track: Track) -> TrackBlocks<'_>
-    ensures its { result ≡ on_track track blocks.now }
-    ensures on_disk { (disk : Disk) → AreOnDisk disk blocks.now → AreOnDisk disk result }
+pub fn blocks_on(wanted: &Wanted, track: Track) -> TrackBlocks<'_>
+    ensures its { result ≡ on_track track wanted.now }
+    ensures on_disk { (disk : Disk) → AreOnDisk disk wanted.now → AreOnDisk disk result }
 {
-    blocks.on(track)
+    wanted.on(track)
 }
 
 /// The blocks of a dwell's track and of the target, and where the platter stands at the begin of the
 /// dwell.
-pub fn sides_of<'a>(disk: &Disk, blocks: &'a Blocks, target: Track, dwell: Dwell) -> Sides<'a>
-    requires blocks { AreOnDisk disk.now blocks.now }
+pub fn sides_of<'a>(disk: &Disk, wanted: &'a Wanted, target: Track, dwell: Dwell) -> Sides<'a>
+    requires blocks { AreOnDisk disk.now wanted.now }
     requires early { dwell.begin ≤ 9 * 10 ^ 18 }
-    ensures sides { AreSides disk.now target blocks.now dwell result }
+    ensures sides { AreSides disk.now target wanted.now dwell result }
     ensures early { AreOnDisk disk.now result.early }
     ensures late { AreOnDisk disk.now result.late }
 {
     Sides {
-        early: blocks_on(blocks, dwell.track),
+        early: blocks_on(wanted, dwell.track),
         turning: Turning::new(disk, dwell.begin),
-        late: blocks_on(blocks, target),
+        late: blocks_on(wanted, target),
     }
 }

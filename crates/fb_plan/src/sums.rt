@@ -12,7 +12,7 @@ use crate::{DwellPair, Turning, dwells};
 use fb_rows::{Gap, Plan};
 use fb_service::Disk;
 use fb_units::{Ns, Track};
-use fb_wanted::{Blocks, Offer};
+use fb_wanted::{Wanted, Offer};
 
 // What an offer adds if its passage ends by the instant `latest`, in ns.
 fn added_until(offer: Offer, turning: &Turning, latest: Ns) -> u64
@@ -76,15 +76,15 @@ fn value_in_either(offers: &[Offer], pair: DwellPair, early: &Turning, late: &Tu
 }
 
 /// The value of a plan, from what is offered on its two tracks.
-pub fn value_by(disk: &Disk, blocks: &Blocks, gap: &Gap, sides: &Sides, plan: Plan) -> u64
+pub fn value_by(disk: &Disk, wanted: &Wanted, gap: &Gap, sides: &Sides, plan: Plan) -> u64
     requires plan { IsPlan disk.now gap.now plan }
     requires gap { IsGap disk.now gap.now }
-    requires sides { AreSides disk.now gap.now.target blocks.now (early_dwell disk.now gap.now plan) sides.now }
+    requires sides { AreSides disk.now gap.now.target wanted.now (early_dwell disk.now gap.now plan) sides.now }
     requires early { AreOnDisk disk.now sides.now.early }
     requires late { AreOnDisk disk.now sides.now.late }
-    ensures { result ≡ value disk.now gap.entry.now (wanted_of blocks.now) plan }
+    ensures { result ≡ value disk.now gap.entry.now (wanted_of wanted.now) plan }
 {
-    let _ = blocks;
+    let _ = wanted;
     let pair = dwells(disk, plan, gap);
     let late = Turning::new(disk, pair.late.begin);
     let offers = sides.early.offers();
@@ -96,18 +96,18 @@ pub fn value_by(disk: &Disk, blocks: &Blocks, gap: &Gap, sides: &Sides, plan: Pl
 }
 
 /// The value of a plan: weight times sectors, summed over the wanted blocks that it catches.
-pub fn plan_value(disk: &Disk, blocks: &Blocks, gap: &Gap, plan: Plan) -> u64
+pub fn plan_value(disk: &Disk, wanted: &Wanted, gap: &Gap, plan: Plan) -> u64
     requires plan { IsPlan disk.now gap.now plan }
     requires gap { IsGap disk.now gap.now }
-    requires blocks { AreOnDisk disk.now blocks.now }
-    ensures { result ≡ value disk.now gap.entry.now (wanted_of blocks.now) plan }
+    requires blocks { AreOnDisk disk.now wanted.now }
+    ensures { result ≡ value disk.now gap.entry.now (wanted_of wanted.now) plan }
 {
     let pair = dwells(disk, plan, gap);
     value_by(
         disk,
-        blocks,
+        wanted,
         gap,
-        &sides_of(disk, blocks, gap.target, pair.early),
+        &sides_of(disk, wanted, gap.target, pair.early),
         plan,
     )
 }

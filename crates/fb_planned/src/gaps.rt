@@ -13,7 +13,7 @@ use fb_sectormap::SectorMap;
 use fb_seek::{Mechanism, SeekPoint};
 use fb_service::Disk;
 use fb_units::{NoMemory, Ns, Track};
-use fb_wanted::{Block, Blocks};
+use fb_wanted::{Block, Wanted};
 use std::alloc::Global;
 
 /// A seek table whose times rise with the distance.
@@ -124,7 +124,7 @@ fn disk_of(alloc: Global, setting: &Setting) -> Result<Option<Disk>, NoMemory> {
 // The task's next block; `None` where the wish isn't exactly one block of the disk.
 fn block_of(disk: &Disk, number: u32, wish: Wish) -> Option<Block>
     ensures fits { IfSome result (λ block. IsBlockOn disk.now.map block) }
-    ensures numbered { IfSome result (λ block. (block.task ≡ 0) × (block.number ≡ number)) }
+    ensures numbered { IfSome result (λ block. (block.task ≡ 0) × (block.index ≡ number)) }
 {
     if wish.count == 0 {
         return None;
@@ -144,7 +144,7 @@ fn block_of(disk: &Disk, number: u32, wish: Wish) -> Option<Block>
     }
     Some(Block {
         task: 0,
-        number,
+        index: number,
         lbn: cut.lbn,
         count: cut.count,
         track: cut.track,
@@ -154,10 +154,10 @@ fn block_of(disk: &Disk, number: u32, wish: Wish) -> Option<Block>
 }
 
 // The blocks of one task; `None` where a wish isn't exactly one block of the disk.
-fn registered(alloc: Global, disk: &Disk, wishes: &[Wish]) -> Result<Option<Blocks>, NoMemory>
+fn registered(alloc: Global, disk: &Disk, wishes: &[Wish]) -> Result<Option<Wanted>, NoMemory>
     ensures { IfOk result (λ some. IfSome some (λ blocks. AreOnDisk disk.now blocks)) }
 {
-    let mut blocks = Blocks::new(alloc);
+    let mut blocks = Wanted::new(alloc);
     if wishes.len() > 100 {
         return Ok(None);
     }
@@ -220,22 +220,22 @@ pub fn answers(
 fn answers_on(
     alloc: Global,
     disk: &Disk,
-    blocks: &Blocks,
+    wanted: &Wanted,
     gap: &Gap,
 ) -> Result<Option<Chosen>, NoMemory>
-    requires { AreOnDisk disk.now blocks.now }
+    requires { AreOnDisk disk.now wanted.now }
 {
     if !is_gap(disk, gap) {
         return Ok(None);
     }
-    let slow = SlowPlanner.best(disk, blocks, gap);
-    let indexed = IndexedPlanner.best(disk, blocks, gap);
+    let slow = SlowPlanner.best(disk, wanted, gap);
+    let indexed = IndexedPlanner::new().best(disk, wanted, gap);
     let pair = dwells(disk, slow, gap);
     let mut passages = Vec::new(alloc);
-    for catch in &caught(alloc, disk, blocks, pair.early)? {
+    for catch in &caught(alloc, disk, wanted, pair.early)? {
         passages.push((catch.block.lbn, catch.begin, catch.end))?;
     }
-    for catch in &caught(alloc, disk, blocks, pair.late)? {
+    for catch in &caught(alloc, disk, wanted, pair.late)? {
         passages.push((catch.block.lbn, catch.begin, catch.end))?;
     }
     Ok(Some(Chosen {

@@ -16,7 +16,7 @@ pub use Rattle.fb_units.proofs.Comparing.{rising_push}
 pub use Rattle.fb_units.proofs.Lists.{all_get, get_right, all_push, all_weaker}
 pub use Rattle.fb_units.specs.Lines.{fields_of, lines_of}
 pub use Rattle.fb_units.specs.Rising.{IsRising}
-pub use Rattle.fb_calls.specs.Allowed.{tasks, terms_of}
+pub use Rattle.fb_script.specs.Allowed.{tasks, terms_of}
 pub use Rattle.fb_puts.specs.Asked.{ranges_in, request_range}
 pub use Rattle.fb_puts.specs.Ranges.{AreApart, share}
 pub use Rattle.fb_puts.specs.Reader.{IsApart, IsNextPut, IsNextReserve, IsReader, MayFollow, progress, with_step}

@@ -2,10 +2,10 @@
 use Rattle.std.specs.Prelude.{ℕ, ◌*◌, List, [], ◌∷◌, ◌++◌, map}
 use Rattle.std.specs.List.{flat_map}
 use Rattle.fb_units.specs.declared.types.Request.{Request}
-use Rattle.fb_calls.specs.declared.call.Action.{Action}
-use Rattle.fb_calls.specs.declared.call.Action.TheVariants.{Want, Promote, Segment}
-use Rattle.fb_calls.specs.declared.call.Call.{Call}
-use Rattle.fb_calls.specs.Allowed.{terms_of}
+use Rattle.fb_script.specs.declared.call.Action.{Action}
+use Rattle.fb_script.specs.declared.call.Action.TheVariants.{Want, Promote, Segment}
+use Rattle.fb_script.specs.declared.call.Call.{Call}
+use Rattle.fb_script.specs.Allowed.{terms_of}
 use Rattle.fb_puts.specs.declared.range.SectorRange.{SectorRange}
 
 abbrev pub request_range : Request → SectorRange

@@ -2,7 +2,7 @@
 use Rattle.std.specs.Prelude.{◌≡◌, ◌+◌, ◌*◌, ◌^◌, ◌<◌, ◌≤◌, List, [], length, map, false, None}
 use Rattle.std.specs.List.{AllByRecursion, list_any}
 use Rattle.fb_units.specs.Rising.{IsRising}
-use Rattle.fb_calls.specs.Allowed.{tasks}
+use Rattle.fb_script.specs.Allowed.{tasks}
 use Rattle.fb_puts.specs.declared.puts.Put.{Put}
 use Rattle.fb_puts.specs.declared.range.SectorRange.{SectorRange}
 use Rattle.fb_puts.specs.declared.reader.Reader.{Reader}

@@ -1,12 +1,12 @@
 // The sectors that a trace and a script ask for.
 ghost use Rattle.std.specs.Prelude.{◌≡◌, ◌+◌, ℕ, List, [], length, map, IfOk, OnOk};
 ghost use Rattle.std.specs.List.{list_any, flat_map};
-ghost use Rattle.fb_calls.specs.Allowed.{tasks, terms_of};
+ghost use Rattle.fb_script.specs.Allowed.{tasks, terms_of};
 ghost use Rattle.fb_puts.specs.Asked.{asked, ranges_in, request_range};
 ghost use Rattle.fb_puts.specs.Ranges.{share};
 
 use crate::range::SectorRange;
-use fb_calls::{Action, Call, Calls};
+use fb_script::{Action, Call, Calls};
 use fb_trace::Trace;
 use fb_units::{NoMemory, Request};
 use std::alloc::Global;

@@ -19,7 +19,7 @@ use crate::entry::{read_put, read_reserve};
 use crate::range::SectorRange;
 use crate::taken::{Taken, are_apart};
 use crate::{Put, Puts, PutsError, PutsFault, PutsReason};
-use fb_calls::Calls;
+use fb_script::Calls;
 use fb_sectormap::SectorMap;
 use fb_trace::Trace;
 use fb_units::{NoMemory, Ns, next_field, next_line};

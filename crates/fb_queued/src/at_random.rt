@@ -5,7 +5,7 @@ ghost use Rattle.fb_geometry.specs.Shape.{IsTrackOf, cylinders_of};
 ghost use Rattle.fb_geometry.specs.Places.{places};
 ghost use Rattle.fb_model.specs.Accepted.{IsRequestOf};
 
-use fb_fastq::{ClookMap, FcfsRing, SptfLanes, SstfMap};
+use fb_fastq::{ClookMap, FcfsRing, SptfBuckets, SstfMap};
 use fb_geometry::{Geometry, Layout, Outline, Zone};
 use fb_queue::{Clook, Fcfs, Queue, Sptf, Sstf};
 use fb_sectormap::SectorMap;
@@ -95,7 +95,7 @@ impl Draw {
         ensures { IsRequestOf disk.now.map result }
     {
         Request {
-            name: Name::Traced(number),
+            name: Name::Traced(u64::from(number)),
             arrival: 0,
             lbn: if self.below(4) == 0 {
                 self.below(48)
@@ -198,5 +198,5 @@ fn fast_queues_take_as_plain_ones(rt: HostRuntime) -> Result<(), Fail> {
     check_alike(&rt, alloc, &disk, Fcfs::new(alloc), FcfsRing::new(alloc))?;
     check_alike(&rt, alloc, &disk, Sstf::new(alloc), SstfMap::new(alloc))?;
     check_alike(&rt, alloc, &disk, Clook::new(alloc), ClookMap::new(alloc))?;
-    check_alike(&rt, alloc, &disk, Sptf::new(alloc), SptfLanes::new(alloc))
+    check_alike(&rt, alloc, &disk, Sptf::new(alloc), SptfBuckets::new(alloc))
 }

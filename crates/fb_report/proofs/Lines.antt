@@ -2,7 +2,7 @@
 use Rattle.fb_units.proofs.Lists.{get_left, get_right}
 use Rattle.fb_report.proofs.Words.{◌≡◌, ℕ, suc, ◌+◌, ◌-◌, ◌<◌, List, [], ◌∷◌, ◌++◌, length, map, refl, ap, ◌∙◌, arith}
 use Rattle.fb_report.proofs.Words.{Some, slice_get, option_map, length-map, slice_get-map, slice_get_within}
-use Rattle.fb_report.proofs.Words.{ByteMode, fore_line, fore_first, fore_last, fore_lines, back_line, back_first, back_last, back_lines}
+use Rattle.fb_report.proofs.Words.{Bytes, fore_line, fore_first, fore_last, fore_lines, back_line, back_first, back_last, back_lines}
 use Rattle.std.proofs.lemmas.List.{length-append}
 use Rattle.fb_rows.specs.declared.run.Run.{Run}
 
@@ -32,12 +32,12 @@ module _ {X : Type 0} (first : List ℕ) (line : X → List ℕ) (rows : List X)
       ∙ ap (λ xs. slice_get xs (suc (length rows))) h.are
       ∙ get_right (map line rows) (last ∷ []) 0 (length rows) (omega (arith, length-map rows line))
 
-pub fore_are : (size : ℕ) (bytes : ByteMode) (run : Run)
+pub fore_are : (size : ℕ) (bytes : Bytes) (run : Run)
     → AreLines fore_first (fore_line size bytes) run.fore (fore_last (length run.fore) run.passed_over) (fore_lines size bytes run)
 unfolding fore_lines
 fore_are size bytes run = record { are = refl }
 
-pub back_are : (names : List (List ℕ)) (size : ℕ) (bytes : ByteMode) (run : Run)
+pub back_are : (names : List (List ℕ)) (size : ℕ) (bytes : Bytes) (run : Run)
     → AreLines back_first (back_line names size bytes) run.back (back_last run.end) (back_lines names size bytes run)
 unfolding back_lines
 back_are names size bytes run = record { are = refl }

@@ -2,14 +2,14 @@
 use Rattle.fb_units.proofs.Lists.{all_at}
 use Rattle.fb_report.proofs.Words.{◌≡◌, ℕ, ◌<◌, List, [], ◌∷◌, ◌++◌, length, Global, Bool, true, false, refl, sym, ap, ◌∙◌, arith, subst}
 use Rattle.fb_report.proofs.Words.{inl, inr, codes, decimal, if◌then◌else◌, Result, IfOk, IfOk-weaker, decimal_digit, is_name, ContentRun}
-use Rattle.fb_report.proofs.Words.{ByteMode, shown, line_of, with_fields, kind_text, fore_first, fore_last, task_text, task_kind_text}
+use Rattle.fb_report.proofs.Words.{Bytes, shown, line_of, with_fields, kind_text, fore_first, fore_last, task_text, task_kind_text}
 use Rattle.fb_report.proofs.Words.{how_text, is_complete_text, back_first, back_last, is_number, is_request, is_word, is_one_of, are_bytes}
 use Rattle.fb_report.proofs.Words.{numbers, fore_grammar, back_grammar, IsField, AreFields, AreOneOf, HasSectors, AreNames, IsLine}
 use Rattle.fb_report.proofs.Words.{is_first, is_last}
 use Rattle.fb_units.specs.declared.types.NoMemory.{NoMemory}
 use Rattle.std.specs.declared.vec.Vec.{Vec}
-use Rattle.fb_calls.specs.declared.call.Kind.{Kind}
-use Rattle.fb_calls.specs.declared.call.Kind.TheVariants.{Plain, Backup, Scrub, Clean}
+use Rattle.fb_script.specs.declared.call.Kind.{Kind}
+use Rattle.fb_script.specs.declared.call.Kind.TheVariants.{Plain, Backup, Scrub, Clean}
 use Rattle.fb_rows.specs.declared.gap.How.{How}
 use Rattle.fb_rows.specs.declared.gap.How.TheVariants.{Gap as ByGap, Idle as ByIdle, Ride as ByRide}
 use Rattle.fb_report.proofs.{Fields.in_first, Fields.in_last, PrintedForms.word_is, PrintedForms.task_is, ShownForms.dash_is}
@@ -39,7 +39,7 @@ pub fore_last_is : (rows passed : ℕ) → IsField is_number (decimal rows) → 
 fore_last_is rows passed is too =
     in_last fore_grammar (codes "end") (decimal rows ∷ decimal passed ∷ []) (word_is (codes "end") refl & is & too & tt) refl
 
-pub found_is : (write : Bool) (bytes : ByteMode) (size : ℕ) (runs : List ContentRun) → 0 < size → (write ≡ false → HasSectors runs)
+pub found_is : (write : Bool) (bytes : Bytes) (size : ℕ) (runs : List ContentRun) → 0 < size → (write ≡ false → HasSectors runs)
     → IsField are_bytes (if write then codes "-" else shown bytes size runs)
 found_is true bytes size runs big reads = dash_is
 found_is false bytes size runs big reads = shown_is bytes size runs big (reads refl)

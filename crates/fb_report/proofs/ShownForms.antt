@@ -8,10 +8,10 @@ use Rattle.fb_report.proofs.Words.{and_parts, ◌≡◌, ℕ, zero, suc, ◌+◌
 use Rattle.fb_report.proofs.Words.{arith, inl, inr, nat_lt, replicate, codes, slice_index, flat_map, list_all, range_with_len, bytes_eq}
 use Rattle.fb_report.proofs.Words.{or-true, cases_lt, nat_tests, length-map, length-replicate, sum_by-append, list_all-append}
 use Rattle.fb_report.proofs.Words.{AllPass-from_list_all, encode_with, encode_lower, lower_digits, ContentRun, mark, fill, sector_bytes}
-use Rattle.fb_report.proofs.Words.{ByteMode, run_bytes, contents_bytes, shown, digest_text, is_lower_hex, are_bytes, IsField, HasSectors}
+use Rattle.fb_report.proofs.Words.{Bytes, run_bytes, contents_bytes, shown, digest_text, is_lower_hex, are_bytes, IsField, HasSectors}
 use Rattle.fb_store.specs.declared.content.Content.{Content}
 use Rattle.fb_store.specs.declared.content.Content.TheVariants.{Filled, Unreadable}
-use Rattle.fb_report.specs.declared.byte_mode.ByteMode.TheVariants.{Nothing, Digest, Dump}
+use Rattle.fb_report.specs.declared.bytes.Bytes.TheVariants.{Nothing, Digest, Dump}
 use Rattle.fb_report.proofs.{Fields.plain, PrintedForms.all_too}
 
 -- ---- bytes
@@ -149,13 +149,13 @@ sha_is : (message : List ℕ) → IsField are_bytes (encode_lower (sha256 messag
 unfolding sha256
 sha_is message = hex_is _ (digest_some _ 8 (omega arith)) (digest_all _ 8)
 
-pub shown_is : (bytes : ByteMode) (size : ℕ) (runs : List ContentRun) → 0 < size → HasSectors runs
+pub shown_is : (bytes : Bytes) (size : ℕ) (runs : List ContentRun) → 0 < size → HasSectors runs
     → IsField are_bytes (shown bytes size runs)
 shown_is Nothing size runs big some = dash_is
 shown_is Digest size runs big some = sha_is (contents_bytes size runs)
 shown_is Dump size runs big some = hex_is (contents_bytes size runs) (contents_some size runs big some) (contents_all size runs)
 
-pub digest_is : (bytes : ByteMode) (size : ℕ) (runs : List ContentRun) → IsField are_bytes (digest_text bytes size runs)
+pub digest_is : (bytes : Bytes) (size : ℕ) (runs : List ContentRun) → IsField are_bytes (digest_text bytes size runs)
 digest_is Nothing size runs = dash_is
 digest_is Digest size runs = sha_is (contents_bytes size runs)
 digest_is Dump size runs = sha_is (contents_bytes size runs)

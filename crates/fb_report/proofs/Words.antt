@@ -27,7 +27,7 @@ pub use Rattle.fb_units.specs.declared.read_error.ReadError.{ReadError}
 pub use Rattle.fb_store.specs.Fill.{sector_bytes}
 unfoldable pub use Rattle.fb_store.specs.Fill.{fill, mark}
 pub use Rattle.fb_store.specs.declared.content.ContentRun.{ContentRun}
-pub use Rattle.fb_calls.specs.Names.{is_name, is_name_byte}
+pub use Rattle.fb_script.specs.Names.{is_name, is_name_byte}
 pub use Rattle.fb_report.specs.Back.{back_first, back_last, back_line, digest_text, gap_fields, got_fields, how_text}
 pub use Rattle.fb_report.specs.Back.{is_complete_text, segment_fields, task_fields, task_kind_text, task_text}
 unfoldable pub use Rattle.fb_report.specs.Back.{back_lines}
@@ -45,6 +45,6 @@ pub use Rattle.fb_report.specs.Reading.{AnswersReport, BeginsLikeEnd, EndsOnce, 
 pub use Rattle.fb_report.specs.Shown.{contents_bytes, run_bytes, shown}
 pub use Rattle.fb_report.specs.Summary.{delivery_in, gap_in, last_finish, task_in}
 unfoldable pub use Rattle.fb_report.specs.Summary.{summary_lines}
-pub use Rattle.fb_report.specs.declared.byte_mode.ByteMode.{ByteMode}
+pub use Rattle.fb_report.specs.declared.bytes.Bytes.{Bytes}
 pub use Rattle.fb_report.specs.declared.reading.Report.{Report}
 pub use Rattle.fb_report.specs.declared.reading.ReportsFault.{ReportsFault}

@@ -2,8 +2,8 @@
 use Rattle.std.specs.Prelude.{ℕ, ◌-◌, map, List, [], ◌∷◌, ◌++◌, Bool, decimal, codes, if◌then◌else◌, slice_index_or}
 use Rattle.std.specs.List.{flat_map, sum_by}
 use Rattle.fb_store.specs.declared.content.ContentRun.{ContentRun}
-use Rattle.fb_calls.specs.declared.call.Kind.{Kind}
-use Rattle.fb_calls.specs.declared.call.Kind.TheVariants.{Plain, Backup, Scrub, Clean}
+use Rattle.fb_script.specs.declared.call.Kind.{Kind}
+use Rattle.fb_script.specs.declared.call.Kind.TheVariants.{Plain, Backup, Scrub, Clean}
 use Rattle.fb_rows.specs.declared.gap.Plan.{Plan}
 use Rattle.fb_rows.specs.declared.gap.Plan.TheVariants.{Direct, Detour}
 use Rattle.fb_rows.specs.declared.gap.Dwell.{Dwell}
@@ -19,7 +19,7 @@ use Rattle.fb_rows.specs.declared.back.TaskRow.{TaskRow}
 use Rattle.fb_rows.specs.declared.back.BackRow.{BackRow}
 use Rattle.fb_rows.specs.declared.back.BackRow.TheVariants.{Gap, Idle, Got, Bad, Seal, Segment, Complete, Task}
 use Rattle.fb_rows.specs.declared.run.Run.{Run}
-use Rattle.fb_report.specs.declared.byte_mode.ByteMode.{ByteMode}
+use Rattle.fb_report.specs.declared.bytes.Bytes.{Bytes}
 use Rattle.fb_report.specs.Lines.{first_line, line_of, name_text, track_text}
 use Rattle.fb_report.specs.Shown.{digested, shown}
 
@@ -45,7 +45,7 @@ how_text ByIdle = codes "idle"
 how_text ByRide = codes "ride"
 
 -- the digest of bytes, wherever bytes are shown
-abbrev pub digest_text : ByteMode → ℕ → List ContentRun → List ℕ
+abbrev pub digest_text : Bytes → ℕ → List ContentRun → List ℕ
 digest_text bytes size runs = shown (digested bytes) size runs
 
 -- request, source, target, now, deadline and plan
@@ -63,15 +63,15 @@ idle_line dwell = line_of (codes "idle") (track_text dwell.track ∷ decimal dwe
 
 -- task, number in it, first LBN, count, begin, end, how, bad sectors and the bytes found
 abbrev pub got_fields : List (List ℕ) → DeliveryRow → List ℕ → List (List ℕ)
-got_fields names row found = task_text names row.block.task ∷ decimal row.block.number ∷ decimal row.block.lbn ∷ decimal row.block.count
+got_fields names row found = task_text names row.block.task ∷ decimal row.block.index ∷ decimal row.block.lbn ∷ decimal row.block.count
     ∷ decimal row.begin ∷ decimal row.end ∷ how_text row.how ∷ decimal row.bad ∷ found ∷ []
 
 -- the line of a delivery
-abbrev pub got_line : List (List ℕ) → ℕ → ByteMode → DeliveryRow → List ℕ
+abbrev pub got_line : List (List ℕ) → ℕ → Bytes → DeliveryRow → List ℕ
 got_line names size bytes row = line_of (codes "got") (got_fields names row (shown bytes size row.content))
 
 -- task, instant, sectors of the image and digest
-abbrev pub seal_line : List (List ℕ) → ℕ → ByteMode → SealRow → List ℕ
+abbrev pub seal_line : List (List ℕ) → ℕ → Bytes → SealRow → List ℕ
 seal_line names size bytes row = line_of (codes "seal") (task_text names row.task ∷ decimal row.instant
     ∷ decimal (sum_by (λ run. run.count) row.content) ∷ digest_text bytes size row.content ∷ [])
 
@@ -80,7 +80,7 @@ abbrev pub segment_fields : List (List ℕ) → SegmentRow → List ℕ → List
 segment_fields names row digest = task_text names row.task ∷ decimal row.segment ∷ decimal row.instant ∷ decimal row.live ∷ digest ∷ []
 
 -- the line of a cleaned segment
-abbrev pub segment_line : List (List ℕ) → ℕ → ByteMode → SegmentRow → List ℕ
+abbrev pub segment_line : List (List ℕ) → ℕ → Bytes → SegmentRow → List ℕ
 segment_line names size bytes row = line_of (codes "seg") (segment_fields names row (digest_text bytes size row.content))
 
 abbrev pub is_complete_text : Bool → List ℕ
@@ -105,7 +105,7 @@ abbrev pub complete_line : List (List ℕ) → CompleteRow → List ℕ
 complete_line names row = line_of (codes "done") (task_text names row.task ∷ decimal row.instant ∷ [])
 
 -- the line of a row
-abbrev pub back_line : List (List ℕ) → ℕ → ByteMode → BackRow → List ℕ
+abbrev pub back_line : List (List ℕ) → ℕ → Bytes → BackRow → List ℕ
 back_line names size bytes (Gap row) = gap_line row
 back_line names size bytes (Idle dwell) = idle_line dwell
 back_line names size bytes (Got row) = got_line names size bytes row
@@ -123,8 +123,8 @@ abbrev pub back_last : ℕ → List ℕ
 back_last end = line_of (codes "end") (decimal end ∷ [])
 
 -- the first line, a line for each row in order, and the last
-unfoldable pub back_lines : List (List ℕ) → ℕ → ByteMode → Run → List (List ℕ)
+unfoldable pub back_lines : List (List ℕ) → ℕ → Bytes → Run → List (List ℕ)
 back_lines names size bytes run = back_first ∷ (map (back_line names size bytes) run.back ++ back_last run.end ∷ [])
 
-abbrev pub back_text : List (List ℕ) → ℕ → ByteMode → Run → List ℕ
+abbrev pub back_text : List (List ℕ) → ℕ → Bytes → Run → List ℕ
 back_text names size bytes run = flat_map (λ line. line) (back_lines names size bytes run)

@@ -1,7 +1,7 @@
 -- The grammars of reports as tables.
 use Rattle.std.specs.Prelude.{ℕ, List, [], ◌∷◌, Bool, Option, Some, None, map}
 use Rattle.std.specs.Borrow.{Bor}
-use Rattle.fb_calls.specs.Names.{is_name}
+use Rattle.fb_script.specs.Names.{is_name}
 use Rattle.fb_report.specs.declared.forms.Form.{Form}
 use Rattle.fb_report.specs.declared.forms.Form.TheVariants.{Word, OneOf, Number, Track, Request, Task, Bytes}
 use Rattle.fb_report.specs.declared.grammar.Table.{Table}

@@ -5,7 +5,7 @@ use Rattle.std.specs.Char.{is_ascii_digit}
 use Rattle.std.specs.List.{after_first, before_first, list_all, list_any, slice_split}
 use Rattle.std.specs.Str.{bytes_eq}
 use Rattle.fb_units.specs.Numbers.{are_digits, digits_after}
-use Rattle.fb_calls.specs.Names.{is_name}
+use Rattle.fb_script.specs.Names.{is_name}
 
 -- ---- fields
 

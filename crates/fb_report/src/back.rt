@@ -1,24 +1,24 @@
 // The background report.
 ghost use Rattle.std.specs.Prelude.{◌≡◌, ℕ, ◌+◌, ◌%◌, ◌<◌, List, length, Some, IfOk, slice_get};
 ghost use Rattle.std.specs.List.{AllByRecursion};
-ghost use Rattle.fb_report.specs.declared.byte_mode.ByteMode.{ByteMode};
+ghost use Rattle.fb_report.specs.declared.bytes.Bytes.{Bytes};
 ghost use Rattle.fb_report.specs.Back.{back_first, back_last, back_lines};
 ghost use Rattle.fb_report.specs.Grammar.{back_grammar};
 ghost use Rattle.fb_report.specs.Printed.{AreNames, CountsSectors, IsLine, is_first, is_in_place, is_last};
 ghost use Rattle.fb_rows.specs.Tasks.{HasTaskBelow};
 
-use crate::ByteMode;
+use crate::Bytes;
 use crate::back_rows::back_line;
 use crate::line::{Line, first_line};
-use fb_calls::TaskNames;
+use fb_script::Names;
 use fb_rows::Run;
 use fb_units::{NoMemory, Ns};
 use std::alloc::Global;
 
 /// The number of lines of the background report: one for each row, the first and the last.
-pub fn back_line_count(run: &Run) -> u64
+pub fn back_pieces(run: &Run) -> u64
     ensures value { result ≡ length run.now.back + 2 }
-    ensures lines { (names : List (List ℕ)) (size : ℕ) (bytes : ByteMode) → result ≡ length (back_lines names size bytes run.now) }
+    ensures lines { (names : List (List ℕ)) (size : ℕ) (bytes : Bytes) → result ≡ length (back_lines names size bytes run.now) }
 {
     run.back.len() as u64 + 2
 }
@@ -26,12 +26,12 @@ pub fn back_line_count(run: &Run) -> u64
 /// The line at this index, counted from 0, of the background report, with its line feed.
 ///
 /// `sector_bytes` is the size of a sector, a multiple of 16, and `names` are the tasks' names.
-pub fn back_line_at(
+pub fn back_piece(
     alloc: Global,
     run: &Run,
-    names: &TaskNames,
+    names: &Names,
     sector_bytes: u32,
-    bytes: ByteMode,
+    bytes: Bytes,
     index: u64,
 ) -> Result<Vec<u8>, NoMemory>
     requires whole { sector_bytes % 16 ≡ 0 }

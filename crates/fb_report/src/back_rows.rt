@@ -9,10 +9,10 @@ ghost use Rattle.fb_report.specs.Grammar.{are_bytes, back_grammar, is_number, is
 ghost use Rattle.fb_report.specs.Printed.{AreNames, AreOneOf, CountsSectors, HasSectors, IsField, IsLine, is_row};
 ghost use Rattle.fb_rows.specs.Tasks.{HasTaskBelow};
 
-use crate::ByteMode;
+use crate::Bytes;
 use crate::contents::{sectors, shown};
 use crate::line::Line;
-use fb_calls::{Kind, TaskNames};
+use fb_script::{Kind, Names};
 use fb_rows::{
     BackRow, BadRow, CompleteRow, DeliveryRow, Dwell, GapRow, How, Plan, SealRow, SegmentRow,
     TaskRow,
@@ -26,9 +26,9 @@ use std::alloc::Global;
 pub fn back_line(
     alloc: Global,
     row: &BackRow,
-    names: &TaskNames,
+    names: &Names,
     sector_bytes: u32,
-    bytes: ByteMode,
+    bytes: Bytes,
 ) -> Result<Vec<u8>, NoMemory>
     requires whole { sector_bytes % 16 ≡ 0 }
     requires named { HasTaskBelow (length names.now) row.now }
@@ -101,9 +101,9 @@ fn idle_line(alloc: Global, dwell: &Dwell) -> Result<Vec<u8>, NoMemory>
 fn got_line(
     alloc: Global,
     row: &DeliveryRow,
-    names: &TaskNames,
+    names: &Names,
     sector_bytes: u32,
-    bytes: ByteMode,
+    bytes: Bytes,
 ) -> Result<Vec<u8>, NoMemory>
     requires whole { sector_bytes % 16 ≡ 0 }
     requires named { row.now.block.task < length names.now }
@@ -121,7 +121,7 @@ fn got_line(
 fn push_delivery(
     line: &mut Line,
     row: &DeliveryRow,
-    names: &TaskNames,
+    names: &Names,
     found: &[u8],
 ) -> Result<(), NoMemory>
     requires named { row.now.block.task < length names.now }
@@ -130,7 +130,7 @@ fn push_delivery(
         → AreOneOf back_grammar.rows (codes "got" ∷ got_fields names.now row.now found.now)) }
 {
     line.task(names, row.block.task)?;
-    line.number(row.block.number as u64)?;
+    line.number(row.block.index as u64)?;
     line.number(row.block.lbn)?;
     line.number(row.block.count as u64)?;
     line.number(row.begin)?;
@@ -150,7 +150,7 @@ fn how(how: How) -> &'static [u8]
     }
 }
 
-fn bad_line(alloc: Global, row: &BadRow, names: &TaskNames) -> Result<Vec<u8>, NoMemory>
+fn bad_line(alloc: Global, row: &BadRow, names: &Names) -> Result<Vec<u8>, NoMemory>
     requires named { row.now.task < length names.now }
     ensures value { IfOk result (λ line. line.items ≡ bad_line names.now row.now) }
     ensures form { IfOk result (λ line. AreNames names.now → IsLine (is_row back_grammar) line.items) }
@@ -164,9 +164,9 @@ fn bad_line(alloc: Global, row: &BadRow, names: &TaskNames) -> Result<Vec<u8>, N
 fn seal_line(
     alloc: Global,
     row: &SealRow,
-    names: &TaskNames,
+    names: &Names,
     sector_bytes: u32,
-    bytes: ByteMode,
+    bytes: Bytes,
 ) -> Result<Vec<u8>, NoMemory>
     requires whole { sector_bytes % 16 ≡ 0 }
     requires named { row.now.task < length names.now }
@@ -186,9 +186,9 @@ fn seal_line(
 fn segment_line(
     alloc: Global,
     row: &SegmentRow,
-    names: &TaskNames,
+    names: &Names,
     sector_bytes: u32,
-    bytes: ByteMode,
+    bytes: Bytes,
 ) -> Result<Vec<u8>, NoMemory>
     requires whole { sector_bytes % 16 ≡ 0 }
     requires named { row.now.task < length names.now }
@@ -205,7 +205,7 @@ fn segment_line(
 fn push_segment(
     line: &mut Line,
     row: &SegmentRow,
-    names: &TaskNames,
+    names: &Names,
     digest: &[u8],
 ) -> Result<(), NoMemory>
     requires named { row.now.task < length names.now }
@@ -220,7 +220,7 @@ fn push_segment(
     line.word(digest)
 }
 
-fn complete_line(alloc: Global, row: &CompleteRow, names: &TaskNames) -> Result<Vec<u8>, NoMemory>
+fn complete_line(alloc: Global, row: &CompleteRow, names: &Names) -> Result<Vec<u8>, NoMemory>
     requires named { row.now.task < length names.now }
     ensures value { IfOk result (λ line. line.items ≡ complete_line names.now row.now) }
     ensures form { IfOk result (λ line. AreNames names.now → IsLine (is_row back_grammar) line.items) }
@@ -231,7 +231,7 @@ fn complete_line(alloc: Global, row: &CompleteRow, names: &TaskNames) -> Result<
     line.end()
 }
 
-fn task_line(alloc: Global, row: &TaskRow, names: &TaskNames) -> Result<Vec<u8>, NoMemory>
+fn task_line(alloc: Global, row: &TaskRow, names: &Names) -> Result<Vec<u8>, NoMemory>
     requires named { row.now.task < length names.now }
     ensures value { IfOk result (λ line. line.items ≡ task_line names.now row.now) }
     ensures form { IfOk result (λ line. AreNames names.now → IsLine (is_row back_grammar) line.items) }
@@ -241,7 +241,7 @@ fn task_line(alloc: Global, row: &TaskRow, names: &TaskNames) -> Result<Vec<u8>,
     line.end()
 }
 
-fn push_task(line: &mut Line, row: &TaskRow, names: &TaskNames) -> Result<(), NoMemory>
+fn push_task(line: &mut Line, row: &TaskRow, names: &Names) -> Result<(), NoMemory>
     requires named { row.now.task < length names.now }
     ensures value { OnOk result (line.new ≡ with_fields line.old (task_fields names.now row.now)) }
     ensures form { OnOk result (AreNames names.now → AreOneOf back_grammar.rows (codes "task" ∷ task_fields names.now row.now)) }

@@ -1,10 +1,10 @@
 // The contents of a row as they are shown.
 ghost use Rattle.std.specs.Prelude.{◌≡◌, ◌%◌, IfOk};
 ghost use Rattle.std.specs.List.{sum_by};
-ghost use Rattle.fb_report.specs.declared.byte_mode.ByteMode.{ByteMode};
+ghost use Rattle.fb_report.specs.declared.bytes.Bytes.{Bytes};
 ghost use Rattle.fb_report.specs.Shown.{shown};
 
-use crate::ByteMode;
+use crate::Bytes;
 use crate::sectors::pour;
 use crate::sink::{HexDump, push_hex};
 use fb_store::Contents;
@@ -20,15 +20,15 @@ pub fn shown(
     alloc: Global,
     contents: &Contents,
     sector_bytes: u32,
-    bytes: ByteMode,
+    bytes: Bytes,
 ) -> Result<Vec<u8>, NoMemory>
     requires whole { sector_bytes % 16 ≡ 0 }
     ensures { IfOk result (λ field. field.items ≡ shown bytes sector_bytes contents.now) }
 {
     match bytes {
-        ByteMode::Nothing => Ok(b"-".to_vec(alloc)?),
-        ByteMode::Digest => digest(alloc, contents, sector_bytes),
-        ByteMode::Dump => dump(alloc, contents, sector_bytes),
+        Bytes::Nothing => Ok(b"-".to_vec(alloc)?),
+        Bytes::Digest => digest(alloc, contents, sector_bytes),
+        Bytes::Dump => dump(alloc, contents, sector_bytes),
     }
 }
 
@@ -45,7 +45,7 @@ pub fn sectors(contents: &Contents) -> u128
 
 fn digest(alloc: Global, contents: &Contents, sector_bytes: u32) -> Result<Vec<u8>, NoMemory>
     requires whole { sector_bytes % 16 ≡ 0 }
-    ensures { IfOk result (λ field. field.items ≡ shown ByteMode.Digest sector_bytes contents.now) }
+    ensures { IfOk result (λ field. field.items ≡ shown Bytes.Digest sector_bytes contents.now) }
 {
     let mut hasher = Sha256::new();
     pour(alloc, &mut hasher, contents, sector_bytes)?;
@@ -56,7 +56,7 @@ fn digest(alloc: Global, contents: &Contents, sector_bytes: u32) -> Result<Vec<u
 
 fn dump(alloc: Global, contents: &Contents, sector_bytes: u32) -> Result<Vec<u8>, NoMemory>
     requires whole { sector_bytes % 16 ≡ 0 }
-    ensures { IfOk result (λ field. field.items ≡ shown ByteMode.Dump sector_bytes contents.now) }
+    ensures { IfOk result (λ field. field.items ≡ shown Bytes.Dump sector_bytes contents.now) }
 {
     let mut dump = HexDump::new(alloc);
     pour(alloc, &mut dump, contents, sector_bytes)?;

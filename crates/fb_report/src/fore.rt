@@ -1,13 +1,13 @@
 // The foreground report.
 ghost use Rattle.std.specs.Prelude.{◌≡◌, ℕ, ◌+◌, ◌%◌, ◌<◌, [], ◌∷◌, ◌++◌, length, codes, Some, IfOk, OnOk, slice_get};
 ghost use Rattle.std.specs.List.{AllByRecursion};
-ghost use Rattle.fb_report.specs.declared.byte_mode.ByteMode.{ByteMode};
+ghost use Rattle.fb_report.specs.declared.bytes.Bytes.{Bytes};
 ghost use Rattle.fb_report.specs.Lines.{with_fields};
 ghost use Rattle.fb_report.specs.Fore.{bad_count, kind_text, row_bytes, row_fields, fore_first, fore_line, fore_last, fore_lines};
 ghost use Rattle.fb_report.specs.Grammar.{are_bytes, fore_grammar, is_one_of, numbers};
 ghost use Rattle.fb_report.specs.Printed.{AreFields, IsField, IsLine, ReadsSectors, is_first, is_in_place, is_last, is_row};
 
-use crate::ByteMode;
+use crate::Bytes;
 use crate::contents::shown;
 use crate::line::{Line, first_line};
 use fb_rows::{ForeRow, Run};
@@ -15,9 +15,9 @@ use fb_units::NoMemory;
 use std::alloc::Global;
 
 /// The number of lines of the foreground report: one for each row, the first and the last.
-pub fn fore_line_count(run: &Run) -> u64
+pub fn fore_pieces(run: &Run) -> u64
     ensures value { result ≡ length run.now.fore + 2 }
-    ensures lines { (size : ℕ) (bytes : ByteMode) → result ≡ length (fore_lines size bytes run.now) }
+    ensures lines { (size : ℕ) (bytes : Bytes) → result ≡ length (fore_lines size bytes run.now) }
 {
     run.fore.len() as u64 + 2
 }
@@ -25,11 +25,11 @@ pub fn fore_line_count(run: &Run) -> u64
 /// The line at this index, counted from 0, of the foreground report, with its line feed.
 ///
 /// `sector_bytes` is the size of a sector, a multiple of 16.
-pub fn fore_line_at(
+pub fn fore_piece(
     alloc: Global,
     run: &Run,
     sector_bytes: u32,
-    bytes: ByteMode,
+    bytes: Bytes,
     index: u64,
 ) -> Result<Vec<u8>, NoMemory>
     requires whole { sector_bytes % 16 ≡ 0 }
@@ -76,7 +76,7 @@ pub fn fore_line(
     alloc: Global,
     row: &ForeRow,
     sector_bytes: u32,
-    bytes: ByteMode,
+    bytes: Bytes,
 ) -> Result<Vec<u8>, NoMemory>
     requires whole { sector_bytes % 16 ≡ 0 }
     ensures value { IfOk result (λ line. line.items ≡ fore_line sector_bytes bytes row.now) }
@@ -125,7 +125,7 @@ fn row_bytes(
     alloc: Global,
     row: &ForeRow,
     sector_bytes: u32,
-    bytes: ByteMode,
+    bytes: Bytes,
 ) -> Result<Vec<u8>, NoMemory>
     requires whole { sector_bytes % 16 ≡ 0 }
     ensures { IfOk result (λ field. field.items ≡ row_bytes sector_bytes bytes row.now) }

@@ -6,7 +6,7 @@ ghost use Rattle.std.specs.Str.{bytes_eq};
 ghost use Rattle.fb_report.specs.Forms.{fits};
 ghost use Rattle.fb_report.specs.Grammar.{are_bytes, is_lower_hex, is_number, is_one_of, is_request, is_track};
 
-use fb_calls::is_name;
+use fb_script::is_name;
 use fb_units::index_of;
 
 /// What a field must be.

@@ -15,7 +15,7 @@
 
 mod back;
 mod back_rows;
-mod byte_mode;
+mod bytes;
 mod contents;
 mod fore;
 mod forms;
@@ -27,11 +27,11 @@ mod sectors;
 mod sink;
 mod summary;
 
-pub use back::{back_first, back_last, back_line_at, back_line_count};
+pub use back::{back_first, back_last, back_piece, back_pieces};
 pub use back_rows::back_line;
-pub use byte_mode::ByteMode;
+pub use bytes::Bytes;
 pub use contents::shown;
-pub use fore::{fore_first, fore_last, fore_line, fore_line_at, fore_line_count};
+pub use fore::{fore_first, fore_last, fore_line, fore_piece, fore_pieces};
 pub use line::{Line, first_line};
 pub use printed::printed_reports_are_read;
 pub use reading::{

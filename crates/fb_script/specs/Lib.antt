@@ -1,8 +1,5 @@
-pub mod Words
-pub mod Live
-pub mod Line
+pub mod Names
 pub mod Sessions
-pub mod Judgement
-pub mod Reading
-pub mod Verdict
-pub mod Reader
+pub mod Blocks
+pub mod Promoted
+pub mod Allowed

@@ -1,20 +1,17 @@
-//! Reads call scripts.
+//! The calls of a script: what each asks for, and of which task.
 //!
-//! The layers above may rely on this: a text is accepted exactly if its lines obey the rules of the
-//! format, on a disk and with a trace of a number of requests. Its value is then its calls in line
-//! order, with the tasks numbered in order of opening; a refused text names its first faulty line,
-//! and the first reason there. Accepted calls are fit for a replay: each is allowed after those
-//! before it, and the blocks and reads that all of them ask for are within their limits.
+//! The layers above may rely on this: the definitions say which calls a script may make, each after
+//! those before it (`Allowed`), into how many blocks they are cut (`Blocks`), and which foreground
+//! reads they ask for (`Promoted`), which `promoted` gives. That the calls obey these rules is what
+//! the reader of scripts, `fb_calls`, promises of all that it accepts. What the calls do to tasks
+//! and blocks is the business of crates above. Background tasks as sessions: Thereska and others,
+//! FAST 2004.
 #![tactic(auto)]
 
-mod blocks;
-mod entry;
-mod fault;
-mod judgement;
-mod live_digits;
-mod opened_task;
-mod reader;
-mod words;
+mod call;
+mod names;
+mod reads;
 
-pub use fault::{CallsError, CallsFault, CallsReason};
-pub use reader::read_calls;
+pub use call::{Action, Call, Calls, Kind, Live};
+pub use names::{Names, is_name};
+pub use reads::promoted;

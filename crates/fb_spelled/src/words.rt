@@ -1,5 +1,5 @@
 // Command lines with options in orders of their own, and their faults.
-use fb_report::ByteMode;
+use fb_report::Bytes;
 use fb_words::{CheckWords, Command, Policy, ReplayWords, UsageReason, WordsError, read_words};
 use std::alloc::Global;
 use std::process::Abort;
@@ -30,7 +30,7 @@ fn check_replay(rt: &impl Abort, words: &ReplayWords) {
     assert_eq!(rt; words.params.as_str(), "k");
     assert_eq!(rt; words.trace.as_str(), "t=1");
     assert!(rt; matches!(words.policy, Policy::Sptf));
-    assert!(rt; matches!(words.bytes, ByteMode::Digest));
+    assert!(rt; matches!(words.bytes, Bytes::Digest));
     assert!(rt; words.calls.is_none());
     assert!(rt; words.back.is_none());
     assert_eq!(rt; words.puts.as_deref(), Some("p"));
@@ -59,7 +59,7 @@ fn check_check(rt: &impl Abort, words: &CheckWords) {
     assert_eq!(rt; words.fore.as_str(), "f");
     assert_eq!(rt; words.back.as_str(), "b");
     assert_eq!(rt; (words.until, words.device), (12_000, 7));
-    assert!(rt; matches!(words.bytes, ByteMode::Dump));
+    assert!(rt; matches!(words.bytes, Bytes::Dump));
 }
 
 #[test]
@@ -137,7 +137,7 @@ fn check_fault(
     match &read_words(alloc, words.as_slice()) {
         Err(WordsError::Fault(fault)) => {
             assert_eq!(rt;
-                (fault.position, spelled(fault.reason)),
+                (fault.place, spelled(fault.reason)),
                 (position, reason),
                 "for {text}"
             )

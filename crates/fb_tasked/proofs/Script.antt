@@ -5,10 +5,10 @@ use Rattle.fb_tasks.proofs.Words.{◌≡◌, ℕ, zero, suc, ◌+◌, ◌^◌, �
 use Rattle.fb_tasks.proofs.Words.{arith, subst, true≢false, Request, Shape, Call, Content, Gives}
 use Rattle.fb_tasks.proofs.Words.{Block, Entry, Wanted, is_wanted, BackRow, DeliveryRow, Past, finished, registered, state, tasks, wanted}
 use Rattle.fb_tasks.proofs.Words.{view, with_choices, test_rows_found, take_call, with_delivery, task_row, task_rows, delivery_of}
-use Rattle.fb_tasks.proofs.Words.{Tells, MayTake, MayChooseAndTest, MayDeliver, IsUpToDate, IsCalled, all_get, filter_to}
+use Rattle.fb_tasks.proofs.Words.{Tells, MayTake, MaySettle, MayDeliver, IsUpToDate, IsCalled, all_get, filter_to}
 use Rattle.fb_tasks.proofs.Words.{same_Some}
 use Rattle.fb_tasks.proofs.Calls.{may-take, called-more, called-tested, called-chosen, called-delivered, called-finished}
-use Rattle.fb_calls.specs.Allowed.{IsScript}
+use Rattle.fb_script.specs.Allowed.{IsScript}
 use Rattle.fb_tasks.specs.declared.session.Session.{Session}
 use Rattle.fb_tasked.specs.Following.{Follows}
 use Rattle.fb_tasks.specs.Telling.{IsBlockOf, entry_of, tested_at}
@@ -33,7 +33,7 @@ module _ {up_to_date : Bool} {disk : Shape} {calls : List Call} {next : ℕ} {se
         (λ never. absurd (true≢false (sym never)))
 
   -- all tasks were tested after the last event that could complete something
-  pub follows-may-choose : MayChooseAndTest disk h.past sessions held
+  pub follows-may-choose : MaySettle disk h.past sessions held
   follows-may-choose = record { tells = h.tells; few = omega (arith, h.called.few) }
 
   pub follows-up_to_date : (instant : ℕ) (now : List Session) (after : List Entry)

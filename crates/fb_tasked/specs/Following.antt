@@ -1,8 +1,8 @@
 -- The course of a script: its calls take effect one after another, and deliveries and writes between them.
 use Rattle.std.specs.Prelude.{◌≡◌, ℕ, List, Bool, true}
 use Rattle.fb_geometry.specs.Shape.{Shape}
-use Rattle.fb_calls.specs.declared.call.Call.{Call}
-use Rattle.fb_calls.specs.Allowed.{IsScript}
+use Rattle.fb_script.specs.declared.call.Call.{Call}
+use Rattle.fb_script.specs.Allowed.{IsScript}
 use Rattle.fb_wanted.specs.declared.block.Entry.{Entry}
 use Rattle.fb_model.specs.History.{Past}
 use Rattle.fb_tasks.specs.declared.session.Session.{Session}

@@ -1,5 +1,5 @@
 // Rows of the background as lines, with the sectors of images and segments in place of their digests.
-use fb_calls::{Calls, Kind};
+use fb_script::{Calls, Kind};
 use fb_rows::{BackRow, BackRows, DeliveryRow, How, TaskRow};
 use fb_store::{Content, ContentRun, Contents};
 use std::alloc::{AllocError, Global};
@@ -52,7 +52,7 @@ fn line(alloc: Global, calls: &Calls, row: &BackRow) -> Result<String, AllocErro
 // The line of a delivery.
 fn got_line(alloc: Global, calls: &Calls, row: &DeliveryRow) -> Result<String, AllocError> {
     let task = name(calls, row.block.task);
-    let number = row.block.number;
+    let number = row.block.index;
     let lbn = row.block.lbn;
     let count = row.block.count;
     let begin = row.begin;

@@ -3,15 +3,15 @@ ghost use Rattle.std.specs.Prelude.{◌≡◌, ℕ, Some, true, false, slice_get
 ghost use Rattle.fb_tasked.specs.Following.{Follows};
 
 use crate::lines::lines;
-use fb_calls::Calls;
+use fb_script::Calls;
 use fb_geometry::{Geometry, Layout, Outline, Zone};
 use fb_rows::{BackRow, BackRows, DeliveryRow, How};
-use fb_script::read_calls;
+use fb_calls::read_calls;
 use fb_sectormap::SectorMap;
 use fb_store::{Store, runs_are_fewest};
 use fb_tasks::Sessions;
 use fb_units::{NoMemory, Ns};
-use fb_wanted::{Block, Blocks, Entry, State};
+use fb_wanted::{Block, Wanted, Entry, State};
 use std::alloc::Global;
 use std::process::Abort;
 use std::test::Fail;
@@ -81,7 +81,7 @@ struct PlayedScript {
     calls: Calls,
     store: Store,
     sessions: Sessions,
-    blocks: Blocks,
+    blocks: Wanted,
     rows: BackRows,
     // How many calls have taken effect.
     called: usize,
@@ -102,7 +102,7 @@ impl PlayedScript {
             calls,
             store: Store::new(alloc, latent)?,
             sessions: Sessions::new(alloc),
-            blocks: Blocks::new(alloc),
+            blocks: Wanted::new(alloc),
             rows: BackRows::new(alloc),
             called: 0,
             up_to_date: false,
@@ -152,7 +152,7 @@ impl PlayedScript {
         self.call(now)?;
         self.up_to_date = true;
         self.sessions
-            .choose_and_test(&self.map, &mut self.blocks, now, &mut self.rows)
+            .settle(&self.map, &mut self.blocks, now, &mut self.rows)
     }
 
     // The task's block of that number.
@@ -206,7 +206,7 @@ impl PlayedScript {
             bad: content.bad() as u32,
             content,
         };
-        self.sessions.deliver(&mut self.blocks, got, &mut self.rows)
+        self.sessions.delivered(&mut self.blocks, got, &mut self.rows)
     }
 
     // A write passes.
@@ -233,7 +233,7 @@ impl PlayedScript {
         self.sessions.task_rows(&self.blocks, &mut rows)?;
         for i in 0..rows.len() {
             let task = u32::try_from(i)?;
-            let complete = self.sessions.is_complete(&self.blocks, task);
+            let complete = self.sessions.complete(&self.blocks, task);
             if let BackRow::Task(row) = rows.get(i) {
                 assert_eq!(rt; complete, row.complete);
             }

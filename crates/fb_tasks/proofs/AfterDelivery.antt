@@ -141,11 +141,11 @@ module _ (v : TaskView) (got : DeliveryRow) (old mid : Session) (stands : Stands
 
 module _ {disk : Shape} {past : Past} {sessions : List Session} {held : List Entry} (got : DeliveryRow)
     (may : MayDeliver disk past sessions held got) where
-  pub held-now : (now : List Entry) → now ≡ after got.block.task (Deliver got.block.number) held
+  pub held-now : (now : List Entry) → now ≡ after got.block.task (Deliver got.block.index) held
       → HoldsBlocks disk (delivered got ∷ past) now
   held-now now is = delivered-holds disk past got held now (delivered-entries past got held now may.tells.entries is) may.tells.blocks
 
-  pub wanted-entry : (e : Entry) × (i : ℕ) × (slice_get held i ≡ Some e) × (is_block got.block.task got.block.number e ≡ true)
+  pub wanted-entry : (e : Entry) × (i : ℕ) × (slice_get held i ≡ Some e) × (is_block got.block.task got.block.index e ≡ true)
       × (e.state ≡ Wanted)
   wanted-entry =
       let was = placed got may in (
@@ -153,7 +153,7 @@ module _ {disk : Shape} {past : Past} {sessions : List Session} {held : List Ent
         was.index,
         ap (λ es. slice_get es was.index) may.tells.entries
             ∙ map_at (entry_of past) (registered past) was.index got.block was.registered_there,
-        ap₂ (λ a b. a && b) (same_number got.block.task got.block.task refl) (same_number got.block.number got.block.number refl),
+        ap₂ (λ a b. a && b) (same_number got.block.task got.block.task refl) (same_number got.block.index got.block.index refl),
         was.shown_wanted,
       )
 
@@ -171,7 +171,7 @@ module _ {disk : Shape} {past : Past} {sessions : List Session} {held : List Ent
 
   -- the session of the delivered block
   pub delivers : {items : List Session} {now : List Entry} {old : Session} → items ≡ sessions → old ≡ get_or items got.block.task old
-      → now ≡ after got.block.task (Deliver got.block.number) held → Delivers disk past sessions held got old now
+      → now ≡ after got.block.task (Deliver got.block.index) held → Delivers disk past sessions held got old now
   delivers {items} {now} {old} same says is =
       let there = slice_get-get_or sessions got.block.task old (within_sessions got may) in
       record { may = may; at = there ∙ ap Some (sym (rw same at says)); is = is }

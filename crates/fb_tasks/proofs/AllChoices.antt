@@ -9,7 +9,7 @@ use Rattle.fb_tasks.proofs.Words.{choose_in, is_better, is_busy, is_chosen, unch
 use Rattle.fb_tasks.proofs.Words.{Stands, MayChoose, AreReported, IsSegmentOf, HasNoChoice, HoldsBlocks, IsQuiet, IsAtWork}
 use Rattle.fb_tasks.proofs.Words.{HaveChosen, choosable_by, flat_same, element_at, ne_eqb, each_set, step_to}
 use Rattle.fb_tasks.proofs.Words.{AllByRecursion, sum_by, best_of, flat_map, fold, range_with_len, sum_by-cons, slice_get_within, Block}
-use Rattle.fb_tasks.proofs.Words.{chosen-silent, MayChooseAndTest, TaskView, nil_from_length, HasChosenUpTo, kept_segment, all_range}
+use Rattle.fb_tasks.proofs.Words.{chosen-silent, MaySettle, TaskView, nil_from_length, HasChosenUpTo, kept_segment, all_range}
 use Rattle.fb_tasks.proofs.{ChoiceSteps.best_left, ChoiceSteps.chosen_blocks, ChoiceSteps.chosen_for, ChoiceSteps.next_view}
 use Rattle.fb_tasks.proofs.{States.seen, Segmented.numbered_given, ChoiceSteps.once_is, ChoiceSteps.left_less, ChoiceSteps.added_own}
 use Rattle.fb_tasks.proofs.{ChoiceSteps.segment_rows_of, ChoiceSteps.segment_rows_is, ChoiceSteps.few_less, ChoiceSteps.best_of_left}
@@ -251,7 +251,7 @@ left_split f n count less = let e : count - n ≡ suc (count - (n + 1)) = omega 
     rw e (sum_by-cons f n (range_with_len (n + 1) (count - (n + 1))))
 
 pub partly-start : (disk : Shape) (past : Past) (sessions : List Session) (held : List Entry) (instant : ℕ) (rows : List BackRow)
-    → MayChooseAndTest disk past sessions held → Partly disk past sessions held instant rows rows 0
+    → MaySettle disk past sessions held → Partly disk past sessions held instant rows rows 0
 partly-start disk past sessions held instant rows h = let tells = h.tells in record {
   begun = record {
     as_many = tells.as_many;

@@ -16,7 +16,7 @@ use Rattle.fb_tasks.proofs.{AllChoices.sum_range, AllChoices.choosable-same, All
 use Rattle.fb_tasks.proofs.States.{seen}
 use Rattle.fb_model.specs.History.{blocks_of}
 use Rattle.fb_tasks.specs.Telling.{calls_of}
-use Rattle.fb_calls.specs.Allowed as allowed
+use Rattle.fb_script.specs.Allowed as allowed
 
 -- how many blocks are registered, and how many the choices can register
 abbrev pub in_all : Shape → Past → ℕ

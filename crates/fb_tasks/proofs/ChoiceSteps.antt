@@ -53,7 +53,7 @@ chosen_blocks disk task v segment = numbered task v.terms.weight (length v.block
 abbrev pub chosen_for : Shape → ℕ → TaskView → LogSegment → Choice
 chosen_for disk task v segment = record { segment = segment; blocks = chosen_blocks disk task v segment }
 
-numbered_below : (n : ℕ) (bs : List Block) → AreNumbered n bs → AllByRecursion (λ b. b.number < n + length bs) bs
+numbered_below : (n : ℕ) (bs : List Block) → AreNumbered n bs → AllByRecursion (λ b. b.index < n + length bs) bs
 numbered_below n [] h = tt
 numbered_below n (b ∷ bs) h = (
   omega (arith, h.0),
@@ -85,7 +85,7 @@ module _ (disk : Shape) (task : ℕ) (v : TaskView) (best : LogSegment) where
   -- the blocks before stay, and the new ones are wanted
   pub old_bare : AreNumbered 0 v.blocks
       → AllByRecursion (λ block. (chosen_view task (chosen_for disk task v best) v).bare block ≡ v.bare block) v.blocks
-  old_bare are_numbered = all_weaker (λ b. b.number < 0 + length v.blocks) (λ block. new.bare block ≡ v.bare block)
+  old_bare are_numbered = all_weaker (λ b. b.index < 0 + length v.blocks) (λ block. new.bare block ≡ v.bare block)
       (λ block less. rw (no_smaller (own_of task block) (length v.blocks) fresh (omega (arith, less)) added_numbered) refl) v.blocks
       (numbered_below 0 v.blocks are_numbered)
 

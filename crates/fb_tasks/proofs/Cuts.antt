@@ -80,7 +80,7 @@ pub numbered_append : (task weight n : ℕ) (cs ds : List Cut)
 numbered_append task weight n [] ds = ap (λ k. numbered task weight k ds) (let e : n ≡ n + 0 = omega arith in e)
 numbered_append task weight n (c ∷ cs) ds =
     rw (numbered_append task weight (n + 1) cs ds)
-    (ap (λ k. record { task = task; number = n; lbn = c.lbn; count = c.count; track = c.track; weight = weight; sweep = c.sweep }
+    (ap (λ k. record { task = task; index = n; lbn = c.lbn; count = c.count; track = c.track; weight = weight; sweep = c.sweep }
     ∷ (numbered task weight (n + 1) cs ++ numbered task weight k ds)) (let e : n + 1 + length cs ≡ n + suc (length cs) = omega arith in e))
 
 new_named : (session : Session) (bs : List Block) → blocks_of (new_entries session bs) ≡ bs

@@ -21,7 +21,7 @@ get_append (y ∷ xs) ys zero x h = inl h
 get_append (y ∷ xs) ys (suc i) x h = get_append xs ys i x h
 
 -- blocks are told apart by their numbers
-pub numbered_from : (n : ℕ) (bs : List Block) → AreNumbered n bs → AllByRecursion (λ b. n ≤ b.number) bs
+pub numbered_from : (n : ℕ) (bs : List Block) → AreNumbered n bs → AllByRecursion (λ b. n ≤ b.index) bs
 numbered_from n [] h = tt
 numbered_from n (b ∷ bs) h = (
   omega (arith, h.0),
@@ -29,7 +29,7 @@ numbered_from n (b ∷ bs) h = (
 )
 
 pub only_one : (n : ℕ) (bs : List Block) (i : ℕ) (x : Block) → AreNumbered n bs → slice_get bs i ≡ Some x
-    → AllByRecursion (λ b. b.number ≡ x.number → b ≡ x) bs
+    → AllByRecursion (λ b. b.index ≡ x.number → b ≡ x) bs
 only_one n [] i x h at = tt
 only_one n (b ∷ bs) zero x h at =
     let e = same_Some b x at in (
@@ -69,28 +69,28 @@ module _ (v : TaskView) (got : DeliveryRow) where
   pub taken-holds : (held now : ℕ → Option Content) (content_at : ℕ → Content) (low i : ℕ) (bs : List Block)
       → ((lbn : ℕ) → now lbn ≡ after_take content_at got.block.lbn got.block.count lbn (held lbn))
       → Gives got.content content_at got.block.lbn got.block.count
-      → Ascend low bs → slice_get bs i ≡ Some got.block → AllByRecursion (λ b. b.number ≡ got.block.number → b ≡ got.block) bs
+      → Ascend low bs → slice_get bs i ≡ Some got.block → AllByRecursion (λ b. b.index ≡ got.block.index → b ≡ got.block) bs
       → AllByRecursion (HoldsBlock v.work held) bs → AllByRecursion (HoldsBlock (delivered_view got v).work now) bs
   taken-holds held now content_at low i bs takes gives ascends at single holds =
-      all_with (λ b. b.number ≡ got.block.number → b ≡ got.block) (λ b. HoldsBlock v.work held b × ((b ≡ got.block) ⊎ AreApart b got.block))
+      all_with (λ b. b.index ≡ got.block.index → b ≡ got.block) (λ b. HoldsBlock v.work held b × ((b ≡ got.block) ⊎ AreApart b got.block))
       (HoldsBlock (delivered_view got v).work now) one bs single
       (all_both (HoldsBlock v.work held) (λ b. (b ≡ got.block) ⊎ AreApart b got.block) bs holds (apart low bs i got.block ascends at)) where
         its_own : held_in now (range_with_len got.block.lbn got.block.count) ≡ sectors_of ((delivered_view got v).found got.block)
         its_own = held_all now content_at got.block.lbn got.block.count
             (λ lbn le lt. rw (takes lbn, within got.block.lbn got.block.count lbn le lt) refl)
-            ∙ (sym gives ∙ rw (same_number got.block.number got.block.number refl) refl)
+            ∙ (sym gives ∙ rw (same_number got.block.index got.block.index refl) refl)
 
         outside : (b : Block) (lbn : ℕ) → b.lbn ≤ lbn → lbn < b.lbn + b.count → AreApart b got.block
             → is_within got.block.lbn got.block.count lbn ≡ false
         outside b lbn le lt (inl less) = before_it got.block.lbn got.block.count lbn (omega arith)
         outside b lbn le lt (inr more) = behind_it got.block.lbn got.block.count lbn (omega arith)
 
-        one : (b : Block) → (b.number ≡ got.block.number → b ≡ got.block)
+        one : (b : Block) → (b.index ≡ got.block.index → b ≡ got.block)
             → HoldsBlock v.work held b × ((b ≡ got.block) ⊎ AreApart b got.block) → HoldsBlock (delivered_view got v).work now b
-        one b only both = elim (cases_Bool (got.block.number == b.number)) [
-          | inl it ↦ rw (only (sym (eqb-true got.block.number b.number it))) (λ _. its_own)
+        one b only both = elim (cases_Bool (got.block.index == b.index)) [
+          | inl it ↦ rw (only (sym (eqb-true got.block.index b.index it))) (λ _. its_own)
           | inr other ↦ elim both.1 [
-            | inl it ↦ absurd (other_number got.block.number b.number other (ap (λ (x : Block). x.number) (sym it)))
+            | inl it ↦ absurd (other_number got.block.index b.index other (ap (λ (x : Block). x.number) (sym it)))
             | inr far ↦ rw other (λ done. held_same now held b.lbn b.count (λ lbn le lt. rw (takes lbn, outside b lbn le lt far) refl)
                 ∙ both.0 done)
           ]
@@ -131,14 +131,14 @@ module _ (past : Past) (got : DeliveryRow) where
 
   -- the block is marked as delivered
   pub delivered-entries : (held now : List Entry) → held ≡ map (entry_of past) (registered past)
-      → now ≡ after got.block.task (Deliver got.block.number) held → now ≡ map (entry_of (delivered got ∷ past)) (registered past)
-  delivered-entries held now entries is_after = is_after ∙ (ap (after got.block.task (Deliver got.block.number)) entries
-      ∙ changed-entries got.block.task (Deliver got.block.number) (view past) (view (delivered got ∷ past)) (registered past)
+      → now ≡ after got.block.task (Deliver got.block.index) held → now ≡ map (entry_of (delivered got ∷ past)) (registered past)
+  delivered-entries held now entries is_after = is_after ∙ (ap (after got.block.task (Deliver got.block.index)) entries
+      ∙ changed-entries got.block.task (Deliver got.block.index) (view past) (view (delivered got ∷ past)) (registered past)
       (λ t other. delivered-silent past got t other)
       (rw (delivered-view past got got.block.task refl)
       (all_any _ (λ block. one (view past got.block.task) block) (registered past)))) where
         one : (v : TaskView) (block : Block)
-            → (if block.number == got.block.number then Delivered else state_in v block) ≡ state_in (delivered_view got v) block
+            → (if block.index == got.block.index then Delivered else state_in v block) ≡ state_in (delivered_view got v) block
         one v block = grind (arith, nat_tests)
 
 -- the block that is delivered stands among its task's, and was wanted
@@ -177,7 +177,7 @@ module _ (disk : Shape) (past : Past) (got : DeliveryRow) where
 -- the task's own view
 module _ (v : TaskView) (got : DeliveryRow) (index : ℕ) (there : slice_get v.blocks index ≡ Some got.block)
     (bare : v.bare got.block ≡ Wanted) where
-  single : AreNumbered 0 v.blocks → AllByRecursion (λ b. b.number ≡ got.block.number → b ≡ got.block) v.blocks
+  single : AreNumbered 0 v.blocks → AllByRecursion (λ b. b.index ≡ got.block.index → b ≡ got.block) v.blocks
   single are_numbered = only_one 0 v.blocks index got.block are_numbered there
 
   cleaned_still : (cs : List Choice) → AllByRecursion (λ choice. is_cleaned v.work choice ≡ true) cs
@@ -215,8 +215,8 @@ module _ (v : TaskView) (got : DeliveryRow) (index : ℕ) (there : slice_get v.b
             let whole = rw by.chosen at by.blocks in
             let there_now = in_current v got h.done (choice ∷ []) index (rw whole at there) by.cleaned bare in
             let only =
-            all_right (λ (c : Choice). AllByRecursion (λ b. b.number ≡ got.block.number → b ≡ got.block) c.blocks) h.done (choice ∷ [])
-            (all_flat (λ b. b.number ≡ got.block.number → b ≡ got.block) (λ (c : Choice). c.blocks) (h.done ++ choice ∷ [])
+            all_right (λ (c : Choice). AllByRecursion (λ b. b.index ≡ got.block.index → b ≡ got.block) c.blocks) h.done (choice ∷ [])
+            (all_flat (λ b. b.index ≡ got.block.index → b ≡ got.block) (λ (c : Choice). c.blocks) (h.done ++ choice ∷ [])
             (rw whole at (single are_numbered))) in (
               taken-holds v got (clean.taken_for old choice.segment.number)
                   (clean.taken_for (record old { taken = now }) choice.segment.number) content_at 0 there_now.0 choice.blocks

@@ -140,7 +140,7 @@ pub cut_registered : (task number : ℕ) (session : Session) (before now : List 
     → cuts ≡ cut ∷ rest
     → block ≡ record {
       task = task;
-      number = number;
+      index = number;
       lbn = cut.lbn;
       count = cut.count;
       track = cut.track;

@@ -9,7 +9,7 @@ use Rattle.fb_model.specs.History.{blocks_of}
 use Rattle.fb_wanted.specs.Numbering as numbering
 
 pub itself : (block : Block) → same_block block block ≡ true
-itself block = rw (same_number block.task block.task refl, same_number block.number block.number refl) refl
+itself block = rw (same_number block.task block.task refl, same_number block.index block.index refl) refl
 
 -- each block is one of them
 pub all_member : (added : List Block) → AllByRecursion (λ block. list_any (same_block block) added ≡ true) added
@@ -21,7 +21,7 @@ all_member (b ∷ bs) = (
 )
 
 -- blocks that are numbered on from n have no smaller number
-pub no_smaller : (block : Block) (n : ℕ) (added : List Block) → block.number < n → AreNumbered n added
+pub no_smaller : (block : Block) (n : ℕ) (added : List Block) → block.index < n → AreNumbered n added
     → list_any (same_block block) added ≡ false
 no_smaller block n [] less h = refl
 no_smaller block n (b ∷ bs) less h = grind (arith, nat_tests, h.0, no_smaller block (n + 1) bs (omega arith) h.1)
@@ -33,7 +33,7 @@ no_own block task (b ∷ bs) other h = grind (arith, nat_tests, h.0, no_own bloc
 
 -- the numbers of a task's blocks are below their number
 pub numbered_below : (task n total : ℕ) (bs : List Block) → n + length (filter (λ b. b.task == task) bs) ≡ total
-    → AreNumbered n (filter (λ b. b.task == task) bs) → AllByRecursion (λ block. block.task ≡ task → block.number < total) bs
+    → AreNumbered n (filter (λ b. b.task == task) bs) → AllByRecursion (λ block. block.task ≡ task → block.index < total) bs
 numbered_below task n total [] e h = tt
 numbered_below task n total (b ∷ bs) e h = elim (cases_Bool (b.task == task)) [
   | inl own ↦ let k = rw own at h in let f = rw own at e in
@@ -46,7 +46,7 @@ pub none_again : (past : Past) (task : ℕ) (added : List Block) → AreNumbered
     → AreNumbered (length (blocks_of past task)) added → AllByRecursion (λ b. b.task ≡ task) added
     → AllByRecursion (λ block. list_any (same_block block) added ≡ false) (registered past)
 none_again past task added before after own =
-    all_weaker (λ block. block.task ≡ task → block.number < length (blocks_of past task))
+    all_weaker (λ block. block.task ≡ task → block.index < length (blocks_of past task))
     (λ block. list_any (same_block block) added ≡ false)
     (λ block less. elim (cases_Bool (block.task == task)) [
       | inl mine ↦ no_smaller block (length (blocks_of past task)) added (less (eqb-true block.task task mine)) after

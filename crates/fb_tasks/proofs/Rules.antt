@@ -3,8 +3,8 @@ use Rattle.fb_tasks.proofs.Words.{◌≡◌, ℕ, ◌+◌, ◌<◌, ◌≤◌, �
 use Rattle.fb_tasks.proofs.Words.{ap, sym, ◌∙◌, arith, subst, or-false, or_comm, slice_index_or, list_any-append, flat_map-append, Shape}
 use Rattle.fb_tasks.proofs.Words.{Action, Open, Segment, Call, Plain, MayAsk, terms_in, Entry, Past, LogSegment, called, calls_of, tasks}
 use Rattle.fb_tasks.proofs.Words.{opened_by, is_closed, segments, segment_by, view, Session, Tells, MayTake, take_call, blocks_by}
-use Rattle.fb_calls.specs.Allowed.{Terms}
-use Rattle.fb_calls.specs.Allowed as allowed
+use Rattle.fb_script.specs.Allowed.{Terms}
+use Rattle.fb_script.specs.Allowed as allowed
 
 opened_more : (action : Action) (before : List Terms) → before ++ terms_in action ≡ opened_by action before
 opened_more (Open kind weight block) before = refl

@@ -163,7 +163,7 @@ backup_over w backup complete = by w.terms.kind backup complete where
 
 -- the task's block of a number stands among those that are registered
 pub numbered_at : (n k : ℕ) (blocks : List Block) (block : Block) → AreNumbered n blocks → slice_get blocks k ≡ Some block
-    → block.number ≡ n + k
+    → block.index ≡ n + k
 numbered_at n k [] block h at = absurd (cc)
 numbered_at n zero (b ∷ bs) block h at = rw (sym (same_Some b block at)) (omega (arith, h.0))
 numbered_at n (suc k) (b ∷ bs) block h at = omega (arith, numbered_at (n + 1) k bs block h.1 at)
@@ -186,7 +186,7 @@ module _ {disk : Shape} {past : Past} {held : List Entry} (h : HoldsBlocks disk 
         at = rw h.entries (map_at (entry_of past) (registered past) index.0 block index.1);
         is_block = rw (
           same_number block.task task mine,
-          same_number block.number number (numbered_at 0 number (view past task).blocks block (h.placed task).numbered at
+          same_number block.index number (numbered_at 0 number (view past task).blocks block (h.placed task).numbered at
               ∙ (let e : 0 + number ≡ number = omega arith in e)),
         ) refl;
         within = (all_get (IsBlockOf disk (length (tasks past))) (registered past) index.0 block h.on_disk index.1).within;

@@ -44,14 +44,14 @@ pub use Rattle.fb_store.specs.Writes.{is_within}
 pub use Rattle.fb_store.specs.declared.content.Content.{Content}
 pub use Rattle.fb_store.specs.declared.content.Content.TheVariants.{Unreadable}
 pub use Rattle.fb_store.specs.declared.content.ContentRun.{ContentRun}
-pub use Rattle.fb_calls.specs.Allowed.{AreAllowed, MayAsk, blocks_from, has_want, terms_in}
-pub use Rattle.fb_calls.specs.Blocks.{blocks_in, live_cuts}
-pub use Rattle.fb_calls.specs.Sessions.{is_backup, is_clean}
-pub use Rattle.fb_calls.specs.declared.call.Action.{Action}
-pub use Rattle.fb_calls.specs.declared.call.Action.TheVariants.{Abort, Close, Open, Promote, Resume, Segment, Suspend, Want}
-pub use Rattle.fb_calls.specs.declared.call.Call.{Call}
-pub use Rattle.fb_calls.specs.declared.call.Kind.{Kind}
-pub use Rattle.fb_calls.specs.declared.call.Kind.TheVariants.{Backup, Clean, Plain}
+pub use Rattle.fb_script.specs.Allowed.{AreAllowed, MayAsk, blocks_from, has_want, terms_in}
+pub use Rattle.fb_script.specs.Blocks.{blocks_in, live_cuts}
+pub use Rattle.fb_script.specs.Sessions.{is_backup, is_clean}
+pub use Rattle.fb_script.specs.declared.call.Action.{Action}
+pub use Rattle.fb_script.specs.declared.call.Action.TheVariants.{Abort, Close, Open, Promote, Resume, Segment, Suspend, Want}
+pub use Rattle.fb_script.specs.declared.call.Call.{Call}
+pub use Rattle.fb_script.specs.declared.call.Kind.{Kind}
+pub use Rattle.fb_script.specs.declared.call.Kind.TheVariants.{Backup, Clean, Plain}
 pub use Rattle.fb_wanted.specs.Counting.{counts_of, of_task}
 pub use Rattle.fb_wanted.specs.Near.{SharesNone}
 pub use Rattle.fb_wanted.specs.Numbering.{blocks_of}
@@ -101,6 +101,6 @@ pub use Rattle.fb_tasks.specs.Standing.{Stands, Told, choice_in}
 pub use Rattle.fb_tasks.specs.Standing.{choosable_by, entry_by, entry_in, entry_of, kept_segment}
 pub use Rattle.fb_tasks.specs.Taken.{delivery_of, found_for, rows_after, seal_rows_found, segment_rows_found, ends_of}
 unfoldable pub use Rattle.fb_tasks.specs.Taken.{test_rows_found}
-pub use Rattle.fb_tasks.specs.Telling.{Delivers, IsCall, IsUpToDate, MayDeliver, MayChooseAndTest, MayTake, Tells, choosable}
+pub use Rattle.fb_tasks.specs.Telling.{Delivers, IsCall, IsUpToDate, MayDeliver, MaySettle, MayTake, Tells, choosable}
 pub use Rattle.fb_tasks.specs.Writing.{left_by_write, left_in, state_left}
 pub use Rattle.fb_tasks.specs.declared.session.Session.{Session}

@@ -3,9 +3,9 @@ use Rattle.std.specs.Prelude.{◌≡◌, ℕ, ◌+◌, List, length, map, Bool, 
 use Rattle.std.specs.Prelude.{Some}
 use Rattle.std.specs.List.{flat_map, list_any}
 use Rattle.fb_geometry.specs.Shape.{Shape}
-use Rattle.fb_calls.specs.declared.call.Kind.{Kind}
-use Rattle.fb_calls.specs.declared.call.Kind.TheVariants.{Clean}
-use Rattle.fb_calls.specs.Sessions.{is_backup, is_clean}
+use Rattle.fb_script.specs.declared.call.Kind.{Kind}
+use Rattle.fb_script.specs.declared.call.Kind.TheVariants.{Clean}
+use Rattle.fb_script.specs.Sessions.{is_backup, is_clean}
 use Rattle.fb_sectormap.specs.declared.cut.Cut.{Cut}
 use Rattle.fb_sectormap.specs.Cutting.{cutting}
 use Rattle.fb_store.specs.declared.content.Content.{Content}

@@ -2,9 +2,9 @@
 use Rattle.std.specs.Prelude.{◌≡◌, ℕ, List, ◌++◌, Bool, true, false, Some, map, slice_get}
 use Rattle.std.specs.List.{AllByRecursion}
 use Rattle.fb_geometry.specs.Shape.{Shape}
-use Rattle.fb_calls.specs.declared.call.Call.{Call}
-use Rattle.fb_calls.specs.declared.call.Kind.{Kind}
-use Rattle.fb_calls.specs.Sessions.{is_clean}
+use Rattle.fb_script.specs.declared.call.Call.{Call}
+use Rattle.fb_script.specs.declared.call.Kind.{Kind}
+use Rattle.fb_script.specs.Sessions.{is_clean}
 use Rattle.fb_wanted.specs.declared.block.Entry.{Entry}
 use Rattle.fb_model.specs.History.{Past}
 use Rattle.fb_model.specs.Steps.{blocks_by, take_call}

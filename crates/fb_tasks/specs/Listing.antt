@@ -3,7 +3,7 @@
 use Rattle.std.specs.Prelude.{◌≡◌, ◌⊎◌, ◌<◌, ◌^◌, ◌&&◌, not, ℕ, List, length, true, Some, slice_get}
 use Rattle.std.specs.BTreeSet.{BTreeSet, contains}
 use Rattle.std.specs.Ordering.{nat_cmp}
-use Rattle.fb_calls.specs.Sessions.{is_backup}
+use Rattle.fb_script.specs.Sessions.{is_backup}
 use Rattle.fb_tasks.specs.declared.session.Session.{Session}
 
 -- each touched session stands on the first list, all of that list and each open backup on the second, and nothing but sessions on either

@@ -1,8 +1,8 @@
 -- The course of a script: its calls take effect one after another.
 use Rattle.std.specs.Prelude.{◌≡◌, ◌≤◌, ℕ, ◌+◌, ◌*◌, ◌^◌, List, length, take, drop}
 use Rattle.fb_geometry.specs.Shape.{Shape}
-use Rattle.fb_calls.specs.declared.call.Call.{Call}
-use Rattle.fb_calls.specs.Allowed.{blocks_from}
+use Rattle.fb_script.specs.declared.call.Call.{Call}
+use Rattle.fb_script.specs.Allowed.{blocks_from}
 use Rattle.fb_model.specs.History.{Past, registered}
 use Rattle.fb_tasks.specs.Telling.{calls_of, choosable}
 

@@ -4,8 +4,8 @@ use Rattle.std.specs.Prelude.{None, Some, option_map, slice_get}
 use Rattle.std.specs.List.{AllByRecursion, flat_map, range_with_len, list_any, sum_by}
 use Rattle.fb_geometry.specs.Shape.{Shape}
 use Rattle.fb_geometry.specs.Places.{places}
-use Rattle.fb_calls.specs.Blocks.{live_cuts}
-use Rattle.fb_calls.specs.Sessions.{is_backup, is_clean}
+use Rattle.fb_script.specs.Blocks.{live_cuts}
+use Rattle.fb_script.specs.Sessions.{is_backup, is_clean}
 use Rattle.fb_store.specs.declared.content.Content.{Content}
 use Rattle.fb_store.specs.Ranges.{held_at}
 use Rattle.fb_store.specs.Sparse.{held_in}
@@ -48,7 +48,7 @@ pub record IsBlockOf (disk : Shape) (tasks : ℕ) (block : Block) : Type 0 where
 -- blocks are numbered on from n
 abbrev pub AreNumbered : ℕ → List Block → Type 0
 AreNumbered n [] = Unit {0}
-AreNumbered n (block ∷ blocks) = (block.number ≡ n) × AreNumbered (n + 1) blocks
+AreNumbered n (block ∷ blocks) = (block.index ≡ n) × AreNumbered (n + 1) blocks
 
 -- blocks ascend from a sector on, and none shares a sector with another
 abbrev pub Ascend : ℕ → List Block → Type 0

@@ -2,9 +2,9 @@
 use Rattle.std.specs.Prelude.{◌≡◌, ◌≤◌, ◌<◌, ◌^◌, ◌*◌, ◌+◌, ◌-◌, ℕ, List, [], ◌∷◌, Some, length, slice_get}
 use Rattle.std.specs.List.{sum_by}
 use Rattle.fb_geometry.specs.Shape.{Shape}
-use Rattle.fb_calls.specs.declared.call.Action.{Action}
-use Rattle.fb_calls.specs.declared.call.Call.{Call}
-use Rattle.fb_calls.specs.Allowed.{MayAsk}
+use Rattle.fb_script.specs.declared.call.Action.{Action}
+use Rattle.fb_script.specs.declared.call.Call.{Call}
+use Rattle.fb_script.specs.Allowed.{MayAsk}
 use Rattle.fb_wanted.specs.declared.block.Entry.{Entry}
 use Rattle.fb_wanted.specs.declared.block.Change.TheVariants.{Deliver}
 use Rattle.fb_wanted.specs.States.{after}
@@ -39,7 +39,7 @@ pub record MayTake (disk : Shape) (past : Past) (sessions : List Session) (entri
   pub few_calls : length (calls_of past) < 2 ^ 32 - 1
 
 -- the choices don't register more blocks than there may be
-pub record MayChooseAndTest (disk : Shape) (past : Past) (sessions : List Session) (entries : List Entry) : Type 0 where
+pub record MaySettle (disk : Shape) (past : Past) (sessions : List Session) (entries : List Entry) : Type 0 where
   pub tells : Tells disk past sessions entries
   pub few : length (registered past) + choosable disk past ≤ 16 * 10 ^ 6
 
@@ -66,7 +66,7 @@ pub record Delivers (disk : Shape) (past : Past) (sessions : List Session) (held
     (now : List Entry) : Type 0 where
   pub may : MayDeliver disk past sessions held got
   pub at : slice_get sessions got.block.task ≡ Some session
-  pub is : now ≡ after got.block.task (Deliver got.block.number) held
+  pub is : now ≡ after got.block.task (Deliver got.block.index) held
 
 -- a call of the task with this number, for this action
 pub record IsCall (number : ℕ) (does : Action) (call : Call) : Type 0 where

@@ -1,6 +1,6 @@
 -- What a write leaves of the registered blocks. Contracts of inner functions cite it.
 use Rattle.std.specs.Prelude.{ℕ, List, Option, None, Some, ◌==◌, ◌&&◌, not, slice_get, if◌then◌else◌}
-use Rattle.fb_calls.specs.Sessions.{is_backup}
+use Rattle.fb_script.specs.Sessions.{is_backup}
 use Rattle.fb_wanted.specs.declared.block.Entry.{Entry}
 use Rattle.fb_wanted.specs.declared.block.State.{State}
 use Rattle.fb_wanted.specs.States.{shares, is_delivered, wanted_unless}

@@ -1,6 +1,6 @@
 // The choice of segments.
 ghost use Rattle.std.specs.Prelude.{◌≡◌, ℕ, List, ◌&&◌, not, true, false, ◌++◌, OnOk, IfOk};
-ghost use Rattle.fb_calls.specs.Sessions.{is_clean};
+ghost use Rattle.fb_script.specs.Sessions.{is_clean};
 ghost use Rattle.fb_model.specs.History.{Past};
 ghost use Rattle.fb_model.specs.Segments.{choose_once, choose_in};
 ghost use Rattle.fb_tasks.specs.Leaving.{HasGrown, OnlyRegisters, by_calls};
@@ -8,12 +8,12 @@ ghost use Rattle.fb_tasks.specs.Standing.{MayChoose, HasChosenUpTo};
 
 use crate::session::{Session, Stamp};
 use crate::wanting::want_live;
-use fb_calls::Kind;
+use fb_script::Kind;
 use fb_rows::BackRows;
 use fb_sectormap::SectorMap;
 use fb_store::Contents;
 use fb_units::NoMemory;
-use fb_wanted::Blocks;
+use fb_wanted::Wanted;
 use std::alloc::Global;
 
 impl Session {
@@ -22,24 +22,24 @@ impl Session {
         &mut self,
         alloc: Global,
         map: &SectorMap,
-        blocks: &mut Blocks,
+        wanted: &mut Wanted,
         stamp: Stamp,
         rows: &mut BackRows,
     ) -> Result<(), NoMemory>
-        requires { (past : Past) × MayChoose map.now past stamp.task self.old blocks.old }
-        ensures chosen { OnOk result ((past : Past) → MayChoose map.now past stamp.task self.old blocks.old
-            → HasChosenUpTo map.now past (choose_in map.now past stamp.task) stamp.task stamp.instant self.new blocks.new
+        requires { (past : Past) × MayChoose map.now past stamp.task self.old wanted.old }
+        ensures chosen { OnOk result ((past : Past) → MayChoose map.now past stamp.task self.old wanted.old
+            → HasChosenUpTo map.now past (choose_in map.now past stamp.task) stamp.task stamp.instant self.new wanted.new
             rows.old rows.new) }
         ensures same { (by_calls self.new ≡ by_calls self.old) × (self.new.touched ≡ self.old.touched) }
-        ensures own { OnlyRegisters (λ other. other ≡ stamp.task) blocks.old blocks.new }
-        ensures idle { (is_clean self.old.kind && not self.old.closed) ≡ false → blocks.new ≡ blocks.old }
+        ensures own { OnlyRegisters (λ other. other ≡ stamp.task) wanted.old wanted.new }
+        ensures idle { (is_clean self.old.kind && not self.old.closed) ≡ false → wanted.new ≡ wanted.old }
         ensures grown { HasGrown rows.old rows.new }
     {
         if !self.may_choose() {
             return Ok(());
         }
         for _choice in 0..self.log.len() {
-            if !self.choose_one(alloc, map, blocks, stamp, rows)? {
+            if !self.choose_one(alloc, map, wanted, stamp, rows)? {
                 return Ok(());
             }
         }
@@ -61,26 +61,26 @@ impl Session {
         &mut self,
         alloc: Global,
         map: &SectorMap,
-        blocks: &mut Blocks,
+        wanted: &mut Wanted,
         stamp: Stamp,
         rows: &mut BackRows,
     ) -> Result<bool, NoMemory>
         requires cleans { (is_clean self.old.kind ≡ true) × (self.old.closed ≡ false) }
-        requires may { (past : Past) × MayChoose map.now past stamp.task self.old blocks.old }
-        ensures chosen { IfOk result (λ some. (past : Past) → MayChoose map.now past stamp.task self.old blocks.old
-            → HasChosenUpTo map.now past (choose_once map.now stamp.task past) stamp.task stamp.instant self.new blocks.new
+        requires may { (past : Past) × MayChoose map.now past stamp.task self.old wanted.old }
+        ensures chosen { IfOk result (λ some. (past : Past) → MayChoose map.now past stamp.task self.old wanted.old
+            → HasChosenUpTo map.now past (choose_once map.now stamp.task past) stamp.task stamp.instant self.new wanted.new
             rows.old rows.new) }
         ensures same { (by_calls self.new ≡ by_calls self.old) × (self.new.touched ≡ self.old.touched) }
-        ensures own { OnlyRegisters (λ other. other ≡ stamp.task) blocks.old blocks.new }
+        ensures own { OnlyRegisters (λ other. other ≡ stamp.task) wanted.old wanted.new }
         ensures grown { HasGrown rows.old rows.new }
-        ensures none { IfOk result (λ some. some ≡ false → (past : Past) → MayChoose map.now past stamp.task self.old blocks.old
+        ensures none { IfOk result (λ some. some ≡ false → (past : Past) → MayChoose map.now past stamp.task self.old wanted.old
             → choose_once map.now stamp.task past ≡ past) }
     {
         // A disk has at most 10^12 sectors.
         let _sectors = map.count();
         match self.log.choose() {
             Some(segment) => {
-                want_live(map, blocks, self, stamp.task, segment)?;
+                want_live(map, wanted, self, stamp.task, segment)?;
                 if self.log.live_count(segment) == 0 {
                     self.finish(
                         stamp.task,

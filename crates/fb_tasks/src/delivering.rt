@@ -1,7 +1,7 @@
 // What a delivery leaves in a session, and its findings.
 ghost use Rattle.std.specs.Prelude.{◌≡◌, ◌≢◌, ℕ, List, [], ◌∷◌, ◌++◌, ◌+◌, ◌≤◌, ◌^◌, None, map, true, IfOk, OnOk, OnErr, if◌then◌else◌};
 ghost use Rattle.std.specs.List.{range_with_len};
-ghost use Rattle.fb_calls.specs.Sessions.{is_backup, is_clean};
+ghost use Rattle.fb_script.specs.Sessions.{is_backup, is_clean};
 ghost use Rattle.fb_store.specs.declared.content.Content.{Content};
 ghost use Rattle.fb_store.specs.Sparse.{Gives};
 ghost use Rattle.fb_geometry.specs.Shape.{Shape};
@@ -17,11 +17,11 @@ ghost use Rattle.fb_tasks.specs.Standing.{Stands, IsAtWork};
 ghost use Rattle.fb_tasks.specs.Telling.{Delivers};
 
 use crate::session::Session;
-use fb_calls::Kind;
+use fb_script::Kind;
 use fb_rows::{BackRow, BackRows, BadRow, DeliveryRow};
 use fb_store::{Content, Contents};
 use fb_units::NoMemory;
-use fb_wanted::{Block, Blocks};
+use fb_wanted::{Block, Wanted};
 use std::alloc::Global;
 
 impl Session {
@@ -30,19 +30,19 @@ impl Session {
     pub fn take_delivery(
         &mut self,
         alloc: Global,
-        blocks: &Blocks,
+        wanted: &Wanted,
         got: DeliveryRow,
         rows: &mut BackRows,
     ) -> Result<(), NoMemory>
         requires { (disk : Shape) × (past : Past) × (sessions : List Session) × (held : List Entry)
-            × Delivers disk past sessions held got self.old blocks.now }
+            × Delivers disk past sessions held got self.old wanted.now }
         ensures delivered { OnOk result ((disk : Shape) (past : Past) (sessions : List Session) (held : List Entry)
-            → Delivers disk past sessions held got self.old blocks.now
+            → Delivers disk past sessions held got self.old wanted.now
             → (Stands (view (tested (rows_after past got) ∷ delivered got ∷ past) got.block.task) self.new)
             × (IsAtWork (view (tested (rows_after past got) ∷ delivered got ∷ past) got.block.task).work self.new)
             × (rows.new ≡ rows.old ++ BackGot got ∷ rows_after past got)) }
         ensures err_rows { OnErr result ((disk : Shape) (past : Past) (sessions : List Session) (held : List Entry)
-            → Delivers disk past sessions held got self.old blocks.now
+            → Delivers disk past sessions held got self.old wanted.now
             → HasBegun rows.old (BackGot got ∷ rows_after past got) rows.new) }
         ensures touched { OnOk result (self.new.touched ≡ self.old.touched) }
     {
@@ -52,8 +52,8 @@ impl Session {
         let findings = self.findings(alloc, &got)?;
         rows.push(BackRow::Got(got))?;
         push_findings(rows, task, &findings)?;
-        self.test_segment(alloc, blocks, task, end, rows)?;
-        self.test(alloc, blocks, task, end, rows)
+        self.test_segment(alloc, wanted, task, end, rows)?;
+        self.test(alloc, wanted, task, end, rows)
     }
 
     // Keeps what a delivered block holds, where the session's rows will give it.

@@ -1,11 +1,11 @@
 // One session.
 ghost use Rattle.std.specs.Prelude.{◌≡◌, ℕ, [], ◌&&◌, not, None, false, ◌+◌, ◌<◌, ◌^◌};
-ghost use Rattle.fb_calls.specs.Sessions.{is_backup};
+ghost use Rattle.fb_script.specs.Sessions.{is_backup};
 ghost use Rattle.fb_store.specs.Ranges.{held_at};
 ghost use Rattle.fb_tasks.specs.Keeping.{complete_by};
 
 use fb_backup::Image;
-use fb_calls::Kind;
+use fb_script::Kind;
 use fb_clean::Segments;
 use fb_units::Ns;
 use fb_wanted::Counts;

@@ -4,8 +4,8 @@ ghost use Rattle.std.specs.Prelude.{Some, OnOk, OnErr};
 ghost use Rattle.std.specs.List.{flat_map};
 ghost use Rattle.fb_geometry.specs.Shape.{Shape};
 ghost use Rattle.fb_units.specs.declared.types.Request.{Request};
-ghost use Rattle.fb_calls.specs.declared.call.Call.{Call};
-ghost use Rattle.fb_calls.specs.declared.call.Action.TheVariants.{Open, Want, Abort, Suspend, Resume, Close, Segment};
+ghost use Rattle.fb_script.specs.declared.call.Call.{Call};
+ghost use Rattle.fb_script.specs.declared.call.Action.TheVariants.{Open, Want, Abort, Suspend, Resume, Close, Segment};
 ghost use Rattle.fb_wanted.specs.declared.block.Entry.{Entry};
 ghost use Rattle.fb_wanted.specs.declared.block.Change.TheVariants.{Deliver};
 ghost use Rattle.fb_wanted.specs.States.{after};
@@ -19,16 +19,16 @@ ghost use Rattle.fb_tasks.specs.Taken.{segment_rows_found, test_rows_found, rows
 ghost use Rattle.fb_tasks.specs.Standing.{HaveChosen};
 ghost use Rattle.fb_tasks.specs.Leaving.{HasGrown, HasBegun, entries_by, OnlyRegisters, MayClean, OnlyTouched};
 ghost use Rattle.fb_tasks.specs.Writing.{left_by_write, left_in};
-ghost use Rattle.fb_tasks.specs.Telling.{Tells, MayTake, MayChooseAndTest, MayDeliver, IsUpToDate, IsCall, tested_at};
+ghost use Rattle.fb_tasks.specs.Telling.{Tells, MayTake, MaySettle, MayDeliver, IsUpToDate, IsCall, tested_at};
 
 use crate::session::{Session, Stamp};
 use crate::touched::{forget, next_noted, next_touched, note, note_touch};
 use crate::wanting::want_range;
-use fb_calls::{Action, Call, Kind, Live};
+use fb_script::{Action, Call, Kind, Live};
 use fb_rows::{BackRow, BackRows, DeliveryRow, TaskRow};
 use fb_sectormap::SectorMap;
 use fb_units::{NoMemory, Ns};
-use fb_wanted::Blocks;
+use fb_wanted::Wanted;
 use std::alloc::Global;
 use std::collections::BTreeSet;
 use std::marker::Model;
@@ -85,15 +85,15 @@ impl Sessions {
     pub fn apply(
         &mut self,
         map: &SectorMap,
-        blocks: &mut Blocks,
+        wanted: &mut Wanted,
         call: &Call,
     ) -> Result<(), NoMemory>
-        requires { (past : Past) × MayTake map.now past self.old blocks.old call.now }
-        ensures ok { OnOk result ((past : Past) → MayTake map.now past self.old blocks.old call.now
-            → Tells map.now (take_call map.now past call.now) self.new blocks.new) }
+        requires { (past : Past) × MayTake map.now past self.old wanted.old call.now }
+        ensures ok { OnOk result ((past : Past) → MayTake map.now past self.old wanted.old call.now
+            → Tells map.now (take_call map.now past call.now) self.new wanted.new) }
         ensures err_sessions { OnErr result (self.new ≡ self.old) }
-        ensures err_blocks { OnErr result ((past : Past) → MayTake map.now past self.old blocks.old call.now
-            → HasBegun blocks.old (entries_by map.now past call.now) blocks.new) }
+        ensures err_blocks { OnErr result ((past : Past) → MayTake map.now past self.old wanted.old call.now
+            → HasBegun wanted.old (entries_by map.now past call.now) wanted.new) }
     {
         match &call.action {
             Action::Open {
@@ -101,18 +101,18 @@ impl Sessions {
                 weight,
                 block,
             } => self.open(*kind, *weight, *block),
-            Action::Want { first, count } => self.want(map, blocks, call.task, *first, *count),
-            Action::Abort { first, count } => self.abort(blocks, call.task, *first, *count),
+            Action::Want { first, count } => self.want(map, wanted, call.task, *first, *count),
+            Action::Abort { first, count } => self.abort(wanted, call.task, *first, *count),
             Action::Promote { .. } => Ok(()),
             Action::Suspend => {
-                self.suspend(blocks, call.task);
+                self.suspend(wanted, call.task);
                 Ok(())
             }
             Action::Resume => {
-                self.resume(blocks, call.task);
+                self.resume(wanted, call.task);
                 Ok(())
             }
-            Action::Close => self.close(map, blocks, call.task),
+            Action::Close => self.close(map, wanted, call.task),
             Action::Segment {
                 first,
                 blocks: count,
@@ -127,87 +127,87 @@ impl Sessions {
     ///
     /// If memory runs out, all rows and blocks that stood before are unchanged, and so is each session that
     /// was not touched; what was registered are blocks of open clean tasks.
-    pub fn choose_and_test(
+    pub fn settle(
         &mut self,
         map: &SectorMap,
-        blocks: &mut Blocks,
+        wanted: &mut Wanted,
         now: Ns,
         rows: &mut BackRows,
     ) -> Result<(), NoMemory>
-        requires { (past : Past) × MayChooseAndTest map.now past self.old blocks.old }
-        ensures tells { OnOk result ((past : Past) → MayChooseAndTest map.now past self.old blocks.old
-            → Tells map.now (tested_at (with_choices map.now past) now) self.new blocks.new) }
+        requires { (past : Past) × MaySettle map.now past self.old wanted.old }
+        ensures tells { OnOk result ((past : Past) → MaySettle map.now past self.old wanted.old
+            → Tells map.now (tested_at (with_choices map.now past) now) self.new wanted.new) }
         ensures up_to_date { OnOk result
-            ((past : Past) → MayChooseAndTest map.now past self.old blocks.old → IsUpToDate (tested_at (with_choices map.now past) now)) }
-        ensures rows { OnOk result ((past : Past) → MayChooseAndTest map.now past self.old blocks.old
+            ((past : Past) → MaySettle map.now past self.old wanted.old → IsUpToDate (tested_at (with_choices map.now past) now)) }
+        ensures rows { OnOk result ((past : Past) → MaySettle map.now past self.old wanted.old
             → rows.new ≡ rows.old ++ test_rows_found (with_choices map.now past) now) }
         ensures stay_sessions { OnlyTouched self.old self.new }
-        ensures stay_blocks { OnlyRegisters (MayClean self.old) blocks.old blocks.new }
+        ensures stay_blocks { OnlyRegisters (MayClean self.old) wanted.old wanted.new }
         ensures stay_rows { HasGrown rows.old rows.new }
     {
-        self.choose_touched(map, blocks, now, rows)?;
-        self.test_touched(blocks, now, rows)
+        self.choose_touched(map, wanted, now, rows)?;
+        self.test_touched(wanted, now, rows)
     }
 
     /// A wanted block is delivered: adds its row, then its findings and the rows of its test.
     ///
     /// If memory runs out, the block is still delivered, no other block and no other task's session has
     /// changed, and at most the first of these rows were added. What its own session then holds isn't said.
-    pub fn deliver(
+    pub fn delivered(
         &mut self,
-        blocks: &mut Blocks,
+        wanted: &mut Wanted,
         got: DeliveryRow,
         rows: &mut BackRows,
     ) -> Result<(), NoMemory>
-        requires { (disk : Shape) × (past : Past) × MayDeliver disk past self.old blocks.old got }
-        ensures tells { OnOk result ((disk : Shape) (past : Past) → MayDeliver disk past self.old blocks.old got
-            → Tells disk (with_delivery past (delivery_of past got)) self.new blocks.new) }
-        ensures up_to_date { OnOk result ((disk : Shape) (past : Past) → MayDeliver disk past self.old blocks.old got
+        requires { (disk : Shape) × (past : Past) × MayDeliver disk past self.old wanted.old got }
+        ensures tells { OnOk result ((disk : Shape) (past : Past) → MayDeliver disk past self.old wanted.old got
+            → Tells disk (with_delivery past (delivery_of past got)) self.new wanted.new) }
+        ensures up_to_date { OnOk result ((disk : Shape) (past : Past) → MayDeliver disk past self.old wanted.old got
             → IsUpToDate (with_delivery past (delivery_of past got))) }
-        ensures rows { OnOk result ((disk : Shape) (past : Past) → MayDeliver disk past self.old blocks.old got
+        ensures rows { OnOk result ((disk : Shape) (past : Past) → MayDeliver disk past self.old wanted.old got
             → rows.new ≡ rows.old ++ BackGot got ∷ rows_after past got) }
         ensures stay_sessions { (session : Session) × (self.new ≡ set self.old got.block.task session) }
-        ensures blocks { blocks.new ≡ after got.block.task (Deliver got.block.number) blocks.old }
-        ensures err_rows { OnErr result ((disk : Shape) (past : Past) → MayDeliver disk past self.old blocks.old got
+        ensures blocks { wanted.new ≡ after got.block.task (Deliver got.block.index) wanted.old }
+        ensures err_rows { OnErr result ((disk : Shape) (past : Past) → MayDeliver disk past self.old wanted.old got
             → HasBegun rows.old (BackGot got ∷ rows_after past got) rows.new) }
     {
         let task = got.block.task;
-        blocks.mark_delivered(task, got.block.number);
+        wanted.deliver(task, got.block.index);
         // The task is tested at once, but a delivery that finishes its segment lets it choose another.
         self.touch(task)?;
-        self.sessions[task as usize].take_delivery(self.alloc, blocks, got, rows)
+        self.sessions[task as usize].take_delivery(self.alloc, wanted, got, rows)
     }
 
     /// A write has passed: blocks of open backups that it overwrote are wanted again.
-    pub fn after_write(&mut self, blocks: &mut Blocks, first: u64, count: u32)
-        requires { (disk : Shape) × (past : Past) × Tells disk past self.old blocks.old }
+    pub fn after_write(&mut self, wanted: &mut Wanted, first: u64, count: u32)
+        requires { (disk : Shape) × (past : Past) × Tells disk past self.old wanted.old }
         ensures { (disk : Shape) (past : Past) (request : Request) → request.write ≡ true → request.lbn ≡ first → request.count ≡ count
-            → Tells disk past self.old blocks.old → Tells disk (finished request ∷ past) self.new blocks.new }
+            → Tells disk past self.old wanted.old → Tells disk (finished request ∷ past) self.new wanted.new }
     {
-        self.rewant_near(blocks, first, count as u64);
+        self.rewant_near(wanted, first, count as u64);
     }
 
     /// Whether the task is complete.
-    pub fn is_complete(&self, blocks: &Blocks, task: u32) -> bool
+    pub fn complete(&self, wanted: &Wanted, task: u32) -> bool
         requires opened { task < length self.now }
-        requires tells { (disk : Shape) × (past : Past) × Tells disk past self.now blocks.now }
-        ensures { (disk : Shape) (past : Past) → Tells disk past self.now blocks.now → result ≡ is_complete past task }
+        requires tells { (disk : Shape) × (past : Past) × Tells disk past self.now wanted.now }
+        ensures { (disk : Shape) (past : Past) → Tells disk past self.now wanted.now → result ≡ is_complete past task }
     {
-        self.sessions[task as usize].is_complete(blocks.counts(task))
+        self.sessions[task as usize].is_complete(wanted.counts(task))
     }
 
     /// How each task stands, in order of opening. If memory runs out, at most the first of the rows were
     /// added.
-    pub fn task_rows(&self, blocks: &Blocks, rows: &mut BackRows) -> Result<(), NoMemory>
-        requires { (disk : Shape) × (past : Past) × Tells disk past self.now blocks.now }
-        ensures ok { OnOk result ((disk : Shape) (past : Past) → Tells disk past self.now blocks.now
+    pub fn task_rows(&self, wanted: &Wanted, rows: &mut BackRows) -> Result<(), NoMemory>
+        requires { (disk : Shape) × (past : Past) × Tells disk past self.now wanted.now }
+        ensures ok { OnOk result ((disk : Shape) (past : Past) → Tells disk past self.now wanted.now
             → rows.new ≡ rows.old ++ task_rows past) }
-        ensures err { OnErr result ((disk : Shape) (past : Past) → Tells disk past self.now blocks.now
+        ensures err { OnErr result ((disk : Shape) (past : Past) → Tells disk past self.now wanted.now
             → HasBegun rows.old (task_rows past) rows.new) }
     {
         for task in 0..self.sessions.len() {
             let session = &self.sessions[task];
-            let counts = blocks.counts(task as u32);
+            let counts = wanted.counts(task as u32);
             rows.push(BackRow::Task(TaskRow {
                 task: task as u32,
                 kind: session.kind,
@@ -241,25 +241,25 @@ impl Sessions {
     fn want(
         &mut self,
         map: &SectorMap,
-        blocks: &mut Blocks,
+        wanted: &mut Wanted,
         task: u32,
         first: u64,
         count: u64,
     ) -> Result<(), NoMemory>
         requires opened { task < length self.old }
         requires call { (past : Past) × (call : Call) × IsCall task (Want first count) call
-            × MayTake map.now past self.old blocks.old call }
+            × MayTake map.now past self.old wanted.old call }
         ensures ok { OnOk result ((past : Past) (call : Call) → IsCall task (Want first count) call
-            → MayTake map.now past self.old blocks.old call → Tells map.now (take_call map.now past call) self.new blocks.new) }
+            → MayTake map.now past self.old wanted.old call → Tells map.now (take_call map.now past call) self.new wanted.new) }
         ensures err { OnErr result (self.new ≡ self.old) }
-        ensures blocks { (past : Past) (call : Call) → IsCall task (Want first count) call → MayTake map.now past self.old blocks.old call
-            → HasBegun blocks.old (entries_by map.now past call) blocks.new }
+        ensures blocks { (past : Past) (call : Call) → IsCall task (Want first count) call → MayTake map.now past self.old wanted.old call
+            → HasBegun wanted.old (entries_by map.now past call) wanted.new }
     {
         // A disk has at most 10^12 sectors.
         let _sectors = map.count();
         want_range(
             map,
-            blocks,
+            wanted,
             &self.sessions[task as usize],
             task,
             first,
@@ -271,51 +271,51 @@ impl Sessions {
     // Aborts the task's blocks that share a sector with the range.
     fn abort(
         &mut self,
-        blocks: &mut Blocks,
+        wanted: &mut Wanted,
         task: u32,
         first: u64,
         count: u64,
     ) -> Result<(), NoMemory>
         requires { task < length self.old }
         ensures ok { OnOk result ((disk : Shape) (past : Past) (call : Call) → IsCall task (Abort first count) call
-            → MayTake disk past self.old blocks.old call → Tells disk (called call [] ∷ past) self.new blocks.new) }
-        ensures err { OnErr result ((self.new ≡ self.old) × (blocks.new ≡ blocks.old)) }
+            → MayTake disk past self.old wanted.old call → Tells disk (called call [] ∷ past) self.new wanted.new) }
+        ensures err { OnErr result ((self.new ≡ self.old) × (wanted.new ≡ wanted.old)) }
     {
         self.touch(task)?;
-        blocks.abort(task, first, count);
+        wanted.abort(task, first, count);
         Ok(())
     }
 
-    fn suspend(&mut self, blocks: &mut Blocks, task: u32)
+    fn suspend(&mut self, wanted: &mut Wanted, task: u32)
         requires { task < length self.old }
-        ensures { (disk : Shape) (past : Past) (call : Call) → IsCall task Suspend call → Tells disk past self.old blocks.old
-            → Tells disk (called call [] ∷ past) self.new blocks.new }
+        ensures { (disk : Shape) (past : Past) (call : Call) → IsCall task Suspend call → Tells disk past self.old wanted.old
+            → Tells disk (called call [] ∷ past) self.new wanted.new }
     {
         self.sessions[task as usize].suspended = true;
-        blocks.suspend(task);
+        wanted.suspend(task);
     }
 
-    fn resume(&mut self, blocks: &mut Blocks, task: u32)
+    fn resume(&mut self, wanted: &mut Wanted, task: u32)
         requires { task < length self.old }
-        ensures { (disk : Shape) (past : Past) (call : Call) → IsCall task Resume call → Tells disk past self.old blocks.old
-            → Tells disk (called call [] ∷ past) self.new blocks.new }
+        ensures { (disk : Shape) (past : Past) (call : Call) → IsCall task Resume call → Tells disk past self.old wanted.old
+            → Tells disk (called call [] ∷ past) self.new wanted.new }
     {
         self.sessions[task as usize].suspended = false;
-        blocks.resume(task);
+        wanted.resume(task);
     }
 
     // Aborts what is left of the task, and drops the segments that it has not chosen.
-    fn close(&mut self, map: &SectorMap, blocks: &mut Blocks, task: u32) -> Result<(), NoMemory>
+    fn close(&mut self, map: &SectorMap, wanted: &mut Wanted, task: u32) -> Result<(), NoMemory>
         requires { task < length self.old }
-        ensures ok { OnOk result ((past : Past) (call : Call) → IsCall task Close call → Tells map.now past self.old blocks.old
-            → Tells map.now (called call [] ∷ past) self.new blocks.new) }
-        ensures err { OnErr result ((self.new ≡ self.old) × (blocks.new ≡ blocks.old)) }
+        ensures ok { OnOk result ((past : Past) (call : Call) → IsCall task Close call → Tells map.now past self.old wanted.old
+            → Tells map.now (called call [] ∷ past) self.new wanted.new) }
+        ensures err { OnErr result ((self.new ≡ self.old) × (wanted.new ≡ wanted.old)) }
     {
         self.touch(task)?;
         let closing = &mut self.sessions[task as usize];
         closing.closed = true;
         closing.log.drop_rest();
-        blocks.abort(task, 0, map.count());
+        wanted.abort(task, 0, map.count());
         Ok(())
     }
 
@@ -359,29 +359,29 @@ impl Sessions {
     }
 
     // Wants the task's blocks again that share a sector with the range, if it is an open backup.
-    fn rewant(&self, blocks: &mut Blocks, task: u32, first: u64, count: u64)
+    fn rewant(&self, wanted: &mut Wanted, task: u32, first: u64, count: u64)
         requires { task < length self.now }
-        ensures { blocks.new ≡ map (left_in task self.now first count) blocks.old }
+        ensures { wanted.new ≡ map (left_in task self.now first count) wanted.old }
     {
         let session = &self.sessions[task as usize];
         if session.is_open_backup() {
-            blocks.rewant(task, first, count, session.suspended);
+            wanted.rewant(task, first, count, session.suspended);
         }
     }
 
     // Wants blocks of open backups again that share a sector with the range. Each round passes over a
     // listed task and over one with a block near the range, so there are no more rounds than of either.
-    fn rewant_near(&self, blocks: &mut Blocks, first: u64, count: u64)
-        ensures { blocks.new ≡ map (left_by_write self.now first count) blocks.old }
+    fn rewant_near(&self, wanted: &mut Wanted, first: u64, count: u64)
+        ensures { wanted.new ≡ map (left_by_write self.now first count) wanted.old }
     {
         let opened = self.sessions.len() as u32;
         let mut from = 0;
         while let Some(listed) = next_noted(&self.checked_by_writes, from) {
-            let task = blocks.next_task_near(first, count, listed, opened);
+            let task = wanted.next_task_near(first, count, listed, opened);
             if task == opened {
                 return;
             }
-            self.rewant(blocks, task, first, count);
+            self.rewant(wanted, task, first, count);
             from = task + 1;
         }
     }
@@ -390,23 +390,23 @@ impl Sessions {
     fn choose_touched(
         &mut self,
         map: &SectorMap,
-        blocks: &mut Blocks,
+        wanted: &mut Wanted,
         now: Ns,
         rows: &mut BackRows,
     ) -> Result<(), NoMemory>
-        requires { (past : Past) × MayChooseAndTest map.now past self.old blocks.old }
-        ensures chosen { OnOk result ((past : Past) → MayChooseAndTest map.now past self.old blocks.old
-            → HaveChosen map.now (with_choices map.now past) self.new blocks.new
+        requires { (past : Past) × MaySettle map.now past self.old wanted.old }
+        ensures chosen { OnOk result ((past : Past) → MaySettle map.now past self.old wanted.old
+            → HaveChosen map.now (with_choices map.now past) self.new wanted.new
             × (rows.new ≡ rows.old
             ++ flat_map (segment_rows_found (with_choices map.now past) now) (task_numbers (with_choices map.now past)))) }
         ensures stay_sessions { OnlyTouched self.old self.new }
-        ensures stay_blocks { OnlyRegisters (MayClean self.old) blocks.old blocks.new }
+        ensures stay_blocks { OnlyRegisters (MayClean self.old) wanted.old wanted.new }
         ensures stay_rows { HasGrown rows.old rows.new }
     {
         let mut from = 0;
         while let Some(task) = next_touched(&self.listed_touched, &self.sessions, from) {
             let stamp = Stamp { task, instant: now };
-            self.sessions[task as usize].choose(self.alloc, map, blocks, stamp, rows)?;
+            self.sessions[task as usize].choose(self.alloc, map, wanted, stamp, rows)?;
             from = task + 1;
         }
         Ok(())
@@ -415,13 +415,13 @@ impl Sessions {
     // Tests each touched session, in order of opening: no other would give a row.
     fn test_touched(
         &mut self,
-        blocks: &Blocks,
+        wanted: &Wanted,
         now: Ns,
         rows: &mut BackRows,
     ) -> Result<(), NoMemory>
-        requires { (disk : Shape) × (past : Past) × HaveChosen disk past self.old blocks.now }
-        ensures tested { OnOk result ((disk : Shape) (past : Past) → HaveChosen disk past self.old blocks.now
-            → Tells disk (tested_at past now) self.new blocks.now
+        requires { (disk : Shape) × (past : Past) × HaveChosen disk past self.old wanted.now }
+        ensures tested { OnOk result ((disk : Shape) (past : Past) → HaveChosen disk past self.old wanted.now
+            → Tells disk (tested_at past now) self.new wanted.now
             × (rows.new ≡ rows.old ++ flat_map (ends_of past now) (task_numbers past))) }
         ensures stay_sessions { OnlyTouched self.old self.new }
         ensures stay_rows { HasGrown rows.old rows.new }
@@ -429,7 +429,7 @@ impl Sessions {
         let mut from = 0;
         while let Some(task) = next_touched(&self.listed_touched, &self.sessions, from) {
             let session = &mut self.sessions[task as usize];
-            session.test(self.alloc, blocks, task, now, rows)?;
+            session.test(self.alloc, wanted, task, now, rows)?;
             session.touched = false;
             let is_open_backup = session.is_open_backup();
             forget(&mut self.listed_touched, task, false);

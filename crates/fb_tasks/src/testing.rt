@@ -2,7 +2,7 @@
 ghost use Rattle.std.specs.Prelude.{◌≡◌, ℕ, List, [], ◌∷◌, ◌++◌, ◌+◌, ◌<◌, ◌≤◌, ◌^◌, ◌&&◌, not, if◌then◌else◌, true, None, Some, filter};
 ghost use Rattle.std.specs.Prelude.{length, slice_get, OnOk, OnErr, IfOk, IfSome};
 ghost use Rattle.fb_geometry.specs.Shape.{Shape};
-ghost use Rattle.fb_calls.specs.Sessions.{is_backup, is_clean};
+ghost use Rattle.fb_script.specs.Sessions.{is_backup, is_clean};
 ghost use Rattle.fb_store.specs.Ranges.{held_at};
 ghost use Rattle.fb_wanted.specs.declared.block.Entry.{Entry};
 ghost use Rattle.fb_wanted.specs.Counting.{counts_of};
@@ -18,11 +18,11 @@ ghost use Rattle.fb_tasks.specs.Leaving.{HasGrown, HasBegun, by_calls};
 ghost use Rattle.fb_tasks.specs.Standing.{Stands, HoldsBlocks, IsAtWork, HasChosen, MayFinish, StandsAfterTest};
 
 use crate::session::{Session, Stamp};
-use fb_calls::Kind;
+use fb_script::Kind;
 use fb_rows::{BackRow, BackRows, CompleteRow, SealRow, SegmentRow};
 use fb_store::Contents;
 use fb_units::{NoMemory, Ns};
-use fb_wanted::{Blocks, State};
+use fb_wanted::{Wanted, State};
 use std::alloc::Global;
 
 impl Session {
@@ -30,18 +30,18 @@ impl Session {
     pub fn test_segment(
         &mut self,
         alloc: Global,
-        blocks: &Blocks,
+        wanted: &Wanted,
         task: u32,
         now: Ns,
         rows: &mut BackRows,
     ) -> Result<(), NoMemory>
-        ensures ok { OnOk result ((disk : Shape) (past : Past) → MayFinish disk past task self.old blocks.now
+        ensures ok { OnOk result ((disk : Shape) (past : Past) → MayFinish disk past task self.old wanted.now
             → (Stands (view past task) self.new) × (IsAtWork (view past task).work self.new)
             × (rows.new ≡ rows.old ++ segment_rows_found past now task)) }
         ensures err { OnErr result (rows.new ≡ rows.old) }
         ensures touched { self.new.touched ≡ self.old.touched }
     {
-        let counts = blocks.counts(task);
+        let counts = wanted.counts(task);
         if counts.delivered != counts.registered {
             return Ok(());
         }
@@ -98,22 +98,22 @@ impl Session {
     pub fn test(
         &mut self,
         alloc: Global,
-        blocks: &Blocks,
+        wanted: &Wanted,
         task: u32,
         now: Ns,
         rows: &mut BackRows,
     ) -> Result<(), NoMemory>
-        requires { (disk : Shape) × (past : Past) × HasChosen disk past task self.old blocks.now }
-        ensures tested { OnOk result ((disk : Shape) (past : Past) → HasChosen disk past task self.old blocks.now
+        requires { (disk : Shape) × (past : Past) × HasChosen disk past task self.old wanted.now }
+        ensures tested { OnOk result ((disk : Shape) (past : Past) → HasChosen disk past task self.old wanted.now
             → StandsAfterTest past task now self.new rows.old rows.new) }
-        ensures err_rows { OnErr result ((disk : Shape) (past : Past) → HasChosen disk past task self.old blocks.now
+        ensures err_rows { OnErr result ((disk : Shape) (past : Past) → HasChosen disk past task self.old wanted.now
             → HasBegun rows.old (ends_of past now task) rows.new) }
         ensures grown { HasGrown rows.old rows.new }
         ensures same { (by_calls self.new ≡ by_calls self.old) × (self.new.touched ≡ self.old.touched) }
     {
-        let complete = self.is_complete(blocks.counts(task));
+        let complete = self.is_complete(wanted.counts(task));
         let stamp = Stamp { task, instant: now };
-        self.add_seal(alloc, blocks, stamp, complete, rows)?;
+        self.add_seal(alloc, wanted, stamp, complete, rows)?;
         self.add_completion(stamp, complete, rows)
     }
 
@@ -121,14 +121,14 @@ impl Session {
     fn add_seal(
         &mut self,
         alloc: Global,
-        blocks: &Blocks,
+        wanted: &Wanted,
         stamp: Stamp,
         complete: bool,
         rows: &mut BackRows,
     ) -> Result<(), NoMemory>
-        requires { (disk : Shape) × (past : Past) × HoldsBlocks disk past blocks.now }
+        requires { (disk : Shape) × (past : Past) × HoldsBlocks disk past wanted.now }
         ensures session { IsSealed (complete && (is_backup self.old.kind && not self.old.sealed)) self.old self.new }
-        ensures rows { OnOk result ((disk : Shape) (past : Past) → HoldsBlocks disk past blocks.now → Stands (view past stamp.task) self.old
+        ensures rows { OnOk result ((disk : Shape) (past : Past) → HoldsBlocks disk past wanted.now → Stands (view past stamp.task) self.old
             → complete ≡ is_complete past stamp.task
             → rows.new ≡ rows.old ++ seal_rows_found past stamp.instant stamp.task) }
         ensures grown { HasGrown rows.old rows.new }
@@ -137,8 +137,8 @@ impl Session {
         if !complete || !self.is_open_backup() {
             return Ok(());
         }
-        let registered = blocks.counts(stamp.task).registered;
-        let content = self.seal(alloc, blocks, stamp.task, registered)?;
+        let registered = wanted.counts(stamp.task).registered;
+        let content = self.seal(alloc, wanted, stamp.task, registered)?;
         rows.push(BackRow::Seal(SealRow {
             task: stamp.task,
             instant: stamp.instant,
@@ -174,34 +174,34 @@ impl Session {
     fn seal(
         &mut self,
         alloc: Global,
-        blocks: &Blocks,
+        wanted: &Wanted,
         task: u32,
         registered: u32,
     ) -> Result<Contents, NoMemory>
-        requires blocks { (disk : Shape) × (past : Past) × HoldsBlocks disk past blocks.now }
-        requires registered { registered ≡ (counts_of task blocks.now).registered }
+        requires blocks { (disk : Shape) × (past : Past) × HoldsBlocks disk past wanted.now }
+        requires registered { registered ≡ (counts_of task wanted.now).registered }
         ensures session { IsSealed true self.old self.new }
-        ensures content { IfOk result (λ content. (disk : Shape) (past : Past) → HoldsBlocks disk past blocks.now
+        ensures content { IfOk result (λ content. (disk : Shape) (past : Past) → HoldsBlocks disk past wanted.now
             → Stands (view past task) self.old → is_open_backup past task ≡ true → is_complete past task ≡ true
             → content
             ≡ found_for (view past task).work (filter (λ block. is_delivered ((view past task).bare block)) (view past task).blocks)) }
     {
         self.sealed = true;
         for number in 0..registered {
-            self.drop_aborted(blocks, task, number)?;
+            self.drop_aborted(wanted, task, number)?;
         }
         self.image.contents(alloc)
     }
 
     // Takes an aborted block's sectors out of the image.
-    fn drop_aborted(&mut self, blocks: &Blocks, task: u32, number: u32) -> Result<(), NoMemory>
-        requires { (e : Entry) × (i : ℕ) × (slice_get blocks.now i ≡ Some e) × (is_block task number e ≡ true)
+    fn drop_aborted(&mut self, wanted: &Wanted, task: u32, number: u32) -> Result<(), NoMemory>
+        requires { (e : Entry) × (i : ℕ) × (slice_get wanted.now i ≡ Some e) × (is_block task number e ≡ true)
             × (e.block.lbn + e.block.count ≤ 10 ^ 12) }
         ensures session { self.new ≡ record self.old { image = self.new.image } }
-        ensures image { OnOk result ((e : Entry) (i lbn : ℕ) → slice_get blocks.now i ≡ Some e → is_block task number e ≡ true
+        ensures image { OnOk result ((e : Entry) (i lbn : ℕ) → slice_get wanted.now i ≡ Some e → is_block task number e ≡ true
             → held_at self.new.image lbn ≡ without_aborted e lbn (held_at self.old.image lbn)) }
     {
-        let entry = blocks.entry(task, number);
+        let entry = wanted.entry(task, number);
         match entry.state {
             State::Aborted => self
                 .image

@@ -12,12 +12,12 @@ ghost use Rattle.fb_tasks.specs.Leaving.{HasBegun, OnlyRegisters};
 use crate::session::Session;
 use fb_sectormap::{Cut, SectorMap};
 use fb_units::NoMemory;
-use fb_wanted::{Block, Blocks};
+use fb_wanted::{Block, Wanted};
 
 /// Registers the blocks of a range for the session's task.
 pub fn want_range(
     map: &SectorMap,
-    blocks: &mut Blocks,
+    wanted: &mut Wanted,
     session: &Session,
     task: u32,
     first: u64,
@@ -26,11 +26,11 @@ pub fn want_range(
     requires block { (0 < session.now.block) × (session.now.block ≤ 2048) }
     requires weight { session.now.weight ≤ 1000 }
     requires on_disk { first + count ≤ length (places map.now) }
-    requires few { length blocks.old + length (cutting map.now session.now.block first count) ≤ 16000000 }
-    ensures all { OnOk result (blocks.new ≡ blocks.old ++ new_entries session.now (numbered task session.now.weight
-        (registered_count task (blocks_of blocks.old)) (cutting map.now session.now.block first count))) }
-    ensures begun { HasBegun blocks.old (new_entries session.now (numbered task session.now.weight
-        (registered_count task (blocks_of blocks.old)) (cutting map.now session.now.block first count))) blocks.new }
+    requires few { length wanted.old + length (cutting map.now session.now.block first count) ≤ 16000000 }
+    ensures all { OnOk result (wanted.new ≡ wanted.old ++ new_entries session.now (numbered task session.now.weight
+        (registered_count task (blocks_of wanted.old)) (cutting map.now session.now.block first count))) }
+    ensures begun { HasBegun wanted.old (new_entries session.now (numbered task session.now.weight
+        (registered_count task (blocks_of wanted.old)) (cutting map.now session.now.block first count))) wanted.new }
 {
     if count == 0 {
         return Ok(());
@@ -40,10 +40,10 @@ pub fn want_range(
     let mut span = map.span(first);
     let mut lbn = first;
     let mut left = count;
-    let mut number = blocks.counts(task).registered;
+    let mut number = wanted.counts(task).registered;
     while left > 0 {
         let cut = map.next_cut(&mut span, lbn, left, session.block);
-        blocks.register(block_of(session, task, number, cut), session.suspended)?;
+        wanted.register(block_of(session, task, number, cut), session.suspended)?;
         number += 1;
         lbn += cut.count as u64;
         left -= cut.count as u64;
@@ -55,7 +55,7 @@ pub fn want_range(
 fn block_of(session: &Session, task: u32, number: u32, cut: Cut) -> Block
     ensures { result ≡ record {
       task = task;
-      number = number;
+      index = number;
       lbn = cut.lbn;
       count = cut.count;
       track = cut.track;
@@ -65,7 +65,7 @@ fn block_of(session: &Session, task: u32, number: u32, cut: Cut) -> Block
 {
     Block {
         task,
-        number,
+        index: number,
         lbn: cut.lbn,
         count: cut.count,
         track: cut.track,
@@ -77,7 +77,7 @@ fn block_of(session: &Session, task: u32, number: u32, cut: Cut) -> Block
 /// Registers the blocks of a segment's live blocks.
 pub fn want_live(
     map: &SectorMap,
-    blocks: &mut Blocks,
+    wanted: &mut Wanted,
     session: &Session,
     task: u32,
     segment: u32,
@@ -86,14 +86,14 @@ pub fn want_live(
     requires weight { session.now.weight ≤ 1000 }
     requires added { (0 < segment) × (segment ≤ length session.now.log.segments) }
     requires on_disk { AllByRecursion (λ lbn. lbn + session.now.block ≤ length (places map.now)) (live_of session.now.log segment) }
-    requires few { length blocks.old + length (cuts_of map.now session.now.block (live_of session.now.log segment)) ≤ 16000000 }
-    ensures all { OnOk result (blocks.new ≡ blocks.old ++ new_entries session.now (numbered task session.now.weight
-        (registered_count task (blocks_of blocks.old)) (cuts_of map.now session.now.block (live_of session.now.log segment)))) }
-    ensures own { OnlyRegisters (λ other. other ≡ task) blocks.old blocks.new }
+    requires few { length wanted.old + length (cuts_of map.now session.now.block (live_of session.now.log segment)) ≤ 16000000 }
+    ensures all { OnOk result (wanted.new ≡ wanted.old ++ new_entries session.now (numbered task session.now.weight
+        (registered_count task (blocks_of wanted.old)) (cuts_of map.now session.now.block (live_of session.now.log segment)))) }
+    ensures own { OnlyRegisters (λ other. other ≡ task) wanted.old wanted.new }
 {
     for i in 0..session.log.live_count(segment) {
         let lbn = session.log.live_block(segment, i);
-        want_range(map, blocks, session, task, lbn, session.block as u64)?;
+        want_range(map, wanted, session, task, lbn, session.block as u64)?;
     }
     Ok(())
 }

@@ -36,7 +36,7 @@ fn block(lbn: u32) -> Block
 {
     Block {
         task: 0,
-        number: 0,
+        index: 0,
         lbn: lbn as u64,
         count: 2,
         track: Track {

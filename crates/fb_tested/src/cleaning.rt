@@ -4,7 +4,7 @@ ghost use Rattle.std.specs.Prelude.{◌≡◌, ◌≢◌, ℕ, None, length, IfO
 ghost use Rattle.fb_store.specs.declared.content.Content.TheVariants.{Filled};
 ghost use Rattle.fb_store.specs.Sparse.{Gives};
 
-use fb_calls::Live;
+use fb_script::Live;
 use fb_clean::Segments;
 use fb_store::{Content, ContentRun, Contents};
 use fb_units::{NoMemory, Sweep, Track};
@@ -46,7 +46,7 @@ fn block(lbn: u32) -> Block
 {
     Block {
         task: 0,
-        number: 0,
+        index: 0,
         lbn: lbn as u64,
         count: 1,
         track: Track {

@@ -3,7 +3,7 @@
 ghost use Rattle.std.specs.Prelude.{◌≡◌, ◌<◌, ◌≤◌, []};
 
 use fb_units::{Sweep, Track};
-use fb_wanted::{BAND, Block, Blocks, State};
+use fb_wanted::{BAND, Block, Wanted, State};
 use std::process::Abort;
 use std::test::Fail;
 
@@ -24,7 +24,7 @@ const SWEEP: Sweep = Sweep {
 
 const FIRST: Block = Block {
     task: 0,
-    number: 0,
+    index: 0,
     lbn: 12,
     count: 4,
     track: NEAR,
@@ -34,7 +34,7 @@ const FIRST: Block = Block {
 
 const SECOND: Block = Block {
     task: 0,
-    number: 1,
+    index: 1,
     lbn: 16,
     count: 4,
     track: NEAR,
@@ -44,7 +44,7 @@ const SECOND: Block = Block {
 
 const OTHER: Block = Block {
     task: 1,
-    number: 0,
+    index: 0,
     lbn: 48,
     count: 4,
     track: FAR,
@@ -54,7 +54,7 @@ const OTHER: Block = Block {
 
 const BEFORE: Block = Block {
     task: 0,
-    number: 2,
+    index: 2,
     lbn: 8,
     count: 4,
     track: NEAR,
@@ -65,7 +65,7 @@ const BEFORE: Block = Block {
 // A block on another track of the first cylinder.
 const BESIDE: Block = Block {
     task: 1,
-    number: 0,
+    index: 0,
     lbn: 4,
     count: 4,
     track: Track {
@@ -79,7 +79,7 @@ const BESIDE: Block = Block {
 // Another task wants the first block too.
 const AGAIN: Block = Block {
     task: 1,
-    number: 0,
+    index: 0,
     lbn: 12,
     count: 4,
     track: NEAR,
@@ -89,7 +89,7 @@ const AGAIN: Block = Block {
 
 const LAST: Block = Block {
     task: 2,
-    number: 0,
+    index: 0,
     lbn: 40,
     count: 4,
     track: Track {
@@ -103,7 +103,7 @@ const LAST: Block = Block {
 // A block that begins in the third chunk of 2,048 LBNs.
 const THIRD: Block = Block {
     task: 2,
-    number: 0,
+    index: 0,
     lbn: 5000,
     count: 8,
     track: FAR,
@@ -111,26 +111,26 @@ const THIRD: Block = Block {
     sweep: SWEEP,
 };
 
-fn check_weight(rt: &impl Abort, blocks: &Blocks, expected: u64) {
-    assert_eq!(rt; blocks.wanted_weight_on(NEAR), expected);
+fn check_weight(rt: &impl Abort, wanted: &Wanted, expected: u64) {
+    assert_eq!(rt; wanted.wanted_weight_on(NEAR), expected);
 }
 
 // Checks the counts of the first task: registered, delivered and aborted.
-fn check_counts(rt: &impl Abort, blocks: &Blocks, expected: (u32, u32, u32)) {
-    let counts = blocks.counts(0);
+fn check_counts(rt: &impl Abort, wanted: &Wanted, expected: (u32, u32, u32)) {
+    let counts = wanted.counts(0);
     let told = (counts.registered, counts.delivered, counts.aborted);
     assert_eq!(rt; told, expected);
 }
 
-fn check_greatest(rt: &impl Abort, blocks: &Blocks, from: u32, end: u32, expected: u64)
+fn check_greatest(rt: &impl Abort, wanted: &Wanted, from: u32, end: u32, expected: u64)
     requires { from < end }
 {
-    let greatest = blocks.greatest_weight_in(from, end);
+    let greatest = wanted.greatest_weight_in(from, end);
     assert_eq!(rt; greatest, expected, "from {from} to {end}");
 }
 
-fn check_depth(rt: &impl Abort, blocks: &Blocks, band: u32, expected: u64) {
-    assert_eq!(rt; blocks.depth_in(band), expected, "band {band}");
+fn check_depth(rt: &impl Abort, wanted: &Wanted, band: u32, expected: u64) {
+    assert_eq!(rt; wanted.depth_in(band), expected, "band {band}");
 }
 
 // Checks how many blocks are aborted.
@@ -140,98 +140,98 @@ fn check_aborted(rt: &impl Abort, aborted: u64, expected: u64) {
 
 #[test]
 fn a_range_reaches_blocks_of_two_wants(rt: HostRuntime) -> Result<(), Fail> {
-    let mut blocks = Blocks::new(rt.alloc());
+    let mut blocks = Wanted::new(rt.alloc());
     check_range(&rt, &mut blocks)
 }
 
 // Aborts a range of two blocks, and wants another again.
-fn check_range(rt: &impl Abort, blocks: &mut Blocks) -> Result<(), Fail>
-    requires { blocks.old ≡ [] }
+fn check_range(rt: &impl Abort, wanted: &mut Wanted) -> Result<(), Fail>
+    requires { wanted.old ≡ [] }
 {
-    blocks.register(FIRST, false)?;
-    blocks.register(SECOND, false)?;
-    blocks.register(BEFORE, false)?;
-    check_aborted(rt, blocks.abort(0, 11, 2), 2);
-    check_weight(rt, blocks, 8);
-    blocks.mark_delivered(0, 1);
-    check_weight(rt, blocks, 0);
-    check_counts(rt, blocks, (3, 1, 2));
-    blocks.rewant(0, 15, 2, false);
-    check_weight(rt, blocks, 8);
-    check_counts(rt, blocks, (3, 0, 2));
-    assert_eq!(rt; blocks.on(FAR).len(), 0);
+    wanted.register(FIRST, false)?;
+    wanted.register(SECOND, false)?;
+    wanted.register(BEFORE, false)?;
+    check_aborted(rt, wanted.abort(0, 11, 2), 2);
+    check_weight(rt, wanted, 8);
+    wanted.deliver(0, 1);
+    check_weight(rt, wanted, 0);
+    check_counts(rt, wanted, (3, 1, 2));
+    wanted.rewant(0, 15, 2, false);
+    check_weight(rt, wanted, 8);
+    check_counts(rt, wanted, (3, 0, 2));
+    assert_eq!(rt; wanted.on(FAR).len(), 0);
     Ok(())
 }
 
 #[test]
 fn a_block_is_delivered(rt: HostRuntime) -> Result<(), Fail> {
-    let mut blocks = Blocks::new(rt.alloc());
+    let mut blocks = Wanted::new(rt.alloc());
     check_delivery(&rt, &mut blocks)
 }
 
 // Delivers a block that is then wanted again.
-fn check_delivery(rt: &impl Abort, blocks: &mut Blocks) -> Result<(), Fail>
-    requires { blocks.old ≡ [] }
+fn check_delivery(rt: &impl Abort, wanted: &mut Wanted) -> Result<(), Fail>
+    requires { wanted.old ≡ [] }
 {
-    blocks.register(FIRST, false)?;
-    assert_eq!(rt; blocks.state(0, 0), State::Wanted);
-    check_greatest(rt, blocks, 0, 1, 4);
-    blocks.mark_delivered(0, 0);
-    check_weight(rt, blocks, 0);
-    check_greatest(rt, blocks, 0, 1, 0);
-    blocks.rewant(0, 15, 9, true);
-    check_weight(rt, blocks, 0);
-    blocks.resume(0);
-    check_weight(rt, blocks, 4);
+    wanted.register(FIRST, false)?;
+    assert_eq!(rt; wanted.state(0, 0), State::Wanted);
+    check_greatest(rt, wanted, 0, 1, 4);
+    wanted.deliver(0, 0);
+    check_weight(rt, wanted, 0);
+    check_greatest(rt, wanted, 0, 1, 0);
+    wanted.rewant(0, 15, 9, true);
+    check_weight(rt, wanted, 0);
+    wanted.resume(0);
+    check_weight(rt, wanted, 4);
     Ok(())
 }
 
 #[test]
 fn blocks_of_two_tasks(rt: HostRuntime) -> Result<(), Fail> {
-    let mut blocks = Blocks::new(rt.alloc());
+    let mut blocks = Wanted::new(rt.alloc());
     check_two_tasks(&rt, &mut blocks)
 }
 
 // Registers three blocks, one of them held back.
-fn check_two_tasks(rt: &impl Abort, blocks: &mut Blocks) -> Result<(), Fail>
-    requires { blocks.old ≡ [] }
+fn check_two_tasks(rt: &impl Abort, wanted: &mut Wanted) -> Result<(), Fail>
+    requires { wanted.old ≡ [] }
 {
-    blocks.register(FIRST, false)?;
-    blocks.register(SECOND, true)?;
-    blocks.register(OTHER, false)?;
-    check_resumed(rt, blocks);
-    check_suspended(rt, blocks);
+    wanted.register(FIRST, false)?;
+    wanted.register(SECOND, true)?;
+    wanted.register(OTHER, false)?;
+    check_resumed(rt, wanted);
+    check_suspended(rt, wanted);
     Ok(())
 }
 
 // Checks the weights before and after the first task goes on.
-fn check_resumed(rt: &impl Abort, blocks: &mut Blocks) {
-    check_greatest(rt, blocks, 0, BAND, 4);
-    blocks.resume(0);
-    check_weight(rt, blocks, 12);
-    check_greatest(rt, blocks, 0, BAND, 12);
-    check_greatest(rt, blocks, 1, BAND, 0);
-    check_greatest(rt, blocks, BAND, BAND + 1, 12);
-    check_greatest(rt, blocks, 2 * BAND, 4 * BAND, 0);
+fn check_resumed(rt: &impl Abort, wanted: &mut Wanted) {
+    check_greatest(rt, wanted, 0, BAND, 4);
+    wanted.resume(0);
+    check_weight(rt, wanted, 12);
+    check_greatest(rt, wanted, 0, BAND, 12);
+    check_greatest(rt, wanted, 1, BAND, 0);
+    check_greatest(rt, wanted, BAND, BAND + 1, 12);
+    check_greatest(rt, wanted, 2 * BAND, 4 * BAND, 0);
 }
 
 // Checks the near track once its first block is aborted and its second one held back.
-fn check_suspended(rt: &impl Abort, blocks: &mut Blocks) {
-    check_aborted(rt, blocks.abort(0, 8, 5), 1);
-    check_weight(rt, blocks, 8);
-    blocks.suspend(0);
-    check_weight(rt, blocks, 0);
-    check_second(rt, blocks);
-    check_first(rt, blocks);
+fn check_suspended(rt: &impl Abort, wanted: &mut Wanted) {
+    check_aborted(rt, wanted.abort(0, 8, 5), 1);
+    check_weight(rt, wanted, 8);
+    wanted.suspend(0);
+    check_weight(rt, wanted, 0);
+    check_second(rt, wanted);
+    check_first(rt, wanted);
 }
 
-fn check_second(rt: &impl Abort, blocks: &Blocks) {
-    assert_eq!(rt; blocks.registered_on(NEAR), 2);
-    assert_eq!(rt; blocks.block_on(NEAR, 1), SECOND);
+fn check_second(rt: &impl Abort, wanted: &Wanted) {
+    assert_eq!(rt; wanted.registered_on(NEAR), 2);
+    assert_eq!(rt; wanted.block_on(NEAR, 1), SECOND);
 }
 
-fn check_first(rt: &impl Abort, blocks: &Blocks) {
-    let near = blocks.on(NEAR);
+fn check_first(rt: &impl Abort, wanted: &Wanted) {
+    let near = wanted.on(NEAR);
     assert_eq!(rt; near.len(), 2);
     assert_eq!(rt; near.wanted_weight(), 0);
     let first = near.get(0);
@@ -241,86 +241,86 @@ fn check_first(rt: &impl Abort, blocks: &Blocks) {
 
 #[test]
 fn the_greatest_of_a_cylinder_falls(rt: HostRuntime) -> Result<(), Fail> {
-    let mut blocks = Blocks::new(rt.alloc());
+    let mut blocks = Wanted::new(rt.alloc());
     check_fall(&rt, &mut blocks)
 }
 
 // Delivers the heaviest block of a cylinder.
-fn check_fall(rt: &impl Abort, blocks: &mut Blocks) -> Result<(), Fail>
-    requires { blocks.old ≡ [] }
+fn check_fall(rt: &impl Abort, wanted: &mut Wanted) -> Result<(), Fail>
+    requires { wanted.old ≡ [] }
 {
-    blocks.register(FIRST, false)?;
-    blocks.register(BESIDE, false)?;
-    blocks.register(LAST, false)?;
-    check_greatest(rt, blocks, 0, 1, 20);
-    check_greatest(rt, blocks, 0, 200, 20);
-    blocks.mark_delivered(1, 0);
-    check_fallen(rt, blocks);
-    blocks.rewant(1, 4, 1, false);
-    check_greatest(rt, blocks, 0, 1, 20);
+    wanted.register(FIRST, false)?;
+    wanted.register(BESIDE, false)?;
+    wanted.register(LAST, false)?;
+    check_greatest(rt, wanted, 0, 1, 20);
+    check_greatest(rt, wanted, 0, 200, 20);
+    wanted.deliver(1, 0);
+    check_fallen(rt, wanted);
+    wanted.rewant(1, 4, 1, false);
+    check_greatest(rt, wanted, 0, 1, 20);
     Ok(())
 }
 
 // Checks the weights once the greatest of the first cylinder is delivered.
-fn check_fallen(rt: &impl Abort, blocks: &mut Blocks) {
-    check_greatest(rt, blocks, 0, 1, 4);
-    check_greatest(rt, blocks, 0, 63, 4);
-    check_greatest(rt, blocks, 0, 64, 12);
-    check_greatest(rt, blocks, 1, 200, 12);
-    check_greatest(rt, blocks, 64, 200, 0);
-    blocks.suspend(2);
-    check_greatest(rt, blocks, 1, 200, 4);
+fn check_fallen(rt: &impl Abort, wanted: &mut Wanted) {
+    check_greatest(rt, wanted, 0, 1, 4);
+    check_greatest(rt, wanted, 0, 63, 4);
+    check_greatest(rt, wanted, 0, 64, 12);
+    check_greatest(rt, wanted, 1, 200, 12);
+    check_greatest(rt, wanted, 64, 200, 0);
+    wanted.suspend(2);
+    check_greatest(rt, wanted, 1, 200, 4);
 }
 
 #[test]
 fn a_sector_lies_in_blocks_of_two_tasks(rt: HostRuntime) -> Result<(), Fail> {
-    let mut blocks = Blocks::new(rt.alloc());
+    let mut blocks = Wanted::new(rt.alloc());
     check_sector(&rt, &mut blocks)
 }
 
 // Registers the same sectors for two tasks.
-fn check_sector(rt: &impl Abort, blocks: &mut Blocks) -> Result<(), Fail>
-    requires { blocks.old ≡ [] }
+fn check_sector(rt: &impl Abort, wanted: &mut Wanted) -> Result<(), Fail>
+    requires { wanted.old ≡ [] }
 {
-    check_depth(rt, blocks, 0, 0);
-    blocks.register(FIRST, false)?;
-    blocks.mark_delivered(0, 0);
-    check_depth(rt, blocks, 0, 1);
-    blocks.register(AGAIN, true)?;
-    check_depth(rt, blocks, 0, 4);
-    blocks.register(SECOND, false)?;
-    blocks.register(LAST, false)?;
-    check_depth(rt, blocks, 0, 4);
-    check_depth(rt, blocks, 1, 0);
+    check_depth(rt, wanted, 0, 0);
+    wanted.register(FIRST, false)?;
+    wanted.deliver(0, 0);
+    check_depth(rt, wanted, 0, 1);
+    wanted.register(AGAIN, true)?;
+    check_depth(rt, wanted, 0, 4);
+    wanted.register(SECOND, false)?;
+    wanted.register(LAST, false)?;
+    check_depth(rt, wanted, 0, 4);
+    check_depth(rt, wanted, 1, 0);
     Ok(())
 }
 
 // Expects this task to be the next one near the range.
-fn check_next(rt: &impl Abort, blocks: &Blocks, range: (u64, u64), from: u32, expected: u32)
+fn check_next(rt: &impl Abort, wanted: &Wanted, range: (u64, u64), from: u32, expected: u32)
     requires { from ≤ 3 }
 {
-    assert_eq!(rt; blocks.next_task_near(range.0, range.1, from, 3), expected);
+    assert_eq!(rt; wanted.next_task_near(range.0, range.1, from, 3), expected);
 }
 
 #[test]
 fn tasks_far_from_a_range_are_passed_over(rt: HostRuntime) -> Result<(), Fail> {
-    let mut blocks = Blocks::new(rt.alloc());
+    let mut blocks = Wanted::new(rt.alloc());
     check_near(&rt, &mut blocks)
 }
 
 // Registers blocks of two tasks in one chunk and of a third task in another.
-fn check_near(rt: &impl Abort, blocks: &mut Blocks) -> Result<(), Fail>
-    requires { blocks.old ≡ [] }
+fn check_near(rt: &impl Abort, wanted: &mut Wanted) -> Result<(), Fail>
+    requires { wanted.old ≡ [] }
 {
-    blocks.register(FIRST, false)?;
-    blocks.register(BESIDE, false)?;
-    blocks.register(THIRD, false)?;
-    check_next(rt, blocks, (0, 8), 0, 0);
-    check_next(rt, blocks, (0, 8), 1, 1);
-    check_next(rt, blocks, (0, 8), 2, 3);
-    check_next(rt, blocks, (4095, 1), 0, 3);
-    check_next(rt, blocks, (4095, 2), 0, 2);
-    check_next(rt, blocks, (5004, 8), 0, 2);
-    check_next(rt, blocks, (u64::MAX, 2048), 0, 3);
+    wanted.register(FIRST, false)?;
+    wanted.register(BESIDE, false)?;
+    wanted.register(THIRD, false)?;
+    check_next(rt, wanted, (0, 8), 0, 0);
+    check_next(rt, wanted, (0, 8), 1, 1);
+    check_next(rt, wanted, (0, 8), 2, 3);
+    check_next(rt, wanted, (4095, 1), 0, 3);
+    check_next(rt, wanted, (4095, 2), 0, 2);
+    check_next(rt, wanted, (5004, 8), 0, 2);
+    check_next(rt, wanted, (u64::MAX, 2048), 0, 3);
     Ok(())
 }

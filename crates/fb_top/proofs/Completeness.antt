@@ -10,8 +10,8 @@ use Rattle.fb_params.specs.Reading.{params_of}
 use Rattle.fb_trace.specs.declared.trace.TraceFault.{TraceFault}
 use Rattle.fb_trace.specs.Reading.{trace_of}
 use Rattle.fb_trace.specs.Devices.{traces_of}
-use Rattle.fb_script.specs.declared.fault.CallsFault.{CallsFault}
-use Rattle.fb_script.specs.Reading.{calls_of}
+use Rattle.fb_calls.specs.declared.fault.CallsFault.{CallsFault}
+use Rattle.fb_calls.specs.Reading.{calls_of}
 use Rattle.fb_mirror.specs.Script.{rebuild_text}
 use Rattle.fb_desk.specs.View.{DeskView}
 use Rattle.fb_desk.specs.declared.desk.Input.{Input}
@@ -28,7 +28,7 @@ use Rattle.fb_report.specs.declared.reading.Report.TheVariants as reports
 use Rattle.fb_puts.specs.Asked.{asked}
 use Rattle.fb_puts.specs.Reading.{puts_of}
 use Rattle.fb_puts.specs.declared.fault.PutsFault.{PutsFault}
-use Rattle.fb_script.specs.Reading.{Accepted as Script}
+use Rattle.fb_calls.specs.Reading.{Accepted as Script}
 use Rattle.fb_top.specs.Read.{ReadsDisk, RefusesDisk, RefusesReport, ReadsCalls, ReadsScript, puts_terms}
 use Rattle.fb_top.specs.Streams.{IsLonger}
 use Rattle.fb_top.specs.Done.{IsCutShort}

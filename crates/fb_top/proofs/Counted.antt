@@ -2,13 +2,13 @@
 use Rattle.std.proofs.Common.{◌≡◌, ℕ, ◌+◌, List, [], ◌∷◌, length, map, arith}
 use Rattle.std.proofs.lemmas.List.{length-append, length-map}
 use Rattle.fb_rows.specs.declared.run.Run.{Run}
-use Rattle.fb_report.specs.declared.byte_mode.ByteMode.{ByteMode}
+use Rattle.fb_report.specs.declared.bytes.Bytes.{Bytes}
 use Rattle.fb_report.specs.Back.{back_last, back_line, back_lines}
 use Rattle.fb_report.specs.Fore.{fore_last, fore_line, fore_lines}
 use Rattle.fb_bgwrite.specs.Text.{item_line, spill_last, spill_lines}
 use Rattle.fb_bgwrite.specs.declared.items.SpillRun.{SpillRun}
 
-pub fore_counted : (size : ℕ) (bytes : ByteMode) (run : Run) → length (fore_lines size bytes run) ≡ length run.fore + 2
+pub fore_counted : (size : ℕ) (bytes : Bytes) (run : Run) → length (fore_lines size bytes run) ≡ length run.fore + 2
 unfolding fore_lines
 fore_counted size bytes run = omega (
   arith,
@@ -16,7 +16,7 @@ fore_counted size bytes run = omega (
   length-map run.fore (fore_line size bytes),
 )
 
-pub back_counted : (names : List (List ℕ)) (size : ℕ) (bytes : ByteMode) (run : Run)
+pub back_counted : (names : List (List ℕ)) (size : ℕ) (bytes : Bytes) (run : Run)
     → length (back_lines names size bytes run) ≡ length run.back + 2
 unfolding back_lines
 back_counted names size bytes run = omega (
@@ -25,7 +25,7 @@ back_counted names size bytes run = omega (
   length-map run.back (back_line names size bytes),
 )
 
-pub spill_counted : (size : ℕ) (bytes : ByteMode) (spill : SpillRun) → length (spill_lines size bytes spill) ≡ length spill.items + 2
+pub spill_counted : (size : ℕ) (bytes : Bytes) (spill : SpillRun) → length (spill_lines size bytes spill) ≡ length spill.items + 2
 unfolding spill_lines
 spill_counted size bytes spill = omega (
   arith,

@@ -14,9 +14,9 @@ use Rattle.fb_trace.specs.Reading.{Accepted}
 use Rattle.fb_trace.specs.Servable.{IsTraceOf}
 use Rattle.fb_trace.specs.Verdict.{accepted}
 use Rattle.fb_trace.specs.declared.trace.Trace.{Trace as DeclaredTrace}
-use Rattle.fb_calls.specs.Allowed.{IsScript, tasks}
-use Rattle.fb_calls.specs.declared.call.Call.{Call}
-use Rattle.fb_calls.specs.declared.call.Calls.{Calls as DeclaredCalls}
+use Rattle.fb_script.specs.Allowed.{IsScript, tasks}
+use Rattle.fb_script.specs.declared.call.Call.{Call}
+use Rattle.fb_script.specs.declared.call.Calls.{Calls as DeclaredCalls}
 use Rattle.fb_model.specs.Accepted.{IsAccepted}
 use Rattle.fb_model.specs.Inputs.{Inputs}
 use Rattle.fb_desk.specs.Calls.{ChangesInput}

@@ -6,8 +6,8 @@ use Rattle.fb_units.specs.declared.types.Request.{Request}
 use Rattle.fb_geometry.specs.Places.{places}
 use Rattle.fb_service.specs.declared.disk.Disk.{Disk}
 use Rattle.fb_trace.specs.Servable.{IsServable, IsTraceOf}
-use Rattle.fb_calls.specs.Allowed.{IsScript}
-use Rattle.fb_script.specs.Reading.{Accepted as Script}
+use Rattle.fb_script.specs.Allowed.{IsScript}
+use Rattle.fb_calls.specs.Reading.{Accepted as Script}
 use Rattle.fb_model.specs.Accepted.{IsAccepted, IsRequestOf}
 use Rattle.fb_model.specs.PlainReplay.{Key}
 use Rattle.fb_desk.specs.Calls.{Rose, ChangesInput}

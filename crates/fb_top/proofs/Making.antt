@@ -10,7 +10,7 @@ use Rattle.fb_service.specs.declared.disk.Disk.{Disk}
 use Rattle.fb_trace.specs.Reading.{trace_of}
 use Rattle.fb_maker.specs.Trace.{request_at, line_of, made_lines, made_requests}
 use Rattle.fb_maker.specs.Script.{script_text, script_calls}
-use Rattle.fb_script.specs.Reading.{calls_of}
+use Rattle.fb_calls.specs.Reading.{calls_of}
 use Rattle.fb_desk.specs.Calls.{Rose, ChangesInput, ChangesOutput}
 use Rattle.fb_desk.specs.View.{DeskView, InputView, OutputView}
 use Rattle.fb_desk.specs.declared.desk.Input.TheVariants.{Params}

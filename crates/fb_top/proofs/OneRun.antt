@@ -9,7 +9,7 @@ use Rattle.fb_service.specs.declared.disk.Disk.{Disk}
 use Rattle.fb_params.specs.ParamsValue.{ParamsValue}
 use Rattle.fb_params.specs.Reading.{params_of}
 use Rattle.fb_trace.specs.Reading.{Accepted, trace_of}
-use Rattle.fb_script.specs.Reading.{Accepted as Script, calls_of}
+use Rattle.fb_calls.specs.Reading.{Accepted as Script, calls_of}
 use Rattle.fb_desk.specs.View.{DeskView}
 use Rattle.fb_top.specs.Names.{FileNames}
 use Rattle.fb_top.specs.Read.{Accepts, Files, ReadsDisk, ReadsTrace, ReadsScript}

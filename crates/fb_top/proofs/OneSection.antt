@@ -13,10 +13,10 @@ use Rattle.fb_geometry.specs.Places.{places}
 use Rattle.fb_geometry.specs.Sound.{IsSound}
 use Rattle.fb_service.specs.declared.disk.Disk.{Disk}
 use Rattle.fb_trace.specs.Reading.{Accepted, trace_of}
-use Rattle.fb_script.specs.Judgement.{are_too_many}
-use Rattle.fb_script.specs.Reading.{Accepted as Script, calls_of, fault_at}
-use Rattle.fb_script.specs.declared.fault.CallsFault.{CallsFault}
-use Rattle.fb_script.specs.declared.fault.CallsReason.TheVariants.{TooManyBlocks}
+use Rattle.fb_calls.specs.Judgement.{are_too_many}
+use Rattle.fb_calls.specs.Reading.{Accepted as Script, calls_of, fault_at}
+use Rattle.fb_calls.specs.declared.fault.CallsFault.{CallsFault}
+use Rattle.fb_calls.specs.declared.fault.CallsReason.TheVariants.{TooManyBlocks}
 use Rattle.fb_model.specs.Foreground.{promoted}
 use Rattle.fb_mirror.specs.Script.{disk_blocks, rebuild_calls, rebuild_text}
 use Rattle.fb_mirror.proofs.ScriptRead.{script_read}

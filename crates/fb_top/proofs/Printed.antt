@@ -4,7 +4,7 @@ use Rattle.std.proofs.lemmas.List.Folds.{flat_map-map}
 use Rattle.std.specs.Prelude.{IfSome, codes, is_some}
 use Rattle.fb_service.specs.declared.disk.Disk.{Disk}
 use Rattle.fb_rows.specs.declared.run.Run.{Run}
-use Rattle.fb_script.specs.Reading.{Accepted as Script}
+use Rattle.fb_calls.specs.Reading.{Accepted as Script}
 use Rattle.fb_report.specs.Grammar.{Grammar, ended, report_of}
 use Rattle.fb_report.specs.Printed.{IsReadBack}
 use Rattle.fb_check.specs.declared.verdict.Verdict.{Verdict}

@@ -1,7 +1,7 @@
 -- A full run of accepted files has reports that can be read.
 use Rattle.std.proofs.Common.{ℕ, List, Option, Some, None, sym, subst, arith}
 use Rattle.fb_service.specs.declared.disk.Disk.{Disk}
-use Rattle.fb_script.specs.Reading.{Accepted as Script}
+use Rattle.fb_calls.specs.Reading.{Accepted as Script}
 use Rattle.fb_rows.specs.declared.run.Run.{Run}
 use Rattle.fb_report.specs.Printed.{AreNames}
 use Rattle.fb_check.proofs.PrintingNames.{scripts_name}

@@ -2,10 +2,10 @@
 use Rattle.std.proofs.Common.{◌≡◌, ◌∙◌, ℕ, List, sym, ap, true, false, Result, Ok, Err}
 use Rattle.std.specs.Prelude.{Bool, if◌then◌else◌}
 use Rattle.fb_geometry.specs.Shape.{Shape}
-use Rattle.fb_script.specs.Judgement.{are_too_many}
-use Rattle.fb_script.specs.Reading.{Accepted, calls_of, fault_at}
-use Rattle.fb_script.specs.declared.fault.CallsFault.{CallsFault}
-use Rattle.fb_script.specs.declared.fault.CallsReason.TheVariants.{TooManyBlocks}
+use Rattle.fb_calls.specs.Judgement.{are_too_many}
+use Rattle.fb_calls.specs.Reading.{Accepted, calls_of, fault_at}
+use Rattle.fb_calls.specs.declared.fault.CallsFault.{CallsFault}
+use Rattle.fb_calls.specs.declared.fault.CallsReason.TheVariants.{TooManyBlocks}
 use Rattle.fb_mirror.specs.Script.{disk_blocks, rebuild_reading, rebuild_text}
 
 module _ (disk : Shape) (law : (traced : ℕ) → calls_of disk traced (rebuild_text disk) ≡ rebuild_reading disk) (traced : ℕ) (bytes : List ℕ)

@@ -3,17 +3,17 @@ use Rattle.std.proofs.Common.{◌≡◌, ℕ, List, [], ◌∷◌, ◌++◌, len
 use Rattle.std.specs.Prelude.{decimal, codes}
 use Rattle.fb_rows.specs.declared.fore.ForeRow.{ForeRow}
 use Rattle.fb_rows.specs.declared.run.Run.{Run}
-use Rattle.fb_report.specs.declared.byte_mode.ByteMode.{ByteMode}
+use Rattle.fb_report.specs.declared.bytes.Bytes.{Bytes}
 use Rattle.fb_report.specs.Fore.{fore_first, fore_line, fore_lines, fore_text}
 use Rattle.fb_report.specs.Lines.{line_of}
 use Rattle.fb_top.specs.Written.{joined}
 
 -- the lines of these rows
-unfoldable lines_by : ℕ → ByteMode → List ForeRow → ℕ → List (List ℕ)
+unfoldable lines_by : ℕ → Bytes → List ForeRow → ℕ → List (List ℕ)
 lines_by size bytes rows passed_over =
     fore_first ∷ (map (fore_line size bytes) rows ++ line_of (codes "end") (decimal (length rows) ∷ decimal passed_over ∷ []) ∷ [])
 
-pub same_text : (size other : ℕ) (bytes : ByteMode) (run run' : Run) → size ≡ other → run.fore ≡ run'.fore
+pub same_text : (size other : ℕ) (bytes : Bytes) (run run' : Run) → size ≡ other → run.fore ≡ run'.fore
     → run.passed_over ≡ run'.passed_over → fore_text size bytes run ≡ fore_text other bytes run'
 unfolding fore_lines lines_by
 same_text size other bytes run run' sizes fore passed =

@@ -5,11 +5,11 @@ use Rattle.std.proofs.lemmas.List.{length-append}
 use Rattle.std.proofs.lemmas.Option.{slice_get_within}
 use Rattle.fb_units.proofs.Lists.{drop_at, get_left, get_right}
 use Rattle.fb_rows.specs.declared.run.Run.{Run}
-use Rattle.fb_report.specs.declared.byte_mode.ByteMode.{ByteMode}
+use Rattle.fb_report.specs.declared.bytes.Bytes.{Bytes}
 use Rattle.fb_top.specs.Array.{array_first, array_last, array_lines, section, sections}
 use Rattle.fb_top.proofs.Counted.{fore_counted}
 
-module _ (size : ℕ) (bytes : ByteMode) where
+module _ (size : ℕ) (bytes : Bytes) where
   pub section_counted : (device : ℕ) (run : Run) → length (section size bytes device run) ≡ length run.fore + 3
   section_counted device run = omega (arith, fore_counted size bytes run)
 

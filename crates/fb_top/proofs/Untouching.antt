@@ -7,10 +7,10 @@ use Rattle.fb_units.proofs.Lists.{all_append, all_left, all_right}
 use Rattle.fb_units.specs.declared.types.Request.{Request}
 use Rattle.fb_units.specs.declared.types.Track.{Track}
 use Rattle.fb_service.specs.declared.disk.Disk.{Disk}
-use Rattle.fb_calls.specs.Allowed.{terms_of}
-use Rattle.fb_calls.specs.declared.call.Action.{Action}
-use Rattle.fb_calls.specs.declared.call.Action.TheVariants.{Promote}
-use Rattle.fb_calls.specs.declared.call.Call.{Call}
+use Rattle.fb_script.specs.Allowed.{terms_of}
+use Rattle.fb_script.specs.declared.call.Action.{Action}
+use Rattle.fb_script.specs.declared.call.Action.TheVariants.{Promote}
+use Rattle.fb_script.specs.declared.call.Call.{Call}
 use Rattle.fb_rows.specs.declared.fore.ForeRow.{ForeRow}
 use Rattle.fb_rows.specs.declared.run.Run.{Run}
 use Rattle.fb_model.specs.Content.{Medium, fore_row, fore_rows, medium_of}

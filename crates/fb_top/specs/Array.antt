@@ -9,7 +9,7 @@ use Rattle.fb_rows.specs.declared.run.Run.{Run}
 use Rattle.fb_trace.specs.Reading.{Accepted}
 use Rattle.fb_model.specs.Accepted.{IsAccepted}
 use Rattle.fb_model.specs.FullRun.{IsFull}
-use Rattle.fb_report.specs.declared.byte_mode.ByteMode.{ByteMode}
+use Rattle.fb_report.specs.declared.bytes.Bytes.{Bytes}
 use Rattle.fb_report.specs.Back.{back_lines, back_text}
 use Rattle.fb_report.specs.Fore.{fore_lines}
 use Rattle.fb_mirror.specs.Copy.{copy_lines}
@@ -43,16 +43,16 @@ abbrev pub array_last : ℕ → List ℕ
 array_last devices = codes "end " ++ decimal devices ++ 10 ∷ []
 
 -- the section of a device: a line that names it, and the lines of its foreground report
-abbrev pub section : ℕ → ByteMode → ℕ → Run → List (List ℕ)
+abbrev pub section : ℕ → Bytes → ℕ → Run → List (List ℕ)
 section size bytes device run = device_line device ∷ fore_lines size bytes run
 
 -- the sections of the devices from this one on, whose runs these are
-abbrev pub sections : ℕ → ByteMode → ℕ → List Run → List (List ℕ)
+abbrev pub sections : ℕ → Bytes → ℕ → List Run → List (List ℕ)
 sections size bytes device [] = []
 sections size bytes device (run ∷ runs) = section size bytes device run ++ sections size bytes (device + 1) runs
 
 -- the first line, the sections of all devices, and the last line
-unfoldable pub array_lines : ℕ → ByteMode → List Run → List (List ℕ)
+unfoldable pub array_lines : ℕ → Bytes → List Run → List (List ℕ)
 array_lines size bytes runs = array_first ∷ (sections size bytes 0 runs ++ array_last (length runs) ∷ [])
 
 -- a run whose foreground a report can show: it has at most a million rows

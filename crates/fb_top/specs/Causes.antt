@@ -8,7 +8,7 @@ use Rattle.fb_desk.specs.declared.desk.Input.TheVariants.{Params, Trace, Calls, 
 use Rattle.fb_words.specs.Command.{ReplayTerms, CheckTerms}
 use Rattle.fb_trace.specs.Reading.{Accepted}
 use Rattle.fb_trace.specs.declared.trace.TraceFault.{TraceFault}
-use Rattle.fb_script.specs.declared.fault.CallsFault.{CallsFault}
+use Rattle.fb_calls.specs.declared.fault.CallsFault.{CallsFault}
 use Rattle.fb_puts.specs.declared.fault.PutsFault.{PutsFault}
 use Rattle.fb_report.specs.Forms.{grammar_of}
 use Rattle.fb_report.specs.Grammar.{fore_grammar}

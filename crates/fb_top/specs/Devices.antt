@@ -7,10 +7,10 @@ use Rattle.fb_trace.specs.Reading.{Accepted}
 use Rattle.fb_trace.specs.Devices.{traces_of}
 use Rattle.fb_trace.specs.Verdict.{accepted}
 use Rattle.fb_trace.specs.declared.trace.TraceFault.{TraceFault}
-use Rattle.fb_script.specs.Reading.{Accepted as Script, calls_of, fault_at}
-use Rattle.fb_script.specs.Verdict.{accepted as accepted_calls}
-use Rattle.fb_script.specs.declared.fault.CallsFault.{CallsFault}
-use Rattle.fb_script.specs.declared.fault.CallsReason.TheVariants.{TooManyBlocks}
+use Rattle.fb_calls.specs.Reading.{Accepted as Script, calls_of, fault_at}
+use Rattle.fb_calls.specs.Verdict.{accepted as accepted_calls}
+use Rattle.fb_calls.specs.declared.fault.CallsFault.{CallsFault}
+use Rattle.fb_calls.specs.declared.fault.CallsReason.TheVariants.{TooManyBlocks}
 use Rattle.fb_mirror.specs.Script.{rebuild_text}
 use Rattle.fb_model.specs.Inputs.{Inputs}
 use Rattle.fb_desk.specs.View.{DeskView}

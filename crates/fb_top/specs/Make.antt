@@ -5,7 +5,7 @@ use Rattle.fb_service.specs.declared.disk.Disk.{Disk}
 use Rattle.fb_trace.specs.Reading.{trace_of}
 use Rattle.fb_maker.specs.Trace.{made_requests, made_trace}
 use Rattle.fb_maker.specs.Script.{script_text, script_calls}
-use Rattle.fb_script.specs.Reading.{calls_of}
+use Rattle.fb_calls.specs.Reading.{calls_of}
 use Rattle.fb_desk.specs.View.{DeskView}
 use Rattle.fb_desk.specs.declared.desk.Input.TheVariants.{Params}
 use Rattle.fb_desk.specs.declared.desk.Output.TheVariants.{MadeTrace, MadeCalls}

@@ -9,8 +9,8 @@ use Rattle.fb_params.specs.declared.fault.ParamsFault.{ParamsFault}
 use Rattle.fb_params.specs.declared.fault.ParamsFault.TheVariants as params
 use Rattle.fb_trace.specs.declared.trace.TraceReason.{TraceReason}
 use Rattle.fb_trace.specs.declared.trace.TraceReason.TheVariants as trace
-use Rattle.fb_script.specs.declared.fault.CallsReason.{CallsReason}
-use Rattle.fb_script.specs.declared.fault.CallsReason.TheVariants as calls
+use Rattle.fb_calls.specs.declared.fault.CallsReason.{CallsReason}
+use Rattle.fb_calls.specs.declared.fault.CallsReason.TheVariants as calls
 use Rattle.fb_puts.specs.declared.fault.PutsReason.{PutsReason}
 use Rattle.fb_puts.specs.declared.fault.PutsReason.TheVariants as puts
 use Rattle.fb_report.specs.Lines.{track_text}
@@ -154,7 +154,7 @@ cause_text (outcomes.Made n) = []
 cause_text (outcomes.Checked verdict) = []
 cause_text (outcomes.Arrayed runs copy) = []
 cause_text (outcomes.Spilled run spill) = []
-cause_text (outcomes.Usage fault) = numbered (codes "usage: word ") fault.position ++ usage_reason fault.reason
+cause_text (outcomes.Usage fault) = numbered (codes "usage: word ") fault.place ++ usage_reason fault.reason
 cause_text (outcomes.Params fault) = codes "params: " ++ params_fault fault
 cause_text (outcomes.Trace fault) = numbered (codes "trace: line ") fault.line ++ trace_reason fault.reason
 cause_text (outcomes.Calls fault) = numbered (codes "calls: line ") fault.line ++ calls_reason fault.reason

@@ -8,9 +8,9 @@ use Rattle.fb_params.specs.declared.fault.ParamsFault.{ParamsFault}
 use Rattle.fb_trace.specs.Reading.{Accepted, trace_of}
 use Rattle.fb_trace.specs.Verdict.{accepted}
 use Rattle.fb_trace.specs.declared.trace.TraceFault.{TraceFault}
-use Rattle.fb_script.specs.Reading.{Accepted as Script, calls_of}
-use Rattle.fb_script.specs.Verdict.{accepted as accepted_calls}
-use Rattle.fb_script.specs.declared.fault.CallsFault.{CallsFault}
+use Rattle.fb_calls.specs.Reading.{Accepted as Script, calls_of}
+use Rattle.fb_calls.specs.Verdict.{accepted as accepted_calls}
+use Rattle.fb_calls.specs.declared.fault.CallsFault.{CallsFault}
 use Rattle.fb_puts.specs.Asked.{asked}
 use Rattle.fb_puts.specs.Reading.{Accepted as PutsRead, Terms as PutsTerms, puts_of}
 use Rattle.fb_puts.specs.declared.fault.PutsFault.{PutsFault}

@@ -3,7 +3,7 @@ use Rattle.std.specs.Prelude.{◌≡◌, ℕ, List, Option, Some, None}
 use Rattle.fb_bgwrite.specs.declared.items.SpillRun.{SpillRun}
 use Rattle.fb_geometry.specs.Sound.{IsSound}
 use Rattle.fb_puts.specs.Reading.{Accepted as PutsRead}
-use Rattle.fb_script.specs.Verdict.{accepted as accepted_calls}
+use Rattle.fb_calls.specs.Verdict.{accepted as accepted_calls}
 use Rattle.fb_service.specs.declared.disk.Disk.{Disk}
 use Rattle.fb_trace.specs.Verdict.{accepted}
 use Rattle.fb_desk.specs.View.{DeskView}

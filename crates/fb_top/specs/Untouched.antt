@@ -4,7 +4,7 @@ use Rattle.std.specs.Prelude.{◌≡◌, ◌⊎◌, ℕ, ◌<◌, ◌≤◌, Lis
 use Rattle.fb_rows.specs.declared.run.Run.{Run}
 use Rattle.fb_model.specs.Foreground.{promoted}
 use Rattle.fb_model.specs.Known.{AgreeUpTo, SameKnown}
-use Rattle.fb_report.specs.declared.byte_mode.ByteMode.{ByteMode}
+use Rattle.fb_report.specs.declared.bytes.Bytes.{Bytes}
 use Rattle.fb_report.specs.Back.{back_lines}
 use Rattle.fb_report.specs.Fore.{fore_lines, fore_text}
 use Rattle.fb_report.specs.Grammar.{Grammar, back_grammar, fore_grammar}
@@ -39,7 +39,7 @@ pub record AskForOneForeground (one other : Files) : Type 0 where
 -- two runs by one policy, whatever else their scripts ask for and whenever they end, have one foreground text
 abbrev pub ScriptsLeaveForeground : Type 0
 ScriptsLeaveForeground = (one other : DeskView) (terms others : ReplayTerms) (run run' : Run) (is_run : IsRunOf one terms run)
-    (is_other : IsRunOf other others run') (bytes : ByteMode)
+    (is_other : IsRunOf other others run') (bytes : Bytes)
     → terms.policy ≡ others.policy → AskForOneForeground is_run.files is_other.files
     → fore_text is_run.files.disk.sector_bytes bytes run ≡ fore_text is_other.files.disk.sector_bytes bytes run'
 

@@ -2,7 +2,7 @@
 ghost use Rattle.std.specs.Prelude.{◌≡◌, ◌%◌, ◌^◌, ◌<◌, ◌≤◌, ℕ, Some, true, false, length, slice_get, IfErr, IfOk, IfSome, OnOk};
 ghost use Rattle.std.specs.List.{AllByRecursion};
 ghost use Rattle.std.specs.Option.{option_map};
-ghost use Rattle.fb_calls.specs.Allowed.{tasks};
+ghost use Rattle.fb_script.specs.Allowed.{tasks};
 ghost use Rattle.fb_desk.specs.View.{DeskView, IsUnused};
 ghost use Rattle.fb_model.specs.Accepted.{IsAccepted};
 ghost use Rattle.fb_rows.specs.declared.run.Run.{Run};
@@ -27,7 +27,7 @@ use crate::policy::replay_by;
 use crate::reading::no_calls;
 use crate::writing::write_lines;
 use crate::{Outcome, Runs};
-use fb_calls::Calls;
+use fb_script::Calls;
 use fb_decide::RunInputs;
 use fb_desk::{Desk, Output};
 use fb_mirror::{Rebuilt, rebuild, runs_lie_on_the_disk};

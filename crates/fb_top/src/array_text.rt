@@ -2,14 +2,14 @@
 ghost use Rattle.std.specs.Prelude.{◌≡◌, ℕ, ◌+◌, ◌*◌, ◌%◌, ◌^◌, ◌<◌, ◌≤◌, length, slice_get, Some, IfNone, IfOk, IfSome};
 ghost use Rattle.std.specs.List.{AllByRecursion};
 ghost use Rattle.fb_rows.specs.declared.run.Run.{Run};
-ghost use Rattle.fb_report.specs.declared.byte_mode.ByteMode.{ByteMode};
+ghost use Rattle.fb_report.specs.declared.bytes.Bytes.{Bytes};
 ghost use Rattle.fb_top.specs.Array.{CanTellFore, array_first, array_last, device_line, section, sections};
 
 use crate::Runs;
 use crate::lines::{ForeLines, Lines};
 use crate::note_words::{push_number, push_words};
-use fb_mirror::{Rebuilt, copy_line_at, copy_line_count};
-use fb_report::{ByteMode, fore_line_count};
+use fb_mirror::{Rebuilt, copy_piece, copy_pieces};
+use fb_report::{Bytes, fore_pieces};
 use fb_units::NoMemory;
 use std::alloc::Global;
 
@@ -21,7 +21,7 @@ pub struct ArrayLines<'a> {
     /// The size of a sector in bytes, a multiple of 16.
     pub sector_bytes: u32,
     /// How the bytes of reads are shown.
-    pub bytes: ByteMode,
+    pub bytes: Bytes,
 }
 
 impl Lines for ArrayLines<'_> {
@@ -81,12 +81,12 @@ impl ArrayLines<'_> {
 fn section_lines(runs: &Runs) -> u64
     requires few { length runs.now ≤ 16 }
     requires told { AllByRecursion CanTellFore runs.now }
-    ensures lines { (size : ℕ) (bytes : ByteMode) → result ≡ length (sections size bytes 0 runs.now) }
+    ensures lines { (size : ℕ) (bytes : Bytes) → result ≡ length (sections size bytes 0 runs.now) }
     ensures few { result ≤ 16 * (10 ^ 6 + 3) }
 {
     let mut lines = 0;
     for device in 0..runs.len() {
-        lines += fore_line_count(runs.get(device)) + 1;
+        lines += fore_pieces(runs.get(device)) + 1;
     }
     lines
 }
@@ -97,15 +97,15 @@ fn section_of(runs: &Runs, index: u64) -> Option<(usize, u64)>
     requires told { AllByRecursion CanTellFore runs.now }
     ensures device { IfSome result (λ at. at.0 < length runs.now) }
     ensures inside { IfSome result
-        (λ at. (size : ℕ) (bytes : ByteMode) (run : Run) → slice_get runs.now at.0 ≡ Some run
+        (λ at. (size : ℕ) (bytes : Bytes) (run : Run) → slice_get runs.now at.0 ≡ Some run
         → at.1 < length (section size bytes at.0 run)) }
-    ensures same { IfSome result (λ at. (size : ℕ) (bytes : ByteMode) (run : Run) → slice_get runs.now at.0 ≡ Some run
+    ensures same { IfSome result (λ at. (size : ℕ) (bytes : Bytes) (run : Run) → slice_get runs.now at.0 ≡ Some run
         → slice_get (sections size bytes 0 runs.now) index ≡ slice_get (section size bytes at.0 run) at.1) }
-    ensures behind { IfNone result ((size : ℕ) (bytes : ByteMode) → length (sections size bytes 0 runs.now) ≤ index) }
+    ensures behind { IfNone result ((size : ℕ) (bytes : Bytes) → length (sections size bytes 0 runs.now) ≤ index) }
 {
     let mut rest = index;
     for device in 0..runs.len() {
-        let lines = fore_line_count(runs.get(device)) + 1;
+        let lines = fore_pieces(runs.get(device)) + 1;
         if rest < lines {
             return Some((device, rest));
         }
@@ -169,10 +169,10 @@ impl Lines for CopyLines<'_> {
     ghost can_be_read = { λ t. ⊥ };
 
     fn count(&self) -> u64 {
-        copy_line_count(self.copy)
+        copy_pieces(self.copy)
     }
 
     fn line(&self, alloc: Global, index: u64) -> Result<Vec<u8>, NoMemory> {
-        copy_line_at(alloc, self.copy, self.sectors, index)
+        copy_piece(alloc, self.copy, self.sectors, index)
     }
 }

@@ -1,6 +1,6 @@
 // The command that judges printed reports.
 ghost use Rattle.std.specs.Prelude.{◌≡◌, ◌≢◌, ◌≤◌, ◌^◌, ℕ, false, codes, length, IfErr, IfOk, OnOk};
-ghost use Rattle.fb_calls.specs.Allowed.{tasks};
+ghost use Rattle.fb_script.specs.Allowed.{tasks};
 ghost use Rattle.fb_desk.specs.Calls.{ChangesInput, ChangesOutput};
 ghost use Rattle.fb_desk.specs.View.{DeskView, IsUnused};
 ghost use Rattle.fb_model.specs.Accepted.{IsAccepted};

@@ -3,8 +3,8 @@ ghost use Rattle.std.specs.Prelude.{◌≡◌, ℕ, ◌<◌, ◌≤◌, List, So
 ghost use Rattle.fb_report.specs.Grammar.{Grammar};
 ghost use Rattle.fb_report.specs.Printed.{IsLine, is_in_place};
 
-use fb_calls::TaskNames;
-use fb_report::{ByteMode, back_line_at, back_line_count, fore_line_at, fore_line_count};
+use fb_script::Names;
+use fb_report::{Bytes, back_piece, back_pieces, fore_piece, fore_pieces};
 use fb_rows::Run;
 use fb_units::NoMemory;
 use std::alloc::Global;
@@ -48,7 +48,7 @@ pub struct ForeLines<'a> {
     /// The size of a sector in bytes, a multiple of 16.
     pub sector_bytes: u32,
     /// How the bytes of reads are shown.
-    pub bytes: ByteMode,
+    pub bytes: Bytes,
 }
 
 impl Lines for ForeLines<'_> {
@@ -67,11 +67,11 @@ impl Lines for ForeLines<'_> {
     ghost can_be_read = { λ t. (0 < t.sector_bytes) × AllByRecursion ReadsSectors t.run.now.fore };
 
     fn count(&self) -> u64 {
-        fore_line_count(self.run)
+        fore_pieces(self.run)
     }
 
     fn line(&self, alloc: Global, index: u64) -> Result<Vec<u8>, NoMemory> {
-        fore_line_at(alloc, self.run, self.sector_bytes, self.bytes, index)
+        fore_piece(alloc, self.run, self.sector_bytes, self.bytes, index)
     }
 }
 
@@ -81,11 +81,11 @@ pub struct BackLines<'a> {
     /// The run that the report tells of.
     pub run: &'a Run,
     /// The names of the tasks, in order of opening.
-    pub names: &'a TaskNames,
+    pub names: &'a Names,
     /// The size of a sector in bytes, a multiple of 16.
     pub sector_bytes: u32,
     /// How the bytes of deliveries are shown.
-    pub bytes: ByteMode,
+    pub bytes: Bytes,
 }
 
 impl Lines for BackLines<'_> {
@@ -105,11 +105,11 @@ impl Lines for BackLines<'_> {
     ghost can_be_read = { λ t. (0 < t.sector_bytes) × AreNames t.names.now × AllByRecursion CountsSectors t.run.now.back };
 
     fn count(&self) -> u64 {
-        back_line_count(self.run)
+        back_pieces(self.run)
     }
 
     fn line(&self, alloc: Global, index: u64) -> Result<Vec<u8>, NoMemory> {
-        back_line_at(
+        back_piece(
             alloc,
             self.run,
             self.names,

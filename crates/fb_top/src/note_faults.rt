@@ -9,7 +9,7 @@ use crate::note_words::{
 use fb_geometry::GeometryFault;
 use fb_params::ParamsFault;
 use fb_puts::{PutsFault, PutsReason};
-use fb_script::{CallsFault, CallsReason};
+use fb_calls::{CallsFault, CallsReason};
 use fb_seek::SeekFault;
 use fb_trace::{TraceFault, TraceReason};
 use fb_units::NoMemory;
@@ -18,9 +18,9 @@ use fb_words::{UsageFault, UsageReason};
 /// Adds which word of the command line is refused, and why. The only error is out of memory.
 pub fn push_usage_fault(text: &mut Vec<u8>, fault: &UsageFault) -> Result<(), NoMemory>
     ensures { OnOk result
-        (text.new.items ≡ text.old.items ++ (numbered (codes "usage: word ") fault.now.position ++ usage_reason fault.now.reason)) }
+        (text.new.items ≡ text.old.items ++ (numbered (codes "usage: word ") fault.now.place ++ usage_reason fault.now.reason)) }
 {
-    push_numbered(text, "usage: word ", u64::from(fault.position))?;
+    push_numbered(text, "usage: word ", u64::from(fault.place))?;
     push_usage_reason(text, fault.reason)
 }
 

@@ -10,7 +10,7 @@ use fb_params::ParamsFault;
 use fb_puts::PutsFault;
 use fb_report::ReportsFault;
 use fb_rows::Run;
-use fb_script::CallsFault;
+use fb_calls::CallsFault;
 use fb_trace::TraceFault;
 use fb_units::Items;
 use fb_words::UsageFault;

@@ -1,6 +1,6 @@
 // The replay, and the judgement of its reports, in the order of the policy that the words name.
 ghost use Rattle.std.specs.Prelude.{◌≡◌, ◌≤◌, ◌*◌, ◌^◌, [], length, IfOk};
-ghost use Rattle.fb_calls.specs.Allowed.{tasks};
+ghost use Rattle.fb_script.specs.Allowed.{tasks};
 ghost use Rattle.fb_check.specs.Printed.{reports_of};
 ghost use Rattle.fb_check.specs.Verdict.{IsVerdict};
 ghost use Rattle.fb_decide.specs.RunInputs.{inputs_of};
@@ -15,7 +15,7 @@ use fb_check::{Printed, Verdict, judge};
 use fb_decide::RunInputs;
 use fb_detour::IndexedPlanner;
 use fb_engine::replay;
-use fb_fastq::{ClookMap, FcfsRing, SptfLanes, SstfMap};
+use fb_fastq::{ClookMap, FcfsRing, SptfBuckets, SstfMap};
 use fb_queue::Queue;
 use fb_rows::Run;
 use fb_units::NoMemory;
@@ -34,7 +34,7 @@ pub fn replay_by(alloc: Global, policy: Policy, inputs: RunInputs<'_>) -> Result
         Policy::Fcfs => replay_in(alloc, FcfsRing::new(alloc), inputs),
         Policy::Sstf => replay_in(alloc, SstfMap::new(alloc), inputs),
         Policy::Clook => replay_in(alloc, ClookMap::new(alloc), inputs),
-        Policy::Sptf => replay_in(alloc, SptfLanes::new(alloc), inputs),
+        Policy::Sptf => replay_in(alloc, SptfBuckets::new(alloc), inputs),
     }
 }
 
@@ -50,7 +50,7 @@ pub fn replay_in<Q: Queue>(alloc: Global, queue: Q, inputs: RunInputs<'_>) -> Re
     ensures early { IfOk result (λ run. run.end ≤ 9 * 10 ^ 18) }
     ensures told { IfOk result (CanBeTold inputs.entry.calls.now.names) }
 {
-    replay(alloc, inputs, queue, &IndexedPlanner)
+    replay(alloc, inputs, queue, &IndexedPlanner::new())
 }
 
 /// Judges two printed reports against the full run of accepted inputs, in a policy's order.
@@ -68,11 +68,11 @@ pub fn judge_by(
     requires back { IsReport back_grammar printed.back.now }
     ensures { IfOk result (IsVerdict (inputs_of inputs.entry (key_of policy)) (reports_of inputs.entry printed.entry)) }
 {
-    let planner = &IndexedPlanner;
+    let planner = &IndexedPlanner::new();
     match policy {
         Policy::Fcfs => judge(alloc, inputs, FcfsRing::new(alloc), planner, printed),
         Policy::Sstf => judge(alloc, inputs, SstfMap::new(alloc), planner, printed),
         Policy::Clook => judge(alloc, inputs, ClookMap::new(alloc), planner, printed),
-        Policy::Sptf => judge(alloc, inputs, SptfLanes::new(alloc), planner, printed),
+        Policy::Sptf => judge(alloc, inputs, SptfBuckets::new(alloc), planner, printed),
     }
 }

@@ -8,8 +8,8 @@ ghost use Rattle.fb_desk.specs.Calls.{ChangesInput};
 ghost use Rattle.fb_desk.specs.View.{DeskView, IsUnused};
 ghost use Rattle.fb_trace.specs.Servable.{IsTraceOf};
 ghost use Rattle.fb_trace.specs.Verdict.{accepted};
-ghost use Rattle.fb_calls.specs.Allowed.{IsScript, tasks};
-ghost use Rattle.fb_script.specs.Verdict.{accepted as accepted_calls};
+ghost use Rattle.fb_script.specs.Allowed.{IsScript, tasks};
+ghost use Rattle.fb_calls.specs.Verdict.{accepted as accepted_calls};
 ghost use Rattle.fb_decide.specs.RunInputs.{inputs_of};
 ghost use Rattle.fb_model.specs.Accepted.{IsAccepted};
 ghost use Rattle.fb_model.specs.PlainReplay.{Key};
@@ -26,12 +26,12 @@ ghost use Rattle.fb_top.specs.Calm.{AreInputsCalm};
 
 use crate::Outcome;
 use crate::streams::{InputError, read_whole};
-use fb_calls::{Calls, TaskNames};
+use fb_script::{Calls, Names};
 use fb_decide::RunInputs;
 use fb_desk::{Desk, Input};
 use fb_params::{Parameters, ParamsError, read_params};
 use fb_report::Report;
-use fb_script::{CallsError, read_calls};
+use fb_calls::{CallsError, read_calls};
 use fb_service::Disk;
 use fb_trace::{Trace, TraceError, read_trace};
 use fb_units::Ns;
@@ -316,7 +316,7 @@ pub fn no_calls(alloc: Global) -> Calls
     ensures calls { result.calls.items ≡ [] }
 {
     Calls {
-        names: TaskNames::new(alloc),
+        names: Names::new(alloc),
         calls: Vec::new(alloc),
     }
 }

@@ -4,7 +4,7 @@ ghost use Rattle.std.specs.List.{AllByRecursion};
 ghost use Rattle.std.specs.Option.{option_map};
 ghost use Rattle.fb_bgwrite.specs.Text.{HasRange};
 ghost use Rattle.fb_puts.specs.Verdict.{accepted};
-ghost use Rattle.fb_calls.specs.Allowed.{tasks};
+ghost use Rattle.fb_script.specs.Allowed.{tasks};
 ghost use Rattle.fb_model.specs.Accepted.{IsAccepted};
 ghost use Rattle.fb_desk.specs.View.{DeskView, IsUnused};
 ghost use Rattle.fb_desk.specs.declared.desk.Output.{Output};

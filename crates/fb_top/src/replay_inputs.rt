@@ -2,7 +2,7 @@
 ghost use Rattle.std.specs.Prelude.{◌≡◌, ◌≤◌, ◌^◌, length, IfErr, IfOk, IfSome};
 ghost use Rattle.std.specs.Option.{option_map};
 ghost use Rattle.fb_puts.specs.Verdict.{accepted};
-ghost use Rattle.fb_calls.specs.Allowed.{tasks};
+ghost use Rattle.fb_script.specs.Allowed.{tasks};
 ghost use Rattle.fb_desk.specs.View.{IsUnused};
 ghost use Rattle.fb_geometry.specs.Sound.{IsSound};
 ghost use Rattle.fb_model.specs.Accepted.{IsAccepted};

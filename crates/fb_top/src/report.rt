@@ -18,7 +18,7 @@ use crate::lines::{BackLines, ForeLines};
 use crate::reading::RunFiles;
 use crate::writing::{write_lines, write_made};
 use fb_desk::{Desk, Output};
-use fb_report::{ByteMode, summary_text};
+use fb_report::{Bytes, summary_text};
 use fb_rows::Run;
 use fb_words::ReplayWords;
 use std::alloc::Global;
@@ -101,7 +101,7 @@ fn write_back<D: Desk>(
     alloc: Global,
     desk: &mut D,
     name: &str,
-    bytes: ByteMode,
+    bytes: Bytes,
     files: &RunFiles,
     run: &Run,
 ) -> Result<(), Outcome>

@@ -1,7 +1,7 @@
 // The text of what was written in free gaps, line by line.
 use crate::lines::Lines;
-use fb_bgwrite::{SpillRun, spill_line_at, spill_line_count};
-use fb_report::ByteMode;
+use fb_bgwrite::{SpillRun, spill_piece, spill_pieces};
+use fb_report::Bytes;
 use fb_units::NoMemory;
 use std::alloc::Global;
 
@@ -13,7 +13,7 @@ pub struct SpillLines<'a> {
     /// The size of a sector in bytes, a multiple of 16.
     pub sector_bytes: u32,
     /// How the bytes that were written are shown.
-    pub bytes: ByteMode,
+    pub bytes: Bytes,
 }
 
 impl Lines for SpillLines<'_> {
@@ -32,10 +32,10 @@ impl Lines for SpillLines<'_> {
     ghost can_be_read = { λ t. ⊥ };
 
     fn count(&self) -> u64 {
-        spill_line_count(self.spill)
+        spill_pieces(self.spill)
     }
 
     fn line(&self, alloc: Global, index: u64) -> Result<Vec<u8>, NoMemory> {
-        spill_line_at(alloc, self.spill, self.sector_bytes, self.bytes, index)
+        spill_piece(alloc, self.spill, self.sector_bytes, self.bytes, index)
     }
 }

@@ -50,7 +50,7 @@ impl Entry {
             return Err(TraceReason::TooMany);
         }
         Ok(Request {
-            name: Name::Traced(number as u32),
+            name: Name::Traced(number),
             arrival: self.arrival,
             lbn: self.first,
             count: self.size as u32,

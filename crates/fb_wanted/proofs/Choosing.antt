@@ -28,14 +28,14 @@ none_chosen task change (e ∷ es) = ap (λ l. e ∷ l) (none_chosen task change
 
 -- each block is chosen, or left as it is by the change
 pub all_chosen : (chosen : ℕ → Bool) (task : ℕ) (change : Change) (es : List Entry)
-    → ((i : ℕ) (e : Entry) → slice_get es i ≡ Some e → (chosen e.block.number ≡ true) ⊎ (entry_after task change e ≡ e))
+    → ((i : ℕ) (e : Entry) → slice_get es i ≡ Some e → (chosen e.block.index ≡ true) ⊎ (entry_after task change e ≡ e))
     → changed_where chosen task change es ≡ after task change es
 all_chosen chosen task change [] each = refl
 all_chosen chosen task change (e ∷ es) each =
     let rest = all_chosen chosen task change es (λ i x at. each (suc i) x at) in
     elim (each 0 e refl) [
       | inl own ↦ rw own (ap (λ l. entry_after task change e ∷ l) rest)
-      | inr same ↦ elim (cases_Bool (chosen e.block.number)) [
+      | inr same ↦ elim (cases_Bool (chosen e.block.index)) [
         | inl own ↦ rw own (ap (λ l. entry_after task change e ∷ l) rest)
         | inr other ↦ rw other (ap (λ x. x ∷ changed_where chosen task change es) (sym same) ∙ ap (λ l. entry_after task change e ∷ l) rest)
       ]
@@ -44,7 +44,7 @@ all_chosen chosen task change (e ∷ es) each =
 pub blocks_stay : (chosen : ℕ → Bool) (task : ℕ) (change : Change) (es : List Entry)
     → blocks_of (changed_where chosen task change es) ≡ blocks_of es
 blocks_stay chosen task change [] = refl
-blocks_stay chosen task change (e ∷ es) = elim (cases_Bool (chosen e.block.number)) [
+blocks_stay chosen task change (e ∷ es) = elim (cases_Bool (chosen e.block.index)) [
   | inl own ↦ rw own (ap (λ l. e.block ∷ l) (blocks_stay chosen task change es))
   | inr other ↦ rw other (ap (λ l. e.block ∷ l) (blocks_stay chosen task change es))
 ]
@@ -79,18 +79,18 @@ nth_same p f g (suc k) (e ∷ es) same = elim (cases_Bool (p e)) [
 nth_chosen : (task k : ℕ) (change : Change) (es : List Entry) → AreInOrder (blocks_of es)
     → change_nth (is_of_task task) (entry_after task change) k es ≡ changed_where (λ i. i == k) task change es
 nth_chosen task k change es in_order =
-    let one = λ (e : Entry). if e.block.number == k then entry_after task change e else e in
+    let one = λ (e : Entry). if e.block.index == k then entry_after task change e else e in
     nth_same (is_of_task task) (entry_after task change) one k es (λ e at.
     let is = number_at es task k e in_order at in
-    let here : (e.block.number == k) ≡ true = grind (arith, nat_tests) in rw here refl)
+    let here : (e.block.index == k) ≡ true = grind (arith, nat_tests) in rw here refl)
     ∙ nth_alone (is_of_task task) one k es
-    (λ e other. elim (cases_Bool (e.block.number == k)) [
+    (λ e other. elim (cases_Bool (e.block.index == k)) [
       | inl here ↦ rw here (others_after task change e other)
       | inr not_here ↦ rw not_here refl
     ])
     (λ j e at ne.
     let is = number_at es task j e in_order at in
-    let not_here : (e.block.number == k) ≡ false = grind (arith, nat_tests) in rw not_here refl)
+    let not_here : (e.block.index == k) ≡ false = grind (arith, nat_tests) in rw not_here refl)
 
 stable_after : (task : ℕ) (change : Change) (e : Entry) → IsStable change
     → entry_after task change (entry_after task change e) ≡ entry_after task change e
@@ -106,9 +106,9 @@ pub one_more : (chosen : ℕ → Bool) (task k : ℕ) (change : Change) (es : Li
 one_more chosen task k change es in_order stable =
     let f = entry_after task change in
     nth_chosen task k change (changed_where chosen task change es) (rw (blocks_stay chosen task change es) in_order)
-    ∙ (twice (λ e. if e.block.number == k then f e else e) (λ e. if chosen e.block.number then f e else e) es
-    ∙ same_map _ _ es (λ e. elim (cases_Bool (chosen e.block.number)) [
-      | inl own ↦ rw own (elim (cases_Bool (e.block.number == k)) [
+    ∙ (twice (λ e. if e.block.index == k then f e else e) (λ e. if chosen e.block.index then f e else e) es
+    ∙ same_map _ _ es (λ e. elim (cases_Bool (chosen e.block.index)) [
+      | inl own ↦ rw own (elim (cases_Bool (e.block.index == k)) [
         | inl here ↦ rw here (stable_after task change e stable)
         | inr not_here ↦ rw not_here refl
       ])

@@ -187,7 +187,7 @@ module _ (e : Entry) (es : List Entry) (tasks newtasks : List OfTask) (tracks ne
       let same = changed_weight tracks new e.block.track (grown (length es)) (λ o. refl) changed t in
       omega (arith, same, kept, weight-append t es (e ∷ []), weight_unwanted t e un)
 
-  kept_more : IsKept es tasks tracks → e.block.number ≡ registered_count e.block.task (blocks_of es) → length es < 16000000
+  kept_more : IsKept es tasks tracks → e.block.index ≡ registered_count e.block.task (blocks_of es) → length es < 16000000
       → e.block.weight ≤ 1000 → e.block.count ≤ 2048 → is_wanted e.state ≡ false
       → IsTaskChanged tasks newtasks e.block.task (grown_task (length es) e)
       → IsChanged tracks new e.block.track (grown (length es)) → IsKept (es ++ e ∷ []) newtasks new
@@ -204,7 +204,7 @@ module _ (e : Entry) (es : List Entry) (tasks newtasks : List OfTask) (tracks ne
 
   -- the indexes after a block is added at the end that isn't wanted
   pub kept_pushed : (items : List Entry) (index : ℕ) → items ≡ es ++ e ∷ [] → index ≡ length es
-      → IsKept es tasks tracks → e.block.number ≡ registered_count e.block.task (blocks_of es) → length es < 16000000
+      → IsKept es tasks tracks → e.block.index ≡ registered_count e.block.task (blocks_of es) → length es < 16000000
       → e.block.weight ≤ 1000 → e.block.count ≤ 2048 → is_wanted e.state ≡ false
       → IsTaskChanged tasks newtasks e.block.task (grown_task index e)
       → IsChanged tracks new e.block.track (grown index) → IsKept items newtasks new

@@ -26,7 +26,7 @@ task-blocks task (e ∷ es) = elim (cases_Bool (e.block.task == task)) [
   | inr no' ↦ rw no' (task-blocks task es)
 ]
 
-in_order-more : (bs : List Block) (b : Block) → AreInOrder bs → b.number ≡ registered_count b.task bs → AreInOrder (bs ++ b ∷ [])
+in_order-more : (bs : List Block) (b : Block) → AreInOrder bs → b.index ≡ registered_count b.task bs → AreInOrder (bs ++ b ∷ [])
 in_order-more bs b h new task k block at =
     let split = filter-append (λ other. other.task == task) bs (b ∷ []) in
     elim (cases_Bool (b.task == task)) [
@@ -45,7 +45,7 @@ in_order-more bs b h new task k block at =
     ]
 
 pub numbered-more : (es : List Entry) (e : Entry) → AreInOrder (blocks_of es)
-    → e.block.number ≡ registered_count e.block.task (blocks_of es)
+    → e.block.index ≡ registered_count e.block.task (blocks_of es)
     → AreInOrder (blocks_of (es ++ e ∷ []))
 numbered-more es e h new = subst AreInOrder (sym (blocks-more es e)) (in_order-more (blocks_of es) e.block h new)
 
@@ -67,11 +67,11 @@ small_at es i e h at = h i e.block (block_there es i e at)
 
 -- the k-th block of a task has the number k
 pub number_at : (es : List Entry) (task k : ℕ) (e : Entry) → AreInOrder (blocks_of es) → slice_get (filter (is_of_task task) es) k ≡ Some e
-    → e.block.number ≡ k
+    → e.block.index ≡ k
 number_at es task k e h at = h task k e.block
     (ap (λ l. slice_get l k) (task-blocks task es) ∙ block_there (filter (is_of_task task) es) k e at)
 
-pub block_is : (task number : ℕ) (e : Entry) → is_block task number e ≡ true → (is_of_task task e ≡ true) × (e.block.number ≡ number)
+pub block_is : (task number : ℕ) (e : Entry) → is_block task number e ≡ true → (is_of_task task e ≡ true) × (e.block.index ≡ number)
 block_is task number e h = (grind (arith, nat_tests), grind (arith, nat_tests))
 
 -- the block with a number in its task is found at that index among the blocks of the task

@@ -18,7 +18,7 @@ own_after task change e s own is = rw own (ap (λ t. let x : Entry = record { bl
 pub others_after : (task : ℕ) (change : Change) (e : Entry) → is_of_task task e ≡ false → entry_after task change e ≡ e
 others_after task change e other = rw other refl
 
-not_delivered : (task number : ℕ) (e : Entry) → is_of_task task e ≡ true → (e.block.number == number) ≡ false
+not_delivered : (task number : ℕ) (e : Entry) → is_of_task task e ≡ true → (e.block.index == number) ≡ false
     → entry_after task (Deliver number) e ≡ e
 not_delivered task number e own other = rw (own, other) refl
 

@@ -237,7 +237,7 @@ change_first test change (suc k) (e ∷ es) =
 
 -- all registered blocks after a change of those of a task whose numbers are chosen
 abbrev pub changed_where : (ℕ → Bool) → ℕ → Change → List Entry → List Entry
-changed_where chosen task change entries = map (λ entry. if chosen entry.block.number then entry_after task change entry else entry) entries
+changed_where chosen task change entries = map (λ entry. if chosen entry.block.index then entry_after task change entry else entry) entries
 
 -- beside the chosen blocks of a task at least those of a streak are changed
 pub record HasChanged (task : ℕ) (change : Change) (streak : Streak) (entries : List Entry)

@@ -27,7 +27,7 @@ offer_of index block = record { sweep = block.sweep; worth = block.weight * bloc
 abbrev pub no_block : Block
 no_block = record {
   task = 0;
-  number = 0;
+  index = 0;
   lbn = 0;
   count = 0;
   track = record { cylinder = 0; head = 0 };

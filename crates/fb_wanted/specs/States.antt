@@ -51,7 +51,7 @@ wanted_unless suspended = if suspended then Suspended else Wanted
 -- the state of a block of the task after a change
 abbrev pub state_after : Change → Block → State → State
 state_after (Abort first count) block state = if shares first count block && is_open state then Aborted else state
-state_after (Deliver number) block state = if block.number == number then Delivered else state
+state_after (Deliver index) block state = if block.index == index then Delivered else state
 state_after (Rewant first count suspended) block state =
     if shares first count block && is_delivered state then wanted_unless suspended else state
 state_after Suspend block state = if is_wanted state then Suspended else state
@@ -80,6 +80,6 @@ on_track track entries = filter (λ entry. same_track track entry.block.track) e
 abbrev pub wanted_of : List Entry → List Block
 wanted_of entries = map (λ entry. entry.block) (filter (λ entry. is_wanted entry.state) entries)
 
--- the block is the task's with this number
+-- the block is the task's with this index
 abbrev pub is_block : ℕ → ℕ → Entry → Bool
-is_block task number entry = (entry.block.task == task) && (entry.block.number == number)
+is_block task index entry = (entry.block.task == task) && (entry.block.index == index)

@@ -78,8 +78,8 @@ pub fn state_after(change: Change, block: Block, state: State) -> State
 {
     match change {
         Change::Abort { first, count } => aborted(first, count, block, state),
-        Change::Deliver { number } => {
-            if block.number == number {
+        Change::Deliver { index } => {
+            if block.index == index {
                 State::Delivered
             } else {
                 state

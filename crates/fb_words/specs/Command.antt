@@ -2,8 +2,8 @@
 use Rattle.std.specs.Prelude.{ℕ, List, [], ◌∷◌, length, Bool, not, ◌&&◌, ◌||◌, nat_le, false, Option, Some, None, Result, Ok, Err, is_some}
 use Rattle.std.specs.Prelude.{unwrap_or, option_and_then}
 use Rattle.std.specs.Option.{option_map}
-use Rattle.fb_report.specs.declared.byte_mode.ByteMode.{ByteMode}
-use Rattle.fb_report.specs.declared.byte_mode.ByteMode.TheVariants.{Nothing}
+use Rattle.fb_report.specs.declared.bytes.Bytes.{Bytes}
+use Rattle.fb_report.specs.declared.bytes.Bytes.TheVariants.{Nothing}
 use Rattle.fb_units.specs.Judging.{◌>>=◌, ◌>>◌, or_refuse, refuse, refused_as}
 use Rattle.fb_words.specs.declared.command.Policy.{Policy}
 use Rattle.fb_words.specs.declared.fault.UsageFault.{UsageFault}
@@ -27,7 +27,7 @@ pub record ReplayTerms : Type 0 where
   pub spill : Option (List ℕ)
   pub until : ℕ
   pub device : ℕ
-  pub bytes : ByteMode
+  pub bytes : Bytes
   pub summary : Bool
 
 -- the options for generating a trace and a call script
@@ -49,7 +49,7 @@ pub record CheckTerms : Type 0 where
   pub back : List ℕ
   pub until : ℕ
   pub device : ℕ
-  pub bytes : ByteMode
+  pub bytes : Bytes
 
 -- the options for rebuilding the replacement of a lost disk: the device to rebuild from, its background report, and the text of the
 -- replacement
@@ -66,7 +66,7 @@ pub record ArrayTerms : Type 0 where
   pub devices : ℕ
   pub rebuild : Option RebuildTerms
   pub until : ℕ
-  pub bytes : ByteMode
+  pub bytes : Bytes
 
 -- a command: a replay, generating a trace and a script, judging two reports, or a replay of several devices
 pub data Terms : Type 0 where

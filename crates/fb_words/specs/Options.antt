@@ -1,6 +1,6 @@
 -- The options that words can give.
 use Rattle.std.specs.Prelude.{ℕ, List, Bool, Option, None, false}
-use Rattle.fb_report.specs.declared.byte_mode.ByteMode.{ByteMode}
+use Rattle.fb_report.specs.declared.bytes.Bytes.{Bytes}
 use Rattle.fb_words.specs.declared.command.Policy.{Policy}
 
 -- the value of each option that was given, and whether a summary is wanted
@@ -15,7 +15,7 @@ pub record Options : Type 0 where
   pub spill : Option (List ℕ)
   pub until : Option ℕ
   pub device : Option ℕ
-  pub bytes : Option ByteMode
+  pub bytes : Option Bytes
   pub number : Option ℕ
   pub requests : Option ℕ
   pub devices : Option ℕ

@@ -16,7 +16,7 @@ use Rattle.fb_words.specs.Values.{is_given, with_value}
 
 -- a fault of the word with this index; an index that doesn't fit in 32 bits is the last one that does
 abbrev pub fault_at : ℕ → UsageReason → UsageFault
-fault_at position reason = record { position = min position 4294967295; reason = reason }
+fault_at position reason = record { place = min position 4294967295; reason = reason }
 
 -- the options so far, and the option whose value is to be the next word, with the index of its word
 pub data Progress : Type 0 where

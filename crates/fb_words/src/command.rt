@@ -1,5 +1,5 @@
 // The commands that a command line can give.
-use fb_report::ByteMode;
+use fb_report::Bytes;
 use fb_units::Ns;
 
 /// The order in which requests are served: of those that have arrived, the one of least key (as in
@@ -40,7 +40,7 @@ pub struct ReplayWords {
     /// The device whose requests are replayed, at most 10^15.
     pub device: u64,
     /// How contents are shown in the reports.
-    pub bytes: ByteMode,
+    pub bytes: Bytes,
     /// Whether a summary is written instead of the foreground report.
     pub summary: bool,
 }
@@ -83,7 +83,7 @@ pub struct CheckWords {
     /// The device whose requests are replayed, at most 10^15.
     pub device: u64,
     /// How contents are shown in the reports.
-    pub bytes: ByteMode,
+    pub bytes: Bytes,
 }
 
 /// The options for replaying the trace of several devices, each on a disk of its own.
@@ -103,7 +103,7 @@ pub struct ArrayWords {
     /// no call is left, in nanoseconds, at most 10^15.
     pub until: Ns,
     /// How contents are shown in the reports.
-    pub bytes: ByteMode,
+    pub bytes: Bytes,
 }
 
 /// The options for rebuilding the replacement of a lost disk from a device with the same contents.

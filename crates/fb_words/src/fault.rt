@@ -39,7 +39,7 @@ pub struct UsageFault {
     /// The position of the word, where the name of the program has position 0. For `NoCommand`,
     /// `MissingOption`, `CallsAndBack`, `PutsAndSpill`, `RebuildIncomplete` and `RebuildBeyond` it
     /// is the number of words. A position that doesn't fit in 32 bits is the last one that does.
-    pub position: u32,
+    pub place: u32,
     /// The reason.
     pub reason: UsageReason,
 }

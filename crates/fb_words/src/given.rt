@@ -6,7 +6,7 @@ ghost use Rattle.fb_words.specs.Values.{is_given};
 
 use crate::Policy;
 use crate::names::OptionName;
-use fb_report::ByteMode;
+use fb_report::Bytes;
 use fb_units::Ns;
 
 /// The value of each option that was given, and whether a summary is wanted.
@@ -33,7 +33,7 @@ pub struct Given<'a> {
     /// The device of the requests.
     pub device: Option<u64>,
     /// How contents are shown.
-    pub bytes: Option<ByteMode>,
+    pub bytes: Option<Bytes>,
     /// The seed of a generated trace.
     pub number: Option<u64>,
     /// The number of requests of a generated trace.

@@ -3,7 +3,7 @@ ghost use Rattle.std.specs.Prelude.{◌≡◌};
 ghost use Rattle.fb_words.specs.Names.{verb_of, option_of, meaning, run_options, policy_of, bytes_of};
 
 use crate::Policy;
-use fb_report::ByteMode;
+use fb_report::Bytes;
 
 /// The verb of a command.
 #[derive(Clone, Copy, PartialEq, Eq)]
@@ -170,13 +170,13 @@ pub fn policy_of(name: &str) -> Option<Policy>
 
 /// The way of showing contents for which a word stands, if it is known.
 #[tactic(auto, unfolding(crate::specs::Names::bytes_of))]
-pub fn bytes_of(name: &str) -> Option<ByteMode>
+pub fn bytes_of(name: &str) -> Option<Bytes>
     ensures { result ≡ bytes_of name.now }
 {
     match name {
-        "none" => Some(ByteMode::Nothing),
-        "sha256" => Some(ByteMode::Digest),
-        "hex" => Some(ByteMode::Dump),
+        "none" => Some(Bytes::Nothing),
+        "sha256" => Some(Bytes::Digest),
+        "hex" => Some(Bytes::Dump),
         _ => None,
     }
 }

@@ -42,7 +42,7 @@ pub fn fault_at(position: usize, reason: UsageReason) -> UsageFault
     ensures { result ≡ fault_at position reason }
 {
     UsageFault {
-        position: position.min(u32::MAX as usize) as u32,
+        place: position.min(u32::MAX as usize) as u32,
         reason,
     }
 }

@@ -11,7 +11,7 @@ ghost use Rattle.fb_words.specs.Verdict.{Agrees};
 use crate::given::Given;
 use crate::names::{OptionName, bytes_of, policy_of};
 use crate::{Policy, UsageReason};
-use fb_report::ByteMode;
+use fb_report::Bytes;
 use fb_units::{Ns, read_millis, read_number};
 
 const MOST_REQUESTS: u64 = 1_000_000;
@@ -81,7 +81,7 @@ fn policy(value: &str) -> Result<Policy, UsageReason>
     policy_of(value).ok_or(UsageReason::BadValue)
 }
 
-fn bytes(value: &str) -> Result<ByteMode, UsageReason>
+fn bytes(value: &str) -> Result<Bytes, UsageReason>
     ensures { result ≡ or_refuse BadValue (bytes_of value.now) }
 {
     bytes_of(value).ok_or(UsageReason::BadValue)

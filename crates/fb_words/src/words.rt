@@ -18,11 +18,11 @@ use crate::{
     ArrayWords, CheckWords, Command, MakeWords, Policy, RebuildWords, ReplayWords, UsageFault,
     UsageReason, WordsError,
 };
-use fb_report::ByteMode;
+use fb_report::Bytes;
 use fb_units::NoMemory;
 use std::alloc::Global;
 
-const DEFAULT_BYTES: ByteMode = ByteMode::Nothing;
+const DEFAULT_BYTES: Bytes = Bytes::Nothing;
 
 /// The command that the words of a command line give. The first word is the name of the program and
 /// isn't looked at. An error names the first faulty word by its index, and the reason; or it is

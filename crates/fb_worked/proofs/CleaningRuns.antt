@@ -1,6 +1,6 @@
 -- Runs that show the cleaning of segments, computed.
 use Rattle.std.proofs.Common.{List, [], ◌∷◌, refl, lit≤, lit<, true, false}
-use Rattle.fb_calls.specs.declared.call.Kind.TheVariants.{Clean}
+use Rattle.fb_script.specs.declared.call.Kind.TheVariants.{Clean}
 use Rattle.fb_rows.specs.declared.gap.Plan.TheVariants.{Direct}
 use Rattle.fb_rows.specs.declared.gap.How.TheVariants.{Gap as ByGap, Idle as ByIdle}
 use Rattle.fb_worked.specs.SmallDisk.{small_disk}

@@ -1,6 +1,6 @@
 -- Runs that show the plans of gaps, computed.
 use Rattle.std.proofs.Common.{List, [], ◌∷◌, refl, lit≤, lit<, true, false}
-use Rattle.fb_calls.specs.declared.call.Kind.TheVariants.{Plain}
+use Rattle.fb_script.specs.declared.call.Kind.TheVariants.{Plain}
 use Rattle.fb_rows.specs.declared.gap.Plan.TheVariants.{Direct, Detour}
 use Rattle.fb_rows.specs.declared.gap.How.TheVariants.{Gap as ByGap}
 use Rattle.fb_worked.specs.SmallDisk.{small_disk, quick_disk, turned_disk}

@@ -1,6 +1,6 @@
 -- Runs that show the contents that a delivery finds, computed.
 use Rattle.std.proofs.Common.{List, [], ◌∷◌, refl, lit≤, true}
-use Rattle.fb_calls.specs.declared.call.Kind.TheVariants.{Plain, Scrub}
+use Rattle.fb_script.specs.declared.call.Kind.TheVariants.{Plain, Scrub}
 use Rattle.fb_rows.specs.declared.gap.Plan.TheVariants.{Direct}
 use Rattle.fb_rows.specs.declared.gap.How.TheVariants.{Idle as ByIdle}
 use Rattle.fb_worked.specs.SmallDisk.{small_disk, one_sector_disk}

@@ -3,7 +3,7 @@ use Rattle.std.proofs.Common.{◌++◌, length-append, ◌≡◌, ℕ, List, [],
 use Rattle.std.proofs.Common.{subst, sym}
 use Rattle.std.specs.Option.{is_none}
 use Rattle.fb_units.proofs.Lists.{not_none, same_first, same_rest}
-use Rattle.fb_calls.specs.declared.call.Kind.TheVariants.{Plain}
+use Rattle.fb_script.specs.declared.call.Kind.TheVariants.{Plain}
 use Rattle.fb_store.specs.declared.content.Content.{Content}
 use Rattle.fb_store.specs.declared.content.Content.TheVariants.{Filled, Unreadable}
 use Rattle.fb_store.specs.declared.content.ContentRun.{ContentRun}

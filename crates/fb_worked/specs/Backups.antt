@@ -1,8 +1,8 @@
 -- Runs that show backups.
 use Rattle.std.specs.Prelude.{[], ◌∷◌, true}
 use Rattle.fb_units.specs.declared.types.Name.TheVariants.{Traced}
-use Rattle.fb_calls.specs.declared.call.Kind.TheVariants.{Backup}
-use Rattle.fb_calls.specs.declared.call.Action.TheVariants.{Open, Want, Abort}
+use Rattle.fb_script.specs.declared.call.Kind.TheVariants.{Backup}
+use Rattle.fb_script.specs.declared.call.Action.TheVariants.{Open, Want, Abort}
 use Rattle.fb_rows.specs.declared.gap.Plan.TheVariants.{Direct}
 use Rattle.fb_rows.specs.declared.gap.How.TheVariants.{Idle as ByIdle}
 use Rattle.fb_model.specs.PlainReplay.{fcfs}

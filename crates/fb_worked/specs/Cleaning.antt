@@ -1,8 +1,8 @@
 -- Runs that show the cleaning of segments.
 use Rattle.std.specs.Prelude.{[], ◌∷◌, true, false}
 use Rattle.fb_units.specs.declared.types.Name.TheVariants.{Traced}
-use Rattle.fb_calls.specs.declared.call.Kind.TheVariants.{Clean}
-use Rattle.fb_calls.specs.declared.call.Action.TheVariants.{Open, Suspend, Resume, Close, Segment}
+use Rattle.fb_script.specs.declared.call.Kind.TheVariants.{Clean}
+use Rattle.fb_script.specs.declared.call.Action.TheVariants.{Open, Suspend, Resume, Close, Segment}
 use Rattle.fb_rows.specs.declared.gap.Plan.TheVariants.{Direct}
 use Rattle.fb_rows.specs.declared.gap.How.TheVariants.{Gap as ByGap, Idle as ByIdle}
 use Rattle.fb_model.specs.PlainReplay.{fcfs}

@@ -6,7 +6,7 @@ use Rattle.fb_service.specs.declared.disk.Disk.{Disk}
 use Rattle.fb_rows.specs.declared.run.Run.{Run}
 use Rattle.fb_model.specs.PlainReplay.{fcfs}
 use Rattle.fb_model.specs.Content.{fore_rows}
-use Rattle.fb_report.specs.declared.byte_mode.ByteMode.TheVariants.{Dump}
+use Rattle.fb_report.specs.declared.bytes.Bytes.TheVariants.{Dump}
 use Rattle.fb_report.specs.Fore.{fore_text}
 use Rattle.fb_worked.specs.SmallDisk.{small_disk, uneven_disk, skewed_disk, slipped_disk, remapped_disk}
 

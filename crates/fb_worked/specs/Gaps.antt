@@ -1,8 +1,8 @@
 -- Runs that show the plans of gaps.
 use Rattle.std.specs.Prelude.{[], ◌∷◌, true, false}
 use Rattle.fb_units.specs.declared.types.Name.TheVariants.{Traced}
-use Rattle.fb_calls.specs.declared.call.Kind.TheVariants.{Plain}
-use Rattle.fb_calls.specs.declared.call.Action.TheVariants.{Open, Want}
+use Rattle.fb_script.specs.declared.call.Kind.TheVariants.{Plain}
+use Rattle.fb_script.specs.declared.call.Action.TheVariants.{Open, Want}
 use Rattle.fb_wanted.specs.declared.block.Block.{Block}
 use Rattle.fb_rows.specs.declared.gap.Plan.TheVariants.{Direct, Detour}
 use Rattle.fb_rows.specs.declared.gap.How.TheVariants.{Gap as ByGap}

@@ -1,8 +1,8 @@
 -- Runs that show idle dwells and rides.
 use Rattle.std.specs.Prelude.{[], ◌∷◌, true, false}
 use Rattle.fb_units.specs.declared.types.Name.TheVariants.{Traced, Promoted}
-use Rattle.fb_calls.specs.declared.call.Kind.TheVariants.{Plain}
-use Rattle.fb_calls.specs.declared.call.Action.TheVariants.{Open, Want, Promote}
+use Rattle.fb_script.specs.declared.call.Kind.TheVariants.{Plain}
+use Rattle.fb_script.specs.declared.call.Action.TheVariants.{Open, Want, Promote}
 use Rattle.fb_rows.specs.declared.gap.Plan.TheVariants.{Direct}
 use Rattle.fb_rows.specs.declared.gap.How.TheVariants.{Gap as ByGap, Idle as ByIdle, Ride as ByRide}
 use Rattle.fb_model.specs.PlainReplay.{fcfs}

@@ -6,9 +6,9 @@ use Rattle.fb_units.specs.declared.types.Request.{Request}
 use Rattle.fb_units.specs.declared.types.Name.{Name}
 use Rattle.fb_store.specs.declared.content.Content.TheVariants.{Filled, Unreadable}
 use Rattle.fb_store.specs.declared.content.ContentRun.{ContentRun}
-use Rattle.fb_calls.specs.declared.call.Action.{Action}
-use Rattle.fb_calls.specs.declared.call.Call.{Call}
-use Rattle.fb_calls.specs.declared.call.Kind.{Kind}
+use Rattle.fb_script.specs.declared.call.Action.{Action}
+use Rattle.fb_script.specs.declared.call.Call.{Call}
+use Rattle.fb_script.specs.declared.call.Kind.{Kind}
 use Rattle.fb_wanted.specs.declared.block.Block.{Block}
 use Rattle.fb_rows.specs.declared.fore.ForeRow.{ForeRow}
 use Rattle.fb_rows.specs.declared.gap.Gap.{Gap}
@@ -61,7 +61,7 @@ call line instant task action = record { line = line; instant = instant; task = 
 -- task, number, first sector, number of sectors, track, weight, and how it passes
 abbrev pub swept_block : ℕ → ℕ → ℕ → ℕ → Track → ℕ → Sweep → Block
 swept_block task number lbn count track weight sweep =
-    record { task = task; number = number; lbn = lbn; count = count; track = track; weight = weight; sweep = sweep }
+    record { task = task; index = number; lbn = lbn; count = count; track = track; weight = weight; sweep = sweep }
 
 -- the same where each track has twelve sectors, each of which takes 100 ns to pass
 abbrev pub block : ℕ → ℕ → ℕ → ℕ → Track → ℕ → Block

@@ -22,10 +22,10 @@ returns c =
     let end : c.loop-i.i ≡ length candidates = omega (arith, c.loop-i-test.false, c.loop-i.auto.i-end, c.len-i-end.ensures.count) in
     let whole = ap (added passages extent request c.args.found.now.items) (ap (λ n. take n candidates) end ∙ take-length candidates) in
     ap in_order (c.loop-i.invariant ∙ whole)
-    ∙ any-order extent.track c.args.blocks.now c.on.result candidates c.numbered_in_order.ensures c.on.ensures c.wanted-candidates.ensures
+    ∙ any-order extent.track c.args.wanted.now c.on.result candidates c.numbered_in_order.ensures c.on.ensures c.wanted-candidates.ensures
     c.args.found.now.items (ride_of passages) (λ b. refl) (λ b. begins_in extent b && lies_in request b)
 
 pub add_ride-requires-clause-block : goal.add_ride-requires-clause-block
 add_ride-requires-clause-block c =
-    (on-its-track c.args.extent.now.track c.args.blocks.now c.on.result c.wanted-candidates.result c.numbered_in_order.ensures c.on.ensures
+    (on-its-track c.args.extent.now.track c.args.wanted.now c.on.result c.wanted-candidates.result c.numbered_in_order.ensures c.on.ensures
     c.wanted-candidates.ensures (IsBlockOn c.args.disk.now.map) c.requires.registered c.loop-i.i c.get.result c.get.ensures).0

@@ -49,7 +49,7 @@ pub returns : goal.returns
 returns c =
     let disk = c.args.disk.now in
     let gap = c.args.gap.now in
-    let es = c.args.blocks.now in
+    let es = c.args.wanted.now in
     let stop = c.stop_at-stop.result in
     let its : IsStop disk (on_track gap.target es) stop =
     subst (λ xs. IsStop disk xs stop) c.blocks_on-on_target.ensures.its c.stop_at-stop.ensures.stop in

@@ -17,6 +17,6 @@ returns c = λ track low high from upto.
     let up = div_ceil_times (depth.result * 16777216) (all / slots.result) (omega (arith, some, share)) in
     let enough : depth.result * 2 ^ 24 ≤ rate * (all / slots.result) =
     omega (arith, up.0, ap (λ r. r * (all / slots.result)) c.div_ceil.ensures) in
-    within_rate disk c.args.blocks.now track depth.result slots.result rate from upto (subst IsSound its c.sound.ensures)
+    within_rate disk c.args.wanted.now track depth.result slots.result rate from upto (subst IsSound its c.sound.ensures)
     (subst HasOwnPlaces its c.own_places.ensures) c.requires.blocks (λ lbn. depth.ensures.each track lbn low high)
     (slots.ensures.each track.cylinder low high) some (subst (λ s. depth.result * 2 ^ 24 ≤ rate * s) share enough)

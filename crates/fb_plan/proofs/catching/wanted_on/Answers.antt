@@ -5,7 +5,7 @@ use Rattle.fb_plan.proofs.catching.wanted_on.Goals as goal
 pub returns : goal.returns
 returns c =
     let dwell = c.args.dwell in
-    let entries = c.args.blocks.now in
+    let entries = c.args.wanted.now in
     let its = c.blocks_on.ensures.its in
     let numbers = c.numbered_in_order.ensures in
     let on = on-its-track dwell.track entries c.blocks_on.result c.wanted.result numbers its c.wanted.ensures in

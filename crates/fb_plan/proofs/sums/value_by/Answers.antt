@@ -21,14 +21,14 @@ value_until-requires-clause-sweeps c = offers-in-turn c.offers.result.now c.args
 
 pub returns-then-is_same : goal.returns-then-is_same
 returns-then-is_same c =
-    value-in-either c.args.disk.now c.args.gap.now c.args.plan c.args.blocks.now c.dwells-pair.result c.args.sides.now c.new-late.result
+    value-in-either c.args.disk.now c.args.gap.now c.args.plan c.args.wanted.now c.dwells-pair.result c.args.sides.now c.new-late.result
     c.dwells-pair.ensures.early c.dwells-pair.ensures.late c.requires.sides c.new-late.ensures.turning c.new-late.ensures.from
     c.requires.early c.offers-offers.result.now c.offers-offers.ensures.its
     c.value_in_either.result (sym c.is_same.ensures ∙ c.if-is_same.true) c.value_in_either.ensures
 
 pub returns : goal.returns
 returns c =
-    value-of-both c.args.disk.now c.args.gap.now c.args.plan c.args.blocks.now c.dwells-pair.result c.args.sides.now c.new-late.result
+    value-of-both c.args.disk.now c.args.gap.now c.args.plan c.args.wanted.now c.dwells-pair.result c.args.sides.now c.new-late.result
     c.dwells-pair.ensures.early c.dwells-pair.ensures.late c.requires.sides c.new-late.ensures.turning c.new-late.ensures.from
     c.requires.early c.offers-offers.result.now c.offers-offers.ensures.its c.requires.late c.offers.result.now c.offers.ensures.its
     c.value_until-sum.result c.value_until.result (sym c.is_same.ensures ∙ c.if-is_same.false)

@@ -26,22 +26,22 @@ one-more task n block lbn disk session old before now own begun =
     (begun_own task n session (cutting disk session.block lbn block) before now begun)
 
 pub loop-i-init : goal.loop-i-init
-loop-i-init c = record { all = refl; few = c.requires.few; own = registers_none (λ other. other ≡ c.args.task) c.args.blocks.now }
+loop-i-init c = record { all = refl; few = c.requires.few; own = registers_none (λ other. other ≡ c.args.task) c.args.wanted.now }
 
 pub returns-in_err-want_range-clause-own : goal.returns-in_err-want_range-clause-own
 returns-in_err-want_range-clause-own c =
     let session = c.args.session.now in
-    one-more c.args.task _ session.block c.live_block-lbn.result c.args.map.now session c.args.blocks.now c.loop-i.blocks
-    c.want_range.new.blocks c.loop-i.invariant.own c.want_range.ensures.begun
+    one-more c.args.task _ session.block c.live_block-lbn.result c.args.map.now session c.args.wanted.now c.loop-i.wanted
+    c.want_range.new.wanted c.loop-i.invariant.own c.want_range.ensures.begun
 
 pub loop-i-preserved : goal.loop-i-preserved
 loop-i-preserved c =
     let session = c.args.session.now in
-    let more = live-more c.args.map.now c.args.task session.block session.weight session c.loop-i.blocks c.want_range.new.blocks
+    let more = live-more c.args.map.now c.args.task session.block session.weight session c.loop-i.wanted c.want_range.new.wanted
     (live_of session.log c.args.segment) c.loop-i.i c.live_block-lbn.result c.live_block-lbn.ensures c.in_ok-want_range.ensures.all in
     record {
       all = more.0 ∙ c.loop-i.invariant.all;
       few = omega (arith, more.1, c.loop-i.invariant.few);
-      own = one-more c.args.task _ session.block c.live_block-lbn.result c.args.map.now session c.args.blocks.now c.loop-i.blocks
-          c.want_range.new.blocks c.loop-i.invariant.own c.want_range.ensures.begun;
+      own = one-more c.args.task _ session.block c.live_block-lbn.result c.args.map.now session c.args.wanted.now c.loop-i.wanted
+          c.want_range.new.wanted c.loop-i.invariant.own c.want_range.ensures.begun;
     }

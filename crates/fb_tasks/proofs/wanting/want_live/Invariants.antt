@@ -5,10 +5,10 @@ use Rattle.fb_tasks.proofs.wanting.want_live.Given as goal
 -- the registered blocks and those that are left are all that the live blocks give
 abbrev pub invariant-loop-i : goal.invariant-loop-i
 invariant-loop-i l = record {
-  all : l.blocks ++ new_entries l.session (numbered l.task l.session.weight (registered_count l.task (blocks_of l.blocks))
+  all : l.wanted ++ new_entries l.session (numbered l.task l.session.weight (registered_count l.task (blocks_of l.wanted))
       (cuts_of l.map l.session.block (drop l.i (live_of l.session.log l.segment))))
-      ≡ l.initial.blocks ++ new_entries l.session (numbered l.task l.session.weight (registered_count l.task (blocks_of l.initial.blocks))
+      ≡ l.initial.wanted ++ new_entries l.session (numbered l.task l.session.weight (registered_count l.task (blocks_of l.initial.wanted))
       (cuts_of l.map l.session.block (live_of l.session.log l.segment)));
-  few : length l.blocks + length (cuts_of l.map l.session.block (drop l.i (live_of l.session.log l.segment))) ≤ 16000000;
-  own : OnlyRegisters (λ other. other ≡ l.task) l.initial.blocks l.blocks;
+  few : length l.wanted + length (cuts_of l.map l.session.block (drop l.i (live_of l.session.log l.segment))) ≤ 16000000;
+  own : OnlyRegisters (λ other. other ≡ l.task) l.initial.wanted l.wanted;
 }

@@ -14,37 +14,37 @@ none-new disk session task number lbn left held none = sym (append-nil held)
 
 pub returns-then-count-eq0-clause-all : goal.returns-then-count-eq0-clause-all
 returns-then-count-eq0-clause-all c = none-new c.args.map.now c.args.session.now c.args.task (registered_count c.args.task
-    (blocks_of c.args.blocks.now)) c.args.first c.args.count c.args.blocks.now (omega arith)
+    (blocks_of c.args.wanted.now)) c.args.first c.args.count c.args.wanted.now (omega arith)
 
 pub loop-left-init : goal.loop-left-init
 loop-left-init c =
-    let first = ap (λ n. n.registered) c.counts-number.ensures ∙ counts_registered c.args.task c.args.blocks.now in
+    let first = ap (λ n. n.registered) c.counts-number.ensures ∙ counts_registered c.args.task c.args.wanted.now in
     record {
-      all = ap (λ n. c.args.blocks.now ++ new_entries c.args.session.now (numbered c.args.task c.args.session.now.weight n
+      all = ap (λ n. c.args.wanted.now ++ new_entries c.args.session.now (numbered c.args.task c.args.session.now.weight n
           (cutting c.args.map.now c.args.session.now.block c.args.first c.args.count))) first;
       next = first;
       within = refl;
       span = c.span-span.ensures.span;
       few = c.requires.few;
-      grown = grown_not c.args.blocks.now;
+      grown = grown_not c.args.wanted.now;
     }
 
 pub overflow_add-number : goal.overflow_add-number
-overflow_add-number c = omega (arith, c.loop-left.invariant.next, c.loop-left.invariant.few, registered_few c.args.task c.loop-left.blocks)
+overflow_add-number c = omega (arith, c.loop-left.invariant.next, c.loop-left.invariant.few, registered_few c.args.task c.loop-left.wanted)
 
 pub returns-clause-all : goal.returns-clause-all
 returns-clause-all c = none-new c.args.map.now c.args.session.now c.args.task c.loop-left.number c.loop-left.lbn c.loop-left.left
-    c.loop-left.blocks (omega (arith, c.loop-left-test.false)) ∙ c.loop-left.invariant.all
+    c.loop-left.wanted (omega (arith, c.loop-left-test.false)) ∙ c.loop-left.invariant.all
 
 pub returns-in_err-register-clause-begun : goal.returns-in_err-register-clause-begun
-returns-in_err-register-clause-begun c = subst (HasBegun c.args.blocks.now _) (sym c.in_err-register.ensures.err)
+returns-in_err-register-clause-begun c = subst (HasBegun c.args.wanted.now _) (sym c.in_err-register.ensures.err)
     (begun_by _ c.loop-left.invariant.grown c.loop-left.invariant.all)
 
 pub loop-left-preserved : goal.loop-left-preserved
 loop-left-preserved c =
     let session = c.args.session.now in
     let cut = c.next_cut-cut.result in
-    let before = c.loop-left.blocks in
+    let before = c.loop-left.wanted in
     let now = c.register.new.self in
     let block = c.block_of.result in
     let rest = cutting c.args.map.now session.block (c.loop-left.lbn + cut.count) (c.loop-left.left - cut.count) in
@@ -59,7 +59,7 @@ loop-left-preserved c =
       span = c.next_cut-cut.ensures.span;
       few =
           omega (arith, c.loop-left.invariant.few, ap length is, length-append before (entry ∷ []), ap length c.next_cut-cut.ensures.first);
-      grown = grown_more c.args.blocks.now before now c.loop-left.invariant.grown (record { added = entry ∷ []; is = is });
+      grown = grown_more c.args.wanted.now before now c.loop-left.invariant.grown (record { added = entry ∷ []; is = is });
     }
 
 pub returns-then-count-eq0-clause-begun : goal.returns-then-count-eq0-clause-begun

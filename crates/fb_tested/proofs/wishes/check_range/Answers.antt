@@ -1,8 +1,8 @@
 use Rattle.std.proofs.Common.{refl}
 use Rattle.fb_tested.proofs.wishes.check_range.Goals as goal
 
-pub mark_delivered-requires : goal.mark_delivered-requires
-mark_delivered-requires g c = rw (
+pub deliver-requires : goal.deliver-requires
+deliver-requires g c = rw (
   c.abort.ensures.states,
   c.in_ok-register-3.ensures.ok,
   c.in_ok-register-2.ensures.ok,

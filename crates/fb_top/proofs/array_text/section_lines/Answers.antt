@@ -10,10 +10,10 @@ loop-device-preserved c =
     let run = c.get.result.now in
     let told = all_get CanTellFore c.args.runs.now loop.device run c.requires.told c.get.ensures in
     record {
-      few = omega (arith, loop.invariant.few, c.fore_line_count.ensures.value, told);
+      few = omega (arith, loop.invariant.few, c.fore_pieces.ensures.value, told);
       counted = λ size bytes. omega (
         arith,
-        c.fore_line_count.ensures.value,
+        c.fore_pieces.ensures.value,
         one_counted size bytes c.args.runs.now loop.device run c.get.ensures,
         loop.invariant.counted size bytes,
       );

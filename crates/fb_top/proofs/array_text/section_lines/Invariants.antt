@@ -1,11 +1,11 @@
 use Rattle.std.proofs.Common.{◌≡◌, ℕ, ◌+◌, ◌*◌, ◌^◌, ◌≤◌, drop, length}
-use Rattle.fb_report.specs.declared.byte_mode.ByteMode.{ByteMode}
+use Rattle.fb_report.specs.declared.bytes.Bytes.{Bytes}
 use Rattle.fb_top.specs.Array.{sections}
 use Rattle.fb_top.proofs.array_text.section_lines.Given as goal
 
 abbrev pub invariant-loop-device : goal.invariant-loop-device
 invariant-loop-device l = record {
   few : l.lines ≤ l.device * (10 ^ 6 + 3);
-  counted : (size : ℕ) (bytes : ByteMode)
+  counted : (size : ℕ) (bytes : Bytes)
       → l.lines + length (sections size bytes l.device (drop l.device l.runs)) ≡ length (sections size bytes 0 l.runs);
 }

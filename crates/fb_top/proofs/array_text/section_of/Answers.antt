@@ -13,14 +13,14 @@ returns-then-rest-lines-clause-same c = λ size bytes run at.
     subst (λ (r : Run). slice_get (sections size bytes 0 runs) c.args.index ≡ slice_get (section size bytes loop.device r) loop.rest)
     (one_element (slice_get runs loop.device) c.get.result.now run c.get.ensures at)
     (line_here size bytes runs loop.device c.get.result.now c.args.index loop.rest c.get.ensures
-    (omega (arith, c.fore_line_count-lines.ensures.value, c.if-rest-lines.true)) (loop.invariant.same size bytes))
+    (omega (arith, c.fore_pieces-lines.ensures.value, c.if-rest-lines.true)) (loop.invariant.same size bytes))
 
 pub loop-device-preserved : goal.loop-device-preserved
 loop-device-preserved c =
     let runs = c.args.runs.now in
     let loop = c.loop-device in
     let run = c.get.result.now in
-    let lines = c.fore_line_count-lines.ensures.value in
+    let lines = c.fore_pieces-lines.ensures.value in
     record {
       same = λ size bytes. line_later size bytes runs loop.device run c.args.index loop.rest _ c.get.ensures
           (omega (arith, lines, c.if-rest-lines.false)) (loop.invariant.same size bytes);

@@ -1,5 +1,5 @@
 use Rattle.std.proofs.Common.{rules, sym, subst}
-use Rattle.fb_calls.specs.declared.call.Calls.{Calls}
+use Rattle.fb_script.specs.declared.call.Calls.{Calls}
 use Rattle.fb_model.specs.Accepted.{IsAccepted}
 use Rattle.fb_model.specs.Inputs.{Inputs}
 use Rattle.fb_decide.specs.RunInputs.{inputs_of}

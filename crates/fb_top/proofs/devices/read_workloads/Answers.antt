@@ -3,7 +3,7 @@ use Rattle.std.specs.Prelude.{IfSome, slice_get}
 use Rattle.std.proofs.lemmas.List.{length-map}
 use Rattle.fb_trace.specs.declared.trace.Trace.{Trace}
 use Rattle.fb_trace.specs.Verdict.{accepted}
-use Rattle.fb_calls.specs.Allowed.{IsScript}
+use Rattle.fb_script.specs.Allowed.{IsScript}
 use Rattle.fb_words.specs.Verdict.{array_terms}
 use Rattle.fb_top.specs.Devices.{ReadsTraces, StopsTraces, is_rebuilt_from}
 use Rattle.fb_top.proofs.DeviceInputs.{array_at_rebuild, array_at_trace}

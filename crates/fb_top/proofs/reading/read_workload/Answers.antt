@@ -1,7 +1,7 @@
 use Rattle.std.proofs.Common.{ℕ, ap, length, subst}
 use Rattle.fb_trace.specs.Verdict.{accepted}
-use Rattle.fb_script.specs.Verdict.{accepted as accepted_calls}
-use Rattle.fb_calls.specs.Allowed.{IsScript}
+use Rattle.fb_calls.specs.Verdict.{accepted as accepted_calls}
+use Rattle.fb_script.specs.Allowed.{IsScript}
 use Rattle.fb_desk.specs.Calls.{ChangesInput}
 use Rattle.fb_desk.specs.View.{DeskView, IsUnused}
 use Rattle.fb_desk.specs.declared.desk.Input.TheVariants.{Params}

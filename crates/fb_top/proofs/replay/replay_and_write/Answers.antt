@@ -1,7 +1,7 @@
 use Rattle.std.proofs.Common.{◌≡◌, Option, length, inl, refl, sym, subst}
 use Rattle.fb_bgwrite.specs.declared.items.SpillRun.{SpillRun}
-use Rattle.fb_calls.specs.Allowed.{tasks}
-use Rattle.fb_calls.specs.declared.call.Calls.{Calls}
+use Rattle.fb_script.specs.Allowed.{tasks}
+use Rattle.fb_script.specs.declared.call.Calls.{Calls}
 use Rattle.fb_model.specs.Accepted.{IsAccepted}
 use Rattle.fb_model.specs.FullRun.{IsFull}
 use Rattle.fb_model.specs.Inputs.{Inputs}

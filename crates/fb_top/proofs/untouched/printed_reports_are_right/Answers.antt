@@ -1,6 +1,6 @@
 use Rattle.std.proofs.Common.{List, ℕ, Option, sym, subst}
 use Rattle.std.specs.Prelude.{Bool, Ok, IfSome, codes, if◌then◌else◌}
-use Rattle.fb_report.specs.declared.byte_mode.ByteMode.{ByteMode}
+use Rattle.fb_report.specs.declared.bytes.Bytes.{Bytes}
 use Rattle.fb_report.specs.Back.{back_lines}
 use Rattle.fb_report.specs.Fore.{fore_lines, fore_text}
 use Rattle.fb_report.specs.Grammar.{back_grammar, fore_grammar}
@@ -36,9 +36,9 @@ returns c = λ old new other terms asked run replayed asks.
     let fore_told = told_lines (new.outputs Fore) other asked.fore (codes "-") fore_grammar fore asks.fore fore_whole fore_read in
     let back_told = told_lines (new.outputs Back) other asked.back asks.back_name back_grammar back asks.back back_whole back_read in
     let own : HoldsOwnReports other asked files run = record {
-      fore = subst (λ (bytes : ByteMode). HoldsLines other asked.fore fore_grammar (fore_lines size bytes run)) (sym asks.bytes)
+      fore = subst (λ (bytes : Bytes). HoldsLines other asked.fore fore_grammar (fore_lines size bytes run)) (sym asks.bytes)
           (held_lines (new.outputs Fore) other asked.fore (codes "-") fore_grammar fore asks.fore fore_whole fore_read);
-      back = subst (λ (bytes : ByteMode). HoldsLines other asked.back back_grammar (back_lines files.script.names size bytes run))
+      back = subst (λ (bytes : Bytes). HoldsLines other asked.back back_grammar (back_lines files.script.names size bytes run))
           (sym asks.bytes)
           (held_lines (new.outputs Back) other asked.back asks.back_name back_grammar back asks.back back_whole back_read);
     } in

@@ -1,8 +1,8 @@
 use Rattle.std.proofs.Common.{List, ℕ, Option, length, ap, refl, sym, subst, ◌∙◌}
 use Rattle.std.specs.Prelude.{◌≡◌, ◌++◌, Bool, if◌then◌else◌}
-use Rattle.fb_script.specs.Reading.{Accepted as Script}
+use Rattle.fb_calls.specs.Reading.{Accepted as Script}
 use Rattle.fb_model.specs.Foreground.{promoted}
-use Rattle.fb_report.specs.declared.byte_mode.ByteMode.{ByteMode}
+use Rattle.fb_report.specs.declared.bytes.Bytes.{Bytes}
 use Rattle.fb_report.specs.Fore.{fore_text}
 use Rattle.fb_report.specs.Summary.{summary_text}
 use Rattle.fb_top.specs.Array.{device_line}
@@ -43,7 +43,7 @@ returns c = λ one other terms replay runs run run' are_runs is_run asks at.
     let text = same_text _ _ terms.bytes run run' (ap (λ d. d.sector_bytes) disk) fore (mine.full.sound.passed_over
     ∙ ap (λ t. t.passed_over) trace ∙ sym is_run.full.sound.passed_over) in
     ap (λ written. device_line device ++ written) (text
-    ∙ subst (λ (bytes : ByteMode). fore_text files.disk.sector_bytes terms.bytes run' ≡ fore_text files.disk.sector_bytes bytes run')
+    ∙ subst (λ (bytes : Bytes). fore_text files.disk.sector_bytes terms.bytes run' ≡ fore_text files.disk.sector_bytes bytes run')
     (sym asks.bytes) refl
     ∙ subst (λ (summary : Bool). fore_text files.disk.sector_bytes replay.bytes run'
     ≡ (if summary then summary_text run' else fore_text files.disk.sector_bytes replay.bytes run')) (sym asks.no_summary) refl)

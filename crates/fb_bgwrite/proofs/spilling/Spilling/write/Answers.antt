@@ -31,7 +31,7 @@ write_block-requires-clause-pending c =
     let items = c.deref-catch-items.result.now in
     let start : Track = record { cylinder = 0; head = 0 } in
     let still : Sweep = record { begin = 0; length = 0 } in
-    let empty : Block = record { task = 0; number = 0; lbn = 0; count = 0; track = start; weight = 0; sweep = still } in
+    let empty : Block = record { task = 0; index = 0; lbn = 0; count = 0; track = start; weight = 0; sweep = still } in
     let none : Catch = record { block = empty; begin = 0; end = 0 } in
     let catch = slice_index_or items l.catch-index none in
     let are : items ≡ caught_of old.disk.now stay.result (wanted_of old.pending) = c.deref-catch-items.ensures.value

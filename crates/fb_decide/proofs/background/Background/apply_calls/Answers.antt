@@ -1,7 +1,7 @@
 use Rattle.std.proofs.Common.{◌≡◌, ◌<◌, ◌≤◌, refl, sym, ◌∙◌, subst, arith}
 use Rattle.std.specs.Prelude.{IfSome}
 use Rattle.std.proofs.lemmas.Option.{slice_get_read, slice_get_past}
-use Rattle.fb_calls.specs.declared.call.Call.{Call}
+use Rattle.fb_script.specs.declared.call.Call.{Call}
 use Rattle.fb_decide.proofs.Calling.{taken-may, taken-more, taken-tells, taken-called}
 use Rattle.fb_decide.proofs.background.Background.apply_calls.Goals as goal
 
@@ -36,7 +36,7 @@ loop-next-preserved c =
       taken = λ past called tells.
           let taken = c.loop-next.invariant.taken past called tells in
           taken-more c.args.disk.now.map calls c.requires.script past c.args.now c.loop-next.next c.loop-next.self.sessions
-          c.loop-next.self.blocks taken call c.apply.new.self c.apply.new.blocks at here
+          c.loop-next.self.blocks taken call c.apply.new.self c.apply.new.wanted at here
           (c.in_ok-apply.ensures.ok taken.taken (taken-may c.args.disk.now.map calls c.requires.script past c.args.now c.loop-next.next
           c.loop-next.self.sessions c.loop-next.self.blocks taken call at));
       within = omega (arith, c.loop-next-test.true, c.len.ensures);

@@ -25,18 +25,18 @@ may c disk past index current at =
     ∙ (c.runs_are_fewest.ensures (map (λ lbn. (lbn, content_in c.args.store.now lbn)) (range_with_len block.lbn block.count))).contents in
     may-deliver disk past index _ c.args.self.now (content_in c.args.store.now) current at gives
 
-pub deliver-requires : goal.deliver-requires
-deliver-requires c =
+pub delivered-requires : goal.delivered-requires
+delivered-requires c =
     let any = c.requires.wanted in
-    (any.0, any.1, may (goal.at.deliver-requires c).After-bad any.0 any.1 any.2 any.3 any.4)
+    (any.0, any.1, may (goal.at.delivered-requires c).After-bad any.0 any.1 any.2 any.3 any.4)
 
 pub returns : goal.returns
-returns c = on_ok_weaker c.deliver.result (λ all disk past index current at.
+returns c = on_ok_weaker c.delivered.result (λ all disk past index current at.
     let allowed = may (goal.at.returns c).After-bad disk past index current at in
     delivered-one disk past index _ _ c.args.self.now
-    (record { sessions = c.deliver.new.self; blocks = c.deliver.new.blocks; rows = c.deliver.new.rows })
+    (record { sessions = c.delivered.new.self; blocks = c.delivered.new.wanted; rows = c.delivered.new.rows })
     (row-is c.args.store.now c.args.how c.args.catch.block c.args.catch.begin c.args.catch.end c.bad.result c.in_ok-content.content
     c.in_ok-content.ensures.fewest c.bad.ensures.value)
     at (all.0 disk past allowed) (all.1.0 disk past allowed) (all.1.1 disk past allowed))
-    (on_ok_both _ _ c.deliver.result c.deliver.ensures.tells
-    (on_ok_both _ _ c.deliver.result c.deliver.ensures.up_to_date c.deliver.ensures.rows))
+    (on_ok_both _ _ c.delivered.result c.delivered.ensures.tells
+    (on_ok_both _ _ c.delivered.result c.delivered.ensures.up_to_date c.delivered.ensures.rows))

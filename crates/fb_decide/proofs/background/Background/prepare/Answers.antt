@@ -7,8 +7,8 @@ use Rattle.fb_tasks.proofs.Calls.{called-chosen, called-tested}
 use Rattle.fb_decide.proofs.Calling.{may-choose}
 use Rattle.fb_decide.proofs.background.Background.prepare.Goals as goal
 
-pub choose_and_test-requires : goal.choose_and_test-requires
-choose_and_test-requires c =
+pub settle-requires : goal.settle-requires
+settle-requires c =
     let disk = c.args.disk.now.map in
     let calls = c.args.calls.now.calls.items in
     let past = c.requires.called.0 in
@@ -31,12 +31,12 @@ returns c = λ past called tells.
     taken_tells in
     record {
       current = record {
-        tells = c.in_ok-choose_and_test.ensures.tells taken may;
-        up_to_date = c.in_ok-choose_and_test.ensures.up_to_date taken may;
+        tells = c.in_ok-settle.ensures.tells taken may;
+        up_to_date = c.in_ok-settle.ensures.up_to_date taken may;
       };
       called = called-tested disk calls (with_choices disk taken) next (called-chosen disk calls taken next taken_called
           c.apply_calls.new.self.sessions c.apply_calls.new.self.blocks taken_tells) (test_rows_by disk calls past c.args.now);
-      rows_after = c.in_ok-choose_and_test.ensures.rows taken may
+      rows_after = c.in_ok-settle.ensures.rows taken may
           ∙ ap (λ rows. rows ++ test_rows_by disk calls past c.args.now) c.in_ok-next.ensures.rows;
       ahead = c.in_ok-next.ensures.ahead;
     }

@@ -10,7 +10,7 @@ pub loop-cylinder-preserved : goal.loop-cylinder-preserved
 loop-cylinder-preserved c =
     let disk = c.args.disk.now in
     let gap = c.args.gap.now in
-    let blocks = wanted_of c.args.blocks.now in
+    let blocks = wanted_of c.args.wanted.now in
     let new = c.try_cylinder-best in
     let old = c.loop-cylinder.best.plan in
     let before = c.loop-cylinder.invariant in (
@@ -24,7 +24,7 @@ pub returns : goal.returns
 returns c =
     let disk = c.args.disk.now in
     let gap = c.args.gap.now in
-    let blocks = wanted_of c.args.blocks.now in
+    let blocks = wanted_of c.args.wanted.now in
     let best = c.loop-cylinder.best.plan in
     let all = c.loop-cylinder.invariant in
     let end : cylinders_of disk.map.zones ≤ c.loop-cylinder.cylinder = omega (

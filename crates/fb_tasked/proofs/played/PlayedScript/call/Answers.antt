@@ -16,5 +16,5 @@ loop-self-preserved c =
     let call = c.index-call.result.now in
     let at = slice_get_read calls c.len.result c.loop-self.self.called call (c.len.ensures
     ∙ c.loop-self.self.calls.calls.ok.0) c.loop-self-test.true c.index-call.ensures in
-    follows-more c.loop-self.invariant call at c.apply.new.self c.apply.new.blocks
+    follows-more c.loop-self.invariant call at c.apply.new.self c.apply.new.wanted
     (c.in_ok-apply.ensures.ok c.loop-self.invariant.past (follows-may c.loop-self.invariant call at))

@@ -8,8 +8,8 @@ pub runs-requires : goal.runs-requires
 runs-requires c =
     within-at c.requires.follows.tells c.requires.wanted.0 (record { block = c.args.block; state = Wanted }) c.requires.wanted.1
 
-pub deliver-requires : goal.deliver-requires
-deliver-requires c =
+pub delivered-requires : goal.delivered-requires
+delivered-requires c =
     let block = c.args.block in
     let now = content_in c.args.self.now.store in
     let gives = ap sectors_of c.in_ok-content.ensures.fewest
@@ -42,7 +42,7 @@ returns c =
       content = c.in_ok-content.content;
     } in
     let may = follows-may-deliver c.requires.follows got c.requires.wanted.0 now c.requires.wanted.1 gives in
-    on_ok_weaker c.deliver.result (λ all. follows-delivered c.requires.follows got c.deliver.new.self c.deliver.new.blocks
+    on_ok_weaker c.delivered.result (λ all. follows-delivered c.requires.follows got c.delivered.new.self c.delivered.new.wanted
     (all.0 c.args.self.now.map c.requires.follows.past may)
     (all.1 c.args.self.now.map c.requires.follows.past may) c.args.self.now.up_to_date)
-    (on_ok_both _ _ c.deliver.result c.deliver.ensures.tells c.deliver.ensures.up_to_date)
+    (on_ok_both _ _ c.delivered.result c.delivered.ensures.tells c.delivered.ensures.up_to_date)

@@ -7,6 +7,6 @@ pub returns : goal.returns
 returns c =
     let h = c.in_ok-call.ensures in
     let may = follows-may-choose h in
-    on_ok_weaker c.choose_and_test.result
-    (λ all. follows-up_to_date h c.args.now c.choose_and_test.new.self c.choose_and_test.new.blocks (all.0 h.past may) (all.1 h.past may))
-    (on_ok_both _ _ c.choose_and_test.result c.choose_and_test.ensures.tells c.choose_and_test.ensures.up_to_date)
+    on_ok_weaker c.settle.result
+    (λ all. follows-up_to_date h c.args.now c.settle.new.self c.settle.new.wanted (all.0 h.past may) (all.1 h.past may))
+    (on_ok_both _ _ c.settle.result c.settle.ensures.tells c.settle.ensures.up_to_date)

@@ -6,5 +6,5 @@ use Rattle.fb_tasked.proofs.played.PlayedScript.write.Goals as goal
 pub returns : goal.returns
 returns c =
     let request : Request = record { name = Traced 1; arrival = 0; lbn = c.args.first; count = c.args.count; write = true } in
-    follows-finished c.requires request c.after_write.new.self c.after_write.new.blocks
+    follows-finished c.requires request c.after_write.new.self c.after_write.new.wanted
     (c.after_write.ensures c.args.self.now.map c.requires.past request refl refl refl c.requires.tells)

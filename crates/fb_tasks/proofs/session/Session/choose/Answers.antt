@@ -28,7 +28,7 @@ loop-choice-init c =
     record {
       cleans = (may_be.0, not-true c.args.self.now.closed may_be.1);
       same = (refl, refl);
-      own = registers_none (λ other. other ≡ c.args.stamp.task) c.args.blocks.now;
+      own = registers_none (λ other. other ≡ c.args.stamp.task) c.args.wanted.now;
       grown = grown_not c.args.rows.now;
       chosen = λ past may. still-chosen refl may;
     }
@@ -89,7 +89,7 @@ pub returns-clause-idle : goal.returns-clause-idle
 returns-clause-idle c = not_idle c.may_choose.ensures c.if-not-may_choose.false
 
 pub returns-then-not-may_choose-clause-own : goal.returns-then-not-may_choose-clause-own
-returns-then-not-may_choose-clause-own c = registers_none (λ other. other ≡ c.args.stamp.task) c.args.blocks.now
+returns-then-not-may_choose-clause-own c = registers_none (λ other. other ≡ c.args.stamp.task) c.args.wanted.now
 
 pub returns-then-not-may_choose-clause-grown : goal.returns-then-not-may_choose-clause-grown
 returns-then-not-may_choose-clause-grown c = grown_not c.args.rows.now

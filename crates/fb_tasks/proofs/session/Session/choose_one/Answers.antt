@@ -20,7 +20,7 @@ returns-in_ok-finish-in-Some-clause-chosen c = λ past may. rw c.in_ok-finish-in
     (empty-chosen c.requires.cleans may c.in-Some.segment (choice-step c.requires.cleans may c.in-Some.segment
     (sym c.in-Some.ensures.choice))
     c.choose.new.self c.in-Some.ensures.state (omega (arith, c.count-sectors.ensures.value, c.count-sectors.ensures.bound))
-    c.want_live.new.blocks c.in_ok-want_live-in-Some.ensures.all
+    c.want_live.new.wanted c.in_ok-want_live-in-Some.ensures.all
     c.args.stamp.instant c.args.rows.now c.finish.new.rows c.new.result (sym c.live_count.ensures ∙ c.if-live_count-eq0.true) c.new.ensures
     c.in_ok-finish-in-Some.ensures.row)
 
@@ -28,7 +28,7 @@ pub returns-else-live_count-eq0-clause-chosen : goal.returns-else-live_count-eq0
 returns-else-live_count-eq0-clause-chosen c = λ past may.
     live-chosen c.requires.cleans may c.in-Some.segment (choice-step c.requires.cleans may c.in-Some.segment (sym c.in-Some.ensures.choice))
     c.choose.new.self c.in-Some.ensures.state (omega (arith, c.count-sectors.ensures.value, c.count-sectors.ensures.bound))
-    c.want_live.new.blocks c.in_ok-want_live-in-Some.ensures.all
+    c.want_live.new.wanted c.in_ok-want_live-in-Some.ensures.all
     c.args.stamp.instant c.args.rows.now (omega (arith, c.live_count.ensures, c.if-live_count-eq0.false))
 
 pub returns-in-None-clause-chosen : goal.returns-in-None-clause-chosen
@@ -40,7 +40,7 @@ pub returns-in-None-clause-none : goal.returns-in-None-clause-none
 returns-in-None-clause-none c = λ _ past may. none-step c.requires.cleans may (sym c.in-None.ensures.choice)
 
 pub returns-in-None-clause-own : goal.returns-in-None-clause-own
-returns-in-None-clause-own c = registers_none (λ other. other ≡ c.args.stamp.task) c.args.blocks.now
+returns-in-None-clause-own c = registers_none (λ other. other ≡ c.args.stamp.task) c.args.wanted.now
 
 pub returns-in_ok-finish-in-Some-clause-none : goal.returns-in_ok-finish-in-Some-clause-none
 returns-in_ok-finish-in-Some-clause-none c = λ never. absurd (true≢false never)

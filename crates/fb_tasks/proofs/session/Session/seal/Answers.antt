@@ -33,7 +33,7 @@ pub returns-clause-content : goal.returns-clause-content
 returns-clause-content c = IfOk-weaker c.contents.result
     (λ runs. (end : ℕ) → EndsBy (held_at c.loop-number.self.image) end
     → runs ≡ runs_of (held_in (held_at c.loop-number.self.image) (range_with_len 0 end)))
-    (λ content. (disk : Shape) (past : Past) → HoldsBlocks disk past c.args.blocks.now → Stands (view past c.args.task) c.args.self.now
+    (λ content. (disk : Shape) (past : Past) → HoldsBlocks disk past c.args.wanted.now → Stands (view past c.args.task) c.args.self.now
     → is_open_backup past c.args.task ≡ true → is_complete past c.args.task ≡ true
     → content ≡ found_for (view past c.args.task).work (filter (λ block. is_delivered ((view past c.args.task).bare block))
     (view past c.args.task).blocks))

@@ -6,6 +6,6 @@ use Rattle.fb_tasks.proofs.session.Session.seal.Given as goal
 abbrev pub invariant-loop-number : goal.invariant-loop-number
 invariant-loop-number l = record {
   sealed : IsSealed true l.fn.self l.self;
-  image : (disk : Shape) (past : Past) → HoldsBlocks disk past l.blocks → (lbn : ℕ)
+  image : (disk : Shape) (past : Past) → HoldsBlocks disk past l.wanted → (lbn : ℕ)
       → held_at l.self.image lbn ≡ dropped (view past l.task) lbn (held_at l.fn.self.image lbn) (take l.number (view past l.task).blocks);
 }

@@ -7,7 +7,7 @@ use Rattle.fb_tasks.proofs.session.Session.test.Goals as goal
 
 pub is_complete-complete-requires : goal.is_complete-complete-requires
 is_complete-complete-requires c =
-    counts_small c.requires.1 c.args.task c.args.blocks.now c.counts.result c.counts.ensures c.requires.2.blocks.entries (search rules)
+    counts_small c.requires.1 c.args.task c.args.wanted.now c.counts.result c.counts.ensures c.requires.2.blocks.entries (search rules)
 
 pub returns-clause-tested : goal.returns-clause-tested
 returns-clause-tested c = on_ok_weaker c.add_completion.result (λ pushed disk past may.
@@ -15,7 +15,7 @@ returns-clause-tested c = on_ok_weaker c.add_completion.result (λ pushed disk p
     let mid = c.add_seal.new.self in
     let task = c.args.task in
     let says = c.is_complete-complete.ensures
-    ∙ (ap (complete_by self) c.counts.ensures ∙ done_same past task self c.args.blocks.now may.stands may.at_work may.blocks.entries) in
+    ∙ (ap (complete_by self) c.counts.ensures ∙ done_same past task self c.args.wanted.now may.stands may.at_work may.blocks.entries) in
     let sealed =
     subst (λ b. IsSealed b self mid) (seals_same self c.is_complete-complete.result may.stands says) c.add_seal.ensures.session in
     let after : c.add_completion.new.self ≡ record mid { complete = is_done (view past task).work } =
@@ -34,7 +34,7 @@ returns-clause-tested c = on_ok_weaker c.add_completion.result (λ pushed disk p
 pub returns-clause-err_rows : goal.returns-clause-err_rows
 returns-clause-err_rows c = on_err_weaker c.add_completion.result (λ same disk past may.
     let says = c.is_complete-complete.ensures ∙ (ap (complete_by c.args.self.now) c.counts.ensures
-    ∙ done_same past c.args.task c.args.self.now c.args.blocks.now may.stands may.at_work may.blocks.entries) in
+    ∙ done_same past c.args.task c.args.self.now c.args.wanted.now may.stands may.at_work may.blocks.entries) in
     begun_after (seal_rows_found past c.args.now c.args.task) (c.in_ok-add_seal.ensures.rows disk past may.blocks may.stands
     (says ∙ (seen past c.args.task).done)) (begun_same same)) c.add_completion.ensures.err
 

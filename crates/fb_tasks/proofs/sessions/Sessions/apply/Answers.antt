@@ -4,16 +4,16 @@ use Rattle.fb_tasks.proofs.Rules.{room_for_one, session_there, takes_none}
 use Rattle.fb_tasks.proofs.sessions.Sessions.apply.Goals as goal
 
 pub open-requires : goal.open-requires
-open-requires c = room_for_one c.args.map.now c.requires.0 c.args.self.now c.args.blocks.now c.args.call.now c.requires.1
+open-requires c = room_for_one c.args.map.now c.requires.0 c.args.self.now c.args.wanted.now c.args.call.now c.requires.1
 
 pub add_segment-requires-clause-call : goal.add_segment-requires-clause-call
 add_segment-requires-clause-call c =
-    (c.requires.0, c.args.call.now, c.args.blocks.now, record { task = refl; action = c.in-Segment.is }, c.requires.1)
+    (c.requires.0, c.args.call.now, c.args.wanted.now, record { task = refl; action = c.in-Segment.is }, c.requires.1)
 
 pub returns-in-Open-clause-ok : goal.returns-in-Open-clause-ok
 returns-in-Open-clause-ok c = on_ok_weaker c.open.result (λ says past h. takes_none c.args.map.now
-    past c.args.call.now c.open.new.self c.args.blocks.now (ap (blocks_by c.args.map.now past c.args.call.now.task) c.in-Open.is)
-    (says c.args.map.now past c.args.call.now c.args.blocks.now c.in-Open.is h)) c.open.ensures.ok
+    past c.args.call.now c.open.new.self c.args.wanted.now (ap (blocks_by c.args.map.now past c.args.call.now.task) c.in-Open.is)
+    (says c.args.map.now past c.args.call.now c.args.wanted.now c.in-Open.is h)) c.open.ensures.ok
 
 pub returns-in-Want-clause-ok : goal.returns-in-Want-clause-ok
 returns-in-Want-clause-ok c = on_ok_weaker c.want.result
@@ -25,7 +25,7 @@ returns-in-Want-clause-err_blocks c = on_err_weaker c.want.result
 
 pub returns-in-Abort : goal.returns-in-Abort
 returns-in-Abort c = record {
-  ok = on_ok_weaker c.abort.result (λ says past h. takes_none c.args.map.now past c.args.call.now c.abort.new.self c.abort.new.blocks
+  ok = on_ok_weaker c.abort.result (λ says past h. takes_none c.args.map.now past c.args.call.now c.abort.new.self c.abort.new.wanted
       (ap (blocks_by c.args.map.now past c.args.call.now.task) c.in-Abort.is)
       (says c.args.map.now past c.args.call.now (record { task = refl; action = c.in-Abort.is }) h)) c.abort.ensures.ok;
   err_sessions = on_err_weaker c.abort.result (λ same. same.0) c.abort.ensures.err;
@@ -33,24 +33,24 @@ returns-in-Abort c = record {
 }
 
 pub returns-in-Promote-clause-ok : goal.returns-in-Promote-clause-ok
-returns-in-Promote-clause-ok c = λ past h. takes_none c.args.map.now past c.args.call.now c.args.self.now c.args.blocks.now
+returns-in-Promote-clause-ok c = λ past h. takes_none c.args.map.now past c.args.call.now c.args.self.now c.args.wanted.now
     (ap (blocks_by c.args.map.now past c.args.call.now.task) c.in-Promote.is)
-    (promoted-tells c.args.map.now past c.args.call.now c.in-Promote.first c.in-Promote.count c.args.self.now c.args.blocks.now
+    (promoted-tells c.args.map.now past c.args.call.now c.in-Promote.first c.in-Promote.count c.args.self.now c.args.wanted.now
     c.in-Promote.is h.tells)
 
 pub returns-in-Suspend-clause-ok : goal.returns-in-Suspend-clause-ok
-returns-in-Suspend-clause-ok c = λ past h. takes_none c.args.map.now past c.args.call.now c.suspend.new.self c.suspend.new.blocks
+returns-in-Suspend-clause-ok c = λ past h. takes_none c.args.map.now past c.args.call.now c.suspend.new.self c.suspend.new.wanted
     (ap (blocks_by c.args.map.now past c.args.call.now.task) c.in-Suspend.is)
     (c.suspend.ensures c.args.map.now past c.args.call.now (record { task = refl; action = c.in-Suspend.is }) h.tells)
 
 pub returns-in-Resume-clause-ok : goal.returns-in-Resume-clause-ok
-returns-in-Resume-clause-ok c = λ past h. takes_none c.args.map.now past c.args.call.now c.resume.new.self c.resume.new.blocks
+returns-in-Resume-clause-ok c = λ past h. takes_none c.args.map.now past c.args.call.now c.resume.new.self c.resume.new.wanted
     (ap (blocks_by c.args.map.now past c.args.call.now.task) c.in-Resume.is)
     (c.resume.ensures c.args.map.now past c.args.call.now (record { task = refl; action = c.in-Resume.is }) h.tells)
 
 pub returns-in-Close : goal.returns-in-Close
 returns-in-Close c = record {
-  ok = on_ok_weaker c.close.result (λ says past h. takes_none c.args.map.now past c.args.call.now c.close.new.self c.close.new.blocks
+  ok = on_ok_weaker c.close.result (λ says past h. takes_none c.args.map.now past c.args.call.now c.close.new.self c.close.new.wanted
       (ap (blocks_by c.args.map.now past c.args.call.now.task) c.in-Close.is)
       (says past c.args.call.now (record { task = refl; action = c.in-Close.is }) h.tells)) c.close.ensures.ok;
   err_sessions = on_err_weaker c.close.result (λ same. same.0) c.close.ensures.err;
@@ -59,8 +59,8 @@ returns-in-Close c = record {
 
 pub returns-in-Segment-clause-ok : goal.returns-in-Segment-clause-ok
 returns-in-Segment-clause-ok c = on_ok_weaker c.add_segment.result (λ says past h. takes_none c.args.map.now past c.args.call.now
-    c.add_segment.new.self c.args.blocks.now (ap (blocks_by c.args.map.now past c.args.call.now.task) c.in-Segment.is)
-    (says past c.args.call.now c.args.blocks.now (record { task = refl; action = c.in-Segment.is }) h))
+    c.add_segment.new.self c.args.wanted.now (ap (blocks_by c.args.map.now past c.args.call.now.task) c.in-Segment.is)
+    (says past c.args.call.now c.args.wanted.now (record { task = refl; action = c.in-Segment.is }) h))
     c.add_segment.ensures.ok
 
 pub want-requires-clause-opened : goal.want-requires-clause-opened

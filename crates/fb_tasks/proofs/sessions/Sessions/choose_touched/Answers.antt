@@ -1,4 +1,4 @@
-use Rattle.fb_tasks.proofs.Words.{◌<◌, length, sym, subst, arith, length-set, MayChooseAndTest, OnlyTouched, MayClean}
+use Rattle.fb_tasks.proofs.Words.{◌<◌, length, sym, subst, arith, length-set, MaySettle, OnlyTouched, MayClean}
 use Rattle.fb_tasks.proofs.Leaving.{grown_not, grown_more, registers_none, touched_none, touched_set, chosen_own}
 use Rattle.fb_tasks.proofs.Listed.{listed_set, listed_there, listed_within}
 use Rattle.fb_tasks.proofs.AllChoices.{partly-start, partly-may, partly-more, partly-to, all-chosen, past_at}
@@ -8,10 +8,10 @@ pub loop-task-init : goal.loop-task-init
 loop-task-init c = record {
   kept = c.self.invariant;
   within = omega arith;
-  partly = λ past h. partly-start c.args.map.now past c.self.inside.sessions.items c.args.blocks.now c.args.now c.args.rows.now
-      (subst (λ xs. MayChooseAndTest c.args.map.now past xs c.args.blocks.now) (sym c.self.view_is) h);
+  partly = λ past h. partly-start c.args.map.now past c.self.inside.sessions.items c.args.wanted.now c.args.now c.args.rows.now
+      (subst (λ xs. MaySettle c.args.map.now past xs c.args.wanted.now) (sym c.self.view_is) h);
   stay = subst (OnlyTouched c.args.self.now) (sym c.self.view_is) (touched_none c.args.self.now);
-  own = registers_none (MayClean c.args.self.now) c.args.blocks.now;
+  own = registers_none (MayClean c.args.self.now) c.args.wanted.now;
   grown = grown_not c.args.rows.now;
 }
 
@@ -45,7 +45,7 @@ loop-task-preserved c =
           (rw c.deref.ensures.value at c.in-Some.ensures.first) (inv.partly past h) in
           partly-more there c.choose.ensures.same.1 to (c.in_ok-choose.ensures.chosen _ (partly-may there to));
       stay = touched_set c.args.self.now items n session c.choose.new.self there touched c.choose.ensures.same.0 inv.stay;
-      own = chosen_own c.args.self.now items n session c.args.blocks.now c.loop-task.blocks c.choose.new.blocks there touched inv.stay
+      own = chosen_own c.args.self.now items n session c.args.wanted.now c.loop-task.wanted c.choose.new.wanted there touched inv.stay
           inv.own c.choose.ensures.own c.choose.ensures.idle;
       grown = grown_more c.args.rows.now c.loop-task.rows c.choose.new.rows inv.grown c.choose.ensures.grown;
     }
@@ -60,8 +60,8 @@ pub returns-in_err-choose-clause-stay_blocks : goal.returns-in_err-choose-clause
 returns-in_err-choose-clause-stay_blocks c =
     let inv = c.loop-task.invariant in
     let there = listed_there inv.kept c.in-Some.task c.index_mut.result.now c.in-Some.ensures.found c.index_mut.ensures.value in
-    chosen_own c.args.self.now c.loop-task.self-inside.sessions.items c.in-Some.task c.index_mut.result.now c.args.blocks.now
-    c.loop-task.blocks c.choose.new.blocks there
+    chosen_own c.args.self.now c.loop-task.self-inside.sessions.items c.in-Some.task c.index_mut.result.now c.args.wanted.now
+    c.loop-task.wanted c.choose.new.wanted there
     ((rw c.deref.ensures.value at c.in-Some.ensures.touched) c.index_mut.result.now there) inv.stay inv.own c.choose.ensures.own
     c.choose.ensures.idle
 

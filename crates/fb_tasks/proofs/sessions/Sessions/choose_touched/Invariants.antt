@@ -1,4 +1,4 @@
-use Rattle.fb_tasks.proofs.Words.{◌≤◌, ◌-◌, length, Past, MayChooseAndTest, AreListed, HasGrown, OnlyRegisters, MayClean, OnlyTouched}
+use Rattle.fb_tasks.proofs.Words.{◌≤◌, ◌-◌, length, Past, MaySettle, AreListed, HasGrown, OnlyRegisters, MayClean, OnlyTouched}
 use Rattle.fb_tasks.proofs.AllChoices.{Partly}
 use Rattle.fb_tasks.proofs.sessions.Sessions.choose_touched.Given as goal
 
@@ -7,10 +7,10 @@ abbrev pub invariant-loop-task : goal.invariant-loop-task
 invariant-loop-task l = record {
   kept : AreListed l.self-inside.sessions.items l.self-inside.listed_touched l.self-inside.checked_by_writes;
   within : l.from ≤ length l.self-inside.sessions.items;
-  partly : (past : Past) → MayChooseAndTest l.map past l.fn.self l.initial.blocks
-      → Partly l.map past l.self-inside.sessions.items l.blocks l.now l.initial.rows l.rows l.from;
+  partly : (past : Past) → MaySettle l.map past l.fn.self l.initial.wanted
+      → Partly l.map past l.self-inside.sessions.items l.wanted l.now l.initial.rows l.rows l.from;
   stay : OnlyTouched l.fn.self l.self-inside.sessions.items;
-  own : OnlyRegisters (MayClean l.fn.self) l.initial.blocks l.blocks;
+  own : OnlyRegisters (MayClean l.fn.self) l.initial.wanted l.wanted;
   grown : HasGrown l.initial.rows l.rows;
 }
 

@@ -4,7 +4,7 @@ use Rattle.fb_tasks.proofs.sessions.Sessions.resume.Goals as goal
 
 pub returns : goal.returns
 returns c = λ disk past call is h.
-    resumed-tells disk past call c.self.inside.sessions.items c.args.self.now c.args.task c.index_mut.result.now c.args.blocks.now
+    resumed-tells disk past call c.self.inside.sessions.items c.args.self.now c.args.task c.index_mut.result.now c.args.wanted.now
     c.resume.new.self is c.self.view_is c.requires c.index_mut.ensures.value c.resume.ensures h
 
 pub index_mut-requires : goal.index_mut-requires

@@ -5,7 +5,7 @@ use Rattle.fb_tasks.proofs.sessions.Sessions.rewant_near.Goals as goal
 
 pub loop-listed-init : goal.loop-listed-init
 loop-listed-init c =
-    record { within = omega arith; rewanted = (refl, all_any _ (λ e none. absurd (omega (arith, none))) c.args.blocks.now) }
+    record { within = omega arith; rewanted = (refl, all_any _ (λ e none. absurd (omega (arith, none))) c.args.wanted.now) }
 
 pub next_task_near-task-requires : goal.next_task_near-task-requires
 next_task_near-task-requires c =
@@ -13,11 +13,11 @@ next_task_near-task-requires c =
 
 pub returns-then-task-opened : goal.returns-then-task-opened
 returns-then-task-opened c =
-    all_rewanted c.args.first c.args.count c.args.self.now c.next_task_near-task.result c.args.blocks.now c.loop-listed.blocks
+    all_rewanted c.args.first c.args.count c.args.self.now c.next_task_near-task.result c.args.wanted.now c.loop-listed.wanted
     (omega (arith, c.len-opened.ensures, c.self.inside.sessions.ok.0, ap length c.self.view_is, c.if-task-opened.true))
     (passed c.args.first c.args.count c.args.self.now c.self.view_is c.self.invariant c.loop-listed.from c.in-Some.listed
     c.next_task_near-task.result
-    c.args.blocks.now c.loop-listed.blocks c.in-Some.ensures.first c.next_task_near-task.ensures.others c.loop-listed.invariant.rewanted)
+    c.args.wanted.now c.loop-listed.wanted c.in-Some.ensures.first c.next_task_near-task.ensures.others c.loop-listed.invariant.rewanted)
 
 -- the task that was found is one of those
 listed : (c : Else-task-opened) → c.next_task_near-task.result < length c.args.self.now
@@ -37,17 +37,17 @@ rewant-requires c = listed (goal.at.rewant-requires c).Else-task-opened
 pub loop-listed-preserved : goal.loop-listed-preserved
 loop-listed-preserved c = record {
   within = omega (arith, listed (goal.at.loop-listed-preserved c).Else-task-opened);
-  rewanted = one_rewanted c.args.first c.args.count c.args.self.now c.next_task_near-task.result c.args.blocks.now c.loop-listed.blocks
-      c.rewant.new.blocks
+  rewanted = one_rewanted c.args.first c.args.count c.args.self.now c.next_task_near-task.result c.args.wanted.now c.loop-listed.wanted
+      c.rewant.new.wanted
       c.rewant.ensures (passed c.args.first c.args.count c.args.self.now c.self.view_is c.self.invariant c.loop-listed.from c.in-Some.listed
-      c.next_task_near-task.result c.args.blocks.now c.loop-listed.blocks c.in-Some.ensures.first c.next_task_near-task.ensures.others
+      c.next_task_near-task.result c.args.wanted.now c.loop-listed.wanted c.in-Some.ensures.first c.next_task_near-task.ensures.others
       c.loop-listed.invariant.rewanted);
 }
 
 pub returns : goal.returns
 returns c =
     let n = length c.args.self.now in
-    all_rewanted c.args.first c.args.count c.args.self.now n c.args.blocks.now c.loop-listed.blocks (omega arith)
-    (passed c.args.first c.args.count c.args.self.now c.self.view_is c.self.invariant c.loop-listed.from n n c.args.blocks.now
-    c.loop-listed.blocks
+    all_rewanted c.args.first c.args.count c.args.self.now n c.args.wanted.now c.loop-listed.wanted (omega arith)
+    (passed c.args.first c.args.count c.args.self.now c.self.view_is c.self.invariant c.loop-listed.from n n c.args.wanted.now
+    c.loop-listed.wanted
     (λ k low high. c.in_default.ensures.none k low) (λ k low high. absurd (omega (arith, low, high))) c.loop-listed.invariant.rewanted)

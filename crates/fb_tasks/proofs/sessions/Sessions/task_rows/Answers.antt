@@ -4,7 +4,7 @@ use Rattle.fb_tasks.proofs.{Leaving.begun_counted, Complete.counts_small, Comple
 use Rattle.fb_tasks.proofs.sessions.Sessions.task_rows.Goals as goal
 
 pub is_complete-requires : goal.is_complete-requires
-is_complete-requires c = counts_small c.requires.1 c.loop-task.task c.args.blocks.now c.counts-counts.result c.counts-counts.ensures
+is_complete-requires c = counts_small c.requires.1 c.loop-task.task c.args.wanted.now c.counts-counts.result c.counts-counts.ensures
     c.requires.2.entries (search rules)
 
 pub loop-task-preserved : goal.loop-task-preserved
@@ -16,7 +16,7 @@ loop-task-preserved c = λ disk past h.
     ∙ (slice_get-get_or c.self.inside.sessions.items c.loop-task.task session within ∙ ap Some (sym c.index-session.ensures)) in
     let told = h.each c.loop-task.task session there in
     map_more (task_row past) c.args.rows.now c.loop-task.rows c.push.new.self c.loop-task.task _ (c.loop-task.invariant disk past h)
-    (row_same past c.loop-task.task session c.args.blocks.now c.counts-counts.result c.is_complete.result told.stands told.at_work h.entries
+    (row_same past c.loop-task.task session c.args.wanted.now c.counts-counts.result c.is_complete.result told.stands told.at_work h.entries
     c.counts-counts.ensures c.is_complete.ensures)
     c.in_ok-push.ensures.ok
 

@@ -21,7 +21,7 @@ pub test-requires : goal.test-requires
 test-requires c =
     let inv = c.loop-task.invariant in
     let n = c.in-Some.task in
-    let chosen : HaveChosen c.requires.0 c.requires.1 c.self.inside.sessions.items c.args.blocks.now = rw c.self.view_is c.requires.2 in
+    let chosen : HaveChosen c.requires.0 c.requires.1 c.self.inside.sessions.items c.args.wanted.now = rw c.self.view_is c.requires.2 in
     let there = listed_there inv.kept n c.index_mut-session.result.now c.in-Some.ensures.found c.index_mut-session.ensures.value in
     let to = tested-to c.loop-task.from n c.in-Some.ensures.from
     (omega (arith, listed_within inv.kept n c.in-Some.ensures.found))
@@ -57,7 +57,7 @@ pub returns-clause-tested : goal.returns-clause-tested
 returns-clause-tested c = λ disk past now_chosen.
     let inv = c.loop-task.invariant in
     let items = c.loop-task.self-inside.sessions.items in
-    let chosen : HaveChosen disk past c.self.inside.sessions.items c.args.blocks.now = rw c.self.view_is now_chosen in
+    let chosen : HaveChosen disk past c.self.inside.sessions.items c.args.wanted.now = rw c.self.view_is now_chosen in
     let is = tested-to c.loop-task.from (length items) inv.within (omega arith)
     (λ k s low high. (rw c.deref.ensures.value at c.in_default.ensures.none) k s low) chosen (inv.tested disk past chosen) in
     all-tested chosen is

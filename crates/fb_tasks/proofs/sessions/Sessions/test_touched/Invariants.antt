@@ -9,7 +9,7 @@ invariant-loop-task l = record {
   within : l.from ≤ length l.self-inside.sessions.items;
   stay : OnlyTouched l.fn.self l.self-inside.sessions.items;
   grown : HasGrown l.initial.rows l.rows;
-  tested : (disk : Shape) (past : Past) → HaveChosen disk past l.initial.self-inside.sessions.items l.blocks
+  tested : (disk : Shape) (past : Past) → HaveChosen disk past l.initial.self-inside.sessions.items l.wanted
       → AreTested past l.initial.self-inside.sessions.items l.self-inside.sessions.items l.now l.initial.rows l.rows l.from;
 }
 

@@ -2,4 +2,4 @@ use Rattle.std.proofs.Common.{arith}
 use Rattle.fb_top.proofs.array_text.CopyLinesLines.count.Goals as goal
 
 pub returns-clause-ends : goal.returns-clause-ends
-returns-clause-ends c = omega (arith, c.copy_line_count.ensures 0)
+returns-clause-ends c = omega (arith, c.copy_pieces.ensures 0)

@@ -5,13 +5,13 @@ use Rattle.fb_report.specs.Printed.{IsLine, is_in_place}
 use Rattle.fb_top.proofs.Counted.{back_counted}
 use Rattle.fb_top.proofs.lines.BackLinesLines.line.Goals as goal
 
-pub back_line_at-requires-clause-line : goal.back_line_at-requires-clause-line
-back_line_at-requires-clause-line c = let lines = c.args.self.now in
+pub back_piece-requires-clause-line : goal.back_piece-requires-clause-line
+back_piece-requires-clause-line c = let lines = c.args.self.now in
     omega (arith, c.requires.inside, back_counted lines.names.now lines.sector_bytes lines.bytes lines.run.now)
 
 pub returns-clause-form : goal.returns-clause-form
 returns-clause-form c =
     let lines = c.args.self.now in
-    IfOk-weaker c.back_line_at.result _ _
+    IfOk-weaker c.back_piece.result _ _
     (λ line form can. subst (λ n. IsLine (is_in_place back_grammar n c.args.index) line.items)
-    (sym (back_counted lines.names.now lines.sector_bytes lines.bytes lines.run.now)) (form can.0 can.1 can.2)) c.back_line_at.ensures.form
+    (sym (back_counted lines.names.now lines.sector_bytes lines.bytes lines.run.now)) (form can.0 can.1 can.2)) c.back_piece.ensures.form

@@ -2,4 +2,4 @@ use Rattle.std.proofs.Common.{arith}
 use Rattle.fb_top.proofs.spill_text.SpillLinesLines.count.Goals as goal
 
 pub returns-clause-ends : goal.returns-clause-ends
-returns-clause-ends c = omega (arith, c.spill_line_count.ensures.value)
+returns-clause-ends c = omega (arith, c.spill_pieces.ensures.value)

@@ -1,7 +1,0 @@
-use Rattle.std.proofs.Common.{arith}
-use Rattle.fb_script.proofs.Cuttings.{at_least}
-use Rattle.fb_script.proofs.blocks.count_cuts.Goals as goal
-
-pub returns-then-count-block : goal.returns-then-count-block
-returns-then-count-block c =
-    omega (arith, c.if-count-block.true, at_least c.args.map.now c.args.block c.requires.block c.args.first c.args.count)

@@ -1,6 +1,0 @@
-use Rattle.std.proofs.Common.{◌≡◌, take}
-use Rattle.fb_script.specs.Live.{bits}
-use Rattle.fb_script.proofs.live_digits.read_live.Given as goal
-
-abbrev pub invariant-loop-block : goal.invariant-loop-block
-invariant-loop-block l = l.live ≡ take l.block (bits l.digits)

@@ -1,6 +1,0 @@
-use Rattle.std.proofs.Common.{subst}
-use Rattle.fb_wanted.specs.Numbering.{AreInOrder, blocks_of}
-use Rattle.fb_wanted.proofs.blocks.Blocks.numbered_in_order.Goals as goal
-
-pub returns : goal.returns
-returns c = subst (λ es. AreInOrder (blocks_of es)) c.self.view_is c.self.invariant.0.in_order
