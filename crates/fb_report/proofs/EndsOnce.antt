@@ -1,21 +1,14 @@
 -- The end line is the only line that begins like it.
 use Rattle.std.proofs.lemmas.Option.{same_Some}
 use Rattle.fb_units.proofs.Lists.{all_push, all_weaker, all_get, get_left, get_right}
-use Rattle.fb_report.proofs.Words.{and_parts, ◌≡◌, ℕ, suc, ◌+◌, ◌≤◌, List, [], ◌∷◌, ◌++◌, ◌⊎◌, inl, inr, length, true, false, refl, sym, ap}
+use Rattle.fb_report.proofs.Words.{and_parts, ◌≡◌, ℕ, ◌+◌, ◌<◌, ◌≤◌, List, [], ◌∷◌, ◌++◌, ◌⊎◌, inl, inr, length, true, false, refl, sym, ap}
 use Rattle.fb_report.proofs.Words.{◌∙◌, arith, lit≤, true≢false, subst, length-append, Ok, ◌==◌, ◌&&◌, codes, slice_get}
 use Rattle.fb_report.proofs.Words.{AllByRecursion, onto_first, list_any, bytes_eq, cases_Bool, Decides-eqb, slice_split-cons_yes}
-use Rattle.fb_report.proofs.Words.{slice_split-cons_no, Grammar, Form, fore_grammar, back_grammar, have_forms, is_line_of, is_word}
+use Rattle.fb_report.proofs.Words.{slice_split-cons_no, Grammar, LineFields, Form, spelled, ended, fore_grammar, back_grammar, have_forms, is_line_of, is_word}
 use Rattle.fb_report.proofs.Words.{report_fields, may_follow, may_end, lines_behind, BeginsLikeEnd, EndsOnce, ReportsEndOnce}
-use Rattle.fb_report.proofs.{Whole.row_or_end}
+use Rattle.fb_report.proofs.{Behind.spelled_again, Rows.as_many, Whole.row_or_end}
 
 -- ---- forms of a line
-
--- there are as many fields as forms
-as_many : (forms : List Form) (fields : List (List ℕ)) → have_forms forms fields ≡ true → length fields ≡ length forms
-as_many [] [] h = refl
-as_many [] (field ∷ fields) h = absurd (cc)
-as_many (form ∷ forms) [] h = absurd (cc)
-as_many (form ∷ forms) (field ∷ fields) h = ap suc (as_many forms fields (and_parts (form field) (have_forms forms fields) h).1)
 
 -- the first byte of a line is that of its first field
 onto_begins : (byte : ℕ) (parts : List (List ℕ))
@@ -32,9 +25,13 @@ pub record IsPlain (forms : List Form) : Type 0 where
   pub few : length forms ≤ 16
 
 -- a row or a first line
-pub record IsPlainLine (line : List ℕ) : Type 0 where
-  pub unlike : BeginsLikeEnd line → ⊥
-  pub few : length (report_fields line) ≤ 16
+pub record IsPlainLine (line : LineFields) : Type 0 where
+  pub unlike : BeginsLikeEnd (spelled line) → ⊥
+  pub few : length line ≤ 16
+
+unended : (line : List ℕ) → BeginsLikeEnd (ended line) → BeginsLikeEnd line
+unended [] begins = absurd (let e = begins.1 in cc)
+unended (byte ∷ bytes) begins = (bytes, (let e = begins.1 in cc))
 
 refused : (forms : List Form) → IsPlain forms → (rest : List ℕ) → is_line_of forms (101 ∷ rest) ≡ true → ⊥
 refused forms plain rest h =
@@ -45,15 +42,16 @@ refused forms plain rest h =
     sym (ap (λ forms. have_forms forms ((101 ∷ begins.0) ∷ begins.1)) plain.is) ∙ (sym (ap (have_forms forms) fields) ∙ h) in
     true≢false (sym (and_parts (plain.first (101 ∷ begins.0)) (have_forms plain.others begins.1) first).0 ∙ plain.refuses begins.0)
 
-plain_line : (forms : List Form) → IsPlain forms → (line : List ℕ) → is_line_of forms line ≡ true → IsPlainLine line
+plain_line : (forms : List Form) → IsPlain forms → (line : List ℕ) → is_line_of forms line ≡ true → IsPlainLine (report_fields line)
 plain_line forms plain line h = record {
-  unlike = λ begins. refused forms plain begins.0 (subst (λ line. is_line_of forms line ≡ true) begins.1 h);
+  unlike = λ like. let begins = unended line (subst BeginsLikeEnd (spelled_again line) like) in
+      refused forms plain begins.0 (subst (λ line. is_line_of forms line ≡ true) begins.1 h);
   few = omega (arith, as_many forms (report_fields line) h, plain.few);
 }
 
 -- one of the rows
 row_line : (rows : List (List Form)) → AllByRecursion IsPlain rows → (line : List ℕ) → list_any (λ forms. is_line_of forms line) rows ≡ true
-    → IsPlainLine line
+    → IsPlainLine (report_fields line)
 row_line [] plain line h = absurd (cc)
 row_line (row ∷ rows) plain line h = elim (cases_Bool (is_line_of row line)) [
   | inl is ↦ plain_line row plain.0 line is
@@ -68,9 +66,9 @@ pub record IsEndForms (forms : List Form) : Type 0 where
   pub is : forms ≡ is_word (codes "end") ∷ others
   pub few : length forms ≤ 16
 
-pub record IsEndLine (line : List ℕ) : Type 0 where
-  pub begins : BeginsLikeEnd line
-  pub few : length (report_fields line) ≤ 16
+pub record IsEndLine (line : LineFields) : Type 0 where
+  pub begins : BeginsLikeEnd (spelled line)
+  pub few : length line ≤ 16
 
 word_begins : (field : List ℕ) → is_word (codes "end") field ≡ true → (bytes : List ℕ) × (field ≡ 101 ∷ bytes)
 word_begins [] h = absurd (cc)
@@ -103,11 +101,12 @@ has_word others (field ∷ more) h =
     let word = word_begins field (and_parts (is_word (codes "end") field) (have_forms others more) h).0 in
     (word.0, more, ap (λ field. field ∷ more) word.1)
 
-end_line : (forms : List Form) → IsEndForms forms → (line : List ℕ) → is_line_of forms line ≡ true → IsEndLine line
+end_line : (forms : List Form) → IsEndForms forms → (line : List ℕ) → is_line_of forms line ≡ true → IsEndLine (report_fields line)
 end_line forms ends line h =
     let word = has_word ends.others (report_fields line) (sym (ap (λ forms. have_forms forms (report_fields line)) ends.is) ∙ h) in
     record {
-      begins = line_begins line 101 word.0 word.1 word.2;
+      begins = let first = line_begins line 101 word.0 word.1 word.2 in
+          subst BeginsLikeEnd (sym (spelled_again line)) (first.0 ++ 10 ∷ [], ap ended first.1);
       few = omega (arith, as_many forms (report_fields line) h, ends.few);
     }
 
@@ -120,51 +119,51 @@ pub record EndsByWord (grammar : Grammar) : Type 0 where
   pub last : IsEndForms grammar.last
 
 -- plain lines and an end line behind them
-pub record AreEnded (lines : List (List ℕ)) : Type 0 where
-  pub front : List (List ℕ)
-  pub last : List ℕ
+pub record AreEnded (lines : List LineFields) : Type 0 where
+  pub front : List LineFields
+  pub last : LineFields
   pub is : lines ≡ front ++ last ∷ []
   pub plain : AllByRecursion IsPlainLine front
   pub end : IsEndLine last
 
 module _ (grammar : Grammar) (by_word : EndsByWord grammar) where
-  follower : (lines : List (List ℕ)) (line : List ℕ) → may_follow grammar lines line ≡ true → IsPlainLine line
+  follower : (lines : List LineFields) (line : List ℕ) → may_follow grammar lines (report_fields line) ≡ true → IsPlainLine (report_fields line)
   follower [] line h = plain_line grammar.first by_word.first line h
   follower (first ∷ rows) line h = row_line grammar.rows by_word.rows line h
 
-  ender : (lines : List (List ℕ)) (line : List ℕ) → may_end grammar lines line ≡ true → IsEndLine line
+  ender : (lines : List LineFields) (line : List ℕ) → may_end grammar lines (report_fields line) ≡ true → IsEndLine (report_fields line)
   ender [] line h = absurd (cc)
   ender (first ∷ rows) line h = end_line grammar.last by_word.last line h
 
-  are_ended : (lines parts all : List (List ℕ)) → AllByRecursion IsPlainLine lines → lines_behind grammar lines parts ≡ Ok all
+  are_ended : (lines : List LineFields) (parts : List (List ℕ)) (all : List LineFields) → AllByRecursion IsPlainLine lines → lines_behind grammar lines parts ≡ Ok all
       → AreEnded all
   unfolding lines_behind
   are_ended lines [] all plain h = absurd (cc)
   are_ended lines (rest ∷ []) all plain h = absurd (cc)
   are_ended lines (line ∷ next ∷ parts) all plain h = elim (row_or_end grammar lines line next parts all h) [
-    | inl row ↦ are_ended (lines ++ line ∷ []) (next
-        ∷ parts) all (all_push IsPlainLine lines line plain (follower lines line row.follows)) row.others
-    | inr end ↦ record { front = lines; last = line; is = end.whole; plain = plain; end = ender lines line end.ends }
+    | inl row ↦ are_ended (lines ++ report_fields line ∷ []) (next ∷ parts) all
+        (all_push IsPlainLine lines (report_fields line) plain (follower lines line row.follows)) row.others
+    | inr end ↦ record { front = lines; last = report_fields line; is = end.whole; plain = plain; end = ender lines line end.ends }
   ]
 
-ends_once : (lines : List (List ℕ)) → AreEnded lines → EndsOnce lines
-ends_once lines ended =
-    let front = ended.front in
-    let last = ended.last in
-    let count : length lines ≡ length front + 1 = ap length ended.is ∙ length-append front (last ∷ []) in
+ends_once : (lines : List LineFields) → AreEnded lines → EndsOnce lines
+ends_once lines are =
+    let front = are.front in
+    let last = are.last in
+    let count : length lines ≡ length front + 1 = ap length are.is ∙ length-append front (last ∷ []) in
     record {
       some = omega arith;
       last = λ line index at found.
           let same : last ≡ line = same_Some last line
-          (sym (ap (λ lines. slice_get lines index) ended.is ∙ get_right front (last ∷ []) 0 index (omega arith)) ∙ found) in
-          subst BeginsLikeEnd same ended.end.begins;
+          (sym (ap (λ lines. slice_get lines index) are.is ∙ get_right front (last ∷ []) 0 index (omega arith)) ∙ found) in
+          subst (λ line. BeginsLikeEnd (spelled line)) same are.end.begins;
       others = λ line index before found.
-          (all_get IsPlainLine front index line ended.plain
-          (sym (ap (λ lines. slice_get lines index) ended.is ∙ get_left front (last ∷ []) index (omega arith)) ∙ found)).unlike;
-      few = let P : List (List ℕ) → Type 0 = AllByRecursion (λ line. length (report_fields line) ≤ 16) in
-          subst P (sym ended.is)
-          (all_push (λ line. length (report_fields line) ≤ 16) front last
-          (all_weaker IsPlainLine (λ line. length (report_fields line) ≤ 16) (λ line plain. plain.few) front ended.plain) ended.end.few);
+          (all_get IsPlainLine front index line are.plain
+          (sym (ap (λ lines. slice_get lines index) are.is ∙ get_left front (last ∷ []) index (omega arith)) ∙ found)).unlike;
+      few = let P : List LineFields → Type 0 = AllByRecursion (λ line. length line ≤ 16) in
+          subst P (sym are.is)
+          (all_push (λ line. length line ≤ 16) front last
+          (all_weaker IsPlainLine (λ line. length line ≤ 16) (λ line plain. plain.few) front are.plain) are.end.few);
     }
 
 -- ---- the two grammars
@@ -210,6 +209,21 @@ by_word grammar known = elim known [
   | inl fore ↦ subst EndsByWord (sym fore) fore_by_word
   | inr back ↦ subst EndsByWord (sym back) back_by_word
 ]
+
+-- a line with more fields is in no report
+module _ (grammar : Grammar) (known : (grammar ≡ fore_grammar) ⊎ (grammar ≡ back_grammar)) (lines : List LineFields) (line : List ℕ)
+    (many : 16 < length (report_fields line)) where
+  pub follows_none : may_follow grammar lines (report_fields line) ≡ false
+  follows_none = elim (cases_Bool (may_follow grammar lines (report_fields line))) [
+    | inl is ↦ absurd (omega (arith, many, (follower grammar (by_word grammar known) lines line is).few))
+    | inr other ↦ other
+  ]
+
+  pub ends_none : may_end grammar lines (report_fields line) ≡ false
+  ends_none = elim (cases_Bool (may_end grammar lines (report_fields line))) [
+    | inl is ↦ absurd (omega (arith, many, (ender grammar (by_word grammar known) lines line is).few))
+    | inr other ↦ other
+  ]
 
 pub reports_end_once : ReportsEndOnce
 reports_end_once grammar lines known report = ends_once lines (are_ended grammar (by_word grammar known) [] _ lines tt report)

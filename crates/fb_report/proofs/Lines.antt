@@ -1,6 +1,7 @@
 -- The lines of a report: a first one, one for each row in order, and a last one.
-use Rattle.fb_units.proofs.Lists.{get_left, get_right}
-use Rattle.fb_report.proofs.Words.{◌≡◌, ℕ, suc, ◌+◌, ◌-◌, ◌<◌, List, [], ◌∷◌, ◌++◌, length, map, refl, ap, ◌∙◌, arith}
+use Rattle.fb_units.proofs.Lists.{drop_at, get_left, get_right}
+use Rattle.fb_report.proofs.Words.{◌≡◌, ℕ, suc, ◌+◌, ◌-◌, ◌<◌, ◌≤◌, List, [], ◌∷◌, ◌++◌, length, map, refl, sym, ap, ◌∙◌, arith}
+use Rattle.fb_report.proofs.Words.{append_assoc, append-nil, drop, drop_all, flat_map}
 use Rattle.fb_report.proofs.Words.{Some, slice_get, option_map, length-map, slice_get-map, slice_get_within}
 use Rattle.fb_report.proofs.Words.{Bytes, fore_line, fore_first, fore_last, fore_lines, back_line, back_first, back_last, back_lines}
 use Rattle.std.proofs.lemmas.List.{length-append}
@@ -41,3 +42,17 @@ pub back_are : (names : List (List ℕ)) (size : ℕ) (bytes : Bytes) (run : Run
     → AreLines back_first (back_line names size bytes) run.back (back_last run.end) (back_lines names size bytes run)
 unfolding back_lines
 back_are names size bytes run = record { are = refl }
+
+-- a text that has the lines before an index goes on with the line there, and ends behind the last
+module _ (lines : List (List ℕ)) (k : ℕ) (now whole : List ℕ) (so_far : now ++ flat_map (λ line. line) (drop k lines) ≡ whole) where
+  pub text_more : (line new : List ℕ) → slice_get lines k ≡ Some line → new ≡ now ++ line
+      → new ++ flat_map (λ line. line) (drop (k + 1) lines) ≡ whole
+  text_more line new at is =
+      let rest = flat_map (λ line. line) (drop (k + 1) lines) in
+      ap (λ text. text ++ rest) is
+      ∙ append_assoc now line rest
+      ∙ sym (ap (λ lines. now ++ flat_map (λ line. line) lines) (drop_at lines k line at))
+      ∙ so_far
+
+  pub text_ends : length lines ≤ k → now ≡ whole
+  text_ends past = sym (append-nil now) ∙ sym (ap (λ lines. now ++ flat_map (λ line. line) lines) (drop_all k lines past)) ∙ so_far

@@ -2,9 +2,9 @@
 use Rattle.fb_report.proofs.Words.{and_parts, or_parts, not-true, ◌≡◌, ℕ, suc, ◌+◌, ◌≤◌, ◌<◌, List, [], ◌∷◌, ◌++◌, length, map, Bool, true}
 use Rattle.fb_report.proofs.Words.{false, refl, sym, ap, ◌∙◌, arith, append_assoc, Some, Ok, ◌==◌, not, slice_get, flat_map, list_any}
 use Rattle.fb_report.proofs.Words.{slice_split, nat_tests, length-slice_split, Grammar, is_line_of, may_follow, may_end, lines_behind}
-use Rattle.fb_report.proofs.Words.{ended, IsLine, is_row, is_last, is_in_place, PrintedAreReadBack}
+use Rattle.fb_report.proofs.Words.{LineFields, ended, report_fields, spelled, IsLine, is_row, is_last, is_in_place, PrintedAreReadBack}
 use Rattle.std.proofs.lemmas.List.{length-append}
-use Rattle.fb_report.proofs.Behind.{row_read}
+use Rattle.fb_report.proofs.Behind.{row_read, spelled_again}
 
 -- the first part of a text ends at the first byte that passes
 pub split_at : (p : ℕ → Bool) (xs : List ℕ) (y : ℕ) (ys : List ℕ) → list_any p xs ≡ false → p y ≡ true
@@ -29,19 +29,20 @@ feed_at part rest whole = ap (slice_split feed) (append_assoc part (10 ∷ []) r
 
 module _ (grammar : Grammar) where
   -- a line that ends the report
-  stops : (before : List (List ℕ)) (line : List ℕ) → may_follow grammar before line ≡ false → may_end grammar before line ≡ true
-      → lines_behind grammar before (line ∷ [] ∷ []) ≡ Ok (before ++ line ∷ [])
+  stops : (before : List LineFields) (line : List ℕ) → may_follow grammar before (report_fields line) ≡ false
+      → may_end grammar before (report_fields line) ≡ true
+      → lines_behind grammar before (line ∷ [] ∷ []) ≡ Ok (before ++ report_fields line ∷ [])
   unfolding lines_behind
   stops before line row last = rw (row, last) refl
 
   -- the lines from an index on, with those before it
-  pub record IsReadOn (before lines : List (List ℕ)) : Type 0 where
-    pub parts : List (List ℕ)
-    pub are : map ended parts ≡ lines
+  pub record IsReadOn (before : List LineFields) (lines : List (List ℕ)) : Type 0 where
+    pub parts : List LineFields
+    pub are : map spelled parts ≡ lines
     pub read : lines_behind grammar before (slice_split feed (flat_map (λ line. line) lines)) ≡ Ok (before ++ parts)
 
   -- a line with its line feed, in front of others
-  joined : (before lines : List (List ℕ)) (line part : List ℕ) → line ≡ ended part → list_any feed part ≡ false
+  joined : (before : List LineFields) (lines : List (List ℕ)) (line part : List ℕ) → line ≡ ended part → list_any feed part ≡ false
       → lines_behind grammar before (slice_split feed (flat_map (λ x. x) (line ∷ lines)))
       ≡ lines_behind grammar before (part ∷ slice_split feed (flat_map (λ x. x) lines))
   joined before lines line part is whole =
@@ -58,35 +59,35 @@ module _ (grammar : Grammar) where
       let both = and_parts (is_line_of grammar.last line) (not (is_row grammar line)) last in
       (both.0, not-true (is_row grammar line) both.1)
 
-  row_is : (line : List ℕ) (many index : ℕ) (before : List (List ℕ)) → index + 2 ≤ many → length before ≡ index
-      → is_in_place grammar many index line ≡ true → may_follow grammar before line ≡ true
+  row_is : (line : List ℕ) (many index : ℕ) (before : List LineFields) → index + 2 ≤ many → length before ≡ index
+      → is_in_place grammar many index line ≡ true → may_follow grammar before (report_fields line) ≡ true
   row_is line many index [] inside e is = let here : (index == 0) ≡ true = grind (arith, nat_tests) in rw here at is
   row_is line many index (first ∷ rows) inside e is =
       let later : (index == 0) ≡ false = grind (arith, nat_tests) in
       let more : (index + 1 == many) ≡ false = grind (arith, nat_tests) in
       rw (later, more) at is
 
-  no_row : (before : List (List ℕ)) (line : List ℕ) → 0 < length before → (is_line_of grammar.last line ≡ true)
-      × (is_row grammar line ≡ false) → (may_follow grammar before line ≡ false) × (may_end grammar before line ≡ true)
+  no_row : (before : List LineFields) (line : List ℕ) → 0 < length before → (is_line_of grammar.last line ≡ true)
+      × (is_row grammar line ≡ false) → (may_follow grammar before (report_fields line) ≡ false) × (may_end grammar before (report_fields line) ≡ true)
   no_row [] line some is = absurd (omega arith)
   no_row (first ∷ rows) line some is = (is.1, is.0)
 
   -- one line more is read
-  read_more : (test : List ℕ → Bool) (before lines : List (List ℕ)) (line : List ℕ) (this : IsLine test line)
-      → may_follow grammar before this.part ≡ true
-      → IsReadOn (before ++ this.part ∷ []) lines → IsReadOn before (line ∷ lines)
+  read_more : (test : List ℕ → Bool) (before : List LineFields) (lines : List (List ℕ)) (line : List ℕ) (this : IsLine test line)
+      → may_follow grammar before (report_fields this.part) ≡ true
+      → IsReadOn (before ++ report_fields this.part ∷ []) lines → IsReadOn before (line ∷ lines)
   read_more test before lines line this follows later =
       let rest = slice_split feed (flat_map (λ x. x) lines) in
       record {
-        parts = this.part ∷ later.parts;
-        are = rw later.are (ap (λ x. x ∷ lines) (sym this.is_ended));
+        parts = report_fields this.part ∷ later.parts;
+        are = rw later.are (ap (λ x. x ∷ lines) (spelled_again this.part ∙ sym this.is_ended));
         read = joined before lines line this.part this.is_ended this.whole
             ∙ row_read grammar before this.part rest (omega (arith, length-slice_split feed (flat_map (λ x. x) lines))) follows
-            ∙ later.read ∙ ap Ok (append_assoc before (this.part ∷ []) later.parts);
+            ∙ later.read ∙ ap Ok (append_assoc before (report_fields this.part ∷ []) later.parts);
       }
 
   -- the rest is read behind the lines before it
-  read_on : (many index : ℕ) (before lines : List (List ℕ)) → 2 ≤ many → length before ≡ index → index + length lines ≡ many
+  read_on : (many index : ℕ) (before : List LineFields) (lines : List (List ℕ)) → 2 ≤ many → length before ≡ index → index + length lines ≡ many
       → 0 < length lines
       → ((k at : ℕ) (line : List ℕ) → at ≡ index + k → slice_get lines k ≡ Some line → IsLine (is_in_place grammar many at) line)
       → IsReadOn before lines
@@ -95,15 +96,15 @@ module _ (grammar : Grammar) where
       let this = h 0 index line (omega arith) refl in
       let last = no_row before this.part (omega arith) (last_is this.part many index ends (omega arith) this.passes) in
       record {
-        parts = this.part ∷ [];
-        are = ap (λ x. x ∷ []) (sym this.is_ended);
+        parts = report_fields this.part ∷ [];
+        are = ap (λ x. x ∷ []) (spelled_again this.part ∙ sym this.is_ended);
         read = joined before [] line this.part this.is_ended this.whole ∙ stops before this.part last.0 last.1;
       }
   read_on many index before (line ∷ next ∷ lines) ends e all some h =
       let this = h 0 index line (omega arith) refl in
       read_more (is_in_place grammar many index) before (next ∷ lines) line this
       (row_is this.part many index before (omega arith) e this.passes)
-      (read_on many (index + 1) (before ++ this.part ∷ []) (next ∷ lines) ends (omega (arith, length-append before (this.part ∷ [])))
+      (read_on many (index + 1) (before ++ report_fields this.part ∷ []) (next ∷ lines) ends (omega (arith, length-append before (report_fields this.part ∷ [])))
       (omega arith) (omega arith)
       (λ k at line same is. h (suc k) at line (omega arith) is))
 

@@ -2,7 +2,7 @@
 use Rattle.std.specs.Prelude.{ℕ, ◌+◌, ◌^◌, List, [], ◌∷◌, ◌++◌, length, replicate, Bool, true, false, not, ◌&&◌, ◌||◌, ◌==◌, nat_le, nat_lt}
 use Rattle.std.specs.Prelude.{Result, Ok, Err, codes, if◌then◌else◌}
 use Rattle.std.specs.Char.{is_ascii_digit}
-use Rattle.std.specs.List.{after_first, before_first, list_all, list_any, slice_split}
+use Rattle.std.specs.List.{after_first, before_first, join_with_byte, list_all, list_any, slice_split}
 use Rattle.std.specs.Str.{bytes_eq}
 use Rattle.fb_units.specs.Numbers.{are_digits, digits_after}
 use Rattle.fb_script.specs.Names.{is_name}
@@ -60,8 +60,12 @@ have_forms [] (field ∷ fields) = false
 have_forms (form ∷ forms) [] = false
 have_forms (form ∷ forms) (field ∷ fields) = form field && have_forms forms fields
 
+-- the fields of a line
+abbrev pub LineFields : Type 0
+LineFields = List (List ℕ)
+
 -- what is between the spaces of a line
-abbrev pub report_fields : List ℕ → List (List ℕ)
+abbrev pub report_fields : List ℕ → LineFields
 report_fields line = slice_split (λ byte. byte == 32) line
 
 abbrev pub is_line_of : List Form → List ℕ → Bool
@@ -110,41 +114,45 @@ back_grammar = record {
 -- ---- reports
 
 -- the line may stand behind these: the first line stands at the front, and rows behind it
-abbrev pub may_follow : Grammar → List (List ℕ) → List ℕ → Bool
-may_follow grammar [] line = is_line_of grammar.first line
-may_follow grammar (first ∷ rows) line = list_any (λ forms. is_line_of forms line) grammar.rows
+abbrev pub may_follow : Grammar → List LineFields → LineFields → Bool
+may_follow grammar [] line = have_forms grammar.first line
+may_follow grammar (first ∷ rows) line = list_any (λ forms. have_forms forms line) grammar.rows
 
 -- the line may end a report that begins with these
-abbrev pub may_end : Grammar → List (List ℕ) → List ℕ → Bool
+abbrev pub may_end : Grammar → List LineFields → LineFields → Bool
 may_end grammar [] line = false
-may_end grammar (first ∷ rows) line = is_line_of grammar.last line
+may_end grammar (first ∷ rows) line = have_forms grammar.last line
 
 -- a report that ends with this line: nothing stands behind its line feed; else this line is out of its place, or the rest without a line
 -- feed is
-abbrev pub ended_with : List (List ℕ) → List ℕ → List (List ℕ) → Result (List (List ℕ)) ℕ
+abbrev pub ended_with : List LineFields → LineFields → List (List ℕ) → Result (List LineFields) ℕ
 ended_with lines line [] = Ok (lines ++ line ∷ [])
 ended_with lines line ([] ∷ []) = Ok (lines ++ line ∷ [])
 ended_with lines line ((byte ∷ bytes) ∷ []) = Err (length lines + 2)
 ended_with lines line (next ∷ other ∷ parts) = Err (length lines + 1)
 
 -- the lines so far and then this one, with what is read behind it if it is a row
-abbrev pub with_line : Grammar → List (List ℕ) → List ℕ → List (List ℕ) → Result (List (List ℕ)) ℕ → Result (List (List ℕ)) ℕ
+abbrev pub with_line : Grammar → List LineFields → LineFields → List (List ℕ) → Result (List LineFields) ℕ → Result (List LineFields) ℕ
 with_line grammar lines line parts later =
     if may_follow grammar lines line then later
     else if may_end grammar lines line then ended_with lines line parts
     else Err (length lines + 1)
 
 -- the lines so far, and then those of the parts between line feeds, of which the last part is no line
-unfoldable pub lines_behind : Grammar → List (List ℕ) → List (List ℕ) → Result (List (List ℕ)) ℕ
+unfoldable pub lines_behind : Grammar → List LineFields → List (List ℕ) → Result (List LineFields) ℕ
 lines_behind grammar lines [] = Err (length lines + 1)
 lines_behind grammar lines (rest ∷ []) = Err (length lines + 1)
 lines_behind grammar lines (line ∷ next ∷ parts) =
-    with_line grammar lines line (next ∷ parts) (lines_behind grammar (lines ++ line ∷ []) (next ∷ parts))
+    with_line grammar lines (report_fields line) (next ∷ parts) (lines_behind grammar (lines ++ report_fields line ∷ []) (next ∷ parts))
 
--- the lines of a report, each without its line feed; or the number, from 1, of the first that isn't in its place
-abbrev pub report_of : Grammar → List ℕ → Result (List (List ℕ)) ℕ
+-- the lines of a report, each as its fields; or the number, from 1, of the first that isn't in its place
+abbrev pub report_of : Grammar → List ℕ → Result (List LineFields) ℕ
 report_of grammar text = lines_behind grammar [] (slice_split (λ byte. byte == 10) text)
 
 -- a line with its line feed
 abbrev pub ended : List ℕ → List ℕ
 ended line = line ++ 10 ∷ []
+
+-- fields as a line: a space between each two, and a line feed at the end
+abbrev pub spelled : LineFields → List ℕ
+spelled fields = ended (join_with_byte 32 fields)

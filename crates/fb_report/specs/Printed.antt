@@ -7,7 +7,7 @@ use Rattle.fb_script.specs.Names.{is_name}
 use Rattle.fb_rows.specs.declared.fore.ForeRow.{ForeRow}
 use Rattle.fb_rows.specs.declared.back.BackRow.{BackRow}
 use Rattle.fb_rows.specs.declared.back.BackRow.TheVariants.{Gap, Idle, Got, Bad, Seal, Segment, Complete, Task}
-use Rattle.fb_report.specs.Grammar.{Grammar, Form, is_line_of, report_of, ended}
+use Rattle.fb_report.specs.Grammar.{Grammar, Form, LineFields, is_line_of, report_of, ended, spelled}
 
 -- ---- fields
 
@@ -61,10 +61,10 @@ pub record IsPrinted (grammar : Grammar) (lines : List (List ℕ)) : Type 0 wher
   pub ends : 2 ≤ length lines
   pub in_place : (index : ℕ) (line : List ℕ) → slice_get lines index ≡ Some line → IsLine (is_in_place grammar (length lines) index) line
 
--- the reader accepts these lines one after another, and gives each without its line feed
+-- the reader accepts these lines one after another, and gives each as its fields
 pub record IsReadBack (grammar : Grammar) (lines : List (List ℕ)) : Type 0 where
-  pub parts : List (List ℕ)
-  pub are : map ended parts ≡ lines
+  pub parts : List LineFields
+  pub are : map spelled parts ≡ lines
   pub read : report_of grammar (flat_map (λ line. line) lines) ≡ Ok parts
 
 abbrev pub PrintedAreReadBack : Type 0

@@ -3,7 +3,7 @@ ghost use Rattle.std.specs.Prelude.{◌≡◌, ℕ, ◌+◌, ◌%◌, ◌<◌, [
 ghost use Rattle.std.specs.List.{AllByRecursion};
 ghost use Rattle.fb_report.specs.declared.bytes.Bytes.{Bytes};
 ghost use Rattle.fb_report.specs.Lines.{with_fields};
-ghost use Rattle.fb_report.specs.Fore.{bad_count, kind_text, row_bytes, row_fields, fore_first, fore_line, fore_last, fore_lines};
+ghost use Rattle.fb_report.specs.Fore.{bad_count, kind_text, row_bytes, row_fields, fore_first, fore_line, fore_last, fore_lines, fore_text};
 ghost use Rattle.fb_report.specs.Grammar.{are_bytes, fore_grammar, is_one_of, numbers};
 ghost use Rattle.fb_report.specs.Printed.{AreFields, IsField, IsLine, ReadsSectors, is_first, is_in_place, is_last, is_row};
 
@@ -30,23 +30,43 @@ pub fn fore_piece(
     run: &Run,
     sector_bytes: u32,
     bytes: Bytes,
-    index: u64,
+    k: u64,
 ) -> Result<Vec<u8>, NoMemory>
     requires whole { sector_bytes % 16 ≡ 0 }
-    requires line { index < length run.now.fore + 2 }
-    ensures value { IfOk result (λ line. slice_get (fore_lines sector_bytes bytes run.now) index ≡ Some line.items) }
+    requires line { k < length run.now.fore + 2 }
+    ensures value { IfOk result (λ line. slice_get (fore_lines sector_bytes bytes run.now) k ≡ Some line.items) }
     ensures form { IfOk result (λ line. 0 < sector_bytes → AllByRecursion ReadsSectors run.now.fore
-        → IsLine (is_in_place fore_grammar (length run.now.fore + 2) index) line.items) }
+        → IsLine (is_in_place fore_grammar (length run.now.fore + 2) k) line.items) }
 {
     let rows = run.fore.len() as u64;
-    if index == 0 {
+    if k == 0 {
         Ok(fore_first(alloc)?)
-    } else if index <= rows {
-        let row = run.fore.get(index as usize - 1);
+    } else if k <= rows {
+        let row = run.fore.get(k as usize - 1);
         Ok(fore_line(alloc, row, sector_bytes, bytes)?)
     } else {
         Ok(fore_last(alloc, rows, run.passed_over)?)
     }
+}
+
+/// The whole foreground report: its lines one after another.
+///
+/// `sector_bytes` is the size of a sector, a multiple of 16.
+pub fn fore_text(
+    alloc: Global,
+    run: &Run,
+    sector_bytes: u32,
+    bytes: Bytes,
+) -> Result<Vec<u8>, NoMemory>
+    requires { sector_bytes % 16 ≡ 0 }
+    ensures { IfOk result (λ text. text.items ≡ fore_text sector_bytes bytes run.now) }
+{
+    let mut text = Vec::new(alloc);
+    for k in 0..fore_pieces(run) {
+        let line = fore_piece(alloc, run, sector_bytes, bytes, k)?;
+        text.extend_from_slice(line.as_slice())?;
+    }
+    Ok(text)
 }
 
 /// The first line of every foreground report, with its line feed.

@@ -1,35 +1,59 @@
-use Rattle.fb_report.proofs.Words.{◌≡◌, ◌∙◌, sym, ap, subst, true, false, Result, List, ℕ, ◌==◌, slice_split, grammar_of, lines_behind}
-use Rattle.fb_report.proofs.Words.{may_follow, may_end, AnswersReport}
-use Rattle.fb_report.proofs.Behind.{texts, some_part, row_read, end_read, fault_read, rest_read, names_fault, tested, texts_more}
+use Rattle.fb_report.proofs.Words.{◌≡◌, ◌⊎◌, ◌∙◌, ◌++◌, ◌∷◌, [], sym, ap, subst, true, false, Result, List, ℕ, ◌==◌, slice_split, inl, inr}
+use Rattle.fb_report.proofs.Words.{grammar_of, lines_behind, ended_with, may_follow, may_end, report_fields, AnswersReport, LineFields}
+use Rattle.fb_report.proofs.Words.{Input, fore_grammar, back_grammar}
+use Rattle.fb_desk.specs.declared.desk.Input.TheVariants.{ForeReport, BackReport}
+use Rattle.fb_report.proofs.Behind.{some_part, row_read, end_read, fault_read, rest_read, names_fault, tested}
+use Rattle.fb_report.proofs.EndsOnce.{follows_none, ends_none}
 use Rattle.fb_report.proofs.reading.read.Goals as goal
+
+one_of_two : (report : Input) → (report ≡ ForeReport) ⊎ (report ≡ BackReport)
+    → (grammar_of report ≡ fore_grammar) ⊎ (grammar_of report ≡ back_grammar)
+one_of_two report known = elim known [
+  | inl fore ↦ inl (ap grammar_of fore)
+  | inr back ↦ inr (ap grammar_of back)
+]
 
 pub loop-line-preserved : goal.loop-line-preserved
 loop-line-preserved c =
     let grammar = grammar_of c.args.report in
-    let lines = texts c.loop-line.lines.items in
+    let lines = c.loop-line.lines in
     let line = c.in-Some.line.now in
     let parts = slice_split (λ byte. byte == 10) c.in-Some.behind.now in
-    let follows : may_follow grammar lines line ≡ true = tested (λ grammar lines. may_follow grammar lines line) _ grammar _
-    c.loop-line.lines.items _ true c.may_follow.ensures c.if-may_follow.true c.table_of-table.ensures c.as_slice.ensures.value in
+    let follows : may_follow grammar lines (report_fields line) ≡ true = tested (λ grammar fields. may_follow grammar lines fields)
+    _ grammar _ (report_fields line) _ true c.may_follow.ensures c.if-may_follow.true c.table_of-table.ensures c.in_ok-fields.ensures in
     ap (λ lines. lines_behind grammar lines parts)
-    (texts_more c.loop-line.lines.items c.push.new.self.items c.in-Some.line c.in_ok-push.ensures.items)
+    (c.in_ok-push.ensures.ok ∙ ap (λ fields. lines ++ fields ∷ []) c.in_ok-fields.ensures)
     ∙ sym (row_read grammar lines line parts (some_part (λ byte. byte == 10) c.in-Some.behind.now) follows)
     ∙ sym (ap (lines_behind grammar lines) c.in-Some.ensures.split)
     ∙ c.loop-line.invariant
 
+pub returns-then-has_many_fields : goal.returns-then-has_many_fields
+returns-then-has_many_fields c =
+    let grammar = grammar_of c.args.report in
+    let known = one_of_two c.args.report c.requires in
+    let lines = c.loop-line.lines in
+    let line = c.in-Some.line.now in
+    let parts = slice_split (λ byte. byte == 10) c.in-Some.behind.now in
+    let many = c.has_many_fields.ensures c.if-has_many_fields.true in
+    names_fault c.args.report c.fault.result lines c.len.result _ c.fault.ensures c.len.ensures.value
+    (sym c.loop-line.invariant
+    ∙ ap (lines_behind grammar lines) c.in-Some.ensures.split
+    ∙ fault_read grammar lines line parts (follows_none grammar known lines line many) (ends_none grammar known lines line many))
+
 pub returns-then-may_end : goal.returns-then-may_end
 returns-then-may_end c =
     let grammar = grammar_of c.args.report in
-    let lines = texts c.loop-line.lines.items in
+    let lines = c.loop-line.lines in
     let line = c.in-Some.line.now in
     let parts = slice_split (λ byte. byte == 10) c.in-Some.behind.now in
-    let other : may_follow grammar lines line ≡ false = tested (λ grammar lines. may_follow grammar lines line) _ grammar _
-    c.loop-line.lines.items _ false c.may_follow.ensures c.if-may_follow.false c.table_of-table.ensures c.as_slice.ensures.value in
-    let ends : may_end grammar lines line ≡ true = tested (λ grammar lines. may_end grammar lines line) _ grammar _ c.loop-line.lines.items
-    _ true c.may_end.ensures c.if-may_end.true c.table_of-table.ensures c.as_slice-else-may_follow.ensures.value in
-    let P : Result (List (List ℕ)) ℕ → Type 0 = λ verdict. AnswersReport c.args.report c.end.result verdict in
+    let other : may_follow grammar lines (report_fields line) ≡ false = tested (λ grammar fields. may_follow grammar lines fields)
+    _ grammar _ (report_fields line) _ false c.may_follow.ensures c.if-may_follow.false c.table_of-table.ensures c.in_ok-fields.ensures in
+    let ends : may_end grammar lines (report_fields line) ≡ true = tested (λ grammar fields. may_end grammar lines fields)
+    _ grammar _ (report_fields line) _ true c.may_end.ensures c.if-may_end.true c.table_of-table.ensures c.in_ok-fields.ensures in
+    let P : Result (List LineFields) ℕ → Type 0 = λ verdict. AnswersReport c.args.report c.end.result verdict in
     subst P
-    (sym (end_read grammar lines line parts (some_part (λ byte. byte == 10) c.in-Some.behind.now) other ends)
+    (ap (λ fields. ended_with lines fields parts) c.in_ok-fields.ensures
+    ∙ sym (end_read grammar lines line parts (some_part (λ byte. byte == 10) c.in-Some.behind.now) other ends)
     ∙ sym (ap (lines_behind grammar lines) c.in-Some.ensures.split)
     ∙ c.loop-line.invariant)
     c.end.ensures
@@ -37,15 +61,15 @@ returns-then-may_end c =
 pub returns-else-may_end : goal.returns-else-may_end
 returns-else-may_end c =
     let grammar = grammar_of c.args.report in
-    let lines = texts c.loop-line.lines.items in
+    let lines = c.loop-line.lines in
     let line = c.in-Some.line.now in
     let parts = slice_split (λ byte. byte == 10) c.in-Some.behind.now in
-    let other : may_follow grammar lines line ≡ false = tested (λ grammar lines. may_follow grammar lines line) _ grammar _
-    c.loop-line.lines.items _ false c.may_follow.ensures c.if-may_follow.false c.table_of-table.ensures c.as_slice.ensures.value in
-    let unended : may_end grammar lines line ≡ false =
-    tested (λ grammar lines. may_end grammar lines line) _ grammar _ c.loop-line.lines.items _ false c.may_end.ensures c.if-may_end.false
-    c.table_of-table.ensures c.as_slice-else-may_follow.ensures.value in
-    names_fault c.args.report c.fault.result c.loop-line.lines.items c.len.result _ c.fault.ensures (c.len.ensures ∙ c.loop-line.lines.ok.0)
+    let other : may_follow grammar lines (report_fields line) ≡ false = tested (λ grammar fields. may_follow grammar lines fields)
+    _ grammar _ (report_fields line) _ false c.may_follow.ensures c.if-may_follow.false c.table_of-table.ensures c.in_ok-fields.ensures in
+    let unended : may_end grammar lines (report_fields line) ≡ false = tested (λ grammar fields. may_end grammar lines fields)
+    _ grammar _ (report_fields line) _ false c.may_end.ensures c.if-may_end.false c.table_of-table.ensures c.in_ok-fields.ensures in
+    names_fault c.args.report c.fault-else-may_end.result lines c.len-else-may_end.result _ c.fault-else-may_end.ensures
+    c.len-else-may_end.ensures.value
     (sym c.loop-line.invariant
     ∙ ap (lines_behind grammar lines) c.in-Some.ensures.split
     ∙ fault_read grammar lines line parts other unended)
@@ -53,9 +77,8 @@ returns-else-may_end c =
 pub returns : goal.returns
 returns c =
     let grammar = grammar_of c.args.report in
-    let lines = texts c.loop-line.lines.items in
-    names_fault c.args.report c.fault-2.result c.loop-line.lines.items c.len-2.result _ c.fault-2.ensures
-    (c.len-2.ensures ∙ c.loop-line.lines.ok.0)
+    let lines = c.loop-line.lines in
+    names_fault c.args.report c.fault-2.result lines c.len-2.result _ c.fault-2.ensures c.len-2.ensures.value
     (sym c.loop-line.invariant
     ∙ ap (lines_behind grammar lines) c.in_default.ensures.split
     ∙ rest_read grammar lines c.loop-line.rest.now)

@@ -3,4 +3,4 @@ use Rattle.fb_report.proofs.Whole.{whole_text}
 use Rattle.fb_report.proofs.reading.read_back.Goals as goal
 
 pub returns-clause-whole : goal.returns-clause-whole
-returns-clause-whole c = whole_text back_grammar _ c.args.text.now c.read.result c.read.ensures
+returns-clause-whole c = whole_text back_grammar _ c.args.bytes.now c.read.result c.read.ensures

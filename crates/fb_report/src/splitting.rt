@@ -1,0 +1,45 @@
+// Lines are split into their fields.
+ghost use Rattle.std.specs.Prelude.{◌≡◌, ◌<◌, length, IfOk, IsTrue};
+ghost use Rattle.fb_report.specs.Grammar.{report_fields};
+
+use crate::forms::split_once;
+use crate::{FieldText, ReportLine};
+use fb_units::NoMemory;
+use std::alloc::Global;
+
+// No line of a report has more fields.
+const MOST_FIELDS: usize = 16;
+
+/// Whether a line has more fields than any line of a report.
+pub fn has_many_fields(line: &[u8]) -> bool
+    ensures { IsTrue result → 16 < length (report_fields line.now) }
+{
+    count_fields(line) > MOST_FIELDS
+}
+
+// How many fields a line has.
+fn count_fields(line: &[u8]) -> usize
+    ensures { result ≡ length (report_fields line.now) }
+{
+    let mut spaces = 0;
+    for byte in line {
+        if *byte == b' ' {
+            spaces += 1;
+        }
+    }
+    spaces + 1
+}
+
+/// The fields of a line. The only error is out of memory.
+pub fn fields_of(alloc: Global, line: &[u8]) -> Result<ReportLine, NoMemory>
+    ensures { IfOk result (λ fields. fields ≡ report_fields line.now) }
+{
+    let mut fields = ReportLine::with_capacity(alloc, count_fields(line))?;
+    let mut rest = line;
+    while let Some((field, behind)) = split_once(rest, b' ') {
+        fields.push(FieldText::from_slice(alloc, field)?)?;
+        rest = behind;
+    }
+    fields.push(FieldText::from_slice(alloc, rest)?)?;
+    Ok(fields)
+}
