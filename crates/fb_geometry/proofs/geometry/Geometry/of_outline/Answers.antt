@@ -1,8 +1,8 @@
 use Rattle.fb_geometry.proofs.Words.{AreInOrder, AreOwnMarks, ap, is_place_before, refl}
 use Rattle.fb_geometry.proofs.{Faultless.least-none, Judging.faultless, Judging.fits_per_track, Judging.grown_once, Once.sound}
 use Rattle.fb_geometry.proofs.{OwnMarks.own_marks}
-use Rattle.fb_geometry.proofs.geometry.Geometry.new.Goals.{In_ok-zone_numbers}
-use Rattle.fb_geometry.proofs.geometry.Geometry.new.Goals as goal
+use Rattle.fb_geometry.proofs.geometry.Geometry.of_outline.Goals.{In_ok-zone_numbers}
+use Rattle.fb_geometry.proofs.geometry.Geometry.of_outline.Goals as goal
 
 pub marks-requires : goal.marks-requires
 marks-requires c =
