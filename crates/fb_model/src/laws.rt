@@ -84,6 +84,6 @@ pub fn foreground_is_untouched()
 
 /// No decision looks ahead: on a disk without a fault, the full runs of accepted inputs that agree
 /// up to an instant before both ends are the same in everything that is known by that instant.
-pub fn no_look_ahead()
+pub fn nothing_looks_ahead()
     ensures { NoLookAhead }
 {}

@@ -65,7 +65,7 @@ fn disk_of(alloc: Global, geometry: Geometry) -> Result<Disk, Fail> {
     let _sectors = map.count();
     let geometry = map.geometry();
     geometry.sound();
-    let mechanism = Mechanism::new(alloc, points, geometry.cylinders(), 200, 50)?;
+    let mechanism = Mechanism::new(points, geometry.cylinders(), 200, 50)?;
     Ok(Disk {
         map,
         mechanism,

@@ -111,7 +111,7 @@ fn disk_of(alloc: Global, setting: &Setting) -> Result<Option<Disk>, NoMemory> {
     geometry.sound();
     let _count = map.count();
     let points = setting.seek.to_vec(alloc)?;
-    match Mechanism::new(alloc, points, geometry.cylinders(), 200, 50) {
+    match Mechanism::new(points, geometry.cylinders(), 200, 50) {
         Ok(mechanism) => Ok(Some(Disk {
             map,
             mechanism,

@@ -52,7 +52,7 @@ fn small_disk(alloc: Global) -> Result<Disk, Fail> {
     for (distance, time) in [(1, 300), (3, 500)] {
         points.push(SeekPoint { distance, time })?;
     }
-    let mechanism = Mechanism::new(alloc, points, geometry.cylinders(), 200, 50)?;
+    let mechanism = Mechanism::new(points, geometry.cylinders(), 200, 50)?;
     Ok(Disk {
         map,
         mechanism,
