@@ -88,8 +88,7 @@ fn first_limits(begin: Ns, step: Ns) -> [Ns; LIMITS]
     limits
 }
 
-// Moves the limit behind the part in which the last instant lies, so that it lies behind this
-// instant.
+// Raises the limit at which the part of `last` ends, if it doesn't lie behind `last`.
 fn add_limit(last: Ns, begin: Ns, step: Ns, limits: &mut [Ns; LIMITS])
     requires order { begin ≤ last }
     requires some { 0 < step }
