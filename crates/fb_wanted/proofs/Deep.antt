@@ -6,17 +6,21 @@ use Rattle.std.proofs.lemmas.Bool.{cases_Bool}
 use Rattle.std.proofs.lemmas.Bool.Decides.{nat_tests}
 use Rattle.std.proofs.lemmas.List.Elements.{filter-append}
 use Rattle.std.proofs.lemmas.List.Sums.{sum_by-append}
+use Rattle.fb_units.proofs.Changed.{old_or_last}
 use Rattle.fb_units.proofs.Tracks.{same_tracks}
 use Rattle.fb_units.specs.declared.types.Track.{Track}
 use Rattle.fb_units.specs.Tracks.{same_track}
+use Rattle.fb_wanted.specs.declared.block.Block.{Block}
 use Rattle.fb_wanted.specs.declared.block.Entry.{Entry}
 use Rattle.fb_wanted.specs.declared.block.State.{State}
 use Rattle.fb_wanted.specs.declared.depths.Depth.{Depth}
+use Rattle.fb_wanted.specs.Numbering.{blocks_of}
 use Rattle.fb_wanted.specs.Tracks.{band_of}
 use Rattle.fb_wanted.specs.Depth.{is_in, weight_on, depth_at, band_depth, no_depth, spare_for, deepened, IsDeep, AreDeep}
 use Rattle.fb_wanted.specs.LookUp.{is_of_track, with_state}
 use Rattle.fb_wanted.proofs.Sums.{sum-with_state, sum-le}
-use Rattle.fb_wanted.proofs.Standing.{length-with_state, items-with_state}
+use Rattle.fb_wanted.proofs.Numbers.{blocks-more}
+use Rattle.fb_wanted.proofs.Standing.{length-with_state, items-with_state, blocks-with_state}
 
 abbrev of_band : ℕ → Entry → Bool
 of_band band entry = band_of entry.block == band
@@ -70,12 +74,16 @@ deep_set s n e es depths at h = subst (λ l. AreDeep l depths) (sym (items-with_
         behind = λ lbn past. omega (arith, depth-with_state band lbn s n e es at, bound.behind lbn past);
         small = omega (arith, length-with_state s n es, bound.small);
       };
+  marked = λ i block at'. h.marked i block (ap (λ bs. slice_get bs i) (sym (blocks-with_state s n es)) ∙ at');
 })
 
 -- the bounds hold too with more bands that have no block
 pub deep_still : (es : List Entry) (depths new : List Depth) → AreDeep es depths
     → ((k : ℕ) → get_or new k no_depth ≡ get_or depths k no_depth) → AreDeep es new
-deep_still es depths new h stay = record { bounds = λ band. subst (IsDeep band es) (sym (stay band)) (h.bounds band) }
+deep_still es depths new h stay = record {
+  bounds = λ band. subst (IsDeep band es) (sym (stay band)) (h.bounds band);
+  marked = λ i block at. ap (λ d. d.has_block) (stay (band_of block)) ∙ h.marked i block at;
+}
 
 -- the weight of one more block still fits in the 64 bits of a bound
 pub deep_room : (es : List Entry) (depths : List Depth) (band weight : ℕ) → AreDeep es depths → length es < 16000000 → weight ≤ 1000
@@ -119,6 +127,19 @@ module _ (band : ℕ) (es : List Entry) (e : Entry) (d : Depth) (h : IsDeep band
         small = omega (arith, length-append es (e ∷ []), h.small);
       }
 
+-- a band with a block is marked
+module _ (band : ℕ) (depths new : List Depth) (block : Block)
+    (changed : (k : ℕ) → get_or new k no_depth
+    ≡ (if band == k then deepened block (get_or depths k no_depth) else get_or depths k no_depth)) where
+  still_marked : (k : ℕ) → (get_or depths k no_depth).has_block ≡ true → (get_or new k no_depth).has_block ≡ true
+  still_marked k old = ap (λ d. d.has_block) (changed k) ∙ elim (cases_Bool (band == k)) [
+    | inl here ↦ rw here refl
+    | inr other ↦ rw other old
+  ]
+
+  marked_there : (k : ℕ) → band ≡ k → (get_or new k no_depth).has_block ≡ true
+  marked_there k same = let here : (band == k) ≡ true = grind (arith, nat_tests) in ap (λ d. d.has_block) (changed k) ∙ rw here refl
+
 pub deep_pushed : (es items : List Entry) (e : Entry) (band : ℕ) (depths new : List Depth) → items ≡ es ++ e ∷ [] → band ≡ band_of e.block
     → e.block.weight ≤ 1000 → AreDeep es depths
     → ((k : ℕ) → get_or new k no_depth ≡ (if band == k then deepened e.block (get_or depths k no_depth) else get_or depths k no_depth))
@@ -128,4 +149,8 @@ deep_pushed es items e band depths new list its light h changed = subst (λ l. A
     | inl here ↦ rw here (deep_here k es e (get_or depths k no_depth) (h.bounds k) (ap (λ b. b == k) (sym its) ∙ here) light)
     | inr other ↦ rw other (deep_elsewhere k es e (get_or depths k no_depth) (h.bounds k) (ap (λ b. b == k) (sym its) ∙ other))
   ]);
+  marked = λ i block at. elim (old_or_last (blocks_of es) e.block block i (ap (λ bs. slice_get bs i) (sym (blocks-more es e)) ∙ at)) [
+    | inl old ↦ still_marked band depths new e.block changed (band_of block) (h.marked i block old.1)
+    | inr last ↦ marked_there band depths new e.block changed (band_of block) (its ∙ ap band_of (sym last.1))
+  ];
 })

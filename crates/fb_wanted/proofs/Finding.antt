@@ -77,7 +77,7 @@ shared : (task first count longest : ℕ) (es : List Entry) (chosen : ℕ → Bo
     → AreInOrder (blocks_of es) → AreShort longest es
     → AreChosen task first longest es chosen from → AreBehind task first count es from
     → (i : ℕ) (e : Entry) → slice_get es i ≡ Some e → is_of_task task e ≡ true
-    → shares first count e.block ≡ true → chosen e.block.number ≡ true
+    → shares first count e.block ≡ true → chosen e.block.index ≡ true
 shared task first count longest es chosen from in_order short done rest i e at own inside =
     let it = among (is_of_task task) es i e at own in
     let number = number_at es task it.0 e in_order it.2 in

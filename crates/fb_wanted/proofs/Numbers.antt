@@ -36,7 +36,7 @@ in_order-more bs b h new task k block at =
           ∙ ap (λ v. filter (λ other. other.task == task) bs ++ (if v then b ∷ [] else [])) own in
           elim (old_or_last (filter (λ other. other.task == task) bs) b block k (ap (λ l. slice_get l k) (sym list) ∙ at)) [
             | inl old ↦ h task k block old.1
-            | inr last ↦ ap (λ c. c.number) last.1 ∙ (new ∙ (ap (λ t. registered_count t bs) same ∙ sym last.0))
+            | inr last ↦ ap (λ c. c.index) last.1 ∙ (new ∙ (ap (λ t. registered_count t bs) same ∙ sym last.0))
           ]
       | inr other ↦
           let list : filter (λ other. other.task == task) (bs ++ b ∷ []) ≡ filter (λ other. other.task == task) bs = split

@@ -1,21 +1,26 @@
 -- What the indexes say of a task and of a track.
-use Rattle.std.proofs.Common.{◌≡◌, ℕ, ◌<◌, ◌≤◌, inl, inr, List, [], ◌∷◌, Some, true, length, filter, slice_get, get_or, ◌*◌, refl, ap, sym}
-use Rattle.std.proofs.Common.{◌∙◌, arith}
+use Rattle.std.proofs.Common.{◌≡◌, ℕ, ◌<◌, ◌≤◌, inl, inr, List, [], ◌∷◌, Some, true, length, filter, slice_get, get_or, ◌*◌, ◌/◌, refl, ap, sym}
+use Rattle.std.proofs.Common.{◌∙◌, arith, subst}
 use Rattle.std.proofs.lemmas.Bool.{cases_lt}
 use Rattle.std.proofs.lemmas.Bool.Decides.{nat_tests}
 use Rattle.std.proofs.lemmas.List.{get_or_past}
 use Rattle.std.proofs.lemmas.Option.{slice_get_within}
-use Rattle.fb_units.proofs.Tracks.{track_itself}
+use Rattle.fb_units.proofs.Filtered.{filter_from}
+use Rattle.fb_units.proofs.Lists.{element_at}
+use Rattle.fb_units.proofs.Tracks.{same_tracks, track_itself}
 use Rattle.fb_units.specs.declared.types.Track.{Track}
 use Rattle.fb_wanted.specs.declared.block.Entry.{Entry}
 use Rattle.fb_wanted.specs.declared.block.Counts.{Counts}
 use Rattle.fb_wanted.specs.declared.tasks.OfTask.{OfTask}
 use Rattle.fb_wanted.specs.Counting.{counts_of, sum_of, AreNoMore, Fit}
 use Rattle.fb_wanted.specs.States.{on_track}
-use Rattle.fb_wanted.specs.Tracks.{wanted_weight}
+use Rattle.fb_wanted.specs.declared.depths.Depth.{Depth}
+use Rattle.fb_wanted.specs.Depth.{no_depth, AreDeep}
+use Rattle.fb_wanted.specs.Tracks.{wanted_weight, IsNextRegistered, NoneIsRegistered}
 use Rattle.fb_wanted.specs.LookUp.{OnTrack, indexes_of, is_of_task, is_of_track, track_at, weight_kept, IsThere, IsKept, no_blocks}
-use Rattle.fb_wanted.specs.LookUp.{no_block_on}
-use Rattle.fb_wanted.proofs.Standing.{length-indexes_of, among}
+use Rattle.fb_wanted.specs.LookUp.{no_block_on, AreMarked, IsNextTrack, NoTrackIsNext}
+use Rattle.fb_wanted.proofs.Numbers.{block_there}
+use Rattle.fb_wanted.proofs.Standing.{length-indexes_of, among, index_read, index_within, passes, read_at}
 use Rattle.fb_wanted.proofs.Counted.{counts_at, counts-few}
 use Rattle.fb_wanted.proofs.Weights.{weight_at, weight-le}
 
@@ -100,3 +105,40 @@ module _ (es : List Entry) (tasks : List OfTask) (tracks : List (List OnTrack)) 
         | inr past ↦ absurd (omega (arith, by_head, ap length (get_or_past tracks t.cylinder [] past)))
       ] in
       (by_cylinder, by_head)
+
+  -- the first block of a track that has one is the track's
+  module _ (t : Track) (on : OnTrack) (at : on ≡ track_at tracks t) (some : 0 < length on.indexes) where
+    some_there : 0 < length (on_track t es)
+    some_there = omega (arith, some, ap (λ o. length o.indexes) at, track_length t)
+
+    pub first_within : get_or on.indexes 0 0 < length es
+    first_within =
+        let its = (track_kept t on at).0 in
+        index_within (is_of_track t) es 0 (get_or on.indexes 0 0) (index_read (is_of_track t) es on.indexes 0 its some_there)
+
+    pub first_of_track : (d : Entry) → (get_or es (get_or on.indexes 0 0) d).block.track ≡ t
+    first_of_track d =
+        let first = get_or es (get_or on.indexes 0 0) d in
+        let its = (track_kept t on at).0 in
+        sym (same_tracks t first.block.track
+        (passes (is_of_track t) es 0 first (read_at (is_of_track t) es on.indexes 0 d its some_there)))
+
+  -- the next track with a block in the look-up is the next one on which a block is registered
+  pub next_registered : (from t : Track) → IsNextTrack tracks from t → IsNextRegistered es from t
+  next_registered from t next = record {
+    registered = subst (λ n. 0 < n) (track_length t) next.some;
+    since = next.since;
+    least = λ other has since. next.least other (subst (λ n. 0 < n) (sym (track_length other)) has) since;
+  }
+
+  pub none_registered : (from : Track) → NoTrackIsNext tracks from → NoneIsRegistered es from
+  none_registered from none t has since = none t (subst (λ n. 0 < n) (sym (track_length t)) has) since
+
+  -- each band with a block in the look-up is marked
+  pub are_marked : (depths : List Depth) → AreDeep es depths → AreMarked tracks depths
+  are_marked depths deep t some =
+      let first = element_at (on_track t es) 0 (subst (λ n. 0 < n) (track_length t) some) in
+      let from = filter_from (is_of_track t) es 0 first.0 first.1 in
+      let same = same_tracks t first.0.block.track from.2 in
+      subst (λ u. (get_or depths (u.cylinder / 64) no_depth).has_block ≡ true) (sym same)
+      (deep.marked from.0 first.0.block (block_there es from.0 first.0 from.1))

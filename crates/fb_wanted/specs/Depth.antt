@@ -1,11 +1,13 @@
 -- The depth of a sector: the weights together of the registered blocks to which it belongs.
-use Rattle.std.specs.Prelude.{ℕ, ◌+◌, ◌-◌, ◌*◌, ◌≤◌, ◌==◌, List, Bool, ◌&&◌, nat_le, nat_lt, if◌then◌else◌, length, filter, get_or}
+use Rattle.std.specs.Prelude.{◌≡◌, ℕ, ◌+◌, ◌-◌, ◌*◌, ◌≤◌, ◌==◌, List, Bool, true, false, ◌&&◌, Some, nat_le, nat_lt, if◌then◌else◌, length}
+use Rattle.std.specs.Prelude.{filter, get_or, slice_get}
 use Rattle.std.specs.List.{sum_by}
 use Rattle.fb_units.specs.declared.types.Track.{Track}
 use Rattle.fb_wanted.specs.declared.block.Block.{Block}
 use Rattle.fb_wanted.specs.declared.block.Entry.{Entry}
 use Rattle.fb_wanted.specs.declared.depths.Depth.{Depth}
 use Rattle.fb_wanted.specs.States.{on_track}
+use Rattle.fb_wanted.specs.Numbering.{blocks_of}
 use Rattle.fb_wanted.specs.Tracks.{band_of}
 
 -- the sector is one of the block's
@@ -26,7 +28,7 @@ band_depth band lbn entries = sum_by (weight_on lbn) (filter (λ entry. band_of 
 
 -- a band with no block
 abbrev pub no_depth : Depth
-no_depth = record { most = 0; first = 0; count = 0; spare = 0 }
+no_depth = record { most = 0; first = 0; count = 0; spare = 0; has_block = false }
 
 -- how much of a block's weight fits under the bound as it is
 abbrev pub spare_for : Block → Depth → ℕ
@@ -39,6 +41,7 @@ deepened block depth = record {
   first = block.lbn;
   count = block.count;
   spare = spare_for block depth + (block.weight - spare_for block depth);
+  has_block = true;
 }
 
 -- an upper bound on the depth of each sector of the band, and how far below it depths are behind the block registered last
@@ -47,6 +50,8 @@ pub record IsDeep (band : ℕ) (entries : List Entry) (depth : Depth) : Type 0 w
   pub behind : (lbn : ℕ) → depth.first + depth.count ≤ lbn → band_depth band lbn entries + depth.spare ≤ depth.most
   pub small : depth.most ≤ 1000 * length entries
 
--- each band has such a bound
+-- each band has such a bound, and those with a block are marked
 pub record AreDeep (entries : List Entry) (depths : List Depth) : Type 0 where
   pub bounds : (band : ℕ) → IsDeep band entries (get_or depths band no_depth)
+  pub marked : (i : ℕ) (block : Block) → slice_get (blocks_of entries) i ≡ Some block
+      → (get_or depths (band_of block) no_depth).has_block ≡ true

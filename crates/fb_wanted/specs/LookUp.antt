@@ -19,7 +19,9 @@ use Rattle.fb_wanted.specs.Counting.{counts_of, no_counts, recounted}
 use Rattle.fb_wanted.specs.States.{shares, state_after, entry_after, is_wanted, on_track, wanted_of}
 use Rattle.fb_wanted.specs.Offers.{AreSameBlocks, offer_of, offered_blocks}
 use Rattle.fb_wanted.specs.Numbering.{AreInOrder, AreSmall, blocks_of}
-use Rattle.fb_wanted.specs.Tracks.{wanted_weight}
+use Rattle.fb_wanted.specs.Tracks.{wanted_weight, IsNotAfter}
+use Rattle.fb_wanted.specs.declared.depths.Depth.{Depth}
+use Rattle.fb_wanted.specs.Depth.{no_depth}
 
 -- the indexes in the list of the entries that pass a test
 abbrev pub indexes_of : (Entry → Bool) → List Entry → List ℕ
@@ -98,6 +100,39 @@ without_offer index on = record { indexes = on.indexes; weight = on.weight; offe
 -- what stands for a track in lists by cylinder and by head
 abbrev pub track_at : List (List OnTrack) → Track → OnTrack
 track_at tracks track = get_or (get_or tracks track.cylinder []) track.head no_block_on
+
+-- the least head not before `from` whose track has a block in the look-up
+pub record IsNextHead (tracks : List OnTrack) (from head : ℕ) : Type 0 where
+  pub some : 0 < length (get_or tracks head no_block_on).indexes
+  pub since : from ≤ head
+  pub least : (h : ℕ) → 0 < length (get_or tracks h no_block_on).indexes → from ≤ h → head ≤ h
+
+-- there is no such head
+abbrev pub NoHeadIsNext : List OnTrack → ℕ → Type 0
+NoHeadIsNext tracks from = (h : ℕ) → 0 < length (get_or tracks h no_block_on).indexes → from ≤ h → ⊥
+
+-- the least track not before `from` with a block in the look-up
+pub record IsNextTrack (tracks : List (List OnTrack)) (from track : Track) : Type 0 where
+  pub some : 0 < length (track_at tracks track).indexes
+  pub since : IsNotAfter from track
+  pub least : (t : Track) → 0 < length (track_at tracks t).indexes → IsNotAfter from t → IsNotAfter track t
+
+-- there is no such track
+abbrev pub NoTrackIsNext : List (List OnTrack) → Track → Type 0
+NoTrackIsNext tracks from = (t : Track) → 0 < length (track_at tracks t).indexes → IsNotAfter from t → ⊥
+
+-- the first track of a cylinder
+abbrev pub first_track : ℕ → Track
+first_track cylinder = record { cylinder = cylinder; head = 0 }
+
+-- no track on the cylinders from `start` up to the end has a block in the look-up
+abbrev pub NoneIsBetween : List (List OnTrack) → ℕ → ℕ → Type 0
+NoneIsBetween tracks start end = (t : Track) → 0 < length (track_at tracks t).indexes → start ≤ t.cylinder → end ≤ t.cylinder
+
+-- each band with a block in the look-up is marked
+abbrev pub AreMarked : List (List OnTrack) → List Depth → Type 0
+AreMarked tracks depths = (t : Track) → 0 < length (track_at tracks t).indexes
+    → (get_or depths (t.cylinder / 64) no_depth).has_block ≡ true
 
 -- the track of a head has changed so, and no other has changed
 abbrev pub IsHeadChanged : List OnTrack → List OnTrack → ℕ → (OnTrack → OnTrack) → Type 0

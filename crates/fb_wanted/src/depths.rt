@@ -20,6 +20,8 @@ pub struct Depth {
     /// From the end of that block on, the blocks of each sector have at least this much less weight
     /// together than the bound.
     pub spare: u32,
+    /// Whether the band has a block.
+    pub has_block: bool,
 }
 
 /// A band with no block.
@@ -28,6 +30,7 @@ pub const NO_DEPTH: Depth = Depth {
     first: 0,
     count: 0,
     spare: 0,
+    has_block: false,
 };
 
 // How much of a block's weight fits under the bound as it is.
@@ -58,6 +61,7 @@ pub fn deepen(depths: &mut Vec<Depth>, band: u32, block: Block)
         first: block.lbn,
         count: block.count,
         spare: spare + more,
+        has_block: true,
     };
 }
 
@@ -68,5 +72,15 @@ pub fn most_in(depths: &[Depth], band: u32) -> u64
     match depths.get(band as usize) {
         Some(depth) => depth.most,
         None => 0,
+    }
+}
+
+/// Whether a band has a block.
+pub fn has_block_in(depths: &[Depth], band: usize) -> bool
+    ensures { result ≡ (get_or depths.now band no_depth).has_block }
+{
+    match depths.get(band) {
+        Some(depth) => depth.has_block,
+        None => false,
     }
 }

@@ -1,7 +1,8 @@
 // The look-up of the registered blocks of one cylinder's tracks.
 ghost use Rattle.std.specs.Prelude.{◌≡◌, ℕ, ◌≤◌, ◌<◌, ◌+◌, ◌-◌, ◌^◌, ◌==◌, ◌∷◌, ◌++◌, [], List, IfSome, IfNone, OnOk, OnErr, length};
 ghost use Rattle.std.specs.Prelude.{get_or, if◌then◌else◌};
-ghost use Rattle.fb_wanted.specs.LookUp.{grown, reweighed, with_offer, without_offer, last_of, no_block_on, IsHeadChanged};
+ghost use Rattle.fb_wanted.specs.LookUp.{grown, reweighed, with_offer, without_offer, last_of, no_block_on, IsHeadChanged, IsNextHead};
+ghost use Rattle.fb_wanted.specs.LookUp.{NoHeadIsNext};
 
 use crate::Offer;
 use crate::on_track::OnTrack;
@@ -62,6 +63,19 @@ fn greatest(tracks: &[OnTrack]) -> u64
         greatest = greatest.max(tracks[i].weight());
     }
     greatest
+}
+
+// The first of these tracks from a head on that has a block.
+fn next_with_block(tracks: &[OnTrack], from: u32) -> Option<&OnTrack>
+    ensures some { IfSome result (λ on. (head : ℕ) × (on.now ≡ get_or tracks.now head no_block_on) × IsNextHead tracks.now from head) }
+    ensures none { IfNone result (NoHeadIsNext tracks.now from) }
+{
+    for head in from as usize..tracks.len() {
+        if !tracks[head].indexes().is_empty() {
+            return Some(&tracks[head]);
+        }
+    }
+    None
 }
 
 impl Heads {
@@ -131,5 +145,13 @@ impl Heads {
         ensures least { (most : ℕ) → ((h : ℕ) → (get_or self.now h no_block_on).weight ≤ most) → result ≤ most }
     {
         greatest(&self.items)
+    }
+
+    /// The first track from a head on that has a block.
+    pub fn next(&self, from: u32) -> Option<&OnTrack>
+        ensures some { IfSome result (λ on. (head : ℕ) × (on.now ≡ get_or self.now head no_block_on) × IsNextHead self.now from head) }
+        ensures none { IfNone result (NoHeadIsNext self.now from) }
+    {
+        next_with_block(&self.items, from)
     }
 }

@@ -4,7 +4,8 @@ ghost use Rattle.std.specs.Prelude.{if◌then◌else◌};
 ghost use Rattle.fb_units.specs.declared.types.Track.{Track};
 ghost use Rattle.fb_units.specs.Tracks.{same_track};
 ghost use Rattle.fb_wanted.specs.LookUp.{track_at, offers_at, weight_kept, last_of, no_block_on, IsThere, IsChanged};
-ghost use Rattle.fb_wanted.specs.LookUp.{grown, reweighed, with_offer, without_offer};
+ghost use Rattle.fb_wanted.specs.LookUp.{grown, reweighed, with_offer, without_offer, IsNextHead, NoHeadIsNext, IsNextTrack};
+ghost use Rattle.fb_wanted.specs.LookUp.{NoneIsBetween, first_track};
 ghost use Rattle.fb_wanted.specs.Tracks.{wanted_weight};
 
 use crate::heads::Heads;
@@ -133,5 +134,38 @@ impl Tracks {
             Some(heads) => heads.greatest(),
             None => 0,
         }
+    }
+
+    /// The number of cylinders up to the last one with a block.
+    pub fn len(&self) -> usize
+        ensures count { result ≡ length self.now }
+        ensures few { result < 2 ^ 63 }
+    {
+        self.cylinders.len()
+    }
+
+    /// The first track of a cylinder, from a head on, that has a block.
+    pub fn next_on(&self, cylinder: usize, head: u32) -> Option<&OnTrack>
+        ensures some { IfSome result (λ on. (h : ℕ) × (on.now ≡ get_or (get_or self.now cylinder []) h no_block_on)
+            × IsNextHead (get_or self.now cylinder []) head h) }
+        ensures none { IfNone result (NoHeadIsNext (get_or self.now cylinder []) head) }
+    {
+        match self.cylinders.get(cylinder) {
+            Some(heads) => heads.next(head),
+            None => None,
+        }
+    }
+
+    /// The first track with a block on the cylinders from `start` up to the end.
+    pub fn first_between(&self, start: usize, end: usize) -> Option<&OnTrack>
+        ensures some { IfSome result (λ on. (t : Track) × (on.now ≡ track_at self.now t) × IsNextTrack self.now (first_track start) t) }
+        ensures none { IfNone result (NoneIsBetween self.now start end) }
+    {
+        for cylinder in start..end.min(self.cylinders.len()) {
+            if let Some(on) = self.next_on(cylinder, 0) {
+                return Some(on);
+            }
+        }
+        None
     }
 }

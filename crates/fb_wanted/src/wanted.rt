@@ -8,7 +8,7 @@ ghost use Rattle.fb_wanted.specs.declared.block.Entry.{Entry};
 ghost use Rattle.fb_wanted.specs.States.{after, shares, entry_after, is_abortable, is_wanted, wanted_unless, on_track, is_block};
 ghost use Rattle.fb_wanted.specs.Numbering.{AreInOrder, blocks_of, registered_count};
 ghost use Rattle.fb_wanted.specs.Counting.{counts_of, sum_of, Fit};
-ghost use Rattle.fb_wanted.specs.Tracks.{band_of, wanted_weight};
+ghost use Rattle.fb_wanted.specs.Tracks.{band_of, wanted_weight, IsNextRegistered, NoneIsRegistered};
 ghost use Rattle.fb_wanted.specs.Depth.{depth_at, no_depth};
 ghost use Rattle.fb_wanted.specs.Near.{near_of, SharesNone};
 ghost use Rattle.fb_wanted.specs.LookUp.{indexes_of, is_of_task, lbns, region_of, HasChanged, IsStable, IsWithin, changed_where};
@@ -23,6 +23,7 @@ use crate::counting::{counts_of, no_counts};
 use crate::depths::{Depth, NO_DEPTH, deepen, most_in};
 use crate::greatest::{Greatest, update_greatest};
 use crate::near::{chunk_of, next_near};
+use crate::next::next_track;
 use crate::notes::note;
 use crate::offers::reoffer;
 use crate::streaks::{Streak, forget_streak, is_behind, next_streak, note_streak, region_of};
@@ -56,7 +57,9 @@ use std::marker::Model;
 /// When the heaviest track of a cylinder loses weight, each track of that cylinder is looked at, and
 /// likewise each cylinder of a band when its heaviest one does. There is an entry for each task
 /// number up to the greatest one, for each cylinder up to the last one with a block, and for each
-/// head of a cylinder up to the last one with a block.
+/// head of a cylinder up to the last one with a block. The next track with a block is found by the
+/// heads of its cylinder and of the one where the search begins, by the cylinders of their bands, and
+/// by the bands between.
 #[derive(Drop)]
 pub struct Wanted {
     alloc: Global,
@@ -165,7 +168,7 @@ impl Wanted {
         self.counts(task).registered
     }
 
-    // The index, among all registered blocks, of the task's block with this number.
+    // The index, among all registered blocks, of the task's block whose index in its task is `number`.
     fn index_of(&self, task: u32, number: u32) -> u32
         requires { number < length (filter (is_of_task task) self.now) }
         ensures { slice_get (indexes_of (is_of_task task) self.now) number ≡ Some result }
@@ -181,7 +184,7 @@ impl Wanted {
         self.entries[index as usize]
     }
 
-    // The entry of the task's block with this number.
+    // The entry of the task's block whose index in its task is `number`.
     fn entry_of(&self, task: u32, number: u32) -> Entry
         requires { number < length (filter (is_of_task task) self.now) }
         ensures { slice_get (filter (is_of_task task) self.now) number ≡ Some result }
@@ -225,7 +228,7 @@ impl Wanted {
         );
     }
 
-    // Changes the task's block with this number.
+    // Changes the task's block whose index in its task is `number`.
     fn change_block(&mut self, task: u32, number: u32, change: Change)
         requires { number < length (filter (is_of_task task) self.old) }
         ensures { self.new ≡ change_nth (is_of_task task) (entry_after task change) number self.old }
@@ -533,6 +536,18 @@ impl Wanted {
         ensures small { result ≤ 16000000 * 2048000 }
     {
         self.on(track).wanted_weight()
+    }
+
+    /// The least track not before `from`, by cylinder and then by head, on which a block is
+    /// registered, whatever its state; `None` exactly if there is none.
+    pub fn next_registered_track(&self, from: Track) -> Option<Track>
+        ensures some { IfSome result (λ track. IsNextRegistered self.now from track) }
+        ensures none { IfNone result (NoneIsRegistered self.now from) }
+    {
+        match next_track(&self.tracks, &self.depths, from) {
+            Some(on) => Some(self.entries[on.indexes()[0] as usize].block.track),
+            None => None,
+        }
     }
 
     /// An upper bound on the wanted weight of each track on the cylinders from `from` up to the

@@ -1,0 +1,7 @@
+use Rattle.std.proofs.Common.{◌<◌, ◌≤◌, ℕ, length, get_or}
+use Rattle.fb_wanted.specs.LookUp.{no_block_on}
+use Rattle.fb_wanted.proofs.heads.next_with_block.Given as goal
+
+-- none of the heads seen has a block
+abbrev pub invariant-loop-head : goal.invariant-loop-head
+invariant-loop-head l = (h : ℕ) → 0 < length (get_or l.tracks h no_block_on).indexes → l.from ≤ h → l.head ≤ h

@@ -1,0 +1,7 @@
+use Rattle.std.proofs.Common.{◌*◌}
+use Rattle.fb_wanted.specs.LookUp.{NoneIsBetween}
+use Rattle.fb_wanted.proofs.next.first_from.Given as goal
+
+-- none of the bands seen has a block on the cylinders from `start` on
+abbrev pub invariant-loop-band : goal.invariant-loop-band
+invariant-loop-band l = NoneIsBetween l.tracks l.start (l.band * 64)
