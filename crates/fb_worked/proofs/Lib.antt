@@ -13,3 +13,4 @@ pub mod WrongRuns
 pub mod WrongPlans
 pub mod KnownRuns
 pub mod AcceptedInputs
+mod MadeRuns

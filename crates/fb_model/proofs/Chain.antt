@@ -17,8 +17,7 @@ use Rattle.fb_model.specs.Laws.{IsReadyPickOf}
 use Rattle.fb_model.proofs.DecisionsUpTo.{start_among}
 use Rattle.fb_model.proofs.Picks.{all_picked, ready_pick}
 use Rattle.fb_model.proofs.Replays.{start_from}
-use Rattle.fb_model.proofs.Instants.{IsAmong, was_all_among}
-use Rattle.fb_decide.proofs.Instants.{one_filtered, filtered_below, fold_max, most_among, most_below}
+use Rattle.fb_model.proofs.Instants.{IsAmong, was_all_among, one_filtered, filtered_below, fold_max, most_among, most_below}
 
 -- ---- a chain
 
