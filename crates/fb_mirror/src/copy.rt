@@ -18,12 +18,7 @@ pub fn copy_pieces(copy: &Rebuilt) -> u64
 
 /// The k-th line, counted from 0, in the text of a copy of a disk of `count` sectors, with
 /// its line feed. The only error is `NoMemory`.
-pub fn copy_piece(
-    alloc: Global,
-    copy: &Rebuilt,
-    count: u64,
-    k: u64,
-) -> Result<Vec<u8>, NoMemory>
+pub fn copy_piece(alloc: Global, copy: &Rebuilt, count: u64, k: u64) -> Result<Vec<u8>, NoMemory>
     requires line { k < length (copy_lines copy.now count) }
     requires covered { copy.now.covered ≤ count }
     ensures { IfOk result (λ line. slice_get (copy_lines copy.now count) k ≡ Some line.items) }

@@ -10,8 +10,8 @@ ghost use Rattle.fb_rows.specs.Tasks.{HasTaskBelow};
 use crate::Bytes;
 use crate::back_rows::back_line;
 use crate::line::{Line, first_line};
-use fb_script::Names;
 use fb_rows::Run;
+use fb_script::Names;
 use fb_units::{NoMemory, Ns};
 use std::alloc::Global;
 

@@ -12,11 +12,11 @@ ghost use Rattle.fb_rows.specs.Tasks.{HasTaskBelow};
 use crate::Bytes;
 use crate::contents::{sectors, shown};
 use crate::line::Line;
-use fb_script::{Kind, Names};
 use fb_rows::{
     BackRow, BadRow, CompleteRow, DeliveryRow, Dwell, GapRow, How, Plan, SealRow, SegmentRow,
     TaskRow,
 };
+use fb_script::{Kind, Names};
 use fb_units::NoMemory;
 use std::alloc::Global;
 

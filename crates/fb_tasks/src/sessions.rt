@@ -24,8 +24,8 @@ ghost use Rattle.fb_tasks.specs.Telling.{Tells, MayTake, MaySettle, MayDeliver, 
 use crate::session::{Session, Stamp};
 use crate::touched::{forget, next_noted, next_touched, note, note_touch};
 use crate::wanting::want_range;
-use fb_script::{Action, Call, Kind, Live};
 use fb_rows::{BackRow, BackRows, DeliveryRow, TaskRow};
+use fb_script::{Action, Call, Kind, Live};
 use fb_sectormap::SectorMap;
 use fb_units::{NoMemory, Ns};
 use fb_wanted::Wanted;
