@@ -99,6 +99,15 @@ class Disk:
         settle = self.write_settle if write else 0
         return max(self.seek(abs(source[0] - target[0])), switch) + settle
 
+    def angle(self, stretch: Stretch) -> int:
+        """When in a rotation the stretch begins to pass, in nanoseconds."""
+        return stretch.slot * self.turn // stretch.slots
+
+    def passage(self, stretch: Stretch) -> int:
+        """How long the stretch takes from the beginning of its first slot to the end of its last."""
+        turns, slot = divmod(stretch.slot + stretch.length, stretch.slots)
+        return turns * self.turn + slot * self.turn // stretch.slots - self.angle(stretch)
+
     def stretch(self, sector: int, count: int) -> Stretch:
         """Where `sector` lies, and how many of the sectors from it on follow in the next slots of its track."""
         zone = self.zones[bisect_right(self._begins, sector) - 1]

@@ -4,6 +4,7 @@ from array import array
 from typing import Any
 
 from lab.accounts import DETOURS, HOWS, IDLE_UNUSED, IDLE_USED, MOVES, TRANSFER, UNUSED, USED, Account, Bookkeeper
+from lab.angles import checked
 from lab.disk import Disk
 from lab.reports import Gap, rows
 from lab.tasks import Task, Tasks
@@ -21,7 +22,7 @@ def figures_of(disk: Disk, fore: str, back: str) -> dict[str, Any]:
 
     Times are in nanoseconds, shares in percent of the whole run, rates in a second, megabytes are 10^6 bytes."""
     keeper, tasks, responses = Bookkeeper(disk), Tasks(), array("q")
-    for row in rows(fore, back):
+    for row in checked(disk, rows(fore, back)):
         keeper.add(row)
         tasks.add(row)
         if isinstance(row, Gap):

@@ -3,6 +3,7 @@
 from typing import Iterator, NamedTuple
 
 from lab.disk import Track
+from lab.texts import numbered_lines
 
 
 class Served(NamedTuple):
@@ -16,6 +17,7 @@ class Served(NamedTuple):
     start: int
     media: int
     finish: int
+    line: int = 0  # of the file, from 1 on
 
 
 class Gap(NamedTuple):
@@ -28,6 +30,7 @@ class Gap(NamedTuple):
     deadline: int
     by: Track | None  # the track of a detour
     leave: int
+    line: int = 0  # of the background report; 0 where there is none
 
 
 class Idle(NamedTuple):
@@ -36,6 +39,7 @@ class Idle(NamedTuple):
     track: Track
     begin: int
     end: int
+    line: int = 0
 
 
 class Got(NamedTuple):
@@ -48,6 +52,7 @@ class Got(NamedTuple):
     begin: int
     end: int
     how: str
+    line: int = 0
 
 
 class Note(NamedTuple):
@@ -55,59 +60,113 @@ class Note(NamedTuple):
 
     verb: str
     fields: list[str]
+    line: int = 0
 
 
 Row = Gap | Idle | Got | Note
+NOTES = {"bad": 2, "seal": 4, "seg": 5, "done": 2, "task": 7, "end": 1}  # how many fields follow the verb
 
 
 class ReportError(Exception):
     """A file that isn't the report that it is taken for, or two that don't belong together."""
 
 
-def served_rows(path: str) -> Iterator[Served]:
-    """The rows of a foreground report, in the order of service."""
-    with open(path) as lines:
-        if next(lines, "") != "freeblock fore 1\n":
-            raise ReportError(f"{path}: no foreground report")
-        for line in lines:
-            fields = line.split(None, 8)
-            if fields[0] == "end":
-                return
-            sector, count, arrival, start, media, finish = map(int, fields[2:8])
-            yield Served(fields[0], fields[1] == "R", sector, count, arrival, start, media, finish)
+def served_rows(path: str, section: int | None = None) -> Iterator[Served]:
+    """The rows of a foreground report, in the order of service; `section` is a device of an array's reports."""
+    lines = numbered_lines(path)
+    _find(path, lines, section)
+    for number, line in lines:
+        if line.startswith("end "):
+            return
+        try:
+            name, way, *numbers, _ = line.split(None, 8)
+            sector, count, arrival, start, media, finish = map(int, numbers)
+        except ValueError:
+            raise ReportError(f"{path}: line {number} is no line of a foreground report") from None
+        yield Served(name, way == "R", sector, count, arrival, start, media, finish, number)
     raise ReportError(f"{path}: it has no end")
 
 
-def rows(fore: str, back: str) -> Iterator[Row]:
+def _find(path: str, lines: Iterator[tuple[int, str]], section: int | None) -> None:
+    """Reads up to the first row of the report, be it the whole file or a section of an array's."""
+    first = next(lines, (1, ""))[1]
+    if section is None and first.startswith("freeblock array "):
+        raise ReportError(f"{path}: the reports of an array: name one of its devices by --section")
+    if section is not None:
+        if not first.startswith("freeblock array "):
+            raise ReportError(f"{path}: no reports of an array, so it has no section {section}")
+        first = _opened_section(path, lines, section)
+    if first.rstrip("\n") != "freeblock fore 1":
+        raise ReportError(f"{path}: no foreground report")
+
+
+def _opened_section(path: str, lines: Iterator[tuple[int, str]], section: int) -> str:
+    """The first line of the report of a device."""
+    there = []
+    for _, line in lines:
+        fields = line.split()
+        if fields[:1] == ["device"]:
+            there.append(fields[-1])
+            if there[-1] == str(section):
+                return next(lines, (0, ""))[1]
+    raise ReportError(f"{path}: no section {section}; it has {', '.join(there) or 'none'}")
+
+
+def rows(fore: str, back: str, section: int | None = None) -> Iterator[Row]:
     """The rows of a background report, each gap with its request from the foreground report beside it."""
-    requests = served_rows(fore)
-    with open(back) as lines:
-        if next(lines, "") != "freeblock back 1\n":
-            raise ReportError(f"{back}: no background report")
-        for line in lines:
-            fields = line.split()
-            verb = fields[0]
-            if verb == "got":
-                sector, count, begin, end = map(int, fields[3:7])
-                yield Got(fields[1], int(fields[2]), sector, count, begin, end, fields[7])
-            elif verb == "gap":
-                yield _gap(fields, next(requests, None), back)
-            elif verb == "idle":
-                yield Idle(_track(fields[1]), int(fields[2]), int(fields[3]))
-            else:
-                yield Note(verb, fields[1:])
-                if verb == "end":
-                    return
+    requests = served_rows(fore, section)
+    lines = numbered_lines(back)
+    if next(lines, (1, ""))[1].rstrip("\n") != "freeblock back 1":
+        raise ReportError(f"{back}: no background report")
+    for number, line in lines:
+        fields = line.split()
+        try:
+            row = _row(fields, number, requests, back)
+        except (ValueError, IndexError):
+            raise ReportError(f"{back}: line {number} is no line of a background report") from None
+        yield row
+        if fields[0] == "end":
+            _end(requests, fore, back)
+            return
     raise ReportError(f"{back}: it has no end")
 
 
-def _gap(fields: list[str], served: Served | None, back: str) -> Gap:
+def _row(fields: list[str], number: int, requests: Iterator[Served], back: str) -> Row:
+    verb = fields[0]
+    if verb == "got":
+        sector, count, begin, end = map(int, fields[3:7])
+        return Got(fields[1], int(fields[2]), sector, count, begin, end, _way(fields[7]), number)
+    if verb == "gap":
+        return _gap(fields, next(requests, None), back, number)
+    if verb == "idle":
+        return Idle(track_of(fields[1]), int(fields[2]), int(fields[3]), number)
+    if len(fields) != 1 + NOTES.get(verb, -1):
+        raise ValueError
+    return Note(verb, fields[1:], number)
+
+
+def _way(how: str) -> str:
+    if how not in ("gap", "idle", "ride"):
+        raise ValueError
+    return how
+
+
+def _end(requests: Iterator[Served], fore: str, back: str) -> None:
+    """Refuses a foreground report that goes on where the background report has ended."""
+    more = next(requests, None)
+    if more is not None:
+        raise ReportError(f"{fore}: line {more.line}: request {more.name} has no gap in {back}")
+
+
+def _gap(fields: list[str], served: Served | None, back: str, number: int) -> Gap:
     if served is None or served.name != fields[1] or served.media != int(fields[5]):
-        raise ReportError(f"{back}: request {fields[1]} isn't that of the foreground report")
-    by = _track(fields[7]) if fields[6] == "detour" else None
-    return Gap(served, _track(fields[2]), _track(fields[3]), int(fields[4]), int(fields[5]), by, int(fields[-1]))
+        raise ReportError(f"{back}: line {number}: request {fields[1]} isn't that of the foreground report")
+    by = track_of(fields[7]) if fields[6] == "detour" else None
+    return Gap(served, track_of(fields[2]), track_of(fields[3]), int(fields[4]), int(fields[5]), by, int(fields[-1]),
+               number)
 
 
-def _track(text: str) -> Track:
+def track_of(text: str) -> Track:
+    """A track as reports write it, `cylinder.head`."""
     cylinder, head = text.split(".")
     return int(cylinder), int(head)
