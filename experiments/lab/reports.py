@@ -3,6 +3,7 @@
 from typing import Iterator, NamedTuple
 
 from lab.disk import Track
+from lab.refusals import WrongInput
 from lab.texts import numbered_lines
 
 
@@ -67,7 +68,7 @@ Row = Gap | Idle | Got | Note
 NOTES = {"bad": 2, "seal": 4, "seg": 5, "done": 2, "task": 7, "end": 1}  # how many fields follow the verb
 
 
-class ReportError(Exception):
+class ReportError(WrongInput):
     """A file that isn't the report that it is taken for, or two that don't belong together."""
 
 
