@@ -50,7 +50,7 @@ class Disk:
         self.sector_bytes: int = given["sector_bytes"]
         self.head_switch: int = given["head_switch_ns"]
         self.write_settle: int = given["write_settle_ns"]
-        self._seek_points: list[list[int]] = given["seek"]
+        self.seek_points: list[list[int]] = given["seek"]
         self._per_cylinder = given["version"] == 2
         self._defects = _by_cylinder(given.get("defects", []))
         self._grown = _by_cylinder(given.get("grown", []))
@@ -82,13 +82,13 @@ class Disk:
         """How long the arm takes over so many cylinders."""
         if distance == 0:
             return 0
-        at = bisect_right(self._seek_points, distance, key=lambda point: point[0])
-        before, time = self._seek_points[at - 1]
+        at = bisect_right(self.seek_points, distance, key=lambda point: point[0])
+        before, time = self.seek_points[at - 1]
         if before == distance:
             return time
-        if at == len(self._seek_points):
+        if at == len(self.seek_points):
             raise ValueError(f"no seek over {distance} cylinders: are the reports of another disk?")
-        behind, later = self._seek_points[at]
+        behind, later = self.seek_points[at]
         return time + (distance - before) * (later - time) // (behind - before)
 
     def positioning(self, source: Track, target: Track, write: bool) -> int:
