@@ -44,11 +44,12 @@ class BadLine(Exception):
 
 def accesses_of(form: Format, lines: Lines, losses: Losses, block_bytes: int) -> Iterator[Access]:
     """The accesses of a log; a line that isn't of the format is named, with what was expected."""
-    last = [0, ""]
+    last = (0, "")
 
     def watched() -> Iterator[tuple[int, str]]:
-        for last[0], last[1] in lines:
-            yield last[0], last[1]
+        nonlocal last
+        for last in lines:
+            yield last
 
     try:
         yield from form.read(watched(), losses, block_bytes)

@@ -21,9 +21,9 @@ def disk_of(path: str) -> Disk:
             given = tomllib.load(source)
     except (tomllib.TOMLDecodeError, UnicodeDecodeError) as fault:
         raise Refused(f"{path}: no parameter file: {fault}") from None
-    fault = _fault(given)
-    if fault:
-        raise Refused(f"{path}: no parameter file of a disk: {fault}")
+    why = _fault(given)
+    if why:
+        raise Refused(f"{path}: no parameter file of a disk: {why}")
     return Disk(path)
 
 

@@ -1,10 +1,10 @@
-"""The two reports of a run, row by row, without holding them."""
+"""The reports of a run, row by row, without holding them."""
 
 from typing import Iterator, NamedTuple
 
 from lab.disk import Track
 from lab.refusals import WrongInput
-from lab.texts import numbered_lines
+from lab.texts import START, Mark, is_plain, mark_before, numbered_lines
 
 
 class Served(NamedTuple):
@@ -64,7 +64,34 @@ class Note(NamedTuple):
     line: int = 0
 
 
-Row = Gap | Idle | Got | Note
+class Spill(NamedTuple):
+    """A stay on a track to write there, in the gap that stands before it."""
+
+    track: Track
+    begin: int
+    end: int
+    line: int = 0  # of the text of spills
+
+
+class Wrote(NamedTuple):
+    """A block of a put that was written in the stay before it."""
+
+    put: int
+    sector: int
+    length: int
+    begin: int
+    end: int
+    line: int = 0
+
+
+class Spilled(NamedTuple):
+    """The end of the text of spills: sectors that were written, and that were not."""
+
+    written: int
+    left: int
+
+
+Row = Gap | Idle | Got | Note | Spill | Wrote | Spilled
 NOTES = {"bad": 2, "seal": 4, "seg": 5, "done": 2, "task": 7, "end": 1}  # how many fields follow the verb
 
 
@@ -72,10 +99,13 @@ class ReportError(WrongInput):
     """A file that isn't the report that it is taken for, or two that don't belong together."""
 
 
-def served_rows(path: str, section: int | None = None) -> Iterator[Served]:
-    """The rows of a foreground report, in the order of service; `section` is a device of an array's reports."""
+def served_rows(path: str, section: int | None = None, mark: Mark = START) -> Iterator[Served]:
+    """The rows of a foreground report, in the order of service; `section` is a device of an array's reports. With a mark
+    they are those from there on."""
     lines = numbered_lines(path)
     _find(path, lines, section)
+    if mark.offset:
+        lines = numbered_lines(path, mark)
     for number, line in lines:
         if line.startswith("end "):
             return
@@ -113,12 +143,18 @@ def _opened_section(path: str, lines: Iterator[tuple[int, str]], section: int) -
     raise ReportError(f"{path}: no section {section}; it has {', '.join(there) or 'none'}")
 
 
-def rows(fore: str, back: str, section: int | None = None) -> Iterator[Row]:
-    """The rows of a background report, each gap with its request from the foreground report beside it."""
-    requests = served_rows(fore, section)
+def rows(fore: str, back: str, section: int | None = None, since: int = 0) -> Iterator[Row]:
+    """The rows of a background report, each gap with its request from the foreground report beside it. Where they can be
+    looked for, rows are left out that stand before the last gap that begins by the instant `since` (nanoseconds)."""
     lines = numbered_lines(back)
     if next(lines, (1, ""))[1].rstrip("\n") != "freeblock back 1":
         raise ReportError(f"{back}: no background report")
+    first, behind = START, START
+    if since and section is None and is_plain(fore) and is_plain(back):
+        first, behind = _marks(fore, back, since)
+    requests = served_rows(fore, section, first)
+    if behind.offset:
+        lines = numbered_lines(back, behind)
     for number, line in lines:
         fields = line.split()
         try:
@@ -130,6 +166,29 @@ def rows(fore: str, back: str, section: int | None = None) -> Iterator[Row]:
             _end(requests, fore, back)
             return
     raise ReportError(f"{back}: it has no end")
+
+
+def _marks(fore: str, back: str, since: int) -> tuple[Mark, Mark]:
+    """The line of the last gap that begins by this instant, and that of its request in the foreground report."""
+    behind = mark_before(back, _gap_begin, since)
+    if not behind.offset:
+        return START, START
+    with open(back, "rb") as source:
+        source.seek(behind.offset)
+        now = _gap_begin(source.readline())
+    return mark_before(fore, _start, now or 0), behind
+
+
+def _gap_begin(line: bytes) -> int | None:
+    """When the gap begins, if the line tells of one."""
+    fields = line.split(None, 5)
+    return int(fields[4]) if len(fields) == 6 and fields[0] == b"gap" and fields[4].isdigit() else None
+
+
+def _start(line: bytes) -> int | None:
+    """When the request is started, if the line of a foreground report tells of one."""
+    fields = line.split(None, 6)
+    return int(fields[5]) if len(fields) == 7 and fields[5].isdigit() else None
 
 
 def _row(fields: list[str], number: int, requests: Iterator[Served], back: str) -> Row:
