@@ -52,6 +52,9 @@ def run_all(batch: Batch, jobs: int, places: Places) -> bool:
     """Makes the runs that aren't there yet, so many side by side, then table and picture; whether all of them came.
 
     Each is a process of its own, the same as on another machine."""
+    for path in (places.table.parent, places.picture.parent, places.runs):
+        if path is not None:
+            path.mkdir(parents=True, exist_ok=True)
     texts = kept(batch, places.runs)
     left = [run for run in batch.runs if run not in texts]
     if len(left) < len(batch.runs):
