@@ -1,23 +1,20 @@
 """One combination of a grid: its replay with its background and without, and its line of the table."""
 
 import os
-from array import array
 from typing import Any, Iterable
 
-from lab.accounts import IDLE_USED, USED, Bookkeeper
 from lab.digests import digest_of, file_digest, scripts_digest
 from lab.disk import Disk
+from lab.figures import figures_of
 from lab.grid import FILES, Combination
 from lab.params import disk_of
 from lab.program import Runs, replay_both
+from lab.reading import Reports
 from lab.refusals import Refused
-from lab.reports import Gap, Got, rows
-from lab.responses import response_times
 from lab.scripts import wanted_range, write_script
 from lab.tables import NOTHING, Line
-from lab.tasks import Task, Tasks
 
-TAIL = 10  # the rate at the end is that of the last tenth of a run
+RESPONSES = {"mean ms": "mean", "95 % ms": "95th percentile", "99.9 % ms": "99.9th percentile"}
 MOST_TASKS = 8  # of which each has its columns
 
 
@@ -52,37 +49,16 @@ def _script(value: dict[str, Any], tasks: list[str], disk: Disk) -> list[str]:
 
 
 def figures(disk: Disk, runs: Runs) -> Line:
-    """The figures of a run, whose reports are read once."""
-    keeper, tasks, responses = Bookkeeper(disk), Tasks(), array("q")
-    end = end_of(runs.back)
-    tail_begin, tail = end - end // TAIL, dict[str, int]()
-    for row in rows(runs.fore, runs.back):
-        keeper.add(row)
-        tasks.add(row)
-        if isinstance(row, Gap):
-            responses.append(row.served.finish - row.served.arrival)
-        elif isinstance(row, Got) and row.end > tail_begin:
-            tail[row.task] = tail.get(row.task, 0) + row.length * disk.sector_bytes
-    account = keeper.accounts[0]
-    line: Line = {"requests": account.requests, **response_times(responses), "free %": account.percent(USED, IDLE_USED)}
-    line |= {f"{how} MB/s": account.megabytes_a_second(how) for how in ("gap", "ride", "idle")}
-    blocks = sum(task.blocks for task in tasks.by_name.values())
-    line["left %"] = 100 * sum(task.left for task in tasks.by_name.values()) / blocks if blocks else NOTHING
-    if len(tasks.by_name) <= MOST_TASKS:
-        for name, task in tasks.by_name.items():
-            line |= _columns(name, task, tail.get(name, 0) / (end - tail_begin) * 1e3 if end > tail_begin else 0.0)
+    """The figures of a run that a table shows, as `measure` gives them; times of the foreground in milliseconds."""
+    found = figures_of(disk, Reports(runs.fore, runs.back))
+    response, time, background, tasks = (found[group] for group in ("response", "time", "background", "tasks"))
+    line: Line = {"requests": found["foreground"]["requests"]}
+    line |= {name: response[key] / 1e6 if response else NOTHING for name, key in RESPONSES.items()}
+    line["free %"] = time["rotational wait used"] + time["idle used"]
+    line |= {f"{how} MB/s": background[f"MB/s by {how}"] for how in ("gap", "ride", "idle")}
+    blocks = sum(task["blocks"] for task in tasks.values())
+    line["left %"] = 100 * sum(task["left"] for task in tasks.values()) / blocks if blocks else NOTHING
+    for name, task in tasks.items() if len(tasks) <= MOST_TASKS else ():
+        line |= {f"{name} done s": task["completion"] / 1e9 if task["complete"] else NOTHING,
+                 f"{name} left": task["left"], f"{name} end blocks/s": task["blocks a second in the last tenth"]}
     return line
-
-
-def _columns(name: str, task: Task, rate: float) -> Line:
-    """When the task was complete; how many blocks are left, and at which rate it read at the end."""
-    return {f"{name} done s": task.done / 1e9 if task.complete and task.done is not None else NOTHING,
-            f"{name} left": task.left, f"{name} end MB/s": rate}
-
-
-def end_of(back: str) -> int:
-    """When the run of a background report ended, from its last line."""
-    with open(back, "rb") as source:
-        source.seek(max(0, os.path.getsize(back) - 100))
-        last = source.read().split()[-2:]
-    return int(last[1]) if len(last) == 2 and last[0] == b"end" else 0

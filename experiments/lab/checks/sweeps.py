@@ -15,8 +15,8 @@ until = 0.006
 """
 # The README's example: see `example`. Of 9 blocks 2 are left; in the last tenth of the run nothing is read.
 BY_HAND = {"requests": "4", "free %": "8.333", "gap MB/s": "13.333", "ride MB/s": "5.333", "idle MB/s": "0.000",
-           "left %": "22.222", "scan done s": "-", "scan left": "2", "scan end MB/s": "0.000", "copy done s": "0.000",
-           "copy left": "0", "copy end MB/s": "0.000"}
+           "left %": "22.222", "scan done s": "-", "scan left": "2", "scan end blocks/s": "0.000", "copy done s": "0.000",
+           "copy left": "0", "copy end blocks/s": "0.000"}
 TASKS = """
 [[task]]
 name = "scan"

@@ -4,9 +4,9 @@ import os
 from array import array
 from typing import Any, NamedTuple
 
+from lab.figures import percentile
 from lab.program import replay_both
 from lab.reports import served_rows
-from lab.responses import response_times
 from lab.runs import BLOCK, REQUESTS, account_of, columns, disk_named
 from lab.scripts import wanted_range, write_script
 from lab.study import Study
@@ -33,9 +33,9 @@ def measure(run: str, folder: str, part: float) -> list[Line]:
     write_trace(trace, poisson_arrivals(number, rate, seed=3), random_requests(disk.sectors, number, Mix(), seed=2))
     script = write_script(os.path.join(folder, "calls"), wanted_range("plain", BLOCK, 0, disk.sectors))
     runs = replay_both(disk.path, trace, policy, script, folder)
-    responses = response_times(array("q", (row.finish - row.arrival for row in served_rows(runs.fore))))
+    waits = array("q", sorted(row.finish - row.arrival for row in served_rows(runs.fore)))
     line = columns(account_of(disk, runs))
-    return [{"policy": policy, "a second": rate, "95th percentile ms": responses["95 % ms"], **line}]
+    return [{"policy": policy, "a second": rate, "95th percentile ms": percentile(waits, 95) / 1e6, **line}]
 
 
 def draw(table: list[dict[str, Any]], path: str) -> None:
