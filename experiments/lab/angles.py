@@ -72,18 +72,18 @@ class Judge:
         return now
 
     def _got(self, got: Got) -> None:
-        track = self._passing(got, f"block {got.number} of {got.task}")
+        track = self._passing(got)
         if not self._is_reached(got, track):
-            self._refuse(got, f"block {got.number} of {got.task} lies on track {_text(track)}, where the head isn't from "
-                              f"{got.begin} to {got.end}")
+            self._refuse(got, f"{_name(got)} lies on track {_text(track)}, where the head isn't from {got.begin} to "
+                              f"{got.end}")
 
-    def _passing(self, row: Got | Wrote, name: str) -> Track:
+    def _passing(self, row: Got | Wrote) -> Track:
         """The track of a block, which is to pass from its first sector to its last within one rotation."""
         first = self._stretch(row, row.sector, row.length)
         self._at_angle(row, row.sector, first, row.begin)
         end = row.begin + self._lasts(row, first)
         if row.end != end:
-            self._refuse(row, f"{name}, which begins to pass at {row.begin}, ends at {end} and not at {row.end}")
+            self._refuse(row, f"{_name(row)}, which begins to pass at {row.begin}, ends at {end} and not at {row.end}")
         return first.track
 
     def _lasts(self, row: Got | Wrote, first: Stretch) -> int:
@@ -106,10 +106,10 @@ class Judge:
         self._spill = spill
 
     def _wrote(self, wrote: Wrote) -> None:
-        track, spill = self._passing(wrote, f"a block of put {wrote.put}"), self._spill
+        track, spill = self._passing(wrote), self._spill
         if spill is None or track != spill.track or wrote.begin < spill.begin or wrote.end > spill.end:
-            self._refuse(wrote, f"the block of put {wrote.put} lies on track {_text(track)}, where the head isn't from "
-                                f"{wrote.begin} to {wrote.end}")
+            self._refuse(wrote, f"{_name(wrote)} lies on track {_text(track)}, where the head isn't from {wrote.begin} to "
+                                f"{wrote.end}")
 
     def _is_reached(self, got: Got, track: Track) -> bool:
         """Whether the head is on the block's track while it passes."""
@@ -154,6 +154,10 @@ def _place(row: Judged) -> str:
     if isinstance(row, Gap) and not row.line:
         return f"line {row.served.line} of the foreground report"
     return f"line {row.line} of the {'text of spills' if isinstance(row, Spill | Wrote) else 'background report'}"
+
+
+def _name(row: Got | Wrote) -> str:
+    return f"a block of put {row.put}" if isinstance(row, Wrote) else f"block {row.number} of {row.task}"
 
 
 def _text(track: Track) -> str:

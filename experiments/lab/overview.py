@@ -12,7 +12,7 @@ from lab.pieces import ON_THE_WAY, Piece, pieces
 from lab.queueing import Queue, queue_of
 from lab.reading import Reports, run_rows
 from lab.refusals import Refused
-from lab.reports import Gap, Idle, Note, Row, served_rows
+from lab.reports import Gap, Idle, Note, Row, deliveries_before, marks, served_rows
 from lab.tasks import Tasks
 
 BINS = 240
@@ -80,9 +80,20 @@ def found_in(disk: Disk, reports: Reports, begin: int, end: int) -> Long:
         raise Refused(f"the run ended after {end / 1e6:g} ms, so that there is nothing in this stretch")
     bins = Bins(begin, end)
     tasks = Tasks(ending_of(reports.back) if reports.back is not None else Ending(end, {}), bins.edges)
-    _sum_up(bins, disk, pieces(disk, _inside(run_rows(disk, reports), tasks, begin, end)))
+    since = _counted_to(reports, tasks, begin)
+    _sum_up(bins, disk, pieces(disk, _inside(run_rows(disk, reports, since), tasks, begin, end)))
     tasks.stop()
     return Long(bins, queue_of(reports.fore, reports.section), tasks)
+
+
+def _counted_to(reports: Reports, tasks: Tasks, begin: int) -> int:
+    """Counts what was delivered before the rows that are read for a stretch, and says since when they are: from the start
+    on where a backup's blocks may have been overwritten, which the deliveries don't tell."""
+    if reports.back is None or any(task.at_end.kind == "backup" for task in tasks.by_name.values()):
+        return 0
+    _, behind = marks(reports.fore, reports.back, reports.section, begin)
+    tasks.begin_with(deliveries_before(reports.back, behind))
+    return begin
 
 
 def _inside(found: Iterable[Row], tasks: Tasks, begin: int, end: int) -> Iterator[Row]:
@@ -199,5 +210,6 @@ def _draw_left(axes: Axes, tasks: Tasks, edges: list[float]) -> None:
         others += colour == OTHERS
         label = name if colour != OTHERS else "other tasks" if others == 1 else None
         axes.plot(edges, left, color=colour, lw=1.6 if colour != OTHERS else 0.6, label=label)
-    axes.set_ylim(0, 103)
+    low, high = axes.get_ylim()
+    axes.set_ylim(max(low, -3), min(high, 103))
     axes.set_ylabel("percent of\nblocks left")

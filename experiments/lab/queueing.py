@@ -1,9 +1,10 @@
 """How many requests wait: those that have arrived and aren't done, at any instant of a run."""
 
 from bisect import bisect_left, bisect_right
+from collections import Counter
 from typing import NamedTuple
 
-from lab.reports import served_rows
+from lab.reports import no_row, row_lines
 
 
 class Queue(NamedTuple):
@@ -18,12 +19,12 @@ class Queue(NamedTuple):
 
     def steps(self, begin: int, end: int) -> tuple[list[int], list[int]]:
         """Where the length changes in a stretch, its beginning and end included, and the length from each of these on."""
-        events = [(at, 1) for at in _behind(self.arrivals, begin, end)]
-        events += [(at, -1) for at in _behind(self.finishes, begin, end)]
+        changes = Counter(_behind(self.arrivals, begin, end))
+        changes.subtract(_behind(self.finishes, begin, end))
         now = self.length(begin)
         instants, lengths = [begin], [now]
-        for at, change in sorted(events):
-            now += change
+        for at in sorted(changes):
+            now += changes[at]
             instants.append(at)
             lengths.append(now)
         return [*instants, end], [*lengths, now]
@@ -41,7 +42,11 @@ def _behind(ascending: list[int], begin: int, end: int) -> list[int]:
 def queue_of(fore: str, section: int | None) -> Queue:
     """The queue of a run, of all of its foreground report."""
     arrivals, finishes = [], []
-    for row in served_rows(fore, section):
-        arrivals.append(row.arrival)
-        finishes.append(row.finish)
+    for number, line in row_lines(fore, section):
+        fields = line.split(None, 8)
+        try:
+            arrivals.append(int(fields[4]))
+            finishes.append(int(fields[7]))
+        except (ValueError, IndexError):
+            raise no_row(fore, number) from None
     return Queue(sorted(arrivals), finishes)

@@ -1,10 +1,12 @@
 """The reports of a run, row by row, without holding them."""
 
+import re
+from collections import Counter
 from typing import Iterator, NamedTuple
 
 from lab.disk import Track
 from lab.refusals import WrongInput
-from lab.texts import START, Mark, is_plain, mark_before, numbered_lines
+from lab.texts import CHUNK, START, Mark, is_plain, mark_before, numbered_lines
 
 
 class Served(NamedTuple):
@@ -92,6 +94,8 @@ class Spilled(NamedTuple):
 
 
 Row = Gap | Idle | Got | Note | Spill | Wrote | Spilled
+GOT = re.compile(rb"^got (\S+)", re.MULTILINE)
+WAYS = {how: how for how in ("gap", "idle", "ride")}
 NOTES = {"bad": 2, "seal": 4, "seg": 5, "done": 2, "task": 7, "end": 1}  # how many fields follow the verb
 
 
@@ -102,6 +106,17 @@ class ReportError(WrongInput):
 def served_rows(path: str, section: int | None = None, mark: Mark = START) -> Iterator[Served]:
     """The rows of a foreground report, in the order of service; `section` is a device of an array's reports. With a mark
     they are those from there on."""
+    for number, line in row_lines(path, section, mark):
+        try:
+            name, way, *numbers, _ = line.split(None, 8)
+            sector, count, arrival, start, media, finish = map(int, numbers)
+        except ValueError:
+            raise no_row(path, number) from None
+        yield Served(name, way == "R", sector, count, arrival, start, media, finish, number)
+
+
+def row_lines(path: str, section: int | None = None, mark: Mark = START) -> Iterator[tuple[int, str]]:
+    """The lines of the rows of a foreground report, with their numbers."""
     lines = numbered_lines(path)
     _find(path, lines, section)
     if mark.offset:
@@ -109,13 +124,13 @@ def served_rows(path: str, section: int | None = None, mark: Mark = START) -> It
     for number, line in lines:
         if line.startswith("end "):
             return
-        try:
-            name, way, *numbers, _ = line.split(None, 8)
-            sector, count, arrival, start, media, finish = map(int, numbers)
-        except ValueError:
-            raise ReportError(f"{path}: line {number} is no line of a foreground report") from None
-        yield Served(name, way == "R", sector, count, arrival, start, media, finish, number)
+        yield number, line
     raise ReportError(f"{path}: it has no end")
+
+
+def no_row(path: str, number: int) -> ReportError:
+    """What is said of a line that isn't one of a foreground report."""
+    return ReportError(f"{path}: line {number} is no line of a foreground report")
 
 
 def _find(path: str, lines: Iterator[tuple[int, str]], section: int | None) -> None:
@@ -149,17 +164,19 @@ def rows(fore: str, back: str, section: int | None = None, since: int = 0) -> It
     lines = numbered_lines(back)
     if next(lines, (1, ""))[1].rstrip("\n") != "freeblock back 1":
         raise ReportError(f"{back}: no background report")
-    first, behind = START, START
-    if since and section is None and is_plain(fore) and is_plain(back):
-        first, behind = _marks(fore, back, since)
+    first, behind = marks(fore, back, section, since)
     requests = served_rows(fore, section, first)
     if behind.offset:
         lines = numbered_lines(back, behind)
     for number, line in lines:
-        fields = line.split()
+        fields = line.split(None, 8)
         try:
+            if fields[0] == "got":  # most lines are
+                _, task, block, sector, count, begin, end, how, _ = fields
+                yield Got(task, int(block), int(sector), int(count), int(begin), int(end), WAYS[how], number)
+                continue
             row = _row(fields, number, requests, back)
-        except (ValueError, IndexError):
+        except (ValueError, IndexError, KeyError):
             raise ReportError(f"{back}: line {number} is no line of a background report") from None
         yield row
         if fields[0] == "end":
@@ -168,8 +185,11 @@ def rows(fore: str, back: str, section: int | None = None, since: int = 0) -> It
     raise ReportError(f"{back}: it has no end")
 
 
-def _marks(fore: str, back: str, since: int) -> tuple[Mark, Mark]:
-    """The line of the last gap that begins by this instant, and that of its request in the foreground report."""
+def marks(fore: str, back: str, section: int | None, since: int) -> tuple[Mark, Mark]:
+    """Where the two reports can be read from: at the last gap that begins by this instant, and at its request; or at their
+    beginnings, where lines can't be looked for."""
+    if not since or section is not None or not is_plain(fore) or not is_plain(back):
+        return START, START
     behind = mark_before(back, _gap_begin, since)
     if not behind.offset:
         return START, START
@@ -177,6 +197,19 @@ def _marks(fore: str, back: str, since: int) -> tuple[Mark, Mark]:
         source.seek(behind.offset)
         now = _gap_begin(source.readline())
     return mark_before(fore, _start, now or 0), behind
+
+
+def deliveries_before(back: str, mark: Mark) -> Counter[str]:
+    """How many blocks of each task are delivered on the lines of a background report before the mark."""
+    found: Counter[str] = Counter()
+    left = mark.offset
+    with open(back, "rb") as source:
+        while left:
+            lines = source.read(min(CHUNK, left))
+            lines += source.readline() if len(lines) < left else b""
+            left -= len(lines)
+            found.update(task.decode() for task in GOT.findall(lines))
+    return found
 
 
 def _gap_begin(line: bytes) -> int | None:
@@ -193,9 +226,6 @@ def _start(line: bytes) -> int | None:
 
 def _row(fields: list[str], number: int, requests: Iterator[Served], back: str) -> Row:
     verb = fields[0]
-    if verb == "got":
-        sector, count, begin, end = map(int, fields[3:7])
-        return Got(fields[1], int(fields[2]), sector, count, begin, end, _way(fields[7]), number)
     if verb == "gap":
         return _gap(fields, next(requests, None), back, number)
     if verb == "idle":
@@ -203,12 +233,6 @@ def _row(fields: list[str], number: int, requests: Iterator[Served], back: str) 
     if len(fields) != 1 + NOTES.get(verb, -1):
         raise ValueError
     return Note(verb, fields[1:], number)
-
-
-def _way(how: str) -> str:
-    if how not in ("gap", "idle", "ride"):
-        raise ValueError
-    return how
 
 
 def _end(requests: Iterator[Served], fore: str, back: str) -> None:

@@ -1,6 +1,7 @@
 """What each background task of a run did, added up row by row."""
 
 from dataclasses import dataclass, field
+from typing import Mapping
 
 from lab.ending import Ending, TaskEnd
 from lab.images import Image
@@ -73,6 +74,11 @@ class Tasks:
         self.instants = instants
         self._noted = 0  # how many of the instants have passed
         self._write: Served | None = None  # one that isn't done yet
+
+    def begin_with(self, delivered: Mapping[str, int]) -> None:
+        """Counts so many deliveries of each task, which isn't a backup, before all rows."""
+        for name, blocks in delivered.items():
+            self._task(name).readings = blocks
 
     def add(self, row: Row) -> None:
         """Counts a row. A write is done after the deliveries of its own gap, and before all that follows."""

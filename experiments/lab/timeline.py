@@ -84,6 +84,7 @@ def draw(stretch: Stretch, path: str, title: str) -> None:
     angle.set_ylim(0, 1)
     lanes.set_xlabel(f"time ({'microseconds' if scale == 1e3 else 'milliseconds'})")
     lanes.set_xlim(stretch.begin / scale, stretch.end / scale)
+    lanes.ticklabel_format(axis="x", useOffset=False)
     if colours:
         entries = [Patch(color=colour, label=name) for name, colour in named(colours).items()]
         way.legend(handles=entries, loc="lower right", bbox_to_anchor=(1, 1), ncol=min(len(entries), 6), fontsize=8,
