@@ -1,6 +1,7 @@
 """Digests of what a run is made of, so that a run of other inputs is found out."""
 
 import hashlib
+import os
 from functools import lru_cache
 from pathlib import Path
 
@@ -16,9 +17,14 @@ def digest_of(*parts: str | bytes) -> str:
     return found.hexdigest()[:16]
 
 
-@lru_cache(maxsize=None)
 def file_digest(path: str) -> str:
-    """The digest of a file's contents."""
+    """The digest of a file's contents; one that hasn't changed is read once."""
+    found = os.stat(path)
+    return _file_digest(path, found.st_mtime_ns, found.st_size)
+
+
+@lru_cache(maxsize=None)
+def _file_digest(path: str, _written: int, _size: int) -> str:
     with open(path, "rb") as source:
         return hashlib.file_digest(source, "sha256").hexdigest()
 

@@ -7,7 +7,7 @@ from pathlib import Path
 from subprocess import run as run_with
 from typing import Any
 
-from lab.checks._tools import EXAMPLES, HERE, Ended, ended, has_matplotlib, run
+from lab.checks._tools import EXAMPLES, HERE, Ended, answer, ended, has_matplotlib, run
 from lab.program import program
 from lab.refusals import Refused
 from lab.sheet import write_from_sheet
@@ -55,7 +55,7 @@ def _figures(folder: Path) -> list[str]:
               ("spared by one slot more", border["spared_to_read"], 895_833 + 8_333_333 - 902_777),
               ("the least skew", border["skew_for_reads"], 130)]
     faults = [f"disk says {name} {value}, by hand {due}" for name, value, due in wants if value != due]
-    page = run(HERE / "disk", disk)
+    page = answer("disk", disk)
     return faults + ([] if "track_skew 130 would spare 8.326 ms" in page else ["the page doesn't advise another skew"])
 
 
@@ -88,17 +88,17 @@ def _refused(folder: Path) -> list[str]:
     cases = {"no answers": (_asked(disk, []), "is no number"),
              "a file that is there": (_asked(small, SHEET), "is there already"),
              "no folder": (_asked(folder / "no/disk.toml", SHEET), "no folder"),
-             "no file": (ended(HERE / "disk", folder / "no.toml"), "no such file"),
-             "a trace": (ended(HERE / "disk", EXAMPLES / "small.trace"), "no parameter file")}
+             "no file": (ended("disk", folder / "no.toml"), "no such file"),
+             "a trace": (ended("disk", EXAMPLES / "small.trace"), "no parameter file")}
     if has_matplotlib():
-        cases["a picture over its disk"] = (ended(HERE / "disk", small, "--picture", small), "would be lost")
-        cases["a picture of no kind"] = (ended(HERE / "disk", small, "--picture", folder / "disk.doc"), "ends with")
+        cases["a picture over its disk"] = (ended("disk", small, "--picture", small), "would be lost")
+        cases["a picture of no kind"] = (ended("disk", small, "--picture", folder / "disk.doc"), "ends with")
     wrong = {name: said for name, (said, what) in cases.items() if not _refuses(said, what)}
     return faults + [f"disk with {name} says {said}" for name, said in wrong.items()]
 
 
 def _facts(disk: Path) -> dict[str, Any]:
-    return dict(json.loads(run(HERE / "disk", disk, "--json")))
+    return dict(json.loads(answer("disk", disk, "--json")))
 
 
 def _asked(disk: Path, answers: list[str], *more: str | Path) -> Ended:

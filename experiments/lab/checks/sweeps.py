@@ -2,7 +2,7 @@
 
 from pathlib import Path
 
-from lab.checks._tools import EXAMPLES, HERE, SMALL_DISK, Ended, ended, has_matplotlib, run
+from lab.checks._tools import EXAMPLES, SMALL_DISK, Ended, answer, ended, has_matplotlib
 from lab.grid import read_grid
 from lab.refusals import Refused
 
@@ -57,7 +57,7 @@ def check(folder: Path) -> list[str]:
 
 def _table(grid: Path, folder: Path) -> list[str]:
     """The line of the README's example, and a picture."""
-    said = ended(HERE / "sweep", grid, "--out", folder / "out")
+    said = ended("sweep", grid, "--out", folder / "out")
     if said.status:
         return [f"sweep says {said}"]
     names, *rows = [line.split("\t") for line in (folder / "out/table.tsv").read_text().splitlines()]
@@ -79,7 +79,7 @@ def _resumed(grid: Path, folder: Path) -> list[str]:
     table = (folder / "out/table.tsv").read_text()
     whole = kept.read_text()
     kept.write_text(whole[:-6])
-    said = ended(HERE / "sweep", grid, "--out", folder / "out")
+    said = ended("sweep", grid, "--out", folder / "out")
     faults = []
     if said.status or "sptf is broken" not in said.err or "1 of 2 runs are there" not in said.err:
         faults.append(f"with a broken run sweep says {said}")
@@ -92,11 +92,11 @@ def _joined(grid: Path, folder: Path) -> list[str]:
     """Each run once, from one file or several, and no other."""
     fcfs, sptf = folder / "out/runs/fcfs.tsv", folder / "out/runs/sptf.tsv"
     both, broken, empty, other = (folder / name for name in ("both", "broken", "empty", "other"))
-    both.write_text(sptf.read_text() + run(HERE / "sweep", grid, "--run", "fcfs"))
+    both.write_text(sptf.read_text() + answer("sweep", grid, "--run", "fcfs"))
     broken.write_text(sptf.read_text()[:-6])
     empty.write_text("")
     (folder / "large.toml").write_text(GRID)
-    other.write_text(run(HERE / "sweep", folder / "large.toml", "--run", "sptf"))
+    other.write_text(answer("sweep", folder / "large.toml", "--run", "sptf"))
     wants = {
         "one missing": ([fcfs], "1 run is missing: sptf"),
         "one twice": ([fcfs, sptf, both], "run sptf a second time"),
@@ -108,13 +108,13 @@ def _joined(grid: Path, folder: Path) -> list[str]:
     }
     faults = []
     for name, (files, what) in wants.items():
-        said = ended(HERE / "sweep", grid, "--join", *files)
+        said = ended("sweep", grid, "--join", *files)
         faults += [] if _refuses(said, what) else [f"join with {name} says {said}"]
-    said = ended(HERE / "sweep", grid, "--join", both)
+    said = ended("sweep", grid, "--join", both)
     if said.status or said.out != (folder / "out/table.tsv").read_text():
         faults.append(f"join of both runs says {said}")
     (folder / "disk.toml").write_text((EXAMPLES / "worn-disk.toml").read_text())
-    said = ended(HERE / "sweep", grid, "--join", both)
+    said = ended("sweep", grid, "--join", both)
     (folder / "disk.toml").write_text(SMALL_DISK.read_text())
     return faults + ([] if _refuses(said, "made of other inputs") else [f"join of another disk's runs says {said}"])
 
@@ -125,7 +125,7 @@ def _failing(folder: Path) -> list[str]:
     trace.write_text("0 0 90 4 1\n")  # the worn disk has 80 sectors, the small one 96
     worn = EXAMPLES / "worn-disk.toml"
     grid.write_text(f'params = ["{SMALL_DISK}", "{worn}"]\ntrace = "wide.trace"\npolicy = "fcfs"\n{TASKS}')
-    said = ended(HERE / "sweep", grid, "--out", folder / "wide", "--jobs", "2")
+    said = ended("sweep", grid, "--out", folder / "wide", "--jobs", "2")
     faults = []
     note = "worn-disk-1: freeblock: trace: line 1: BeyondDisk"
     if said.status != 1 or note not in said.err or "Traceback" in said.err:
@@ -147,7 +147,7 @@ def _faulty(folder: Path) -> list[str]:
         faults += [] if what in said else [f"a grid with {name} gives {said or 'no fault'}"]
     for words, what in (([folder / "no.toml"], "no such file"), ([folder], "a folder"), ([grid, "--list"], "two tasks"),
                         ([folder / "small.toml", "--run", "lifo"], "there is no run lifo")):
-        said = ended(HERE / "sweep", *words)
+        said = ended("sweep", *words)
         faults += [] if _refuses(said, what) else [f"sweep of {words} says {said}"]
     return faults
 
