@@ -169,11 +169,11 @@ def advice(facts: dict[str, Any]) -> list[str]:
 
 def _lost(what: str, key: str, way: str, lost: list[tuple[int, int, int]]) -> str:
     """One line for all zones with this fault."""
-    zones, skews = (" ".join(str(one[at]) for one in lost) for at in (0, 1))
+    zones, skews = (", ".join(str(one[at]) for one in lost) for at in (0, 1))
     times = sorted({_ms(one[2]) for one in lost})
     spared = times[0] if len(times) == 1 else f"{times[0]} to {times[-1]}"
-    return (f"{way.capitalize()} miss the next sector at each {what} of zone {zones}: {key} {skews} would spare "
-            f"{spared} ms each time.")
+    return (f"{way.capitalize()} miss the next sector at each {what} of zone{'s' * (len(lost) > 1)} {zones}: {key} {skews} would "
+            f"spare {spared} ms each time.")
 
 
 def _ms(nanoseconds: float) -> str:

@@ -42,7 +42,8 @@ def draw_sweep(grid: Grid, table: list[Line], path: str) -> None:
             "MB/s read for the background", "percent of the head's time\nin which blocks are read",
             "response time (ms)", "percent of the blocks left")):
         _finish(axes, along, label)
-    left.set_ylim(0, 105)
+    left.set_ylim(0, max(5, left.get_ylim()[1]))
+    response.set_ylim(0, 1.2 * response.get_ylim()[1])
     _keyed(response)
     if across is not None:
         handles, labels = free.get_legend_handles_labels()
@@ -134,7 +135,8 @@ def _finish(axes: Axes, along: Key, label: str) -> None:
     """Ticks at the values that were run, and a scale from nothing on."""
     axes.set_ylabel(label)
     axes.set_xlabel(along.name + UNITS.get(along.name.split(".")[-1], ""))
-    axes.set_ylim(0, axes.get_ylim()[1] if axes.get_ylim()[1] > 0 else 1)
+    top = axes.dataLim.y1
+    axes.set_ylim(0, 1.08 * top if 0 < top < float("inf") else 1)
     if axes.containers:  # bars, whose ticks are set
         return
     places = _places(along)
@@ -151,7 +153,7 @@ def _keyed(axes: Axes) -> None:
     """A legend of the filled and the hollow marks alone."""
     handles, labels = axes.get_legend_handles_labels()
     kept = [(handle, label) for handle, label in zip(handles, labels) if not label.startswith("_") and label]
-    axes.legend(*zip(*kept), fontsize=8, loc="best")
+    axes.legend(*zip(*kept), fontsize=8, loc="upper left", ncol=2)
 
 
 def _fixed(grid: Grid) -> str:
