@@ -30,7 +30,16 @@ def positive(text: str) -> int:
 
 
 def carry_out(batch: Batch, words: argparse.Namespace, places: Places) -> int:
-    """Does what the words ask for; the exit status."""
+    """Does what the words ask for; the exit status. Runs that can't be joined have a line each."""
+    try:
+        return _carried_out(batch, words, places)
+    except JoinFault as faults:
+        for fault in faults.args:
+            batch.say(fault)
+        return REFUSED
+
+
+def _carried_out(batch: Batch, words: argparse.Namespace, places: Places) -> int:
     if words.list:
         print("\n".join(batch.runs))
     elif words.run is not None:
@@ -43,23 +52,12 @@ def carry_out(batch: Batch, words: argparse.Namespace, places: Places) -> int:
             assert places.runs is not None
             write_whole(places.runs / f"{words.run}.tsv", text)
     elif words.join:
-        return _join(batch, words, places)
+        lines = joined(batch, texts_of(words.join))
+        if words.out is None:
+            print_table(lines)
+        else:
+            finish(batch, lines, places)
     else:
         program()
         return 0 if run_all(batch, words.jobs, places) else WRONG
-    return 0
-
-
-def _join(batch: Batch, words: argparse.Namespace, places: Places) -> int:
-    """Joins, or tells a line for each run that is missing, twice, broken or foreign."""
-    try:
-        lines = joined(batch, texts_of(words.join))
-    except JoinFault as faults:
-        for fault in faults.args:
-            batch.say(fault)
-        return REFUSED
-    if words.out is None:
-        print_table(lines)
-    else:
-        finish(batch, lines, places)
     return 0

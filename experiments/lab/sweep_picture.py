@@ -1,5 +1,6 @@
 """A sweep's picture: what the background got and what requests took, by one or two varied keys."""
 
+from textwrap import fill
 from typing import Any, Callable, Iterator, NamedTuple
 
 from matplotlib.axes import Axes
@@ -47,10 +48,10 @@ def draw_sweep(grid: Grid, table: list[Line], path: str) -> None:
     _keyed(response)
     if across is not None:
         handles, labels = free.get_legend_handles_labels()
-        figure.legend(handles, labels, loc="upper center", ncol=min(len(labels), 6), bbox_to_anchor=(0.5, 0.965),
+        figure.legend(handles, labels, loc="upper center", ncol=min(len(labels), 6), bbox_to_anchor=(0.5, 0.96),
                       title=across.name + UNITS.get(across.name.split(".")[-1], ""), title_fontsize=9)
     figure.suptitle(_fixed(grid), fontsize=9, x=0.01, ha="left", y=0.995)
-    save(figure, path, rect=(0, 0, 1, 0.9 if across is not None else 0.97))
+    save(figure, path, rect=(0, 0, 1, 0.9 if across is not None else 0.96))
 
 
 def _roles(keys: list[Key]) -> tuple[Key, Key | None]:
@@ -128,17 +129,18 @@ def _stacked(axes: Axes, along: Key, lines: list[Line]) -> None:
                  label=how.removesuffix(" MB/s"))
         below = [low + value for low, value in zip(below, values)]
     axes.set_xticks(places, [along.choices[at].label for at in order])
-    axes.legend(fontsize=8, loc="best")
+    axes.set_ylim(0, 1.15 * max(below) or 1)
+    axes.legend(fontsize=8, loc="upper left", ncol=3)
 
 
 def _finish(axes: Axes, along: Key, label: str) -> None:
     """Ticks at the values that were run, and a scale from nothing on."""
     axes.set_ylabel(label)
     axes.set_xlabel(along.name + UNITS.get(along.name.split(".")[-1], ""))
+    if axes.containers:  # bars, whose scale and ticks are set
+        return
     top = axes.dataLim.y1
     axes.set_ylim(0, 1.08 * top if 0 < top < float("inf") else 1)
-    if axes.containers:  # bars, whose ticks are set
-        return
     places = _places(along)
     if along.is_number and min(places) > 0 and max(places) >= 8 * min(places):
         axes.set_xscale("log")
@@ -159,4 +161,4 @@ def _keyed(axes: Axes) -> None:
 def _fixed(grid: Grid) -> str:
     """What is the same in all runs."""
     fixed = [f"{key.name} {key.choices[0].label}" for key in grid.keys if not key.is_varied]
-    return f"{grid.name}: " + ", ".join(fixed) if fixed else grid.name
+    return fill(f"{grid.name}: " + ", ".join(fixed) if fixed else grid.name, 130)

@@ -62,7 +62,7 @@ def _figures(folder: Path) -> list[str]:
 def _sheet(folder: Path) -> list[str]:
     """The file of a sheet has the sheet's figures, and the program takes it."""
     disk = folder / "sheet.toml"
-    said = _asked(disk, SHEET, *(["--picture", folder / "disk.png"] if has_matplotlib() else []))
+    said = _asked(disk, SHEET, *(("--picture", str(folder / "disk.png")) if has_matplotlib() else ()))
     if said.status:
         return [f"disk --sheet says {said}"]
     facts = _facts(disk)
@@ -101,8 +101,8 @@ def _facts(disk: Path) -> dict[str, Any]:
     return dict(json.loads(answer("disk", disk, "--json")))
 
 
-def _asked(disk: Path, answers: list[str], *more: str | Path) -> Ended:
-    done = run_with([str(HERE / "disk"), str(disk), "--sheet", *map(str, more)], capture_output=True, text=True,
+def _asked(disk: Path, answers: list[str], *more: str) -> Ended:
+    done = run_with([str(HERE / "disk"), str(disk), "--sheet", *more], capture_output=True, text=True,
                     input="".join(f"{answer}\n" for answer in answers))
     return Ended(done.returncode, done.stdout, done.stderr)
 

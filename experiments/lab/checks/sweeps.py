@@ -143,12 +143,14 @@ def _faulty(folder: Path) -> list[str]:
     faults, grid = [], folder / "faulty.toml"
     for name, text, what in cases:
         grid.write_text(text)
-        said = _refusal(grid)
-        faults += [] if what in said else [f"a grid with {name} gives {said or 'no fault'}"]
-    for words, what in (([folder / "no.toml"], "no such file"), ([folder], "a folder"), ([grid, "--list"], "two tasks"),
-                        ([folder / "small.toml", "--run", "lifo"], "there is no run lifo")):
-        said = ended("sweep", *words)
-        faults += [] if _refuses(said, what) else [f"sweep of {words} says {said}"]
+        why = _refusal(grid)
+        faults += [] if what in why else [f"a grid with {name} gives {why or 'no fault'}"]
+    cases_of_words: list[tuple[Path, list[str], str]] = [
+        (folder / "no.toml", [], "no such file"), (folder, [], "a folder"), (grid, ["--list"], "two tasks"),
+        (folder / "small.toml", ["--run", "lifo"], "there is no run lifo")]
+    for file, words, what in cases_of_words:
+        said = ended("sweep", file, *words)
+        faults += [] if _refuses(said, what) else [f"sweep of {file} {words} says {said}"]
     return faults
 
 
