@@ -19,7 +19,7 @@ def check(folder: Path) -> list[str]:
     for suffix, start in STARTS.items():
         for name, stretch in (("long", ["--whole"]), ("short", ["--from", "900", "--to", "950"])):
             out = folder / f"{name}{suffix}"
-            answer("picture", DISK, fore, back, out, *stretch, "--title", "<500> requests & $two$ tasks")
+            answer("picture", DISK, fore, back, out, *stretch, "--title", r"<500> requests & $\two tasks_{")
             faults += [] if out.read_bytes().startswith(start) else [f"{out.name} isn't what its name says"]
     return faults
 
@@ -37,7 +37,7 @@ def _made_run(folder: Path) -> tuple[Path, Path]:
 def _sums(fore: Path, back: Path) -> list[str]:
     """Times and bytes over the whole run are those of `measure`, but that transfer and moves are told apart otherwise."""
     from lab.figures import figures_of
-    from lab.overview import BINS, end_of, found_in, shares
+    from lab.overview import end_of, found_in, shares
     from lab.params import disk_of
     from lab.reading import Reports
 
@@ -45,7 +45,7 @@ def _sums(fore: Path, back: Path) -> list[str]:
     bins = found_in(disk, reports, 0, end_of(reports)).bins
     figures = figures_of(disk, reports)
     time, background = figures["time"], figures["background"]
-    found = {name: sum(parts) / BINS for name, parts in shares(bins).items()}
+    found = {name: sum(parts) / bins.number for name, parts in shares(bins).items()}
     wanted = {"used in gaps": time["rotational wait used"], "used for puts": 0, "used when idle": time["idle used"],
               "wait unused": time["rotational wait unused"], "idle unused": time["idle unused"],
               "arm or head moves": time["seek"] + time["detour moves"],
