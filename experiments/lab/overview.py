@@ -1,4 +1,4 @@
-"""A long stretch of a run as a picture: what the head's time went into, rates, the queue, and what is left of each task."""
+"""A long stretch of a run as a picture: what the head's time went into, rates, the queue, and what is left of tasks."""
 
 from typing import Iterable, Iterator, NamedTuple
 
@@ -23,8 +23,9 @@ FEWEST, MOST = 60, 240
 # that part in which blocks pass.
 PARTS = {"foreground read": NAVY, "foreground write": RED, "used in gaps": GREEN, "used for puts": "#e377c2",
          "used when idle": "#8fd4a6", "wait unused": AMBER, "arm or head moves": MIDDLE, "idle unused": LIGHT}
-RATES = {"read": ("foreground read", NAVY, "-"), "write": ("foreground write", RED, "-"), "gap": ("in gaps", GREEN, "-"),
-         "ride": ("by rides", GREEN, "--"), "idle": ("in idle time", GREEN, ":"), "put": ("puts", "#e377c2", "-")}
+RATES = {"read": ("foreground read", NAVY, "-"), "write": ("foreground write", RED, "-"),
+         "gap": ("in gaps", GREEN, "-"), "ride": ("by rides", GREEN, "--"), "idle": ("in idle time", GREEN, ":"),
+         "put": ("puts", "#e377c2", "-")}
 
 
 class Bins:
@@ -90,8 +91,8 @@ def found_in(disk: Disk, reports: Reports, begin: int, end: int) -> Long:
 
 
 def _counted_to(reports: Reports, tasks: Tasks, begin: int) -> int:
-    """Counts what was delivered before the rows that are read for a stretch, and says since when they are: from the start
-    on where a backup's blocks may have been overwritten, which the deliveries don't tell."""
+    """Counts what was delivered before the rows that are read for a stretch, and says since when they are: from the
+    start on where a backup's blocks may have been overwritten, which the deliveries don't tell."""
     if reports.back is None or any(task.at_end.kind == "backup" for task in tasks.by_name.values()):
         return 0
     _, behind = marks(reports.fore, reports.back, reports.section, begin)
@@ -192,7 +193,8 @@ def _draw_shares(axes: Axes, bins: Bins, edges: list[float]) -> None:
     for name, share in shares(bins).items():
         if max(share) > 1e-9:
             top = [low + more for low, more in zip(base, share)]
-            axes.fill_between(edges, [*base, base[-1]], [*top, top[-1]], step="post", color=PARTS[name], lw=0, label=name)
+            axes.fill_between(edges, [*base, base[-1]], [*top, top[-1]], step="post", color=PARTS[name], lw=0,
+                              label=name)
             base = top
     axes.set_ylim(0, 100)
     axes.set_ylabel("percent of the\nhead's time")
@@ -213,7 +215,8 @@ def _draw_queue(axes: Axes, long: Long, edges: list[float]) -> None:
     greatest = [0] * bins.number
     for begin, end, length in zip(instants, instants[1:], lengths):
         bins.add("queue", begin, end, length * (end - begin))
-        for at in range(int((begin - bins.begin) / bins.width), min(int((end - bins.begin) / bins.width), bins.number - 1) + 1):
+        first, last = int((begin - bins.begin) / bins.width), int((end - bins.begin) / bins.width)
+        for at in range(first, min(last, bins.number - 1) + 1):
             greatest[at] = max(greatest[at], length)
     mean = [sum_ / bins.width for sum_ in bins.sums("queue")]
     axes.fill_between(edges, [*greatest, greatest[-1]], step="post", color="#c9d3e3", lw=0, label="greatest")

@@ -14,7 +14,7 @@ GREATEST = 10**12
 
 
 def disk_of(path: str) -> Disk:
-    """The disk of a parameter file. What is refused here the program refuses too, which knows more faults than these."""
+    """The disk of a parameter file. What is refused here the program refuses too, and it knows more faults."""
     readable(path)
     try:
         with open(path, "rb") as source:
@@ -88,5 +88,7 @@ def _is_number(value: Any, least: int) -> bool:
 
 
 def _are_lists(value: Any, length: int) -> bool:
-    return (isinstance(value, list) and bool(value) and all(isinstance(one, list) and len(one) == length for one in value)
-            and all(_is_number(number, 0) for one in value for number in one))
+    if not isinstance(value, list) or not value:
+        return False
+    return all(isinstance(one, list) and len(one) == length and all(_is_number(number, 0) for number in one)
+               for one in value)

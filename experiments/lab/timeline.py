@@ -64,7 +64,8 @@ def found_in(disk: Disk, reports: Reports, begin: int, end: int) -> Stretch:
     found = within(pieces(disk, run_rows(disk, reports, begin)), begin, end)
     if not found:
         raise Refused("the run has nothing in this stretch")
-    return Stretch(disk, found, queue_of(reports.fore, reports.section), begin, min(end, max(piece.end for piece in found)))
+    last = max(piece.end for piece in found)
+    return Stretch(disk, found, queue_of(reports.fore, reports.section), begin, min(end, last))
 
 
 def draw(stretch: Stretch, path: str, title: str) -> None:
@@ -87,7 +88,8 @@ def draw(stretch: Stretch, path: str, title: str) -> None:
     lanes.ticklabel_format(axis="x", useOffset=False)
     if colours:
         entries = [Patch(color=colour, label=f"blocks of {name}") for name, colour in named(colours).items()]
-        lanes.legend(handles=entries, loc="upper left", bbox_to_anchor=(-0.02, -0.2), ncol=4, fontsize=8, borderaxespad=0)
+        lanes.legend(handles=entries, loc="upper left", bbox_to_anchor=(-0.02, -0.2), ncol=4, fontsize=8,
+                     borderaxespad=0)
     figure.align_ylabels()
     figure.tight_layout()
     _name_requests(way, stretch)
@@ -187,7 +189,8 @@ def _draw_lanes(axes: Axes, stretch: Stretch, colours: dict[str, str]) -> None:
             _fill(axes, stretch, base, top, colour)
             base = top
         lasted = sum(min(piece.end, stretch.end) - max(piece.begin, stretch.begin) for piece in of_kind)
-        text = f"{len(of_kind)}: {lasted / stretch.scale:.3g} {'µs' if stretch.scale == 1e3 else 'ms'}" if of_kind else "0"
+        unit = "µs" if stretch.scale == 1e3 else "ms"
+        text = f"{len(of_kind)}: {lasted / stretch.scale:.3g} {unit}" if of_kind else "0"
         axes.text(1.008, lane, text, transform=axes.get_yaxis_transform(), fontsize=8, va="center")
     axes.set_yticks(range(len(kinds)), [LOOKS[kind].lane for kind in kinds], fontsize=9)
     axes.set_ylim(len(kinds) - 0.4, -0.6)
@@ -216,6 +219,7 @@ def covered(found: list[Piece], stretch: Stretch) -> list[float]:
 
 
 def _fill(axes: Axes, stretch: Stretch, base: list[float], top: list[float], colour: str) -> None:
-    edges = [(stretch.begin + (stretch.end - stretch.begin) * at / COLUMNS) / stretch.scale for at in range(COLUMNS + 1)]
+    whole = stretch.end - stretch.begin
+    edges = [(stretch.begin + whole * at / COLUMNS) / stretch.scale for at in range(COLUMNS + 1)]
     axes.fill_between(edges, [*base, base[-1]], [*top, top[-1]], where=[low > high for low, high in zip(base, top)]
                       + [False], step="post", color=colour, lw=0)

@@ -1,4 +1,4 @@
-"""Pictures of long stretches: what they sum up is what `measure` counts, and nothing is lost by reading from the middle."""
+"""Pictures of long stretches: they sum up what `measure` counts, and nothing is lost by reading from the middle."""
 
 from pathlib import Path
 
@@ -35,7 +35,7 @@ def _made_run(folder: Path) -> tuple[Path, Path]:
 
 
 def _sums(fore: Path, back: Path) -> list[str]:
-    """Times and bytes over the whole run are those of `measure`, but that transfer and moves are told apart otherwise."""
+    """Times and bytes over the whole run are those of `measure`, where transfer and moves are told apart otherwise."""
     from lab.figures import figures_of
     from lab.overview import end_of, found_in, shares
     from lab.params import disk_of
@@ -49,7 +49,8 @@ def _sums(fore: Path, back: Path) -> list[str]:
     wanted = {"used in gaps": time["rotational wait used"], "used for puts": 0, "used when idle": time["idle used"],
               "wait unused": time["rotational wait unused"], "idle unused": time["idle unused"],
               "arm or head moves": time["seek"] + time["detour moves"],
-              "foreground read": time["transfer"] - found["foreground write"], "foreground write": found["foreground write"]}
+              "foreground read": time["transfer"] - found["foreground write"],
+              "foreground write": found["foreground write"]}
     faults = differences({name: round(share, 6) for name, share in found.items()},
                          {name: round(share, 6) for name, share in wanted.items()}, "sums")
     for how in ("gap", "idle", "ride"):
