@@ -37,7 +37,7 @@ def _fault(given: dict[str, Any]) -> str:
     if any(one[0] >= later[0] or one[1] > later[1] for one, later in zip(given["seek"], given["seek"][1:])):
         return "the points of seek don't rise"
     for key in ("defects", "grown"):
-        if given.get(key) and not _are_lists(given[key], 3):
+        if given.get(key, []) != [] and not _are_lists(given[key], 3):
             return f"{key} isn't a list of places [cylinder, head, slot]"
     zones = given.get("zone")
     if not isinstance(zones, list) or not zones or not all(isinstance(zone, dict) for zone in zones):
