@@ -7,20 +7,20 @@ from lab.program import program
 
 DISK = EXAMPLES / "disk-10000rpm.toml"
 CALLS = ("0 open all scrub 1 16\n0 want all 0 2000000\n0 open some plain 2 64\n0 want some 1000000 400000\n")
-STARTS = {".png": b"\x89PNG", ".svg": b"<?xml", ".pdf": b"%PDF"}
+WHOLE, SHORT = ["--whole"], ["--from", "900", "--to", "950"]
+FORMS = {"long.png": (b"\x89PNG", WHOLE), "short.svg": (b"<?xml", SHORT), "long.pdf": (b"%PDF", WHOLE)}
 
 
 def check(folder: Path) -> list[str]:
-    """A run of 500 requests, whole and from its middle on, and a short stretch of it in each form."""
+    """A run of 500 requests, whole and from its middle on, and a picture in each form."""
     if not has_matplotlib():
         return []
     fore, back = _made_run(folder)
     faults = _sums(fore, back) + _from_the_middle(fore, back)
-    for suffix, start in STARTS.items():
-        for name, stretch in (("long", ["--whole"]), ("short", ["--from", "900", "--to", "950"])):
-            out = folder / f"{name}{suffix}"
-            answer("picture", DISK, fore, back, out, *stretch, "--title", r"<500> requests & $\two tasks_{")
-            faults += [] if out.read_bytes().startswith(start) else [f"{out.name} isn't what its name says"]
+    for name, (start, stretch) in FORMS.items():
+        out = folder / name
+        answer("picture", DISK, fore, back, out, *stretch, "--title", r"<500> requests & $\two tasks_{")
+        faults += [] if out.read_bytes().startswith(start) else [f"{name} isn't what its name says"]
     return faults
 
 
