@@ -80,7 +80,8 @@ def of_word(refused, number, reason, *more):
     word = refused.word(number)
     name, equals, value = word.partition("=")
     if reason == "UnknownCommand":
-        return f"word {number} is {quoted(word)}: the commands are {listed(refused.commands)}{nearest(word, refused.commands)}"
+        known = f"the commands are {listed(refused.commands)}{nearest(word, refused.commands)}"
+        return f"word {number} is {quoted(word)}: {known}"
     if reason == "UnknownOption":
         return of_unknown_option(refused, number, name, equals)
     if reason == "OptionTwice":
@@ -258,7 +259,8 @@ def of_key(file, reason, key):
 def keys():
     """The keys of the tables of FORMATS.md, those of a zone with zone. before them, each with its row."""
     with open(FORMATS, encoding="utf-8") as it:
-        tables = re.findall(r"<!-- check: (zone )?keys (\d) -->\n\|(.*)\|\n\|.*\n((?:\|.*\n)+)", it.read())
+        text = it.read()
+    tables = re.findall(r"<!-- check: (zone )?keys (\d) -->\n\|(.*)\|\n\|.*\n((?:\|.*\n)+)", text)
     found = {}
     for zone, version, head, rows in tables:
         names = [it.strip() for it in head.split("|")]
