@@ -24,8 +24,8 @@ ghost use Rattle.fb_tasks.specs.Telling.{Tells, MayTake, MaySettle, MayDeliver, 
 use crate::session::{Session, Stamp};
 use crate::touched::{forget, next_noted, next_touched, note, note_touch};
 use crate::wanting::want_range;
-use fb_script::{Action, Call, Kind, Live};
 use fb_rows::{BackRow, BackRows, DeliveryRow, TaskRow};
+use fb_script::{Action, Call, Kind, Live};
 use fb_sectormap::SectorMap;
 use fb_units::{NoMemory, Ns};
 use fb_wanted::Wanted;
@@ -122,8 +122,9 @@ impl Sessions {
         }
     }
 
-    /// Lets each touched session choose segments and tests it, which would change nothing for any
-    /// other; adds the rows that a decision has before its plan.
+    /// Brings the sessions up to date before a decision plans, which has nothing to do with how a head
+    /// settles: lets each touched session choose segments and tests it, which would change nothing for
+    /// any other; adds the rows that a decision has before its plan.
     ///
     /// If memory runs out, all rows and blocks that stood before are unchanged, and so is each session that
     /// was not touched; what was registered are blocks of open clean tasks.
