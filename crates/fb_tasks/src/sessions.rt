@@ -121,8 +121,9 @@ impl Sessions {
         }
     }
 
-    /// Lets each touched session choose segments and tests it, which would change nothing for any
-    /// other; adds the rows that a decision has before its plan.
+    /// Brings the sessions up to date before a decision plans, which has nothing to do with how a head
+    /// settles: lets each touched session choose segments and tests it, which would change nothing for
+    /// any other; adds the rows that a decision has before its plan.
     ///
     /// If memory runs out, all rows and blocks that stood before are unchanged, and so is each session that
     /// was not touched; what was registered are blocks of open clean tasks.
