@@ -86,4 +86,4 @@ rows_are_full inputs steps state fore back made rows =
     } in
     subst (λ fore. IsFull inputs (run fore back)) (sym (fore_rows_end inputs steps state fore back made rows))
     (subst (λ back. IsFull inputs (run (fore_rows inputs) back)) (sym rows.back_so_far)
-    (steps_are_full inputs steps made.known.sound made.known.accepted made.come_to.decided (full_steps inputs [] steps rows.each)))
+    (steps_are_full inputs steps (full_steps inputs [] steps rows.each) made.known.sound made.known.accepted made.come_to.decided))
