@@ -17,8 +17,7 @@ class Arm:
     def until_first(self, stretch: Stretch, is_read: bool) -> int:
         """How long from now until the first sector of the stretch begins to pass."""
         move = self.disk.positioning(self.track, stretch.track, not is_read)
-        begin = stretch.slot * self.disk.turn // stretch.slots
-        return move + (begin - self.now - move) % self.disk.turn
+        return move + (self.disk.angle(stretch) - self.now - move) % self.disk.turn
 
     def serve(self, request: Request) -> None:
         """Serves the request whole: the arm stands on its last track afterwards, and is free at its finish."""
@@ -26,15 +25,9 @@ class Arm:
         while left:
             stretch = self.disk.stretch(sector, left)
             self.now += self.until_first(stretch, request.is_read)
-            self.now += self._passage(stretch)
+            self.now += self.disk.passage(stretch)
             self.track = stretch.track
             sector, left = sector + stretch.length, left - stretch.length
-
-    def _passage(self, stretch: Stretch) -> int:
-        """How long the stretch takes from the beginning of its first slot to the end of its last."""
-        begin = stretch.slot * self.disk.turn // stretch.slots
-        last = stretch.slot + stretch.length
-        return last // stretch.slots * self.disk.turn + last % stretch.slots * self.disk.turn // stretch.slots - begin
 
 
 Waiting = tuple[Stretch, Request]  # where a request begins, and the request

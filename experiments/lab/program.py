@@ -6,6 +6,7 @@ import subprocess
 from pathlib import Path
 from typing import NamedTuple
 
+from lab.refusals import WrongInput
 from lab.reports import served_rows
 
 TREE = Path(__file__).resolve().parents[2]
@@ -19,34 +20,40 @@ class Runs(NamedTuple):
     seconds: float
 
 
-class Touched(Exception):
+class RunFailed(WrongInput):
+    """A run that has come to nothing."""
+
+
+class Touched(RunFailed):
     """The foreground wasn't as it is without the background, or its arrivals weren't those of the loop."""
 
 
 def program() -> str:
     """The program: what the variable FREEBLOCK names, else the one that the tree has built."""
-    path = os.environ.get("FREEBLOCK", str(TREE / "crates/freeblock/out/freeblock"))
-    if not os.access(path, os.X_OK):
+    path = os.environ.get("FREEBLOCK") or str(TREE / "crates/freeblock/out/freeblock")
+    if not os.path.isfile(path) or not os.access(path, os.X_OK):
         raise FileNotFoundError(f"no program at {path}: build it by ./freeblock, or name it by FREEBLOCK")
     return path
 
 
 def replay(params: str, trace: str, policy: str, fore: str, *more: str) -> None:
-    """One replay; its foreground report goes to the file `fore`."""
+    """One replay; its foreground report goes to the file `fore`. Where it is refused, its own note says why."""
     words = [program(), "replay", "--params", params, "--trace", trace, "--policy", policy, *more]
     with open(fore, "w") as out:
-        subprocess.run(words, check=True, stdout=out)
+        done = subprocess.run(words, stdout=out, stderr=subprocess.PIPE, text=True, errors="replace")
+    if done.returncode:
+        raise RunFailed(done.stderr.strip() or f"{words[0]} ended with status {done.returncode}")
 
 
-def replay_both(params: str, trace: str, policy: str, script: str, folder: str) -> Runs:
+def replay_both(params: str, trace: str, policy: str, script: str, folder: str, *more: str) -> Runs:
     """A replay with a call script, whose foreground report must be byte for byte that of a replay without."""
     alone, fore, back = (os.path.join(folder, name) for name in ("alone", "fore", "back"))
-    replay(params, trace, policy, alone)
+    replay(params, trace, policy, alone, *more)
     before = _children()
-    replay(params, trace, policy, fore, "--calls", script, "--back", back)
+    replay(params, trace, policy, fore, "--calls", script, "--back", back, *more)
     seconds = _children() - before
     if not filecmp.cmp(alone, fore, shallow=False):
-        raise Touched(f"the background has touched the foreground: {fore} and {alone} differ")
+        raise Touched("the background has touched the foreground: the report with it isn't that without it")
     os.remove(alone)
     return Runs(fore, back, seconds)
 

@@ -11,9 +11,9 @@ def write_script(path: str, lines: Iterable[str]) -> str:
     return path
 
 
-def wanted_range(kind: str, block: int, first: int, sectors: int) -> list[str]:
-    """One session `all` of the kind that wants a range in blocks of so many sectors."""
-    return [f"open all {kind} 1 {block}", f"want all {first} {sectors}"]
+def wanted_range(kind: str, block: int, first: int, sectors: int, name: str = "all", weight: int = 1) -> list[str]:
+    """One session of the kind that wants a range in blocks of so many sectors."""
+    return [f"open {name} {kind} {weight} {block}", f"want {name} {first} {sectors}"]
 
 
 def wanted_part(block: int, sectors: int, part: float, seed: int) -> list[str]:

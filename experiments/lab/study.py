@@ -1,15 +1,13 @@
-"""How a study is run: its runs side by side, its table, its picture, and how long it took."""
+"""A study: its runs, its table, its picture, and how long it took."""
 
-import os
 import resource
-import sys
-import tempfile
-import time
-from concurrent.futures import ProcessPoolExecutor
 from dataclasses import dataclass
+from functools import partial
 from pathlib import Path
-from typing import Any, Callable, Iterable
+from typing import Any, Callable
 
+from lab.batch import Batch, Places
+from lab.digests import digest_of, file_digest, scripts_digest
 from lab.tables import Line, read_table, write_table
 
 EXPERIMENTS = Path(__file__).resolve().parents[1]
@@ -25,51 +23,32 @@ class Study:
     measure: Callable[[str, str, float], list[Line]]  # run, folder for its files, part of the full size: table lines
     draw: Callable[[list[dict[str, Any]], str], None]  # table, picture
 
+    def batch(self, part: float) -> Batch:
+        """The runs with this part of their full size."""
+        words = [str(EXPERIMENTS / "study"), self.name, "--part", str(part)]
+        return Batch("study", f"study {self.name}", self.runs, words, partial(_stamp, self.name, part),
+                     partial(_measure, self, part), self.draw)
 
-def run_one(study: Study, run: str, part: float) -> list[Line]:
-    """One run in a folder of its own, which is removed; each line begins with the run's name."""
-    with tempfile.TemporaryDirectory(dir=os.environ.get("WORK")) as folder:
-        return [{"run": run, **line} for line in study.measure(run, folder, part)]
-
-
-def run_all(study: Study, jobs: int, part: float) -> list[Line]:
-    """All runs, so many side by side, with a line of progress for each; the lines in the order of the runs."""
-    begin = time.monotonic()
-    found: list[Line] = []
-    with ProcessPoolExecutor(jobs) as pool:
-        waiting = [pool.submit(run_one, study, run, part) for run in study.runs]
-        for number, (run, future) in enumerate(zip(study.runs, waiting), 1):
-            found += future.result()
-            print(f"{study.name} {number}/{len(study.runs)} {run} {time.monotonic() - begin:.0f} s", file=sys.stderr)
-    return found
+    def places(self, folder: Path | None) -> Places:
+        """Below a folder, where runs are kept too; or those of the tree."""
+        root = folder or EXPERIMENTS
+        return Places(root / "results" / f"{self.name}.tsv", root / "pictures" / f"{self.name}.png",
+                      root / "runs" / self.name if folder else None)
 
 
-def tidy(study: Study, lines: Iterable[Line]) -> list[Line]:
-    """Lines of all runs in the order of the runs; says of which there are none."""
-    by_run: dict[str, list[Line]] = {run: [] for run in study.runs}
-    for line in lines:
-        by_run[line["run"]].append(line)
-    missing = [run for run, of_run in by_run.items() if not of_run]
-    if missing:
-        print(f"{study.name}: no lines of {', '.join(missing)}", file=sys.stderr)
-    return [line for of_run in by_run.values() for line in of_run]
+def _stamp(name: str, part: float, run: str) -> str:
+    """What decides a run: its name, its size, the disks and the scripts."""
+    disks = [file_digest(str(path)) for path in sorted((EXPERIMENTS / "disks").glob("*.toml"))]
+    return digest_of(name, run, repr(part), scripts_digest(), *disks)
 
 
-def finish(study: Study, lines: list[Line], folder: Path) -> None:
-    """Writes the table and, where matplotlib is there, the picture."""
-    (folder / "results").mkdir(parents=True, exist_ok=True)
-    (folder / "pictures").mkdir(exist_ok=True)
-    table = folder / "results" / f"{study.name}.tsv"
-    write_table(table, lines)
-    try:
-        study.draw(read_table(table), str(folder / "pictures" / f"{study.name}.png"))
-    except ImportError:
-        print(f"{study.name}: no picture, as there is no matplotlib", file=sys.stderr)
+def _measure(study: Study, part: float, run: str, folder: str) -> list[Line]:
+    return study.measure(run, folder, part)
 
 
-def note_time(study: Study, seconds: float, jobs: int, folder: Path) -> None:
-    """Keeps the study's line of results/times.tsv: seconds, jobs, processor seconds, greatest memory of a program."""
-    path = folder / "results" / "times.tsv"
+def note_time(study: Study, seconds: float, jobs: int, table: Path) -> None:
+    """Keeps the study's line of times.tsv: seconds, jobs, processor seconds, greatest memory of a program."""
+    path = table.with_name("times.tsv")
     times = {line["study"]: line for line in (read_table(path) if path.exists() else [])}
     used = resource.getrusage(resource.RUSAGE_CHILDREN)
     times[study.name] = {"study": study.name, "runs": len(study.runs), "jobs": jobs, "seconds": round(seconds),

@@ -17,3 +17,4 @@ pub mod Totals
 pub mod Going
 pub mod Holding
 pub mod Bounds
+pub mod OneSpill

@@ -72,7 +72,7 @@ pub use Rattle.fb_model.specs.Deliveries.{catch_of}
 unfoldable pub use Rattle.fb_model.specs.Deliveries.{caught_of}
 pub use Rattle.fb_plan.specs.Ways.{AreOnDisk}
 pub use Rattle.fb_rows.specs.declared.gap.Catch.{Catch}
-pub use Rattle.fb_plan.proofs.Ends.{begin-from-le}
+pub use Rattle.fb_model.proofs.Ends.{begin-from-le}
 pub use Rattle.fb_plan.specs.declared.turning.Turning.{Turning}
 pub use Rattle.fb_plan.specs.Turns.{IsTurning, added, end_of, passes_by}
 pub use Rattle.fb_detour.specs.Bounds.{slots_within, stay_gain}

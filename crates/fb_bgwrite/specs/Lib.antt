@@ -9,3 +9,4 @@ pub mod Text
 pub mod Standing
 pub mod Held
 pub mod Shortest
+pub mod BestSpill

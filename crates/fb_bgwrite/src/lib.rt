@@ -12,6 +12,7 @@
 
 mod choice;
 mod items;
+mod laws;
 mod pending;
 mod search;
 mod shortest;
@@ -21,5 +22,6 @@ mod text;
 
 pub use fb_puts::{Put, Puts, PutsError, PutsFault, PutsReason, read_puts};
 pub use items::{SpillItem, SpillItems, SpillRow, SpillRun, WroteRow};
+pub use laws::one_best_spill;
 pub use spills::spill;
 pub use text::{spill_piece, spill_pieces};

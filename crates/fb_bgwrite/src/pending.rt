@@ -21,7 +21,7 @@ use fb_rows::{Catch, Dwell};
 use fb_sectormap::Cut;
 use fb_service::Disk;
 use fb_units::{NoMemory, Track};
-use fb_wanted::{Block, Wanted, TrackBlocks};
+use fb_wanted::{Block, TrackBlocks, Wanted};
 use std::alloc::Global;
 use std::marker::Model;
 

@@ -47,15 +47,18 @@ struct Search<'a> {
     gap: &'a Gap,
 }
 
-// The cylinders from one up to another, the least time of a slot there, in ns, an upper bound on what a
-// spill writes on a track there, and whether less than a turn is left beside the moves, of which the
-// heaviest track may take half.
+// Cylinders that are searched.
 #[derive(Clone, Copy)]
 struct Part {
+    // The first of them.
     from: u32,
+    // The one behind the last.
     end: u32,
+    // The least time of a slot there, in ns.
     share: Ns,
+    // An upper bound on the sectors that a spill writes on a track there.
     most: u64,
+    // Whether less than a turn is left beside the moves; the heaviest track may need half of it.
     brief: bool,
 }
 

@@ -22,25 +22,25 @@ pub fn spill_pieces(spill: &SpillRun) -> u64
     spill.items.len() as u64 + 2
 }
 
-/// The line at this index, counted from 0, in the text of spills, with its line feed.
+/// The k-th line, counted from 0, in the text of spills, with its line feed.
 /// `sector_bytes` is the size of a sector, a multiple of 16. The only error is `NoMemory`.
 pub fn spill_piece(
     alloc: Global,
     spill: &SpillRun,
     sector_bytes: u32,
     bytes: Bytes,
-    index: u64,
+    k: u64,
 ) -> Result<Vec<u8>, NoMemory>
     requires whole { sector_bytes % 16 ≡ 0 }
     requires ranges { AllByRecursion HasRange spill.now.items }
-    requires line { index < length spill.now.items + 2 }
-    ensures { IfOk result (λ line. slice_get (spill_lines sector_bytes bytes spill.now) index ≡ Some line.items) }
+    requires line { k < length spill.now.items + 2 }
+    ensures { IfOk result (λ line. slice_get (spill_lines sector_bytes bytes spill.now) k ≡ Some line.items) }
 {
     let rows = spill.items.len() as u64;
-    if index == 0 {
+    if k == 0 {
         first_line(alloc, b"spill")
-    } else if index <= rows {
-        let item = spill.items.get(index as usize - 1);
+    } else if k <= rows {
+        let item = spill.items.get(k as usize - 1);
         item_line(alloc, item, sector_bytes, bytes)
     } else {
         spill_last(alloc, spill.written, spill.left)

@@ -16,6 +16,6 @@ mod opened_task;
 mod reader;
 mod words;
 
-pub use fb_script::{Action, Call, Calls, Kind, Live, Names, is_name, promoted};
 pub use fault::{CallsError, CallsFault, CallsReason};
+pub use fb_script::{Action, Call, Calls, Kind, Live, Names, is_name, promoted};
 pub use reader::read_calls;

@@ -15,7 +15,7 @@ use Rattle.fb_model.specs.Accepted.{IsAccepted}
 use Rattle.fb_model.specs.Content.{Medium, medium_of, content, fore_row, fore_rows}
 use Rattle.fb_model.specs.Decisions.{Decision, serves, idles, ends, decisions}
 use Rattle.fb_model.proofs.Passages.{LiesOnDisk, requests_lie}
-use Rattle.fb_decide.proofs.Chain.{Follow, services, decisions_follow}
+use Rattle.fb_model.proofs.Chain.{Follow, services, decisions_follow}
 use Rattle.fb_report.specs.Printed.{ReadsSectors}
 use Rattle.fb_check.proofs.PrintingSectors.{runs_have}
 

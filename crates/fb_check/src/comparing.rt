@@ -15,12 +15,11 @@ ghost use Rattle.fb_check.specs.Comparing.{CanCompare, IsDue, IsNotDue, HasCompa
 
 use crate::fields::first_wrong_field;
 use crate::{Mismatch, Rule};
-use fb_script::Names;
 use fb_report::{
-    Bytes, Report, ReportLines, back_first, back_last, back_line, fore_first, fore_last,
-    fore_line,
+    Bytes, Report, ReportLines, back_first, back_last, back_line, fore_first, fore_last, fore_line,
 };
 use fb_rows::{BackRow, BackRows, ForeRows};
+use fb_script::Names;
 use fb_units::{NoMemory, Ns};
 use std::alloc::Global;
 

@@ -27,10 +27,9 @@ use Rattle.fb_model.proofs.Picks.{all_without}
 use Rattle.fb_script.specs.declared.call.Call.{Call}
 use Rattle.fb_model.specs.Inputs.{Inputs, requests}
 use Rattle.fb_model.specs.Decisions.{instants_of, serves, idles, idle_until, last_decision, decisions_from}
-use Rattle.fb_model.proofs.Instants.{IsAmong, rising_all_among, was_all_among}
+use Rattle.fb_model.proofs.Instants.{IsAmong, rising_all_among, was_all_among, one_filtered, filtered_below}
 use Rattle.fb_decide.specs.Deciding.{next_of}
-use Rattle.fb_decide.proofs.Instants.{LieApart, all_of_both, one_of_second, one_filtered, filtered_below, idle_none, idle_next, last_after}
-use Rattle.fb_decide.proofs.Instants.{last_passed}
+use Rattle.fb_decide.proofs.Instants.{LieApart, all_of_both, one_of_second, idle_none, idle_next, last_after, last_passed}
 use Rattle.fb_model.proofs.Replays.{none_arrived, start_from as start_after}
 
 -- ---- who has arrived, and who is taken

@@ -1,16 +1,13 @@
 -- The instants of arrivals and calls, and the idle dwells from one to the next.
 use Rattle.std.proofs.Common.{◌≡◌, ◌⊎◌, ℕ, ◌<◌, ◌≤◌, max, List, [], ◌∷◌, Bool, true, false, refl, ap, sym, ◌∙◌, arith, inl, inr, subst}
-use Rattle.std.specs.Prelude.{nat_le, nat_lt, filter}
+use Rattle.std.specs.Prelude.{nat_lt}
 use Rattle.std.specs.List.{AllByRecursion, fold}
 use Rattle.std.proofs.lemmas.Bool.{cases_Bool}
 use Rattle.std.proofs.lemmas.Bool.Decides.{nat_tests}
 use Rattle.fb_units.specs.declared.types.Track.{Track}
 use Rattle.fb_units.specs.Rising.{IsRising}
-use Rattle.fb_units.proofs.Lists.{all_weaker}
-use Rattle.fb_units.proofs.Each.{all_pass}
-use Rattle.fb_units.proofs.Comparing.{is_by}
 use Rattle.fb_model.specs.Decisions.{idles, among, idle_until}
-use Rattle.fb_model.proofs.Instants.{IsAmong, all_among, was_all_among}
+use Rattle.fb_model.proofs.Instants.{IsAmong, all_among, was_all_among, fold_max, most_among}
 
 -- ---- an instant comes among others
 
@@ -30,21 +27,6 @@ one_of_second u (t ∷ ts) xs there = elim there [
   | inl here ↦ was_all_among u ts (among xs t) (subst (λ v. IsAmong v (among xs t)) here (itself_among xs t))
   | inr rest ↦ one_of_second u ts (among xs t) rest
 ]
-
--- ---- some of them
-
-pub one_filtered : (p : ℕ → Bool) (t : ℕ) (xs : List ℕ) → p t ≡ true → IsAmong t xs → IsAmong t (filter p xs)
-one_filtered p t [] h there = absurd there
-one_filtered p t (x ∷ xs) h there = elim (cases_Bool (p x)) [
-  | inl kept ↦ rw kept (elim there [ inl here ↦ inl here | inr rest ↦ inr (one_filtered p t xs h rest) ])
-  | inr dropped ↦ rw dropped (elim there [
-    | inl here ↦ absurd (let wrong : true ≡ false = sym h ∙ (sym (ap p here) ∙ dropped) in cc)
-    | inr rest ↦ one_filtered p t xs h rest
-  ])
-]
-
-pub filtered_below : (t : ℕ) (xs : List ℕ) → AllByRecursion (λ x. x ≤ t) (filter (λ x. nat_le x t) xs)
-filtered_below t xs = all_weaker _ _ (λ x by. is_by x t by) _ (all_pass (λ x. nat_le x t) xs)
 
 -- ---- idle dwells
 
@@ -89,17 +71,6 @@ idle_next head now t (x ∷ xs) less rising there apart = elim apart.0 [
 
 -- ---- the last instant
 
-pub fold_max : (a : ℕ) (xs : List ℕ) → fold max a xs ≡ max a (fold max 0 xs)
-fold_max a [] = omega arith
-fold_max a (x ∷ xs) = omega (arith, fold_max (max a x) xs, fold_max (max 0 x) xs)
-
-pub most_among : (t : ℕ) (xs : List ℕ) → IsAmong t xs → t ≤ fold max 0 xs
-most_among t [] there = absurd there
-most_among t (x ∷ xs) there = elim there [
-  | inl here ↦ omega (arith, here, fold_max (max 0 x) xs)
-  | inr rest ↦ omega (arith, most_among t xs rest, fold_max (max 0 x) xs)
-]
-
 -- it comes after each of them
 pub last_after : (now t : ℕ) (xs : List ℕ) → now ≤ t → IsAmong t xs → fold max now xs ≡ fold max t xs
 last_after now t xs before there = omega (arith, before, fold_max now xs, fold_max t xs, most_among t xs there)
@@ -107,8 +78,3 @@ last_after now t xs before there = omega (arith, before, fold_max now xs, fold_m
 pub last_passed : (now : ℕ) (xs : List ℕ) → AllByRecursion (λ x. x ≤ now) xs → fold max now xs ≡ now
 last_passed now [] all = refl
 last_passed now (x ∷ xs) all = let same : max now x ≡ now = omega (arith, all.0) in ap (λ a. fold max a xs) same ∙ last_passed now xs all.1
-
--- none is later than the latest of these and another
-pub most_below : (t now : ℕ) (xs : List ℕ) → AllByRecursion (λ x. x ≤ t) xs → fold max now xs ≤ max now t
-most_below t now [] all = omega arith
-most_below t now (x ∷ xs) all = omega (arith, all.0, most_below t (max now x) xs all.1)

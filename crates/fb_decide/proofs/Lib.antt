@@ -9,7 +9,6 @@ pub mod Calling
 pub mod RegisteredBlocks
 pub mod DiskRows
 pub mod Truth
-pub mod Ways
 pub mod Extents
 pub mod Instants
 pub mod Decided
@@ -18,6 +17,4 @@ pub mod Stepping
 pub mod Going
 pub mod FittingRows
 pub mod Looping
-pub mod Chain
-pub mod QuietRows
 pub mod FullRuns

@@ -102,8 +102,8 @@ pub data HasActed (inputs : Inputs) (before : RunState) : Bool → RunState → 
   ends_here : before.pending ≡ [] → next_instant inputs before ≡ None → inputs.until ≤ before.course.now
       → HasActed inputs before false before
 
--- what must stand before a decision: requests and calls that a replay can have, of which those that wait have arrived, and a head that
--- is on a track of the disk, so early that one more service ends by 9 * 10^18 ns
+-- what a decision needs: requests and calls that a replay can have; whatever waits has arrived; the head is on a track of the disk; and
+-- it is so early that one more service ends by 9 * 10^18 ns
 pub record MayDecide (inputs : Inputs) (state : RunState) : Type 0 where
   pub requests : IsForegroundOf inputs.disk state.requests
   pub script : IsScriptOf inputs.disk.map inputs.calls

@@ -11,7 +11,7 @@ pub record RunState : Type 0 where
   pub pending : List Request
   pub joined : ℕ
 
--- where a run of these requests stands, by its course and its queue, of which two functions say what is pending and how many have joined
+-- where a run of these requests stands: its course and its queue; the functions `pending` and `joined` read the queue
 abbrev pub state_by : {Queue : Type 0} → (Queue → List Request) → (Queue → ℕ) → List Request → Course → Queue → RunState
 state_by pending joined requests course queue =
     record { requests = requests; course = course; pending = pending queue; joined = joined queue }

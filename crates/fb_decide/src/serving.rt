@@ -13,7 +13,7 @@ use crate::background::Background;
 use crate::start::Start;
 use fb_plan::Planner;
 use fb_rows::ForeRow;
-use fb_service::{Access, Disk, Service, serve};
+use fb_service::{Disk, Service, serve};
 use fb_store::{Contents, Store, writer_of};
 use fb_units::{NoMemory, Request, Track};
 use std::alloc::Global;
@@ -51,12 +51,13 @@ pub fn serve_request<P: Planner>(
         → HasServed disk.now store.old past (served_from disk.now start) background.old.rows background.new) }
 {
     let request = start.request;
-    let access = Access {
-        lbn: request.lbn,
-        count: request.count,
-        write: request.write,
-    };
-    let service = serve(alloc, disk, start.head, start.instant, access)?;
+    let Request {
+        lbn,
+        count,
+        write,
+        ..
+    } = request;
+    let service = serve(alloc, disk, start.head, start.instant, lbn, count, write)?;
     // Before the request writes: what the gap delivers was on the disk before that.
     background.deliver_around(alloc, disk, planner, store, start, &service)?;
     let row = row_of(alloc, store, start, &service)?;

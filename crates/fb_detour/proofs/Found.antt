@@ -1,7 +1,7 @@
 -- What the best so far is no worse than, in a search.
 use Rattle.fb_detour.proofs.Words.{arith, inl, inr, ℕ, ◌<◌, ◌≡◌, ◌≤◌, ◌⊎◌, cases_lt, Track, wanted_of, Plan, Detour, IsNoLater}
 use Rattle.fb_detour.proofs.Words.{IsTrackBefore, Scored, IsEnough, IsFound, IsNoWorseIn, value_in, Search}
-use Rattle.fb_plan.proofs.Ties.{no_worse-self, no_worse-trans}
+use Rattle.fb_model.proofs.Ties.{no_worse-self, no_worse-trans}
 
 module _ (search : Search) where
   pub itself : (plan : Plan) → IsNoWorseIn search plan plan

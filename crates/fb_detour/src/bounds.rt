@@ -132,9 +132,9 @@ pub fn most_slots(disk: &Disk, from: u32, end: u32, other: Track) -> u32
     slots
 }
 
-// Whether the best plan so far is at least as good as any detour over this track or a later one whose value is
-// at most the ceiling. It is compared with a detour over this track of that value that leaves at instant 0: in
-// the order of ties none of these comes before it.
+// Whether no detour that is worth at most the ceiling, over this track or a later one, can take the best
+// plan's place. Of all of these, one over this track that leaves at 0 comes first among ties, so that the best
+// plan is held against that one.
 pub fn is_enough(best: Scored, ceiling: u64, track: Track) -> bool
     ensures { result ≡ true → IsEnough best ceiling track }
 {

@@ -10,7 +10,7 @@ use fb_plan::{Turning, blocks_on};
 use fb_rows::Gap;
 use fb_service::Disk;
 use fb_units::{Ns, Sweep};
-use fb_wanted::{Wanted, Offer};
+use fb_wanted::{Offer, Wanted};
 
 // Into how many parts the time of the gap is divided.
 pub const GAP_PARTS: usize = 32;
@@ -88,8 +88,7 @@ fn first_limits(begin: Ns, step: Ns) -> [Ns; LIMITS]
     limits
 }
 
-// Moves the limit behind the part in which the last instant lies, so that it lies behind this
-// instant.
+// Raises the limit at which the part of `last` ends, if it doesn't lie behind `last`.
 fn add_limit(last: Ns, begin: Ns, step: Ns, limits: &mut [Ns; LIMITS])
     requires order { begin ≤ last }
     requires some { 0 < step }

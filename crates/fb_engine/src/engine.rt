@@ -5,7 +5,7 @@ ghost use Rattle.fb_rows.specs.Tasks.{HasTaskBelow};
 ghost use Rattle.fb_script.specs.Allowed.{tasks};
 ghost use Rattle.fb_model.specs.Accepted.{IsAccepted};
 ghost use Rattle.fb_model.specs.FullRun.{IsFull};
-ghost use Rattle.fb_decide.specs.RunInputs.{inputs_of};
+ghost use Rattle.fb_decide.specs.RunInputs.{inputs_of, run_inputs};
 ghost use Rattle.fb_decide.specs.RunState.{state_of};
 ghost use Rattle.fb_engine.specs.Progress.{HasAdvanced, IsWhole};
 
@@ -13,27 +13,42 @@ use fb_decide::{Decider, RunInputs, decisions_make_a_run};
 use fb_plan::Planner;
 use fb_queue::Queue;
 use fb_rows::Run;
-use fb_units::NoMemory;
+use fb_script::Calls;
+use fb_service::Disk;
+use fb_trace::Trace;
+use fb_units::{NoMemory, Ns};
 use std::alloc::Global;
 
-/// Replays a trace and a call script on a disk, in a queue's order, with the best plan in every
-/// gap.
+/// Replays a trace and a call script on a disk with these unreadable sectors, in a queue's order, with
+/// the best plan in every gap. While nothing else is left to do, the head goes on reading background up
+/// to the instant `until`, in ns, at most 10^15.
 ///
 /// The queue must be new: empty, and never used. The only error is out of memory.
 pub fn replay<Q: Queue, P: Planner>(
     alloc: Global,
-    inputs: RunInputs<'_>,
+    disk: &Disk,
+    latent: &[u64],
+    trace: &Trace,
+    calls: &Calls,
     queue: Q,
     planner: &P,
+    until: Ns,
 ) -> Result<Run, NoMemory>
     requires empty { Q.pending queue ≡ [] }
     requires fresh { Q.joined queue ≡ 0 }
-    requires accepted { IsAccepted (inputs_of inputs Q.key) }
-    ensures full { IfOk result (λ run. IsFull (inputs_of inputs.entry Q.key) run) }
+    requires accepted { IsAccepted (run_inputs disk.now latent.now trace.now calls.now until Q.key) }
+    ensures full { IfOk result (λ run. IsFull (run_inputs disk.now latent.now trace.now calls.now until Q.key) run) }
     ensures few { IfOk result (λ run. length run.fore ≤ 10 ^ 6) }
     ensures early { IfOk result (λ run. run.end ≤ 9 * 10 ^ 18) }
-    ensures tasks { IfOk result (λ run. AllByRecursion (HasTaskBelow (length (tasks inputs.entry.calls.now.calls.items))) run.back) }
+    ensures tasks { IfOk result (λ run. AllByRecursion (HasTaskBelow (length (tasks calls.now.calls.items))) run.back) }
 {
+    let inputs = RunInputs {
+        disk,
+        latent,
+        trace,
+        calls,
+        until,
+    };
     let mut decider = Decider::new(alloc, inputs, queue)?;
     run_of(alloc, planner, &mut decider)
 }

@@ -8,7 +8,8 @@
 //! by that instant. So no decision looks at a request or a call that has not yet come.
 #![tactic(auto)]
 
+mod ahead;
 mod engine;
 
+pub use ahead::no_look_ahead;
 pub use engine::replay;
-pub use fb_model::no_look_ahead;

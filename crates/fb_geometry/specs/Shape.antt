@@ -16,6 +16,11 @@ pub record Shape : Type 0 where
   pub defects : List Place
   pub grown : List Place
 
+-- the outline of these
+abbrev pub shape_of : Layout → ℕ → ℕ → List Zone → List Place → List Place → Shape
+shape_of layout rotation heads zones defects grown =
+    record { layout = layout; rotation = rotation; heads = heads; zones = zones; defects = defects; grown = grown }
+
 -- what f says of the zone that a cylinder lies in; `none` where the cylinder lies behind all zones
 abbrev pub zone_tells : {A : Type 0} → A → (Zone → A) → List Zone → ℕ → A
 zone_tells none f [] cylinder = none

@@ -1,6 +1,6 @@
 // The geometry of a disk.
 ghost use Rattle.std.specs.Prelude.{◌≡◌, ℕ, ◌+◌, ◌-◌, ◌*◌, ◌/◌, ◌<◌, ◌≤◌, ◌^◌, ◌∷◌, length, slice_get, Some, MatchOption, false};
-ghost use Rattle.fb_geometry.specs.Shape.{Shape, slots_at, cylinders_of, offset_at, is_among};
+ghost use Rattle.fb_geometry.specs.Shape.{Shape, shape_of, slots_at, cylinders_of, offset_at, is_among};
 ghost use Rattle.fb_geometry.specs.Angles.{slot_begin, CoverRotation};
 ghost use Rattle.fb_geometry.specs.Places.{data_list, data_list_at, by_head, good_track};
 ghost use Rattle.fb_geometry.specs.Faults.{Judges, FitsLayout};
@@ -43,8 +43,38 @@ impl Model for Geometry {
 }
 
 impl Geometry {
-    /// The geometry of an outline; or the outline's first fault, or `NoMemory`.
-    pub fn new(alloc: Global, outline: Outline) -> Result<Geometry, GeometryError>
+    /// The geometry of a disk with spare slots of this layout, a rotation in ns, heads, zones in the
+    /// order of cylinders, and slots that are bad from the first or went bad later, both in any
+    /// order; or its first fault, or `NoMemory`.
+    ///
+    /// Zones have no spares of the other layout, and with spares on each track no slot is grown.
+    pub fn new(
+        alloc: Global,
+        layout: Layout,
+        rotation: Ns,
+        heads: u32,
+        zones: Vec<Zone>,
+        defects: Vec<Place>,
+        grown: Vec<Place>,
+    ) -> Result<Geometry, GeometryError>
+        requires fits { FitsLayout layout (shape_of layout rotation heads zones.items defects.items grown.items) }
+        ensures { Judges (shape_of layout rotation heads zones.items defects.items grown.items) result }
+    {
+        Geometry::of_outline(
+            alloc,
+            Outline {
+                layout,
+                rotation,
+                heads,
+                zones,
+                defects,
+                grown,
+            },
+        )
+    }
+
+    // The geometry of an outline; or the outline's first fault, or `NoMemory`.
+    fn of_outline(alloc: Global, outline: Outline) -> Result<Geometry, GeometryError>
         requires fits { FitsLayout outline.layout outline }
         ensures { Judges outline result }
     {

@@ -20,6 +20,5 @@ pub use cylinder::Cylinder;
 pub use fault::{GeometryError, GeometryFault};
 pub use geometry::Geometry;
 pub use layout::Layout;
-pub use outline::Outline;
 pub use stretch::Stretch;
 pub use zone::Zone;

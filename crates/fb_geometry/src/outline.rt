@@ -31,7 +31,7 @@ const MOST_SECTORS: u32 = 10_000;
 
 /// The numbers, zones and bad slots that a disk is made from.
 #[derive(Drop)]
-pub struct Outline {
+pub(crate) struct Outline {
     /// Where the spare slots are.
     pub layout: Layout,
     /// The time of one rotation, in nanoseconds: from 1 to a second.

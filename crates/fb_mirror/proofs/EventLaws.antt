@@ -1,5 +1,5 @@
 -- What events give sectors, and which event decides.
-use Rattle.std.proofs.Common.{◌≡◌, ℕ, ◌<◌, ◌≤◌, List, [], ◌∷◌, Option, Some, None, Bool, true, false, cond, refl, sym, ap, ◌∙◌, arith}
+use Rattle.std.proofs.Common.{◌≡◌, ℕ, ◌<◌, ◌≤◌, List, [], ◌∷◌, ◌++◌, Option, Some, None, Bool, true, false, cond, refl, sym, ap, ◌∙◌, arith}
 use Rattle.std.proofs.Common.{append-nil, inl, inr, subst}
 use Rattle.std.specs.Prelude.{nat_lt}
 use Rattle.std.specs.List.{AllByRecursion}
@@ -126,3 +126,49 @@ pub latest_decides : (lbn : ℕ) (events : List Event) (last : ℕ × Content) �
 latest_decides lbn [] last is = absurd (none-some last is)
 latest_decides lbn (event ∷ events) last is =
     one_more lbn event events last (given lbn event) (decided lbn events) refl refl is (λ other so. latest_decides lbn events other so)
+
+-- ---- no other event decides
+
+-- what decides among earlier events is earlier
+later_below : (end : ℕ) (one other : Option (ℕ × Content)) → ((that : ℕ × Content) → one ≡ Some that → that.0 < end)
+    → ((that : ℕ × Content) → other ≡ Some that → that.0 < end) → (that : ℕ × Content) → later one other ≡ Some that → that.0 < end
+later_below end None other h k = k
+later_below end (Some one) None h k = h
+later_below end (Some one) (Some other) h k = elim (cases_Bool (nat_lt other.0 one.0)) [
+  | inl first ↦ rw first h
+  | inr second ↦ rw second k
+]
+
+decided_below : (lbn end : ℕ) (events : List Event) → AllByRecursion (Below lbn end) events → (that : ℕ × Content)
+    → decided lbn events ≡ Some that → that.0 < end
+decided_below lbn end [] all = λ that is. absurd (none-some that is)
+decided_below lbn end (event ∷ events) all =
+    later_below end (given lbn event) (decided lbn events) all.0 (decided_below lbn end events all.1)
+
+stays_first : (last : ℕ × Content) (rest : Option (ℕ × Content)) → ((that : ℕ × Content) → rest ≡ Some that → that.0 < last.0)
+    → later (Some last) rest ≡ Some last
+stays_first last None below = refl
+stays_first last (Some other) below =
+    let less : nat_lt other.0 last.0 ≡ true = let k = below other refl in grind (arith, nat_tests) in
+    ap (λ b. cond b (Some last) (Some other)) less
+
+stays_last : (one : Option (ℕ × Content)) (last : ℕ × Content) → ((that : ℕ × Content) → one ≡ Some that → that.0 ≤ last.0)
+    → later one (Some last) ≡ Some last
+stays_last None last no_later = refl
+stays_last (Some one) last no_later =
+    let after : nat_lt last.0 one.0 ≡ false = let k = no_later one refl in grind (arith, nat_tests) in
+    ap (λ b. cond b (Some one) (Some last)) after
+
+decides_behind : (lbn : ℕ) (before events : List Event) (last : ℕ × Content)
+    → AllByRecursion (λ other. (that : ℕ × Content) → given lbn other ≡ Some that → that.0 ≤ last.0) before
+    → decided lbn events ≡ Some last → decided lbn (before ++ events) ≡ Some last
+decides_behind lbn [] events last no_later is = is
+decides_behind lbn (event ∷ before) events last no_later is =
+    ap (later (given lbn event)) (decides_behind lbn before events last no_later.1 is) ∙ stays_last (given lbn event) last no_later.0
+
+pub only_decides : (lbn : ℕ) (events : List Event) (last : ℕ × Content) → Decides lbn events last → decided lbn events ≡ Some last
+only_decides lbn events last decides =
+    ap (decided lbn) decides.split
+    ∙ decides_behind lbn decides.before (decides.event ∷ decides.behind) last decides.no_later
+    (ap (λ first. later first (decided lbn decides.behind)) decides.gives
+    ∙ stays_first last (decided lbn decides.behind) (decided_below lbn last.0 decides.behind decides.earlier))

@@ -16,25 +16,20 @@ pub fn copy_pieces(copy: &Rebuilt) -> u64
     copy.content.len() as u64 + 3
 }
 
-/// The line at this index, counted from 0, in the text of a copy of a disk of `count` sectors, with
+/// The k-th line, counted from 0, in the text of a copy of a disk of `count` sectors, with
 /// its line feed. The only error is `NoMemory`.
-pub fn copy_piece(
-    alloc: Global,
-    copy: &Rebuilt,
-    count: u64,
-    index: u64,
-) -> Result<Vec<u8>, NoMemory>
-    requires line { index < length (copy_lines copy.now count) }
+pub fn copy_piece(alloc: Global, copy: &Rebuilt, count: u64, k: u64) -> Result<Vec<u8>, NoMemory>
+    requires line { k < length (copy_lines copy.now count) }
     requires covered { copy.now.covered ≤ count }
-    ensures { IfOk result (λ line. slice_get (copy_lines copy.now count) index ≡ Some line.items) }
+    ensures { IfOk result (λ line. slice_get (copy_lines copy.now count) k ≡ Some line.items) }
 {
-    if index == 0 {
+    if k == 0 {
         return Ok(Vec::from_slice(alloc, b"freeblock copy 1\n")?);
     }
-    if index == 1 {
+    if k == 1 {
         return seal_line(alloc, copy.sealed);
     }
-    let run = (index - 2) as usize;
+    let run = (k - 2) as usize;
     if run < copy.content.len() {
         run_line(alloc, &copy.content.get(run))
     } else {

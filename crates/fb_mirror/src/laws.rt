@@ -25,9 +25,10 @@ pub fn events_concern_their_sectors()
 {}
 
 /// The event that decides for a sector is the latest of those that concern it, and of equals the
-/// last; where none decides, none concerns it.
+/// last; no other decides. Where none decides, none concerns it. So a copy has exactly one content.
 pub fn latest_events_decide()
     ensures decides { (lbn : ℕ) (events : List Event) (last : ℕ × Content) → decided lbn events ≡ Some last → Decides lbn events last }
+    ensures only { (lbn : ℕ) (events : List Event) (last : ℕ × Content) → Decides lbn events last → decided lbn events ≡ Some last }
     ensures none { (lbn : ℕ) (events : List Event) → decided lbn events ≡ None → AllByRecursion (λ event. given lbn event ≡ None) events }
 {}
 

@@ -1,4 +1,4 @@
--- A later start never ends the passage of a block earlier.
+-- No passage of a block ends before it is waited for, and a later start never ends it earlier.
 use Rattle.std.proofs.Common.{ℕ, ◌+◌, ◌-◌, ◌%◌, ◌<◌, ◌≤◌, arith}
 use Rattle.fb_units.proofs.Waits.{next-le}
 use Rattle.fb_geometry.specs.Shape.{Shape}
@@ -15,3 +15,10 @@ pub end-le : (disk : Shape) (block : Block) (t u : ℕ) → 0 < disk.rotation �
 end-le disk block t u some le =
     next-le disk.rotation (end_angle disk (place_at disk (block.lbn + block.count - 1)) % disk.rotation) (block_begin disk block t + 1)
     (block_begin disk block u + 1) some (omega (arith, begin-le disk block t u some le))
+
+pub begin-from-le : (disk : Shape) (block : Block) (t : ℕ) → t ≤ block_begin disk block t
+unfolding begin_from
+begin-from-le disk block t = omega arith
+
+pub end-from-le : (disk : Shape) (block : Block) (t : ℕ) → t ≤ block_end disk block t
+end-from-le disk block t = omega (arith, begin-from-le disk block t)

@@ -35,7 +35,7 @@ not_both a b (inr h) (inr k) = let less = h.1 in let more = k.1 in omega arith
 not_itself : (a b : Track) → IsTrackBefore a b → a ≡ b → ⊥
 not_itself a b h e = not_both a b h (subst (λ t. IsTrackBefore t a) e (subst (λ t. IsTrackBefore a t) (sym e) h))
 
-one_detour : (c d : Track) (u v : ℕ) → IsTrackBefore c d ⊎ ((c ≡ d) × (u ≤ v)) → IsTrackBefore d c ⊎ ((d ≡ c) × (v ≤ u))
+pub one_detour : (c d : Track) (u v : ℕ) → IsTrackBefore c d ⊎ ((c ≡ d) × (u ≤ v)) → IsTrackBefore d c ⊎ ((d ≡ c) × (v ≤ u))
     → Detour c u ≡ Detour d v
 one_detour c d u v (inl h) (inl k) = absurd (not_both c d h k)
 one_detour c d u v (inl h) (inr k) = absurd (not_itself c d h (sym k.0))

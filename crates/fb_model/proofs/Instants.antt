@@ -1,11 +1,12 @@
 -- The instants of arrivals and calls, and those of them by an instant.
 use Rattle.std.proofs.Common.{◌≡◌, ◌⊎◌, ℕ, ◌<◌, ◌≤◌, List, [], ◌∷◌, map, Bool, true, false, refl, ap, ap₂, sym, ◌∙◌, arith, inl, inr}
-use Rattle.std.proofs.Common.{nat_le}
+use Rattle.std.proofs.Common.{nat_le, max}
 use Rattle.std.specs.Prelude.{filter}
 use Rattle.std.specs.List.{AllByRecursion, fold}
 use Rattle.std.proofs.lemmas.Bool.{cases_Bool}
 use Rattle.std.proofs.lemmas.Bool.Decides.{nat_tests}
-use Rattle.fb_units.proofs.Comparing.{after_is, is_after}
+use Rattle.fb_units.proofs.Comparing.{after_is, is_after, is_by}
+use Rattle.fb_units.proofs.Each.{all_pass}
 use Rattle.fb_units.proofs.Lists.{all_weaker}
 use Rattle.fb_units.specs.declared.types.Request.{Request}
 use Rattle.fb_units.specs.Rising.{IsRising}
@@ -126,3 +127,36 @@ same_instants t requests_a requests_b calls_a calls_b rising_a rising_b requests
     ∙ ap₂ (fold among) (kept_map (is_by_then t) arrival requests) (kept_map (is_by_then t) instant calls) in
     each requests_a calls_a rising_a ∙ (ap₂ (λ requests calls. fold among (map arrival requests) (map instant calls)) requests calls
     ∙ sym (each requests_b calls_b rising_b))
+
+-- ---- some instants
+
+pub one_filtered : (p : ℕ → Bool) (t : ℕ) (xs : List ℕ) → p t ≡ true → IsAmong t xs → IsAmong t (filter p xs)
+one_filtered p t [] h there = absurd there
+one_filtered p t (x ∷ xs) h there = elim (cases_Bool (p x)) [
+  | inl kept ↦ rw kept (elim there [ inl here ↦ inl here | inr rest ↦ inr (one_filtered p t xs h rest) ])
+  | inr dropped ↦ rw dropped (elim there [
+    | inl here ↦ absurd (let wrong : true ≡ false = sym h ∙ (sym (ap p here) ∙ dropped) in cc)
+    | inr rest ↦ one_filtered p t xs h rest
+  ])
+]
+
+pub filtered_below : (t : ℕ) (xs : List ℕ) → AllByRecursion (λ x. x ≤ t) (filter (λ x. nat_le x t) xs)
+filtered_below t xs = all_weaker _ _ (λ x by. is_by x t by) _ (all_pass (λ x. nat_le x t) xs)
+
+-- ---- the last instant
+
+pub fold_max : (a : ℕ) (xs : List ℕ) → fold max a xs ≡ max a (fold max 0 xs)
+fold_max a [] = omega arith
+fold_max a (x ∷ xs) = omega (arith, fold_max (max a x) xs, fold_max (max 0 x) xs)
+
+pub most_among : (t : ℕ) (xs : List ℕ) → IsAmong t xs → t ≤ fold max 0 xs
+most_among t [] there = absurd there
+most_among t (x ∷ xs) there = elim there [
+  | inl here ↦ omega (arith, here, fold_max (max 0 x) xs)
+  | inr rest ↦ omega (arith, most_among t xs rest, fold_max (max 0 x) xs)
+]
+
+-- none is later than the latest of these and another
+pub most_below : (t now : ℕ) (xs : List ℕ) → AllByRecursion (λ x. x ≤ t) xs → fold max now xs ≤ max now t
+most_below t now [] all = omega arith
+most_below t now (x ∷ xs) all = omega (arith, all.0, most_below t (max now x) xs all.1)

@@ -75,6 +75,11 @@ IsNoLater (Direct u) (Detour d v) = Unit {0}
 IsNoLater (Detour c u) (Direct v) = ⊥
 IsNoLater (Detour c u) (Detour d v) = IsTrackBefore c d ⊎ ((c ≡ d) × (u ≤ v))
 
+-- the plan is at least as good as the other: of greater value, or of the same value and not behind it in the order of ties
+abbrev pub IsNoWorse : Disk → Gap → List Block → Plan → Plan → Type 0
+IsNoWorse disk gap wanted plan other = (value disk gap wanted other < value disk gap wanted plan)
+    ⊎ ((value disk gap wanted other ≡ value disk gap wanted plan) × IsNoLater plan other)
+
 -- the best plan, among those of every track and every nanosecond
 pub record IsBest (disk : Disk) (gap : Gap) (wanted : List Block) (plan : Plan) : Type 0 where
   pub is_plan : IsPlan disk gap plan

@@ -4,6 +4,8 @@ ghost use Rattle.fb_model.specs.Laws.{SectorsByZone, PicksAreFirstLeast, ReadyPi
 ghost use Rattle.fb_model.specs.Laws.{ForegroundListsAscend, ReplaysServeEachOnce, RequestsHaveOneRow, OnePlainReplay, OneBestPlan};
 ghost use Rattle.fb_model.specs.Laws.{StatesBeginWithRegistration, ForegroundIsUntouched};
 ghost use Rattle.fb_model.specs.Known.{OneFullRun, NoLookAhead};
+ghost use Rattle.fb_model.specs.BestPlan.{BestPlansExist};
+ghost use Rattle.fb_model.specs.TheRun.{FullRunsExist};
 
 /// The wait for an angle is the shortest after which the platter stands at it.
 pub fn waits_are_least()
@@ -65,6 +67,12 @@ pub fn one_best_plan()
     ensures { OneBestPlan }
 {}
 
+/// A gap in which the head can go straight to the target, as in every gap of a run, has exactly one
+/// best plan: the best of those whose leaves are worth a try.
+pub fn best_plans_exist()
+    ensures { BestPlansExist }
+{}
+
 /// The state of a registered block doesn't depend on the state that it is taken to have before the first
 /// event.
 pub fn states_begin_with_registration()
@@ -76,6 +84,12 @@ pub fn one_full_run()
     ensures { OneFullRun }
 {}
 
+/// On a disk without a fault, accepted inputs have exactly one full run: the one that is made
+/// decision by decision.
+pub fn full_runs_exist()
+    ensures { FullRunsExist }
+{}
+
 /// Background work leaves the foreground as it is: sound runs whose inputs ask for the same
 /// foreground have the same foreground rows.
 pub fn foreground_is_untouched()
@@ -84,6 +98,6 @@ pub fn foreground_is_untouched()
 
 /// No decision looks ahead: on a disk without a fault, the full runs of accepted inputs that agree
 /// up to an instant before both ends are the same in everything that is known by that instant.
-pub fn no_look_ahead()
+pub fn nothing_looks_ahead()
     ensures { NoLookAhead }
 {}

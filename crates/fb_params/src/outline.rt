@@ -11,7 +11,7 @@ ghost use Rattle.fb_params.specs.Reading.{Answers, keeps, possible_outline};
 use crate::rule::Rule;
 use crate::table::{elements_at, nth, number_at, small_number_at};
 use crate::{ParamsError, ParamsFault};
-use fb_geometry::{Geometry, GeometryError, Layout, Outline, Zone};
+use fb_geometry::{Geometry, GeometryError, Layout, Zone};
 use fb_units::{NoMemory, Place, Track};
 use std::alloc::Global;
 use toml::{Table, Value};
@@ -26,15 +26,7 @@ pub fn geometry_of(alloc: Global, layout: Layout, table: &Table) -> Result<Geome
     let zones = zones(alloc, layout, elements_at(table, "zone"))?;
     let defects = places(alloc, elements_at(table, "defects"))?;
     let grown = grown(alloc, layout, table)?;
-    let outline = Outline {
-        layout,
-        rotation,
-        heads,
-        zones,
-        defects,
-        grown,
-    };
-    match Geometry::new(alloc, outline) {
+    match Geometry::new(alloc, layout, rotation, heads, zones, defects, grown) {
         Ok(geometry) => Ok(geometry),
         Err(GeometryError::Fault(fault)) => Err(ParamsError::Fault(ParamsFault::Geometry(fault))),
         Err(GeometryError::NoMemory) => Err(ParamsError::NoMemory),

@@ -25,7 +25,7 @@ pub fn mechanism_of(alloc: Global, cylinders: u32, table: &Table) -> Result<Mech
     let points = points(alloc, elements_at(table, "seek"))?;
     let head_switch = number_at(table, "head_switch_ns");
     let write_settle = number_at(table, "write_settle_ns");
-    match Mechanism::new(alloc, points, cylinders, head_switch, write_settle) {
+    match Mechanism::new(points, cylinders, head_switch, write_settle) {
         Ok(mechanism) => Ok(mechanism),
         Err(fault) => Err(ParamsError::Fault(ParamsFault::Seek(fault))),
     }

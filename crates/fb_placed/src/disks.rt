@@ -2,7 +2,7 @@
 ghost use Rattle.std.specs.Prelude.{◌≡◌, ◌==◌, not, false};
 ghost use Rattle.std.specs.List.{list_any};
 
-use fb_geometry::{Geometry, GeometryError, Layout, Outline, Zone};
+use fb_geometry::{Geometry, GeometryError, Layout, Zone};
 use fb_sectormap::SectorMap;
 use fb_units::{NoMemory, Ns, Place, Track};
 use std::alloc::Global;
@@ -53,15 +53,15 @@ pub fn per_track(
         ..zone
     })?;
     let defects = defects.to_vec(alloc)?;
-    let outline = Outline {
-        layout: Layout::PerTrack,
-        rotation: 1200,
-        heads: 2,
+    Ok(Geometry::new(
+        alloc,
+        Layout::PerTrack,
+        1200,
+        2,
         zones,
         defects,
-        grown: Vec::new(alloc),
-    };
-    Ok(Geometry::new(alloc, outline))
+        Vec::new(alloc),
+    ))
 }
 
 /// A disk of two heads with spares at the end of each cylinder.
@@ -75,15 +75,7 @@ pub fn per_cylinder(
     zones.push(Zone { spares: 0, ..zone })?;
     let defects = defects.to_vec(alloc)?;
     let grown = grown.to_vec(alloc)?;
-    let outline = Outline {
-        layout: Layout::PerCylinder,
-        rotation: 1200,
-        heads: 2,
-        zones,
-        defects,
-        grown,
-    };
-    Ok(Geometry::new(alloc, outline))
+    Ok(Geometry::new(alloc, Layout::PerCylinder, 1200, 2, zones, defects, grown))
 }
 
 fn zone(first: u32, last: u32, sectors: u32, spares: u32) -> Zone
@@ -103,15 +95,15 @@ fn zone(first: u32, last: u32, sectors: u32, spares: u32) -> Zone
 fn map_of(alloc: Global, rotation: Ns, heads: u32, zones: Vec<Zone>) -> Result<SectorMap, Fail>
     requires { list_any (λ zone. not (zone.cylinder_spares == 0)) zones.items ≡ false }
 {
-    let outline = Outline {
-        layout: Layout::PerTrack,
+    let geometry = Geometry::new(
+        alloc,
+        Layout::PerTrack,
         rotation,
         heads,
         zones,
-        defects: Vec::new(alloc),
-        grown: Vec::new(alloc),
-    };
-    let geometry = Geometry::new(alloc, outline)?;
+        Vec::new(alloc),
+        Vec::new(alloc),
+    )?;
     Ok(SectorMap::new(alloc, geometry)?)
 }
 

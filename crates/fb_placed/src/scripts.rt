@@ -1,7 +1,7 @@
 // Scripts on a small disk and on a large one.
 use crate::disks::{large_map, small_map};
-use fb_script::{Action, Calls, Live, promoted};
 use fb_calls::{CallsError, CallsFault, CallsReason, read_calls};
+use fb_script::{Action, Calls, Live, promoted};
 use fb_sectormap::SectorMap;
 use fb_units::{Name, Request};
 use std::alloc::Global;

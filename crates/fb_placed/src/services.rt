@@ -7,8 +7,8 @@ use fb_geometry::{Geometry, Layout, Zone};
 use fb_sectormap::SectorMap;
 use fb_seek::{Mechanism, SeekPoint};
 use fb_service::{
-    Access, Disk, Extent, Passage, approach_on, approach_to, departure_from, first_pass,
-    nth_passage, serve, wait_on,
+    Disk, Extent, Passage, approach_on, approach_to, departure_from, first_pass, nth_passage,
+    serve, wait_on,
 };
 use fb_units::{NoMemory, Ns, Place, Track};
 use std::alloc::Global;
@@ -65,7 +65,7 @@ fn disk_of(alloc: Global, geometry: Geometry) -> Result<Disk, Fail> {
     let _sectors = map.count();
     let geometry = map.geometry();
     geometry.sound();
-    let mechanism = Mechanism::new(alloc, points, geometry.cylinders(), 200, 50)?;
+    let mechanism = Mechanism::new(points, geometry.cylinders(), 200, 50)?;
     Ok(Disk {
         map,
         mechanism,
@@ -141,9 +141,17 @@ fn small_disk(alloc: Global, small: &Small) -> Result<Disk, Fail> {
     disk_of(alloc, geometry?)
 }
 
+// The sectors that a request asks for, and whether it writes them.
+#[derive(Clone, Copy)]
+struct Access {
+    lbn: u64,
+    count: u32,
+    write: bool,
+}
+
 // Whether these sectors lie on the disk and are some, but not too many.
 fn is_access(disk: &Disk, access: Access) -> bool
-    ensures { result ≡ true → IsAccess disk.now.map access }
+    ensures { result ≡ true → IsAccess disk.now.map access.lbn access.count }
 {
     let sectors = disk.map.count();
     0 < access.count
@@ -163,7 +171,15 @@ fn times_of(
     if !is_access(disk, access) || now > LATE {
         return Ok(None);
     }
-    let service = serve(alloc, disk, SOURCE, now, access)?;
+    let service = serve(
+        alloc,
+        disk,
+        SOURCE,
+        now,
+        access.lbn,
+        access.count,
+        access.write,
+    )?;
     Ok(Some((service.media, service.finish, service.extents.len())))
 }
 
@@ -310,9 +326,17 @@ fn push_all(disk: &Disk, extents: &[Extent], passages: &mut Vec<Passage>) -> Res
 
 // The passages of these sectors, by their extents.
 fn by_extents(alloc: Global, disk: &Disk, access: Access) -> Result<Vec<Passage>, Fail>
-    requires { IsAccess disk.now.map access }
+    requires { IsAccess disk.now.map access.lbn access.count }
 {
-    let service = serve(alloc, disk, SOURCE, 0, access)?;
+    let service = serve(
+        alloc,
+        disk,
+        SOURCE,
+        0,
+        access.lbn,
+        access.count,
+        access.write,
+    )?;
     let mut passages = Vec::new(alloc);
     push_all(disk, service.extents.as_slice(), &mut passages)?;
     Ok(passages)
@@ -321,7 +345,7 @@ fn by_extents(alloc: Global, disk: &Disk, access: Access) -> Result<Vec<Passage>
 // The passages of the same sectors, each served as a request of its own as soon as the one before
 // has passed.
 fn one_by_one(alloc: Global, disk: &Disk, access: Access) -> Result<Vec<Passage>, Fail>
-    requires { IsAccess disk.now.map access }
+    requires { IsAccess disk.now.map access.lbn access.count }
 {
     let mut passages = Vec::new(alloc);
     let mut source = SOURCE;
@@ -330,12 +354,7 @@ fn one_by_one(alloc: Global, disk: &Disk, access: Access) -> Result<Vec<Passage>
         if now > LATE {
             break;
         }
-        let one = Access {
-            lbn,
-            count: 1,
-            write: access.write,
-        };
-        let service = serve(alloc, disk, source, now, one)?;
+        let service = serve(alloc, disk, source, now, lbn, 1, access.write)?;
         passages.push(Passage {
             lbn,
             begin: service.media,

@@ -27,7 +27,8 @@ use Rattle.fb_plan.specs.Turns.{AreSides, IsTurning, end_of, longest_stay}
 use Rattle.fb_plan.proofs.Enough.{enough}
 use Rattle.fb_plan.proofs.Offered.{entry-of, offer-of, wanted-at}
 use Rattle.fb_plan.proofs.Swept.{turning-end}
-use Rattle.fb_plan.proofs.Ties.{later-leave, no_worse-self, no_worse-trans}
+use Rattle.fb_model.proofs.Ties.{no_worse-self, no_worse-trans}
+use Rattle.fb_plan.proofs.Ties.{later-leave}
 
 -- a wanted block of the track is among its entries
 in_track : (track : Track) (es : List Entry) (i : ℕ) (b : Block) → slice_get (wanted_of es) i ≡ Some b → same_track track b.track ≡ true
@@ -53,15 +54,15 @@ leave-no_worse disk gap wanted way v u le values =
     ]
 
 -- all leaves of a way, when the arrival and the ends of passages were tried
-pub all_leaves : (disk : Disk) (gap : Gap) (way : Way) (es : List Entry) (best : Plan) (u : ℕ) → 0 < disk.map.rotation
+pub all_leaves : (disk : Disk) (gap : Gap) (way : Way) (es : List Entry) (best : Plan) (u : ℕ)
     → IsNoWorse disk gap (wanted_of es) best (plan_by way (arrival disk gap way))
     → ((k : ℕ) (e : Entry) → slice_get (on_track (early_track gap way) es) k ≡ Some e → is_wanted e.state ≡ true
     → block_end disk.map e.block (arrival disk gap way) + move_on disk gap way ≤ gap.deadline
     → IsNoWorse disk gap (wanted_of es) best (plan_by way (block_end disk.map e.block (arrival disk gap way))))
     → IsPlan disk gap (plan_by way u) → IsNoWorse disk gap (wanted_of es) best (plan_by way u)
-all_leaves disk gap way es best u some first each is =
+all_leaves disk gap way es best u first each is =
     let w = bounds disk gap way u is in
-    let v = enough disk gap way (wanted_of es) u some w.0 in
+    let v = enough disk gap way (wanted_of es) u w.0 in
     let better : IsNoWorse disk gap (wanted_of es) best (plan_by way v.0) = elim v.1.tried [
       | inl e ↦ subst (λ x. IsNoWorse disk gap (wanted_of es) best (plan_by way x)) (sym e) first
       | inr q ↦
@@ -129,7 +130,7 @@ module _ (disk : Disk) (gap : Gap) (way : Way) (es : List Entry) (turning : Turn
       → IsPlan disk gap (plan_by way u) → IsNoWorse disk gap (wanted_of es) best (plan_by way u)
   way_done best first earliest n u from all b f each is =
       let arrived = no_worse-trans disk gap (wanted_of es) best first earliest b f in
-      all_leaves disk gap way es best u disk.some_rotation
+      all_leaves disk gap way es best u
       (subst (λ p. IsNoWorse disk gap (wanted_of es) best p) (from ∙ ap (plan_by way) when) arrived)
       (λ k e at w fits.
       let o = offered k e at w in

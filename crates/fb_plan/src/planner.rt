@@ -13,8 +13,8 @@ pub trait Planner {
     ///
     /// Direct plans come before detours, then the lesser track, then the earlier leave. Each block lies
     /// on the disk, and the gap ends by 9 * 10^18 ns.
-    fn best(&self, disk: &Disk, blocks: &Wanted, gap: &Gap) -> Plan
+    fn best(&self, disk: &Disk, wanted: &Wanted, gap: &Gap) -> Plan
         requires gap { IsGap disk.now gap.now }
-        requires blocks { AreOnDisk disk.now blocks.now }
-        ensures { IsBest disk.now gap.entry.now (wanted_of blocks.now) result };
+        requires blocks { AreOnDisk disk.now wanted.now }
+        ensures { IsBest disk.now gap.entry.now (wanted_of wanted.now) result };
 }

@@ -9,7 +9,7 @@ use crate::Turning;
 use fb_rows::Dwell;
 use fb_service::Disk;
 use fb_units::Track;
-use fb_wanted::{Wanted, TrackBlocks};
+use fb_wanted::{TrackBlocks, Wanted};
 
 /// The registered blocks of a plan's two tracks, and where the platter stands.
 #[derive(Drop)]

@@ -12,7 +12,7 @@ use crate::{DwellPair, Turning, dwells};
 use fb_rows::{Gap, Plan};
 use fb_service::Disk;
 use fb_units::{Ns, Track};
-use fb_wanted::{Wanted, Offer};
+use fb_wanted::{Offer, Wanted};
 
 // What an offer adds if its passage ends by the instant `latest`, in ns.
 fn added_until(offer: Offer, turning: &Turning, latest: Ns) -> u64

@@ -6,7 +6,7 @@ ghost use Rattle.fb_model.specs.Blocks.{IsBlockOn};
 ghost use Rattle.fb_plan.specs.Ways.{IsGap, AreOnDisk};
 
 use fb_detour::IndexedPlanner;
-use fb_geometry::{Geometry, Layout, Outline, Zone};
+use fb_geometry::{Geometry, Layout, Zone};
 use fb_plan::{Planner, SlowPlanner, caught, dwells};
 use fb_rows::{Gap, Plan};
 use fb_sectormap::SectorMap;
@@ -95,15 +95,15 @@ fn disk_of(alloc: Global, setting: &Setting) -> Result<Option<Disk>, NoMemory> {
     };
     let mut zones = Vec::new(alloc);
     zones.push(zone)?;
-    let outline = Outline {
-        layout: Layout::PerTrack,
-        rotation: 1200,
-        heads: 2,
+    let map = match Geometry::new(
+        alloc,
+        Layout::PerTrack,
+        1200,
+        2,
         zones,
-        defects: Vec::new(alloc),
-        grown: Vec::new(alloc),
-    };
-    let map = match Geometry::new(alloc, outline) {
+        Vec::new(alloc),
+        Vec::new(alloc),
+    ) {
         Ok(geometry) => SectorMap::new(alloc, geometry)?,
         Err(_) => return Ok(None),
     };
@@ -111,7 +111,7 @@ fn disk_of(alloc: Global, setting: &Setting) -> Result<Option<Disk>, NoMemory> {
     geometry.sound();
     let _count = map.count();
     let points = setting.seek.to_vec(alloc)?;
-    match Mechanism::new(alloc, points, geometry.cylinders(), 200, 50) {
+    match Mechanism::new(points, geometry.cylinders(), 200, 50) {
         Ok(mechanism) => Ok(Some(Disk {
             map,
             mechanism,

@@ -6,7 +6,7 @@ ghost use Rattle.fb_geometry.specs.Places.{places};
 ghost use Rattle.fb_model.specs.Accepted.{IsRequestOf};
 
 use fb_fastq::{ClookMap, FcfsRing, SptfBuckets, SstfMap};
-use fb_geometry::{Geometry, Layout, Outline, Zone};
+use fb_geometry::{Geometry, Layout, Zone};
 use fb_queue::{Clook, Fcfs, Queue, Sptf, Sstf};
 use fb_sectormap::SectorMap;
 use fb_seek::{Mechanism, SeekPoint};
@@ -34,15 +34,15 @@ const STEPS: u64 = 2000;
 fn small_disk(alloc: Global) -> Result<Disk, Fail> {
     let mut zones = Vec::new(alloc);
     zones.push(ZONE)?;
-    let outline = Outline {
-        layout: Layout::PerTrack,
-        rotation: 1200,
-        heads: 2,
+    let geometry = Geometry::new(
+        alloc,
+        Layout::PerTrack,
+        1200,
+        2,
         zones,
-        defects: Vec::new(alloc),
-        grown: Vec::new(alloc),
-    };
-    let geometry = Geometry::new(alloc, outline)?;
+        Vec::new(alloc),
+        Vec::new(alloc),
+    )?;
     let map = SectorMap::new(alloc, geometry)?;
     // A disk has at most 10^12 sectors.
     let _sectors = map.count();
@@ -52,7 +52,7 @@ fn small_disk(alloc: Global) -> Result<Disk, Fail> {
     for (distance, time) in [(1, 300), (3, 500)] {
         points.push(SeekPoint { distance, time })?;
     }
-    let mechanism = Mechanism::new(alloc, points, geometry.cylinders(), 200, 50)?;
+    let mechanism = Mechanism::new(points, geometry.cylinders(), 200, 50)?;
     Ok(Disk {
         map,
         mechanism,

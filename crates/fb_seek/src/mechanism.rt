@@ -9,7 +9,6 @@ ghost use Rattle.fb_seek.specs.Table.{AreTimes};
 use crate::table::{fault_of, next_point};
 use crate::{SeekFault, SeekPoint};
 use fb_units::{Ns, Track};
-use std::alloc::Global;
 use std::marker::Model;
 
 /// The moving parts of a disk: its seek table, the time of a head switch, and the time that a head
@@ -49,10 +48,9 @@ impl Mechanism {
     /// The mechanism with this seek table, for a disk of this many cylinders; or the first fault.
     /// Times are in nanoseconds.
     ///
-    /// The time of each distance is worked out here, so that `seek` only looks it up. Where memory
-    /// for it is refused, `seek` works it out, and gives the same time.
+    /// The time of each distance is worked out here, so that `seek` only looks it up. Where the points'
+    /// allocator refuses the memory for it, `seek` works it out, and gives the same time.
     pub fn new(
-        alloc: Global,
         points: Vec<SeekPoint>,
         cylinders: u32,
         head_switch: Ns,
@@ -64,24 +62,25 @@ impl Mechanism {
         match fault_of(points.as_slice(), cylinders, head_switch, write_settle) {
             Some(fault) => Err(fault),
             None => {
+                let times = Vec::new(*points.allocator());
                 let mut mechanism = Mechanism {
                     points,
                     cylinders,
                     head_switch,
                     write_settle,
-                    times: Vec::new(alloc),
+                    times,
                 };
-                mechanism.times = mechanism.all_times(alloc);
+                mechanism.times = mechanism.all_times();
                 Ok(mechanism)
             }
         }
     }
 
     // The times of all distances in order, as far as there is memory for them.
-    fn all_times(&self, alloc: Global) -> Vec<u32>
+    fn all_times(&self) -> Vec<u32>
         ensures { AreTimes self.now result.items }
     {
-        let mut times = Vec::new(alloc);
+        let mut times = Vec::new(*self.points.allocator());
         for distance in 0..self.cylinders {
             let time = self.time_of(distance);
             if times.push(time as u32).is_err() {

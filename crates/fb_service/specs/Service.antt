@@ -5,7 +5,6 @@ use Rattle.fb_geometry.specs.Shape.{Shape}
 use Rattle.fb_geometry.specs.Places.{places}
 use Rattle.fb_sectormap.specs.LookUp.{place_at, track_at}
 use Rattle.fb_seek.specs.Positioning.{pos}
-use Rattle.fb_service.specs.declared.access.Access.{Access}
 use Rattle.fb_service.specs.declared.disk.Disk.{Disk}
 use Rattle.fb_service.specs.declared.passage.Passage.{Passage}
 use Rattle.fb_service.specs.Passing.{begin_from, end_from}
@@ -22,14 +21,10 @@ passages disk source now write lbn (suc n) =
     passage ∷ passages disk (track_at disk.map lbn) passage.end write (lbn + 1) n
 
 -- at least one sector and at most 2,048, all of them on the disk
-pub record IsAccess (disk : Shape) (access : Access) : Type 0 where
-  pub some : 0 < access.count
-  pub few : access.count ≤ 2048
-  pub inside : access.lbn + access.count ≤ length (places disk)
-
--- the passages of the sectors of an access
-abbrev pub accessed : Disk → Track → ℕ → Access → List Passage
-accessed disk source now access = passages disk source now access.write access.lbn access.count
+pub record IsAccess (disk : Shape) (lbn count : ℕ) : Type 0 where
+  pub some : 0 < count
+  pub few : count ≤ 2048
+  pub inside : lbn + count ≤ length (places disk)
 
 -- the instant at which the first passage begins
 abbrev pub media_of : List Passage → ℕ

@@ -6,10 +6,10 @@ ghost use Rattle.fb_seek.specs.Positioning.{pos};
 ghost use Rattle.fb_service.specs.Passing.{begin_angle, begin_from, turned, ArePassing};
 ghost use Rattle.std.specs.List.{AllByRecursion};
 ghost use Rattle.fb_sectormap.specs.LookUp.{place_at};
-ghost use Rattle.fb_service.specs.Service.{passage_from, IsAccess, accessed, media_of, finish_of};
+ghost use Rattle.fb_service.specs.Service.{passage_from, passages, IsAccess, media_of, finish_of};
 ghost use Rattle.fb_service.specs.Extents.{passages_of, all_passages_of, IsUnbroken};
 
-use crate::{Access, Disk, Extent, Passage};
+use crate::{Disk, Extent, Passage};
 use fb_geometry::Geometry;
 use fb_units::{NoMemory, Ns, Place, Track, wait_for};
 use smallvec::SmallVec;
@@ -167,31 +167,32 @@ fn add_extent(
     Ok(())
 }
 
-/// How a request for these sectors is served that starts at `now` with the head on the source track:
-/// sector after sector, in ascending order, with settle on each track for a write. Its only error is
-/// `NoMemory`, out of memory.
+/// How a request for `count` sectors from `lbn` on, from 1 to 2,048, is served that starts at `now`, in
+/// ns, with the head on the source track: sector after sector, in ascending order, with settle on each
+/// track for a write. Its only error is `NoMemory`, out of memory.
 pub fn serve(
     alloc: Global,
     disk: &Disk,
     source: Track,
     now: Ns,
-    access: Access,
+    lbn: u64,
+    count: u32,
+    write: bool,
 ) -> Result<Service, NoMemory>
     requires source { IsTrackOf disk.now.map source }
-    requires access { IsAccess disk.now.map access }
+    requires access { IsAccess disk.now.map lbn count }
     requires now { now ≤ 9 * 10 ^ 18 }
-    ensures passages { IfOk result (λ service. all_passages_of disk.now.map service.extents.items ≡ accessed disk.now source now access) }
-    ensures media { IfOk result (λ service. service.media ≡ media_of (accessed disk.now source now access)) }
-    ensures finish { IfOk result (λ service. service.finish ≡ finish_of now (accessed disk.now source now access)) }
-    ensures last_track { IfOk result (λ service. service.last_track ≡ (place_at disk.now.map (access.lbn + access.count - 1)).track) }
+    ensures passages { IfOk result (λ service. all_passages_of disk.now.map service.extents.items ≡ passages disk.now source now write lbn count) }
+    ensures media { IfOk result (λ service. service.media ≡ media_of (passages disk.now source now write lbn count)) }
+    ensures finish { IfOk result (λ service. service.finish ≡ finish_of now (passages disk.now source now write lbn count)) }
+    ensures last_track { IfOk result (λ service. service.last_track ≡ (place_at disk.now.map (lbn + count - 1)).track) }
     ensures on_disk { IfOk result (λ service. IsTrackOf disk.now.map service.last_track) }
     ensures after { IfOk result (λ service. now ≤ service.media) }
     ensures later { IfOk result (λ service. service.media < service.finish) }
-    ensures each { IfOk result (λ service. AllByRecursion (λ passage. passage.begin < passage.end) (accessed disk.now source now access)) }
-    ensures soon { IfOk result (λ service. service.finish ≤ now + access.count * (4 * 10 ^ 9)) }
+    ensures each { IfOk result (λ service. AllByRecursion (λ passage. passage.begin < passage.end) (passages disk.now source now write lbn count)) }
+    ensures soon { IfOk result (λ service. service.finish ≤ now + count * (4 * 10 ^ 9)) }
     ensures unbroken { IfOk result (λ service. AllByRecursion (IsUnbroken disk.now.map) service.extents.items) }
 {
-    let Access { lbn, count, write } = access;
     let mut extents = SmallVec::new(alloc);
     let mut last = stretch_extent(disk, source, now, lbn, count, write);
     let media = last.begin;

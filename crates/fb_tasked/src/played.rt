@@ -3,15 +3,15 @@ ghost use Rattle.std.specs.Prelude.{◌≡◌, ℕ, Some, true, false, slice_get
 ghost use Rattle.fb_tasked.specs.Following.{Follows};
 
 use crate::lines::lines;
-use fb_script::Calls;
-use fb_geometry::{Geometry, Layout, Outline, Zone};
-use fb_rows::{BackRow, BackRows, DeliveryRow, How};
 use fb_calls::read_calls;
+use fb_geometry::{Geometry, Layout, Zone};
+use fb_rows::{BackRow, BackRows, DeliveryRow, How};
+use fb_script::Calls;
 use fb_sectormap::SectorMap;
 use fb_store::{Store, runs_are_fewest};
 use fb_tasks::Sessions;
 use fb_units::{NoMemory, Ns};
-use fb_wanted::{Block, Wanted, Entry, State};
+use fb_wanted::{Block, Entry, State, Wanted};
 use std::alloc::Global;
 use std::process::Abort;
 use std::test::Fail;
@@ -30,15 +30,15 @@ const ZONE: Zone = Zone {
 fn disk(alloc: Global) -> Result<SectorMap, Fail> {
     let mut zones = Vec::new(alloc);
     zones.push(ZONE)?;
-    let outline = Outline {
-        layout: Layout::PerTrack,
-        rotation: 1200,
-        heads: 2,
+    let geometry = Geometry::new(
+        alloc,
+        Layout::PerTrack,
+        1200,
+        2,
         zones,
-        defects: Vec::new(alloc),
-        grown: Vec::new(alloc),
-    };
-    let geometry = Geometry::new(alloc, outline)?;
+        Vec::new(alloc),
+        Vec::new(alloc),
+    )?;
     Ok(SectorMap::new(alloc, geometry)?)
 }
 
@@ -206,7 +206,8 @@ impl PlayedScript {
             bad: content.bad() as u32,
             content,
         };
-        self.sessions.delivered(&mut self.blocks, got, &mut self.rows)
+        self.sessions
+            .delivered(&mut self.blocks, got, &mut self.rows)
     }
 
     // A write passes.

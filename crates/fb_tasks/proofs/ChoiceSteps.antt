@@ -57,7 +57,7 @@ numbered_below : (n : ℕ) (bs : List Block) → AreNumbered n bs → AllByRecur
 numbered_below n [] h = tt
 numbered_below n (b ∷ bs) h = (
   omega (arith, h.0),
-  all_weaker (λ c. c.number < n + 1 + length bs) (λ c. c.number < n + length (b ∷ bs)) (λ c less. omega (arith, less)) bs
+  all_weaker (λ c. c.index < n + 1 + length bs) (λ c. c.index < n + length (b ∷ bs)) (λ c less. omega (arith, less)) bs
       (numbered_below (n + 1) bs h.1),
 )
 

@@ -25,20 +25,20 @@ pub numbered_from : (n : ℕ) (bs : List Block) → AreNumbered n bs → AllByRe
 numbered_from n [] h = tt
 numbered_from n (b ∷ bs) h = (
   omega (arith, h.0),
-  all_weaker (λ c. n + 1 ≤ c.number) (λ c. n ≤ c.number) (λ c le. omega (arith, le)) bs (numbered_from (n + 1) bs h.1),
+  all_weaker (λ c. n + 1 ≤ c.index) (λ c. n ≤ c.index) (λ c le. omega (arith, le)) bs (numbered_from (n + 1) bs h.1),
 )
 
 pub only_one : (n : ℕ) (bs : List Block) (i : ℕ) (x : Block) → AreNumbered n bs → slice_get bs i ≡ Some x
-    → AllByRecursion (λ b. b.index ≡ x.number → b ≡ x) bs
+    → AllByRecursion (λ b. b.index ≡ x.index → b ≡ x) bs
 only_one n [] i x h at = tt
 only_one n (b ∷ bs) zero x h at =
     let e = same_Some b x at in (
       (λ same. e),
-      all_weaker (λ c. n + 1 ≤ c.number) (λ c. c.number ≡ x.number → c ≡ x)
-          (λ c le same. absurd (omega (arith, le, same, h.0, ap (λ (z : Block). z.number) e))) bs (numbered_from (n + 1) bs h.1),
+      all_weaker (λ c. n + 1 ≤ c.index) (λ c. c.index ≡ x.index → c ≡ x)
+          (λ c le same. absurd (omega (arith, le, same, h.0, ap (λ (z : Block). z.index) e))) bs (numbered_from (n + 1) bs h.1),
     )
 only_one n (b ∷ bs) (suc i) x h at = (
-  (λ same. absurd (omega (arith, same, h.0, all_get (λ c. n + 1 ≤ c.number) bs i x (numbered_from (n + 1) bs h.1) at))),
+  (λ same. absurd (omega (arith, same, h.0, all_get (λ c. n + 1 ≤ c.index) bs i x (numbered_from (n + 1) bs h.1) at))),
   only_one (n + 1) bs i x h.1 at,
 )
 
@@ -90,7 +90,7 @@ module _ (v : TaskView) (got : DeliveryRow) where
         one b only both = elim (cases_Bool (got.block.index == b.index)) [
           | inl it ↦ rw (only (sym (eqb-true got.block.index b.index it))) (λ _. its_own)
           | inr other ↦ elim both.1 [
-            | inl it ↦ absurd (other_number got.block.index b.index other (ap (λ (x : Block). x.number) (sym it)))
+            | inl it ↦ absurd (other_number got.block.index b.index other (ap (λ (x : Block). x.index) (sym it)))
             | inr far ↦ rw other (λ done. held_same now held b.lbn b.count (λ lbn le lt. rw (takes lbn, outside b lbn le lt far) refl)
                 ∙ both.0 done)
           ]

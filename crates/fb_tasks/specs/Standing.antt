@@ -93,7 +93,8 @@ HoldsChoice work log choice = AllByRecursion (HoldsBlock work (clean.taken_for l
 abbrev pub IsAtNumber : List LogSegment → Choice → Type 0
 IsAtNumber segments choice = slice_get segments (choice.segment.number - 1) ≡ Some choice.segment
 
--- a log is cleaned segment by segment: of those that were chosen these are cleaned, and this one is being cleaned
+-- a log's segments are cleaned one after another: those that were chosen are cleaned (`done`), but for the last one, which may still
+-- be under way (`current`)
 pub record CleansBy (work : Work) (log : clean.Cleaning) (done : List Choice) (current : Option Choice) : Type 0 where
   pub block : log.block ≡ work.terms.block
   pub chosen : work.choices ≡ done ++ choice_in current

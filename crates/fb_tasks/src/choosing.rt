@@ -8,8 +8,8 @@ ghost use Rattle.fb_tasks.specs.Standing.{MayChoose, HasChosenUpTo};
 
 use crate::session::{Session, Stamp};
 use crate::wanting::want_live;
-use fb_script::Kind;
 use fb_rows::BackRows;
+use fb_script::Kind;
 use fb_sectormap::SectorMap;
 use fb_store::Contents;
 use fb_units::NoMemory;

@@ -17,8 +17,8 @@ ghost use Rattle.fb_tasks.specs.Standing.{Stands, IsAtWork};
 ghost use Rattle.fb_tasks.specs.Telling.{Delivers};
 
 use crate::session::Session;
-use fb_script::Kind;
 use fb_rows::{BackRow, BackRows, BadRow, DeliveryRow};
+use fb_script::Kind;
 use fb_store::{Content, Contents};
 use fb_units::NoMemory;
 use fb_wanted::{Block, Wanted};

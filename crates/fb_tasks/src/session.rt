@@ -5,8 +5,8 @@ ghost use Rattle.fb_store.specs.Ranges.{held_at};
 ghost use Rattle.fb_tasks.specs.Keeping.{complete_by};
 
 use fb_backup::Image;
-use fb_script::Kind;
 use fb_clean::Segments;
+use fb_script::Kind;
 use fb_units::Ns;
 use fb_wanted::Counts;
 use std::alloc::Global;

@@ -24,8 +24,8 @@ ghost use Rattle.fb_tasks.specs.Telling.{Tells, MayTake, MaySettle, MayDeliver, 
 use crate::session::{Session, Stamp};
 use crate::touched::{forget, next_noted, next_touched, note, note_touch};
 use crate::wanting::want_range;
-use fb_script::{Action, Call, Kind, Live};
 use fb_rows::{BackRow, BackRows, DeliveryRow, TaskRow};
+use fb_script::{Action, Call, Kind, Live};
 use fb_sectormap::SectorMap;
 use fb_units::{NoMemory, Ns};
 use fb_wanted::Wanted;
@@ -35,13 +35,12 @@ use std::marker::Model;
 
 /// The sessions in order of opening: a session's index is its task's number.
 ///
-/// To choose and test costs time for each task that was touched since that was last done; a delivery
-/// or a call costs time for its own task. A write costs time for each task of which a block was ever
-/// registered near its sectors, or for each open backup and each task touched since tasks last
-/// chose, whichever are fewer: for each of these, every chunk of 2,048 LBNs that the write
-/// touches is searched, and the one before them. A task is touched by a delivery, a want, an abort,
-/// a new segment and its close; one whose call ran out of memory may also cost time until it is
-/// touched and tested again. A session to which nothing happens costs nothing.
+/// What a call costs: a delivery or a call of a script, the work for its own task; to choose and test,
+/// the work for each touched task. A task is touched by a delivery, a want, an abort, a new segment and
+/// its close, until tasks next choose and are tested (one whose call ran out of memory may stay touched
+/// for longer). A write looks at the tasks that ever had a block near its sectors, or at the open backups
+/// and touched tasks, whichever are fewer. Each of them costs a search for each chunk of 2,048 LBNs that
+/// the write touches, and one more. A session to which nothing happens costs nothing.
 #[derive(Drop)]
 pub struct Sessions {
     alloc: Global,
@@ -122,8 +121,9 @@ impl Sessions {
         }
     }
 
-    /// Lets each touched session choose segments and tests it, which would change nothing for any
-    /// other; adds the rows that a decision has before its plan.
+    /// Brings the sessions up to date before a decision plans, which has nothing to do with how a head
+    /// settles: lets each touched session choose segments and tests it, which would change nothing for
+    /// any other; adds the rows that a decision has before its plan.
     ///
     /// If memory runs out, all rows and blocks that stood before are unchanged, and so is each session that
     /// was not touched; what was registered are blocks of open clean tasks.

@@ -18,11 +18,11 @@ ghost use Rattle.fb_tasks.specs.Leaving.{HasGrown, HasBegun, by_calls};
 ghost use Rattle.fb_tasks.specs.Standing.{Stands, HoldsBlocks, IsAtWork, HasChosen, MayFinish, StandsAfterTest};
 
 use crate::session::{Session, Stamp};
-use fb_script::Kind;
 use fb_rows::{BackRow, BackRows, CompleteRow, SealRow, SegmentRow};
+use fb_script::Kind;
 use fb_store::Contents;
 use fb_units::{NoMemory, Ns};
-use fb_wanted::{Wanted, State};
+use fb_wanted::{State, Wanted};
 use std::alloc::Global;
 
 impl Session {

@@ -51,7 +51,7 @@ pub fn want_range(
     Ok(())
 }
 
-// The task's block of that number.
+// What a cut gives as the task's block whose index is `number`.
 fn block_of(session: &Session, task: u32, number: u32, cut: Cut) -> Block
     ensures { result ≡ record {
       task = task;

@@ -3,7 +3,7 @@
 ghost use Rattle.std.specs.Prelude.{◌≡◌, ◌<◌, ◌≤◌, []};
 
 use fb_units::{Sweep, Track};
-use fb_wanted::{BAND, Block, Wanted, State};
+use fb_wanted::{BAND, Block, State, Wanted};
 use std::process::Abort;
 use std::test::Fail;
 

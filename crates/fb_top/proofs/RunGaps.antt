@@ -14,8 +14,8 @@ use Rattle.fb_model.specs.Inputs.{Inputs, requests}
 use Rattle.fb_model.specs.PlainReplay.{Served}
 use Rattle.fb_model.specs.SoundRun.{HasPlan, IsPlanned, IsTested}
 use Rattle.fb_model.specs.Steps.{AtEach, Step, decisions_in, history, opening, step_rows, past_after, delivery_rows}
-use Rattle.fb_decide.proofs.Chain.{decisions_follow, services}
-use Rattle.fb_decide.proofs.QuietRows.{IsQuiet, IsQuietStep, quiet_step, tasks_quiet}
+use Rattle.fb_model.proofs.Chain.{decisions_follow, services}
+use Rattle.fb_model.proofs.QuietRows.{IsQuiet, IsQuietStep, quiet_step, tasks_quiet}
 use Rattle.fb_units.proofs.Each.{all_any}
 use Rattle.fb_units.specs.declared.types.Request.{Request}
 use Rattle.fb_bgwrite.specs.Spilled.{AreGaps}

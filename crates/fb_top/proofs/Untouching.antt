@@ -19,7 +19,7 @@ use Rattle.fb_model.specs.Foreground.{behind, promoted_from, read_of}
 use Rattle.fb_model.specs.FullRun.{IsFull}
 use Rattle.fb_model.specs.Inputs.{Inputs, requests}
 use Rattle.fb_model.specs.PlainReplay.{Served, finish, first_track, last_track}
-use Rattle.fb_decide.proofs.Chain.{Follow, decisions_follow, services}
+use Rattle.fb_model.proofs.Chain.{Follow, decisions_follow, services}
 use Rattle.fb_puts.specs.Asked.{asked, ranges_in, request_range}
 use Rattle.fb_puts.specs.Ranges.{share}
 use Rattle.fb_bgwrite.specs.Spilled.{fore_ranges}

@@ -26,11 +26,11 @@ ghost use Rattle.fb_top.specs.Unnamed.{KeepsUnnamed};
 
 use crate::Outcome;
 use crate::reading::{no_calls, read_disk, read_input};
-use fb_script::Calls;
+use fb_calls::{CallsError, read_calls};
 use fb_desk::{Desk, Input};
 use fb_mirror::{rebuild_script, rebuild_scripts_are_read};
 use fb_params::Parameters;
-use fb_calls::{CallsError, read_calls};
+use fb_script::Calls;
 use fb_service::Disk;
 use fb_trace::{Trace, TraceError, read_traces};
 use fb_units::NoMemory;

@@ -3,9 +3,9 @@ ghost use Rattle.std.specs.Prelude.{◌≡◌, ℕ, ◌<◌, ◌≤◌, List, So
 ghost use Rattle.fb_report.specs.Grammar.{Grammar};
 ghost use Rattle.fb_report.specs.Printed.{IsLine, is_in_place};
 
-use fb_script::Names;
 use fb_report::{Bytes, back_piece, back_pieces, fore_piece, fore_pieces};
 use fb_rows::Run;
+use fb_script::Names;
 use fb_units::NoMemory;
 use std::alloc::Global;
 

@@ -3,6 +3,7 @@ ghost use Rattle.std.specs.Prelude.{◌≡◌};
 ghost use Rattle.fb_top.specs.Status.{status_of};
 
 use fb_bgwrite::SpillRun;
+use fb_calls::CallsFault;
 use fb_check::Verdict;
 use fb_desk::{Input, Output};
 use fb_mirror::Rebuilt;
@@ -10,7 +11,6 @@ use fb_params::ParamsFault;
 use fb_puts::PutsFault;
 use fb_report::ReportsFault;
 use fb_rows::Run;
-use fb_calls::CallsFault;
 use fb_trace::TraceFault;
 use fb_units::Items;
 use fb_words::UsageFault;

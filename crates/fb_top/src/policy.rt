@@ -50,7 +50,15 @@ pub fn replay_in<Q: Queue>(alloc: Global, queue: Q, inputs: RunInputs<'_>) -> Re
     ensures early { IfOk result (λ run. run.end ≤ 9 * 10 ^ 18) }
     ensures told { IfOk result (CanBeTold inputs.entry.calls.now.names) }
 {
-    replay(alloc, inputs, queue, &IndexedPlanner::new())
+    let RunInputs {
+        disk,
+        latent,
+        trace,
+        calls,
+        until,
+    } = inputs;
+    let planner = &IndexedPlanner::new();
+    replay(alloc, disk, latent, trace, calls, queue, planner, until)
 }
 
 /// Judges two printed reports against the full run of accepted inputs, in a policy's order.

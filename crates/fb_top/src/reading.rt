@@ -26,12 +26,12 @@ ghost use Rattle.fb_top.specs.Calm.{AreInputsCalm};
 
 use crate::Outcome;
 use crate::streams::{InputError, read_whole};
-use fb_script::{Calls, Names};
+use fb_calls::{CallsError, read_calls};
 use fb_decide::RunInputs;
 use fb_desk::{Desk, Input};
 use fb_params::{Parameters, ParamsError, read_params};
 use fb_report::Report;
-use fb_calls::{CallsError, read_calls};
+use fb_script::{Calls, Names};
 use fb_service::Disk;
 use fb_trace::{Trace, TraceError, read_trace};
 use fb_units::Ns;

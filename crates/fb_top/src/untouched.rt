@@ -4,7 +4,7 @@ ghost use Rattle.fb_top.specs.Untouched.{InputsHaveOneRun, PrintedReportsAreRigh
 ghost use Rattle.fb_top.specs.Untouched.{ScriptsLeaveForeground, SectionsAreReplays};
 
 use fb_mirror::{covered_sectors_are_the_survivors, sealed_rebuilds_are_whole};
-use fb_model::{foreground_is_untouched, no_look_ahead, one_full_run};
+use fb_model::{foreground_is_untouched, nothing_looks_ahead, one_full_run};
 
 /// Background work leaves the foreground report as it is.
 ///
@@ -34,7 +34,7 @@ pub fn inputs_have_one_run()
 pub fn runs_look_not_ahead()
     ensures { RunsLookNotAhead }
 {
-    no_look_ahead();
+    nothing_looks_ahead();
 }
 
 /// A run's own reports are right.

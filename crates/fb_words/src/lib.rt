@@ -15,6 +15,6 @@ mod values;
 mod words;
 
 pub use command::{ArrayWords, CheckWords, Command, MakeWords, Policy, RebuildWords, ReplayWords};
-pub use fb_maker::{Maker, made_calls};
 pub use fault::{UsageFault, UsageReason, WordsError};
+pub use fb_maker::{Maker, made_calls};
 pub use words::read_words;

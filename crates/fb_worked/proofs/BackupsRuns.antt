@@ -1,5 +1,5 @@
 -- Runs that show backups, computed.
-use Rattle.std.proofs.Common.{List, [], ◌∷◌, refl, lit≤, lit<, true}
+use Rattle.std.proofs.Common.{List, [], ◌∷◌, refl, lit≤, true}
 use Rattle.fb_script.specs.declared.call.Kind.TheVariants.{Backup}
 use Rattle.fb_rows.specs.declared.gap.Plan.TheVariants.{Direct}
 use Rattle.fb_rows.specs.declared.gap.How.TheVariants.{Idle as ByIdle}
@@ -12,7 +12,7 @@ use Rattle.fb_model.specs.SoundRun.{none, taken, IsSoundBy, Throughout}
 use Rattle.fb_model.specs.FullRun.{IsAllDelivered, IsBestPlanned, IsFull}
 use Rattle.fb_worked.specs.Backups.{overwritten_backup, backup_without_aborted}
 use Rattle.fb_worked.proofs.OnSmallDisks.{on_small_disks, serve, rest, steps_at, with_rows}
-use Rattle.fb_worked.proofs.BestPlans.{none_in_time}
+use Rattle.fb_model.proofs.BestPlans.{best_exists}
 
 abbrev steps_of_overwritten_backup : List Step
 steps_of_overwritten_backup = steps_at (decisions overwritten_backup.inputs) (
@@ -61,7 +61,7 @@ unfolding on_small_disks
 best_overwritten_backup = (
   tt,
   (
-    none_in_time small_disk (gap (at 0 0) (at 0 0) 250 1200 true) (block 0 1 2 2 (at 0 0) 1 ∷ []) (lit< tt, tt) (lit≤ tt, lit≤ tt),
+    best_exists small_disk (gap (at 0 0) (at 0 0) 250 1200 true) (block 0 1 2 2 (at 0 0) 1 ∷ []) (lit≤ tt, lit≤ tt),
     (tt, tt),
   ),
 )
@@ -115,7 +115,7 @@ all_backup_without_aborted = (refl, (refl, (refl, tt)))
 
 best_backup_without_aborted : Throughout IsBestPlanned backup_without_aborted.inputs steps_of_backup_without_aborted
 unfolding on_small_disks
-best_backup_without_aborted = (tt, (none_in_time small_disk (gap (at 0 0) (at 0 0) 250 1200 true) [] tt (lit≤ tt, lit≤ tt), (tt, tt)))
+best_backup_without_aborted = (tt, (best_exists small_disk (gap (at 0 0) (at 0 0) 250 1200 true) [] (lit≤ tt, lit≤ tt), (tt, tt)))
 
 pub backup_without_aborted_is_full : IsFull backup_without_aborted.inputs backup_without_aborted.run
 backup_without_aborted_is_full = record {

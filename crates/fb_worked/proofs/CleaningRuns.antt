@@ -1,5 +1,5 @@
 -- Runs that show the cleaning of segments, computed.
-use Rattle.std.proofs.Common.{List, [], ◌∷◌, refl, lit≤, lit<, true, false}
+use Rattle.std.proofs.Common.{List, [], ◌∷◌, refl, lit≤, true, false}
 use Rattle.fb_script.specs.declared.call.Kind.TheVariants.{Clean}
 use Rattle.fb_rows.specs.declared.gap.Plan.TheVariants.{Direct}
 use Rattle.fb_rows.specs.declared.gap.How.TheVariants.{Gap as ByGap, Idle as ByIdle}
@@ -13,7 +13,7 @@ use Rattle.fb_model.specs.FullRun.{IsAllDelivered, IsBestPlanned, IsFull}
 use Rattle.fb_worked.specs.Cleaning.{segments_by_benefit, segment_without_live_blocks, segment_keeps_its_passages}
 use Rattle.fb_worked.specs.Cleaning.{closed_with_chosen_segment, suspended_session_chooses}
 use Rattle.fb_worked.proofs.OnSmallDisks.{on_small_disks, serve, rest, steps_at, with_rows}
-use Rattle.fb_worked.proofs.BestPlans.{none_in_time, all_at_once}
+use Rattle.fb_model.proofs.BestPlans.{best_exists}
 
 abbrev steps_of_segments_by_benefit : List Step
 steps_of_segments_by_benefit = steps_at (decisions segments_by_benefit.inputs) (
@@ -62,8 +62,8 @@ unfolding on_small_disks
 best_segments_by_benefit = (
   tt,
   (
-    none_in_time small_disk (gap (at 0 0) (at 0 0) 700 1100 false) (block 0 1 0 1 (at 0 0) 1 ∷ block 0 2 2 1 (at 0 0) 1
-        ∷ []) (lit< tt, (lit< tt, tt)) (lit≤ tt, lit≤ tt),
+    best_exists small_disk (gap (at 0 0) (at 0 0) 700 1100 false) (block 0 1 0 1 (at 0 0) 1 ∷ block 0 2 2 1 (at 0 0) 1 ∷ [])
+        (lit≤ tt, lit≤ tt),
     (tt, tt),
   ),
 )
@@ -173,10 +173,10 @@ unfolding on_small_disks
 best_segment_keeps_its_passages = (
   tt,
   (
-    none_in_time small_disk (gap (at 0 0) (at 0 0) 150 1200 true) (block 0 1 12 1 (at 0 1) 1 ∷ []) (lit< tt, tt) (lit≤ tt, lit≤ tt),
+    best_exists small_disk (gap (at 0 0) (at 0 0) 150 1200 true) (block 0 1 12 1 (at 0 1) 1 ∷ []) (lit≤ tt, lit≤ tt),
     (
       tt,
-      (all_at_once small_disk (gap (at 0 0) (at 0 1) 2000 2700 false) (block 0 1 12 1 (at 0 1) 1 ∷ []) refl (lit≤ tt, lit≤ tt), (tt, tt)),
+      (best_exists small_disk (gap (at 0 0) (at 0 1) 2000 2700 false) (block 0 1 12 1 (at 0 1) 1 ∷ []) (lit≤ tt, lit≤ tt), (tt, tt)),
     ),
   ),
 )

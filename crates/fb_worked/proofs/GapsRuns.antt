@@ -13,8 +13,7 @@ use Rattle.fb_model.specs.FullRun.{IsAllDelivered, IsBestPlanned, IsFull}
 use Rattle.fb_worked.specs.Gaps.{both_dwells, detour, no_time_to_settle, detour_on_the_way, detour_over_nothing, weight_decides}
 use Rattle.fb_worked.specs.Gaps.{block_over_the_turn, last_and_first}
 use Rattle.fb_worked.proofs.OnSmallDisks.{on_small_disks, serve, rest, steps_at, with_rows}
-use Rattle.fb_worked.proofs.BestPlans.{here, there, none_in_time, none_on_the_way, all_at_once, all_then_leave, all_by_detour}
-use Rattle.fb_worked.proofs.CloseGaps.{by_weight, sooner_over}
+use Rattle.fb_model.proofs.BestPlans.{best_exists}
 
 abbrev steps_of_both_dwells : List Step
 steps_of_both_dwells = steps_at (decisions both_dwells.inputs) (
@@ -59,11 +58,11 @@ all_both_dwells = (refl, (refl, (refl, tt)))
 best_both_dwells : Throughout IsBestPlanned both_dwells.inputs steps_of_both_dwells
 unfolding on_small_disks
 best_both_dwells = (
-  none_in_time small_disk (gap (at 0 0) (at 0 0) 0 500 false) (block 0 0 6 1 (at 0 0) 1 ∷ block 0 1 7 1 (at 0 0) 1
-      ∷ block 0 2 35 1 (at 1 0) 1 ∷ []) (lit< tt, (lit< tt, (lit< tt, tt))) (lit≤ tt, lit≤ tt),
+  best_exists small_disk (gap (at 0 0) (at 0 0) 0 500 false) (block 0 0 6 1 (at 0 0) 1 ∷ block 0 1 7 1 (at 0 0) 1
+      ∷ block 0 2 35 1 (at 1 0) 1 ∷ []) (lit≤ tt, lit≤ tt),
   (
-    all_then_leave small_disk (gap (at 0 0) (at 1 0) 600 1200 false) (block 0 0 6 1 (at 0 0) 1 ∷ block 0 1 7 1 (at 0 0) 1
-        ∷ block 0 2 35 1 (at 1 0) 1 ∷ []) 800 (block 0 1 7 1 (at 0 0) 1) (there here) (lit< tt) refl (lit≤ tt) refl (lit≤ tt, lit≤ tt),
+    best_exists small_disk (gap (at 0 0) (at 1 0) 600 1200 false) (block 0 0 6 1 (at 0 0) 1 ∷ block 0 1 7 1 (at 0 0) 1
+        ∷ block 0 2 35 1 (at 1 0) 1 ∷ []) (lit≤ tt, lit≤ tt),
     (tt, tt),
   ),
 )
@@ -124,19 +123,9 @@ all_detour = (refl, (refl, (refl, tt)))
 best_detour : Throughout IsBestPlanned detour.inputs steps_of_detour
 unfolding on_small_disks
 best_detour = (
-  none_in_time small_disk (gap (at 0 0) (at 0 0) 0 500 false) (block 0 0 20 1 (at 0 1) 1 ∷ []) (lit< tt, tt) (lit≤ tt, lit≤ tt),
+  best_exists small_disk (gap (at 0 0) (at 0 0) 0 500 false) (block 0 0 20 1 (at 0 1) 1 ∷ []) (lit≤ tt, lit≤ tt),
   (
-    all_by_detour small_disk (gap (at 0 0) (at 1 0) 600 1200 false) (block 0 0 20 1 (at 0 1) 1 ∷ [])
-        (at 0 1) 900 (block 0 0 20 1 (at 0 1) 1) here (lit< tt) refl refl refl (lit≤ tt) refl (record {
-          on_disk = record {
-            cylinder = lit< tt;
-            head = lit< tt;
-          };
-          not_source = refl;
-          not_target = refl;
-          after_arrival = lit≤ tt;
-          in_time = lit≤ tt;
-        }),
+    best_exists small_disk (gap (at 0 0) (at 1 0) 600 1200 false) (block 0 0 20 1 (at 0 1) 1 ∷ []) (lit≤ tt, lit≤ tt),
     (tt, tt),
   ),
 )
@@ -183,10 +172,9 @@ all_no_time_to_settle = (refl, (refl, (refl, tt)))
 best_no_time_to_settle : Throughout IsBestPlanned no_time_to_settle.inputs steps_of_no_time_to_settle
 unfolding on_small_disks
 best_no_time_to_settle = (
-  none_in_time small_disk (gap (at 0 0) (at 0 0) 0 500 false) (block 0 0 20 1 (at 0 1) 1 ∷ []) (lit< tt, tt) (lit≤ tt, lit≤ tt),
+  best_exists small_disk (gap (at 0 0) (at 0 0) 0 500 false) (block 0 0 20 1 (at 0 1) 1 ∷ []) (lit≤ tt, lit≤ tt),
   (
-    none_on_the_way small_disk (gap (at 0 0) (at 1 0) 600 1200 true) (block 0 0 20 1 (at 0 1) 1
-        ∷ []) ((refl, (refl, lit< tt)), tt) (lit≤ tt, lit≤ tt),
+    best_exists small_disk (gap (at 0 0) (at 1 0) 600 1200 true) (block 0 0 20 1 (at 0 1) 1 ∷ []) (lit≤ tt, lit≤ tt),
     (tt, tt),
   ),
 )
@@ -245,17 +233,7 @@ all_detour_on_the_way = (refl, (refl, tt))
 best_detour_on_the_way : Throughout IsBestPlanned detour_on_the_way.inputs steps_of_detour_on_the_way
 unfolding on_small_disks
 best_detour_on_the_way = (
-  all_by_detour quick_disk (gap (at 0 0) (at 2 0) 0 1500 false) (block 0 0 25 1 (at 1 0) 1 ∷ []) (at 1 0) 200
-      (block 0 0 25 1 (at 1 0) 1) here (lit< tt) refl refl refl (lit≤ tt) refl (record {
-        on_disk = record {
-          cylinder = lit< tt;
-          head = lit< tt;
-        };
-        not_source = refl;
-        not_target = refl;
-        after_arrival = lit≤ tt;
-        in_time = lit≤ tt;
-      }),
+  best_exists quick_disk (gap (at 0 0) (at 2 0) 0 1500 false) (block 0 0 25 1 (at 1 0) 1 ∷ []) (lit≤ tt, lit≤ tt),
   (tt, tt),
 )
 
@@ -312,7 +290,11 @@ all_detour_over_nothing = (refl, (refl, tt))
 
 best_detour_over_nothing : Throughout IsBestPlanned detour_over_nothing.inputs steps_of_detour_over_nothing
 unfolding on_small_disks
-best_detour_over_nothing = (sooner_over, (tt, tt))
+best_detour_over_nothing = (
+  best_exists quick_disk (gap (at 0 0) (at 2 0) 0 1500 false) (block 0 0 51 1 (at 2 0) 1 ∷ [])
+      (lit≤ tt, lit≤ tt),
+  (tt, tt),
+)
 
 pub detour_over_nothing_is_full : IsFull detour_over_nothing.inputs detour_over_nothing.run
 detour_over_nothing_is_full = record {
@@ -363,9 +345,13 @@ all_weight_decides = (refl, (refl, (refl, tt)))
 best_weight_decides : Throughout IsBestPlanned weight_decides.inputs steps_of_weight_decides
 unfolding on_small_disks
 best_weight_decides = (
-  none_in_time small_disk (gap (at 0 0) (at 0 0) 0 500 false) (block 0 0 6 1 (at 0 0) 1 ∷ block 0 1 7 1 (at 0 0) 1
-      ∷ block 1 0 33 1 (at 1 0) 5 ∷ []) (lit< tt, (lit< tt, (lit< tt, tt))) (lit≤ tt, lit≤ tt),
-  (by_weight, (tt, tt)),
+  best_exists small_disk (gap (at 0 0) (at 0 0) 0 500 false) (block 0 0 6 1 (at 0 0) 1 ∷ block 0 1 7 1 (at 0 0) 1
+      ∷ block 1 0 33 1 (at 1 0) 5 ∷ []) (lit≤ tt, lit≤ tt),
+  (
+    best_exists small_disk (gap (at 0 0) (at 1 0) 600 1200 false) (block 0 0 6 1 (at 0 0) 1 ∷ block 0 1 7 1 (at 0 0) 1
+        ∷ block 1 0 33 1 (at 1 0) 5 ∷ []) (lit≤ tt, lit≤ tt),
+    (tt, tt),
+  ),
 )
 
 pub weight_decides_is_full : IsFull weight_decides.inputs weight_decides.run
@@ -409,7 +395,7 @@ all_block_over_the_turn = (refl, (refl, tt))
 best_block_over_the_turn : Throughout IsBestPlanned block_over_the_turn.inputs steps_of_block_over_the_turn
 unfolding on_small_disks
 best_block_over_the_turn =
-    (all_at_once turned_disk (gap (at 0 0) (at 0 1) 0 1300 false) (last_and_first ∷ []) refl (lit≤ tt, lit≤ tt), (tt, tt))
+    (best_exists turned_disk (gap (at 0 0) (at 0 1) 0 1300 false) (last_and_first ∷ []) (lit≤ tt, lit≤ tt), (tt, tt))
 
 pub block_over_the_turn_is_full : IsFull block_over_the_turn.inputs block_over_the_turn.run
 block_over_the_turn_is_full = record {

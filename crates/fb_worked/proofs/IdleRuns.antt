@@ -1,5 +1,5 @@
 -- Runs that show idle dwells and rides, computed.
-use Rattle.std.proofs.Common.{List, [], ◌∷◌, refl, lit≤, lit<, true, false}
+use Rattle.std.proofs.Common.{List, [], ◌∷◌, refl, lit≤, true, false}
 use Rattle.fb_script.specs.declared.call.Kind.TheVariants.{Plain}
 use Rattle.fb_rows.specs.declared.gap.Plan.TheVariants.{Direct}
 use Rattle.fb_rows.specs.declared.gap.How.TheVariants.{Gap as ByGap, Idle as ByIdle, Ride as ByRide}
@@ -12,7 +12,7 @@ use Rattle.fb_model.specs.SoundRun.{none, taken, IsSoundBy, Throughout}
 use Rattle.fb_model.specs.FullRun.{IsAllDelivered, IsBestPlanned, IsFull}
 use Rattle.fb_worked.specs.Idle.{idle_to_the_end, idle_too_short, grown_defect_cuts, promoted_read_carries, caught_not_carried}
 use Rattle.fb_worked.proofs.OnSmallDisks.{on_small_disks, serve, rest, steps_at, with_rows}
-use Rattle.fb_worked.proofs.BestPlans.{none_in_time, all_at_once}
+use Rattle.fb_model.proofs.BestPlans.{best_exists}
 
 abbrev steps_of_idle_to_the_end : List Step
 steps_of_idle_to_the_end = steps_at (decisions idle_to_the_end.inputs) (
@@ -54,7 +54,7 @@ all_idle_to_the_end = (refl, (refl, (refl, tt)))
 
 best_idle_to_the_end : Throughout IsBestPlanned idle_to_the_end.inputs steps_of_idle_to_the_end
 unfolding on_small_disks
-best_idle_to_the_end = (tt, (none_in_time small_disk (gap (at 0 0) (at 1 0) 600 1200 false) [] tt (lit≤ tt, lit≤ tt), (tt, tt)))
+best_idle_to_the_end = (tt, (best_exists small_disk (gap (at 0 0) (at 1 0) 600 1200 false) [] (lit≤ tt, lit≤ tt), (tt, tt)))
 
 pub idle_to_the_end_is_full : IsFull idle_to_the_end.inputs idle_to_the_end.run
 idle_to_the_end_is_full =
@@ -101,7 +101,7 @@ unfolding on_small_disks
 best_idle_too_short = (
   tt,
   (
-    none_in_time small_disk (gap (at 0 0) (at 1 0) 599 1200 false) (block 0 0 5 1 (at 0 0) 1 ∷ []) (lit< tt, tt) (lit≤ tt, lit≤ tt),
+    best_exists small_disk (gap (at 0 0) (at 1 0) 599 1200 false) (block 0 0 5 1 (at 0 0) 1 ∷ []) (lit≤ tt, lit≤ tt),
     (tt, tt),
   ),
 )
@@ -201,8 +201,8 @@ unfolding on_small_disks
 best_promoted_read_carries = (
   tt,
   (
-    none_in_time small_disk (gap (at 0 0) (at 0 0) 1700 1700 false) (block 0 2 7 1 (at 0 0) 1 ∷ block 0 3 8 1 (at 0 0) 1
-        ∷ []) (lit< tt, (lit< tt, tt)) (lit≤ tt, lit≤ tt),
+    best_exists small_disk (gap (at 0 0) (at 0 0) 1700 1700 false) (block 0 2 7 1 (at 0 0) 1 ∷ block 0 3 8 1 (at 0 0) 1 ∷ [])
+        (lit≤ tt, lit≤ tt),
     (tt, tt),
   ),
 )
@@ -256,7 +256,7 @@ all_caught_not_carried = (refl, (refl, (refl, tt)))
 best_caught_not_carried : Throughout IsBestPlanned caught_not_carried.inputs steps_of_caught_not_carried
 unfolding on_small_disks
 best_caught_not_carried =
-    (tt, (all_at_once small_disk (gap (at 0 0) (at 0 0) 100 1200 false) (block 0 0 6 1 (at 0 0) 1 ∷ []) refl (lit≤ tt, lit≤ tt), (tt, tt)))
+    (tt, (best_exists small_disk (gap (at 0 0) (at 0 0) 100 1200 false) (block 0 0 6 1 (at 0 0) 1 ∷ []) (lit≤ tt, lit≤ tt), (tt, tt)))
 
 pub caught_not_carried_is_full : IsFull caught_not_carried.inputs caught_not_carried.run
 caught_not_carried_is_full = record {

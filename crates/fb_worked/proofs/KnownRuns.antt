@@ -1,5 +1,5 @@
 -- Two runs that are the same up to an instant, computed.
-use Rattle.std.proofs.Common.{List, [], ◌∷◌, refl, lit≤, lit<, true, false}
+use Rattle.std.proofs.Common.{List, [], ◌∷◌, refl, lit≤, true, false}
 use Rattle.fb_script.specs.declared.call.Kind.TheVariants.{Plain}
 use Rattle.fb_rows.specs.declared.gap.Plan.TheVariants.{Direct}
 use Rattle.fb_rows.specs.declared.gap.How.TheVariants.{Gap as ByGap}
@@ -13,7 +13,7 @@ use Rattle.fb_model.specs.Known.{AgreeUpTo, SameKnown}
 use Rattle.fb_model.specs.FullRun.{IsAllDelivered, IsBestPlanned, IsFull}
 use Rattle.fb_worked.specs.Known.{run_without_third, run_with_third}
 use Rattle.fb_worked.proofs.OnSmallDisks.{on_small_disks, serve, rest, steps_at, with_rows}
-use Rattle.fb_worked.proofs.BestPlans.{here, there, none_in_time, all_then_leave}
+use Rattle.fb_model.proofs.BestPlans.{best_exists}
 
 abbrev steps_of_run_without_third : List Step
 steps_of_run_without_third = steps_at (decisions run_without_third.inputs) (
@@ -58,11 +58,11 @@ all_run_without_third = (refl, (refl, (refl, tt)))
 best_run_without_third : Throughout IsBestPlanned run_without_third.inputs steps_of_run_without_third
 unfolding on_small_disks
 best_run_without_third = (
-  none_in_time small_disk (gap (at 0 0) (at 0 0) 0 500 false) (block 0 0 6 1 (at 0 0) 1 ∷ block 0 1 7 1 (at 0 0) 1
-      ∷ block 0 2 35 1 (at 1 0) 1 ∷ []) (lit< tt, (lit< tt, (lit< tt, tt))) (lit≤ tt, lit≤ tt),
+  best_exists small_disk (gap (at 0 0) (at 0 0) 0 500 false) (block 0 0 6 1 (at 0 0) 1 ∷ block 0 1 7 1 (at 0 0) 1
+      ∷ block 0 2 35 1 (at 1 0) 1 ∷ []) (lit≤ tt, lit≤ tt),
   (
-    all_then_leave small_disk (gap (at 0 0) (at 1 0) 600 1200 false) (block 0 0 6 1 (at 0 0) 1 ∷ block 0 1 7 1 (at 0 0) 1
-        ∷ block 0 2 35 1 (at 1 0) 1 ∷ []) 800 (block 0 1 7 1 (at 0 0) 1) (there here) (lit< tt) refl (lit≤ tt) refl (lit≤ tt, lit≤ tt),
+    best_exists small_disk (gap (at 0 0) (at 1 0) 600 1200 false) (block 0 0 6 1 (at 0 0) 1 ∷ block 0 1 7 1 (at 0 0) 1
+        ∷ block 0 2 35 1 (at 1 0) 1 ∷ []) (lit≤ tt, lit≤ tt),
     (tt, tt),
   ),
 )
@@ -122,12 +122,12 @@ all_run_with_third = (refl, (refl, (refl, (refl, tt))))
 best_run_with_third : Throughout IsBestPlanned run_with_third.inputs steps_of_run_with_third
 unfolding on_small_disks
 best_run_with_third = (
-  none_in_time small_disk (gap (at 0 0) (at 0 0) 0 500 false) (block 0 0 6 1 (at 0 0) 1 ∷ block 0 1 7 1 (at 0 0) 1
-      ∷ block 0 2 35 1 (at 1 0) 1 ∷ []) (lit< tt, (lit< tt, (lit< tt, tt))) (lit≤ tt, lit≤ tt),
+  best_exists small_disk (gap (at 0 0) (at 0 0) 0 500 false) (block 0 0 6 1 (at 0 0) 1 ∷ block 0 1 7 1 (at 0 0) 1
+      ∷ block 0 2 35 1 (at 1 0) 1 ∷ []) (lit≤ tt, lit≤ tt),
   (
-    all_then_leave small_disk (gap (at 0 0) (at 1 0) 600 1200 false) (block 0 0 6 1 (at 0 0) 1 ∷ block 0 1 7 1 (at 0 0) 1
-        ∷ block 0 2 35 1 (at 1 0) 1 ∷ []) 800 (block 0 1 7 1 (at 0 0) 1) (there here) (lit< tt) refl (lit≤ tt) refl (lit≤ tt, lit≤ tt),
-    (none_in_time small_disk (gap (at 1 0) (at 3 0) 1300 2400 false) [] tt (lit≤ tt, lit≤ tt), (tt, tt)),
+    best_exists small_disk (gap (at 0 0) (at 1 0) 600 1200 false) (block 0 0 6 1 (at 0 0) 1 ∷ block 0 1 7 1 (at 0 0) 1
+        ∷ block 0 2 35 1 (at 1 0) 1 ∷ []) (lit≤ tt, lit≤ tt),
+    (best_exists small_disk (gap (at 1 0) (at 3 0) 1300 2400 false) [] (lit≤ tt, lit≤ tt), (tt, tt)),
   ),
 )
 

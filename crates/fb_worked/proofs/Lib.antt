@@ -1,8 +1,6 @@
 pub mod Texts
 pub mod OnSmallDisks
 pub mod Placing
-pub mod BestPlans
-pub mod CloseGaps
 pub mod GapsRuns
 pub mod IdleRuns
 pub mod SessionsRuns
@@ -13,3 +11,4 @@ pub mod WrongRuns
 pub mod WrongPlans
 pub mod KnownRuns
 pub mod AcceptedInputs
+mod MadeRuns

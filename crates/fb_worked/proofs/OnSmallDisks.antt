@@ -16,6 +16,8 @@ use Rattle.fb_model.specs.Inputs.{served}
 use Rattle.fb_model.specs.Content.{medium_of, fore_rows}
 use Rattle.fb_model.specs.Timeline.{timeline, led_to}
 use Rattle.fb_model.specs.Plans.{value}
+use Rattle.fb_model.specs.BestPlan.{best_plan}
+use Rattle.fb_model.specs.TheRun.{steps_at as the_steps_at}
 use Rattle.fb_model.specs.Decisions.{Decision, serves, idles, ends, Act, serving, idling, ending, decisions_from, decisions}
 use Rattle.fb_model.specs.History.{bare_state, wanted}
 use Rattle.fb_model.specs.Completion.{is_complete}
@@ -27,7 +29,7 @@ use Rattle.fb_worked.specs.SmallDisk.{small_disk, quick_disk, uneven_disk, one_s
 use Rattle.fb_worked.specs.SmallDisk.{remapped_disk}
 
 unfoldable pub on_small_disks : ⊤
-unfolding places place_at sweep_of cutting pos begin_from passages plain served medium_of fore_rows timeline led_to value decisions_from decisions bare_state wanted is_complete with_choices test_rows caught_of carried_of due chosen_past past_after task_rows small_disk quick_disk uneven_disk one_sector_disk skewed_disk turned_disk slipped_disk remapped_disk
+unfolding places place_at sweep_of cutting pos begin_from passages plain served medium_of fore_rows timeline led_to value best_plan the_steps_at decisions_from decisions bare_state wanted is_complete with_choices test_rows caught_of carried_of due chosen_past past_after task_rows small_disk quick_disk uneven_disk one_sector_disk skewed_disk turned_disk slipped_disk remapped_disk
 on_small_disks = tt
 
 -- what is done at a decision, after this plan if a request is served

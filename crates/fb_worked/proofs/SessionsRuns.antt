@@ -1,5 +1,5 @@
 -- Runs that show what calls do to a session, computed.
-use Rattle.std.proofs.Common.{List, [], ◌∷◌, refl, lit≤, lit<, true, false}
+use Rattle.std.proofs.Common.{List, [], ◌∷◌, refl, lit≤, true, false}
 use Rattle.fb_script.specs.declared.call.Kind.TheVariants.{Plain}
 use Rattle.fb_rows.specs.declared.gap.Plan.TheVariants.{Direct}
 use Rattle.fb_rows.specs.declared.gap.How.TheVariants.{Gap as ByGap}
@@ -12,7 +12,7 @@ use Rattle.fb_model.specs.SoundRun.{none, taken, IsSoundBy, Throughout}
 use Rattle.fb_model.specs.FullRun.{IsAllDelivered, IsBestPlanned, IsFull}
 use Rattle.fb_worked.specs.Sessions.{abort_while_waiting, abort_too_late, suspended, closed}
 use Rattle.fb_worked.proofs.OnSmallDisks.{on_small_disks, serve, rest, steps_at, with_rows}
-use Rattle.fb_worked.proofs.BestPlans.{here, there, none_in_time, all_then_leave}
+use Rattle.fb_model.proofs.BestPlans.{best_exists}
 
 abbrev steps_of_abort_while_waiting : List Step
 steps_of_abort_while_waiting = steps_at (decisions abort_while_waiting.inputs) (
@@ -56,11 +56,11 @@ all_abort_while_waiting = (refl, (refl, (refl, tt)))
 best_abort_while_waiting : Throughout IsBestPlanned abort_while_waiting.inputs steps_of_abort_while_waiting
 unfolding on_small_disks
 best_abort_while_waiting = (
-  none_in_time small_disk (gap (at 0 0) (at 0 0) 0 500 false) (block 0 0 6 1 (at 0 0) 1 ∷ block 0 1 7 1 (at 0 0) 1
-      ∷ block 0 2 35 1 (at 1 0) 1 ∷ []) (lit< tt, (lit< tt, (lit< tt, tt))) (lit≤ tt, lit≤ tt),
+  best_exists small_disk (gap (at 0 0) (at 0 0) 0 500 false) (block 0 0 6 1 (at 0 0) 1 ∷ block 0 1 7 1 (at 0 0) 1
+      ∷ block 0 2 35 1 (at 1 0) 1 ∷ []) (lit≤ tt, lit≤ tt),
   (
-    all_then_leave small_disk (gap (at 0 0) (at 1 0) 600 1200 false) (block 0 0 6 1 (at 0 0) 1 ∷ block 0 2 35 1 (at 1 0) 1
-        ∷ []) 700 (block 0 0 6 1 (at 0 0) 1) here (lit< tt) refl (lit≤ tt) refl (lit≤ tt, lit≤ tt),
+    best_exists small_disk (gap (at 0 0) (at 1 0) 600 1200 false) (block 0 0 6 1 (at 0 0) 1 ∷ block 0 2 35 1 (at 1 0) 1 ∷ [])
+        (lit≤ tt, lit≤ tt),
     (tt, tt),
   ),
 )
@@ -116,11 +116,11 @@ all_abort_too_late = (refl, (refl, (refl, tt)))
 best_abort_too_late : Throughout IsBestPlanned abort_too_late.inputs steps_of_abort_too_late
 unfolding on_small_disks
 best_abort_too_late = (
-  none_in_time small_disk (gap (at 0 0) (at 0 0) 0 500 false) (block 0 0 6 1 (at 0 0) 1 ∷ block 0 1 7 1 (at 0 0) 1
-      ∷ block 0 2 35 1 (at 1 0) 1 ∷ []) (lit< tt, (lit< tt, (lit< tt, tt))) (lit≤ tt, lit≤ tt),
+  best_exists small_disk (gap (at 0 0) (at 0 0) 0 500 false) (block 0 0 6 1 (at 0 0) 1 ∷ block 0 1 7 1 (at 0 0) 1
+      ∷ block 0 2 35 1 (at 1 0) 1 ∷ []) (lit≤ tt, lit≤ tt),
   (
-    all_then_leave small_disk (gap (at 0 0) (at 1 0) 600 1200 false) (block 0 0 6 1 (at 0 0) 1 ∷ block 0 1 7 1 (at 0 0) 1
-        ∷ block 0 2 35 1 (at 1 0) 1 ∷ []) 800 (block 0 1 7 1 (at 0 0) 1) (there here) (lit< tt) refl (lit≤ tt) refl (lit≤ tt, lit≤ tt),
+    best_exists small_disk (gap (at 0 0) (at 1 0) 600 1200 false) (block 0 0 6 1 (at 0 0) 1 ∷ block 0 1 7 1 (at 0 0) 1
+        ∷ block 0 2 35 1 (at 1 0) 1 ∷ []) (lit≤ tt, lit≤ tt),
     (tt, tt),
   ),
 )
@@ -168,9 +168,9 @@ all_suspended = (refl, (refl, (refl, tt)))
 best_suspended : Throughout IsBestPlanned suspended.inputs steps_of_suspended
 unfolding on_small_disks
 best_suspended = (
-  none_in_time small_disk (gap (at 0 0) (at 0 0) 0 500 false) (block 0 0 6 1 (at 0 0) 1 ∷ block 0 1 7 1 (at 0 0) 1
-      ∷ block 0 2 35 1 (at 1 0) 1 ∷ []) (lit< tt, (lit< tt, (lit< tt, tt))) (lit≤ tt, lit≤ tt),
-  (none_in_time small_disk (gap (at 0 0) (at 1 0) 600 1200 false) [] tt (lit≤ tt, lit≤ tt), (tt, tt)),
+  best_exists small_disk (gap (at 0 0) (at 0 0) 0 500 false) (block 0 0 6 1 (at 0 0) 1 ∷ block 0 1 7 1 (at 0 0) 1
+      ∷ block 0 2 35 1 (at 1 0) 1 ∷ []) (lit≤ tt, lit≤ tt),
+  (best_exists small_disk (gap (at 0 0) (at 1 0) 600 1200 false) [] (lit≤ tt, lit≤ tt), (tt, tt)),
 )
 
 pub suspended_is_full : IsFull suspended.inputs suspended.run
@@ -215,9 +215,9 @@ all_closed = (refl, (refl, (refl, tt)))
 best_closed : Throughout IsBestPlanned closed.inputs steps_of_closed
 unfolding on_small_disks
 best_closed = (
-  none_in_time small_disk (gap (at 0 0) (at 0 0) 0 500 false) (block 0 0 6 1 (at 0 0) 1 ∷ block 0 1 7 1 (at 0 0) 1
-      ∷ block 0 2 35 1 (at 1 0) 1 ∷ []) (lit< tt, (lit< tt, (lit< tt, tt))) (lit≤ tt, lit≤ tt),
-  (none_in_time small_disk (gap (at 0 0) (at 1 0) 600 1200 false) [] tt (lit≤ tt, lit≤ tt), (tt, tt)),
+  best_exists small_disk (gap (at 0 0) (at 0 0) 0 500 false) (block 0 0 6 1 (at 0 0) 1 ∷ block 0 1 7 1 (at 0 0) 1
+      ∷ block 0 2 35 1 (at 1 0) 1 ∷ []) (lit≤ tt, lit≤ tt),
+  (best_exists small_disk (gap (at 0 0) (at 1 0) 600 1200 false) [] (lit≤ tt, lit≤ tt), (tt, tt)),
 )
 
 pub closed_is_full : IsFull closed.inputs closed.run

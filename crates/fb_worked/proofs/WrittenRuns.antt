@@ -12,7 +12,7 @@ use Rattle.fb_model.specs.SoundRun.{none, taken, IsSoundBy, Throughout}
 use Rattle.fb_model.specs.FullRun.{IsAllDelivered, IsBestPlanned, IsFull}
 use Rattle.fb_worked.specs.Written.{overwritten_between, latent_until_written, read_as_the_write_ends, whole_track, scrub_finds_latent}
 use Rattle.fb_worked.proofs.OnSmallDisks.{on_small_disks, serve, rest, steps_at, with_rows}
-use Rattle.fb_worked.proofs.BestPlans.{none_in_time}
+use Rattle.fb_model.proofs.BestPlans.{best_exists}
 
 abbrev steps_of_overwritten_between : List Step
 steps_of_overwritten_between = steps_at (decisions overwritten_between.inputs) (
@@ -60,7 +60,7 @@ all_overwritten_between = (refl, (refl, (refl, (refl, tt))))
 
 best_overwritten_between : Throughout IsBestPlanned overwritten_between.inputs steps_of_overwritten_between
 unfolding on_small_disks
-best_overwritten_between = (tt, (none_in_time small_disk (gap (at 0 0) (at 0 0) 700 1800 true) [] tt (lit≤ tt, lit≤ tt), (tt, (tt, tt))))
+best_overwritten_between = (tt, (best_exists small_disk (gap (at 0 0) (at 0 0) 700 1800 true) [] (lit≤ tt, lit≤ tt), (tt, (tt, tt))))
 
 pub overwritten_between_is_full : IsFull overwritten_between.inputs overwritten_between.run
 overwritten_between_is_full = record {
@@ -116,7 +116,7 @@ all_latent_until_written = (refl, (refl, (refl, (refl, tt))))
 
 best_latent_until_written : Throughout IsBestPlanned latent_until_written.inputs steps_of_latent_until_written
 unfolding on_small_disks
-best_latent_until_written = (tt, (none_in_time small_disk (gap (at 0 0) (at 0 0) 700 1800 true) [] tt (lit≤ tt, lit≤ tt), (tt, (tt, tt))))
+best_latent_until_written = (tt, (best_exists small_disk (gap (at 0 0) (at 0 0) 700 1800 true) [] (lit≤ tt, lit≤ tt), (tt, (tt, tt))))
 
 pub latent_until_written_is_full : IsFull latent_until_written.inputs latent_until_written.run
 latent_until_written_is_full = record {
@@ -162,7 +162,7 @@ all_read_as_the_write_ends = (refl, (refl, tt))
 
 best_read_as_the_write_ends : Throughout IsBestPlanned read_as_the_write_ends.inputs steps_of_read_as_the_write_ends
 unfolding on_small_disks
-best_read_as_the_write_ends = (none_in_time one_sector_disk (gap (at 0 0) (at 0 0) 0 0 true) [] tt (lit≤ tt, lit≤ tt), (tt, tt))
+best_read_as_the_write_ends = (best_exists one_sector_disk (gap (at 0 0) (at 0 0) 0 0 true) [] (lit≤ tt, lit≤ tt), (tt, tt))
 
 pub read_as_the_write_ends_is_full : IsFull read_as_the_write_ends.inputs read_as_the_write_ends.run
 read_as_the_write_ends_is_full = record {

@@ -1,7 +1,7 @@
 use Rattle.std.specs.Prelude.{IfOk}
 use Rattle.std.proofs.Common.{subst}
 use Rattle.std.proofs.lemmas.Result.{IfOk-weaker}
-use Rattle.fb_decide.specs.RunInputs.{inputs_of}
+use Rattle.fb_decide.specs.RunInputs.{inputs_of, run_inputs}
 use Rattle.fb_engine.specs.Progress.{IsWhole}
 use Rattle.fb_engine.proofs.Looping.{at_first}
 use Rattle.fb_engine.proofs.engine.replay.Goals as goal
@@ -13,7 +13,7 @@ pub returns : goal.returns
 returns g c =
     let whole = subst (λ inputs. IfOk c.run_of.result (IsWhole (inputs_of inputs g.Q.Queue.key)))
     c.in_ok-decider.ensures.inputs c.run_of.ensures in
-    let by = IfOk-weaker c.run_of.result (IsWhole (inputs_of c.args.inputs g.Q.Queue.key)) in
+    let by = IfOk-weaker c.run_of.result (IsWhole (run_inputs c.args.disk.now c.args.latent.now c.args.trace.now c.args.calls.now c.args.until g.Q.Queue.key)) in
     record {
       full = by _ (λ run is. is.full) whole;
       few = by _ (λ run is. is.few) whole;

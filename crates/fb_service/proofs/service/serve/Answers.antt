@@ -12,8 +12,8 @@ loop-served-init c =
     let s = c.stretch_extent-last in
     let disk = c.args.disk.now in
     record {
-      so_far = served_more disk c.args.source c.args.now c.args.access.write c.args.access.lbn c.args.access.count (c.args.access.lbn
-          + s.result.count) (c.args.access.count - s.result.count) s.result s.result.end s.result.track [] _ _
+      so_far = served_more disk c.args.source c.args.now c.args.write c.args.lbn c.args.count (c.args.lbn
+          + s.result.count) (c.args.count - s.result.count) s.result s.result.end s.result.track [] _ _
           s.ensures.unbroken s.ensures.timed s.ensures.first s.ensures.begin (omega (arith, s.ensures.bound)) refl refl refl
           (ap (λ xs. all_passages_of disk.map xs ++ passages_of disk.map s.result) c.new-extents.ensures.items) refl;
       extents = subst (AllByRecursion (IsUnbroken disk.map)) (sym c.new-extents.ensures.items) tt;
@@ -23,7 +23,7 @@ loop-served-init c =
       some = omega arith;
       upto = s.ensures.bound;
       forward = s.ensures.takes_time;
-      each = passing-more disk.map c.args.access.lbn 0 c.args.access.lbn s.result.count (c.args.access.lbn
+      each = passing-more disk.map c.args.lbn 0 c.args.lbn s.result.count (c.args.lbn
           + s.result.count) (λ y up down. absurd (omega arith)) s.ensures.timed refl;
       later = s.ensures.takes_time;
       soon = omega (arith, s.ensures.soon, s.ensures.unbroken.some);
@@ -35,10 +35,10 @@ loop-served-preserved c =
     let disk = c.args.disk.now in
     let l = c.loop-served in
     let added = c.in_ok-add_extent.ensures in
-    let lbn = c.args.access.lbn + l.served in
+    let lbn = c.args.lbn + l.served in
     record {
-      so_far = served_more disk l.last.track l.last.end c.args.access.write lbn (c.args.access.count - l.served) (c.args.access.lbn
-          + (l.served + s.result.count)) (c.args.access.count - (l.served + s.result.count)) s.result
+      so_far = served_more disk l.last.track l.last.end c.args.write lbn (c.args.count - l.served) (c.args.lbn
+          + (l.served + s.result.count)) (c.args.count - (l.served + s.result.count)) s.result
           c.add_extent.new.last.end c.add_extent.new.last.track _ _ _
           s.ensures.unbroken s.ensures.timed s.ensures.first s.ensures.begin (omega (arith, s.ensures.bound))
           (omega arith) added.end added.track added.passages l.invariant.so_far;
@@ -49,7 +49,7 @@ loop-served-preserved c =
       some = omega (arith, added.few, l.invariant.some);
       upto = omega (arith, s.ensures.bound);
       forward = added.forward;
-      each = passing-more disk.map c.args.access.lbn 0 lbn s.result.count (c.args.access.lbn
+      each = passing-more disk.map c.args.lbn 0 lbn s.result.count (c.args.lbn
           + (l.served + s.result.count)) l.invariant.each s.ensures.timed (omega arith);
       later = omega (arith, added.end, l.invariant.later, s.ensures.after, s.ensures.takes_time);
       soon = omega (arith, added.end, s.ensures.soon, l.invariant.soon, s.ensures.unbroken.some);
@@ -59,19 +59,19 @@ pub returns-clause-passages : goal.returns-clause-passages
 returns-clause-passages c =
     let l = c.loop-served in
     all_served c.args.disk.now.map l.extents.items c.push.new.self.items l.last _ _ c.in_ok-push.ensures.ok
-    (no_passages c.args.disk.now l.last.track l.last.end c.args.access.write (c.args.access.lbn + l.served) (c.args.access.count - l.served)
+    (no_passages c.args.disk.now l.last.track l.last.end c.args.write (c.args.lbn + l.served) (c.args.count - l.served)
     (omega (arith, c.loop-served-test.false))) l.invariant.so_far
 
 pub returns-clause-media : goal.returns-clause-media
 returns-clause-media c =
     c.stretch_extent-last.ensures.begin ∙ sym
-    (first_media c.args.disk.now c.args.source c.args.now c.args.access.write c.args.access.lbn c.args.access.count c.requires.access.some)
+    (first_media c.args.disk.now c.args.source c.args.now c.args.write c.args.lbn c.args.count c.requires.access.some)
 
 pub returns-clause-finish : goal.returns-clause-finish
 returns-clause-finish c =
     let l = c.loop-served in
     finish-all c.args.disk.now.map c.args.now _ _ _ l.last l.invariant.unbroken
-    (no_passages c.args.disk.now l.last.track l.last.end c.args.access.write (c.args.access.lbn + l.served) (c.args.access.count - l.served)
+    (no_passages c.args.disk.now l.last.track l.last.end c.args.write (c.args.lbn + l.served) (c.args.count - l.served)
     (omega (arith, c.loop-served-test.false))) l.invariant.so_far
 
 pub returns-clause-last_track : goal.returns-clause-last_track
@@ -84,7 +84,7 @@ returns-clause-last_track c =
 pub returns-clause-each : goal.returns-clause-each
 returns-clause-each c =
     let l = c.loop-served in
-    all_take c.args.disk.now c.args.source c.args.now c.args.access.write c.args.access.lbn c.args.access.count
+    all_take c.args.disk.now c.args.source c.args.now c.args.write c.args.lbn c.args.count
     (λ x from below. l.invariant.each x from (omega (arith, c.loop-served-test.false)))
 
 pub returns-clause-unbroken : goal.returns-clause-unbroken

@@ -22,7 +22,7 @@ invariant_of-mechanism c =
       head_switch = c.args.head_switch;
       write_settle = c.args.write_settle;
     } in
-    record { table = sound _ _ c.as_slice.ensures.value (sym c.in-None.ensures); times = rw c.new.ensures.items (none_yet arm) }
+    record { table = sound _ _ c.as_slice.ensures.value (sym c.in-None.ensures); times = rw c.new-times.ensures.items (none_yet arm) }
 
 pub invariant_of-mechanism-in-None : goal.invariant_of-mechanism-in-None
 invariant_of-mechanism-in-None c =
