@@ -25,12 +25,11 @@ pub line_ended : (first : List ℕ) (fields : List (List ℕ)) → (line : List 
 line_ended first fields = (with_fields first fields, refl)
 
 -- a line without its line feed
-pub trimmed : (due line printed : List ℕ) → due ≡ ended line → take (length due - 1) due ≡ printed → due ≡ ended printed
-trimmed due line printed e t =
+pub trimmed : (due line : List ℕ) → due ≡ ended line → take (length due - 1) due ≡ line
+trimmed due line e =
     let n : length due - 1 ≡ length line = omega (arith, ap length e, length-append line (10 ∷ [])) in
-    let front : printed ≡ line = sym t ∙ (ap (λ n. take n due) n ∙ (ap (take (length line)) e
-    ∙ (take-append-le (length line) line (10 ∷ []) (omega arith) ∙ take_all (length line) line (omega arith)))) in
-    e ∙ ap ended (sym front)
+    ap (λ n. take n due) n ∙ (ap (take (length line)) e
+    ∙ (take-append-le (length line) line (10 ∷ []) (omega arith) ∙ take_all (length line) line (omega arith)))
 
 -- ---- the first byte
 

@@ -6,8 +6,8 @@ use Rattle.std.proofs.lemmas.List.{map-append, length-map, take-append-le, take-
 use Rattle.std.proofs.lemmas.Bool.{cases_lt}
 use Rattle.std.proofs.lemmas.Option.{slice_get-map, slice_get_within}
 use Rattle.fb_units.proofs.Lists.{get_right, take_at, append_at}
-use Rattle.fb_report.specs.declared.reading.Report.{Report}
-use Rattle.fb_report.specs.Grammar.{report_fields, ended}
+use Rattle.fb_desk.specs.declared.desk.Input.{Input}
+use Rattle.fb_report.specs.Grammar.{LineFields, ended, spelled}
 use Rattle.fb_report.specs.Reading.{BeginsLikeEnd, EndsOnce}
 use Rattle.fb_check.specs.declared.comparing.Comparison.{Comparison}
 use Rattle.fb_check.specs.declared.verdict.Rule.{Rule}
@@ -21,7 +21,7 @@ take_in : {X : Type 0} (xs ys : List X) (i : ℕ) (x : X) → slice_get xs i ≡
 take_in xs ys i x e = take-append-le i xs ys (omega (arith, slice_get_within xs i x e))
 
 -- a mismatch of these due lines is one of any more of them
-pub still_wrong : (due more : List (List ℕ)) (rules more_rules : List (ℕ → Rule)) (printed : List (List ℕ)) (mismatch : Mismatch)
+pub still_wrong : (due more : List (List ℕ)) (rules more_rules : List (ℕ → Rule)) (printed : List LineFields) (mismatch : Mismatch)
     → IsMismatch due rules printed mismatch → IsMismatch (due ++ more) (rules ++ more_rules) printed mismatch
 still_wrong due more rules more_rules printed mismatch wrong =
     let there = append_at due more wrong.index (ended wrong.due_line) wrong.is_due in
@@ -44,20 +44,12 @@ still_wrong due more rules more_rules printed mismatch wrong =
       rule = wrong.rule;
     }
 
-ended_same : (xs ys : List ℕ) → ended xs ≡ ended ys → xs ≡ ys
-ended_same [] [] e = refl
-ended_same [] (y ∷ []) e = cc
-ended_same [] (y ∷ z ∷ ys) e = cc
-ended_same (x ∷ []) [] e = cc
-ended_same (x ∷ z ∷ xs) [] e = cc
-ended_same (x ∷ xs) (y ∷ ys) e = let rest = ended_same xs ys (let same : ended xs ≡ ended ys = cc in same) in cc
-
 -- the first due line that isn't the printed one is a mismatch
-pub first_wrong : (lines : List (List ℕ)) (rules : List (ℕ → Rule)) (due : List ℕ) (rule_by : ℕ → Rule) (report : Report)
-    (printed : List (List ℕ)) (index : ℕ) (mismatch : Mismatch)
-    → SoFar None lines rules report printed index → NamesLine due rule_by report printed index mismatch
+pub first_wrong : (lines : List (List ℕ)) (rules : List (ℕ → Rule)) (due : List ℕ) (rule_by : ℕ → Rule) (input : Input)
+    (printed : List LineFields) (index : ℕ) (mismatch : Mismatch)
+    → SoFar None lines rules input printed index → NamesLine due rule_by input printed index mismatch
     → IsMismatch (lines ++ due ∷ []) (rules ++ rule_by ∷ []) printed mismatch
-first_wrong lines rules due rule_by report printed index mismatch so_far named =
+first_wrong lines rules due rule_by input printed index mismatch so_far named =
     let not_due = named.not_due in
     let due_there : slice_get (lines ++ due ∷ []) index ≡ Some due = get_right lines (due ∷ []) 0 index (omega arith) in
     record {
@@ -66,10 +58,9 @@ first_wrong lines rules due rule_by report printed index mismatch so_far named =
       lines = record {
         before = take-append-le index lines (due ∷ []) (omega arith) ∙ (take_all index lines (omega arith) ∙ sym so_far.first);
         there = λ e.
-            let printed_there = slice_get-map ended printed index ∙ ap (option_map ended) not_due.is_printed in
-            let both : Some due ≡ Some (ended not_due.line) = sym due_there ∙ (e ∙ printed_there) in
-            let same = ended_same not_due.due_line not_due.line (sym not_due.is_due ∙ (let one : due ≡ ended not_due.line = cc in one)) in
-            not_due.fields.there (ap (λ line. slice_get (report_fields line) not_due.field_index) same);
+            let printed_there = slice_get-map spelled printed index ∙ ap (option_map spelled) not_due.is_printed in
+            let both : Some due ≡ Some (spelled not_due.line) = sym due_there ∙ (e ∙ printed_there) in
+            not_due.differs (let one : due ≡ spelled not_due.line = cc in one);
       };
       due_line = not_due.due_line;
       is_due = due_there ∙ ap Some not_due.is_due;
@@ -87,81 +78,81 @@ first_wrong lines rules due rule_by report printed index mismatch so_far named =
 
 so_far_next : (wrong : Option Mismatch) (lines : List (List ℕ)) (rules : List (ℕ → Rule)) (due : List ℕ) (rule_by : ℕ → Rule)
     (before : Comparison) (same : ℕ)
-    → SoFar None lines rules before.report before.lines.now before.same → NextIs wrong rule_by due before same
-    → SoFar wrong (lines ++ due ∷ []) (rules ++ rule_by ∷ []) before.report before.lines.now same
+    → SoFar None lines rules before.input before.lines.now before.same → NextIs wrong rule_by due before same
+    → SoFar wrong (lines ++ due ∷ []) (rules ++ rule_by ∷ []) before.input before.lines.now same
 so_far_next None lines rules due rule_by before same so_far next =
     let is_due = next.1 in
     record {
       count = omega (arith, length-append lines (due ∷ []), next.0);
       ruled = omega (arith, length-append rules (rule_by ∷ []), next.0);
-      first = ap (λ n. take n (map ended before.lines.now)) next.0
-          ∙ (take_at (map ended before.lines.now) before.same due
-          (slice_get-map ended before.lines.now before.same ∙ (ap (option_map ended) is_due.is_printed ∙ ap Some (sym is_due.is_due)))
+      first = ap (λ n. take n (map spelled before.lines.now)) next.0
+          ∙ (take_at (map spelled before.lines.now) before.same due
+          (slice_get-map spelled before.lines.now before.same ∙ (ap (option_map spelled) is_due.is_printed ∙ ap Some (sym is_due.is_due)))
           ∙ ap (λ xs. xs ++ due ∷ []) so_far.first);
     }
 so_far_next (Some mismatch) lines rules due rule_by before same so_far next =
-    (first_wrong lines rules due rule_by before.report before.lines.now before.same mismatch so_far next, next.report_is)
+    (first_wrong lines rules due rule_by before.input before.lines.now before.same mismatch so_far next, next.input_is)
 
 so_far_more : (wrong : Option Mismatch) (lines : List (List ℕ)) (rules : List (ℕ → Rule)) (due : List ℕ) (rule_by : ℕ → Rule)
     (before after : Comparison)
-    → SoFar wrong lines rules before.report before.lines.now before.same → OneMore wrong rule_by due before after
-    → SoFar after.wrong (lines ++ due ∷ []) (rules ++ rule_by ∷ []) before.report before.lines.now after.same
+    → SoFar wrong lines rules before.input before.lines.now before.same → OneMore wrong rule_by due before after
+    → SoFar after.wrong (lines ++ due ∷ []) (rules ++ rule_by ∷ []) before.input before.lines.now after.same
 so_far_more None lines rules due rule_by before after so_far one =
     so_far_next after.wrong lines rules due rule_by before after.same so_far one
 so_far_more (Some mismatch) lines rules due rule_by before after so_far one =
-    subst (λ wrong. SoFar wrong (lines ++ due ∷ []) (rules ++ rule_by ∷ []) before.report before.lines.now after.same) (sym one)
+    subst (λ wrong. SoFar wrong (lines ++ due ∷ []) (rules ++ rule_by ∷ []) before.input before.lines.now after.same) (sym one)
     (still_wrong lines (due ∷ []) rules (rule_by ∷ []) before.lines.now mismatch so_far.0, so_far.1)
 
 -- one more due line was compared
 pub one_line : (lines : List (List ℕ)) (rules : List (ℕ → Rule)) (due : List ℕ) (rule_by : ℕ → Rule) (before after : Comparison)
-    → SoFar before.wrong lines rules before.report before.lines.now before.same → HasComparedOne rule_by due before after
-    → SoFar after.wrong (lines ++ due ∷ []) (rules ++ rule_by ∷ []) after.report after.lines.now after.same
+    → SoFar before.wrong lines rules before.input before.lines.now before.same → HasComparedOne rule_by due before after
+    → SoFar after.wrong (lines ++ due ∷ []) (rules ++ rule_by ∷ []) after.input after.lines.now after.same
 one_line lines rules due rule_by before after so_far one =
-    subst (λ r. SoFar after.wrong (lines ++ due ∷ []) (rules ++ rule_by ∷ []) r after.lines.now after.same) (sym one.report)
-    (subst (λ p. SoFar after.wrong (lines ++ due ∷ []) (rules ++ rule_by ∷ []) before.report p after.same) (sym one.lines)
+    subst (λ r. SoFar after.wrong (lines ++ due ∷ []) (rules ++ rule_by ∷ []) r after.lines.now after.same) (sym one.input)
+    (subst (λ p. SoFar after.wrong (lines ++ due ∷ []) (rules ++ rule_by ∷ []) before.input p after.same) (sym one.lines)
     (so_far_more before.wrong lines rules due rule_by before after so_far one.one))
 
 some_is : (wrong : Option Mismatch) → is_some wrong ≡ true → (mismatch : Mismatch) × (wrong ≡ Some mismatch)
 some_is None e = cc
 some_is (Some mismatch) e = (mismatch, refl)
 
-module _ {X : Type 0} (report : Report) (first : List ℕ) (first_rule : Rule) (line : X → List ℕ) (rule : X → ℕ → Rule)
-    (printed : List (List ℕ)) where
+module _ {X : Type 0} (input : Input) (first : List ℕ) (first_rule : Rule) (line : X → List ℕ) (rule : X → ℕ → Rule)
+    (printed : List LineFields) where
   -- one more row's line was compared
   pub one_row : (before after : Comparison) (rows : List X) (row : X) (due : List ℕ) → due ≡ line row
       → HasComparedOne (rule row) due before after
-      → HasCompared report first first_rule line rule printed before rows
-      → HasCompared report first first_rule line rule printed after (rows ++ row ∷ [])
+      → HasCompared input first first_rule line rule printed before rows
+      → HasCompared input first first_rule line rule printed after (rows ++ row ∷ [])
   one_row before after rows row due is one h = record {
-    report_is = one.report ∙ h.report_is;
+    input_is = one.input ∙ h.input_is;
     lines_are = one.lines ∙ h.lines_are;
     so_far = simp map-append (subst (λ d. SoFar after.wrong (first ∷ (map line rows ++ d ∷ []))
-        ((λ field. first_rule) ∷ (map rule rows ++ rule row ∷ [])) after.report after.lines.now after.same) is
+        ((λ field. first_rule) ∷ (map rule rows ++ rule row ∷ [])) after.input after.lines.now after.same) is
         (one_line (first ∷ map line rows) ((λ field. first_rule) ∷ map rule rows) due (rule row) before after h.so_far one));
   }
 
   -- one more of these rows
   pub one_more_row : (before after : Comparison) (rows more : List X) (i : ℕ) (row : X) (due : List ℕ) → slice_get more i ≡ Some row
       → due ≡ line row → HasComparedOne (rule row) due before after
-      → HasCompared report first first_rule line rule printed before (rows ++ take i more)
-      → HasCompared report first first_rule line rule printed after (rows ++ take (i + 1) more)
+      → HasCompared input first first_rule line rule printed before (rows ++ take i more)
+      → HasCompared input first first_rule line rule printed after (rows ++ take (i + 1) more)
   one_more_row before after rows more i row due at is one h =
-      subst (HasCompared report first first_rule line rule printed after)
+      subst (HasCompared input first first_rule line rule printed after)
       (append_assoc rows (take i more) (row ∷ []) ∙ ap (λ xs. rows ++ xs) (sym (take_at more i row at)))
       (one_row before after (rows ++ take i more) row due is one h)
 
   -- more rows, where a line was wrong
   wrong_rows : (comparison : Comparison) (mismatch : Mismatch) (rows more : List X) → comparison.wrong ≡ Some mismatch
-      → HasCompared report first first_rule line rule printed comparison rows
-      → HasCompared report first first_rule line rule printed comparison (rows ++ more)
+      → HasCompared input first first_rule line rule printed comparison rows
+      → HasCompared input first first_rule line rule printed comparison (rows ++ more)
   wrong_rows comparison mismatch rows more wrong h =
       let so_far = subst (λ w. SoFar w (first ∷ map line rows)
-      ((λ field. first_rule) ∷ map rule rows) comparison.report comparison.lines.now comparison.same) wrong h.so_far in
+      ((λ field. first_rule) ∷ map rule rows) comparison.input comparison.lines.now comparison.same) wrong h.so_far in
       record {
-        report_is = h.report_is;
+        input_is = h.input_is;
         lines_are = h.lines_are;
         so_far = subst (λ w. SoFar w (first ∷ map line (rows ++ more))
-            ((λ field. first_rule) ∷ map rule (rows ++ more)) comparison.report comparison.lines.now comparison.same) (sym wrong) (
+            ((λ field. first_rule) ∷ map rule (rows ++ more)) comparison.input comparison.lines.now comparison.same) (sym wrong) (
               simp map-append (still_wrong (first ∷ map line rows) (map line more) ((λ field. first_rule) ∷ map rule rows)
                   (map rule more) comparison.lines.now mismatch so_far.0),
               so_far.1,
@@ -169,59 +160,51 @@ module _ {X : Type 0} (report : Report) (first : List ℕ) (first_rule : Rule) (
       }
 
   pub more_rows : (comparison : Comparison) (rows more : List X) (i : ℕ)
-      → is_some comparison.wrong ≡ true → HasCompared report first first_rule line rule printed comparison (rows ++ take i more)
-      → HasCompared report first first_rule line rule printed comparison (rows ++ more)
+      → is_some comparison.wrong ≡ true → HasCompared input first first_rule line rule printed comparison (rows ++ take i more)
+      → HasCompared input first first_rule line rule printed comparison (rows ++ more)
   more_rows comparison rows more i wrong h =
       let some = some_is comparison.wrong wrong in
-      subst (HasCompared report first first_rule line rule printed comparison)
+      subst (HasCompared input first first_rule line rule printed comparison)
       (append_assoc rows (take i more) (drop i more) ∙ ap (λ xs. rows ++ xs) (take-append-drop i more))
       (wrong_rows comparison some.0 (rows ++ take i more) (drop i more) some.1 h)
 
   pub all_rows : (comparison : Comparison) (rows more : List X) (i : ℕ) → length more ≤ i
-      → HasCompared report first first_rule line rule printed comparison (rows ++ take i more)
-      → HasCompared report first first_rule line rule printed comparison (rows ++ more)
+      → HasCompared input first first_rule line rule printed comparison (rows ++ take i more)
+      → HasCompared input first first_rule line rule printed comparison (rows ++ more)
   all_rows comparison rows more i past h =
-      subst (λ xs. HasCompared report first first_rule line rule printed comparison (rows ++ xs)) (take_all i more past) h
+      subst (λ xs. HasCompared input first first_rule line rule printed comparison (rows ++ xs)) (take_all i more past) h
 
 -- ---- the first line and the last
 
-module _ {X : Type 0} (report : Report) (first : List ℕ) (first_rule : Rule) (line : X → List ℕ) (rule : X → ℕ → Rule) where
+module _ {X : Type 0} (input : Input) (first : List ℕ) (first_rule : Rule) (line : X → List ℕ) (rule : X → ℕ → Rule) where
   -- the first line was compared
-  pub begun : (lines : Bor (List (List ℕ))) (after : Comparison) (due : List ℕ) → due ≡ first
-      → HasComparedOne (λ field. first_rule) due (record { report = report; lines = lines; same = 0; wrong = None }) after
-      → HasCompared report first first_rule line rule lines.now after []
+  pub begun : (lines : Bor (List LineFields)) (after : Comparison) (due : List ℕ) → due ≡ first
+      → HasComparedOne (λ field. first_rule) due (record { input = input; lines = lines; same = 0; wrong = None }) after
+      → HasCompared input first first_rule line rule lines.now after []
   begun lines after due is one = record {
-    report_is = one.report;
+    input_is = one.input;
     lines_are = one.lines;
-    so_far = subst (λ d. SoFar after.wrong (d ∷ []) ((λ field. first_rule) ∷ []) after.report after.lines.now after.same) is
-        (one_line [] [] due (λ field. first_rule) (record { report = report; lines = lines; same = 0; wrong = None }) after
+    so_far = subst (λ d. SoFar after.wrong (d ∷ []) ((λ field. first_rule) ∷ []) after.input after.lines.now after.same) is
+        (one_line [] [] due (λ field. first_rule) (record { input = input; lines = lines; same = 0; wrong = None }) after
         (record { count = refl; ruled = refl; first = refl }) one);
   }
 
-abbrev first_byte : List ℕ → ℕ
-first_byte [] = 0
-first_byte (byte ∷ bytes) = byte
-
-begins_too : (line due : List ℕ) → due ≡ ended line → BeginsLikeEnd due → BeginsLikeEnd line
-begins_too [] due e begins = let same : ◌≡◌ {A = ℕ} 10 101 = ap first_byte (sym e ∙ begins.1) in absurd (omega (arith, same))
-begins_too (byte ∷ bytes) due e begins = let same : byte ≡ 101 = ap first_byte (sym e ∙ begins.1) in (bytes, ap (λ b. b ∷ bytes) same)
-
-ends_there : (due : List ℕ) (lines : List (List ℕ)) (index : ℕ) → EndsOnce lines → IsDue due lines index → BeginsLikeEnd due
+ends_there : (due : List ℕ) (lines : List LineFields) (index : ℕ) → EndsOnce lines → IsDue due lines index → BeginsLikeEnd due
     → index + 1 ≡ length lines
 ends_there due lines index ends is_due begins = elim (cases_lt (index + 1) (length lines)) [
-  | inl behind ↦ absurd (ends.others is_due.line index behind is_due.is_printed (begins_too is_due.line due is_due.is_due begins))
+  | inl behind ↦ absurd (ends.others is_due.line index behind is_due.is_printed (subst BeginsLikeEnd is_due.is_due begins))
   | inr last ↦ omega (arith, slice_get_within lines index is_due.line is_due.is_printed)
 ]
 
 complete_by : (wrong : Option Mismatch) (lines : List (List ℕ)) (rules : List (ℕ → Rule)) (due : List ℕ) (rule_by : ℕ → Rule)
     (before after : Comparison)
-    → SoFar wrong lines rules before.report before.lines.now before.same → OneMore wrong rule_by due before after
-    → EndsOnce before.lines.now → BeginsLikeEnd due → after.wrong ≡ None → lines ++ due ∷ [] ≡ map ended before.lines.now
+    → SoFar wrong lines rules before.input before.lines.now before.same → OneMore wrong rule_by due before after
+    → EndsOnce before.lines.now → BeginsLikeEnd due → after.wrong ≡ None → lines ++ due ∷ [] ≡ map spelled before.lines.now
 complete_by None lines rules due rule_by before after so_far one ends begins right =
     let next : NextIs None rule_by due before after.same = subst (λ w. NextIs w rule_by due before after.same) right one in
     let more = so_far_next None lines rules due rule_by before after.same so_far next in
     let there = ends_there due before.lines.now before.same ends next.1 begins in
-    sym more.first ∙ take_all after.same (map ended before.lines.now) (omega (arith, length-map before.lines.now ended, next.0))
+    sym more.first ∙ take_all after.same (map spelled before.lines.now) (omega (arith, length-map before.lines.now spelled, next.0))
 complete_by (Some mismatch) lines rules due rule_by before after so_far one ends begins right =
     absurd (none_some mismatch (sym right ∙ one))
   where
@@ -230,8 +213,8 @@ complete_by (Some mismatch) lines rules due rule_by before after so_far one ends
 
 -- where no line was wrong, the lines with the last one are the printed ones
 pub complete : (lines : List (List ℕ)) (rules : List (ℕ → Rule)) (due : List ℕ) (rule_by : ℕ → Rule) (before after : Comparison)
-    → SoFar before.wrong lines rules before.report before.lines.now before.same → HasComparedOne rule_by due before after
+    → SoFar before.wrong lines rules before.input before.lines.now before.same → HasComparedOne rule_by due before after
     → CanCompare before
-    → BeginsLikeEnd due → after.wrong ≡ None → lines ++ due ∷ [] ≡ map ended before.lines.now
+    → BeginsLikeEnd due → after.wrong ≡ None → lines ++ due ∷ [] ≡ map spelled before.lines.now
 complete lines rules due rule_by before after so_far one ready begins right =
     complete_by before.wrong lines rules due rule_by before after so_far one.one ready.ends begins right

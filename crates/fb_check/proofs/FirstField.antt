@@ -5,7 +5,7 @@ use Rattle.std.specs.Str.{bytes_eq}
 use Rattle.std.proofs.lemmas.Bool.{cases_Bool}
 use Rattle.std.proofs.lemmas.List.Splits.{join_with_byte-slice_split}
 use Rattle.std.proofs.lemmas.Slice.Eq.{bytes_eq-Decides}
-use Rattle.fb_report.specs.Grammar.{report_fields}
+use Rattle.fb_report.specs.Grammar.{LineFields, report_fields, ended, spelled}
 use Rattle.fb_check.specs.Verdict.{DifferFirstAt}
 
 -- how many fields at the front are the same
@@ -37,7 +37,7 @@ few_agree (x ∷ xs) (y ∷ ys) = elim (cases_Bool (bytes_eq x y)) [
   | inr other ↦ rw other (omega arith)
 ]
 
--- lines that differ have a field that does
-pub fields_differ : (due printed : List ℕ) → due ≢ printed → report_fields due ≢ report_fields printed
-fields_differ due printed differ =
-    λ e. differ (sym (join_with_byte-slice_split 32 due) ∙ (ap (join_with_byte 32) e ∙ join_with_byte-slice_split 32 printed))
+-- the fields of a due line aren't printed ones that spell another line
+pub fields_differ : (due line : List ℕ) (printed : LineFields) → due ≡ ended line → due ≢ spelled printed → report_fields line ≢ printed
+fields_differ due line printed e differ =
+    λ same. differ (e ∙ (ap ended (sym (join_with_byte-slice_split 32 line)) ∙ ap spelled same))

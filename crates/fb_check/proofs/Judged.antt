@@ -1,10 +1,11 @@
 -- What was judged so far, from one decision to the next and at the end.
 use Rattle.std.proofs.Common.{◌≡◌, ℕ, suc, ◌+◌, ◌-◌, ◌<◌, List, [], ◌∷◌, ◌++◌, Bool, true, false, length, map, replicate, refl, ap, sym}
-use Rattle.std.proofs.Common.{subst, ◌∙◌, arith, append_assoc, length-append, Some, None}
+use Rattle.std.proofs.Common.{subst, ◌∙◌, arith, append_assoc, length-append, Some, None, inl, inr}
 use Rattle.std.specs.Prelude.{Option}
 use Rattle.std.specs.List.{AllByRecursion}
 use Rattle.std.proofs.lemmas.List.{map-append, length-map}
 use Rattle.fb_script.specs.Allowed as allowed
+use Rattle.fb_desk.specs.declared.desk.Input.TheVariants.{BackReport}
 use Rattle.fb_rows.specs.Tasks.{HasTaskBelow}
 use Rattle.fb_rows.specs.declared.fore.ForeRow.{ForeRow}
 use Rattle.fb_rows.specs.declared.back.BackRow.{BackRow}
@@ -17,11 +18,9 @@ use Rattle.fb_model.specs.FullRun.{IsFull}
 use Rattle.fb_decide.specs.RunState.{RunState}
 use Rattle.fb_decide.specs.Making.{fore_row_of, decisions_by, rest_of, HasMade, HasMadeOne, decisions_left}
 use Rattle.fb_report.specs.declared.bytes.Bytes.{Bytes}
-use Rattle.fb_report.specs.declared.reading.Report.{Report}
-use Rattle.fb_report.specs.declared.reading.Report.TheVariants.{Fore, Back}
 use Rattle.fb_report.specs.Fore.{fore_first, fore_line, fore_last, fore_lines}
 use Rattle.fb_report.specs.Back.{back_first, back_line, back_last, back_lines}
-use Rattle.fb_report.specs.Grammar.{ended}
+use Rattle.fb_report.specs.Grammar.{LineFields, spelled}
 use Rattle.fb_check.specs.declared.comparing.Comparison.{Comparison}
 use Rattle.fb_check.specs.declared.verdict.Rule.{Rule}
 use Rattle.fb_check.specs.declared.verdict.Rule.TheVariants.{Foreground, Timeline, End}
@@ -52,7 +51,7 @@ rules_are run = let next : length run.fore + 2 ≡ suc (length run.fore + 1) = o
     ap (λ n. replicate {A = ℕ → Rule} n (λ field. Foreground)) next ∙ ap (λ rules. (λ field. Foreground) ∷ rules) (rules_behind run.fore)
 
 -- a wrong line among the first rows is one of the whole report
-fore_more : (size : ℕ) (bytes : Bytes) (run : Run) (rows rest : List ForeRow) (printed : List (List ℕ)) (mismatch : Mismatch)
+fore_more : (size : ℕ) (bytes : Bytes) (run : Run) (rows rest : List ForeRow) (printed : List LineFields) (mismatch : Mismatch)
     → rows ++ rest ≡ run.fore
     → IsMismatch (fore_first ∷ map (fore_line size bytes) rows) ((λ field. Foreground)
     ∷ map (λ row field. Foreground) rows) printed mismatch → IsMismatch (fore_lines size bytes run) (fore_rules run) printed mismatch
@@ -72,7 +71,7 @@ fore_more size bytes run rows rest printed mismatch e wrong =
     (map (λ row field. Foreground) rest ++ (λ field. Foreground) ∷ []) printed mismatch wrong))
 
 -- the whole report, where its last line was compared
-fore_whole : (size : ℕ) (bytes : Bytes) (run : Run) (printed : List (List ℕ)) (mismatch : Mismatch)
+fore_whole : (size : ℕ) (bytes : Bytes) (run : Run) (printed : List LineFields) (mismatch : Mismatch)
     → IsMismatch ((fore_first ∷ map (fore_line size bytes) run.fore) ++ fore_last (length run.fore) run.passed_over ∷ [])
     (((λ field. Foreground) ∷ map (λ (row : ForeRow) field. Foreground) run.fore) ++ (λ field. Foreground) ∷ []) printed mismatch
     → IsMismatch (fore_lines size bytes run) (fore_rules run) printed mismatch
@@ -83,16 +82,10 @@ fore_whole size bytes run printed mismatch wrong =
 -- what SoFar says of a wrong line
 named : (wrong : Option Mismatch) (mismatch : Mismatch) (due : List (List ℕ)) (rules : List (ℕ → Rule)) (comparison : Comparison)
     → comparison.wrong ≡ Some mismatch
-    → SoFar comparison.wrong due rules comparison.report comparison.lines.now comparison.same
-    → IsMismatch due rules comparison.lines.now mismatch × (mismatch.report ≡ comparison.report)
+    → SoFar comparison.wrong due rules comparison.input comparison.lines.now comparison.same
+    → IsMismatch due rules comparison.lines.now mismatch × (mismatch.input ≡ comparison.input)
 named wrong mismatch due rules comparison e so_far =
-    subst (λ w. SoFar w due rules comparison.report comparison.lines.now comparison.same) e so_far
-
-apart : (report : Report) → report ≡ Fore → report ≡ Back → ⊥
-apart report f b = back_fore (sym f ∙ b)
-  where
-    back_fore : Fore ≡ Back → ⊥
-    back_fore e = cc
+    subst (λ w. SoFar w due rules comparison.input comparison.lines.now comparison.same) e so_far
 
 module _ (inputs : Inputs) (printed : Reports) where
   -- before the first decision
@@ -130,10 +123,10 @@ module _ (inputs : Inputs) (printed : Reports) where
       let due : List (List ℕ) = fore_first ∷ map (fore_line inputs.disk.sector_bytes printed.bytes) rows in
       let rules : List (ℕ → Rule) = (λ field. Foreground) ∷ map (λ row field. Foreground) rows in
       let known = named fore.wrong mismatch due rules fore wrong compared.so_far in
-      let rest = law.begin inputs more steps state rows back made are in (
-        λ is_fore run plain. fore_more inputs.disk.sector_bytes printed.bytes run rows rest.0 printed.fore mismatch
+      let rest = law.begin inputs more steps state rows back made are in inl (
+        known.1 ∙ compared.input_is,
+        λ run plain. fore_more inputs.disk.sector_bytes printed.bytes run rows rest.0 printed.fore mismatch
             (rest.1 ∙ sym plain.fore) (subst (λ lines. IsMismatch due rules lines mismatch) compared.lines_are known.0),
-        λ is_back. absurd (apart mismatch.report (known.1 ∙ compared.report_is) is_back),
       )
 
 -- how many decisions are left follows from those that have been made
@@ -239,12 +232,12 @@ module _ (inputs : Inputs) (printed : Reports) (state : RunState) (fore back : C
 
   counted : fore.wrong ≡ None → fore.same - 1 ≡ length judged.fore_rows
   counted right =
-      let so_far = subst (λ w. SoFar w due_fore fore_kept fore.report fore.lines.now fore.same) right judged.fore_compared.so_far in
+      let so_far = subst (λ w. SoFar w due_fore fore_kept fore.input fore.lines.now fore.same) right judged.fore_compared.so_far in
       omega (arith, so_far.count, length-map judged.fore_rows (fore_line inputs.disk.sector_bytes printed.bytes))
 
   pub some_same : fore.wrong ≡ None → 0 < fore.same
   some_same right =
-      let so_far = subst (λ w. SoFar w due_fore fore_kept fore.report fore.lines.now fore.same) right judged.fore_compared.so_far in
+      let so_far = subst (λ w. SoFar w due_fore fore_kept fore.input fore.lines.now fore.same) right judged.fore_compared.so_far in
       omega (arith, so_far.count)
 
   module _ (law : DecisionsMakeARun) (right : fore.wrong ≡ None) (after : Comparison)
@@ -257,8 +250,9 @@ module _ (inputs : Inputs) (printed : Reports) (state : RunState) (fore back : C
         let known = named after.wrong mismatch (due_fore ++ fore_last (fore.same - 1) inputs.passed_over ∷ []) (fore_kept
         ++ (λ field. Foreground) ∷ []) after wrong so_far in
         let there = subst (λ lines. IsMismatch (due_fore ++ fore_last (fore.same - 1) inputs.passed_over ∷ [])
-        (fore_kept ++ (λ field. Foreground) ∷ []) lines mismatch) (one.lines ∙ judged.fore_compared.lines_are) known.0 in (
-          λ is_fore run plain.
+        (fore_kept ++ (λ field. Foreground) ∷ []) lines mismatch) (one.lines ∙ judged.fore_compared.lines_are) known.0 in inl (
+          known.1 ∙ (one.input ∙ judged.fore_compared.input_is),
+          λ run plain.
               let rows = law.end inputs judged.steps state judged.fore_rows judged.back_rows judged.made judged.rows
               ∙ sym plain.fore in
               let last = ap (λ n. fore_last n inputs.passed_over) (counted right ∙ ap length rows)
@@ -270,7 +264,6 @@ module _ (inputs : Inputs) (printed : Reports) (state : RunState) (fore back : C
               (subst (λ rows. IsMismatch ((fore_first ∷ map (fore_line inputs.disk.sector_bytes printed.bytes) rows)
               ++ fore_last (fore.same - 1) inputs.passed_over ∷ []) (((λ field. Foreground)
               ∷ map (λ (row : ForeRow) field. Foreground) rows) ++ (λ field. Foreground) ∷ []) printed.fore mismatch) rows there)),
-          λ is_back. absurd (apart mismatch.report (known.1 ∙ (one.report ∙ judged.fore_compared.report_is)) is_back),
         )
 
     -- the foreground is right
@@ -280,7 +273,7 @@ module _ (inputs : Inputs) (printed : Reports) (state : RunState) (fore back : C
         ap (λ n. due_fore ++ fore_last n inputs.passed_over ∷ []) (sym (counted right))
         ∙ (complete due_fore fore_kept (fore_last (fore.same - 1) inputs.passed_over)
         (λ field. Foreground) fore after judged.fore_compared.so_far one judged.fore_ready (_, refl) end_right
-        ∙ ap (map ended) judged.fore_compared.lines_are)
+        ∙ ap (map spelled) judged.fore_compared.lines_are)
 
     module _ (end_right : after.wrong ≡ None) (rows : List BackRow) (rows_are : rows ≡ task_rows (history inputs judged.steps))
         (between ended_back : Comparison) (end : ℕ) (end_is : end ≡ run_end (decisions inputs))
@@ -304,14 +297,14 @@ module _ (inputs : Inputs) (printed : Reports) (state : RunState) (fore back : C
         fore = fore_right end_right;
         back =
             subst (λ tasks. back_first ∷ (map (back_line printed.names inputs.disk.sector_bytes printed.bytes) (judged.back_rows ++ tasks)
-            ++ back_last (run_end (decisions inputs)) ∷ []) ≡ map ended printed.back) rows_are
+            ++ back_last (run_end (decisions inputs)) ∷ []) ≡ map spelled printed.back) rows_are
             (ap (λ e. due_back ++ back_last e ∷ []) (sym end_is)
             ∙ (complete due_back back_kept (back_last end) (λ field. End) between ended_back compared.so_far last ready (_, refl) back_right
-            ∙ ap (map ended) compared.lines_are));
+            ∙ ap (map spelled) compared.lines_are));
       }
 
       back_mismatch : (mismatch : Mismatch) → ended_back.wrong ≡ Some mismatch → IsMismatch (back_lines printed.names
-          inputs.disk.sector_bytes printed.bytes full_run) (back_rules full_run) printed.back mismatch × (mismatch.report ≡ Back)
+          inputs.disk.sector_bytes printed.bytes full_run) (back_rules full_run) printed.back mismatch × (mismatch.input ≡ BackReport)
       unfolding back_lines
       back_mismatch mismatch wrong =
           let so_far = one_line due_back back_kept (back_last end) (λ field. End) between ended_back compared.so_far last in
@@ -325,16 +318,14 @@ module _ (inputs : Inputs) (printed : Reports) (state : RunState) (fore back : C
                 ∷ (map (back_line printed.names inputs.disk.sector_bytes printed.bytes) (judged.back_rows ++ tasks) ++ back_last end ∷ []))
                 ((λ field. Timeline) ∷ (map back_rule (judged.back_rows ++ tasks) ++ (λ field. End) ∷ [])) ended_back.lines.now mismatch)
                 rows_are known.0)),
-            known.1 ∙ (last.report ∙ compared.report_is),
+            known.1 ∙ (last.input ∙ compared.input_is),
           )
 
       -- a background line is wrong
       pub back_wrong : (mismatch : Mismatch) → ended_back.wrong ≡ Some mismatch → IsVerdict inputs printed (No mismatch)
       back_wrong mismatch wrong =
-          let both = back_mismatch mismatch wrong in (
-            λ is_fore. absurd (apart mismatch.report is_fore both.1),
-            λ is_back. record { run = full_run; full = is_full; fore = fore_right end_right; wrong = both.0 },
-          )
+          let both = back_mismatch mismatch wrong in
+          inr (both.1, record { run = full_run; full = is_full; fore = fore_right end_right; wrong = both.0 })
 
 pub tasks_named : (n : ℕ) (names : List (List ℕ)) (rows tasks : List BackRow) → length names ≡ n → rows ≡ tasks
     → AllByRecursion (HasTaskBelow n) tasks → AllByRecursion (HasTaskBelow (length names)) rows

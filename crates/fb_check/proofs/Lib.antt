@@ -1,4 +1,5 @@
 pub mod FirstField
+pub mod Joined
 pub mod Comparisons
 pub mod Beginnings
 pub mod Judged

@@ -1,5 +1,6 @@
 -- What a verdict on two printed reports says.
-use Rattle.std.specs.Prelude.{◌≡◌, ◌≢◌, ℕ, ◌+◌, List, [], ◌∷◌, ◌++◌, length, map, replicate, take, nat_le, Some, slice_get, if◌then◌else◌}
+use Rattle.std.specs.Prelude.{◌≡◌, ◌≢◌, ◌⊎◌, ℕ, ◌+◌, List, [], ◌∷◌, ◌++◌, length, map, replicate, take, nat_le, Some, slice_get}
+use Rattle.std.specs.Prelude.{if◌then◌else◌}
 use Rattle.fb_rows.specs.declared.back.BackRow.{BackRow}
 use Rattle.fb_rows.specs.declared.back.BackRow.TheVariants.{Gap, Idle, Got, Bad, Seal, Segment, Complete, Task}
 use Rattle.fb_rows.specs.declared.run.Run.{Run}
@@ -7,10 +8,10 @@ use Rattle.fb_model.specs.Inputs.{Inputs}
 use Rattle.fb_model.specs.Content.{fore_rows}
 use Rattle.fb_model.specs.FullRun.{IsFull}
 use Rattle.fb_report.specs.declared.bytes.Bytes.{Bytes}
-use Rattle.fb_report.specs.declared.reading.Report.TheVariants.{Fore, Back}
+use Rattle.fb_desk.specs.declared.desk.Input.TheVariants.{ForeReport, BackReport}
 use Rattle.fb_report.specs.Fore.{fore_lines}
 use Rattle.fb_report.specs.Back.{back_lines}
-use Rattle.fb_report.specs.Grammar.{report_fields, ended}
+use Rattle.fb_report.specs.Grammar.{LineFields, report_fields, ended, spelled}
 use Rattle.fb_check.specs.declared.verdict.Rule.{Rule}
 use Rattle.fb_check.specs.declared.verdict.Rule.TheVariants.{Foreground, Timeline, Plan, Delivery, Event, Tasks, End}
 use Rattle.fb_check.specs.declared.verdict.Mismatch.{Mismatch}
@@ -42,17 +43,17 @@ abbrev pub back_rules : Run → List (ℕ → Rule)
 back_rules run = (λ field. Timeline) ∷ (map back_rule run.back ++ (λ field. End) ∷ [])
 
 -- the mismatch names the first printed line that isn't the due one, the first field in it that differs, and the rule of the due line
-pub record IsMismatch (due : List (List ℕ)) (rules : List (ℕ → Rule)) (printed : List (List ℕ)) (mismatch : Mismatch) : Type 0 where
+pub record IsMismatch (due : List (List ℕ)) (rules : List (ℕ → Rule)) (printed : List LineFields) (mismatch : Mismatch) : Type 0 where
   pub index : ℕ
   pub line : mismatch.line ≡ index + 1
-  pub lines : DifferFirstAt index due (map ended printed)
+  pub lines : DifferFirstAt index due (map spelled printed)
   pub due_line : List ℕ
   pub is_due : slice_get due index ≡ Some (ended due_line)
-  pub printed_line : List ℕ
+  pub printed_line : LineFields
   pub is_printed : slice_get printed index ≡ Some printed_line
   pub field_index : ℕ
   pub field : mismatch.field ≡ field_index + 1
-  pub fields : DifferFirstAt field_index (report_fields due_line) (report_fields printed_line)
+  pub fields : DifferFirstAt field_index (report_fields due_line) printed_line
   pub rule_by : ℕ → Rule
   pub is_rule : slice_get rules index ≡ Some rule_by
   pub rule : mismatch.rule ≡ rule_by mismatch.field
@@ -66,16 +67,16 @@ pub record HasPlainForeground (inputs : Inputs) (run : Run) : Type 0 where
 pub record Reports : Type 0 where
   pub names : List (List ℕ)
   pub bytes : Bytes
-  pub fore : List (List ℕ)
-  pub back : List (List ℕ)
+  pub fore : List LineFields
+  pub back : List LineFields
 
 -- the foreground lines are those of the run
 abbrev pub HasForeLines : Inputs → Reports → Run → Type 0
-HasForeLines inputs printed run = fore_lines inputs.disk.sector_bytes printed.bytes run ≡ map ended printed.fore
+HasForeLines inputs printed run = fore_lines inputs.disk.sector_bytes printed.bytes run ≡ map spelled printed.fore
 
 -- and the background lines are
 abbrev pub HasBackLines : Inputs → Reports → Run → Type 0
-HasBackLines inputs printed run = back_lines printed.names inputs.disk.sector_bytes printed.bytes run ≡ map ended printed.back
+HasBackLines inputs printed run = back_lines printed.names inputs.disk.sector_bytes printed.bytes run ≡ map spelled printed.back
 
 -- both reports are those of the full run
 pub record AreRight (inputs : Inputs) (printed : Reports) : Type 0 where
@@ -99,7 +100,8 @@ pub record IsBackWrong (inputs : Inputs) (printed : Reports) (mismatch : Mismatc
 -- the mismatch is in the report that it names
 abbrev pub IsWrong : Inputs → Reports → Mismatch → Type 0
 IsWrong inputs printed mismatch =
-    (mismatch.report ≡ Fore → IsForeWrong inputs printed mismatch) × (mismatch.report ≡ Back → IsBackWrong inputs printed mismatch)
+    ((mismatch.input ≡ ForeReport) × IsForeWrong inputs printed mismatch)
+    ⊎ ((mismatch.input ≡ BackReport) × IsBackWrong inputs printed mismatch)
 
 -- yes says that both reports are right, and no names what is wrong first
 abbrev pub IsVerdict : Inputs → Reports → Verdict → Type 0

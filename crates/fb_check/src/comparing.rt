@@ -7,16 +7,17 @@ ghost use Rattle.fb_rows.specs.declared.back.BackRow.{BackRow};
 ghost use Rattle.fb_report.specs.declared.bytes.Bytes.{Bytes};
 ghost use Rattle.fb_report.specs.Fore.{fore_last};
 ghost use Rattle.fb_report.specs.Back.{back_last};
-ghost use Rattle.fb_report.specs.Grammar.{ended};
+ghost use Rattle.fb_report.specs.Grammar.{LineFields, ended};
 ghost use Rattle.fb_report.specs.Reading.{BeginsLikeEnd, EndsOnce};
 ghost use Rattle.fb_check.specs.declared.verdict.Rule.TheVariants.{Foreground, End};
 ghost use Rattle.fb_check.specs.Verdict as verdict;
 ghost use Rattle.fb_check.specs.Comparing.{CanCompare, IsDue, IsNotDue, HasComparedOne, HasComparedFore, HasComparedBack};
 
-use crate::fields::first_wrong_field;
+use crate::fields::{are_joined, first_wrong_field};
 use crate::{Mismatch, Rule};
+use fb_desk::Input;
 use fb_report::{
-    Bytes, Report, ReportLines, back_first, back_last, back_line, fore_first, fore_last, fore_line,
+    Bytes, ReportLines, back_first, back_last, back_line, fore_first, fore_last, fore_line,
 };
 use fb_rows::{BackRow, BackRows, ForeRows};
 use fb_script::Names;
@@ -27,9 +28,9 @@ use std::alloc::Global;
 #[derive(Clone, Copy)]
 pub struct Comparison<'a> {
     /// The report.
-    pub report: Report,
+    pub input: Input,
     /// Its lines.
-    pub lines: &'a ReportLines<'a>,
+    pub lines: &'a ReportLines,
     /// How many due lines are the printed ones.
     pub same: usize,
     /// The first line that is wrong.
@@ -38,14 +39,14 @@ pub struct Comparison<'a> {
 
 impl<'a> Comparison<'a> {
     /// Begins with the first line of a foreground report. The only error is out of memory.
-    pub fn begin_fore(alloc: Global, lines: &'a ReportLines<'a>) -> Result<Comparison<'a>, NoMemory>
+    pub fn begin_fore(alloc: Global, lines: &'a ReportLines) -> Result<Comparison<'a>, NoMemory>
         requires ends { EndsOnce lines.now }
         ensures ready { IfOk result CanCompare }
         ensures compared { (size : ℕ) (bytes : Bytes) → IfOk result (λ comparison. HasComparedFore size bytes lines.now comparison []) }
     {
         let due = fore_first(alloc)?;
         let mut comparison = Comparison {
-            report: Report::Fore,
+            input: Input::ForeReport,
             lines,
             same: 0,
             wrong: None,
@@ -55,7 +56,7 @@ impl<'a> Comparison<'a> {
     }
 
     /// Begins with the first line of a background report. The only error is out of memory.
-    pub fn begin_back(alloc: Global, lines: &'a ReportLines<'a>) -> Result<Comparison<'a>, NoMemory>
+    pub fn begin_back(alloc: Global, lines: &'a ReportLines) -> Result<Comparison<'a>, NoMemory>
         requires ends { EndsOnce lines.now }
         ensures ready { IfOk result CanCompare }
         ensures compared { (names : List (List ℕ)) (size : ℕ) (bytes : Bytes)
@@ -63,7 +64,7 @@ impl<'a> Comparison<'a> {
     {
         let due = back_first(alloc)?;
         let mut comparison = Comparison {
-            report: Report::Back,
+            input: Input::BackReport,
             lines,
             same: 0,
             wrong: None,
@@ -143,7 +144,7 @@ impl<'a> Comparison<'a> {
         requires ready { CanCompare self.old }
         ensures ready { OnOk result (CanCompare self.new) }
         ensures compared { OnOk result
-            ((printed : List (List ℕ)) (fore : List ForeRow) → HasComparedFore sector_bytes bytes printed self.old fore
+            ((printed : List LineFields) (fore : List ForeRow) → HasComparedFore sector_bytes bytes printed self.old fore
             → HasComparedFore sector_bytes bytes printed self.new (fore ++ rows.now)) }
     {
         for i in 0..rows.len() {
@@ -173,7 +174,7 @@ impl<'a> Comparison<'a> {
         requires ready { CanCompare self.old }
         ensures ready { OnOk result (CanCompare self.new) }
         ensures compared { OnOk result
-            ((printed : List (List ℕ)) (back : List BackRow) → HasComparedBack names.now sector_bytes bytes printed self.old back
+            ((printed : List LineFields) (back : List BackRow) → HasComparedBack names.now sector_bytes bytes printed self.old back
             → HasComparedBack names.now sector_bytes bytes printed self.new (back ++ rows.now)) }
     {
         for i in 0..rows.len() {
@@ -198,7 +199,7 @@ impl<'a> Comparison<'a> {
         ensures differs { IfSome result (λ field. IsNotDue due.now self.old.lines.now self.old.same field) }
         ensures stays { IfSome result (λ field. self.new.same ≡ self.old.same) }
         ensures lines { self.new.lines ≡ self.old.lines }
-        ensures report { self.new.report ≡ self.old.report }
+        ensures input { self.new.input ≡ self.old.input }
         ensures wrong { self.new.wrong ≡ self.old.wrong }
         ensures few { self.old.same < 2 ^ 63 }
     {
@@ -206,7 +207,7 @@ impl<'a> Comparison<'a> {
         prove!(self.same < count);
         let due = &due[..due.len() - 1];
         let line = self.lines.get(self.same);
-        if due == line {
+        if are_joined(line, due) {
             self.same += 1;
             None
         } else {
@@ -218,10 +219,10 @@ impl<'a> Comparison<'a> {
     fn keep(&mut self, field: u32, rule: Rule)
         requires few { self.old.same < 2 ^ 63 }
         ensures { self.new
-            ≡ record self.old { wrong = Some (record { report = self.old.report; line = self.old.same + 1; field = field; rule = rule }) } }
+            ≡ record self.old { wrong = Some (record { input = self.old.input; line = self.old.same + 1; field = field; rule = rule }) } }
     {
         self.wrong = Some(Mismatch {
-            report: self.report,
+            input: self.input,
             line: self.same as u64 + 1,
             field,
             rule,

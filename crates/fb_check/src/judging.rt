@@ -5,11 +5,11 @@ ghost use Rattle.fb_script.specs.Allowed.{tasks};
 ghost use Rattle.fb_rows.specs.Tasks.{HasTaskBelow};
 ghost use Rattle.fb_rows.specs.declared.fore.ForeRow.{ForeRow};
 ghost use Rattle.fb_rows.specs.declared.back.BackRow.{BackRow};
-ghost use Rattle.fb_decide.specs.RunInputs.{inputs_of};
+ghost use Rattle.fb_decide.specs.RunInputs.{inputs_of, run_inputs};
 ghost use Rattle.fb_decide.specs.RunState.{state_of};
 ghost use Rattle.fb_decide.specs.Making.{HasMade};
 ghost use Rattle.fb_model.specs.Accepted.{IsAccepted};
-ghost use Rattle.fb_report.specs.Grammar.{back_grammar, fore_grammar};
+ghost use Rattle.fb_report.specs.Grammar.{LineFields, back_grammar, fore_grammar};
 ghost use Rattle.fb_report.specs.Reading.{IsReport};
 ghost use Rattle.fb_check.specs.Comparing.{CanCompare, HasComparedFore, HasComparedBack};
 ghost use Rattle.fb_check.specs.Judged.{HasJudged};
@@ -22,41 +22,63 @@ use fb_decide::{Decider, Rows, RunInputs, decisions_make_a_run};
 use fb_plan::Planner;
 use fb_queue::Queue;
 use fb_report::{Bytes, ReportLines, reports_end_once};
-use fb_units::NoMemory;
+use fb_script::Calls;
+use fb_service::Disk;
+use fb_trace::Trace;
+use fb_units::{NoMemory, Ns};
 use std::alloc::Global;
 
-/// Two printed reports.
+// Two printed reports.
 #[derive(Clone, Copy)]
-pub struct Printed<'a> {
-    /// How the bytes of reads and deliveries are shown.
-    pub bytes: Bytes,
-    /// The lines of the foreground report.
-    pub fore: &'a ReportLines<'a>,
-    /// The lines of the background report.
-    pub back: &'a ReportLines<'a>,
+struct Printed<'a> {
+    // How the bytes of reads and deliveries are shown.
+    bytes: Bytes,
+    // The lines of the foreground report.
+    fore: &'a ReportLines,
+    // The lines of the background report.
+    back: &'a ReportLines,
 }
 
 /// Judges whether two printed reports are those of the full run of these inputs.
+///
+/// `latent` are the LBNs of the sectors that can't be read until a write has passed them, and up to
+/// `until`, in ns, at most 10^15, the head goes on reading background when nothing else is left to
+/// do. `bytes` says how the bytes of reads and deliveries are shown.
 ///
 /// The replay is made decision by decision, and each decision's lines are compared with the printed
 /// ones and let go. The first wrong foreground line ends it. The queue must be new: empty, and
 /// never used. The only error is out of memory.
 pub fn judge<Q: Queue, P: Planner>(
     alloc: Global,
-    inputs: RunInputs<'_>,
+    disk: &Disk,
+    latent: &[u64],
+    trace: &Trace,
+    calls: &Calls,
     queue: Q,
     planner: &P,
-    printed: Printed<'_>,
+    until: Ns,
+    bytes: Bytes,
+    fore: &ReportLines,
+    back: &ReportLines,
 ) -> Result<Verdict, NoMemory>
     requires empty { Q.pending queue ≡ [] }
     requires fresh { Q.joined queue ≡ 0 }
-    requires accepted { IsAccepted (inputs_of inputs Q.key) }
-    requires names { length inputs.calls.now.names ≡ length (tasks inputs.calls.now.calls.items) }
-    requires whole { inputs.disk.now.sector_bytes % 16 ≡ 0 }
-    requires fore { IsReport fore_grammar printed.fore.now }
-    requires back { IsReport back_grammar printed.back.now }
-    ensures { IfOk result (IsVerdict (inputs_of inputs.entry Q.key) (reports_of inputs.entry printed.entry)) }
+    requires accepted { IsAccepted (run_inputs disk.now latent.now trace.now calls.now until Q.key) }
+    requires names { length calls.now.names ≡ length (tasks calls.now.calls.items) }
+    requires whole { disk.now.sector_bytes % 16 ≡ 0 }
+    requires fore { IsReport fore_grammar fore.now }
+    requires back { IsReport back_grammar back.now }
+    ensures { IfOk result (IsVerdict (run_inputs disk.now latent.now trace.now calls.now until Q.key)
+        (record { names = calls.now.names; bytes = bytes; fore = fore.now; back = back.now })) }
 {
+    let inputs = RunInputs {
+        disk,
+        latent,
+        trace,
+        calls,
+        until,
+    };
+    let printed = Printed { bytes, fore, back };
     let mut decider = Decider::new(alloc, inputs, queue)?;
     judge_over(alloc, &mut decider, planner, printed)
 }
@@ -112,11 +134,11 @@ fn compare_rows(
     requires fore_ready { CanCompare fore.old }
     requires back_ready { CanCompare back.old }
     ensures fore_ready { OnOk result (CanCompare fore.new) }
-    ensures fore_compared { OnOk result ((printed : List (List ℕ)) (before : List ForeRow)
+    ensures fore_compared { OnOk result ((printed : List LineFields) (before : List ForeRow)
         → HasComparedFore inputs.entry.disk.now.sector_bytes bytes printed fore.old before
         → HasComparedFore inputs.entry.disk.now.sector_bytes bytes printed fore.new (before ++ rows.now.fore)) }
     ensures back_ready { OnOk result (fore.new.wrong ≡ None → CanCompare back.new) }
-    ensures back_compared { OnOk result (fore.new.wrong ≡ None → (printed : List (List ℕ)) (before : List BackRow)
+    ensures back_compared { OnOk result (fore.new.wrong ≡ None → (printed : List LineFields) (before : List BackRow)
         → HasComparedBack inputs.entry.calls.now.names inputs.entry.disk.now.sector_bytes bytes printed back.old before
         → HasComparedBack inputs.entry.calls.now.names inputs.entry.disk.now.sector_bytes bytes printed back.new
         (before ++ rows.now.back)) }

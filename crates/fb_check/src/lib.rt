@@ -13,6 +13,6 @@ mod judging;
 mod printing;
 mod verdict;
 
-pub use judging::{Printed, judge};
+pub use judging::judge;
 pub use printing::{runs_can_be_printed, scripts_name_tasks};
 pub use verdict::{Mismatch, Rule, Verdict};

@@ -1,5 +1,5 @@
 // What a judge says of two printed reports.
-use fb_report::Report;
+use fb_desk::Input;
 
 /// What a wrong line breaks.
 #[derive(Clone, Copy)]
@@ -25,7 +25,7 @@ pub enum Rule {
 #[derive(Clone, Copy)]
 pub struct Mismatch {
     /// The report. A wrong foreground line comes before any wrong background line.
-    pub report: Report,
+    pub input: Input,
     /// The line, counted from 1.
     pub line: u64,
     /// The first field in it that differs from the due line's, counted from 1.

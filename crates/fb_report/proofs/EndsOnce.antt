@@ -4,7 +4,8 @@ use Rattle.fb_units.proofs.Lists.{all_push, all_weaker, all_get, get_left, get_r
 use Rattle.fb_report.proofs.Words.{and_parts, ◌≡◌, ℕ, ◌+◌, ◌<◌, ◌≤◌, List, [], ◌∷◌, ◌++◌, ◌⊎◌, inl, inr, length, true, false, refl, sym, ap}
 use Rattle.fb_report.proofs.Words.{◌∙◌, arith, lit≤, true≢false, subst, length-append, Ok, ◌==◌, ◌&&◌, codes, slice_get}
 use Rattle.fb_report.proofs.Words.{AllByRecursion, onto_first, list_any, bytes_eq, cases_Bool, Decides-eqb, slice_split-cons_yes}
-use Rattle.fb_report.proofs.Words.{slice_split-cons_no, Grammar, LineFields, Form, spelled, ended, fore_grammar, back_grammar, have_forms, is_line_of, is_word}
+use Rattle.fb_report.proofs.Words.{slice_split-cons_no, Grammar, LineFields, Form, spelled, ended, fore_grammar, back_grammar, have_forms}
+use Rattle.fb_report.proofs.Words.{is_line_of, is_word}
 use Rattle.fb_report.proofs.Words.{report_fields, may_follow, may_end, lines_behind, BeginsLikeEnd, EndsOnce, ReportsEndOnce}
 use Rattle.fb_report.proofs.{Behind.spelled_again, Rows.as_many, Whole.row_or_end}
 
@@ -127,7 +128,8 @@ pub record AreEnded (lines : List LineFields) : Type 0 where
   pub end : IsEndLine last
 
 module _ (grammar : Grammar) (by_word : EndsByWord grammar) where
-  follower : (lines : List LineFields) (line : List ℕ) → may_follow grammar lines (report_fields line) ≡ true → IsPlainLine (report_fields line)
+  follower : (lines : List LineFields) (line : List ℕ) → may_follow grammar lines (report_fields line) ≡ true
+      → IsPlainLine (report_fields line)
   follower [] line h = plain_line grammar.first by_word.first line h
   follower (first ∷ rows) line h = row_line grammar.rows by_word.rows line h
 
@@ -135,8 +137,8 @@ module _ (grammar : Grammar) (by_word : EndsByWord grammar) where
   ender [] line h = absurd (cc)
   ender (first ∷ rows) line h = end_line grammar.last by_word.last line h
 
-  are_ended : (lines : List LineFields) (parts : List (List ℕ)) (all : List LineFields) → AllByRecursion IsPlainLine lines → lines_behind grammar lines parts ≡ Ok all
-      → AreEnded all
+  are_ended : (lines : List LineFields) (parts : List (List ℕ)) (all : List LineFields)
+      → AllByRecursion IsPlainLine lines → lines_behind grammar lines parts ≡ Ok all → AreEnded all
   unfolding lines_behind
   are_ended lines [] all plain h = absurd (cc)
   are_ended lines (rest ∷ []) all plain h = absurd (cc)

@@ -68,7 +68,8 @@ module _ (grammar : Grammar) where
       rw (later, more) at is
 
   no_row : (before : List LineFields) (line : List ℕ) → 0 < length before → (is_line_of grammar.last line ≡ true)
-      × (is_row grammar line ≡ false) → (may_follow grammar before (report_fields line) ≡ false) × (may_end grammar before (report_fields line) ≡ true)
+      × (is_row grammar line ≡ false)
+      → (may_follow grammar before (report_fields line) ≡ false) × (may_end grammar before (report_fields line) ≡ true)
   no_row [] line some is = absurd (omega arith)
   no_row (first ∷ rows) line some is = (is.1, is.0)
 
@@ -87,8 +88,8 @@ module _ (grammar : Grammar) where
       }
 
   -- the rest is read behind the lines before it
-  read_on : (many index : ℕ) (before : List LineFields) (lines : List (List ℕ)) → 2 ≤ many → length before ≡ index → index + length lines ≡ many
-      → 0 < length lines
+  read_on : (many index : ℕ) (before : List LineFields) (lines : List (List ℕ))
+      → 2 ≤ many → length before ≡ index → index + length lines ≡ many → 0 < length lines
       → ((k at : ℕ) (line : List ℕ) → at ≡ index + k → slice_get lines k ≡ Some line → IsLine (is_in_place grammar many at) line)
       → IsReadOn before lines
   read_on many index before [] ends e all some h = absurd (omega arith)
@@ -104,7 +105,8 @@ module _ (grammar : Grammar) where
       let this = h 0 index line (omega arith) refl in
       read_more (is_in_place grammar many index) before (next ∷ lines) line this
       (row_is this.part many index before (omega arith) e this.passes)
-      (read_on many (index + 1) (before ++ report_fields this.part ∷ []) (next ∷ lines) ends (omega (arith, length-append before (report_fields this.part ∷ [])))
+      (read_on many (index + 1) (before ++ report_fields this.part ∷ []) (next ∷ lines) ends
+      (omega (arith, length-append before (report_fields this.part ∷ [])))
       (omega arith) (omega arith)
       (λ k at line same is. h (suc k) at line (omega arith) is))
 

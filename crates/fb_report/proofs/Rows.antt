@@ -1,7 +1,8 @@
 -- The fields of a line against the forms of a table.
 use Rattle.fb_units.proofs.Alike.{list_any-map}
 use Rattle.fb_units.proofs.Lists.{drop_at}
-use Rattle.fb_report.proofs.Words.{◌≡◌, ◌≢◌, ℕ, suc, ◌+◌, ◌<◌, List, [], ◌∷◌, Bool, true, false, length, drop, map, refl, sym, ap, ◌∙◌, arith}
+use Rattle.fb_report.proofs.Words.{◌≡◌, ◌≢◌, ℕ, suc, ◌+◌, ◌<◌, List, [], ◌∷◌, Bool, true, false, length, drop, map, refl, sym, ap}
+use Rattle.fb_report.proofs.Words.{◌∙◌, arith}
 use Rattle.fb_report.proofs.Words.{Some, slice_get, get_or, drop_more, list_any, fits, written, cases_Bool, and_parts, ◌&&◌, inl, inr}
 use Rattle.fb_report.proofs.Words.{Grammar, LineFields, have_forms, may_follow, length-map}
 use Rattle.fb_report.specs.Grammar as grammar

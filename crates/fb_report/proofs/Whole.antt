@@ -8,19 +8,21 @@ use Rattle.std.proofs.lemmas.Grind.{flat_map-append}
 use Rattle.fb_report.proofs.Behind.{row_read, end_read, fault_read, spelled_again}
 
 -- only an empty rest ends a report
-ended_whole : (lines : List LineFields) (line : LineFields) (next : List ℕ) (parts : List (List ℕ)) (all : List LineFields) → ended_with lines line (next ∷ parts) ≡ Ok all
-    → (next ∷ parts ≡ [] ∷ []) × (all ≡ lines ++ line ∷ [])
+ended_whole : (lines : List LineFields) (line : LineFields) (next : List ℕ) (parts : List (List ℕ)) (all : List LineFields)
+    → ended_with lines line (next ∷ parts) ≡ Ok all → (next ∷ parts ≡ [] ∷ []) × (all ≡ lines ++ line ∷ [])
 ended_whole lines line [] [] all h = (refl, cc)
 ended_whole lines line [] (other ∷ parts) all h = absurd (cc)
 ended_whole lines line (byte ∷ bytes) [] all h = absurd (cc)
 ended_whole lines line (byte ∷ bytes) (other ∷ parts) all h = absurd (cc)
 
 -- a line that was read is a row, with the others behind it, or the end
-pub record IsRow (grammar : Grammar) (lines : List LineFields) (line : List ℕ) (parts : List (List ℕ)) (all : List LineFields) : Type 0 where
+pub record IsRow (grammar : Grammar) (lines : List LineFields) (line : List ℕ) (parts : List (List ℕ))
+    (all : List LineFields) : Type 0 where
   pub follows : may_follow grammar lines (report_fields line) ≡ true
   pub others : lines_behind grammar (lines ++ report_fields line ∷ []) parts ≡ Ok all
 
-pub record IsEnd (grammar : Grammar) (lines : List LineFields) (line : List ℕ) (parts : List (List ℕ)) (all : List LineFields) : Type 0 where
+pub record IsEnd (grammar : Grammar) (lines : List LineFields) (line : List ℕ) (parts : List (List ℕ))
+    (all : List LineFields) : Type 0 where
   pub ends : may_end grammar lines (report_fields line) ≡ true
   pub nothing : parts ≡ [] ∷ []
   pub whole : all ≡ lines ++ report_fields line ∷ []
@@ -34,7 +36,8 @@ row_or_end grammar lines line next parts all h =
       | inl follows ↦ inl (record { follows = follows; others = sym (row_read grammar lines line (next ∷ parts) some follows) ∙ h })
       | inr other ↦ elim (cases_Bool (may_end grammar lines (report_fields line))) [
         | inl ends ↦
-            let last = ended_whole lines (report_fields line) next parts all (sym (end_read grammar lines line (next ∷ parts) some other ends) ∙ h) in
+            let last = ended_whole lines (report_fields line) next parts all
+            (sym (end_read grammar lines line (next ∷ parts) some other ends) ∙ h) in
             inr (record { ends = ends; nothing = last.0; whole = last.1 })
         | inr unended ↦ let wrong : Err (length lines + 1) ≡ Ok all = sym (fault_read grammar lines line (next ∷ parts) other unended)
             ∙ h in absurd (cc)

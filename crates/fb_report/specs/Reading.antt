@@ -30,5 +30,5 @@ pub record EndsOnce (lines : List LineFields) : Type 0 where
   pub few : AllByRecursion (λ line. length line ≤ 16) lines
 
 abbrev pub ReportsEndOnce : Type 0
-ReportsEndOnce = (grammar : Grammar) (lines : List LineFields) → (grammar ≡ fore_grammar) ⊎ (grammar ≡ back_grammar) → IsReport grammar lines
-    → EndsOnce lines
+ReportsEndOnce = (grammar : Grammar) (lines : List LineFields) → (grammar ≡ fore_grammar) ⊎ (grammar ≡ back_grammar)
+    → IsReport grammar lines → EndsOnce lines

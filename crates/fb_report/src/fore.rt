@@ -3,7 +3,8 @@ ghost use Rattle.std.specs.Prelude.{◌≡◌, ℕ, ◌+◌, ◌%◌, ◌<◌, [
 ghost use Rattle.std.specs.List.{AllByRecursion};
 ghost use Rattle.fb_report.specs.declared.bytes.Bytes.{Bytes};
 ghost use Rattle.fb_report.specs.Lines.{with_fields};
-ghost use Rattle.fb_report.specs.Fore.{bad_count, kind_text, row_bytes, row_fields, fore_first, fore_line, fore_last, fore_lines, fore_text};
+ghost use Rattle.fb_report.specs.Fore.{bad_count, kind_text, row_bytes, row_fields};
+ghost use Rattle.fb_report.specs.Fore.{fore_first, fore_line, fore_last, fore_lines, fore_text};
 ghost use Rattle.fb_report.specs.Grammar.{are_bytes, fore_grammar, is_one_of, numbers};
 ghost use Rattle.fb_report.specs.Printed.{AreFields, IsField, IsLine, ReadsSectors, is_first, is_in_place, is_last, is_row};
 

@@ -1,20 +1,19 @@
 -- What a check read and wrote, told of the desk at the start.
-use Rattle.std.proofs.Common.{◌≡◌, ◌∙◌, ℕ, List, Option, Some, refl, sym, subst, inl, inr}
+use Rattle.std.proofs.Common.{◌≡◌, ◌∙◌, ◌⊎◌, ℕ, List, Option, Some, refl, sym, subst, inl, inr}
 use Rattle.std.specs.Prelude.{IfSome, codes}
 use Rattle.fb_report.specs.Forms.{grammar_of}
-use Rattle.fb_report.specs.Grammar.{Grammar, back_grammar, fore_grammar}
-use Rattle.fb_report.specs.declared.reading.Report.{Report}
-use Rattle.fb_report.specs.declared.reading.Report.TheVariants as reports
+use Rattle.fb_report.specs.Grammar.{Grammar, LineFields, back_grammar, fore_grammar}
 use Rattle.fb_check.specs.declared.verdict.Verdict.{Verdict}
 use Rattle.fb_desk.specs.Calls.{ChangesOutput}
 use Rattle.fb_desk.specs.View.{DeskView}
+use Rattle.fb_desk.specs.declared.desk.Input.{Input}
 use Rattle.fb_desk.specs.declared.desk.Input.TheVariants.{Puts, ForeReport, BackReport}
 use Rattle.fb_desk.specs.declared.desk.Output.TheVariants.{Fore}
 use Rattle.fb_words.specs.Command.{CheckTerms}
 use Rattle.fb_top.specs.declared.outcome.Outcome.{Outcome}
 use Rattle.fb_top.specs.declared.outcome.Outcome.TheVariants as outcomes
 use Rattle.fb_top.specs.Causes.{AcceptsBefore, AcceptsFiles, AcceptsFore, CheckHasCause, EndsAt, KeepsLater, RefusesReportInTurn}
-use Rattle.fb_top.specs.Causes.{StopsInputs, StopsPrinted, StopsReport, input_of}
+use Rattle.fb_top.specs.Causes.{StopsInputs, StopsPrinted, StopsReport}
 use Rattle.fb_top.specs.Checked.{ChangesPrinted, IsVerdictCut, IsVerdictOf, JudgesBy, verdict_line}
 use Rattle.fb_top.specs.Read.{Files, ReadsReport, RefusesReport}
 use Rattle.fb_top.specs.Names.{check_names, check_file_names, files_alone, name_of}
@@ -40,7 +39,7 @@ module _ (terms : CheckTerms) (old new : DeskView) where
 -- the files were read, and then the reports
 module _ (terms : CheckTerms) (old mid new : DeskView) (held : (name : List ℕ) → mid.held name ≡ old.held name)
     (outputs : KeepsOutputs old mid) (only : ChangesPrinted mid new) where
-  report_before : (name : List ℕ) (grammar : Grammar) (lines : List (List ℕ)) → ReadsReport mid name grammar lines
+  report_before : (name : List ℕ) (grammar : Grammar) (lines : List LineFields) → ReadsReport mid name grammar lines
       → ReadsReport old name grammar lines
   report_before name grammar lines reads = record {
     bytes = reads.bytes;
@@ -72,35 +71,34 @@ module _ (terms : CheckTerms) (old mid new : DeskView) (held : (name : List ℕ)
     ends_back : EndsAt BackReport old new
     ends_back = record { later = tt; reports = keeps_reports }
 
-    fore_before : (lines : List (List ℕ)) → ReadsReport mid terms.fore fore_grammar lines → AcceptsFore old (check_names terms)
+    fore_before : (lines : List LineFields) → ReadsReport mid terms.fore fore_grammar lines → AcceptsFore old (check_names terms)
     fore_before lines reads =
         let reads_fore = report_before terms.fore fore_grammar lines reads in
         record { files = files; name = terms.fore; given = refl; lines = lines; reads_fore = reads_fore }
 
     -- the report that is refused is this one
-    in_turn : (report here : Report) (line : ℕ) (name : List ℕ) → report ≡ here → AcceptsBefore old (check_names terms) (input_of here)
-        → name_of (check_names terms) (input_of here) ≡ Some name
-        → RefusesReport old name (grammar_of here) line → EndsAt (input_of here) old new
-        → RefusesReportInTurn old (check_names terms) (record { report = report; line = line }) × EndsAt (input_of report) old new
-    in_turn report here line name is before given refuses ends =
-        subst (λ (r : Report). RefusesReportInTurn old (check_names terms) (record { report = r; line = line })
-        × EndsAt (input_of r) old new) (sym is)
-        (record { before = before; name = name; given = given; refuses = refuses }, ends)
+    in_turn : (report here : Input) (line : ℕ) (name : List ℕ) → report ≡ here → (here ≡ ForeReport) ⊎ (here ≡ BackReport)
+        → AcceptsBefore old (check_names terms) here → name_of (check_names terms) here ≡ Some name
+        → RefusesReport old name (grammar_of here) line → EndsAt here old new
+        → RefusesReportInTurn old (check_names terms) (record { input = report; line = line }) × EndsAt report old new
+    in_turn report here line name is known before given refuses ends =
+        subst (λ (r : Input). RefusesReportInTurn old (check_names terms) (record { input = r; line = line }) × EndsAt r old new) (sym is)
+        (record { report = known; before = before; name = name; given = given; refuses = refuses }, ends)
 
     -- why the foreground report was not read
-    fore_stopped : (outcome : Outcome) → StopsReport reports.Fore terms.fore mid new outcome → KeepsLater ForeReport mid new
+    fore_stopped : (outcome : Outcome) → StopsReport ForeReport terms.fore mid new outcome → KeepsLater ForeReport mid new
         → CheckHasCause terms old new outcome
     fore_stopped (outcomes.Reports fault) h later =
-        in_turn fault.report reports.Fore fault.line terms.fore h.0 files refl (reads_before (held terms.fore) h.1) (ends_fore later)
+        in_turn fault.input ForeReport fault.line terms.fore h.0 (inl refl) files refl (reads_before (held terms.fore) h.1) (ends_fore later)
     fore_stopped outcome h later =
         check_stopped terms old new outcome (at_reading (check_names terms) old mid new ForeReport files terms.fore refl
         (held terms.fore) untouched.0 (ends_fore later) outcome h)
 
     -- or the background report
-    back_stopped : (outcome : Outcome) → AcceptsFore old (check_names terms) → StopsReport reports.Back terms.back mid new outcome
+    back_stopped : (outcome : Outcome) → AcceptsFore old (check_names terms) → StopsReport BackReport terms.back mid new outcome
         → CheckHasCause terms old new outcome
     back_stopped (outcomes.Reports fault) before h =
-        in_turn fault.report reports.Back fault.line terms.back h.0 before refl (reads_before (held terms.back) h.1) ends_back
+        in_turn fault.input BackReport fault.line terms.back h.0 (inr refl) before refl (reads_before (held terms.back) h.1) ends_back
     back_stopped outcome before h =
         check_stopped terms old new outcome (at_reading (check_names terms) old mid new BackReport before terms.back refl
         (held terms.back) untouched.1 ends_back outcome h)

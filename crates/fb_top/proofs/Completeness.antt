@@ -1,6 +1,6 @@
 -- A replay that goes well is made.
 use Rattle.std.proofs.Common.{◌≡◌, ℕ, ◌<◌, ◌≤◌, ◌^◌, List, length, Option, Some, None, true, refl, sym, ap, subst, ◌∙◌, arith, Result, Ok}
-use Rattle.std.proofs.Common.{Err, inl, inr}
+use Rattle.std.proofs.Common.{Err, ◌⊎◌, inl, inr}
 use Rattle.std.specs.Prelude.{IfSome, is_some}
 use Rattle.fb_geometry.specs.Shape.{Shape}
 use Rattle.fb_geometry.specs.Places.{places}
@@ -23,8 +23,6 @@ use Rattle.fb_words.specs.declared.fault.UsageFault.{UsageFault}
 use Rattle.fb_top.specs.declared.outcome.Outcome.{Outcome}
 use Rattle.fb_top.specs.declared.outcome.Outcome.TheVariants as outcomes
 use Rattle.fb_report.specs.Grammar.{Grammar, fore_grammar, back_grammar, report_of}
-use Rattle.fb_report.specs.declared.reading.Report.{Report}
-use Rattle.fb_report.specs.declared.reading.Report.TheVariants as reports
 use Rattle.fb_puts.specs.Asked.{asked}
 use Rattle.fb_puts.specs.Reading.{puts_of}
 use Rattle.fb_puts.specs.declared.fault.PutsFault.{PutsFault}
@@ -184,9 +182,12 @@ module _ (old new : DeskView) (terms : InputNames) (well : ReadsWell old new ter
       (ap (report_of grammar) (same_bytes (old.held name) tells.reads.bytes refuses.bytes tells.told tells.reads.held
       refuses.held) ∙ refuses.spells)
 
-  reports_once : (report : Report) (line : ℕ) → RefusesReportInTurn old terms (record { report = report; line = line }) → ⊥
-  reports_once reports.Fore line turn = report_once fore_grammar turn.name line (fore_tells turn.name turn.given) turn.refuses
-  reports_once reports.Back line turn = report_once back_grammar turn.name line (back_tells turn.name turn.given) turn.refuses
+  reports_once : (report : Input) (line : ℕ) → (report ≡ ForeReport) ⊎ (report ≡ BackReport)
+      → RefusesReportInTurn old terms (record { input = report; line = line }) → ⊥
+  reports_once ForeReport line is turn = report_once fore_grammar turn.name line (fore_tells turn.name turn.given) turn.refuses
+  reports_once BackReport line is turn = report_once back_grammar turn.name line (back_tells turn.name turn.given) turn.refuses
+  reports_once (_) line (inl is) turn = cc
+  reports_once (_) line (inr is) turn = cc
 
   not_too_long : (input : Input) → IsTooLong old terms input → ⊥
   not_too_long Params long =
@@ -213,7 +214,7 @@ module _ (old new : DeskView) (terms : InputNames) (well : ReadsWell old new ter
   goes_on (outcomes.Trace fault) cause = absurd (trace_once fault cause.0)
   goes_on (outcomes.Calls fault) cause = absurd (calls_once fault cause.0)
   goes_on (outcomes.Puts fault) cause = absurd (puts_once fault cause.0)
-  goes_on (outcomes.Reports fault) cause = absurd (reports_once fault.report fault.line cause.0)
+  goes_on (outcomes.Reports fault) cause = absurd (reports_once fault.input fault.line cause.0.report cause.0)
   goes_on (outcomes.TooLong input) cause = absurd (not_too_long input cause.0)
   goes_on (outcomes.ReadFault input) cause = absurd (well.calm input cause.0.rose)
   goes_on outcomes.NoMemory cause = refl
@@ -309,9 +310,12 @@ module _ (old new : DeskView) (terms : ArrayTerms) (well : ArrayGoesWell old new
   array_not_too_long ForeReport long = is_named long.name (sym long.given)
   array_not_too_long BackReport long = is_named long.name (sym long.given)
 
-  no_report : (report : Report) (line : ℕ) → RefusesReportInTurn old (array_names terms) (record { report = report; line = line }) → ⊥
-  no_report reports.Fore line turn = is_named turn.name (sym turn.given)
-  no_report reports.Back line turn = is_named turn.name (sym turn.given)
+  no_report : (report : Input) (line : ℕ) → (report ≡ ForeReport) ⊎ (report ≡ BackReport)
+      → RefusesReportInTurn old (array_names terms) (record { input = report; line = line }) → ⊥
+  no_report ForeReport line is turn = is_named turn.name (sym turn.given)
+  no_report BackReport line is turn = is_named turn.name (sym turn.given)
+  no_report (_) line (inl is) turn = cc
+  no_report (_) line (inr is) turn = cc
 
   replayed : (outcome : Outcome) → ArrayHasCause terms old new outcome → IsReplayed outcome
   replayed (outcomes.Arrayed runs copy) cause = tt
@@ -320,7 +324,7 @@ module _ (old new : DeskView) (terms : ArrayTerms) (well : ArrayGoesWell old new
       absurd (not_refused old terms.params well.array.disk well.array.latent well.params_told well.accepts.disk fault cause.0)
   replayed (outcomes.Trace fault) cause = absurd (devices_once fault cause.0)
   replayed (outcomes.Calls fault) cause = absurd (rebuilds_once fault cause.0)
-  replayed (outcomes.Reports fault) cause = absurd (no_report fault.report fault.line cause.0)
+  replayed (outcomes.Reports fault) cause = absurd (no_report fault.input fault.line cause.0.report cause.0)
   replayed (outcomes.TooLong input) cause = absurd (array_not_too_long input cause.0)
   replayed (outcomes.ReadFault input) cause = absurd (well.inputs input cause.0.rose)
   replayed (outcomes.WriteFault output) cause =

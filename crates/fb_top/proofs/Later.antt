@@ -14,7 +14,6 @@ use Rattle.fb_desk.specs.Calls.{Rose, ChangesInput}
 use Rattle.fb_desk.specs.View.{DeskView, InputView}
 use Rattle.fb_desk.specs.declared.desk.Input.{Input}
 use Rattle.fb_desk.specs.declared.desk.Input.TheVariants.{Params, Trace, Calls, Puts, ForeReport, BackReport}
-use Rattle.fb_report.specs.declared.reading.Report.{Report}
 use Rattle.fb_words.specs.Command.{ReplayTerms}
 use Rattle.fb_top.specs.Names.{InputNames, FileNames, files_alone, name_of, replay_names}
 use Rattle.fb_top.specs.declared.outcome.Outcome.{Outcome}
@@ -22,7 +21,7 @@ use Rattle.fb_top.specs.declared.outcome.Outcome.TheVariants as outcomes
 use Rattle.fb_top.specs.Read.{ReadsScript, Files, inputs_of_files}
 use Rattle.fb_top.specs.Streams.{ReadsAs}
 use Rattle.fb_top.specs.Causes.{AcceptsBefore, AcceptsDisk, AcceptsTrace, EndsAt, HasCause, IsTooLong, IsUnread, KeepsLater, StopsCalls}
-use Rattle.fb_top.specs.Causes.{StopsDisk, StopsInputs, StopsPuts, StopsReading, StopsReport, StopsScript, StopsTrace, input_of}
+use Rattle.fb_top.specs.Causes.{StopsDisk, StopsInputs, StopsPuts, StopsReading, StopsReport, StopsScript, StopsTrace}
 use Rattle.fb_top.specs.Limits.{limit_of}
 
 -- the parameter file alone was read
@@ -114,8 +113,8 @@ pub puts_unread : (name : List ℕ) (files : Files) (old new : DeskView) (outcom
 puts_unread name files old new (outcomes.Puts fault) h = absurd h
 puts_unread name files old new _ h = h
 
-pub report_unread : (report : Report) (name : List ℕ) (old new : DeskView) (outcome : Outcome)
-    → StopsReading (input_of report) name old new outcome → StopsReport report name old new outcome
+pub report_unread : (report : Input) (name : List ℕ) (old new : DeskView) (outcome : Outcome)
+    → StopsReading report name old new outcome → StopsReport report name old new outcome
 report_unread report name old new (outcomes.Reports fault) h = absurd h
 report_unread report name old new _ h = h
 

@@ -1,5 +1,5 @@
 -- Files that were read, told of all inputs that the words name.
-use Rattle.std.proofs.Common.{◌≡◌, ◌∙◌, ℕ, List, Option, Some, None, true, refl, sym, ap, subst}
+use Rattle.std.proofs.Common.{◌≡◌, ◌∙◌, ◌⊎◌, inl, inr, ℕ, List, Option, Some, None, true, refl, sym, ap, subst}
 use Rattle.std.specs.Prelude.{IfSome, is_some}
 use Rattle.fb_puts.specs.Reading.{Accepted as PutsRead}
 use Rattle.fb_desk.specs.Calls.{ChangesInput}
@@ -8,10 +8,8 @@ use Rattle.fb_desk.specs.declared.desk.Input.{Input}
 use Rattle.fb_desk.specs.declared.desk.Input.TheVariants.{Params, Trace, Calls, Puts, ForeReport, BackReport}
 use Rattle.fb_top.specs.declared.outcome.Outcome.{Outcome}
 use Rattle.fb_top.specs.declared.outcome.Outcome.TheVariants as outcomes
-use Rattle.fb_report.specs.declared.reading.Report.{Report}
-use Rattle.fb_report.specs.declared.reading.Report.TheVariants as reports
 use Rattle.fb_top.specs.Calm.{AreInputsCalm}
-use Rattle.fb_top.specs.Causes.{AcceptsBefore, AcceptsFiles, EndsAt, StopsInputs, StopsPuts, StopsGivenPuts, input_of}
+use Rattle.fb_top.specs.Causes.{AcceptsBefore, AcceptsFiles, EndsAt, StopsInputs, StopsPuts, StopsGivenPuts}
 use Rattle.fb_top.specs.Opened.{IsOpenedAs, OpensAsNamed}
 use Rattle.fb_top.specs.Read.{AcceptsPuts, Files}
 use Rattle.fb_top.specs.Names.{InputNames, FileNames, files_alone, name_of}
@@ -22,9 +20,12 @@ use Rattle.fb_top.proofs.Opened.{told_before, unopened}
 use Rattle.fb_top.proofs.Unnamed.{is_named}
 
 -- the files alone have no reports
-no_report : (files : FileNames) (report : Report) (name : List ℕ) → name_of (files_alone files) (input_of report) ≡ Some name → ⊥
-no_report files reports.Fore name given = is_named name (sym given)
-no_report files reports.Back name given = is_named name (sym given)
+no_report : (files : FileNames) (report : Input) (name : List ℕ) → (report ≡ ForeReport) ⊎ (report ≡ BackReport)
+    → name_of (files_alone files) report ≡ Some name → ⊥
+no_report files ForeReport name is given = is_named name (sym given)
+no_report files BackReport name is given = is_named name (sym given)
+no_report files (_) name (inl is) given = cc
+no_report files (_) name (inr is) given = cc
 
 module _ (terms : InputNames) (old new : DeskView) where
   same_name : (input : Input) (name : List ℕ) → name_of (files_alone terms.files) input ≡ Some name → name_of terms input ≡ Some name
@@ -55,7 +56,7 @@ module _ (terms : InputNames) (old new : DeskView) where
   files_stopped (outcomes.Trace fault) h = h
   files_stopped (outcomes.Calls fault) h = h
   files_stopped (outcomes.Puts fault) h = absurd (is_named h.0.name (sym h.0.given))
-  files_stopped (outcomes.Reports fault) h = absurd (no_report terms.files fault.report h.0.name h.0.given)
+  files_stopped (outcomes.Reports fault) h = absurd (no_report terms.files fault.input h.0.name h.0.report h.0.given)
   files_stopped (outcomes.TooLong input) h = (
     record { before = same_before input h.0.before; name = h.0.name; given = same_name input h.0.name h.0.given; longer = h.0.longer },
     h.1,

@@ -18,7 +18,7 @@ use Rattle.fb_top.specs.Done.{IsCutShort}
 use Rattle.fb_top.specs.Spilled.{IsSpillCut}
 use Rattle.fb_top.specs.Names.{InputNames, replay_names, check_names, array_names}
 use Rattle.fb_top.specs.Checked.{IsVerdictCut, verdict_line}
-use Rattle.fb_top.specs.Causes.{CheckHasCause, EndsAt, HasCause, IsCut, KeepsLater, RunsOut, StopsInputs, input_of}
+use Rattle.fb_top.specs.Causes.{CheckHasCause, EndsAt, HasCause, IsCut, KeepsLater, RunsOut, StopsInputs}
 use Rattle.fb_top.specs.Answers.{AnswersWords}
 use Rattle.fb_top.specs.Array.{ArrayHasCause, IsArrayCut}
 use Rattle.fb_top.specs.Noted.{IsNote}
@@ -86,7 +86,7 @@ module _ (terms : InputNames) (old mid new : DeskView) (only : ChangesOutput Not
   inputs_still (outcomes.Params fault) h = (h.0, ends_still Params old mid new h.1 only)
   inputs_still (outcomes.Trace fault) h = (h.0, ends_still Trace old mid new h.1 only)
   inputs_still (outcomes.Calls fault) h = (h.0, ends_still Calls old mid new h.1 only)
-  inputs_still (outcomes.Reports fault) h = (h.0, ends_still (input_of fault.report) old mid new h.1 only)
+  inputs_still (outcomes.Reports fault) h = (h.0, ends_still fault.input old mid new h.1 only)
   inputs_still (outcomes.TooLong input) h = (h.0, ends_still input old mid new h.1 only)
   inputs_still (outcomes.ReadFault input) h = (
     record {

@@ -5,7 +5,7 @@ use Rattle.std.specs.Prelude.{IfSome, codes, is_some}
 use Rattle.fb_service.specs.declared.disk.Disk.{Disk}
 use Rattle.fb_rows.specs.declared.run.Run.{Run}
 use Rattle.fb_calls.specs.Reading.{Accepted as Script}
-use Rattle.fb_report.specs.Grammar.{Grammar, ended, report_of}
+use Rattle.fb_report.specs.Grammar.{Grammar, report_of, spelled}
 use Rattle.fb_report.specs.Printed.{IsReadBack}
 use Rattle.fb_check.specs.declared.verdict.Verdict.{Verdict}
 use Rattle.fb_check.specs.declared.verdict.Verdict.TheVariants.{Yes}
@@ -54,7 +54,7 @@ module _ (output : OutputView) (desk : DeskView) (name under : List ℕ) (gramma
       held = subst (λ (told : Option (List ℕ)). IfSome told (λ bytes. holds.bytes ≡ bytes)) (sym holds.held) refl;
       within = holds.within;
       spells = ap (report_of grammar) one_text ∙ read.read;
-      whole = sym (flat_map-map (λ (line : List ℕ). line) ended read.parts) ∙ ap joined read.are ∙ sym one_text;
+      whole = sym (flat_map-map (λ (line : List ℕ). line) spelled read.parts) ∙ ap joined read.are ∙ sym one_text;
     };
     told = ap is_some holds.held;
   }

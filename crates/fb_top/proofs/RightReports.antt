@@ -1,5 +1,5 @@
 -- The verdict on right reports.
-use Rattle.std.proofs.Common.{◌≡◌, ◌⊎◌, ℕ, List, refl, sym, ap, ◌∙◌, inl, inr}
+use Rattle.std.proofs.Common.{◌≡◌, ℕ, List, refl, sym, ap, ◌∙◌, inl, inr}
 use Rattle.std.specs.Prelude.{map, slice_get}
 use Rattle.fb_rows.specs.declared.run.Run.{Run}
 use Rattle.fb_model.specs.Accepted.{IsAccepted}
@@ -8,9 +8,7 @@ use Rattle.fb_model.specs.Inputs.{Inputs}
 use Rattle.fb_model.specs.Known.{OneFullRun}
 use Rattle.fb_report.specs.Back.{back_lines}
 use Rattle.fb_desk.specs.View.{DeskView}
-use Rattle.fb_report.specs.Grammar.{Grammar, ended, report_of}
-use Rattle.fb_report.specs.declared.reading.Report.{Report}
-use Rattle.fb_report.specs.declared.reading.Report.TheVariants as reports
+use Rattle.fb_report.specs.Grammar.{Grammar, LineFields, report_of, spelled}
 use Rattle.fb_check.specs.Verdict.{HasBackLines, HasForeLines, IsVerdict, IsWrong, Reports}
 use Rattle.fb_check.specs.declared.verdict.Mismatch.{Mismatch}
 use Rattle.fb_check.specs.declared.verdict.Verdict.{Verdict}
@@ -21,19 +19,15 @@ use Rattle.fb_top.specs.Written.{joined}
 use Rattle.fb_top.proofs.Completeness.{same_ok}
 use Rattle.fb_top.proofs.OneRun.{held_here}
 
-one_of_two : (report : Report) → (report ≡ reports.Fore) ⊎ (report ≡ reports.Back)
-one_of_two reports.Fore = inl refl
-one_of_two reports.Back = inr refl
-
 module _ (one_run : OneFullRun) (inputs : Inputs) (printed : Reports) (run : Run) (accepted : IsAccepted inputs) (full : IsFull inputs run)
     (fore : HasForeLines inputs printed run) (back : HasBackLines inputs printed run) where
   not_wrong : (mismatch : Mismatch) → IsWrong inputs printed mismatch → ⊥
-  not_wrong mismatch wrong = elim (one_of_two mismatch.report) [
+  not_wrong mismatch wrong = elim wrong [
     | inl is ↦
-        let there = wrong.0 is run (record { fore = full.sound.fore; passed_over = full.sound.passed_over }) in
+        let there = is.1 run (record { fore = full.sound.fore; passed_over = full.sound.passed_over }) in
         there.lines.there (ap (λ lines. slice_get lines there.index) fore)
     | inr is ↦
-        let here = wrong.1 is in
+        let here = is.1 in
         here.wrong.lines.there (ap (λ lines. slice_get lines here.wrong.index) (ap (λ (r : Run).
         back_lines printed.names inputs.disk.sector_bytes printed.bytes r) (one_run inputs here.run run accepted here.full full) ∙ back))
   ]
@@ -44,9 +38,9 @@ module _ (one_run : OneFullRun) (inputs : Inputs) (printed : Reports) (run : Run
   is_yes (No mismatch) h = absurd (not_wrong mismatch h)
 
 -- a report of these lines is read as these lines
-pub read_as : (desk : DeskView) (name : List ℕ) (grammar : Grammar) (lines found : List (List ℕ)) → HoldsLines desk name grammar lines
-    → ReadsReport desk name grammar found → lines ≡ map ended found
+pub read_as : (desk : DeskView) (name : List ℕ) (grammar : Grammar) (lines : List (List ℕ)) (found : List LineFields)
+    → HoldsLines desk name grammar lines → ReadsReport desk name grammar found → lines ≡ map spelled found
 read_as desk name grammar lines found holds reads =
-    sym holds.read.are ∙ ap (map ended) (same_ok (report_of grammar reads.bytes) holds.read.parts found
+    sym holds.read.are ∙ ap (map spelled) (same_ok (report_of grammar reads.bytes) holds.read.parts found
     (ap (report_of grammar) (held_here (desk.held name) reads.bytes (joined lines) holds.held reads.held) ∙ holds.read.read)
     reads.spells)

@@ -11,9 +11,7 @@ use Rattle.fb_trace.specs.declared.trace.TraceFault.{TraceFault}
 use Rattle.fb_calls.specs.declared.fault.CallsFault.{CallsFault}
 use Rattle.fb_puts.specs.declared.fault.PutsFault.{PutsFault}
 use Rattle.fb_report.specs.Forms.{grammar_of}
-use Rattle.fb_report.specs.Grammar.{fore_grammar}
-use Rattle.fb_report.specs.declared.reading.Report.{Report}
-use Rattle.fb_report.specs.declared.reading.Report.TheVariants as reports
+use Rattle.fb_report.specs.Grammar.{LineFields, fore_grammar}
 use Rattle.fb_report.specs.declared.reading.ReportsFault.{ReportsFault}
 use Rattle.fb_units.specs.declared.read_error.ReadError.{ReadError}
 use Rattle.fb_units.specs.declared.read_error.ReadError.TheVariants as errors
@@ -55,7 +53,7 @@ pub record AcceptsFore (desk : DeskView) (names : InputNames) : Type 0 where
   pub files : AcceptsFiles desk names.files
   pub name : List ℕ
   pub given : names.fore ≡ Some name
-  pub lines : List (List ℕ)
+  pub lines : List LineFields
   pub reads_fore : ReadsReport desk name fore_grammar lines
 
 -- the inputs that come before this one are accepted
@@ -104,17 +102,13 @@ pub record RefusesPutsInTurn (desk : DeskView) (names : InputNames) (fault : Put
   pub given : names.puts ≡ Some name
   pub refuses : RefusesPuts desk name before.files fault
 
--- the input that holds a report
-abbrev pub input_of : Report → Input
-input_of reports.Fore = ForeReport
-input_of reports.Back = BackReport
-
 -- accepted files, and a report that is refused; before the background report the foreground report is accepted
 pub record RefusesReportInTurn (desk : DeskView) (names : InputNames) (fault : ReportsFault) : Type 0 where
-  pub before : AcceptsBefore desk names (input_of fault.report)
+  pub report : (fault.input ≡ ForeReport) ⊎ (fault.input ≡ BackReport)
+  pub before : AcceptsBefore desk names fault.input
   pub name : List ℕ
-  pub given : name_of names (input_of fault.report) ≡ Some name
-  pub refuses : RefusesReport desk name (grammar_of fault.report) fault.line
+  pub given : name_of names fault.input ≡ Some name
+  pub refuses : RefusesReport desk name (grammar_of fault.input) fault.line
 
 -- an input that the words give has more bytes than it may have
 pub record IsTooLong (desk : DeskView) (names : InputNames) (input : Input) : Type 0 where
@@ -141,7 +135,7 @@ StopsInputs names old new (outcomes.Params fault) = RefusesDisk old names.files.
 StopsInputs names old new (outcomes.Trace fault) = RefusesTraceInTurn old names.files fault × EndsAt Trace old new
 StopsInputs names old new (outcomes.Calls fault) = RefusesCallsInTurn old names.files fault × EndsAt Calls old new
 StopsInputs names old new (outcomes.Puts fault) = RefusesPutsInTurn old names fault × EndsAt Puts old new
-StopsInputs names old new (outcomes.Reports fault) = RefusesReportInTurn old names fault × EndsAt (input_of fault.report) old new
+StopsInputs names old new (outcomes.Reports fault) = RefusesReportInTurn old names fault × EndsAt fault.input old new
 StopsInputs names old new (outcomes.TooLong input) = IsTooLong old names input × EndsAt input old new
 StopsInputs names old new (outcomes.ReadFault input) = IsUnread old new names input × EndsAt input old new
 StopsInputs names old new outcomes.NoMemory = RunsOut old new names
@@ -207,20 +201,20 @@ refused_as (errors.Fault fault) = outcomes.Reports fault
 refused_as errors.NoMemory = outcomes.NoMemory
 
 -- why no report was read, or why reports were not judged
-abbrev pub StopsReport : Report → List ℕ → DeskView → DeskView → Outcome → Type 0
-StopsReport report name old new (outcomes.Reports fault) = (fault.report ≡ report) × RefusesReport old name (grammar_of report) fault.line
-StopsReport report name old new outcome = StopsReading (input_of report) name old new outcome
+abbrev pub StopsReport : Input → List ℕ → DeskView → DeskView → Outcome → Type 0
+StopsReport report name old new (outcomes.Reports fault) = (fault.input ≡ report) × RefusesReport old name (grammar_of report) fault.line
+StopsReport report name old new outcome = StopsReading report name old new outcome
 
 -- no foreground report was read, and the background report was not touched
 pub record StopsFore (terms : CheckTerms) (old new : DeskView) (outcome : Outcome) : Type 0 where
-  pub stops : StopsReport reports.Fore terms.fore old new outcome
+  pub stops : StopsReport ForeReport terms.fore old new outcome
   pub later : KeepsLater ForeReport old new
 
 -- the foreground report is accepted, and no background report was read
 pub record StopsBack (terms : CheckTerms) (old new : DeskView) (outcome : Outcome) : Type 0 where
-  pub lines : List (List ℕ)
+  pub lines : List LineFields
   pub before : ReadsReport old terms.fore fore_grammar lines
-  pub stops : StopsReport reports.Back terms.back old new outcome
+  pub stops : StopsReport BackReport terms.back old new outcome
 
 -- why no verdict was reached
 abbrev pub StopsPrinted : CheckTerms → DeskView → DeskView → Outcome → Type 0

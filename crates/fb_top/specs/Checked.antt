@@ -2,9 +2,7 @@
 use Rattle.std.specs.Prelude.{◌≡◌, ◌≢◌, ℕ, List, ◌∷◌, [], ◌++◌, decimal, codes}
 use Rattle.fb_geometry.specs.Sound.{IsSound}
 use Rattle.fb_model.specs.Accepted.{IsAccepted}
-use Rattle.fb_report.specs.Grammar.{fore_grammar, back_grammar}
-use Rattle.fb_report.specs.declared.reading.Report.{Report}
-use Rattle.fb_report.specs.declared.reading.Report.TheVariants as reports
+use Rattle.fb_report.specs.Grammar.{LineFields, fore_grammar, back_grammar}
 use Rattle.fb_check.specs.Verdict.{IsVerdict}
 use Rattle.fb_check.specs.declared.verdict.Mismatch.{Mismatch}
 use Rattle.fb_check.specs.declared.verdict.Rule.{Rule}
@@ -22,10 +20,10 @@ use Rattle.fb_top.specs.Read.{Files, Accepts, ReadsReport, inputs_of_files, key_
 use Rattle.fb_top.specs.Names.{check_file_names}
 use Rattle.fb_top.specs.Written.{HoldsWhole, KeepsBut, StopsText}
 
--- what a report is called
-abbrev pub report_word : Report → List ℕ
-report_word reports.Fore = codes "fore"
-report_word reports.Back = codes "back"
+-- what a report is called, of the foreground or else of the background
+abbrev pub report_word : Input → List ℕ
+report_word ForeReport = codes "fore"
+report_word (_) = codes "back"
 
 -- what a rule is called
 abbrev pub rule_word : Rule → List ℕ
@@ -40,7 +38,7 @@ rule_word rules.End = codes "End"
 -- what is wrong first: the report, the line and the field in it, from 1, and the rule
 abbrev pub mismatch_text : Mismatch → List ℕ
 mismatch_text mismatch =
-    report_word mismatch.report ++ 32 ∷ decimal mismatch.line ++ 32 ∷ decimal mismatch.field ++ 32 ∷ rule_word mismatch.rule
+    report_word mismatch.input ++ 32 ∷ decimal mismatch.line ++ 32 ∷ decimal mismatch.field ++ 32 ∷ rule_word mismatch.rule
 
 abbrev pub verdict_text : Verdict → List ℕ
 verdict_text Yes = codes "yes"
@@ -62,15 +60,15 @@ pub record ArePrintedCalm (old new : DeskView) : Type 0 where
   pub back : (new.inputs BackReport).faults ≡ (old.inputs BackReport).faults
 
 -- the lines of the background report under its name, and the verdict on them and on foreground lines by these files
-pub record JudgesBack (desk : DeskView) (terms : CheckTerms) (files : Files) (fore : List (List ℕ)) (verdict : Verdict) : Type 0 where
-  pub back : List (List ℕ)
+pub record JudgesBack (desk : DeskView) (terms : CheckTerms) (files : Files) (fore : List LineFields) (verdict : Verdict) : Type 0 where
+  pub back : List LineFields
   pub back_read : ReadsReport desk terms.back back_grammar back
   pub verdict_is : IsVerdict (inputs_of_files files (key_of terms.policy) terms.until)
       (record { names = files.script.names; bytes = terms.bytes; fore = fore; back = back }) verdict
 
 -- the lines of both reports under the names that the words give, and the verdict on them by these files
 pub record JudgesBy (desk : DeskView) (terms : CheckTerms) (files : Files) (verdict : Verdict) : Type 0 where
-  pub fore : List (List ℕ)
+  pub fore : List LineFields
   pub fore_read : ReadsReport desk terms.fore fore_grammar fore
   pub judges_back : JudgesBack desk terms files fore verdict
 

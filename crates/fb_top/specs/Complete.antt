@@ -4,7 +4,7 @@ use Rattle.fb_desk.specs.View.{DeskView}
 use Rattle.fb_desk.specs.declared.desk.Input.{Input}
 use Rattle.fb_desk.specs.declared.desk.Output.TheVariants.{Fore, Back, Spill}
 use Rattle.fb_puts.specs.Reading.{Accepted as PutsRead}
-use Rattle.fb_report.specs.Grammar.{Grammar, fore_grammar, back_grammar}
+use Rattle.fb_report.specs.Grammar.{Grammar, LineFields, fore_grammar, back_grammar}
 use Rattle.fb_words.specs.Command.{Terms, ReplayTerms, CheckTerms, replays, makes, checks, arrays}
 use Rattle.fb_words.specs.declared.fault.UsageFault.{UsageFault}
 use Rattle.fb_top.specs.declared.outcome.Outcome.{Outcome}
@@ -18,7 +18,7 @@ use Rattle.fb_top.specs.Array.{ArrayGoesWell, IsReplayed}
 
 -- the desk tells what a report holds, and it is accepted
 pub record TellsReport (desk : DeskView) (grammar : Grammar) (name : List ℕ) : Type 0 where
-  pub lines : List (List ℕ)
+  pub lines : List LineFields
   pub reads : ReadsReport desk name grammar lines
   pub told : is_some (desk.held name) ≡ true
 

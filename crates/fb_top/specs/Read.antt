@@ -20,7 +20,7 @@ use Rattle.fb_desk.specs.View.{DeskView}
 use Rattle.fb_desk.specs.declared.desk.Input.TheVariants as inputs
 use Rattle.fb_words.specs.declared.command.Policy.{Policy}
 use Rattle.fb_words.specs.declared.command.Policy.TheVariants.{Fcfs, Sstf, Clook, Sptf}
-use Rattle.fb_report.specs.Grammar.{Grammar, report_of, ended}
+use Rattle.fb_report.specs.Grammar.{Grammar, LineFields, report_of, spelled}
 use Rattle.fb_top.specs.declared.reading.RunFiles.{RunFiles}
 use Rattle.fb_top.specs.Limits.{limit_of, report_limit}
 use Rattle.fb_top.specs.Names.{FileNames}
@@ -116,12 +116,12 @@ inputs_of_files files key until = record {
 }
 
 -- the report under a name is accepted by its grammar, with these lines
-pub record ReadsReport (desk : DeskView) (name : List ℕ) (grammar : Grammar) (lines : List (List ℕ)) : Type 0 where
+pub record ReadsReport (desk : DeskView) (name : List ℕ) (grammar : Grammar) (lines : List LineFields) : Type 0 where
   pub bytes : List ℕ
   pub held : IsHeld desk name bytes
   pub within : length bytes ≤ report_limit
   pub spells : report_of grammar bytes ≡ Ok lines
-  pub whole : flat_map ended lines ≡ bytes
+  pub whole : flat_map spelled lines ≡ bytes
 
 -- or refused, from this line
 abbrev pub RefusesReport : DeskView → List ℕ → Grammar → ℕ → Type 0

@@ -8,7 +8,7 @@ ghost use Rattle.fb_words.specs.Verdict.{check_terms};
 ghost use Rattle.fb_top.specs.Calm.{MeetsNoFault};
 ghost use Rattle.fb_report.specs.Grammar.{fore_grammar};
 ghost use Rattle.fb_report.specs.Reading.{IsReport};
-ghost use Rattle.fb_report.specs.declared.reading.Report.TheVariants as reports;
+ghost use Rattle.fb_desk.specs.declared.desk.Input.TheVariants.{BackReport};
 ghost use Rattle.fb_top.specs.Causes.{CheckHasCause, StopsPrinted, StopsReport, refused_as};
 ghost use Rattle.fb_top.specs.Checked.{ArePrintedCalm, ChangesPrinted, JudgesBack, JudgesBy, verdict_line};
 ghost use Rattle.fb_top.specs.Opened.{IsOpenedAs, OpensAsNamed};
@@ -23,9 +23,9 @@ use crate::policy::judge_by;
 use crate::reading::{NamedFiles, RunFiles, read_files, read_printed};
 use crate::verdict_line::verdict_line;
 use crate::writing::write_made;
-use fb_check::{Printed, Verdict};
+use fb_check::Verdict;
 use fb_desk::{Desk, Input, Output};
-use fb_report::{Report, ReportLines, ReportsError, read_back, read_fore};
+use fb_report::{ReportLines, ReportsError, read_back, read_fore};
 use fb_units::NoMemory;
 use fb_words::CheckWords;
 use std::alloc::Global;
@@ -104,7 +104,7 @@ fn judge_printed<D: Desk>(
     ensures judges { IfOk result (JudgesBy (D.seen desk.old) (check_terms words.now) (files_of files.now)) }
     ensures stops { IfErr result (StopsPrinted (check_terms words.now) (D.seen desk.old) (D.seen desk.new)) }
 {
-    let text = match read_printed(alloc, desk, Report::Fore, words.fore.as_str()) {
+    let text = match read_printed(alloc, desk, Input::ForeReport, words.fore.as_str()) {
         Ok(text) => text,
         Err(outcome) => return Err(outcome),
     };
@@ -120,7 +120,7 @@ fn judge_with<D: Desk>(
     desk: &mut D,
     words: &CheckWords,
     files: &RunFiles,
-    fore: &ReportLines<'_>,
+    fore: &ReportLines,
 ) -> Result<Verdict, Outcome>
     requires fresh { ((D.seen desk.old).inputs Input.BackReport).opened ≡ false }
     requires fit { IsAccepted (inputs_of_files (files_of files.now) (key_of words.now.policy) words.now.until) }
@@ -131,9 +131,9 @@ fn judge_with<D: Desk>(
     ensures calm { IfOk result
         (λ _. ((D.seen desk.new).inputs Input.BackReport).faults ≡ ((D.seen desk.old).inputs Input.BackReport).faults) }
     ensures judges { IfOk result (JudgesBack (D.seen desk.old) (check_terms words.now) (files_of files.now) fore.now) }
-    ensures stops { IfErr result (StopsReport reports.Back (check_terms words.now).back (D.seen desk.old) (D.seen desk.new)) }
+    ensures stops { IfErr result (StopsReport BackReport (check_terms words.now).back (D.seen desk.old) (D.seen desk.new)) }
 {
-    let text = match read_printed(alloc, desk, Report::Back, words.back.as_str()) {
+    let text = match read_printed(alloc, desk, Input::BackReport, words.back.as_str()) {
         Ok(text) => text,
         Err(outcome) => return Err(outcome),
     };
@@ -141,12 +141,8 @@ fn judge_with<D: Desk>(
         Ok(lines) => lines,
         Err(error) => return Err(refused(error)),
     };
-    let printed = Printed {
-        bytes: words.bytes,
-        fore,
-        back: &back,
-    };
-    match judge_by(alloc, words.policy, files.run_inputs(words.until), printed) {
+    let inputs = files.run_inputs(words.until);
+    match judge_by(alloc, words.policy, inputs, words.bytes, fore, &back) {
         Ok(verdict) => Ok(verdict),
         Err(NoMemory) => Err(Outcome::NoMemory),
     }

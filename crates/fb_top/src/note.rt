@@ -54,7 +54,7 @@ fn push_cause(text: &mut Vec<u8>, outcome: &Outcome) -> Result<(), NoMemory>
         Outcome::Puts(fault) => push_puts_fault(text, fault),
         Outcome::Reports(fault) => {
             push_words(text, "reports: ")?;
-            push_report(text, fault.report)?;
+            push_report(text, fault.input)?;
             push_words(text, " line ")?;
             push_number(text, fault.line)
         }

@@ -16,7 +16,6 @@ ghost use Rattle.fb_model.specs.PlainReplay.{Key};
 ghost use Rattle.fb_top.specs.Names.{files_alone, file_names};
 ghost use Rattle.fb_top.specs.Read.{Accepts, ReadsCalls, ReadsDisk, ReadsScript, ReadsTrace, files_of, inputs_of_files};
 ghost use Rattle.fb_top.specs.Causes.{StopsCalls, StopsDisk, StopsInputs, StopsReading, StopsReport, StopsScript, StopsTrace};
-ghost use Rattle.fb_top.specs.Causes.{input_of};
 ghost use Rattle.fb_top.specs.Limits.{limit_of};
 ghost use Rattle.fb_top.specs.Taken.{KeepsOutputs, files_on};
 ghost use Rattle.fb_top.specs.Unnamed.{KeepsUnnamed};
@@ -30,7 +29,6 @@ use fb_calls::{CallsError, read_calls};
 use fb_decide::RunInputs;
 use fb_desk::{Desk, Input};
 use fb_params::{Parameters, ParamsError, read_params};
-use fb_report::Report;
 use fb_script::{Calls, Names};
 use fb_service::Disk;
 use fb_trace::{Trace, TraceError, read_trace};
@@ -327,27 +325,17 @@ pub fn no_calls(alloc: Global) -> Calls
 pub fn read_printed<D: Desk>(
     alloc: Global,
     desk: &mut D,
-    report: Report,
+    report: Input,
     name: &str,
 ) -> Result<Vec<u8>, Outcome>
-    requires { ((D.seen desk.old).inputs (input_of report)).opened ≡ false }
-    ensures only { ChangesInput (input_of report) (D.seen desk.old) (D.seen desk.new) }
-    ensures opened { IsOpenedAs name.now (D.seen desk.old) ((D.seen desk.new).inputs (input_of report)) }
+    requires { ((D.seen desk.old).inputs report).opened ≡ false }
+    ensures only { ChangesInput report (D.seen desk.old) (D.seen desk.new) }
+    ensures opened { IsOpenedAs name.now (D.seen desk.old) ((D.seen desk.new).inputs report) }
     ensures calm { IfOk result
-        (λ _. ((D.seen desk.new).inputs (input_of report)).faults ≡ ((D.seen desk.old).inputs (input_of report)).faults) }
+        (λ _. ((D.seen desk.new).inputs report).faults ≡ ((D.seen desk.old).inputs report).faults) }
     ensures whole { IfOk result (λ bytes. IsHeld (D.seen desk.old) name.now bytes.items) }
-    ensures few { IfOk result (λ bytes. length bytes.items ≤ limit_of (input_of report)) }
+    ensures few { IfOk result (λ bytes. length bytes.items ≤ limit_of report) }
     ensures stops { IfErr result (StopsReport report name.now (D.seen desk.old) (D.seen desk.new)) }
 {
-    read_input(alloc, desk, input_of(report), name)
-}
-
-// The input that holds a report.
-fn input_of(report: Report) -> Input
-    ensures { result ≡ input_of report }
-{
-    match report {
-        Report::Fore => Input::ForeReport,
-        Report::Back => Input::BackReport,
-    }
+    read_input(alloc, desk, report, name)
 }

@@ -4,7 +4,7 @@ ghost use Rattle.fb_top.specs.Checked.{mismatch_text, report_word, rule_word, ve
 
 use crate::note_words::{push_number, push_words};
 use fb_check::{Mismatch, Rule, Verdict};
-use fb_report::Report;
+use fb_desk::Input;
 use fb_units::NoMemory;
 use std::alloc::Global;
 
@@ -36,7 +36,7 @@ fn push_verdict(text: &mut Vec<u8>, verdict: &Verdict) -> Result<(), NoMemory>
 fn push_mismatch(text: &mut Vec<u8>, mismatch: Mismatch) -> Result<(), NoMemory>
     ensures { OnOk result (text.new.items ≡ text.old.items ++ mismatch_text mismatch) }
 {
-    push_report(text, mismatch.report)?;
+    push_report(text, mismatch.input)?;
     text.push(b' ')?;
     push_number(text, mismatch.line)?;
     text.push(b' ')?;
@@ -46,12 +46,12 @@ fn push_mismatch(text: &mut Vec<u8>, mismatch: Mismatch) -> Result<(), NoMemory>
 }
 
 /// Adds what a report is called. The only error is out of memory.
-pub fn push_report(text: &mut Vec<u8>, report: Report) -> Result<(), NoMemory>
+pub fn push_report(text: &mut Vec<u8>, report: Input) -> Result<(), NoMemory>
     ensures { OnOk result (text.new.items ≡ text.old.items ++ report_word report) }
 {
     match report {
-        Report::Fore => push_words(text, "fore"),
-        Report::Back => push_words(text, "back"),
+        Input::ForeReport => push_words(text, "fore"),
+        _ => push_words(text, "back"),
     }
 }
 

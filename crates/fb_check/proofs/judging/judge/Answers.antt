@@ -2,6 +2,7 @@ use Rattle.std.specs.Prelude.{IfOk}
 use Rattle.std.proofs.Common.{subst}
 use Rattle.fb_decide.specs.RunInputs.{inputs_of}
 use Rattle.fb_check.specs.Printed.{reports_of}
+use Rattle.fb_check.specs.declared.judging.Printed.{Printed}
 use Rattle.fb_check.specs.Verdict.{IsVerdict}
 use Rattle.fb_check.proofs.judging.judge.Goals as goal
 
@@ -18,5 +19,7 @@ judge_over-requires g c = record {
 }
 
 pub returns : goal.returns
-returns g c = subst (λ inputs. IfOk c.judge_over.result (IsVerdict (inputs_of inputs g.Q.Queue.key) (reports_of inputs c.args.printed)))
+returns g c =
+    let printed : Printed = record { bytes = c.args.bytes; fore = c.args.fore; back = c.args.back } in
+    subst (λ inputs. IfOk c.judge_over.result (IsVerdict (inputs_of inputs g.Q.Queue.key) (reports_of inputs printed)))
     c.in_ok-decider.ensures.inputs c.judge_over.ensures

@@ -2,7 +2,7 @@ use Rattle.std.proofs.Common.{◌≡◌, ℕ, sym, subst}
 use Rattle.fb_model.specs.FullRun.{IsFull}
 use Rattle.fb_report.specs.Back.{back_lines}
 use Rattle.fb_report.specs.Fore.{fore_lines}
-use Rattle.fb_report.specs.Grammar.{back_grammar, ended, fore_grammar}
+use Rattle.fb_report.specs.Grammar.{back_grammar, fore_grammar, spelled}
 use Rattle.fb_check.specs.Verdict.{Reports}
 use Rattle.fb_words.specs.declared.command.Policy.{Policy}
 use Rattle.std.specs.Prelude.{map}
@@ -25,8 +25,8 @@ returns c = λ one other terms checks run verdict is_run is_verdict asks own.
     (subst (λ (files : Files). IsFull (inputs_of_files files (key_of checks.policy) checks.until) run) same
     (subst (λ (policy : Policy). IsFull (inputs_of_files is_run.files (key_of policy) checks.until) run) (sym asks.policy)
     (subst (λ (until : ℕ). IsFull (inputs_of_files is_run.files (key_of terms.policy) until) run) (sym asks.until) is_run.full)))
-    (subst (λ (files : Files). fore_lines files.disk.sector_bytes checks.bytes run ≡ map ended judges.fore) same
+    (subst (λ (files : Files). fore_lines files.disk.sector_bytes checks.bytes run ≡ map spelled judges.fore) same
     (read_as other checks.fore fore_grammar _ judges.fore own.fore judges.fore_read))
-    (subst (λ (files : Files). back_lines files.script.names files.disk.sector_bytes checks.bytes run ≡ map ended judges.judges_back.back)
+    (subst (λ (files : Files). back_lines files.script.names files.disk.sector_bytes checks.bytes run ≡ map spelled judges.judges_back.back)
     same (read_as other checks.back back_grammar _ judges.judges_back.back own.back judges.judges_back.back_read))
     verdict judges.judges_back.verdict_is

@@ -1,11 +1,12 @@
-use Rattle.std.proofs.Common.{ℕ, List, ◌++◌, take}
+use Rattle.std.proofs.Common.{List, ◌++◌, take}
 use Rattle.fb_rows.specs.declared.back.BackRow.{BackRow}
+use Rattle.fb_report.specs.Grammar.{LineFields}
 use Rattle.fb_check.specs.Comparing.{CanCompare, HasComparedBack}
 use Rattle.fb_check.proofs.comparing.Comparison.compare_back.Given as goal
 
 abbrev pub invariant-loop-i : goal.invariant-loop-i
 invariant-loop-i l = record {
   ready : CanCompare l.self;
-  compared : (printed : List (List ℕ)) (back : List BackRow) → HasComparedBack l.names l.sector_bytes l.bytes printed l.fn.self back
+  compared : (printed : List LineFields) (back : List BackRow) → HasComparedBack l.names l.sector_bytes l.bytes printed l.fn.self back
       → HasComparedBack l.names l.sector_bytes l.bytes printed l.self (back ++ take l.i l.rows);
 }
