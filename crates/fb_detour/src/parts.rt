@@ -10,7 +10,7 @@ use fb_plan::{Turning, blocks_on};
 use fb_rows::Gap;
 use fb_service::Disk;
 use fb_units::{Ns, Sweep};
-use fb_wanted::{Wanted, Offer};
+use fb_wanted::{Offer, Wanted};
 
 // Into how many parts the time of the gap is divided.
 pub const GAP_PARTS: usize = 32;
