@@ -4,8 +4,8 @@ ghost use Rattle.std.specs.Prelude.{◌≡◌, ◌≢◌, ℕ, None, length, IfO
 ghost use Rattle.fb_store.specs.declared.content.Content.TheVariants.{Filled};
 ghost use Rattle.fb_store.specs.Sparse.{Gives};
 
-use fb_script::Live;
 use fb_clean::Segments;
+use fb_script::Live;
 use fb_store::{Content, ContentRun, Contents};
 use fb_units::{NoMemory, Sweep, Track};
 use fb_wanted::Block;

@@ -3,7 +3,7 @@
 ghost use Rattle.std.specs.Prelude.{◌≡◌, ◌<◌, ◌≤◌, []};
 
 use fb_units::{Sweep, Track};
-use fb_wanted::{BAND, Block, Wanted, State};
+use fb_wanted::{BAND, Block, State, Wanted};
 use std::process::Abort;
 use std::test::Fail;
 
@@ -111,6 +111,20 @@ const THIRD: Block = Block {
     sweep: SWEEP,
 };
 
+// A block three bands behind the last one.
+const BEHIND: Block = Block {
+    task: 3,
+    index: 0,
+    lbn: 900,
+    count: 4,
+    track: Track {
+        cylinder: 255,
+        head: 2,
+    },
+    weight: 1,
+    sweep: SWEEP,
+};
+
 fn check_weight(rt: &impl Abort, wanted: &Wanted, expected: u64) {
     assert_eq!(rt; wanted.wanted_weight_on(NEAR), expected);
 }
@@ -140,8 +154,8 @@ fn check_aborted(rt: &impl Abort, aborted: u64, expected: u64) {
 
 #[test]
 fn a_range_reaches_blocks_of_two_wants(rt: HostRuntime) -> Result<(), Fail> {
-    let mut blocks = Wanted::new(rt.alloc());
-    check_range(&rt, &mut blocks)
+    let mut wanted = Wanted::new(rt.alloc());
+    check_range(&rt, &mut wanted)
 }
 
 // Aborts a range of two blocks, and wants another again.
@@ -165,8 +179,8 @@ fn check_range(rt: &impl Abort, wanted: &mut Wanted) -> Result<(), Fail>
 
 #[test]
 fn a_block_is_delivered(rt: HostRuntime) -> Result<(), Fail> {
-    let mut blocks = Wanted::new(rt.alloc());
-    check_delivery(&rt, &mut blocks)
+    let mut wanted = Wanted::new(rt.alloc());
+    check_delivery(&rt, &mut wanted)
 }
 
 // Delivers a block that is then wanted again.
@@ -188,8 +202,8 @@ fn check_delivery(rt: &impl Abort, wanted: &mut Wanted) -> Result<(), Fail>
 
 #[test]
 fn blocks_of_two_tasks(rt: HostRuntime) -> Result<(), Fail> {
-    let mut blocks = Wanted::new(rt.alloc());
-    check_two_tasks(&rt, &mut blocks)
+    let mut wanted = Wanted::new(rt.alloc());
+    check_two_tasks(&rt, &mut wanted)
 }
 
 // Registers three blocks, one of them held back.
@@ -241,8 +255,8 @@ fn check_first(rt: &impl Abort, wanted: &Wanted) {
 
 #[test]
 fn the_greatest_of_a_cylinder_falls(rt: HostRuntime) -> Result<(), Fail> {
-    let mut blocks = Wanted::new(rt.alloc());
-    check_fall(&rt, &mut blocks)
+    let mut wanted = Wanted::new(rt.alloc());
+    check_fall(&rt, &mut wanted)
 }
 
 // Delivers the heaviest block of a cylinder.
@@ -274,8 +288,8 @@ fn check_fallen(rt: &impl Abort, wanted: &mut Wanted) {
 
 #[test]
 fn a_sector_lies_in_blocks_of_two_tasks(rt: HostRuntime) -> Result<(), Fail> {
-    let mut blocks = Wanted::new(rt.alloc());
-    check_sector(&rt, &mut blocks)
+    let mut wanted = Wanted::new(rt.alloc());
+    check_sector(&rt, &mut wanted)
 }
 
 // Registers the same sectors for two tasks.
@@ -304,8 +318,8 @@ fn check_next(rt: &impl Abort, wanted: &Wanted, range: (u64, u64), from: u32, ex
 
 #[test]
 fn tasks_far_from_a_range_are_passed_over(rt: HostRuntime) -> Result<(), Fail> {
-    let mut blocks = Wanted::new(rt.alloc());
-    check_near(&rt, &mut blocks)
+    let mut wanted = Wanted::new(rt.alloc());
+    check_near(&rt, &mut wanted)
 }
 
 // Registers blocks of two tasks in one chunk and of a third task in another.
@@ -323,4 +337,56 @@ fn check_near(rt: &impl Abort, wanted: &mut Wanted) -> Result<(), Fail>
     check_next(rt, wanted, (5004, 8), 0, 2);
     check_next(rt, wanted, (u64::MAX, 2048), 0, 3);
     Ok(())
+}
+
+#[test]
+fn tracks_without_blocks_are_passed_over(rt: HostRuntime) -> Result<(), Fail> {
+    let mut wanted = Wanted::new(rt.alloc());
+    check_tracks(&rt, &mut wanted)
+}
+
+// Registers blocks of four tracks, one of them delivered.
+fn check_tracks(rt: &impl Abort, wanted: &mut Wanted) -> Result<(), Fail>
+    requires { wanted.old ≡ [] }
+{
+    check_registered(rt, wanted, (0, 0), None);
+    wanted.register(FIRST, false)?;
+    wanted.deliver(0, 0);
+    wanted.register(BESIDE, true)?;
+    wanted.register(LAST, false)?;
+    wanted.register(BEHIND, false)?;
+    check_near_tracks(rt, wanted);
+    check_far_tracks(rt, wanted);
+    Ok(())
+}
+
+fn check_near_tracks(rt: &impl Abort, wanted: &Wanted) {
+    check_registered(rt, wanted, (0, 0), Some((0, 1)));
+    check_registered(rt, wanted, (0, 1), Some((0, 1)));
+    check_registered(rt, wanted, (0, 2), Some((0, 3)));
+    check_registered(rt, wanted, (0, 4), Some((63, 1)));
+    check_registered(rt, wanted, (1, 9), Some((63, 1)));
+}
+
+fn check_far_tracks(rt: &impl Abort, wanted: &Wanted) {
+    check_registered(rt, wanted, (63, 2), Some((255, 2)));
+    check_registered(rt, wanted, (64, 0), Some((255, 2)));
+    check_registered(rt, wanted, (255, 2), Some((255, 2)));
+    check_registered(rt, wanted, (255, 3), None);
+    check_registered(rt, wanted, (u32::MAX, u32::MAX), None);
+}
+
+// Expects this track to be the next one with a block; tracks are pairs of a cylinder and a head.
+fn check_registered(
+    rt: &impl Abort,
+    wanted: &Wanted,
+    from: (u32, u32),
+    expected: Option<(u32, u32)>,
+) {
+    let (cylinder, head) = from;
+    let next = match wanted.next_registered_track(Track { cylinder, head }) {
+        Some(track) => Some((track.cylinder, track.head)),
+        None => None,
+    };
+    assert_eq!(rt; next, expected, "from {cylinder} and {head}");
 }
