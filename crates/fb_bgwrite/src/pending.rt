@@ -21,7 +21,7 @@ use fb_rows::{Catch, Dwell};
 use fb_sectormap::Cut;
 use fb_service::Disk;
 use fb_units::{NoMemory, Track};
-use fb_wanted::{Block, Wanted, TrackBlocks};
+use fb_wanted::{Block, TrackBlocks, Wanted};
 use std::alloc::Global;
 use std::marker::Model;
 
@@ -75,7 +75,7 @@ impl Pending {
         }
     }
 
-    /// Registers what a cut gives as a pending block of the put with the number `put`. Its own number
+    /// Registers what a cut gives as a pending block of the put with the number `put`. Its index
     /// is the next of that put. The only error is `NoMemory`.
     pub fn register(&mut self, put: u32, number: u32, cut: Cut) -> Result<(), NoMemory>
         requires numbered { number ≡ registered_count put (blocks_of self.old) }
@@ -96,7 +96,7 @@ impl Pending {
         self.blocks.register(block, false)
     }
 
-    /// Marks a pending block as written, by its put and its number there.
+    /// Marks a pending block as written, by its put and its index there.
     pub fn deliver(&mut self, put: u32, number: u32)
         requires { (e : Entry) × (i : ℕ) × (slice_get self.old i ≡ Some e) × (is_block put number e ≡ true) × (e.state ≡ StillWanted) }
         ensures { self.new ≡ after put (Change.Deliver number) self.old }

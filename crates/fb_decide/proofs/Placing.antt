@@ -69,7 +69,7 @@ numbered-distinct [] h = tt
 numbered-distinct (b ∷ bs) h =
     let k = subst (λ x. (n : ℕ) × AreNumbered n (if x then b ∷ own b.task bs else own b.task bs))
     (let own : (b.task == b.task) ≡ true = grind (arith, nat_tests) in own) (h b.task) in (
-      alone b bs (all_weaker (λ c. k.0 + 1 ≤ c.number) (λ c. b.index < c.number) (λ c le. omega (arith, le, k.1.0)) (own b.task bs)
+      alone b bs (all_weaker (λ c. k.0 + 1 ≤ c.index) (λ c. b.index < c.number) (λ c le. omega (arith, le, k.1.0)) (own b.task bs)
           (numbered_from (k.0 + 1) (own b.task bs) k.1.1)),
       numbered-distinct bs (fewer b bs h),
     )

@@ -57,7 +57,8 @@ impl Background {
             bad: content.bad() as u32,
             content,
         };
-        self.sessions.delivered(&mut self.blocks, got, &mut self.rows)
+        self.sessions
+            .delivered(&mut self.blocks, got, &mut self.rows)
     }
 
     /// Delivers these blocks one after another.

@@ -1,6 +1,6 @@
 // Rows of the background as lines, with the sectors of images and segments in place of their digests.
-use fb_script::{Calls, Kind};
 use fb_rows::{BackRow, BackRows, DeliveryRow, How, TaskRow};
+use fb_script::{Calls, Kind};
 use fb_store::{Content, ContentRun, Contents};
 use std::alloc::{AllocError, Global};
 

@@ -3,15 +3,15 @@ ghost use Rattle.std.specs.Prelude.{◌≡◌, ℕ, Some, true, false, slice_get
 ghost use Rattle.fb_tasked.specs.Following.{Follows};
 
 use crate::lines::lines;
-use fb_script::Calls;
+use fb_calls::read_calls;
 use fb_geometry::{Geometry, Layout, Outline, Zone};
 use fb_rows::{BackRow, BackRows, DeliveryRow, How};
-use fb_calls::read_calls;
+use fb_script::Calls;
 use fb_sectormap::SectorMap;
 use fb_store::{Store, runs_are_fewest};
 use fb_tasks::Sessions;
 use fb_units::{NoMemory, Ns};
-use fb_wanted::{Block, Wanted, Entry, State};
+use fb_wanted::{Block, Entry, State, Wanted};
 use std::alloc::Global;
 use std::process::Abort;
 use std::test::Fail;
@@ -47,11 +47,11 @@ fn disk(alloc: Global) -> Result<SectorMap, Fail> {
 pub enum Step {
     /// The calls up to an instant take effect, the tasks choose segments, and all are tested.
     Prepare(Ns),
-    /// The block of this task and number is delivered between these instants.
+    /// The block of this task and index is delivered between these instants.
     Deliver(u32, u32, How, Ns, Ns),
     /// A write has passed: its first sector, how many sectors, and the number that it leaves.
     Write(u64, u32, u64),
-    /// The block of this task and number is in this state.
+    /// The block of this task and index is in this state.
     Check(u32, u32, State),
 }
 
@@ -155,7 +155,7 @@ impl PlayedScript {
             .settle(&self.map, &mut self.blocks, now, &mut self.rows)
     }
 
-    // The task's block of that number.
+    // The task's block whose index is `number`.
     fn entry(&self, task: u32, number: u32) -> Option<Entry>
         requires { Follows self.now.up_to_date self.now.map self.now.calls.calls.items self.now.called self.now.sessions self.now.blocks }
         ensures { IfSome result (λ entry. (index : ℕ) × (slice_get self.now.blocks index ≡ Some entry)) }
@@ -167,7 +167,7 @@ impl PlayedScript {
         }
     }
 
-    // The task's block of that number, if it may be delivered.
+    // The task's block whose index is `number`, if it may be delivered.
     fn wanted_block(&self, task: u32, number: u32) -> Result<Block, Fail>
         requires { Follows self.now.up_to_date self.now.map self.now.calls.calls.items self.now.called self.now.sessions self.now.blocks }
         ensures { IfOk result (λ block. (self.now.up_to_date ≡ true) × (index : ℕ)
@@ -206,7 +206,8 @@ impl PlayedScript {
             bad: content.bad() as u32,
             content,
         };
-        self.sessions.delivered(&mut self.blocks, got, &mut self.rows)
+        self.sessions
+            .delivered(&mut self.blocks, got, &mut self.rows)
     }
 
     // A write passes.
