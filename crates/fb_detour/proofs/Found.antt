@@ -5,10 +5,10 @@ use Rattle.fb_model.proofs.Ties.{no_worse-self, no_worse-trans}
 
 module _ (search : Search) where
   pub itself : (plan : Plan) → IsNoWorseIn search plan plan
-  itself plan = no_worse-self search.disk.now search.gap.now (wanted_of search.blocks.now) plan
+  itself plan = no_worse-self search.disk.now search.gap.now (wanted_of search.wanted.now) plan
 
   pub through : (a b c : Plan) → IsNoWorseIn search a b → IsNoWorseIn search b c → IsNoWorseIn search a c
-  through a b c first second = no_worse-trans search.disk.now search.gap.now (wanted_of search.blocks.now) a b c first second
+  through a b c first second = no_worse-trans search.disk.now search.gap.now (wanted_of search.wanted.now) a b c first second
 
   -- a plan of no more value than a ceiling that is less, or the same and not ahead in the order of ties
   pub no_better_plan : (best : Scored) (ceiling : ℕ) (other : Plan) → IsFound search best

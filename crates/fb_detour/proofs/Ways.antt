@@ -37,7 +37,7 @@ module _ (search : Search) where
   gap = search.gap.now
 
   abbrev entries : List Entry
-  entries = search.blocks.now
+  entries = search.wanted.now
 
   early-le : (way : Way) (leave begin upto : ℕ) → begin ≡ arrival disk gap way → leave ≤ upto
       → stay disk (early_dwell disk gap (plan_by way leave)) entries ≤ stay disk (early_to (early_track gap way) begin upto) entries

@@ -93,16 +93,16 @@ pub record IsLate (disk : Disk) (gap : Gap) (entries : List Entry) (late : LateP
 -- the gap is one of the disk, all blocks lie on it, and the late parts bound what the target can still give
 pub record IsSearch (search : Search) : Type 0 where
   pub gap : IsGap search.disk.now search.gap.now
-  pub blocks : AreOnDisk search.disk.now search.blocks.now
-  pub late : IsLate search.disk.now search.gap.now search.blocks.now search.late.now
+  pub blocks : AreOnDisk search.disk.now search.wanted.now
+  pub late : IsLate search.disk.now search.gap.now search.wanted.now search.late.now
 
 -- a plan of the gap with its value
 abbrev pub IsFound : Search → Scored → Type 0
-IsFound search found = IsScored search.disk.now search.gap.now (wanted_of search.blocks.now) found
+IsFound search found = IsScored search.disk.now search.gap.now (wanted_of search.wanted.now) found
 
 -- the plan is at least as good as the other
 abbrev pub IsNoWorseIn : Search → Plan → Plan → Type 0
-IsNoWorseIn search plan other = IsNoWorse search.disk.now search.gap.now (wanted_of search.blocks.now) plan other
+IsNoWorseIn search plan other = IsNoWorse search.disk.now search.gap.now (wanted_of search.wanted.now) plan other
 
 -- the plan is at least as good as each plan of the way
 abbrev pub IsNoWorseThanWay : Search → Way → Plan → Type 0
@@ -111,7 +111,7 @@ IsNoWorseThanWay search way plan = (leave : ℕ) → IsPlan search.disk.now sear
 
 -- the value of a plan of the search's gap
 abbrev pub value_in : Search → Plan → ℕ
-value_in search plan = value search.disk.now search.gap.now (wanted_of search.blocks.now) plan
+value_in search plan = value search.disk.now search.gap.now (wanted_of search.wanted.now) plan
 
 -- a detour of that gap over a track
 abbrev pub IsDetourIn : Search → Track → ℕ → Type 0
@@ -119,7 +119,7 @@ IsDetourIn search track leave = IsDetour search.disk.now search.gap.now track le
 
 -- the sides are the blocks of the way's track and of the target, all of them on the disk, and where the platter stands on arrival
 pub record AreSidesOf (search : Search) (way : Way) (sides : Sides) : Type 0 where
-  pub its : AreSides search.disk.now search.gap.now.target search.blocks.now (longest_stay search.disk.now search.gap.now way) sides
+  pub its : AreSides search.disk.now search.gap.now.target search.wanted.now (longest_stay search.disk.now search.gap.now way) sides
   pub early : AreOnDisk search.disk.now sides.early
   pub late : AreOnDisk search.disk.now sides.late
 
@@ -135,10 +135,10 @@ pub record AreCeilings (search : Search) (way : Way) (ceilings : Ceilings) : Typ
   pub begin : ceilings.begin ≡ arrival search.disk.now search.gap.now way
   pub on : ceilings.move_on ≡ move_on search.disk.now search.gap.now way
   pub soon : ceilings.move_on ≤ 2 * 10 ^ 9
-  pub late : IsLate search.disk.now search.gap.now search.blocks.now ceilings.late.now
+  pub late : IsLate search.disk.now search.gap.now search.wanted.now ceilings.late.now
   pub each : (k : ℕ) → k < 16
       → stay search.disk.now (early_to (early_track search.gap.now way) ceilings.begin (ceilings.begin + (k + 1) * ceilings.step))
-      search.blocks.now ≤ get_or ceilings.early k 0
+      search.wanted.now ≤ get_or ceilings.early k 0
   pub upto : search.gap.now.deadline < ceilings.begin + ceilings.move_on + 16 * ceilings.step
   pub close : ceilings.begin + ceilings.move_on + 16 * ceilings.step ≤ search.gap.now.deadline + 16
   pub small : AreSmallSums ceilings.early 16
@@ -212,7 +212,7 @@ pub record IsStop (disk : Disk) (blocks : List Entry) (stop : Stop) : Type 0 whe
 
 -- the stop is that of the early dwell of plans of the way
 abbrev pub IsStopOf : Search → Way → Stop → Type 0
-IsStopOf search way stop = IsStop search.disk.now (on_track (early_track search.gap.now way) search.blocks.now) stop
+IsStopOf search way stop = IsStop search.disk.now (on_track (early_track search.gap.now way) search.wanted.now) stop
 
 -- what a stop gives to a head that stays up to an instant
 abbrev pub offered : Stop → ℕ → ℕ
@@ -259,13 +259,13 @@ IsRate disk entries track rate = (from upto : ℕ)
 -- the same for each track of these cylinders
 abbrev pub AreRated : Search → ℕ → ℕ → ℕ → Type 0
 AreRated search from end rate = (track : Track) → from ≤ track.cylinder → track.cylinder < end
-    → IsRate search.disk.now search.blocks.now track rate
+    → IsRate search.disk.now search.wanted.now track rate
 
 -- no detour over the track reaches the target earlier, nor is more caught on the track in each nanosecond
 abbrev pub IsReach : Search → Track → Reach → Type 0
 IsReach search track reach =
     (reach.at_target ≤ arrival search.disk.now search.gap.now (Over track) + move_on search.disk.now search.gap.now (Over track))
-    × IsRate search.disk.now search.blocks.now track reach.rate
+    × IsRate search.disk.now search.wanted.now track reach.rate
 
 -- no detour over a track of these cylinders is worth more
 abbrev pub IsCeiling : Search → ℕ → ℕ → ℕ → Type 0

@@ -133,7 +133,7 @@ fn too_late_for(search: &Search, target: &Turning, leaves: &Leaves, sweep: Sweep
 // What the target gives at most to a head that leaves in each bin, with that of the last bin first.
 pub fn late_bins(search: &Search, target: &Stop, leaves: &Leaves) -> [u64; BINS]
     requires search { IsSearch search.now }
-    requires target { IsStop search.now.disk.now (on_track search.now.gap.now.target search.now.blocks.now) target.now }
+    requires target { IsStop search.now.disk.now (on_track search.now.gap.now.target search.now.wanted.now) target.now }
     requires from { target.now.turning.from ≡ search.now.gap.now.now }
     requires leaves { AreLeaves search.now leaves.now }
     ensures most { (leave : ℕ) → leaves.now.begin ≤ leave → IsBounded leaves.now leave

@@ -82,7 +82,7 @@ fn try_leave(trial: &Trial, bins: Option<&Bins>, leave: Ns, best: Scored) -> Sco
     let plan = plan_by(trial.way, leave);
     try_plan(
         search.disk,
-        search.blocks,
+        search.wanted,
         search.gap,
         trial.sides,
         plan,
@@ -314,7 +314,7 @@ pub fn try_leaves(
     ensures tried { IsNoWorseThanWay search.now way result.plan }
 {
     let stay = longest_stay(search.disk, search.gap, way);
-    let both = sides_of(search.disk, search.blocks, search.gap.target, stay);
+    let both = sides_of(search.disk, search.wanted, search.gap.target, stay);
     let trial = Trial {
         search,
         way,
@@ -339,7 +339,7 @@ pub fn try_source(search: &Search, best: Scored) -> Scored
     ensures keeps { IsNoWorseIn search.now result.plan best.plan }
     ensures tried { IsNoWorseThanWay search.now Way.Source result.plan }
 {
-    let blocks = blocks_on(search.blocks, search.gap.source);
+    let blocks = blocks_on(search.wanted, search.gap.source);
     let stop = stop_at(search.disk, &blocks, search.gap.source, search.gap.now);
     let on = move_on(search.disk, search.gap, Way::Source);
     let ceilings = ceilings_of(search, Way::Source, &stop, on);

@@ -9,7 +9,7 @@ use fb_wanted::Wanted;
 #[derive(Clone, Copy)]
 pub struct Search<'a> {
     pub disk: &'a Disk,
-    pub blocks: &'a Wanted,
+    pub wanted: &'a Wanted,
     pub gap: &'a Gap,
     pub late: &'a LateParts,
 }

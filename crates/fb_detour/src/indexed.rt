@@ -43,7 +43,7 @@ impl Planner for IndexedPlanner {
         let late = late_parts(disk, wanted, gap);
         let search = Search {
             disk,
-            blocks: wanted,
+            wanted,
             gap,
             late: &late,
         };

@@ -34,7 +34,7 @@ fn try_stop(
     requires track { IsTrackOf search.now.disk.now.map track }
     requires detour { same_track track search.now.gap.now.source ≡ false }
     requires elsewhere { same_track track search.now.gap.now.target ≡ false }
-    requires its { blocks.now ≡ on_track track search.now.blocks.now }
+    requires its { blocks.now ≡ on_track track search.now.wanted.now }
     requires on_disk { AreOnDisk search.now.disk.now blocks.now }
     requires search { IsSearch search.now }
     requires best { IsFound search.now best }
@@ -79,7 +79,7 @@ fn try_track(search: &Search, track: Track, seeks: Seeks, reach: Reach, best: Sc
     if is_same(track, search.gap.target) {
         return best;
     }
-    let blocks = blocks_on(search.blocks, track);
+    let blocks = blocks_on(search.wanted, track);
     let most = most_by_steps(search, reach, blocks.wanted_weight(), best.value);
     if is_enough(best, most, track) {
         return best;
@@ -248,7 +248,7 @@ pub fn try_all(search: &Search, best: Scored) -> Scored
     let geometry = search.disk.map.geometry();
     geometry.sound();
     let end = geometry.cylinders();
-    let rate = rate_over(search.disk, search.blocks, 0, end);
+    let rate = rate_over(search.disk, search.wanted, 0, end);
     let most = most_within(search, 0, end, rate, best.value);
     visit(search, 0, end, most, rate, best)
 }

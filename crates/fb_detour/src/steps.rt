@@ -61,7 +61,7 @@ pub fn rate_in(search: &Search, from: u32, end: u32, known: u64) -> u64
     if end - from < BAND {
         return known;
     }
-    rate_over(search.disk, search.blocks, from, end)
+    rate_over(search.disk, search.wanted, from, end)
 }
 
 // The reach of detours over these cylinders, by their rate.
@@ -155,7 +155,7 @@ fn part_from(late: &LateParts, instant: Ns) -> usize
 pub fn most_by_steps(search: &Search, reach: Reach, weight: u64, known: u64) -> u64
     requires search { IsSearch search.now }
     requires light { weight ≤ 16000000 * 2048000 }
-    ensures most { (track : Track) (leave : ℕ) → IsReach search.now track reach → wanted_weight track search.now.blocks.now ≤ weight
+    ensures most { (track : Track) (leave : ℕ) → IsReach search.now track reach → wanted_weight track search.now.wanted.now ≤ weight
         → IsDetourIn search.now track leave → value_in search.now (Plan.Detour track leave) ≤ result }
     ensures small { result ≤ 2 * (16000000 * 2048000) }
 {
@@ -185,7 +185,7 @@ pub fn most_over(search: &Search, from: u32, end: u32, rate: u64, known: u64) ->
     ensures most { IsCeiling search.now from end result }
     ensures small { result ≤ 2 * (16000000 * 2048000) }
 {
-    let weight = search.blocks.greatest_weight_in(from, end);
+    let weight = search.wanted.greatest_weight_in(from, end);
     let sum = weight + search.late.parts[0];
     if sum < known {
         return sum;

@@ -35,7 +35,7 @@ loop-offer-preserved c =
     let this = subst (IsNoBetter trial new) c.end-end.ensures.value step.tried in record {
       scored = step.scored;
       keeps = through search new old c.try_once-best.result.plan step.keeps c.loop-offer.invariant.keeps;
-      tried = offers-more search.disk.now search.gap.now trial.way (wanted_of search.blocks.now) trial.sides.now.turning offers i old new
+      tried = offers-more search.disk.now search.gap.now trial.way (wanted_of search.wanted.now) trial.sides.now.turning offers i old new
           (get_or offers i _) (slice_get-get_or offers i _ c.loop-offer-test.true) step.keeps this c.loop-offer.invariant.tried;
       notes = step.notes;
     }
@@ -51,7 +51,7 @@ returns-clause-tried c = λ leave is.
     let first = c.try_once-best.result.plan in
     let fits = bounds search.disk.now search.gap.now trial.way leave is in
     let arrived = c.try_once-best.ensures.tried (omega (arith, fits.0, fits.1, begin)) in
-    way_done search.disk.now search.gap.now trial.way search.blocks.now sides.turning c.offers-offers.result.now sides.early
+    way_done search.disk.now search.gap.now trial.way search.wanted.now sides.turning c.offers-offers.result.now sides.early
     its.turning its.from its.early c.requires.trial.sides.early c.offers-offers.ensures.its
     c.loop-offer.best.plan first (plan_by trial.way sides.turning.from) c.loop-offer.offer-index leave refl c.loop-offer-test.false
     done.keeps (subst (λ t. IsNoWorseIn search first (plan_by trial.way t)) (begin ∙ sym its.from) arrived) done.tried is

@@ -6,7 +6,7 @@ invariant-loop-offer l =
     let search = l.trial.search.now in record {
       scored : IsFound search l.best;
       keeps : IsNoWorseIn search l.best.plan l.initial.best.plan;
-      tried : AreTried search.disk.now search.gap.now l.trial.way (wanted_of search.blocks.now) l.trial.sides.now.turning l.offers
+      tried : AreTried search.disk.now search.gap.now l.trial.way (wanted_of search.wanted.now) l.trial.sides.now.turning l.offers
           l.offer-index l.best.plan;
       notes : AreNotes l.trial l.best.plan l.notes;
     }

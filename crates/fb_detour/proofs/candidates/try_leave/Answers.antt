@@ -42,7 +42,7 @@ pub try_plan-requires-clause-sides : goal.try_plan-requires-clause-sides
 try_plan-requires-clause-sides c =
     let trial = c.args.trial.now in
     let search = trial.search.now in
-    rw c.plan_by-plan.ensures (its-sides search.disk.now search.gap.now search.gap.now.target search.blocks.now trial.sides.now trial.way
+    rw c.plan_by-plan.ensures (its-sides search.disk.now search.gap.now search.gap.now.target search.wanted.now trial.sides.now trial.way
     c.args.leave c.requires.trial.sides.its)
 
 pub returns-clause-tried : goal.returns-clause-tried

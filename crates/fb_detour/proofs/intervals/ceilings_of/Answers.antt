@@ -8,7 +8,7 @@ pub returns : goal.returns
 returns c =
     let search = c.args.search.now in
     let disk = search.disk.now in
-    let entries = search.blocks.now in
+    let entries = search.wanted.now in
     let track = early_track search.gap.now c.args.way in
     let stop = c.args.stop.now in
     let begin = stop.turning.from in

@@ -10,7 +10,7 @@ loop-head-preserved c =
     let old = c.loop-head.best.plan in record {
       scored = new.ensures.scored;
       keeps = through search new.result.plan old c.args.best.plan new.ensures.keeps c.loop-head.invariant.keeps;
-      tried = λ head less leave. tracks-more search.disk.now search.gap.now (wanted_of search.blocks.now) new.result.plan old
+      tried = λ head less leave. tracks-more search.disk.now search.gap.now (wanted_of search.wanted.now) new.result.plan old
           (λ h. record { cylinder = c.args.cylinder; head = h }) c.loop-head.head new.ensures.keeps new.ensures.tried
           (λ h l b. c.loop-head.invariant.tried h b l) head leave less;
     }

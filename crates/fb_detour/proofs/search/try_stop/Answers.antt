@@ -43,7 +43,7 @@ pub returns-then-misses_enough-clause-tried : goal.returns-then-misses_enough-cl
 returns-then-misses_enough-clause-tried c = λ leave is.
     let search = c.args.search.now in
     let disk = search.disk.now in
-    let entries = search.blocks.now in
+    let entries = search.wanted.now in
     let track = c.args.track in
     let best = c.args.best in
     let there = c.pos_with-there in
