@@ -1,8 +1,8 @@
 -- The best of the candidates is the best spill of all, and the only one.
 use Rattle.fb_bgwrite.proofs.Words.{AllByRecursion, Block, Bool, Detour, Disk, Gap, GapRow, IsBest, IsSpill, IsTrackOf, List, None}
 use Rattle.fb_bgwrite.proofs.Words.{Option, Some, Spill, Track, WritesNothing, [], all_map, all_weaker, and_parts, ap, arith, cases_Bool}
-use Rattle.fb_bgwrite.proofs.Words.{cases_lt, catches, dwell_of, false, filter, flat_map, inl, inr, map, nat_lt, nat_tests, ready, refl}
-use Rattle.fb_bgwrite.proofs.Words.{sym, true, value, ℕ, ◌+◌, ◌<◌, ◌==◌, ◌∙◌, ◌∷◌, ◌≡◌, ◌≤◌, ◌⊎◌}
+use Rattle.fb_bgwrite.proofs.Words.{cases_lt, catches, dwell_of, false, filter, flat_map, inl, inr, nat_lt, nat_tests, ready, refl}
+use Rattle.fb_bgwrite.proofs.Words.{sym, true, value, ℕ, ◌<◌, ◌==◌, ◌∙◌, ◌∷◌, ◌≡◌, ◌≤◌, ◌⊎◌}
 use Rattle.std.specs.List.{best_of}
 use Rattle.std.proofs.lemmas.Bool.{or_cases}
 use Rattle.fb_units.proofs.Each.{all_best, all_both, all_flat, all_pass, all_unmapped, flat_all}
