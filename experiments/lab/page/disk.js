@@ -155,3 +155,13 @@ function lastAtMost(count, value, limit) {
   }
   return low - 1;
 }
+
+/** The first of `count` rising values that is at least the limit: its index, or the count. */
+function firstAtLeast(count, value, limit) {
+  let low = 0, high = count;
+  while (low < high) {
+    const middle = (low + high) >>> 1;
+    if (value(middle) < limit) low = middle + 1; else high = middle;
+  }
+  return low;
+}

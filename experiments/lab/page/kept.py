@@ -81,6 +81,7 @@ class Kept:
         self.detours = Table("by")
         self.gots = Table("task", "again", "number", "sector", "length", "begin", "pass", "bad")
         self.notes: list[str] = []
+        self.later: list[int] = []  # arrivals of requests that are served after the stretch
         self.tasks = Tasks()
         self.task_numbers: dict[str, int] = {}
         self.before: dict[str, Before] = {}
@@ -109,6 +110,8 @@ class Kept:
             self._begin_act(row.now, row.served.finish, row.line, row.served.line)
             if self._open:
                 self._add_gap(row)
+            elif self.first is not None:
+                self.later.append(row.served.arrival)
         elif isinstance(row, Idle):
             self._begin_act(row.begin, row.end, row.line, 0)
             if self._open:
@@ -185,7 +188,12 @@ class Kept:
 
     def tables(self) -> dict[str, Table]:
         """All tables, by the names that the page knows them by."""
-        return {"kinds": self.kinds, "acts": self.acts, "detours": self.detours, "gots": self.gots}
+        later = Table("arrival")
+        last = 0
+        for arrival in sorted(arrival for arrival in self.later if arrival < self.last_instant):
+            later.add(arrival - last)
+            last = arrival
+        return {"kinds": self.kinds, "acts": self.acts, "detours": self.detours, "gots": self.gots, "later": later}
 
     def texts(self) -> dict[str, list[str]]:
         """All lists of texts; contents are those of the requests and those of the blocks."""

@@ -66,7 +66,8 @@ def _about(wish: Wish, kept: Kept) -> dict[str, Any]:
         "disk": _disk(wish.params),
         "whole": wish.begin <= 0 and wish.end is None,
         "first": kept.first or 0, "last": kept.last_instant, "end": kept.tasks.end,
-        "first lines": kept.first_lines, "contents left out": any(ends.left_out for ends in kept.ends.values()),
+        "first lines": kept.first_lines,
+        "contents left out": {name: ends.left_out for name, ends in kept.ends.items()},
         "task numbers": kept.about_tasks(),
         "tasks": {name: {key: value for key, value in vars(task).items() if not key.startswith("_")}
                   for name, task in kept.tasks.by_name.items()},

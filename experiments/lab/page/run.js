@@ -1,0 +1,334 @@
+// A run: its rows, and what the head does at each instant.
+
+const READ = 1, IDLE = 2, DETOUR = 4, PROMOTED = 8;
+const ACT = 0, BY_GAP = 1, BY_IDLE = 2, BY_RIDE = 3, NOTE = 4;
+const HOWS = ["", "gap", "idle", "ride"];
+
+class Run {
+  constructor(about, held) {
+    this.about = about;
+    this.disk = new Disk(about.disk);
+    this.notes = held.texts.notes;
+    this.contents = { fore: held.texts.fore, back: held.texts.back };
+    this.taskNames = about["task numbers"].map(task => task.name);
+    this.readActs(held.tables.acts, held.tables.detours);
+    this.readGots(held.tables.kinds.kind, held.tables.gots);
+    this.begin = this.acts.count ? this.acts.begin[0] : 0;
+    this.end = this.acts.count ? this.acts.finish[this.acts.count - 1] : 0;
+    this.countArrivals(held.tables.later);
+    this.coverages = coveragesOf(this);
+    this.detours = new Detours(this);
+    this.cylinders = cylindersOf(this);
+  }
+
+  /** Acts: gaps with their requests, and idle stays, whose media and finish is their end. */
+  readActs(table, detours) {
+    const count = table.count, acts = this.acts = { count, flags: table.flags, length: table.length, bad: table.bad,
+      sector: table.sector, target: table.target, source: new Int32Array(count), by: new Int32Array(count),
+      number: new Int32Array(count), request: new Int32Array(count) };
+    for (const name of ["arrival", "begin", "leave", "media", "finish"]) acts[name] = new Float64Array(count);
+    let end = this.about.first, target = 0, number = 0, requests = 0, taken = 0;
+    for (let i = 0; i < count; i++) {
+      acts.begin[i] = end + table.lead[i];
+      acts.arrival[i] = acts.begin[i] - table.queued[i];
+      acts.leave[i] = acts.begin[i] + table.leave[i];
+      acts.media[i] = acts.begin[i] + table.wait[i];
+      end = acts.finish[i] = acts.media[i] + table.pass[i];
+      acts.source[i] = target + table.source[i];
+      target = acts.target[i];
+      acts.by[i] = acts.flags[i] & DETOUR ? detours.by[taken++] : -1;
+      acts.request[i] = requests;
+      if (!(acts.flags[i] & IDLE)) { requests++; number = acts.number[i] = number + 1 + table.number[i]; }
+    }
+    this.requestActs = new Int32Array(requests);
+    for (let i = 0; i < count; i++) if (!(acts.flags[i] & IDLE)) this.requestActs[acts.request[i]] = i;
+  }
+
+  /** The deliveries, and for each row of the background report which act, delivery or note it is. */
+  readGots(kinds, table) {
+    const count = table.count, gots = this.gots = { count, task: table.task, again: table.again, length: table.length,
+      bad: table.bad, number: new Int32Array(count), sector: new Float64Array(count), begin: new Float64Array(count),
+      end: new Float64Array(count), how: new Uint8Array(count), act: new Int32Array(count), row: new Int32Array(count) };
+    this.kinds = kinds;
+    this.indexes = new Int32Array(kinds.length);
+    this.actRows = new Int32Array(this.acts.count);
+    this.gotsFrom = new Int32Array(this.acts.count + 1);
+    this.noteRows = [];
+    const expected = this.taskNames.map(() => ({ number: 0, sector: 0 }));
+    let act = -1, got = 0, instant = this.about.first;
+    for (let row = 0; row < kinds.length; row++) {
+      const kind = kinds[row];
+      if (kind === ACT) {
+        this.indexes[row] = ++act;
+        this.actRows[act] = row;
+        this.gotsFrom[act] = got;
+        instant = this.acts.begin[act];
+      } else if (kind === NOTE) {
+        this.indexes[row] = this.noteRows.length;
+        this.noteRows.push(row);
+      } else {
+        const next = expected[table.task[got]];
+        this.indexes[row] = got;
+        gots.how[got] = kind;
+        gots.act[got] = act;
+        gots.row[got] = row;
+        gots.number[got] = next.number + table.number[got];
+        gots.sector[got] = next.sector + table.sector[got];
+        gots.begin[got] = instant + table.begin[got];
+        instant = gots.end[got] = gots.begin[got] + table.pass[got];
+        next.number = gots.number[got] + 1;
+        next.sector = gots.sector[got] + gots.length[got];
+        got++;
+      }
+    }
+    this.gotsFrom[this.acts.count] = got;
+  }
+
+  /** When requests arrive, and how many have arrived and haven't begun. */
+  countArrivals(later) {
+    const served = this.requestActs, arrivals = new Float64Array(served.length + later.count);
+    const starts = new Float64Array(served.length);
+    served.forEach((act, i) => { arrivals[i] = this.acts.arrival[act]; starts[i] = this.acts.begin[act]; });
+    let instant = 0;
+    for (let i = 0; i < later.count; i++) arrivals[served.length + i] = instant += later.arrival[i];
+    arrivals.sort();
+    this.arrivals = new Instants(arrivals);
+    this.queue = new Steps(arrivals, starts);
+  }
+
+  isIdle(act) { return (this.acts.flags[act] & IDLE) !== 0; }
+
+  isRead(act) { return (this.acts.flags[act] & READ) !== 0; }
+
+  isWrite(act) { return (this.acts.flags[act] & (READ | IDLE)) === 0; }
+
+  name(act) { return (this.acts.flags[act] & PROMOTED ? "P" : "") + this.acts.number[act]; }
+
+  /** The act at an instant: the last that has begun; -1 where there is none. */
+  actAt(instant) {
+    const begins = this.acts.begin;
+    return lastAtMost(this.acts.count, i => begins[i], instant);
+  }
+
+  /** The acts that begin in a stretch: from the first to the one behind the last. */
+  actsWithin(begin, end) {
+    const begins = this.acts.begin, first = limit => firstAtLeast(this.acts.count, i => begins[i], limit);
+    return [first(begin), first(end)];
+  }
+
+  /** How many deliveries have ended by then. */
+  gotsUpTo(instant) {
+    const ends = this.gots.end;
+    return lastAtMost(this.gots.count, i => ends[i], instant) + 1;
+  }
+
+  /** The act to which a row belongs. */
+  actOfRow(row) {
+    while (row > 0 && this.kinds[row] === NOTE) row--;
+    const index = this.indexes[row];
+    return this.kinds[row] === ACT ? index : this.kinds[row] === NOTE ? 0 : this.gots.act[index];
+  }
+
+  /** The request to which a row belongs, as its place among those of the page; the next one where there is none. */
+  requestOfRow(row) { return Math.min(this.requestActs.length - 1, this.acts.request[this.actOfRow(row)]); }
+
+  /** The row of what passes at an instant: a block, else the act; null where the page has no acts. */
+  rowAt(instant) {
+    if (!this.acts.count) return null;
+    const act = Math.max(0, this.actAt(instant)), { gots } = this;
+    for (let i = this.gotsFrom[act]; i < this.gotsFrom[act + 1]; i++)
+      if (gots.begin[i] <= instant && instant < gots.end[i]) return gots.row[i];
+    return this.actRows[act];
+  }
+
+  /** The row that is nearest to an instant in a lane, within a dot; where the lane has none, that of the instant. */
+  rowNear(instant, perDot, lane) {
+    const coverage = this.coverages[lane], at = coverage ? coverage.indexAt(instant + perDot / 2) : -1;
+    if (at < 0 || coverage.ends[at] < instant - perDot / 2) return this.rowAt(instant);
+    const act = this.actAt(coverage.begins[at]), how = HOWS.indexOf(lane), { gots } = this;
+    if (how < 1) return this.actRows[act];
+    let found = this.actRows[act], least = Infinity;
+    for (let i = this.gotsFrom[act]; i < this.gotsFrom[act + 1]; i++) {
+      const far = Math.max(gots.begin[i] - instant, instant - gots.end[i], 0);
+      if (gots.how[i] === how && far < least) { least = far; found = gots.row[i]; }
+    }
+    return found;
+  }
+
+  /** When a row of the background report begins and ends. */
+  timesOfRow(row) {
+    const index = this.indexes[row];
+    if (this.kinds[row] === ACT) return [this.acts.begin[index], this.acts.finish[index]];
+    if (this.kinds[row] !== NOTE) return [this.gots.begin[index], this.gots.end[index]];
+    const instant = this.instantOfNote(row);
+    return [instant, instant];
+  }
+
+  instantOfNote(row) {
+    const fields = this.notes[this.indexes[row]].split(" ");
+    const told = { seal: fields[2], done: fields[2], seg: fields[3], end: fields[1], task: this.end }[fields[0]];
+    if (told !== undefined) return Number(told);
+    return row && this.kinds[row - 1] === NOTE ? this.instantOfNote(row - 1) : row ? this.timesOfRow(row - 1)[1] : this.begin;
+  }
+
+  /** What the head does in an act, one thing after another: on which track, and to which it moves. */
+  phasesOf(act) {
+    const acts = this.acts, phases = [];
+    const add = (kind, begin, end, from, to) => { if (end > begin) phases.push({ kind, begin, end, from, to }); };
+    if (this.isIdle(act)) {
+      add("rest", acts.begin[act], acts.finish[act], acts.source[act], acts.source[act]);
+      return phases;
+    }
+    let here = acts.source[act], now = acts.begin[act];
+    if (acts.by[act] >= 0) {
+      const there = now + this.disk.positioning(here, acts.by[act], false);
+      add("move", now, there, here, acts.by[act]);
+      here = acts.by[act];
+      now = there;
+    }
+    add("stay", now, acts.leave[act], here, here);
+    const target = acts.target[act], there = acts.leave[act] + this.disk.positioning(here, target, this.isWrite(act));
+    add("move", acts.leave[act], there, here, target);
+    add("wait", there, acts.media[act], target, target);
+    this.addService(act, add);
+    return phases;
+  }
+
+  /** The passages of a request, with the moves and waits between its tracks. */
+  addService(act, add) {
+    const { acts, disk } = this, kind = this.isRead(act) ? "read" : "write";
+    let sector = acts.sector[act], left = acts.length[act], now = acts.media[act], track = acts.target[act];
+    while (left) {
+      const next = disk.stretch(sector, left), there = now + disk.positioning(track, next.track, this.isWrite(act));
+      add("switch", now, there, track, next.track);
+      const angle = disk.slotBegin(next.slot, next.slots);
+      const begin = there + ((angle - there) % disk.turn + disk.turn) % disk.turn, end = begin + disk.passage(next);
+      add("turn", there, begin, next.track, next.track);
+      add(kind, begin, end, next.track, next.track);
+      now = end;
+      track = next.track;
+      sector += next.length;
+      left -= next.length;
+    }
+  }
+
+  /** What the head does at an instant, in which act, and where it is. */
+  stateAt(instant) {
+    const act = Math.max(0, this.actAt(instant));
+    if (!this.acts.count) return null;
+    const phases = this.phasesOf(act);
+    const phase = phases.find(({ begin, end }) => begin <= instant && instant < end) || phases[phases.length - 1];
+    return { act, phases, phase };
+  }
+
+  /** The deliveries of a track, in their order. */
+  gotsOfTrack(track) {
+    if (!this.byTrack) this.byTrack = indexByTrack(this);
+    const keys = this.byTrack, count = this.gots.count, found = [];
+    const first = lastAtMost(keys.length, i => keys[i], track * count - 1) + 1;
+    for (let i = first; i < keys.length && keys[i] < (track + 1) * count; i++) found.push(keys[i] - track * count);
+    return found;
+  }
+}
+
+/** A rising key for each delivery: its track, and then its place among the deliveries. */
+function indexByTrack({ disk, gots }) {
+  const keys = new Float64Array(gots.count);
+  for (let i = 0; i < gots.count; i++) keys[i] = disk.stretch(gots.sector[i], 1).track * gots.count + i;
+  return keys.sort();
+}
+
+/** The kinds of time that have a lane each, as coverages. */
+function coveragesOf(run) {
+  const lanes = { read: new Stretches(), write: new Stretches(), gap: new Stretches(), ride: new Stretches(),
+    idle: new Stretches(), wait: new Stretches(), rest: new Stretches(), move: new Stretches() };
+  const { acts, disk } = run;
+  for (let i = 0; i < acts.count; i++) {
+    if (run.isIdle(i)) { lanes.rest.add(acts.begin[i], acts.finish[i]); continue; }
+    let here = acts.source[i], now = acts.begin[i];
+    if (acts.by[i] >= 0) {
+      const there = now + disk.positioning(here, acts.by[i], false);
+      lanes.move.add(now, there);
+      here = acts.by[i];
+      now = there;
+    }
+    const there = acts.leave[i] + disk.positioning(here, acts.target[i], run.isWrite(i));
+    lanes.wait.add(now, acts.leave[i]);
+    lanes.move.add(acts.leave[i], there);
+    lanes.wait.add(there, acts.media[i]);
+    lanes[run.isRead(i) ? "read" : "write"].add(acts.media[i], acts.finish[i]);
+  }
+  for (let i = 0; i < acts.count; i++) addUnions(run, i, lanes);
+  return Object.fromEntries(Object.entries(lanes).map(([name, stretches]) => [name, stretches.coverage()]));
+}
+
+/** The time in which blocks of an act pass, by each way. Blocks of two tasks may pass together. */
+function addUnions({ gots, gotsFrom }, act, lanes) {
+  const from = gotsFrom[act], to = gotsFrom[act + 1];
+  if (from === to) return;
+  const order = Array.from({ length: to - from }, (_, i) => from + i).sort((a, b) => gots.begin[a] - gots.begin[b]);
+  const covered = [0, 0, 0, 0];
+  for (const got of order) {
+    const how = gots.how[got];
+    lanes[HOWS[how]].add(Math.max(gots.begin[got], covered[how]), gots.end[got]);
+    covered[how] = Math.max(covered[how], gots.end[got]);
+  }
+}
+
+/** What detours move beyond the way from source to target, up to any instant: in each gap in the pace of its moves. */
+class Detours {
+  constructor(run) {
+    const { acts, disk } = run, found = [];
+    for (let i = 0; i < acts.count; i++) if (acts.by[i] >= 0) found.push(i);
+    this.run = run;
+    this.acts = found;
+    this.before = new Float64Array(found.length + 1);
+    this.moved = new Float64Array(found.length);
+    found.forEach((act, i) => {
+      const write = run.isWrite(act);
+      const moved = disk.positioning(acts.source[act], acts.by[act], false) + disk.positioning(acts.by[act], acts.target[act], write);
+      this.moved[i] = moved;
+      this.before[i + 1] = this.before[i] + moved - disk.positioning(acts.source[act], acts.target[act], write);
+    });
+  }
+
+  upTo(instant) {
+    const { acts, coverages } = this.run, at = lastAtMost(this.acts.length, i => acts.begin[this.acts[i]], instant);
+    if (at < 0) return 0;
+    const act = this.acts[at], share = coverages.move.within(acts.begin[act], Math.min(instant, acts.media[act])) / this.moved[at];
+    return this.before[at] + share * (this.before[at + 1] - this.before[at]);
+  }
+}
+
+/** The cylinders between which the head is, and how long it is in each band of them, over time. */
+function cylindersOf(run) {
+  const { acts, disk } = run;
+  let first = Infinity, last = 0;
+  for (const tracks of [acts.source, acts.target]) for (const track of tracks) {
+    first = Math.min(first, disk.cylinderOf(track));
+    last = Math.max(last, disk.cylinderOf(track));
+  }
+  if (!acts.count) first = 0;
+  const bands = Math.min(64, last - first + 1), bins = Math.min(65536, Math.max(256, 1 << Math.ceil(Math.log2(acts.count + 1))));
+  const heat = new Heat(run.begin, run.end, bins, bands);
+  const band = track => Math.min(bands - 1, Math.max(0, Math.floor((disk.cylinderOf(track) - first) * bands / (last - first + 1))));
+  for (let i = 0; i < acts.count; i++) addHeat(run, i, heat, band);
+  heat.sumUp();
+  return { first, last, heat };
+}
+
+function addHeat(run, act, heat, band) {
+  const { acts, disk } = run, target = acts.target[act];
+  let here = acts.source[act], now = acts.begin[act];
+  if (run.isIdle(act)) { heat.add(now, acts.finish[act], band(here)); return; }
+  if (acts.by[act] >= 0) {
+    const there = now + disk.positioning(here, acts.by[act], false);
+    heat.addMove(now, there, band(here), band(acts.by[act]));
+    here = acts.by[act];
+    now = there;
+  }
+  const there = acts.leave[act] + disk.positioning(here, target, run.isWrite(act));
+  heat.add(now, acts.leave[act], band(here));
+  heat.addMove(acts.leave[act], there, band(here), band(target));
+  heat.add(there, acts.finish[act], band(target));
+}
