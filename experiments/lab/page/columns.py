@@ -6,19 +6,15 @@ from typing import Any
 
 
 class Table:
-    """Rows of whole numbers below 2^63; each row is added with a number for each column."""
+    """Rows of whole numbers below 2^63; `add` takes a row, with a number for each column."""
 
     def __init__(self, *names: str) -> None:
-        self.columns = {name: array("q") for name in names}
-        self._appends = [column.append for column in self.columns.values()]
-
-    def add(self, *numbers: int) -> None:
-        """Adds a row."""
-        for append, number in zip(self._appends, numbers):
-            append(number)
+        self.names = names
+        self._numbers = array("q")  # row after row
+        self.add = self._numbers.extend
 
     def __len__(self) -> int:
-        return len(next(iter(self.columns.values())))
+        return len(self._numbers) // len(self.names)
 
     def packed(self) -> tuple[dict[str, Any], bytes]:
         """What the page has to know to unpack the table, and its columns one after another.
@@ -26,12 +22,13 @@ class Table:
         A column has as many bytes a number as its greatest takes: first the lowest bytes of all numbers, then the
         next, and so on, as bytes of one kind beside each other can be packed well."""
         widths, parts = [], []
-        for name, column in self.columns.items():
+        for place, name in enumerate(self.names):
+            column = self._numbers[place::len(self.names)]
             width = _width(column)
             widths.append([name, width])
             octets = column.tobytes()
             at = range(width) if sys.byteorder == "little" else range(7, 7 - width, -1)
-            parts += [octets[place::8] for place in at]
+            parts += [octets[octet::8] for octet in at]
         return {"rows": len(self), "columns": widths}, b"".join(parts)
 
 

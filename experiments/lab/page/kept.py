@@ -1,12 +1,12 @@
 """The rows of a run, or of a stretch of it, as the page keeps them."""
 
-from dataclasses import dataclass, field
+from dataclasses import dataclass
 from typing import Any, Iterator
 
 from lab.disk import Disk, Track
 from lab.page.columns import Table
 from lab.reports import Gap, Got, Idle, Note, ReportError, Row
-from lab.tasks import Tasks
+from lab.tasks import Task, Tasks
 from lab.texts import numbered_lines
 
 GREATEST = 4_000_000  # rows of one page
@@ -35,26 +35,36 @@ class Ends:
     def of(self, line: int) -> int:
         """How much of this line can't be read; its contents are kept. Lines are asked for in their order."""
         for number, text in self._lines:
-            if number == line:
-                _, bad, contents = text.rsplit(None, 2)
-                self._keep(contents)
-                return int(bad)
+            if number != line:
+                continue
+            if text.endswith(" 0 -\n"):
+                self.contents.append("-")
+                return 0
+            _, bad, contents = text.rsplit(None, 2)
+            self._keep(contents)
+            return int(bad)
         raise ReportError(f"line {line} is gone")
 
     def _keep(self, contents: str) -> None:
-        self._held += len(contents) if contents != "-" else 0
-        if self._held > CONTENTS:
-            self.contents, self.left_out = [], True
-        elif not self.left_out:
-            self.contents.append(contents)
+        self._held += len(contents)
+        self.left_out = self._held > CONTENTS
+        self.contents.append("-" if self.left_out else contents)
+
+    def kept(self) -> list[str]:
+        """The contents of all lines that were asked for; none where they are nothing or too many."""
+        return [] if self.left_out or all(text == "-" for text in self.contents) else self.contents
 
 
 @dataclass
-class Before:
-    """What a task had been given before the page's first row: deliveries, and those of a block for the first time."""
+class Known:
+    """What is known of a task: its number in the tables, what it got before them, and what is expected next."""
 
-    deliveries: int = 0
-    blocks: int = 0
+    task: Task
+    number: int
+    deliveries: int = 0  # before the page's first row
+    blocks: int = 0  # of these, those of a block for the first time
+    next_block: int = 0
+    next_sector: int = 0
 
 
 @dataclass
@@ -65,7 +75,6 @@ class Last:
     instant: int = 0  # of any row
     target: int = 0
     number: int = 0  # of a request
-    blocks: dict[str, list[int]] = field(default_factory=dict)  # of a task: the next number and the next sector
 
 
 class Kept:
@@ -83,12 +92,11 @@ class Kept:
         self.notes: list[str] = []
         self.later: list[int] = []  # arrivals of requests that are served after the stretch
         self.tasks = Tasks()
-        self.task_numbers: dict[str, int] = {}
-        self.before: dict[str, Before] = {}
         self.ends = {"fore": Ends(fore), "back": Ends(back)}
         self.first_lines = {"fore": 0, "back": 0}
         self.requests = 0  # that were kept
         self.first: int | None = None  # the instant at which the kept rows begin
+        self._known: dict[str, Known] = {}
         self._open = begin <= 0  # whether the present act is kept
         self._last = Last()
 
@@ -142,45 +150,44 @@ class Kept:
         number = int(served.name[1:] if promoted else served.name)
         flags = READ * served.is_read + DETOUR * (gap.by is not None) + PROMOTED * promoted
         source, target = self._track(gap.source), self._track(gap.target)
-        self.kinds.add(KINDS["act"])
-        self.acts.add(flags, number - last.number - 1, served.sector, served.length, gap.now - served.arrival,
-                      gap.now - last.end, gap.deadline - gap.now, served.finish - served.media, source - last.target,
-                      target, gap.leave - gap.now, self.ends["fore"].of(served.line))
+        self.kinds.add((KINDS["act"],))
+        self.acts.add((flags, number - last.number - 1, served.sector, served.length, gap.now - served.arrival,
+                       gap.now - last.end, gap.deadline - gap.now, served.finish - served.media, source - last.target,
+                       target, gap.leave - gap.now, self.ends["fore"].of(served.line)))
         if gap.by is not None:
-            self.detours.add(self._track(gap.by))
+            self.detours.add((self._track(gap.by),))
         last.end, last.instant, last.target, last.number = served.finish, gap.now, target, number
 
     def _add_idle(self, idle: Idle) -> None:
         track, last = self._track(idle.track), self._last
-        self.kinds.add(KINDS["act"])
-        self.acts.add(IDLE, 0, 0, 0, 0, idle.begin - last.end, idle.end - idle.begin, 0, track - last.target, track, 0, 0)
+        self.kinds.add((KINDS["act"],))
+        self.acts.add((IDLE, 0, 0, 0, 0, idle.begin - last.end, idle.end - idle.begin, 0, track - last.target, track, 0, 0))
         last.end, last.instant, last.target = idle.end, idle.begin, track
 
     def _add_got(self, got: Got) -> None:
-        task = self.tasks.by_name.get(got.task)
-        again = task.again if task else 0
+        known = self._known.get(got.task) or self._meet(got.task)
+        before = known.task.again
         self.tasks.add(got)
-        again = self.tasks.by_name[got.task].again - again
-        if not self._open:
-            if self.first is None:
-                before = self.before.setdefault(got.task, Before())
-                before.deliveries += 1
-                before.blocks += 1 - again
-            return
-        last = self._last
-        expected = last.blocks.setdefault(got.task, [0, 0])
-        number = self.task_numbers.setdefault(got.task, len(self.task_numbers))
-        self.kinds.add(KINDS[got.how])
-        self.gots.add(number, again, got.number - expected[0], got.sector - expected[1], got.length,
-                      got.begin - last.instant, got.end - got.begin, self.ends["back"].of(got.line))
-        expected[:] = got.number + 1, got.sector + got.length
-        last.instant = got.end
+        again = known.task.again - before
+        if self._open:
+            self.kinds.add((KINDS[got.how],))
+            self.gots.add((known.number, again, got.number - known.next_block, got.sector - known.next_sector, got.length,
+                           got.begin - self._last.instant, got.end - got.begin, self.ends["back"].of(got.line)))
+            known.next_block, known.next_sector = got.number + 1, got.sector + got.length
+            self._last.instant = got.end
+        elif self.first is None:
+            known.deliveries += 1
+            known.blocks += 1 - again
+
+    def _meet(self, name: str) -> Known:
+        task = self.tasks.by_name.setdefault(name, Task())
+        return self._known.setdefault(name, Known(task, len(self._known)))
 
     def _add_note(self, note: Note) -> None:
         self.tasks.add(note)
         if self._open:
             self.first_lines["back"] = self.first_lines["back"] or note.line
-            self.kinds.add(KINDS["note"])
+            self.kinds.add((KINDS["note"],))
             self.notes.append(" ".join([note.verb, *note.fields]))
 
     def _track(self, track: Track) -> int:
@@ -188,21 +195,16 @@ class Kept:
 
     def tables(self) -> dict[str, Table]:
         """All tables, by the names that the page knows them by."""
-        later = Table("arrival")
-        last = 0
+        later, last = Table("arrival"), 0
         for arrival in sorted(arrival for arrival in self.later if arrival < self.last_instant):
-            later.add(arrival - last)
+            later.add((arrival - last,))
             last = arrival
         return {"kinds": self.kinds, "acts": self.acts, "detours": self.detours, "gots": self.gots, "later": later}
 
     def texts(self) -> dict[str, list[str]]:
         """All lists of texts; contents are those of the requests and those of the blocks."""
-        return {"notes": self.notes,
-                **{name: ends.contents if any(text != "-" for text in ends.contents) else []
-                   for name, ends in self.ends.items()}}
+        return {"notes": self.notes, **{name: ends.kept() for name, ends in self.ends.items()}}
 
     def about_tasks(self) -> list[dict[str, Any]]:
         """What each task had been given before, in the order in which the tables number them."""
-        befores = [self.before.get(name, Before()) for name in self.task_numbers]
-        return [{"name": name, "deliveries": before.deliveries, "blocks": before.blocks}
-                for name, before in zip(self.task_numbers, befores)]
+        return [{"name": name, "deliveries": known.deliveries, "blocks": known.blocks} for name, known in self._known.items()]

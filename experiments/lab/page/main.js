@@ -22,6 +22,13 @@ class Page {
     this.figures = new Figures(this);
     this.finder = new Finder(this);
     this.player = new Player(this);
+    this.fit();
+  }
+
+  /** Takes sizes and colours as they are now, and draws all anew. */
+  fit() {
+    this.readColours();
+    for (const part of [this.timeline, this.overview, this.platter]) part.fit();
     this.drawLegend();
     this.draw("view", "cursor", "lines");
   }
@@ -37,6 +44,21 @@ class Page {
 
   /** Red, green and blue of a colour. */
   rgb(name) { return [1, 3, 5].map(at => parseInt(this.colours[name].slice(at, at + 2), 16)); }
+
+  /** A colour as the dots of a picture have it. */
+  word(name) {
+    const [red, green, blue] = this.rgb(name);
+    return (255 << 24 | blue << 16 | green << 8 | red) >>> 0;
+  }
+
+  /** 256 colours from one to another. */
+  ramp(from, to) {
+    const [first, last] = [this.rgb(from), this.rgb(to)];
+    return Uint32Array.from({ length: 256 }, (_, i) => {
+      const [red, green, blue] = first.map((part, k) => Math.round(part + (last[k] - part) * i / 255));
+      return 255 << 24 | blue << 16 | green << 8 | red;
+    });
+  }
 
   /** A colour on the ground, by its share. */
   mixed(name, share) {
@@ -212,7 +234,7 @@ class Player {
 class Hand {
   constructor(page) {
     this.page = page;
-    this.marks = document.getElementById("marks");
+    this.marks = document.getElementById("timeline");
     this.down = new Map();
     const on = (kind, act) => this.marks.addEventListener(kind, act, { passive: false });
     on("pointerdown", event => this.pressed(event));
@@ -307,10 +329,10 @@ function connect(page) {
   at("zoom-in", "click", () => page.zoom(2, page.centre));
   at("zoom-out", "click", () => page.zoom(0.5, page.centre));
   at("whole", "click", () => page.show(page.run.begin, page.run.end));
-  at("marks", "keydown", event => pressedOnTimeline(page, event));
+  at("timeline", "keydown", event => pressedOnTimeline(page, event));
   at("overview", "pointerdown", event => { event.target.setPointerCapture(event.pointerId); centreAt(page, event); });
   at("overview", "pointermove", event => { if (event.buttons) centreAt(page, event); });
-  const redraw = () => { page.readColours(); page.overview.stale = true; page.drawLegend(); page.draw("view", "cursor", "lines"); };
+  const redraw = () => page.fit();
   matchMedia("(prefers-color-scheme: dark)").addEventListener("change", redraw);
   new ResizeObserver(redraw).observe(document.querySelector("main"));
   window.addEventListener("resize", redraw);

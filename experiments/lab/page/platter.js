@@ -34,10 +34,11 @@ class Platter {
     return this.slots.get(track);
   }
 
+  fit() { this.surface.fit(); }
+
   draw() {
     const { surface, run, page } = this;
     this.state = run.stateAt(page.cursor);
-    surface.fit();
     surface.clear();
     if (!this.state) return;
     this.tracks = this.tracksOf(this.state.act);

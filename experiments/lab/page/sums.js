@@ -1,5 +1,19 @@
 // Sums over time that are had at once for any stretch: what is narrower than a pixel is summed by them, never dropped.
 
+/** How many of the rising numbers are at most the limit; those before `from` are. */
+function countAtMost(numbers, limit, from = 0) {
+  let low = from, high = numbers.length;
+  for (let step = 1; low + step < high; step *= 2) {
+    if (numbers[low + step] > limit) { high = low + step; break; }
+    low += step;
+  }
+  while (low < high) {
+    const middle = (low + high) >>> 1;
+    if (numbers[middle] <= limit) low = middle + 1; else high = middle;
+  }
+  return low;
+}
+
 /** Collects stretches of time in their order; empty ones are left out. */
 class Stretches {
   constructor() { this.begins = []; this.ends = []; }
@@ -21,15 +35,7 @@ class Coverage {
   }
 
   /** The last stretch that has begun by then, or -1. */
-  indexAt(instant, from = 0) {
-    const begins = this.begins;
-    let low = from, high = begins.length;
-    while (low < high) {
-      const middle = (low + high) >>> 1;
-      if (begins[middle] <= instant) low = middle + 1; else high = middle;
-    }
-    return low - 1;
-  }
+  indexAt(instant, from = 0) { return countAtMost(this.begins, instant, from) - 1; }
 
   upTo(instant) {
     const at = this.indexAt(instant);
@@ -37,13 +43,26 @@ class Coverage {
   }
 
   within(begin, end) { return this.upTo(end) - this.upTo(begin); }
+
+  /** The share of each of many steps that is covered. */
+  shares(begin, step, shares) {
+    let at = this.indexAt(begin), before = this.upTo(begin);
+    for (let i = 0; i < shares.length; i++) {
+      const instant = begin + (i + 1) * step;
+      at = this.indexAt(instant, Math.max(0, at));
+      const after = at < 0 ? 0 : this.before[at] + Math.min(instant, this.ends[at]) - this.begins[at];
+      shares[i] = (after - before) / step;
+      before = after;
+    }
+    return shares;
+  }
 }
 
 /** Instants in rising order, counted. */
 class Instants {
   constructor(instants) { this.instants = instants; }
 
-  upTo(instant) { return lastAtMost(this.instants.length, i => this.instants[i], instant) + 1; }
+  upTo(instant) { return countAtMost(this.instants, instant); }
 }
 
 /** A number that changes by one at instants: its value, its mean and its greatest value over any stretch. A value that
@@ -66,7 +85,7 @@ class Steps {
     this.levels = levelsOfGreatest(this.values);
   }
 
-  indexAt(instant) { return lastAtMost(this.times.length, i => this.times[i], instant); }
+  indexAt(instant) { return countAtMost(this.times, instant) - 1; }
 
   at(instant) {
     const index = this.indexAt(instant);
@@ -135,10 +154,19 @@ class Heat {
     for (let i = this.bands; i < this.sums.length; i++) this.sums[i] += this.sums[i - this.bands];
   }
 
-  /** The sum up to an instant; between two borders of bins the straight line. */
-  upTo(instant, band) {
-    const at = Math.min(this.bins, Math.max(0, (instant - this.begin) / this.width)), bin = Math.min(this.bins - 1, Math.floor(at));
-    const low = this.sums[bin * this.bands + band], high = this.sums[(bin + 1) * this.bands + band];
-    return low + (high - low) * (at - bin);
+  /** The share of the time of each of many steps in each band, as `found[step * bands + band]`; between two borders of
+   * bins the sums go in a straight line. */
+  shares(begin, step, found) {
+    const { bands, sums, bins } = this, before = new Float64Array(bands);
+    for (let i = -1; i < found.length / bands; i++) {
+      const at = Math.min(bins, Math.max(0, (begin + (i + 1) * step - this.begin) / this.width)), bin = Math.min(bins - 1, Math.floor(at));
+      const part = at - bin, low = bin * bands;
+      for (let band = 0; band < bands; band++) {
+        const sum = sums[low + band] + (sums[low + bands + band] - sums[low + band]) * part;
+        if (i >= 0) found[i * bands + band] = (sum - before[band]) / step;
+        before[band] = sum;
+      }
+    }
+    return found;
   }
 }

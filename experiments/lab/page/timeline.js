@@ -14,16 +14,15 @@ class Surface {
     this.pen = canvas.getContext("2d");
   }
 
-  /** Takes the size that the page gives it; true where that has changed. */
+  /** Takes the size that the page gives it. */
   fit() {
     const scale = window.devicePixelRatio || 1, width = Math.max(1, Math.round(this.canvas.clientWidth * scale));
     const height = Math.max(1, Math.round(this.canvas.clientHeight * scale));
     this.scale = scale;
     this.em = parseFloat(getComputedStyle(this.canvas).fontSize) * scale;
-    if (width === this.width && height === this.height) return false;
+    if (width === this.width && height === this.height) return;
     this.width = this.canvas.width = width;
     this.height = this.canvas.height = height;
-    return true;
   }
 
   clear() { this.pen.clearRect(0, 0, this.width, this.height); }
@@ -34,6 +33,28 @@ class Surface {
     this.pen.textAlign = align;
     this.pen.fillStyle = colour;
     this.pen.fillText(text, x, y);
+  }
+}
+
+/** A picture dot by dot: thousands of columns are drawn much faster so than one after another. */
+class Dots {
+  constructor(width, height) {
+    this.width = width;
+    this.height = height;
+    this.image = new ImageData(width, height);
+    this.words = new Uint32Array(this.image.data.buffer);
+  }
+
+  fill(left, top, width, height, colour) {
+    for (let y = Math.max(0, top); y < Math.min(this.height, top + height); y++) this.words.fill(colour, y * this.width + left, y * this.width + left + width);
+  }
+
+  /** Columns from below, as high as the heights say; where they are thin, their upper ends alone. */
+  columns(heights, [top, height], colour, thin = Infinity) {
+    const { words, width } = this;
+    for (let row = 1; row <= height; row++)
+      for (let x = 0, at = (top + height - row) * width; x < width; x++, at++)
+        if (heights[x] >= row && heights[x] - row < thin) words[at] = colour;
   }
 }
 
@@ -48,23 +69,27 @@ class Timeline {
     this.page = page;
     this.run = page.run;
     this.base = new Surface(document.getElementById("timeline"));
-    this.top = new Surface(document.getElementById("marks"));
-    this.heat = document.createElement("canvas");
+    this.marks = Object.fromEntries(["selection", "pointer", "cursor"].map(name => [name, document.getElementById(name)]));
   }
 
   /** Where each part stands, in dots. */
   layOut() {
     const { em, width, height } = this.base, narrow = width < 42 * em;
-    this.left = narrow ? 0 : Math.round(9.5 * em);
+    this.left = narrow ? 0 : Math.round(13 * em);
     this.narrow = narrow;
     const lanes = LANES.length * 1.5 * em, axis = 1.9 * em, arrivals = 1.2 * em, queue = 4 * em, gap = 0.6 * em;
     const way = Math.max(6 * em, height - lanes - axis - arrivals - queue - 3 * gap);
     const at = { way: [0, way] };
     at.arrivals = [way + gap, arrivals];
     at.queue = [at.arrivals[0] + arrivals + 2 * this.base.scale, queue];
-    LANES.forEach(([kind], i) => { at[kind] = [Math.round(at.queue[0] + queue + gap + i * 1.5 * em), Math.round(1.2 * em)]; });
+    LANES.forEach(([kind], i) => { at[kind] = [at.queue[0] + queue + gap + i * 1.5 * em, 1.2 * em]; });
     at.axis = [height - axis, axis];
-    this.at = at;
+    this.at = Object.fromEntries(Object.entries(at).map(([part, place]) => [part, place.map(Math.round)]));
+    if (this.picture && this.picture.width === this.dots && this.picture.height === height) return;
+    this.picture = new Dots(this.dots, height);
+    this.heights = new Int32Array(this.dots);
+    this.numbers = new Float32Array(this.dots);
+    this.shares = null;
   }
 
   get dots() { return this.base.width - this.left; }
@@ -82,41 +107,56 @@ class Timeline {
   }
 
   draw() {
+    const { run, page, base, picture } = this;
+    picture.words.fill(0);
+    for (const part of ["way", "queue", ...LANES.map(([kind]) => kind)]) picture.fill(0, this.at[part][0], this.dots, this.at[part][1], page.word("panel"));
+    const instants = this.axis();
+    for (const { x } of instants) picture.fill(x, 0, Math.min(this.thin, this.dots - x), this.at.axis[0], page.word("line"));
+    this.drawZones();
+    const [from, to] = [Math.max(0, run.actAt(page.view.begin)), run.actAt(page.view.end)];
+    const isExact = to - from < EXACT_ACTS && run.gotsFrom[to + 1] - run.gotsFrom[from] < EXACT_GOTS;
+    if (!isExact) this.drawHeat();
+    this.drawArrivals();
+    const most = this.drawQueue();
+    for (const [kind] of LANES) this.drawLane(run.coverages[kind], this.at[kind], page.word(kind));
+    base.clear();
+    base.pen.putImageData(picture.image, this.left, 0);
+    if (isExact) this.drawLines(from, to);
+    this.drawNames(instants, most);
+  }
+
+  /** Takes the size that the page gives it. */
+  fit() {
     this.base.fit();
     this.layOut();
-    this.base.clear();
-    this.drawAxis();
-    this.drawWay();
-    this.drawArrivals();
-    this.drawQueue();
-    for (const [kind, name] of LANES) this.drawLane(this.run.coverages[kind], this.at[kind], this.page.colours[kind], name);
   }
+
+  get thin() { return Math.max(1, Math.round(this.base.scale)); }
 
   /** Marks that move while the rest stays: what is selected, the pointer and the cursor. */
   drawMarks() {
-    const { page, top } = this, { pen } = top;
-    top.fit();
-    top.clear();
-    const line = (instant, colour, width) => {
-      const x = Math.round(this.x(instant));
-      if (x < this.left || x > top.width) return;
-      pen.fillStyle = colour;
-      pen.fillRect(x - width * top.scale / 2, 0, width * top.scale, top.height);
+    const { page, marks, base } = this, place = (mark, begin, end, least) => {
+      const isSeen = begin !== null && end >= page.view.begin && begin <= page.view.end;
+      const from = Math.max(this.left, isSeen ? this.x(begin) : 0) / base.scale, to = Math.min(base.width, isSeen ? this.x(end) : 0) / base.scale;
+      mark.hidden = !isSeen;
+      mark.style.transform = `translateX(${from - (begin === end ? least / 2 : 0)}px)`;
+      mark.style.width = `${Math.max(least, to - from)}px`;
     };
-    if (page.selected !== null) {
-      const [begin, end] = this.run.timesOfRow(page.selected), from = Math.max(this.left, this.x(begin)), to = Math.min(top.width, this.x(end));
-      pen.globalAlpha = 0.16;
-      pen.fillStyle = page.colours.mark;
-      if (to >= from) pen.fillRect(from, 0, Math.max(top.scale, to - from), top.height);
-      pen.globalAlpha = 1;
-    }
-    if (page.pointer !== null) line(page.pointer, page.colours.soft, 1);
-    line(page.cursor, page.colours.mark, 2);
+    const [begin, end] = page.selected === null ? [null, null] : this.run.timesOfRow(page.selected);
+    place(marks.selection, begin, end, 1);
+    place(marks.pointer, page.pointer, page.pointer, 1);
+    place(marks.cursor, page.cursor, page.cursor, 2);
   }
 
-  label(name, [top, height]) {
-    const { base, page } = this;
-    if (!this.narrow) { base.text(name, this.left - 0.6 * base.em, top + height / 2, page.colours.ink, "right"); return; }
+  /** The name of a part, with a figure beside it. */
+  label(name, [top, height], figure = "") {
+    const { base, page } = this, middle = top + height / 2;
+    if (!this.narrow) {
+      base.text(name, this.left - (figure ? 4.3 : 0.6) * base.em, middle, page.colours.ink, "right");
+      base.text(figure, this.left - 0.6 * base.em, middle, page.colours.soft, "right");
+      return;
+    }
+    if (figure) name += `, ${figure}`;
     base.pen.globalAlpha = 0.72;
     base.pen.fillStyle = page.colours.ground;
     base.pen.font = `${0.82 * base.em}px sans-serif`;
@@ -125,77 +165,69 @@ class Timeline {
     base.text(name, 0.3 * base.em, top + height / 2, page.colours.ink);
   }
 
-  /** Instants below, and a line up for each. */
-  drawAxis() {
-    const { base, page } = this, { pen, em } = base, step = roundUp(this.span / this.dots * 7 * em);
-    const [unit, name] = step < 1e3 ? [1, "ns"] : step < 1e6 ? [1e3, "\u00b5s"] : step < 1e9 ? [1e6, "ms"] : [1e9, "s"];
-    const short = step < 1e3 && page.view.end > 1e6 ? [1e3, "\u00b5s"] : [unit, name];
-    for (let instant = Math.ceil(page.view.begin / step) * step; instant <= page.view.end; instant += step) {
-      const x = Math.round(this.x(instant));
-      pen.fillStyle = page.colours.line;
-      pen.fillRect(x, 0, Math.max(1, base.scale), this.at.axis[0]);
-      const text = `${grouped(trimmed(instant / short[0], 3))} ${short[1]}`;
-      const half = 0.25 * em * text.length;
-      if (x + half < base.width && x - half > 0) base.text(text, x, this.at.axis[0] + this.at.axis[1] / 2, page.colours.soft, "center");
-    }
+  /** The instants that are named below: where they stand in the picture, and their names. */
+  axis() {
+    const { base, page } = this, step = roundUp(this.span / this.dots * 7 * base.em), found = [];
+    const least = step < 1e3 && page.view.end < 1e6 ? 1 : step < 1e6 ? 1e3 : step < 1e9 ? 1e6 : 1e9;
+    const name = { 1: "ns", 1e3: "\u00b5s", 1e6: "ms", 1e9: "s" }[least];
+    for (let instant = Math.ceil(page.view.begin / step) * step; instant <= page.view.end; instant += step)
+      found.push({ x: Math.min(this.dots - 1, Math.round(this.x(instant) - this.left)), text: `${grouped(trimmed(instant / least, 3))} ${name}` });
+    return found;
   }
 
-  drawLane(coverage, [top, height], colour, name) {
-    const { pen } = this.base, dots = this.dots, step = this.span / dots;
-    pen.fillStyle = this.page.colours.panel;
-    pen.fillRect(this.left, top, dots, height);
-    pen.fillStyle = colour;
-    let before = coverage.upTo(this.page.view.begin), from = 0, tall = 0;
-    const close = x => {
-      if (tall) pen.fillRect(this.left + from, top + height - tall, x - from, tall);
-    };
-    for (let x = 0; x < dots; x++) {
-      const after = coverage.upTo(this.page.view.begin + (x + 1) * step), share = (after - before) / step;
-      const now = share > 1e-9 ? Math.max(1, Math.round(Math.min(1, share) * height)) : 0;
-      if (now !== tall) { close(x); from = x; tall = now; }
-      before = after;
-    }
-    close(dots);
-    this.label(name, [top, height]);
+  drawLane(coverage, part, colour) {
+    const { heights } = this, shares = coverage.shares(this.page.view.begin, this.span / this.dots, this.numbers);
+    for (let x = 0; x < heights.length; x++) heights[x] = shares[x] > 1e-9 ? Math.max(1, Math.round(Math.min(1, shares[x]) * part[1])) : 0;
+    this.picture.columns(heights, part, colour);
   }
 
   drawArrivals() {
-    const { base, page } = this, [top, height] = this.at.arrivals, dots = this.dots, step = this.span / dots, counts = new Int32Array(dots);
+    const { page, heights } = this, part = this.at.arrivals, step = this.span / this.dots;
     let before = this.run.arrivals.upTo(page.view.begin - 1e-6), greatest = 1;
-    for (let x = 0; x < dots; x++) {
+    for (let x = 0; x < heights.length; x++) {
       const after = this.run.arrivals.upTo(page.view.begin + (x + 1) * step - 1e-6);
-      counts[x] = after - before;
-      greatest = Math.max(greatest, counts[x]);
+      heights[x] = after - before;
+      greatest = Math.max(greatest, heights[x]);
       before = after;
     }
-    base.pen.fillStyle = page.colours.accent;
-    for (let x = 0; x < dots; x++) if (counts[x]) {
-      const tall = Math.max(2, Math.round(height * counts[x] / greatest));
-      base.pen.fillRect(this.left + x, top + height - tall, greatest > 1 ? 1 : base.scale * 1.5, tall);
-    }
-    this.label("arrivals", [top, height]);
+    for (let x = 0; x < heights.length; x++) if (heights[x]) heights[x] = Math.max(2, Math.round(part[1] * heights[x] / greatest));
+    this.picture.columns(heights, part, page.word("accent"));
   }
 
+  /** The greatest and the mean number of waiting requests; gives the number up to which the part goes. */
   drawQueue() {
-    const { base, page } = this, { pen } = base, [top, height] = this.at.queue, dots = this.dots, step = this.span / dots;
-    const greatest = roundUp(Math.max(1, this.run.queue.greatest(page.view.begin, page.view.end)));
-    pen.fillStyle = page.colours.panel;
-    pen.fillRect(this.left, top, dots, height);
-    let area = this.run.queue.areaUpTo(page.view.begin);
-    for (let x = 0; x < dots; x++) {
-      const begin = page.view.begin + x * step, next = this.run.queue.areaUpTo(begin + step);
-      const mean = (next - area) / step / greatest * height, most = this.run.queue.greatest(begin, begin + step) / greatest * height;
-      area = next;
-      pen.fillStyle = page.colours.move;
-      if (mean > 0.01) pen.fillRect(this.left + x, top + height - mean, 1, mean);
-      pen.fillStyle = page.colours.ink;
-      if (most) pen.fillRect(this.left + x, top + height - most, 1, Math.max(1, base.scale));
+    const { page, picture, heights } = this, { queue } = this.run, part = this.at.queue, step = this.span / this.dots, { begin, end } = page.view;
+    const most = roundUp(Math.max(1, queue.greatest(begin, end))), least = most / part[1];
+    const greatest = heights.map((_, x) => Math.round(queue.greatest(begin + x * step, begin + (x + 1) * step) / least));
+    let before = queue.areaUpTo(begin);
+    for (let x = 0; x < heights.length; x++) {
+      const area = queue.areaUpTo(begin + (x + 1) * step);
+      heights[x] = Math.round((area - before) / step / least);
+      before = area;
     }
-    this.label(this.narrow ? `waiting requests, up to ${greatest}` : "waiting requests", this.narrow ? [top, base.em * 1.2] : [top, height]);
-    if (!this.narrow) {
-      base.text(String(greatest), this.left - 0.6 * base.em, top + 0.5 * base.em, page.colours.soft, "right");
-      base.text("0", this.left - 0.6 * base.em, top + height - 0.4 * base.em, page.colours.soft, "right");
+    picture.columns(greatest, part, page.word("line"));
+    picture.columns(heights, part, page.word("move"));
+    picture.columns(greatest, part, page.word("ink"), this.thin);
+    return most;
+  }
+
+  /** The names of all parts, and the figures that belong to them. */
+  drawNames(instants, most) {
+    const { base, page, at, narrow } = this, { em } = base, { soft } = page.colours, { first, last } = this.run.cylinders, { begin, end } = page.view;
+    for (const { x, text } of instants) {
+      const half = 0.25 * em * text.length, middle = this.left + x;
+      if (middle + half < base.width && middle - half > 0) base.text(text, middle, at.axis[0] + at.axis[1] / 2, soft, "center");
     }
+    const right = narrow ? base.width - 0.3 * em : this.left - 0.6 * em, ends = ([top, height], high, low) => {
+      base.text(String(high), right, top + 0.6 * em, soft, "right");
+      base.text(String(low), right, top + height - 0.6 * em, soft, "right");
+    };
+    this.label("cylinder", narrow ? [at.axis[0] * 0, 1.2 * em] : at.way);
+    ends(at.way, last, first);
+    this.label("arrivals", at.arrivals);
+    this.label("waiting requests", narrow ? [at.queue[0], 1.2 * em] : at.queue);
+    ends(at.queue, most, 0);
+    for (const [kind, name] of LANES) this.label(name, at[kind], `${(100 * this.run.coverages[kind].within(begin, end) / this.span).toFixed(1)} %`);
   }
 
   /** The height of a track: cylinders from below, and heads as a part of one. */
@@ -204,28 +236,12 @@ class Timeline {
     return top + height - rim - (track / heads - first + 0.5 / heads) / (last - first + 1) * (height - 2 * rim);
   }
 
-  drawWay() {
-    const { run, page, base } = this, [top, height] = this.at.way;
-    const from = Math.max(0, run.actAt(page.view.begin)), to = run.actAt(page.view.end);
-    base.pen.fillStyle = page.colours.panel;
-    base.pen.fillRect(this.left, top, this.dots, height);
-    this.drawZones();
-    if (to - from < EXACT_ACTS && run.gotsFrom[to + 1] - run.gotsFrom[from] < EXACT_GOTS) this.drawLines(from, to);
-    else this.drawHeat();
-    const { first, last } = run.cylinders, em = base.em;
-    this.label(this.narrow ? "cylinder" : "cylinder", this.narrow ? [top + height - 1.2 * em, 1.2 * em] : [top, height]);
-    const x = this.narrow ? base.width - 0.3 * em : this.left - 0.6 * em;
-    base.text(String(last), x, top + 0.6 * em, page.colours.soft, "right");
-    base.text(String(first), x, top + height - 0.6 * em, page.colours.soft, "right");
-  }
-
   /** The borders of the zones. */
   drawZones() {
-    const { run, page, base } = this, { zones, heads } = run.disk, [top, height] = this.at.way;
-    base.pen.fillStyle = page.colours.line;
+    const { page } = this, { zones, heads } = this.run.disk, [top, height] = this.at.way;
     for (const zone of zones.slice(1)) {
       const y = Math.round((this.y(zone.first * heads) + this.y(zone.first * heads - 1)) / 2);
-      if (y > top && y < top + height) base.pen.fillRect(this.left, y, this.dots, Math.max(1, base.scale));
+      if (y > top && y < top + height) this.picture.fill(0, y, this.dots, this.thin, page.word("line"));
     }
   }
 
@@ -259,26 +275,20 @@ class Timeline {
     pen.restore();
   }
 
-  /** How long the head is in each band of cylinders: the darker, the longer. */
+  /** How long the head is in each band of cylinders: the stronger, the longer. */
   drawHeat() {
-    const { heat } = this.run.cylinders, { page, base } = this, dots = this.dots, { bands } = heat, step = this.span / dots;
-    if (this.heat.width !== dots || this.heat.height !== bands) { this.heat.width = dots; this.heat.height = bands; }
-    const pen = this.heat.getContext("2d"), image = pen.createImageData(dots, bands), [red, green, blue] = page.rgb("heat");
-    for (let band = 0; band < bands; band++) {
-      let before = heat.upTo(page.view.begin, band), at = (bands - 1 - band) * dots * 4;
-      for (let x = 0; x < dots; x++, at += 4) {
-        const after = heat.upTo(page.view.begin + (x + 1) * step, band), share = (after - before) / step;
-        before = after;
-        if (share <= 0) continue;
-        image.data[at] = red;
-        image.data[at + 1] = green;
-        image.data[at + 2] = blue;
-        image.data[at + 3] = 24 + 231 * Math.sqrt(Math.min(1, share));
+    const { heat } = this.run.cylinders, { page, picture, dots } = this, { bands } = heat, [top, height] = this.at.way;
+    this.shares = this.shares || new Float32Array(dots * bands);
+    const shares = heat.shares(page.view.begin, this.span / dots, this.shares), colours = page.ramp("panel", "heat");
+    for (let y = 0, before = -1; y < height; y++) {
+      const band = Math.floor((height - 1 - y) / height * bands), row = (top + y) * dots;
+      if (band === before) { picture.words.copyWithin(row, row - dots, row); continue; }
+      before = band;
+      for (let x = 0; x < dots; x++) {
+        const share = shares[x * bands + band];
+        if (share > 0) picture.words[row + x] = colours[24 + Math.round(231 * Math.sqrt(Math.min(1, share)))];
       }
     }
-    pen.putImageData(image, 0, 0);
-    base.pen.imageSmoothingEnabled = false;
-    base.pen.drawImage(this.heat, this.left, this.at.way[0], dots, this.at.way[1]);
   }
 }
 
@@ -288,12 +298,16 @@ class Overview {
     this.page = page;
     this.surface = new Surface(document.getElementById("overview"));
     this.kept = document.createElement("canvas");
-    this.stale = true;
   }
 
   instantAt(x) {
     const { begin, end } = this.page.run;
     return begin + x / this.surface.canvas.clientWidth * (end - begin);
+  }
+
+  fit() {
+    this.surface.fit();
+    this.stale = true;
   }
 
   /** Draws the sums once for a size and a set of colours. */
@@ -318,7 +332,7 @@ class Overview {
 
   draw() {
     const { page, surface } = this, { pen } = surface, { begin, end } = page.run;
-    if (surface.fit() || this.stale) this.drawSums();
+    if (this.stale) this.drawSums();
     surface.clear();
     pen.fillStyle = page.colours.panel;
     pen.fillRect(0, 0, surface.width, surface.height);
