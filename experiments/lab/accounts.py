@@ -1,13 +1,13 @@
 """Where the head's time goes and what the background gets of it, added up row by row."""
 
 from dataclasses import dataclass, field
-from typing import Iterable
+from typing import Iterable, Iterator
 
 from lab.disk import Disk
-from lab.reports import Gap, Got, Idle, Note, Row
+from lab.reports import Gap, Got, Idle, Note, Row, Spill, Wrote
 
-MOVES, USED, DETOURS, UNUSED, TRANSFER, IDLE_USED, IDLE_UNUSED = range(7)
-PARTS = ["seek", "wait used", "detour moves", "wait unused", "transfer", "idle used", "idle unused"]
+MOVES, USED, DETOURS, UNUSED, TRANSFER, IDLE_USED, IDLE_UNUSED, WRITTEN = range(8)
+PARTS = ["seek", "wait used", "detour moves", "wait unused", "transfer", "idle used", "idle unused"]  # without puts
 HOWS = ("gap", "idle", "ride")
 
 
@@ -15,13 +15,15 @@ HOWS = ("gap", "idle", "ride")
 class Account:
     """What was counted over some stretch of a run."""
 
-    spent: list[int] = field(default_factory=lambda: [0] * len(PARTS))  # nanoseconds, by PARTS
+    spent: list[int] = field(default_factory=lambda: [0] * (WRITTEN + 1))  # nanoseconds, by what they went into
     got: dict[str, int] = field(default_factory=lambda: dict.fromkeys(HOWS, 0))  # bytes for the background
     requests: int = 0
     sectors: int = 0  # of the foreground
     detours: int = 0
     responses: int = 0  # nanoseconds, summed
     services: int = 0  # nanoseconds, summed
+    spills: int = 0
+    puts: int = 0  # bytes written in free gaps
 
     @property
     def whole(self) -> int:
@@ -45,7 +47,9 @@ class Bookkeeper:
         self.width = width
         self.accounts = [Account()]
         self._passages: list[tuple[int, int]] = []  # of the blocks that the present gap or idle stay delivers
+        self._written: list[tuple[int, int]] = []  # passages of the blocks that were written in the present gap
         self._idle = False
+        self._gap: Gap | None = None
 
     def add(self, row: Row) -> None:
         """Counts a row; all rows are to come in their order, the run's `end` last."""
@@ -59,6 +63,11 @@ class Bookkeeper:
         elif isinstance(row, Idle):
             self._open(row.begin, True)
             self.accounts[-1].spent[IDLE_UNUSED] += row.end - row.begin
+        elif isinstance(row, Spill):
+            self._add_spill(row)
+        elif isinstance(row, Wrote):
+            self.accounts[-1].puts += row.length * self.disk.sector_bytes
+            self._written.append((row.begin, row.end))
         elif isinstance(row, Note) and row.verb == "end":
             self._close()
 
@@ -73,10 +82,28 @@ class Bookkeeper:
         used = union_length(self._passages)
         self._passages = []
         to, of = (IDLE_USED, IDLE_UNUSED) if self._idle else (USED, UNUSED)
-        self.accounts[-1].spent[to] += used
-        self.accounts[-1].spent[of] -= used
+        written = union_length(self._written)
+        self._written = []
+        spent = self.accounts[-1].spent
+        spent[to] += used
+        spent[of] -= used
+        spent[WRITTEN] += written
+        spent[UNUSED] -= written
+
+    def _add_spill(self, spill: Spill) -> None:
+        """The moves to a track that is written and on, beyond the way that the gap takes anyway."""
+        gap, account = self._gap, self.accounts[-1]
+        account.spills += 1
+        if gap is not None:
+            write = not gap.served.is_read
+            more = (self.disk.positioning(gap.source, spill.track, True)
+                    + self.disk.positioning(spill.track, gap.target, write)
+                    - self.disk.positioning(gap.source, gap.target, write))
+            account.spent[DETOURS] += more
+            account.spent[UNUSED] -= more
 
     def _add_gap(self, gap: Gap) -> None:
+        self._gap = gap
         account, served = self.accounts[-1], gap.served
         needed = moved = self.disk.positioning(gap.source, gap.target, not served.is_read)
         if gap.by is not None:
@@ -93,13 +120,18 @@ class Bookkeeper:
         account.services += served.finish - served.start
 
 
+def merged(passages: Iterable[tuple[int, int]]) -> Iterator[tuple[int, int]]:
+    """The time in which at least one of the passages lasts, as stretches that don't overlap."""
+    covered = 0
+    for begin, end in sorted(passages):
+        if end > covered:
+            yield max(begin, covered), end
+            covered = end
+
+
 def union_length(passages: Iterable[tuple[int, int]]) -> int:
     """How long at least one of the passages lasts."""
-    length = covered = 0
-    for begin, end in sorted(passages):
-        length += max(0, end - max(begin, covered))
-        covered = max(covered, end)
-    return length
+    return sum(end - begin for begin, end in merged(passages))
 
 
 def accounts(disk: Disk, rows: Iterable[Row], width: int | None = None) -> list[Account]:
@@ -108,5 +140,3 @@ def accounts(disk: Disk, rows: Iterable[Row], width: int | None = None) -> list[
     for row in rows:
         keeper.add(row)
     return keeper.accounts
-
-

@@ -4,9 +4,10 @@ take the time that the disk gives it, and each sector must lie on the track that
 from typing import Iterable, Iterator
 
 from lab.disk import Disk, Stretch, Track
-from lab.reports import Gap, Got, Idle, Note, ReportError, Row, Served
+from lab.reports import Gap, Got, Idle, ReportError, Row, Served, Spill, Wrote
 
-Judged = Gap | Idle | Got
+Judged = Gap | Idle | Got | Spill | Wrote
+Passing = Gap | Got | Wrote
 
 
 class Judge:
@@ -15,6 +16,7 @@ class Judge:
     def __init__(self, disk: Disk) -> None:
         self.disk = disk
         self._stay: Gap | Idle | None = None  # where the blocks that follow are read
+        self._spill: Spill | None = None  # where those that follow are written
 
     def see(self, row: Row) -> None:
         """Refuses the row if it isn't of this disk."""
@@ -22,6 +24,10 @@ class Judge:
             self._got(row)
         elif isinstance(row, Gap):
             self._gap(row)
+        elif isinstance(row, Spill):
+            self._to_spill(row)
+        elif isinstance(row, Wrote):
+            self._wrote(row)
         elif isinstance(row, Idle):
             self._on_disk(row, row.track)
             self._stay = row
@@ -66,22 +72,44 @@ class Judge:
         return now
 
     def _got(self, got: Got) -> None:
-        first = self._stretch(got, got.sector, got.length)
-        self._at_angle(got, got.sector, first, got.begin)
-        end = got.begin + self._lasts(got, first)
-        if got.end != end:
-            self._refuse(got, f"block {got.number} of {got.task}, which begins to pass at {got.begin}, ends at {end} and "
-                              f"not at {got.end}")
-        if not self._is_reached(got, first.track):
-            self._refuse(got, f"block {got.number} of {got.task} lies on track {_text(first.track)}, where the head isn't "
-                              f"from {got.begin} to {got.end}")
+        track = self._passing(got)
+        if not self._is_reached(got, track):
+            self._refuse(got, f"{_name(got)} lies on track {_text(track)}, where the head isn't from {got.begin} to "
+                              f"{got.end}")
 
-    def _lasts(self, got: Got, first: Stretch) -> int:
-        """How long the block takes to pass, from its first sector to its last, within one rotation."""
-        if first.length == got.length:
+    def _passing(self, row: Got | Wrote) -> Track:
+        """The track of a block, which is to pass from its first sector to its last within one rotation."""
+        first = self._stretch(row, row.sector, row.length)
+        self._at_angle(row, row.sector, first, row.begin)
+        end = row.begin + self._lasts(row, first)
+        if row.end != end:
+            self._refuse(row, f"{_name(row)}, which begins to pass at {row.begin}, ends at {end} and not at {row.end}")
+        return first.track
+
+    def _lasts(self, row: Got | Wrote, first: Stretch) -> int:
+        if first.length == row.length:
             return self.disk.passage(first)
-        last = self.disk.stretch(got.sector + got.length - 1, 1)
+        last = self.disk.stretch(row.sector + row.length - 1, 1)
         return (self.disk.angle(last) + self.disk.passage(last) - self.disk.angle(first)) % self.disk.turn or self.disk.turn
+
+    def _to_spill(self, spill: Spill) -> None:
+        self._on_disk(spill, spill.track)
+        gap = self._stay
+        if not isinstance(gap, Gap):
+            self._refuse(spill, "there is no gap before it")
+            return
+        come = gap.now + self.disk.positioning(gap.source, spill.track, True)
+        there = spill.end + self.disk.positioning(spill.track, gap.target, not gap.served.is_read)
+        if come != spill.begin or spill.end < come or there > gap.deadline:
+            self._refuse(spill, f"the head comes to track {_text(spill.track)} at {come} and is on {_text(gap.target)} at "
+                                f"{there}, which doesn't fit the gap until {gap.deadline}")
+        self._spill = spill
+
+    def _wrote(self, wrote: Wrote) -> None:
+        track, spill = self._passing(wrote), self._spill
+        if spill is None or track != spill.track or wrote.begin < spill.begin or wrote.end > spill.end:
+            self._refuse(wrote, f"{_name(wrote)} lies on track {_text(track)}, where the head isn't from {wrote.begin} to "
+                                f"{wrote.end}")
 
     def _is_reached(self, got: Got, track: Track) -> bool:
         """Whether the head is on the block's track while it passes."""
@@ -102,7 +130,7 @@ class Judge:
         there = stay.leave + self.disk.positioning(early, stay.target, not served.is_read)
         return track == stay.target and there <= got.begin and got.end <= stay.deadline
 
-    def _stretch(self, row: Gap | Got, sector: int, length: int) -> Stretch:
+    def _stretch(self, row: Passing, sector: int, length: int) -> Stretch:
         if not 0 < length <= self.disk.sectors - sector:
             self._refuse(row, f"sectors {sector} to {sector + length - 1} aren't on it: it has {self.disk.sectors}")
         return self.disk.stretch(sector, length)
@@ -125,7 +153,11 @@ def _place(row: Judged) -> str:
     """Which line it is; a gap that is known by the foreground report alone stands there."""
     if isinstance(row, Gap) and not row.line:
         return f"line {row.served.line} of the foreground report"
-    return f"line {row.line} of the background report"
+    return f"line {row.line} of the {'text of spills' if isinstance(row, Spill | Wrote) else 'background report'}"
+
+
+def _name(row: Got | Wrote) -> str:
+    return f"a block of put {row.put}" if isinstance(row, Wrote) else f"block {row.number} of {row.task}"
 
 
 def _text(track: Track) -> str:

@@ -59,6 +59,8 @@ class Disk:
         self.cylinders = last.last + 1
         self.sectors = last.begin + (last.last - last.first + 1) * last.data
         self._begins = [zone.begin for zone in self.zones]
+        self._begin_angles: dict[int, list[int]] = {}
+        self._last_run = (0, 0, (0, 0), 0, 1)  # sectors of a track that were looked up: from, to, track, slot, slots
         self.seek = lru_cache(maxsize=None)(self._seek)
         self._listed = lru_cache(maxsize=None)(self._data_list)
 
@@ -101,24 +103,37 @@ class Disk:
 
     def angle(self, stretch: Stretch) -> int:
         """When in a rotation the stretch begins to pass, in nanoseconds."""
-        return stretch.slot * self.turn // stretch.slots
+        return self._angles(stretch.slots)[stretch.slot]
 
     def passage(self, stretch: Stretch) -> int:
         """How long the stretch takes from the beginning of its first slot to the end of its last."""
-        turns, slot = divmod(stretch.slot + stretch.length, stretch.slots)
-        return turns * self.turn + slot * self.turn // stretch.slots - self.angle(stretch)
+        _, slot, slots, length = stretch
+        angles = self._angles(slots)
+        if slot + length <= slots:
+            return angles[slot + length] - angles[slot]
+        turns, last = divmod(slot + length, slots)
+        return turns * self.turn + angles[last] - angles[slot]
+
+    def _angles(self, slots: int) -> list[int]:
+        """When each of so many slots of a track begins, and the end of the last."""
+        if slots not in self._begin_angles:
+            self._begin_angles[slots] = [slot * self.turn // slots for slot in range(slots + 1)]
+        return self._begin_angles[slots]
 
     def stretch(self, sector: int, count: int) -> Stretch:
         """Where `sector` lies, and how many of the sectors from it on follow in the next slots of its track."""
-        zone = self.zones[bisect_right(self._begins, sector) - 1]
-        cylinder, index = divmod(sector - zone.begin, zone.data)
-        cylinder += zone.first
-        if cylinder in self._defects or cylinder in self._grown:
-            return _listed_stretch(self._listed(cylinder), index, count, zone.slots)
-        head, place = divmod(index, zone.track_data)
-        slot = (zone.offset((cylinder, head), self.heads) + place) % zone.slots
-        there = min(count, zone.track_data - place, zone.data - index)
-        return Stretch((cylinder, head), slot, zone.slots, there)
+        begin, end, track, first, slots = self._last_run
+        if not begin <= sector < end:
+            zone = self.zones[bisect_right(self._begins, sector) - 1]
+            cylinder, index = divmod(sector - zone.begin, zone.data)
+            cylinder += zone.first
+            if cylinder in self._defects or cylinder in self._grown:
+                return _listed_stretch(self._listed(cylinder), index, count, zone.slots)
+            head, place = divmod(index, zone.track_data)
+            begin, track, slots = sector - place, (cylinder, head), zone.slots
+            first, end = zone.offset(track, self.heads), begin + min(zone.track_data, zone.data - index + place)
+            self._last_run = (begin, end, track, first, slots)
+        return Stretch(track, (first + sector - begin) % slots, slots, min(count, end - sector))
 
     def _data_list(self, cylinder: int) -> list[tuple[Track, int]]:
         """The track and slot of each sector of a cylinder with defects, in order of sectors."""

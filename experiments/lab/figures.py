@@ -1,41 +1,73 @@
-"""The figures of a pair of reports, and the page that shows them."""
+"""The figures of a run, by group and name."""
 
 from array import array
+from fractions import Fraction
 from typing import Any
 
-from lab.accounts import DETOURS, HOWS, IDLE_UNUSED, IDLE_USED, MOVES, TRANSFER, UNUSED, USED, Account, Bookkeeper
-from lab.angles import checked
+from lab.accounts import DETOURS, HOWS, IDLE_UNUSED, IDLE_USED, MOVES, TRANSFER, UNUSED, USED, WRITTEN, Account, Bookkeeper
 from lab.disk import Disk
-from lab.reports import Gap, rows
+from lab.ending import Ending, ending_of
+from lab.reading import Reports, run_rows
+from lab.reports import Gap, Note, Spilled
 from lab.tasks import Task, Tasks
 
-PERCENTILES = (("median", 50), ("95th percentile", 95), ("99th percentile", 99))
+PERCENTILES: dict[str, int | Fraction] = {"median": 50, "90th percentile": 90, "95th percentile": 95,
+                                          "99th percentile": 99, "99.9th percentile": Fraction(999, 10)}
+STEPS = 10  # into which a run is cut for what is left over time
 
 
-def percentile(ascending: "array[int]", percent: int) -> int:
+def percentile(ascending: "array[int]", percent: int | Fraction) -> int:
     """The least of the values that so many percent of them don't exceed."""
-    return ascending[-(-len(ascending) * percent // 100) - 1]
+    return ascending[-int(-len(ascending) * percent // 100) - 1]
 
 
-def figures_of(disk: Disk, fore: str, back: str) -> dict[str, Any]:
-    """All figures of two reports, read once as a stream: response times are held, eight bytes a request, nothing else.
+def figures_of(disk: Disk, reports: Reports) -> dict[str, Any]:
+    """All figures of a run, read once as a stream: response times are held, eight bytes a request, and a bit a block.
 
-    Times are in nanoseconds, shares in percent of the whole run, rates in a second, megabytes are 10^6 bytes."""
-    keeper, tasks, responses = Bookkeeper(disk), Tasks(), array("q")
-    for row in checked(disk, rows(fore, back)):
+    Times are in nanoseconds, shares in percent of the whole run, rates in a second, megabytes are 10^6 bytes. Without a
+    background report `background` is None and there are no tasks; without a text of spills `spills` is None."""
+    ending = ending_of(reports.back) if reports.back is not None else Ending(0, {})
+    instants = [ending.end * step // STEPS for step in range(STEPS + 1)]
+    keeper, tasks, responses = Bookkeeper(disk), Tasks(ending, instants), array("q")
+    end, spilled = 0, None
+    for row in run_rows(disk, reports):
         keeper.add(row)
         tasks.add(row)
         if isinstance(row, Gap):
             responses.append(row.served.finish - row.served.arrival)
+        elif isinstance(row, Spilled):
+            spilled = row
+        elif isinstance(row, Note) and row.verb == "end":
+            end = int(row.fields[0])
     account = keeper.accounts[0]
+    ascending = array("q", sorted(responses))
     return {
-        "end": tasks.end,
+        "end": end,
         "foreground": _foreground(disk, account),
-        "response": _response(account, responses),
+        "response": _response(account, ascending),
+        "histogram": histogram(ascending),
         "time": _shares(account),
-        "background": _background(disk, account),
-        "tasks": {name: _task(task) for name, task in tasks.by_name.items()},
+        "background": _background(account) if reports.back is not None else None,
+        "spills": _spills(account, spilled),
+        "tasks": {name: _task(task, instants) for name, task in tasks.by_name.items()},
     }
+
+
+def histogram(ascending: "array[int]") -> list[dict[str, int]]:
+    """How many of the values, which ascend, lie in each of the ranges 1, 2, 5, 10, .. nanoseconds, from the first range
+    that has one to the last. A range has its lower end and not its upper one."""
+    ranges: list[dict[str, int]] = []
+    at, low, factors = 0, 0, (1, 2, 5)
+    step = 0
+    while at < len(ascending):
+        high = factors[step % 3] * 10 ** (step // 3)
+        behind = at
+        while behind < len(ascending) and ascending[behind] < high:
+            behind += 1
+        if ranges or behind > at:
+            ranges.append({"from": low, "to": high, "requests": behind - at})
+        at, low, step = behind, high, step + 1
+    return ranges
 
 
 def _foreground(disk: Disk, account: Account) -> dict[str, Any]:
@@ -45,61 +77,53 @@ def _foreground(disk: Disk, account: Account) -> dict[str, Any]:
             "MB/s": bytes_ / seconds / 1e6}
 
 
-def _response(account: Account, responses: "array[int]") -> dict[str, Any]:
-    if not responses:
+def _response(account: Account, ascending: "array[int]") -> dict[str, Any]:
+    if not ascending:
         return {}
-    ascending = array("q", sorted(responses))
     found: dict[str, Any] = {"mean": account.responses / account.requests}
-    found |= {name: percentile(ascending, percent) for name, percent in PERCENTILES}
+    found |= {name: percentile(ascending, percent) for name, percent in PERCENTILES.items()}
     return found | {"greatest": ascending[-1], "mean service": account.services / account.requests}
 
 
 def _shares(account: Account) -> dict[str, Any]:
     return {"seek": account.percent(MOVES), "rotational wait used": account.percent(USED),
-            "rotational wait unused": account.percent(UNUSED), "detour moves": account.percent(DETOURS),
-            "transfer": account.percent(TRANSFER), "idle used": account.percent(IDLE_USED),
-            "idle unused": account.percent(IDLE_UNUSED)}
+            "rotational wait written": account.percent(WRITTEN), "rotational wait unused": account.percent(UNUSED),
+            "detour moves": account.percent(DETOURS), "transfer": account.percent(TRANSFER),
+            "idle used": account.percent(IDLE_USED), "idle unused": account.percent(IDLE_UNUSED)}
 
 
-def _background(disk: Disk, account: Account) -> dict[str, Any]:
+def _background(account: Account) -> dict[str, Any]:
     found: dict[str, Any] = {f"bytes by {how}": account.got[how] for how in HOWS}
+    found |= {f"MB/s by {how}": account.megabytes_a_second(how) for how in HOWS}
     found |= {"bytes": sum(account.got.values()), "MB/s": account.megabytes_a_second()}
     detours = 100 * account.detours / account.requests if account.requests else 0.0
     return found | {"gaps with a detour": detours}
 
 
-def _task(task: Task) -> dict[str, Any]:
-    return {"kind": task.kind, "blocks": task.blocks, "delivered": task.delivered, "aborted": task.aborted,
-            "left": task.left, "complete": task.complete, "first delivery": task.first, "last delivery": task.last,
-            "completion": task.done, "seal": task.sealed, "blocks read again": task.again,
-            "unreadable sectors": task.unreadable, "segments cleaned": task.segments}
+def _spills(account: Account, spilled: Spilled | None) -> dict[str, Any] | None:
+    if spilled is None:
+        return None
+    seconds = account.whole / 1e9 or 1.0
+    gaps = 100 * account.spills / account.requests if account.requests else 0.0
+    return {"spills": account.spills, "gaps with a spill": gaps, "bytes": account.puts,
+            "MB/s": account.puts / seconds / 1e6, "sectors written": spilled.written, "sectors left": spilled.left}
 
 
-def page_of(figures: dict[str, Any]) -> str:
-    """The figures as a page of text: times in milliseconds, shares in percent."""
-    fore, back = figures["foreground"], figures["background"]
-    lines = [f"run          {_ms(figures['end'])}",
-             f"foreground   {fore['requests']} requests, {fore['requests a second']:.2f} a second, "
-             f"{fore['bytes']} bytes, {fore['MB/s']:.3f} MB/s"]
-    lines += [f"response     {name:<16}{_ms(time)}" for name, time in figures["response"].items()]
-    lines += [f"head's time  {name:<22}{share:7.2f} %" for name, share in figures["time"].items()]
-    lines += [f"background   {back['bytes']} bytes, {back['MB/s']:.3f} MB/s"]
-    lines += [f"             {back[f'bytes by {how}']} bytes by {how}" for how in HOWS]
-    lines += [f"             {back['gaps with a detour']:.2f} % of the gaps with a detour"]
-    for name, task in figures["tasks"].items():
-        lines += _task_lines(name, task)
-    return "\n".join(lines) + "\n"
+def _task(task: Task, instants: list[int]) -> dict[str, Any]:
+    at_end = task.at_end
+    found = {"kind": at_end.kind, "blocks": at_end.blocks, "delivered": at_end.delivered, "aborted": at_end.aborted,
+             "left": at_end.left, "complete": at_end.complete, "first delivery": task.first, "last delivery": task.last,
+             "completion": task.done, "seal": task.sealed, "blocks read again": task.again,
+             "unreadable sectors": task.unreadable, "segments cleaned": task.segments}
+    found["left over time"] = [{"at": at, "left": left} for at, left in zip(instants, task.over_time)]
+    return found | _outlook(task, instants)
 
 
-def _task_lines(name: str, task: dict[str, Any]) -> list[str]:
-    state = "complete" if task["complete"] else "open"
-    lines = [f"task {name}    {task['kind']}, {state}: {task['delivered']} of {task['blocks']} blocks delivered, "
-             f"{task['aborted']} aborted, {task['left']} left, {task['blocks read again']} read again"]
-    instants = [f"{what} {_ms(task[what])}" for what in ("first delivery", "last delivery", "completion", "seal")
-                if task[what] is not None]
-    counts = [f"{task[what]} {what}" for what in ("unreadable sectors", "segments cleaned") if task[what]]
-    return lines + [f"             {text}" for text in instants + counts]
-
-
-def _ms(nanoseconds: float) -> str:
-    return f"{nanoseconds / 1e6:.6f} ms"
+def _outlook(task: Task, instants: list[int]) -> dict[str, Any]:
+    """How fast less was left in the last tenth, and when nothing would be left if it went on so, which it needn't do."""
+    lasted = instants[-1] - instants[-2]
+    fewer = task.over_time[-2] - task.over_time[-1]
+    rate = fewer / lasted * 1e9 if lasted else 0.0
+    left = task.at_end.left
+    at = instants[-1] + left * lasted // fewer if left and fewer > 0 else None
+    return {"blocks a second in the last tenth": rate, "complete at that rate": at}

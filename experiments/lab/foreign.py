@@ -1,100 +1,117 @@
-"""Traces of other tools, line by line: fio's log of each I/O, blkparse's text, and DiskSim's ASCII format."""
+"""What the readers of other tools' traces share: accesses, losses, exact numbers, and which device is meant."""
 
+import re
 from collections import Counter
+from fractions import Fraction
 from typing import Callable, Iterable, Iterator, NamedTuple
+
+from lab.refusals import WrongInput
+
+LINUX_SECTOR = 512  # bytes; what the kernel's block layer counts in
+SECOND, MILLISECOND, MICROSECOND, FILETIME = 1_000_000_000, 1_000_000, 1_000, 100  # nanoseconds
+
+Losses = Counter[str]  # what isn't carried over, and how often
+Lines = Iterable[tuple[int, str]]  # numbered from 1 on
+
+OTHER_DEVICE = "which device it was: accesses of several devices are laid on the same disk (name one by --device, or all)"
 
 
 class Access(NamedTuple):
     """One access as a tool wrote it down; `arrival` in nanoseconds from any beginning, place and length in bytes."""
 
     arrival: int
+    device: str  # empty where the log names none
     begin: int
     length: int
     is_read: bool
 
 
-class LineError(Exception):
-    """A line that isn't of the tool's format."""
+class LineError(WrongInput):
+    """A line that isn't of the tool's format, or a device that isn't in the log."""
 
 
-Losses = Counter[str]  # what isn't carried over, and how often
-OTHER_DEVICE = "which device it was: accesses of further devices are laid on the same disk (name one by --device)"
-LINUX_SECTOR = 512  # bytes; what the kernel's block layer counts in
+class Format(NamedTuple):
+    """A format of traces: what a line of it is, and its reader."""
+
+    about: str  # where such a log comes from
+    line: str  # what a line has
+    read: Callable[[Lines, Losses, int], Iterator[Access]]  # numbered lines, losses, bytes of a block: accesses
 
 
-def fio_accesses(lines: Iterable[str], losses: Losses, _device: str | None, _unit: int) -> Iterator[Access]:
-    """A latency log with offsets: completion in ms, latency in ns, direction, length in bytes, offset in bytes."""
-    losses["completion times are whole milliseconds, so arrivals are that exact at most"] = 0
-    for number, line in enumerate(lines, 1):
-        fields = [field.strip() for field in line.split(",")]
-        if fields == [""]:
-            continue
-        if len(fields) < 5:
-            raise LineError(f"line {number}: fewer than five fields; was the log written with log_offset=1?")
-        time, latency, direction, length, offset = _numbers(number, fields[:5])
-        if length == 0:
-            raise LineError(f"line {number}: an average and no single access; write the log without log_avg_msec")
-        if direction not in (0, 1):
-            losses["trims"] += 1
-            continue
-        yield Access(time * 1_000_000 - latency, offset, length, direction == 0)
+class BadLine(Exception):
+    """A line that a reader can't take; what is wrong with it, if more can be said than what was expected."""
 
 
-def blktrace_accesses(lines: Iterable[str], losses: Losses, device: str | None, _unit: int) -> Iterator[Access]:
-    """blkparse's default output. Accesses arrive where they are queued (action Q); the other actions tell no more."""
-    seen = device
-    for line in lines:
-        fields = line.split()
-        if len(fields) < 7 or "," not in fields[0] or not fields[2].isdigit():
-            losses["lines that are no event (messages, the summary)"] += bool(fields)
-        elif device not in (None, fields[0]):
-            losses["events of other devices"] += 1
-        elif fields[5] != "Q":
-            losses["events other than Q (their times and merges)"] += 1
-        elif len(fields) < 10 or fields[8] != "+" or "D" in fields[6] or not set(fields[6]) & set("RW"):
-            losses["queued flushes, discards and other accesses without data"] += 1
-        else:
-            seen = seen or fields[0]
-            losses[OTHER_DEVICE] += fields[0] != seen
-            seconds, fraction = fields[3].split(".")
-            arrival = int(seconds) * 1_000_000_000 + int(fraction[:9].ljust(9, "0"))
-            yield Access(arrival, int(fields[7]) * LINUX_SECTOR, int(fields[9]) * LINUX_SECTOR, "R" in fields[6])
+def accesses_of(form: Format, lines: Lines, losses: Losses, block_bytes: int) -> Iterator[Access]:
+    """The accesses of a log; a line that isn't of the format is named, with what was expected."""
+    last = (0, "")
 
+    def watched() -> Iterator[tuple[int, str]]:
+        nonlocal last
+        for last in lines:
+            yield last
 
-def disksim_accesses(lines: Iterable[str], losses: Losses, device: str | None, unit: int) -> Iterator[Access]:
-    """Arrival in ms, device, block, blocks, flags in hexadecimal of which bit 0 is a read; blocks have `unit` bytes."""
-    seen = device
-    for number, line in enumerate(lines, 1):
-        fields = line.split()
-        if not fields:
-            continue
-        if len(fields) < 5:
-            raise LineError(f"line {number}: fewer than five fields")
-        begin, length = _numbers(number, fields[2:4])
-        flags, arrival = _flags_and_arrival(number, fields)
-        losses["flags other than the read bit"] += flags > 1
-        if device not in (None, fields[1]):
-            losses["requests of other devices"] += 1
-            continue
-        seen = seen or fields[1]
-        losses[OTHER_DEVICE] += fields[1] != seen
-        yield Access(arrival, begin * unit, length * unit, flags & 1 == 1)
-
-
-def _numbers(line: int, fields: list[str]) -> list[int]:
     try:
-        return [int(field) for field in fields]
-    except ValueError as fault:
-        raise LineError(f"line {line}: {fault}") from None
+        yield from form.read(watched(), losses, block_bytes)
+    except BadLine as fault:
+        said = f" ({fault})" if str(fault) else ""
+        raise LineError(f"line {last[0]}: {_short(last[1])}{said}; expected: {form.line}") from None
 
 
-def _flags_and_arrival(line: int, fields: list[str]) -> tuple[int, int]:
-    """The flags of a line of DiskSim's, and its arrival in nanoseconds."""
-    try:
-        return int(fields[4], 16), round(float(fields[0]) * 1_000_000)
-    except ValueError as fault:
-        raise LineError(f"line {line}: {fault}") from None
+def _short(line: str) -> str:
+    text = line.strip()
+    return repr(text if len(text) <= 70 else text[:67] + "...") if text else "an empty line"
 
 
-Reader = Callable[[Iterable[str], Losses, str | None, int], Iterator[Access]]
-READERS: dict[str, Reader] = {"fio": fio_accesses, "blktrace": blktrace_accesses, "disksim": disksim_accesses}
+NUMBER = re.compile(r"\d{1,30}")
+DECIMAL = re.compile(r"(\d{1,30})(?:\.(\d{0,30}))?(?:[eE]([+-]?\d{1,2}))?")
+
+
+def number(text: str) -> int:
+    """A whole number that isn't negative."""
+    if not NUMBER.fullmatch(text):
+        raise BadLine(f"{text[:30]!r} is no whole number")
+    return int(text)
+
+
+def nanoseconds(text: str, unit: int) -> int:
+    """A time that has a point, in units of so many nanoseconds; exact, but for what is below a nanosecond."""
+    found = DECIMAL.fullmatch(text)
+    if not found:
+        raise BadLine(f"{text[:30]!r} is no time")
+    whole, behind, power = found[1], found[2] or "", int(found[3] or 0)
+    return int(Fraction(int(whole + behind), 10 ** len(behind)) * Fraction(10) ** power * unit)
+
+
+def direction(text: str, read: str, write: str) -> bool:
+    """Whether it is a read, of the two words for it."""
+    if text not in (read, write):
+        raise BadLine(f"{text[:30]!r} is neither {read} nor {write}")
+    return text == read
+
+
+def chosen(accesses: Iterable[Access], devices: list[str], every: bool, losses: Losses) -> dict[str, list[Access]]:
+    """The accesses of each device that is asked for, in the order in which they are named or, of all, come.
+
+    Where none is asked for, they are all together, under the name of the first."""
+    kept: list[Access] = []
+    seen: Counter[str] = Counter()
+    for access in accesses:
+        seen[access.device] += 1
+        if not devices or access.device in devices:
+            kept.append(access)
+    if not seen:
+        raise LineError("no accesses in it")
+    missing = [device for device in devices if device not in seen]
+    if missing:
+        there = ", ".join(sorted(seen)) if list(seen) != [""] else "none, as this format names no devices"
+        raise LineError(f"no accesses of the device {missing[0]}; devices in it: {there}")
+    first = next(iter(seen))
+    if not devices and not every:
+        losses[OTHER_DEVICE] = len(kept) - seen[first]
+        return {first: kept}
+    losses["accesses of other devices"] = seen.total() - len(kept)
+    found: dict[str, list[Access]] = {device: [] for device in devices or seen}
+    for access in kept:
+        found[access.device].append(access)
+    return found

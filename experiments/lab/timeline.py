@@ -1,30 +1,26 @@
-"""The head's way through a stretch of a run: on which cylinder it is, at which angle, and what passes under it."""
+"""A short stretch of a run as a picture: the head's way, what passes under it, and what waits."""
 
-from dataclasses import dataclass
-from typing import Iterable, Iterator, NamedTuple
+from typing import NamedTuple
 
 from matplotlib.axes import Axes
+from matplotlib.collections import LineCollection
+from matplotlib.patches import Patch
 
-from lab.disk import Disk, Track
-from lab.drawing import AMBER, GREEN, LIGHT, MIDDLE, NAVY, RED, panels, save
-from lab.reports import Gap, Got, Idle, Row
+from lab.disk import Disk
+from lab.drawing import AMBER, GREEN, LIGHT, MIDDLE, NAVY, RED, WIDTH, colours_of, named, panels, save
+from lab.pieces import Piece, pieces, within
+from lab.queueing import Queue, queue_of
+from lab.reading import Reports, run_rows
+from lab.refusals import Refused
 
-
-class Piece(NamedTuple):
-    """What the head does from one instant to another (nanoseconds), and between which tracks."""
-
-    kind: str
-    begin: int
-    end: int
-    source: Track
-    target: Track
+COLUMNS = 780  # into which a lane is cut: about a pixel of a PNG each
 
 
 class Look(NamedTuple):
-    """How a kind of piece is drawn; its lane from above."""
+    """How a kind of piece is drawn; the lanes stand in this order."""
 
     lane: str
-    colour: str
+    colour: str  # where it isn't the task's
     width: float  # points
 
 
@@ -32,109 +28,186 @@ LOOKS = {
     "read": Look("foreground read", NAVY, 7),
     "write": Look("foreground write", RED, 7),
     "gap": Look("block read in a gap", GREEN, 5),
-    "ride": Look("block in a read", "#8fd4a6", 3.5),
-    "idle": Look("block in idle time", "#c3b400", 5),
+    "ride": Look("block in a read", GREEN, 3),
+    "idle": Look("block in idle time", GREEN, 5),
+    "put": Look("put written in a gap", "#e377c2", 5),
     "wait": Look("wait for the angle", AMBER, 1.8),
     "rest": Look("nothing to serve", LIGHT, 3),
     "move": Look("arm or head moves", MIDDLE, 1.2),
 }
+OF_TASKS = ("gap", "ride", "idle")
+OPTIONAL = ("put", "idle", "ride", "gap")  # lanes that aren't drawn where they are empty
+Segment = list[tuple[float, float]]
 
 
-@dataclass
-class Stay:
-    """Where the head is while blocks are delivered: on the early track until it leaves it, then on the late one."""
+class Stretch(NamedTuple):
+    """What is drawn: the pieces between two instants (nanoseconds), and the queue."""
 
-    early: Track
-    leave: int
-    late: Track
+    disk: Disk
+    found: list[Piece]
+    queue: Queue
+    begin: int
+    end: int
 
+    @property
+    def scale(self) -> float:
+        """Nanoseconds of a unit of the time that is shown."""
+        return 1e3 if self.end - self.begin < 1_000_000 else 1e6
 
-def pieces(disk: Disk, rows: Iterable[Row]) -> Iterator[Piece]:
-    """The pieces of a run in about their order: blocks follow the stays in which they pass."""
-    stay = Stay((0, 0), 0, (0, 0))
-    for row in rows:
-        if isinstance(row, Gap):
-            stay = Stay(row.by or row.source, row.leave, row.target)
-            yield from _way(disk, row)
-        elif isinstance(row, Idle):
-            stay = Stay(row.track, row.end, row.track)
-            yield Piece("rest", row.begin, row.end, row.track, row.track)
-        elif isinstance(row, Got):
-            track = stay.early if row.end <= stay.leave else stay.late
-            yield Piece(row.how, row.begin, row.end, track, track)
+    def colours(self) -> dict[str, str]:
+        """The colours of the tasks whose blocks are read."""
+        return colours_of(list(dict.fromkeys(piece.name for piece in self.found if piece.kind in OF_TASKS)))
 
 
-def _way(disk: Disk, gap: Gap) -> Iterator[Piece]:
-    """The head's way to a request, and the request."""
-    here, now, served = gap.source, gap.now, gap.served
-    if gap.by is not None:
-        there = now + disk.positioning(here, gap.by, False)
-        yield Piece("move", now, there, here, gap.by)
-        here, now = gap.by, there
-    yield Piece("wait", now, gap.leave, here, here)
-    there = gap.leave + disk.positioning(here, gap.target, not served.is_read)
-    yield Piece("move", gap.leave, there, here, gap.target)
-    yield Piece("wait", there, gap.deadline, gap.target, gap.target)
-    yield Piece("read" if served.is_read else "write", served.media, served.finish, gap.target, gap.target)
+def found_in(disk: Disk, reports: Reports, begin: int, end: int) -> Stretch:
+    """What there is in a stretch, which ends with the run at the latest."""
+    found = within(pieces(disk, run_rows(disk, reports, begin)), begin, end)
+    if not found:
+        raise Refused("the run has nothing in this stretch")
+    return Stretch(disk, found, queue_of(reports.fore, reports.section), begin, min(end, max(piece.end for piece in found)))
 
 
-def within(found: Iterable[Piece], begin: int, end: int) -> list[Piece]:
-    """The pieces that lie in the stretch at least in part; what comes behind it isn't read."""
-    kept = []
-    for piece in found:
-        if piece.begin >= end and piece.kind in ("move", "wait", "rest"):
-            break
-        if piece.end > begin and piece.begin < end and piece.end > piece.begin:
-            kept.append(piece)
-    return kept
-
-
-def draw(disk: Disk, found: list[Piece], begin: int, end: int, path: str, title: str) -> None:
-    """Draws the pieces between two instants: cylinder, angle, and one lane for each kind of piece."""
-    unit, scale = ("microseconds", 1e3) if end - begin < 1_000_000 else ("milliseconds", 1e6)
-    figure, (way, angle, lanes) = panels(3, 1, 7.2, sharex=True, height_ratios=(1.5, 1, 1.3))
-    for piece in found:
-        _draw_way(way, disk, piece, scale)
-        _draw_angle(angle, disk, piece, scale)
-    _draw_lanes(lanes, found, scale)
-    way.set_ylabel("cylinder, and head\nas a part of one" if _is_narrow(found) else "cylinder")
+def draw(stretch: Stretch, path: str, title: str) -> None:
+    """Draws cylinder, angle and queue over time, and one lane for each kind of piece."""
+    figure, (way, angle, queue, lanes) = panels(4, 1, 8.4, sharex=True, height_ratios=(1.7, 0.9, 0.6, 1.4))
+    colours, scale = stretch.colours(), stretch.scale
+    _draw_lines(way, _ways(stretch), colours, stretch)
+    _draw_lines(angle, _angles(stretch), colours, stretch)
+    _draw_queue(queue, stretch)
+    _draw_lanes(lanes, stretch, colours)
+    is_narrow = _span(stretch.found) < 50
+    way.set_ylabel("cylinder, and head\nas a part of one" if is_narrow else "cylinder")
+    way.autoscale_view()
+    way.margins(y=0.12)
     way.set_title(title, fontsize=10, loc="left")
-    angle.set_ylabel("angle (turns)")
+    angle.set_ylabel("angle\n(turns)")
     angle.set_ylim(0, 1)
-    lanes.set_xlabel(f"time ({unit})")
-    lanes.set_xlim(begin / scale, end / scale)
+    lanes.set_xlabel(f"time ({'microseconds' if scale == 1e3 else 'milliseconds'})")
+    lanes.set_xlim(stretch.begin / scale, stretch.end / scale)
+    lanes.ticklabel_format(axis="x", useOffset=False)
+    if colours:
+        entries = [Patch(color=colour, label=name) for name, colour in named(colours).items()]
+        way.legend(handles=entries, loc="lower right", bbox_to_anchor=(1, 1), ncol=min(len(entries), 6), fontsize=8,
+                   borderaxespad=0.1, title="blocks of the task" if len(entries) < 4 else None, title_fontsize=8)
     figure.align_ylabels()
+    figure.tight_layout()
+    _name_requests(way, stretch)
     save(figure, path)
 
 
-def _is_narrow(found: list[Piece]) -> bool:
-    """Whether heads can be seen at the scale of the cylinders."""
+def _span(found: list[Piece]) -> int:
+    """Over how many cylinders the pieces go."""
     cylinders = [piece.target[0] for piece in found]
-    return max(cylinders, default=0) - min(cylinders, default=0) < 50
+    return max(cylinders, default=0) - min(cylinders, default=0)
 
 
-def _draw_way(axes: Axes, disk: Disk, piece: Piece, scale: float) -> None:
-    look = LOOKS[piece.kind]
-    heights = [cylinder + head / disk.heads for cylinder, head in (piece.source, piece.target)]
-    axes.plot([piece.begin / scale, piece.end / scale], heights, color=look.colour, lw=look.width,
-              solid_capstyle="butt", zorder=2 + look.width / 10 + (piece.kind == "ride"))
+def _ways(stretch: Stretch) -> list[tuple[Piece, Segment]]:
+    """Each piece from cylinder to cylinder; one that would be narrower than a point is drawn that wide."""
+    least = (stretch.end - stretch.begin) / (WIDTH * 0.82 * 72)
+    made = []
+    for piece in stretch.found:
+        low, high = (cylinder + head / stretch.disk.heads for cylinder, head in (piece.source, piece.target))
+        more = 0.0 if piece.kind == "move" else max(0.0, least - (piece.end - piece.begin)) / 2
+        begin, end = (piece.begin - more) / stretch.scale, (piece.end + more) / stretch.scale
+        made.append((piece, [(begin, low), (end, high)]))
+    return made
 
 
-def _draw_angle(axes: Axes, disk: Disk, piece: Piece, scale: float) -> None:
+def _angles(stretch: Stretch) -> list[tuple[Piece, Segment]]:
     """The angle rises with time, and falls back to 0 at the end of each turn."""
-    look, now = LOOKS[piece.kind], piece.begin
-    while now < piece.end:
-        stop = min(piece.end, now - now % disk.turn + disk.turn)
-        height = (stop - now + now % disk.turn) / disk.turn
-        axes.plot([now / scale, stop / scale], [now % disk.turn / disk.turn, height], color=look.colour,
-                  lw=min(look.width, 4), solid_capstyle="butt", zorder=2 + look.width / 10 + (piece.kind == "ride"))
-        now = stop
+    turn, made = stretch.disk.turn, []
+    for piece in stretch.found:
+        now, end = max(piece.begin, stretch.begin), min(piece.end, stretch.end)
+        while now < end:
+            stop = min(end, now - now % turn + turn)
+            made.append((piece, [(now / stretch.scale, now % turn / turn),
+                                 (stop / stretch.scale, (stop - now + now % turn) / turn)]))
+            now = stop
+    return made
 
 
-def _draw_lanes(axes: Axes, found: list[Piece], scale: float) -> None:
-    kinds = list(LOOKS)
-    for piece in found:
-        axes.barh(kinds.index(piece.kind), (piece.end - piece.begin) / scale, left=piece.begin / scale, height=0.72,
-                  color=LOOKS[piece.kind].colour, edgecolor="none")
+def _draw_lines(axes: Axes, lines: list[tuple[Piece, Segment]], colours: dict[str, str], stretch: Stretch) -> None:
+    """All lines, those of one kind at once; thick ones above thin ones, but for blocks in a read, which lie on it."""
+    for kind, look in LOOKS.items():
+        of_kind = [(piece, segment) for piece, segment in lines if piece.kind == kind]
+        shown = [_colour(piece, colours) for piece, _ in of_kind]
+        axes.add_collection(LineCollection([segment for _, segment in of_kind], colors=shown, linewidths=look.width,
+                                           capstyle="butt", zorder=2 + look.width / 10 + (kind == "ride")))
+
+
+def _colour(piece: Piece, colours: dict[str, str]) -> str:
+    return colours[piece.name] if piece.kind in OF_TASKS else LOOKS[piece.kind].colour
+
+
+def _name_requests(axes: Axes, stretch: Stretch) -> None:
+    """The requests' names over their bars, where there is room beside those that are written already."""
+    figure = axes.figure
+    to_dots = axes.transData.transform
+    taken: list[tuple[float, float]] = []
+    for piece in stretch.found:
+        if piece.kind not in ("read", "write") or not stretch.begin <= piece.begin <= stretch.end:
+            continue
+        at = (piece.begin + min(piece.end, stretch.end)) / 2 / stretch.scale
+        height = piece.source[0] + piece.source[1] / stretch.disk.heads
+        across, up = to_dots((at, height))
+        width = 6.5 * len(piece.name) * figure.dpi / 100
+        if any(abs(across - other) < width + 2 and abs(up - level) < 12 for other, level in taken):
+            continue
+        taken.append((across, up))
+        axes.annotate(piece.name, (at, height), xytext=(0, 5), textcoords="offset points", ha="center", fontsize=7.5,
+                      color=LOOKS[piece.kind].colour, annotation_clip=False)
+
+
+def _draw_queue(axes: Axes, stretch: Stretch) -> None:
+    """How many requests have arrived and aren't done, and a mark for each that arrives."""
+    instants, lengths = stretch.queue.steps(stretch.begin, stretch.end)
+    shown = [at / stretch.scale for at in instants]
+    axes.fill_between(shown, lengths, step="post", color="#c9d3e3", lw=0)
+    axes.step(shown, lengths, where="post", color=NAVY, lw=1)
+    arrived = [at / stretch.scale for at in stretch.queue.arrived(stretch.begin, stretch.end)]
+    axes.plot(arrived, [stretch.queue.length(round(at * stretch.scale)) for at in arrived], "v", color=RED, ms=4,
+              clip_on=False)
+    axes.set_ylim(0, max(1, max(lengths)) * 1.25)
+    axes.yaxis.get_major_locator().set_params(integer=True)
+    axes.set_ylabel("requests\nnot done")
+    if arrived:
+        axes.plot([], [], "v", color=RED, ms=4, label=f"{len(arrived)} arrive")
+        axes.legend(loc="upper right", fontsize=8, borderaxespad=0)
+
+
+def _draw_lanes(axes: Axes, stretch: Stretch, colours: dict[str, str]) -> None:
+    """A lane for each kind. Its height in a column says how much of the column's time the pieces take, so that what is
+    narrower than a column is summed; beside it stands how many pieces there are and how long they last."""
+    there = {piece.kind for piece in stretch.found}
+    kinds = [kind for kind in LOOKS if kind in there or kind not in OPTIONAL]
+    for lane, kind in enumerate(kinds):
+        of_kind = [piece for piece in stretch.found if piece.kind == kind]
+        base = [lane + 0.4] * COLUMNS
+        for colour in dict.fromkeys(_colour(piece, colours) for piece in of_kind):
+            shares = covered([piece for piece in of_kind if _colour(piece, colours) == colour], stretch)
+            top = [max(low - 0.8 * share, lane - 0.4) for low, share in zip(base, shares)]
+            _fill(axes, stretch, base, top, colour)
+            base = top
+        lasted = sum(min(piece.end, stretch.end) - max(piece.begin, stretch.begin) for piece in of_kind)
+        text = f"{len(of_kind)}: {lasted / stretch.scale:.3g} {'µs' if stretch.scale == 1e3 else 'ms'}" if of_kind else "0"
+        axes.text(1.008, lane, text, transform=axes.get_yaxis_transform(), fontsize=8, va="center")
     axes.set_yticks(range(len(kinds)), [LOOKS[kind].lane for kind in kinds], fontsize=9)
     axes.set_ylim(len(kinds) - 0.4, -0.6)
+
+
+def covered(found: list[Piece], stretch: Stretch) -> list[float]:
+    """The share of each column's time that the pieces cover; where several do at once, all count."""
+    width = (stretch.end - stretch.begin) / COLUMNS
+    sums = [0.0] * COLUMNS
+    for piece in found:
+        begin, end = max(piece.begin, stretch.begin) - stretch.begin, min(piece.end, stretch.end) - stretch.begin
+        first, last = int(begin / width), min(int(end / width), COLUMNS - 1)
+        for column in range(first, last + 1):
+            sums[column] += max(0.0, min(end, (column + 1) * width) - max(begin, column * width)) / width
+    return sums
+
+
+def _fill(axes: Axes, stretch: Stretch, base: list[float], top: list[float], colour: str) -> None:
+    edges = [(stretch.begin + (stretch.end - stretch.begin) * at / COLUMNS) / stretch.scale for at in range(COLUMNS + 1)]
+    axes.fill_between(edges, [*base, base[-1]], [*top, top[-1]], where=[low > high for low, high in zip(base, top)]
+                      + [False], step="post", color=colour, lw=0)

@@ -50,8 +50,13 @@ def poisson_arrivals(number: int, a_second: float, seed: int) -> list[int]:
     return arrivals
 
 
+def trace_line(arrival: int, device: int, request: Request) -> str:
+    """The line of a trace for a request that arrives at this instant (nanoseconds)."""
+    sector, count, is_read = request
+    return f"{arrival // 1_000_000}.{arrival % 1_000_000:06} {device} {sector} {count} {int(is_read)}\n"
+
+
 def write_trace(path: str, arrivals: Iterable[int], requests: Iterable[Request]) -> None:
     """Writes a trace of device 0."""
     with open(path, "w") as out:
-        for arrival, (sector, count, is_read) in zip(arrivals, requests):
-            out.write(f"{arrival // 1_000_000}.{arrival % 1_000_000:06} 0 {sector} {count} {int(is_read)}\n")
+        out.writelines(trace_line(arrival, 0, request) for arrival, request in zip(arrivals, requests))

@@ -1,7 +1,12 @@
 """What the checks share: running a command, comparing figures, and the README's example."""
 
+import contextlib
 import importlib.util
+import io
+import runpy
 import subprocess
+import sys
+import traceback
 from pathlib import Path
 from typing import Any, NamedTuple
 
@@ -20,10 +25,33 @@ class Ended(NamedTuple):
     err: str
 
 
-def ended(*words: str | Path) -> Ended:
-    """Runs a command, and tells how it ended."""
-    done = subprocess.run(list(map(str, words)), capture_output=True, text=True)
-    return Ended(done.returncode, done.stdout, done.stderr)
+def ended(script: str, *words: str | Path) -> Ended:
+    """Runs a script of this folder in this process, which saves starting another, and tells how it ended."""
+    before, out, err = sys.argv, io.StringIO(), io.StringIO()
+    sys.argv = [script, *map(str, words)]
+    status: Any = None
+    with contextlib.redirect_stdout(out), contextlib.redirect_stderr(err):
+        try:
+            runpy.run_path(str(HERE / script), run_name="__main__")
+        except SystemExit as end:
+            status = end.code
+        except BaseException:
+            traceback.print_exc()
+            status = "a traceback"
+    sys.argv = before
+    return Ended(status, out.getvalue(), err.getvalue())
+
+
+def answer(script: str, *words: str | Path) -> str:
+    """What a script of this folder prints; a failure ends the check."""
+    done = ended(script, *words)
+    if done.status:
+        raise CheckFailed(f"{script} {' '.join(map(str, words))} ends with {done.status}: {done.err}")
+    return done.out
+
+
+class CheckFailed(Exception):
+    """A command that should have gone well."""
 
 
 def run(*words: str | Path) -> str:

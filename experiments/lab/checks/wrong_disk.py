@@ -2,7 +2,7 @@
 
 from pathlib import Path
 
-from lab.checks._tools import EXAMPLES, HERE, SMALL_DISK, Ended, ended, has_matplotlib, small_run
+from lab.checks._tools import EXAMPLES, SMALL_DISK, Ended, ended, has_matplotlib, small_run
 
 # The first row of the example's reports that can't be of the disk, and a part of what is said. On the worn disk, slot 3
 # of track 0.0 has no sector, so that sector 5 is in slot 6. The gap of request 4 lasts 1,500 ns, too short for a seek of
@@ -36,16 +36,16 @@ def check(folder: Path) -> list[str]:
     for name, (line, where, what) in DISKS.items():
         disk = folder / "other.toml"
         disk.write_text(_changed(small, line) if line else (EXAMPLES / "worn-disk.toml").read_text())
-        said = ended(HERE / "measure", disk, fore, back)
+        said = ended("measure", disk, fore, back)
         faults += [] if _refuses(said, where, what) else [f"measure on the disk '{name}' says {said}"]
     for name, (old, new, where) in LINES.items():
         wrong = folder / "wrong.back"
         text = back.read_text()
         wrong.write_text(text.replace(old, new, 1))
-        said = ended(HERE / "measure", SMALL_DISK, fore, wrong)
+        said = ended("measure", SMALL_DISK, fore, wrong)
         faults += [] if old in text and _refuses(said, where, "") else [f"measure with {name} changed says {said}"]
     if has_matplotlib():
-        said = ended(HERE / "picture", EXAMPLES / "worn-disk.toml", fore, back, folder / "never.png")
+        said = ended("picture", EXAMPLES / "worn-disk.toml", fore, back, folder / "never.png")
         faults += [] if _refuses(said, "line 2", "sector 5 begins") else [f"picture on another disk says {said}"]
     return faults
 

@@ -2,6 +2,7 @@
 
 from typing import Any, NamedTuple
 
+from lab.ending import ending_of
 from lab.reports import rows
 from lab.runs import REQUESTS, Closed, account_of, closed_run, columns, disk_named
 from lab.scripts import log_segments
@@ -31,12 +32,13 @@ def measure(run: str, folder: str, part: float) -> list[Line]:
     disk = disk_named(loop.disk)
     script = log_segments(disk.sectors, sessions, BLOCKS, BLOCK, LIVE, seed=3)
     runs = closed_run(loop, disk, round(REQUESTS * part), Mix(), script, folder)
-    tasks = Tasks()
+    ending = ending_of(runs.back)
+    tasks = Tasks(ending, [])
     for row in rows(runs.fore, runs.back):
         tasks.add(row)
     cleaned = sum(task.segments for task in tasks.by_name.values())
     return [{"policy": loop.policy, "outstanding": loop.outstanding, "sessions": sessions,
-             "segments a second": cleaned / tasks.end * 1e9, **columns(account_of(disk, runs))}]
+             "segments a second": cleaned / ending.end * 1e9, **columns(account_of(disk, runs))}]
 
 
 def draw(table: list[dict[str, Any]], path: str) -> None:
