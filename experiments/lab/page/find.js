@@ -34,7 +34,7 @@ class Finder {
     this.state = document.getElementById("find-state");
     const names = document.getElementById("task-names");
     this.kind.addEventListener("change", () => {
-      names.replaceChildren(...(this.kind.value === "task" ? Object.keys(page.about.tasks).slice(0, 200) : []).map(name => new Option(name, name)));
+      names.replaceChildren(...(this.kind.value === "task" ? page.run.taskNames.slice(0, 200) : []).map(name => new Option(name, name)));
     });
     document.getElementById("find").addEventListener("submit", event => { event.preventDefault(); this.find(1); });
     document.getElementById("find-back").addEventListener("click", () => this.find(-1));

@@ -10,7 +10,7 @@ class Lines {
     this.list = this.room.appendChild(document.createElement("ol"));
     this.select = document.getElementById("report");
     const { files } = page.about;
-    for (const [name, text] of [["back", "background report"], ["fore", "foreground report"]])
+    for (const [name, text] of [["back", "background report"], ["fore", "foreground report"], ["spill", "text of spills"]])
       if (files[name]) this.select.append(new Option(`${text} (${files[name]})`, name));
     this.select.addEventListener("change", () => this.turnTo(this.select.value));
     this.box.addEventListener("scroll", () => page.draw("lines"));
@@ -21,18 +21,29 @@ class Lines {
 
   turnTo(report) {
     this.report = this.select.value = report;
-    this.count = report === "fore" ? this.page.run.requestActs.length : this.page.run.kinds.length;
+    const { run } = this.page;
+    this.count = { fore: run.requestActs.length, back: run.kinds.length, spill: run.spillLines.length }[report];
     this.first = this.page.about["first lines"][report];
     this.page.draw("lines");
   }
 
-  text(index) { return this.report === "fore" ? foreLine(this.page.run, index) : backLine(this.page.run, index); }
+  text(index) { return { fore: foreLine, back: backLine, spill: spillLine }[this.report](this.page.run, index); }
 
-  /** The row of the run that a line tells of: a request's is that of its gap. */
-  rowOf(index) { return this.report === "fore" ? this.page.run.actRows[this.page.run.requestActs[index]] : index; }
+  /** The row of the run that a line tells of: a request's and a spill's is that of its gap. */
+  rowOf(index) {
+    const { run } = this.page;
+    if (this.report === "back") return index;
+    return run.actRows[this.report === "fore" ? run.requestActs[index] : run.spills.act[run.spillLines[index].spill]];
+  }
 
-  /** The line of a row; of the foreground report that of the request to which it belongs. */
-  indexOf(row) { return this.report === "fore" ? this.page.run.requestOfRow(row) : row; }
+  /** The line of a row: of the foreground report that of its request; of the text of spills that of its gap, or -1. */
+  indexOf(row) {
+    const { run } = this.page;
+    if (this.report === "back") return row;
+    if (this.report === "fore") return run.requestOfRow(row);
+    const spill = run.spillOf[run.actOfRow(row)];
+    return spill < 0 ? -1 : run.spillLines.findIndex(line => line.spill === spill);
+  }
 
   get rowHeight() { return 1.5 * parseFloat(getComputedStyle(document.documentElement).fontSize); }
 

@@ -2,7 +2,7 @@
 
 const SPEEDS = [100, 1e3, 1e4, 1e5, 1e6, 1e7, 1e8, 1e9];  // nanoseconds of the run in a second
 const SPEED_TEXTS = ["100 ns", "1 \u00b5s", "10 \u00b5s", "0.1 ms", "1 ms", "10 ms", "0.1 s", "1 s"];
-const COLOURS = ["ground", "panel", "ink", "soft", "line", "accent", "mark", "read", "write", "gap", "ride", "idle", "wait", "rest", "move", "spill", "heat"];
+const COLOURS = ["ground", "panel", "ink", "soft", "line", "accent", "mark", "read", "write", "gap", "ride", "idle", "wait", "rest", "move", "put", "heat"];
 
 class Page {
   constructor(about, run) {
@@ -36,7 +36,7 @@ class Page {
   readColours() {
     const style = getComputedStyle(document.documentElement);
     this.colours = Object.fromEntries(COLOURS.map(name => [name, style.getPropertyValue(`--${name}`).trim()]));
-    this.colours.detour = this.colours.spill;
+    this.colours.detour = this.colours.put;
     this.colours.wanted = this.mixed("gap", 0.28);
     this.colours.planned = this.mixed("gap", 0.55);
     this.colours.delivered = this.mixed("ink", 0.62);
@@ -346,7 +346,7 @@ function centreAt(page, event) {
 
 /** What the page shows, in a line below its title. */
 function aboutText(about, run) {
-  const files = Object.values(about.files).filter(name => name).join(", "), { disk } = run;
+  const files = Object.values(about.files).filter(name => name).join(", ") + (about.section === null ? "" : ` (device ${about.section})`), { disk } = run;
   const stretch = about.whole ? `${duration(run.end)} long` : `from ${instantText(run, run.begin)} to ${instantText(run, run.end)} of ${duration(about.end)}`;
   return `${files}: ${stretch}, ${counted(run.requestActs.length, "request")}, ${counted(run.gots.count, "delivery").replace(/ys$/, "ies")}. `
     + `A disk of ${bytesText(disk.sectors * disk.sectorBytes)}, ${counted(disk.cylinders, "cylinder")} with ${counted(disk.heads, "head")}, ${duration(disk.turn)} a rotation.`;

@@ -1,6 +1,6 @@
 // A run: its rows, and what the head does at each instant.
 
-const READ = 1, IDLE = 2, DETOUR = 4, PROMOTED = 8;
+const READ = 1, IDLE = 2, DETOUR = 4, PROMOTED = 8;  // flags of an act
 const ACT = 0, BY_GAP = 1, BY_IDLE = 2, BY_RIDE = 3, NOTE = 4;
 const HOWS = ["", "gap", "idle", "ride"];
 
@@ -9,10 +9,12 @@ class Run {
     this.about = about;
     this.disk = new Disk(about.disk);
     this.notes = held.texts.notes;
-    this.contents = { fore: held.texts.fore, back: held.texts.back };
-    this.taskNames = about["task numbers"].map(task => task.name);
+    this.contents = held.texts;
+    this.taskNames = about.tasks.map(task => task.name);
     this.readActs(held.tables.acts, held.tables.detours);
     this.readGots(held.tables.kinds.kind, held.tables.gots);
+    this.readSpills(held.tables.spills, held.tables.puts);
+    this.overwritten = held.tables.overwritten;
     this.begin = this.acts.count ? this.acts.begin[0] : 0;
     this.end = this.acts.count ? this.acts.finish[this.acts.count - 1] : 0;
     this.countArrivals(held.tables.later);
@@ -46,7 +48,7 @@ class Run {
 
   /** The deliveries, and for each row of the background report which act, delivery or note it is. */
   readGots(kinds, table) {
-    const count = table.count, gots = this.gots = { count, task: table.task, again: table.again, length: table.length,
+    const count = table.count, gots = this.gots = { count, task: table.task, again: table.again, fewer: table.fewer, length: table.length,
       bad: table.bad, number: new Int32Array(count), sector: new Float64Array(count), begin: new Float64Array(count),
       end: new Float64Array(count), how: new Uint8Array(count), act: new Int32Array(count), row: new Int32Array(count) };
     this.kinds = kinds;
@@ -84,16 +86,45 @@ class Run {
     this.gotsFrom[this.acts.count] = got;
   }
 
-  /** When requests arrive, and how many have arrived and haven't begun. */
+  /** Stays in gaps to write, and what they write. */
+  readSpills(spills, puts) {
+    const ends = table => Float64Array.from(table.begin, (begin, i) => begin + table.pass[i]);
+    this.spills = { ...spills, end: ends(spills) };
+    this.puts = { ...puts, end: ends(puts) };
+    this.spillOf = new Int32Array(this.acts.count).fill(-1);
+    for (let i = 0; i < spills.count; i++) this.spillOf[spills.act[i]] = i;
+    this.putsFrom = new Int32Array(spills.count + 1);
+    for (let i = 0; i < puts.count; i++) this.putsFrom[puts.spill[i] + 1] = i + 1;
+    for (let i = 0; i < spills.count; i++) this.putsFrom[i + 1] = Math.max(this.putsFrom[i + 1], this.putsFrom[i]);
+  }
+
+  /** The lines of the text of spills: each spill (put -1), and what it writes. */
+  get spillLines() {
+    if (!this.linesOfSpills) {
+      this.linesOfSpills = [];
+      for (let spill = 0; spill < this.spills.count; spill++)
+        for (let put = this.putsFrom[spill] - 1; put < this.putsFrom[spill + 1]; put++)
+          this.linesOfSpills.push({ spill, put: put < this.putsFrom[spill] ? -1 : put });
+    }
+    return this.linesOfSpills;
+  }
+
+  /** What is written in the gap of an act. */
+  putsOf(act) {
+    const spill = this.spillOf[act], first = spill < 0 ? 0 : this.putsFrom[spill];
+    return spill < 0 ? [] : Array.from({ length: this.putsFrom[spill + 1] - first }, (_, i) => first + i);
+  }
+
+  /** When requests arrive, and how many have arrived and aren't done. */
   countArrivals(later) {
     const served = this.requestActs, arrivals = new Float64Array(served.length + later.count);
-    const starts = new Float64Array(served.length);
-    served.forEach((act, i) => { arrivals[i] = this.acts.arrival[act]; starts[i] = this.acts.begin[act]; });
+    const finishes = new Float64Array(served.length);
+    served.forEach((act, i) => { arrivals[i] = this.acts.arrival[act]; finishes[i] = this.acts.finish[act]; });
     let instant = 0;
     for (let i = 0; i < later.count; i++) arrivals[served.length + i] = instant += later.arrival[i];
     arrivals.sort();
     this.arrivals = new Instants(arrivals);
-    this.queue = new Steps(arrivals, starts);
+    this.queue = new Steps(arrivals, finishes);
   }
 
   isIdle(act) { return (this.acts.flags[act] & IDLE) !== 0; }
@@ -107,7 +138,7 @@ class Run {
   /** The act at an instant: the last that has begun; -1 where there is none. */
   actAt(instant) {
     const begins = this.acts.begin;
-    return lastAtMost(this.acts.count, i => begins[i], instant);
+    return countAtMost(begins, instant) - 1;
   }
 
   /** The acts that begin in a stretch: from the first to the one behind the last. */
@@ -119,7 +150,7 @@ class Run {
   /** How many deliveries have ended by then. */
   gotsUpTo(instant) {
     const ends = this.gots.end;
-    return lastAtMost(this.gots.count, i => ends[i], instant) + 1;
+    return countAtMost(ends, instant);
   }
 
   /** The act to which a row belongs. */
@@ -171,25 +202,32 @@ class Run {
     return row && this.kinds[row - 1] === NOTE ? this.instantOfNote(row - 1) : row ? this.timesOfRow(row - 1)[1] : this.begin;
   }
 
+  /** The way of the head through a gap, one thing after another: `tell(kind, begin, end, from, to)`. */
+  wayOf(act, tell) {
+    const { acts, disk, spills } = this, target = acts.target[act], spill = this.spillOf[act];
+    let here = acts.source[act], now = acts.begin[act], leave = acts.leave[act];
+    const by = spill >= 0 ? spills.track[spill] : acts.by[act];
+    if (by >= 0) {
+      const there = spill >= 0 ? spills.begin[spill] : now + disk.positioning(here, by, false);
+      tell("move", now, there, here, by);
+      here = by;
+      now = there;
+      if (spill >= 0) leave = spills.end[spill];
+    }
+    const there = leave + disk.positioning(here, target, this.isWrite(act));
+    tell("stay", now, leave, here, here);
+    tell("move", leave, there, here, target);
+    tell("wait", there, acts.media[act], target, target);
+  }
+
   /** What the head does in an act, one thing after another: on which track, and to which it moves. */
   phasesOf(act) {
-    const acts = this.acts, phases = [];
-    const add = (kind, begin, end, from, to) => { if (end > begin) phases.push({ kind, begin, end, from, to }); };
+    const phases = [], add = (kind, begin, end, from, to) => { if (end > begin) phases.push({ kind, begin, end, from, to }); };
     if (this.isIdle(act)) {
-      add("rest", acts.begin[act], acts.finish[act], acts.source[act], acts.source[act]);
+      add("rest", this.acts.begin[act], this.acts.finish[act], this.acts.source[act], this.acts.source[act]);
       return phases;
     }
-    let here = acts.source[act], now = acts.begin[act];
-    if (acts.by[act] >= 0) {
-      const there = now + this.disk.positioning(here, acts.by[act], false);
-      add("move", now, there, here, acts.by[act]);
-      here = acts.by[act];
-      now = there;
-    }
-    add("stay", now, acts.leave[act], here, here);
-    const target = acts.target[act], there = acts.leave[act] + this.disk.positioning(here, target, this.isWrite(act));
-    add("move", acts.leave[act], there, here, target);
-    add("wait", there, acts.media[act], target, target);
+    this.wayOf(act, add);
     this.addService(act, add);
     return phases;
   }
@@ -225,7 +263,7 @@ class Run {
   gotsOfTrack(track) {
     if (!this.byTrack) this.byTrack = indexByTrack(this);
     const keys = this.byTrack, count = this.gots.count, found = [];
-    const first = lastAtMost(keys.length, i => keys[i], track * count - 1) + 1;
+    const first = countAtMost(keys, track * count - 1);
     for (let i = first; i < keys.length && keys[i] < (track + 1) * count; i++) found.push(keys[i] - track * count);
     return found;
   }
@@ -240,26 +278,19 @@ function indexByTrack({ disk, gots }) {
 
 /** The kinds of time that have a lane each, as coverages. */
 function coveragesOf(run) {
-  const lanes = { read: new Stretches(), write: new Stretches(), gap: new Stretches(), ride: new Stretches(),
-    idle: new Stretches(), wait: new Stretches(), rest: new Stretches(), move: new Stretches() };
-  const { acts, disk } = run;
+  const kinds = ["read", "write", "gap", "ride", "idle", "put", "wait", "rest", "move"];
+  const lanes = Object.fromEntries(kinds.map(kind => [kind, new Stretches()])), { acts } = run;
+  const tell = (kind, begin, end) => lanes[kind === "move" ? "move" : "wait"].add(begin, end);
   for (let i = 0; i < acts.count; i++) {
-    if (run.isIdle(i)) { lanes.rest.add(acts.begin[i], acts.finish[i]); continue; }
-    let here = acts.source[i], now = acts.begin[i];
-    if (acts.by[i] >= 0) {
-      const there = now + disk.positioning(here, acts.by[i], false);
-      lanes.move.add(now, there);
-      here = acts.by[i];
-      now = there;
+    if (run.isIdle(i)) lanes.rest.add(acts.begin[i], acts.finish[i]);
+    else {
+      run.wayOf(i, tell);
+      lanes[run.isRead(i) ? "read" : "write"].add(acts.media[i], acts.finish[i]);
     }
-    const there = acts.leave[i] + disk.positioning(here, acts.target[i], run.isWrite(i));
-    lanes.wait.add(now, acts.leave[i]);
-    lanes.move.add(acts.leave[i], there);
-    lanes.wait.add(there, acts.media[i]);
-    lanes[run.isRead(i) ? "read" : "write"].add(acts.media[i], acts.finish[i]);
+    addUnions(run, i, lanes);
   }
-  for (let i = 0; i < acts.count; i++) addUnions(run, i, lanes);
-  return Object.fromEntries(Object.entries(lanes).map(([name, stretches]) => [name, stretches.coverage()]));
+  for (let i = 0; i < run.puts.count; i++) lanes.put.add(run.puts.begin[i], run.puts.end[i]);
+  return Object.fromEntries(kinds.map(kind => [kind, lanes[kind].coverage()]));
 }
 
 /** The time in which blocks of an act pass, by each way. Blocks of two tasks may pass together. */
@@ -275,28 +306,30 @@ function addUnions({ gots, gotsFrom }, act, lanes) {
   }
 }
 
-/** What detours move beyond the way from source to target, up to any instant: in each gap in the pace of its moves. */
+/** What detours and spills move beyond the way from source to target, up to any instant: in each gap in the pace of its
+ * moves. */
 class Detours {
   constructor(run) {
-    const { acts, disk } = run, found = [];
-    for (let i = 0; i < acts.count; i++) if (acts.by[i] >= 0) found.push(i);
+    const { acts, disk, spills } = run, found = [];
+    for (let i = 0; i < acts.count; i++) if (acts.by[i] >= 0 || run.spillOf[i] >= 0) found.push(i);
     this.run = run;
+    this.begins = Float64Array.from(found, act => acts.begin[act]);
     this.acts = found;
     this.before = new Float64Array(found.length + 1);
     this.moved = new Float64Array(found.length);
     found.forEach((act, i) => {
-      const write = run.isWrite(act);
-      const moved = disk.positioning(acts.source[act], acts.by[act], false) + disk.positioning(acts.by[act], acts.target[act], write);
+      const write = run.isWrite(act), spill = run.spillOf[act], by = spill >= 0 ? spills.track[spill] : acts.by[act];
+      const moved = disk.positioning(acts.source[act], by, spill >= 0) + disk.positioning(by, acts.target[act], write);
       this.moved[i] = moved;
       this.before[i + 1] = this.before[i] + moved - disk.positioning(acts.source[act], acts.target[act], write);
     });
   }
 
   upTo(instant) {
-    const { acts, coverages } = this.run, at = lastAtMost(this.acts.length, i => acts.begin[this.acts[i]], instant);
+    const { acts, coverages } = this.run, at = countAtMost(this.begins, instant) - 1;
     if (at < 0) return 0;
-    const act = this.acts[at], share = coverages.move.within(acts.begin[act], Math.min(instant, acts.media[act])) / this.moved[at];
-    return this.before[at] + share * (this.before[at + 1] - this.before[at]);
+    const act = this.acts[at], moved = coverages.move.within(acts.begin[act], Math.max(acts.begin[act], Math.min(instant, acts.media[act])));
+    return this.before[at] + (this.moved[at] ? moved / this.moved[at] : 1) * (this.before[at + 1] - this.before[at]);
   }
 }
 
@@ -318,17 +351,10 @@ function cylindersOf(run) {
 }
 
 function addHeat(run, act, heat, band) {
-  const { acts, disk } = run, target = acts.target[act];
-  let here = acts.source[act], now = acts.begin[act];
-  if (run.isIdle(act)) { heat.add(now, acts.finish[act], band(here)); return; }
-  if (acts.by[act] >= 0) {
-    const there = now + disk.positioning(here, acts.by[act], false);
-    heat.addMove(now, there, band(here), band(acts.by[act]));
-    here = acts.by[act];
-    now = there;
-  }
-  const there = acts.leave[act] + disk.positioning(here, target, run.isWrite(act));
-  heat.add(now, acts.leave[act], band(here));
-  heat.addMove(acts.leave[act], there, band(here), band(target));
-  heat.add(there, acts.finish[act], band(target));
+  const { acts } = run, target = acts.target[act];
+  if (run.isIdle(act)) { heat.add(acts.begin[act], acts.finish[act], band(target)); return; }
+  run.wayOf(act, (kind, begin, end, from, to) => {
+    if (kind === "move") heat.addMove(begin, end, band(from), band(to)); else heat.add(begin, end, band(from));
+  });
+  heat.add(acts.media[act], acts.finish[act], band(target));
 }

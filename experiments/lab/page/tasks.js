@@ -16,74 +16,71 @@ function drawn(name, attributes) {
   return made;
 }
 
-/** The deliveries of a task in their order, and how many of its blocks were read at least once by each. */
+/** How many blocks of a task are in over time: each delivery puts one in, but for one that is read again, and a write
+ * takes those of a backup out that it overwrites. */
 class Progress {
   constructor(run, number) {
-    const { gots } = run, found = [];
-    for (let i = 0; i < gots.count; i++) if (gots.task[i] === number) found.push(i);
-    this.gots = Int32Array.from(found);
-    this.run = run;
-    this.before = run.about["task numbers"][number];
-    this.blocks = new Int32Array(found.length + 1);
-    this.blocks[0] = this.before.blocks;
-    found.forEach((got, i) => { this.blocks[i + 1] = this.blocks[i] + 1 - gots.again[got]; });
+    const { gots, overwritten, acts } = run, changes = [];
+    for (let i = 0; i < gots.count; i++) if (gots.task[i] === number) changes.push([gots.end[i], gots.fewer[i]]);
+    for (let i = 0; i < overwritten.count; i++)
+      if (overwritten.task[i] === number) changes.push([acts.finish[overwritten.act[i]], -overwritten.blocks[i]]);
+    if (overwritten.count) changes.sort((one, other) => one[0] - other[0]);
+    this.instants = Float64Array.from(changes, change => change[0]);
+    this.blocks = new Int32Array(changes.length + 1);
+    this.blocks[0] = run.about.tasks[number].before;
+    changes.forEach(([, blocks], i) => { this.blocks[i + 1] = this.blocks[i] + blocks; });
   }
 
-  /** How many blocks were read by an instant. */
-  at(instant) { return this.blocks[lastAtMost(this.gots.length, i => this.run.gots.end[this.gots[i]], instant) + 1]; }
+  at(instant) { return this.blocks[countAtMost(this.instants, instant)]; }
 }
 
 class TaskTable {
   constructor(page) {
     this.page = page;
     this.table = document.getElementById("tasks");
-    this.figures = taskFigures(page.about);
-    this.names = Object.keys(this.figures);
+    this.tasks = page.about.tasks;
     this.lines = [];
     this.fill(MANY_TASKS);
   }
 
   fill(most) {
     const head = ["task", "kind", "at the end", "blocks", "delivered", "given up", "left", "read again", "first delivery", "last delivery",
-      "complete", "sealed", "blocks read over time", "read by the cursor"];
+      "complete", "sealed", "blocks that are in, over time", "in at the cursor"];
     const row = element("tr");
     row.append(...head.map(text => element("th", text, { scope: "col" })));
     const top = element("thead"), body = element("tbody");
     top.append(row);
     this.lines = [];
-    for (const name of this.names.slice(0, most)) body.append(this.row(name));
+    this.tasks.slice(0, most).forEach((task, number) => body.append(this.row(task.name, task.figures, number)));
     this.table.replaceChildren(top, body);
-    if (this.names.length > most) this.table.after(this.moreButton());
-    if (!this.names.length) this.table.replaceChildren(element("caption", "The run has no background tasks."));
+    if (this.tasks.length > most) this.table.after(this.moreButton());
+    if (!this.tasks.length) this.table.replaceChildren(element("caption", "The run has no background tasks."));
   }
 
   moreButton() {
-    const button = element("button", `All ${this.names.length} tasks`, { type: "button" });
-    button.addEventListener("click", () => { button.remove(); this.fill(this.names.length); this.page.draw("cursor"); });
+    const button = element("button", `All ${this.tasks.length} tasks`, { type: "button" });
+    button.addEventListener("click", () => { button.remove(); this.fill(this.tasks.length); this.page.draw("cursor"); });
     return button;
   }
 
-  row(name) {
-    const task = this.figures[name], row = element("tr"), { run } = this.page, time = instant => instant === null ? "\u2013" : instantText(run, instant);
+  row(name, task, number) {
+    const row = element("tr"), { run } = this.page, time = instant => instant === null ? "\u2013" : instantText(run, instant);
     row.append(element("th", name, { scope: "row" }));
     const cells = [task.kind, task.complete ? "complete" : "open", ...["blocks", "delivered", "aborted", "left", "blocks read again"].map(key => grouped(task[key])),
       ...["first delivery", "last delivery", "completion", "seal"].map(key => time(task[key]))];
     row.append(...cells.map(text => element("td", text)));
     const cell = element("td"), at = element("td");
-    cell.append(this.curve(name, at));
+    cell.append(this.curve(name, task.blocks, number, at));
     row.append(cell, at);
     return row;
   }
 
-  /** The curve of a task: its blocks that were read at least once, over the time of the page. */
-  curve(name, told) {
-    const { run } = this.page, number = run.taskNames.indexOf(name), { width, height } = CURVE;
+  /** The curve of a task: how many of its blocks are in, over the time of the page. */
+  curve(name, blocks, number, told) {
+    const { run } = this.page, { width, height } = CURVE, all = Math.max(1, blocks), progress = new Progress(run, number);
     const image = drawn("svg", { viewBox: `0 0 ${width} ${height}`, preserveAspectRatio: "none", role: "img" });
-    const all = Math.max(1, this.figures[name].blocks), progress = number < 0 ? null : new Progress(run, number);
-    const points = Array.from({ length: width + 1 }, (_, x) => {
-      const blocks = progress ? progress.at(run.begin + (run.end - run.begin) * x / width) : 0;
-      return `${x},${(height - 1 - blocks / all * (height - 2)).toFixed(2)}`;
-    });
+    const points = Array.from({ length: width + 1 }, (_, x) =>
+      `${x},${(height - 1 - progress.at(run.begin + (run.end - run.begin) * x / width) / all * (height - 2)).toFixed(2)}`);
     const cursor = drawn("line", { class: "at", y1: 0, y2: height });
     image.append(drawn("rect", { class: "frame", width, height }), drawn("polyline", { class: "curve", points: points.join(" ") }), cursor);
     this.lines.push({ progress, cursor, told, all, image, name });
@@ -94,11 +91,12 @@ class TaskTable {
   drawCursor() {
     const { run, cursor: instant } = this.page, x = (instant - run.begin) / (run.end - run.begin || 1) * CURVE.width;
     for (const { progress, cursor, told, all, image, name } of this.lines) {
-      const blocks = progress ? progress.at(instant) : 0, text = `${grouped(blocks)} (${(100 * blocks / all).toFixed(1)} %)`;
+      const blocks = progress.at(instant), text = `${grouped(blocks)} (${(100 * blocks / all).toFixed(1)} %)`;
       cursor.setAttribute("x1", x);
       cursor.setAttribute("x2", x);
-      if (told.textContent !== text) told.textContent = text;
-      image.setAttribute("aria-label", `Blocks of ${name} over time; at the cursor ${text}`);
+      if (told.textContent === text) continue;
+      told.textContent = text;
+      image.setAttribute("aria-label", `Blocks of ${name} that are in, over time; at the cursor ${text}`);
     }
   }
 }
@@ -110,7 +108,7 @@ class Figures {
     this.time = document.getElementById("time");
     this.table = document.getElementById("figures");
     this.stretch = document.getElementById("stretch");
-    const kinds = ["move", "gap", "wait", "detour", "read", "idle", "rest"], body = element("tbody");
+    const kinds = ["move", "gap", "put", "wait", "detour", "read", "idle", "rest"], body = element("tbody");
     this.rows = PARTS.map((name, i) => {
       const row = element("tr"), bar = element("span"), cell = element("td", undefined, { class: "share" }), length = element("td"), share = element("td");
       bar.dataset.kind = kinds[i];
@@ -137,17 +135,27 @@ class Figures {
 
   /** The other figures; when the view has come to rest. */
   drawRest() {
-    const { run, view } = this.page, { foreground, response, background } = figuresOf(run, view.begin, view.end), body = element("tbody");
-    const rows = [["requests", grouped(foreground.requests)], ["foreground", `${bytesText(foreground.bytes)}, ${foreground["MB/s"].toFixed(3)} MB/s`]];
-    for (const [name, time] of Object.entries(response)) rows.push([name === "mean service" ? name : `response, ${name}`, duration(time)]);
-    for (const how of ["gap", "idle", "ride"]) rows.push([{ gap: "read in gaps", idle: "read in idle time", ride: "carried by reads" }[how], bytesText(background[`bytes by ${how}`])]);
-    rows.push(["background", `${bytesText(background.bytes)}, ${background["MB/s"].toFixed(3)} MB/s`]);
-    rows.push(["gaps with a detour", `${background["gaps with a detour"].toFixed(2)} %`]);
-    for (const [name, text] of rows) {
+    const { run, view } = this.page, figures = figuresOf(run, view.begin, view.end), body = element("tbody");
+    for (const [name, text] of figureRows(figures)) {
       const row = element("tr");
       row.append(element("th", name, { scope: "row" }), element("td", text));
       body.append(row);
     }
     this.table.replaceChildren(body);
   }
+}
+
+/** The figures as names and texts. */
+function figureRows({ foreground, response, background, spills }) {
+  const amount = (bytes, rate) => `${bytesText(bytes)}, ${rate.toFixed(3)} MB/s`;
+  const rows = [["requests", `${grouped(foreground.requests)}, ${foreground["requests a second"].toFixed(2)} a second`],
+    ["foreground", amount(foreground.bytes, foreground["MB/s"])]];
+  for (const [name, time] of Object.entries(response)) rows.push([name === "mean service" ? name : `response, ${name}`, duration(time)]);
+  if (background) {
+    for (const [how, name] of [["gap", "read in gaps"], ["idle", "read in idle time"], ["ride", "carried by reads"]])
+      rows.push([name, amount(background[`bytes by ${how}`], background[`MB/s by ${how}`])]);
+    rows.push(["background", amount(background.bytes, background["MB/s"])], ["gaps with a detour", `${background["gaps with a detour"].toFixed(2)} %`]);
+  }
+  if (spills) rows.push(["written in gaps", amount(spills.bytes, spills["MB/s"])], ["gaps with a spill", `${spills["gaps with a spill"].toFixed(2)} %`]);
+  return rows;
 }

@@ -3,71 +3,15 @@
 
 const LANES = [
   ["read", "foreground read"], ["write", "foreground write"], ["gap", "block read in a gap"], ["ride", "block in a read"],
-  ["idle", "block in idle time"], ["wait", "wait for the angle"], ["rest", "nothing to serve"], ["move", "arm or head moves"]];
-const WIDTHS = { read: 6, write: 6, gap: 4, ride: 2.5, idle: 4, wait: 1.6, rest: 2.4, move: 1.1 };
+  ["idle", "block in idle time"], ["wait", "wait for the angle"], ["put", "written in a gap"], ["wait", "wait for the angle"], ["rest", "nothing to serve"], ["move", "arm or head moves"]];
+const WIDTHS = { move: 1.1, rest: 2.4, wait: 1.6, read: 6, write: 6, gap: 4, idle: 4, put: 4, ride: 2.5 };  // from the lowest to the topmost
 const EXACT_ACTS = 700, EXACT_GOTS = 7000;  // up to so many each one is drawn by itself
-
-/** A canvas with as many dots as the screen has under it; drawing is in dots. */
-class Surface {
-  constructor(canvas) {
-    this.canvas = canvas;
-    this.pen = canvas.getContext("2d");
-  }
-
-  /** Takes the size that the page gives it. */
-  fit() {
-    const scale = window.devicePixelRatio || 1, width = Math.max(1, Math.round(this.canvas.clientWidth * scale));
-    const height = Math.max(1, Math.round(this.canvas.clientHeight * scale));
-    this.scale = scale;
-    this.em = parseFloat(getComputedStyle(this.canvas).fontSize) * scale;
-    if (width === this.width && height === this.height) return;
-    this.width = this.canvas.width = width;
-    this.height = this.canvas.height = height;
-  }
-
-  clear() { this.pen.clearRect(0, 0, this.width, this.height); }
-
-  text(text, x, y, colour, align = "left") {
-    this.pen.font = `${0.82 * this.em}px system-ui, "Liberation Sans", "DejaVu Sans", sans-serif`;
-    this.pen.textBaseline = "middle";
-    this.pen.textAlign = align;
-    this.pen.fillStyle = colour;
-    this.pen.fillText(text, x, y);
-  }
-}
-
-/** A picture dot by dot: thousands of columns are drawn much faster so than one after another. */
-class Dots {
-  constructor(width, height) {
-    this.width = width;
-    this.height = height;
-    this.image = new ImageData(width, height);
-    this.words = new Uint32Array(this.image.data.buffer);
-  }
-
-  fill(left, top, width, height, colour) {
-    for (let y = Math.max(0, top); y < Math.min(this.height, top + height); y++) this.words.fill(colour, y * this.width + left, y * this.width + left + width);
-  }
-
-  /** Columns from below, as high as the heights say; where they are thin, their upper ends alone. */
-  columns(heights, [top, height], colour, thin = Infinity) {
-    const { words, width } = this;
-    for (let row = 1; row <= height; row++)
-      for (let x = 0, at = (top + height - row) * width; x < width; x++, at++)
-        if (heights[x] >= row && heights[x] - row < thin) words[at] = colour;
-  }
-}
-
-/** 1, 2 or 5 times a power of ten, at least the number. */
-function roundUp(number) {
-  const power = 10 ** Math.floor(Math.log10(number));
-  return [1, 2, 5, 10].map(step => step * power).find(step => step >= number * (1 - 1e-9));
-}
 
 class Timeline {
   constructor(page) {
     this.page = page;
     this.run = page.run;
+    this.lanes = LANES.filter(([kind]) => kind !== "put" || page.about.files.spill);
     this.base = new Surface(document.getElementById("timeline"));
     this.marks = Object.fromEntries(["selection", "pointer", "cursor"].map(name => [name, document.getElementById(name)]));
   }
@@ -77,12 +21,12 @@ class Timeline {
     const { em, width, height } = this.base, narrow = width < 42 * em;
     this.left = narrow ? 0 : Math.round(13 * em);
     this.narrow = narrow;
-    const lanes = LANES.length * 1.5 * em, axis = 1.9 * em, arrivals = 1.2 * em, queue = 4 * em, gap = 0.6 * em;
+    const lanes = this.lanes.length * 1.5 * em, axis = 1.9 * em, arrivals = 1.2 * em, queue = 4 * em, gap = 0.6 * em;
     const way = Math.max(6 * em, height - lanes - axis - arrivals - queue - 3 * gap);
     const at = { way: [0, way] };
     at.arrivals = [way + gap, arrivals];
     at.queue = [at.arrivals[0] + arrivals + 2 * this.base.scale, queue];
-    LANES.forEach(([kind], i) => { at[kind] = [at.queue[0] + queue + gap + i * 1.5 * em, 1.2 * em]; });
+    this.lanes.forEach(([kind], i) => { at[kind] = [at.queue[0] + queue + gap + i * 1.5 * em, 1.2 * em]; });
     at.axis = [height - axis, axis];
     this.at = Object.fromEntries(Object.entries(at).map(([part, place]) => [part, place.map(Math.round)]));
     if (this.picture && this.picture.width === this.dots && this.picture.height === height) return;
@@ -109,7 +53,7 @@ class Timeline {
   draw() {
     const { run, page, base, picture } = this;
     picture.words.fill(0);
-    for (const part of ["way", "queue", ...LANES.map(([kind]) => kind)]) picture.fill(0, this.at[part][0], this.dots, this.at[part][1], page.word("panel"));
+    for (const part of ["way", "queue", ...this.lanes.map(([kind]) => kind)]) picture.fill(0, this.at[part][0], this.dots, this.at[part][1], page.word("panel"));
     const instants = this.axis();
     for (const { x } of instants) picture.fill(x, 0, Math.min(this.thin, this.dots - x), this.at.axis[0], page.word("line"));
     this.drawZones();
@@ -118,7 +62,7 @@ class Timeline {
     if (!isExact) this.drawHeat();
     this.drawArrivals();
     const most = this.drawQueue();
-    for (const [kind] of LANES) this.drawLane(run.coverages[kind], this.at[kind], page.word(kind));
+    for (const [kind] of this.lanes) this.drawLane(run.coverages[kind], this.at[kind], page.word(kind));
     base.clear();
     base.pen.putImageData(picture.image, this.left, 0);
     if (isExact) this.drawLines(from, to);
@@ -194,7 +138,7 @@ class Timeline {
     this.picture.columns(heights, part, page.word("accent"));
   }
 
-  /** The greatest and the mean number of waiting requests; gives the number up to which the part goes. */
+  /** The greatest and the mean number of requests that have arrived and aren't done; gives the number up to which the part goes. */
   drawQueue() {
     const { page, picture, heights } = this, { queue } = this.run, part = this.at.queue, step = this.span / this.dots, { begin, end } = page.view;
     const most = roundUp(Math.max(1, queue.greatest(begin, end))), least = most / part[1];
@@ -225,9 +169,9 @@ class Timeline {
     this.label("cylinder", narrow ? [at.axis[0] * 0, 1.2 * em] : at.way);
     ends(at.way, last, first);
     this.label("arrivals", at.arrivals);
-    this.label("waiting requests", narrow ? [at.queue[0], 1.2 * em] : at.queue);
+    this.label("requests in the queue", narrow ? [at.queue[0], 1.2 * em] : at.queue);
     ends(at.queue, most, 0);
-    for (const [kind, name] of LANES) this.label(name, at[kind], `${(100 * this.run.coverages[kind].within(begin, end) / this.span).toFixed(1)} %`);
+    for (const [kind, name] of this.lanes) this.label(name, at[kind], `${(100 * this.run.coverages[kind].within(begin, end) / this.span).toFixed(1)} %`);
   }
 
   /** The height of a track: cylinders from below, and heads as a part of one. */
@@ -263,11 +207,13 @@ class Timeline {
       const { track } = run.disk.stretch(gots.sector[got], 1);
       line(HOWS[gots.how[got]], gots.begin[got], gots.end[got], track, track);
     }
+    for (let act = Math.max(0, from); act <= to; act++) for (const put of run.putsOf(act))
+      line("put", run.puts.begin[put], run.puts.end[put], run.spills.track[run.spillOf[act]], run.spills.track[run.spillOf[act]]);
     pen.save();
     pen.beginPath();
     pen.rect(this.left, this.at.way[0], this.dots, this.at.way[1]);
     pen.clip();
-    for (const kind of ["move", "rest", "wait", "read", "write", "gap", "idle", "ride"]) {
+    for (const kind of Object.keys(WIDTHS)) {
       pen.lineWidth = WIDTHS[kind] * base.scale;
       pen.strokeStyle = page.colours[kind];
       pen.stroke(paths[kind]);

@@ -54,6 +54,13 @@ function backLine(run, row) {
     acts.leave[index]].join(" ");
 }
 
+/** A line of the text of spills. */
+function spillLine(run, index) {
+  const { spills, puts, disk } = run, { spill, put } = run.spillLines[index];
+  if (put < 0) return ["spill", run.name(spills.act[spill]), disk.trackText(spills.track[spill]), spills.begin[spill], spills.end[spill]].join(" ");
+  return ["wrote", puts.put[put], puts.sector[put], puts.length[put], puts.begin[put], puts.end[put], contentsText(run, "spill", index)].join(" ");
+}
+
 /** Numbers as words: 3 and 4; 5 to 9. */
 function numbersText(numbers) {
   const runs = [];
@@ -80,13 +87,20 @@ function blocksText(run, act, hows) {
   }).join(", and ");
 }
 
+/** What is written in a gap. */
+function putsText(run, act) {
+  const puts = run.putsOf(act).map(put => run.puts.put[put]), told = numbersText(puts);
+  if (!puts.length) return "";
+  return told ? `put${puts.length === 1 ? "" : "s"} ${told} ${puts.length === 1 ? "is" : "are"} written` : `${puts.length} blocks are written`;
+}
+
 /** The way of the head before a request, and the request. */
 function requestWords(run, act) {
   const { acts, disk } = run, name = `Request ${run.name(act)}`, first = `sector ${acts.sector[act]}`;
   const read = run.isRead(act), what = sectorsText(acts.sector[act], acts.length[act]);
   const queued = acts.begin[act] - acts.arrival[act], wait = run.coverages.wait.within(acts.begin[act], acts.media[act]);
-  const moves = acts.media[act] - acts.begin[act] - wait, caught = blocksText(run, act, [BY_GAP]), rides = blocksText(run, act, [BY_RIDE]);
-  const detour = acts.by[act] < 0 ? "" : ` by way of ${disk.trackText(acts.by[act])}`;
+  const moves = acts.media[act] - acts.begin[act] - wait, caught = blocksText(run, act, [BY_GAP]) || putsText(run, act), rides = blocksText(run, act, [BY_RIDE]);
+  const by = run.spillOf[act] < 0 ? acts.by[act] : run.spills.track[run.spillOf[act]], detour = by < 0 ? "" : ` by way of ${disk.trackText(by)}`;
   const way = moves ? `moves for ${duration(moves)} from track ${disk.trackText(acts.source[act])} to ${disk.trackText(acts.target[act])}${detour}`
     : `stays on track ${disk.trackText(acts.target[act])}`;
   return `${name} ${read ? "reads" : "writes"} ${what}. It ${queued ? `is in the queue for ${duration(queued)}, then` : "begins as it arrives,"} `

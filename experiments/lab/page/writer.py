@@ -9,39 +9,17 @@ import tomllib
 import zlib
 from pathlib import Path
 from string import Template
-from typing import Any, NamedTuple
+from typing import Any
 
-from lab.angles import checked
-from lab.disk import Disk
 from lab.page.kept import Kept
-from lab.reports import rows
+from lab.reading import Reports
 
 HERE = Path(__file__).resolve().parent
-SCRIPTS = ("inflate", "data", "disk", "sums", "run", "figures", "words", "timeline", "platter", "lines", "tasks", "find",
-           "main")
+SCRIPTS = ("inflate", "data", "disk", "sums", "run", "figures", "words", "drawing", "timeline", "platter", "lines", "tasks",
+           "find", "main")
 
 
-class Wish(NamedTuple):
-    """What the page is to show; instants in nanoseconds."""
-
-    params: str
-    fore: str
-    back: str | None
-    spill: str | None
-    title: str
-    begin: int
-    end: int | None  # None: up to the run's end
-
-
-def kept_of(disk: Disk, wish: Wish) -> Kept:
-    """The rows of the stretch. The whole run is read, as a task's figures are those of its whole run."""
-    kept = Kept(disk, wish.fore, wish.back, wish.begin, wish.end)
-    for row in checked(disk, rows(wish.fore, wish.back)):
-        kept.add(row)
-    return kept
-
-
-def write_page(wish: Wish, kept: Kept, path: str) -> None:
+def write_page(path: str, title: str, params: str, reports: Reports, kept: Kept) -> None:
     """Writes the page of these rows."""
     shapes, octets = {}, []
     for name, table in kept.tables().items():
@@ -52,25 +30,23 @@ def write_page(wish: Wish, kept: Kept, path: str) -> None:
         text = "\n".join(lines).encode()
         texts[name] = {"lines": len(lines), "bytes": len(text)}
         octets.append(text)
-    about = {"tables": shapes, "texts": texts, **_about(wish, kept)}
+    about = {"title": title, "tables": shapes, "texts": texts, **_about(params, reports, kept)}
     with open(path, "w", encoding="ascii") as out:
-        out.write(_page(wish.title, about, b"".join(octets)))
+        out.write(_page(title, about, b"".join(octets)))
 
 
-def _about(wish: Wish, kept: Kept) -> dict[str, Any]:
+def _about(params: str, reports: Reports, kept: Kept) -> dict[str, Any]:
     """All that isn't a row."""
-    names = {"params": wish.params, "fore": wish.fore, "back": wish.back, "spill": wish.spill}
+    files = {"params": params, "fore": reports.fore, "back": reports.back, "spill": reports.spill}
     return {
-        "title": wish.title,
-        "files": {kind: os.path.basename(path) if path else None for kind, path in names.items()},
-        "disk": _disk(wish.params),
-        "whole": wish.begin <= 0 and wish.end is None,
-        "first": kept.first or 0, "last": kept.last_instant, "end": kept.tasks.end,
+        "files": {kind: os.path.basename(path) if path else None for kind, path in files.items()},
+        "section": reports.section,
+        "disk": _disk(params),
+        "whole": kept.begin <= 0 and kept.end is None,
+        "first": kept.first or 0, "last": kept.last_instant, "end": kept.ending.end or kept.last_instant,
         "first lines": kept.first_lines,
         "contents left out": {name: ends.left_out for name, ends in kept.ends.items()},
-        "task numbers": kept.about_tasks(),
-        "tasks": {name: {key: value for key, value in vars(task).items() if not key.startswith("_")}
-                  for name, task in kept.tasks.by_name.items()},
+        "tasks": kept.about_tasks(),
     }
 
 
