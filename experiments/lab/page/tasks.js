@@ -44,8 +44,8 @@ class TaskTable {
   }
 
   fill(most) {
-    const head = ["task", "kind", "at the end", "blocks", "delivered", "given up", "left", "read again", "first delivery", "last delivery",
-      "complete", "sealed", "blocks that are in, over time", "in at the cursor"];
+    const head = ["task", "kind", "blocks that are in, over time", "in at the cursor", "at the end", "blocks", "delivered", "given up", "left",
+      "read again", "first delivery", "last delivery", "complete", "sealed"];
     const row = element("tr");
     row.append(...head.map(text => element("th", text, { scope: "col" })));
     const top = element("thead"), body = element("tbody");
@@ -64,14 +64,12 @@ class TaskTable {
   }
 
   row(name, task, number) {
-    const row = element("tr"), { run } = this.page, time = instant => instant === null ? "\u2013" : instantText(run, instant);
-    row.append(element("th", name, { scope: "row" }));
-    const cells = [task.kind, task.complete ? "complete" : "open", ...["blocks", "delivered", "aborted", "left", "blocks read again"].map(key => grouped(task[key])),
+    const row = element("tr"), cell = element("td"), at = element("td"), time = instant => instant === null ? "\u2013" : duration(instant);
+    cell.append(this.curve(name, task.blocks, number, at));
+    row.append(element("th", name, { scope: "row" }), element("td", task.kind), cell, at);
+    const cells = [task.complete ? "complete" : "open", ...["blocks", "delivered", "aborted", "left", "blocks read again"].map(key => grouped(task[key])),
       ...["first delivery", "last delivery", "completion", "seal"].map(key => time(task[key]))];
     row.append(...cells.map(text => element("td", text)));
-    const cell = element("td"), at = element("td");
-    cell.append(this.curve(name, task.blocks, number, at));
-    row.append(cell, at);
     return row;
   }
 
@@ -158,4 +156,10 @@ function figureRows({ foreground, response, background, spills }) {
   }
   if (spills) rows.push(["written in gaps", amount(spills.bytes, spills["MB/s"])], ["gaps with a spill", `${spills["gaps with a spill"].toFixed(2)} %`]);
   return rows;
+}
+
+/** How many blocks of a task are left at an instant, of those that are registered at the end and not given up then. */
+function leftOf(run, name, instant) {
+  const number = run.taskNames.indexOf(name), { blocks, aborted } = run.about.tasks[number].figures;
+  return blocks - aborted - new Progress(run, number).at(instant);
 }

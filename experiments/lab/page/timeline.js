@@ -3,7 +3,8 @@
 
 const LANES = [
   ["read", "foreground read"], ["write", "foreground write"], ["gap", "block read in a gap"], ["ride", "block in a read"],
-  ["idle", "block in idle time"], ["wait", "wait for the angle"], ["put", "written in a gap"], ["wait", "wait for the angle"], ["rest", "nothing to serve"], ["move", "arm or head moves"]];
+  ["idle", "block in idle time"], ["put", "written in a gap"], ["wait", "wait for the angle"], ["rest", "nothing to serve"],
+  ["move", "arm or head moves"]];
 const WIDTHS = { move: 1.1, rest: 2.4, wait: 1.6, read: 6, write: 6, gap: 4, idle: 4, put: 4, ride: 2.5 };  // from the lowest to the topmost
 const EXACT_ACTS = 700, EXACT_GOTS = 7000;  // up to so many each one is drawn by itself
 
