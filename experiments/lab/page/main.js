@@ -167,7 +167,7 @@ class Page {
   drawLegend() {
     const legend = document.getElementById("legend"), { colours } = this;
     const items = [["mark", "head"], ["read", "sectors to read"], ["write", "sectors to write"], ["wait", "way of the head: stay and wait"], ["move", "way of the head: move (dashed)"],
-      ["wanted", "block read later in the run"], ["planned", "block that is read in this gap or stay"], ["gap", "block that passes now"], ["delivered", "block read before"],
+      ["wanted", "block read later in the run"], ["planned", "block read next: in this gap or stay, or with this request"], ["gap", "block that passes now"], ["delivered", "block read before"],
       ["rest", "other sector"], ["ink", "bad slot, and a stroke at the track's first sector"]];
     legend.replaceChildren(...items.map(([kind, text]) => {
       const item = element("li"), patch = element("i");

@@ -199,7 +199,8 @@ class Platter {
       pen.fillStyle = i % 2 ? page.colours.line : page.colours.rest;
       const from = left + zone.first / disk.cylinders * wide, to = left + (zone.last + 1) / disk.cylinders * wide;
       pen.fillRect(from, top, to - from, 0.8 * em);
-      if (to - from > 6.5 * em) surface.text(`zone ${i + 1}: ${zone.slots} a track`, (from + to) / 2, top + 1.5 * em, page.colours.soft, "center");
+      const name = `zone ${i + 1}: ${zone.slots} a track`;
+      if (to - from > 0.46 * em * name.length) surface.text(name, (from + to) / 2, top + 1.5 * em, page.colours.soft, "center");
     });
     const { phase } = state, part = phase.end > phase.begin ? (page.cursor - phase.begin) / (phase.end - phase.begin) : 0;
     const head = x(phase.from) * (1 - part) + x(phase.to) * part;

@@ -17,18 +17,18 @@ class Timeline {
     this.marks = Object.fromEntries(["selection", "pointer", "cursor"].map(name => [name, document.getElementById(name)]));
   }
 
-  /** Where each part stands, in dots. */
+  /** Where each part stands, in dots. Names stand beside the parts, or above them where the page is narrow. */
   layOut() {
-    const { em, width, height } = this.base, narrow = width < 42 * em;
-    this.left = narrow ? 0 : Math.round(13 * em);
-    this.narrow = narrow;
-    const lanes = this.lanes.length * 1.5 * em, axis = 1.9 * em, arrivals = 1.2 * em, queue = 4 * em, gap = 0.6 * em;
-    const way = Math.max(6 * em, height - lanes - axis - arrivals - queue - 3 * gap);
-    const at = { way: [0, way] };
-    at.arrivals = [way + gap, arrivals];
-    at.queue = [at.arrivals[0] + arrivals + 2 * this.base.scale, queue];
-    this.lanes.forEach(([kind], i) => { at[kind] = [at.queue[0] + queue + gap + i * 1.5 * em, 1.2 * em]; });
-    at.axis = [height - axis, axis];
+    const { em, width, height } = this.base;
+    this.narrow = width < 42 * em;
+    this.left = this.narrow ? 0 : Math.round(13 * em);
+    const name = this.narrow ? 1.2 * em : 0, apart = (this.narrow ? 0.15 : 0.3) * em, axis = 1.9 * em, at = { axis: [height - axis, axis] };
+    let below = height - axis;
+    const place = (part, tall) => { at[part] = [below - tall - apart, tall]; below -= tall + apart + name; };
+    for (const [kind] of [...this.lanes].reverse()) place(kind, 1.2 * em);
+    place("queue", 4 * em);
+    place("arrivals", 1.2 * em);
+    at.way = [name, Math.max(4 * em, below - apart - name)];
     this.at = Object.fromEntries(Object.entries(at).map(([part, place]) => [part, place.map(Math.round)]));
     if (this.picture && this.picture.width === this.dots && this.picture.height === height) return;
     this.picture = new Dots(this.dots, height);
@@ -66,7 +66,10 @@ class Timeline {
     for (const [kind] of this.lanes) this.drawLane(run.coverages[kind], this.at[kind], page.word(kind));
     base.clear();
     base.pen.putImageData(picture.image, this.left, 0);
-    if (isExact) this.drawLines(from, to);
+    if (isExact) {
+      this.drawLines(from, to);
+      this.drawRequests(from, to);
+    }
     this.drawNames(instants, most);
   }
 
@@ -95,19 +98,10 @@ class Timeline {
 
   /** The name of a part, with a figure beside it. */
   label(name, [top, height], figure = "") {
-    const { base, page } = this, middle = top + height / 2;
-    if (!this.narrow) {
-      base.text(name, this.left - (figure ? 4.3 : 0.6) * base.em, middle, page.colours.ink, "right");
-      base.text(figure, this.left - 0.6 * base.em, middle, page.colours.soft, "right");
-      return;
-    }
-    if (figure) name += `, ${figure}`;
-    base.pen.globalAlpha = 0.72;
-    base.pen.fillStyle = page.colours.ground;
-    base.pen.font = `${0.82 * base.em}px sans-serif`;
-    base.pen.fillRect(0, top, base.pen.measureText(name).width + 0.9 * base.em, height);
-    base.pen.globalAlpha = 1;
-    base.text(name, 0.3 * base.em, top + height / 2, page.colours.ink);
+    const { base, page } = this, { em } = base, { ink, soft } = page.colours, y = this.narrow ? top - 0.55 * em : top + height / 2;
+    if (this.narrow) base.text(figure ? `${name}, ${figure}` : name, 0.3 * em, y, ink);
+    else base.text(name, this.left - (figure ? 4.3 : 0.6) * em, y, ink, "right");
+    if (figure && !this.narrow) base.text(figure, this.left - 0.6 * em, y, soft, "right");
   }
 
   /** The instants that are named below: where they stand in the picture, and their names. */
@@ -158,19 +152,19 @@ class Timeline {
 
   /** The names of all parts, and the figures that belong to them. */
   drawNames(instants, most) {
-    const { base, page, at, narrow } = this, { em } = base, { soft } = page.colours, { first, last } = this.run.cylinders, { begin, end } = page.view;
+    const { base, page, at } = this, { em } = base, { soft } = page.colours, { first, last } = this.run.cylinders, { begin, end } = page.view;
     for (const { x, text } of instants) {
       const half = 0.25 * em * text.length, middle = this.left + x;
       if (middle + half < base.width && middle - half > 0) base.text(text, middle, at.axis[0] + at.axis[1] / 2, soft, "center");
     }
-    const right = narrow ? base.width - 0.3 * em : this.left - 0.6 * em, ends = ([top, height], high, low) => {
+    const right = this.narrow ? base.width - 0.3 * em : this.left - 0.6 * em, ends = ([top, height], high, low) => {
       base.text(String(high), right, top + 0.6 * em, soft, "right");
       base.text(String(low), right, top + height - 0.6 * em, soft, "right");
     };
-    this.label("cylinder", narrow ? [at.axis[0] * 0, 1.2 * em] : at.way);
+    this.label("cylinder", at.way);
     ends(at.way, last, first);
     this.label("arrivals", at.arrivals);
-    this.label("requests in the queue", narrow ? [at.queue[0], 1.2 * em] : at.queue);
+    this.label("requests in the queue", at.queue);
     ends(at.queue, most, 0);
     for (const [kind, name] of this.lanes) this.label(name, at[kind], `${(100 * this.run.coverages[kind].within(begin, end) / this.span).toFixed(1)} %`);
   }
@@ -220,6 +214,17 @@ class Timeline {
       pen.stroke(paths[kind]);
     }
     pen.restore();
+  }
+
+  /** The names of requests on their bars, where there is room. */
+  drawRequests(from, to) {
+    const { run, base, page, at } = this, { begin, end } = page.view;
+    for (let act = from; act <= to; act++) {
+      if (run.isIdle(act)) continue;
+      const name = run.name(act), left = this.x(Math.max(begin, run.acts.media[act])), right = this.x(Math.min(end, run.acts.finish[act]));
+      const [top, height] = at[run.isRead(act) ? "read" : "write"];
+      if (right - left > (0.55 * name.length + 0.4) * base.em) base.text(name, (left + right) / 2, top + height / 2, page.colours.ground, "center");
+    }
   }
 
   /** How long the head is in each band of cylinders: the stronger, the longer. */
@@ -286,7 +291,7 @@ class Overview {
     pen.drawImage(this.kept, 0, 0);
     const x = instant => (instant - begin) / (end - begin || 1) * surface.width, wide = Math.max(3 * surface.scale, x(page.view.end) - x(page.view.begin));
     const from = Math.min(x(page.view.begin), surface.width - wide);
-    pen.globalAlpha = 0.62;
+    pen.globalAlpha = 0.5;
     pen.fillStyle = page.colours.ground;
     pen.fillRect(0, 0, from, surface.height);
     pen.fillRect(from + wide, 0, surface.width, surface.height);
