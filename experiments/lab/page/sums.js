@@ -154,16 +154,16 @@ class Heat {
     for (let i = this.bands; i < this.sums.length; i++) this.sums[i] += this.sums[i - this.bands];
   }
 
-  /** The share of the time of each of many steps in each band, as `found[step * bands + band]`; between two borders of
+  /** The share of the time of each of many steps in each band, as `found[band * steps + step]`; between two borders of
    * bins the sums go in a straight line. */
   shares(begin, step, found) {
-    const { bands, sums, bins } = this, before = new Float64Array(bands);
-    for (let i = -1; i < found.length / bands; i++) {
+    const { bands, sums, bins } = this, steps = found.length / bands, before = new Float64Array(bands);
+    for (let i = -1; i < steps; i++) {
       const at = Math.min(bins, Math.max(0, (begin + (i + 1) * step - this.begin) / this.width)), bin = Math.min(bins - 1, Math.floor(at));
       const part = at - bin, low = bin * bands;
       for (let band = 0; band < bands; band++) {
         const sum = sums[low + band] + (sums[low + bands + band] - sums[low + band]) * part;
-        if (i >= 0) found[i * bands + band] = (sum - before[band]) / step;
+        if (i >= 0) found[band * steps + i] = (sum - before[band]) / step;
         before[band] = sum;
       }
     }

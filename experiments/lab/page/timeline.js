@@ -237,7 +237,7 @@ class Timeline {
       if (band === before) { picture.words.copyWithin(row, row - dots, row); continue; }
       before = band;
       for (let x = 0; x < dots; x++) {
-        const share = shares[x * bands + band];
+        const share = shares[band * dots + x];
         if (share > 0) picture.words[row + x] = colours[24 + Math.round(231 * Math.sqrt(Math.min(1, share)))];
       }
     }
