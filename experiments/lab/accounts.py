@@ -120,16 +120,22 @@ class Bookkeeper:
         account.services += served.finish - served.start
 
 
-def merged(passages: Iterable[tuple[int, int]]) -> Iterator[tuple[int, int]]:
-    """The time in which at least one of the passages lasts, as stretches that don't overlap."""
-    covered = 0
-    for begin, end in sorted(passages):
-        if end > covered:
-            yield max(begin, covered), end
-            covered = end
+def merged(passages: list[tuple[int, int]]) -> Iterator[tuple[int, int]]:
+    """The time in which at least one of the passages lasts, as stretches that don't touch."""
+    if not passages:
+        return
+    ascending = sorted(passages)
+    low, high = ascending[0]
+    for begin, end in ascending:
+        if begin > high:
+            yield low, high
+            low, high = begin, end
+        elif end > high:
+            high = end
+    yield low, high
 
 
-def union_length(passages: Iterable[tuple[int, int]]) -> int:
+def union_length(passages: list[tuple[int, int]]) -> int:
     """How long at least one of the passages lasts."""
     return sum(end - begin for begin, end in merged(passages))
 

@@ -8,7 +8,7 @@ from lab.accounts import merged
 from lab.disk import Disk
 from lab.drawing import AMBER, GREEN, LIGHT, MIDDLE, NAVY, OTHERS, RED, colours_of, panels, save
 from lab.ending import Ending, ending_of
-from lab.pieces import ON_THE_WAY, Piece, pieces
+from lab.pieces import Piece, pieces
 from lab.queueing import Queue, queue_of
 from lab.reading import Reports, run_rows
 from lab.refusals import Refused
@@ -41,17 +41,18 @@ class Bins:
 
     def add(self, name: str, begin: int, end: int, amount: float) -> None:
         """Spreads an amount evenly from one instant to another; what lies outside of the stretch isn't counted."""
-        sums = self.of.setdefault(name, [0.0] * BINS)
-        low, high = max(begin, self.begin) - self.begin, min(end, self.end) - self.begin
-        if high <= low:
+        sums = self.of.get(name)
+        if sums is None:
+            sums = self.of[name] = [0.0] * BINS
+        low, high = begin - self.begin, end - self.begin
+        first = int(low / self.width)
+        if low >= 0 and first < BINS and high <= (first + 1) * self.width:
+            sums[first] += amount
             return
-        each = amount / (end - begin)
-        first, last = int(low / self.width), min(int(high / self.width), BINS - 1)
-        if first == last:
-            sums[first] += each * (high - low)
-            return
-        for at in range(first, last + 1):
-            sums[at] += each * max(0.0, min(high, (at + 1) * self.width) - max(low, at * self.width))
+        low, high = max(low, 0), min(high, self.end - self.begin)
+        for at in range(int(low / self.width), min(int(high / self.width), BINS - 1) + 1):
+            there = min(high, (at + 1) * self.width) - max(low, at * self.width)
+            sums[at] += amount * max(0.0, there) / (end - begin)
 
     def sums(self, name: str) -> list[float]:
         """The sums of a name."""
@@ -112,27 +113,46 @@ def _inside(found: Iterable[Row], tasks: Tasks, begin: int, end: int) -> Iterato
             yield row
 
 
+class Passages:
+    """The blocks of one kind that pass in a stay, or in a read."""
+
+    def __init__(self) -> None:
+        self.found: list[tuple[int, int]] = []
+        self.sectors = 0
+
+    def add(self, piece: Piece) -> None:
+        """One more block."""
+        self.found.append((piece.begin, piece.end))
+        self.sectors += piece.sectors
+
+    def sum_up(self, bins: Bins, kind: str, sector_bytes: int) -> None:
+        """Counts the time in which at least one passes, and spreads the bytes over it; then there are none."""
+        stretches = list(merged(self.found))
+        lasted = sum(end - begin for begin, end in stretches)
+        for begin, end in stretches:
+            bins.add(f"time {kind}", begin, end, end - begin)
+            bins.add(f"bytes {kind}", begin, end, self.sectors * sector_bytes * (end - begin) / lasted)
+        self.found, self.sectors = [], 0
+
+
 def _sum_up(bins: Bins, disk: Disk, found: Iterable[Piece]) -> None:
-    """Times by kind (of blocks, of the union of those of a stay), and bytes by kind."""
-    passages: dict[str, list[tuple[int, int]]] = {"gap": [], "idle": []}
+    """Times and bytes by kind."""
+    blocks = {kind: Passages() for kind in ("gap", "idle", "ride", "put")}
     for piece in found:
-        kind, begin, end = piece.kind, piece.begin, piece.end
-        if kind in ON_THE_WAY or kind in ("read", "write"):
-            _add_passages(bins, passages)
-        if kind in passages:
-            passages[kind].append((begin, end))
-        elif kind != "ride" and end > begin:
-            bins.add(f"time {kind}", begin, end, end - begin)
+        of_kind = blocks.get(piece.kind)
+        if of_kind is not None:
+            of_kind.add(piece)
+            continue
+        for kind, passages in blocks.items():
+            if passages.sectors:
+                passages.sum_up(bins, kind, disk.sector_bytes)
+        begin, end = piece.begin, piece.end
+        if end > begin:
+            bins.add(f"time {piece.kind}", begin, end, end - begin)
         if piece.sectors:
-            bins.add(f"bytes {kind}", begin, end, piece.sectors * disk.sector_bytes)
-    _add_passages(bins, passages)
-
-
-def _add_passages(bins: Bins, passages: dict[str, list[tuple[int, int]]]) -> None:
-    for kind, of_stay in passages.items():
-        for begin, end in merged(of_stay):
-            bins.add(f"time {kind}", begin, end, end - begin)
-        of_stay.clear()
+            bins.add(f"bytes {piece.kind}", begin, end, piece.sectors * disk.sector_bytes)
+    for kind, passages in blocks.items():
+        passages.sum_up(bins, kind, disk.sector_bytes)
 
 
 def shares(bins: Bins) -> dict[str, list[float]]:
