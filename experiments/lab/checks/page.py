@@ -1,15 +1,19 @@
 """`page` in a browser: of the README's example and of a made run. What the page tells is what `measure` and the reports
 say; it zooms, hovers, plays and finds; names are text; and nothing is said on the console."""
 
+import base64
 import json
 import time
+import zlib
 from pathlib import Path
 from typing import Any
 
 from lab.checks._browser import Browser, has_chromium
 from lab.checks._tools import EXAMPLES, HERE, SMALL_DISK, differences, ended, run, small_run
 from lab.disk import Disk
+from lab.page import kept
 from lab.program import program
+from lab.reading import Reports
 
 NAME = "<img src=x onerror=alert(1)>"
 GROUPS = ("foreground", "response", "time", "background")
@@ -22,15 +26,17 @@ def check(folder: Path) -> list[str]:
         return []
     faults = refusals(folder)
     with Browser(folder) as browser:
-        for params, fore, back, spill in (example(folder), made(folder), log(folder), worn(folder)):
+        for params, fore, back, spill in (example(folder), log(folder), worn(folder), made(folder)):
             page = folder / f"{NAME}.html"
             told = ["--spill", spill] if spill else []
             run(HERE / "page", params, fore, back, page, *told, "--title", NAME)
             browser.size(1300, 900)
             browser.open(page)
             found = shown(browser, params, fore, back, spill) + used(browser)
-            faults += [f"the page of {fore.name}: {fault}" for fault in found + browser.console]
-            browser.console.clear()
+            faults += [f"the page of {fore.name}: {fault}" for fault in found]
+        faults += stretch(browser, params, fore, back, folder) + too_long(params, fore, back)
+        faults += touched(browser) + calm(browser) + inflated(browser)
+        faults += [f"on the console: {said}" for said in browser.console]
     return faults
 
 
@@ -192,6 +198,72 @@ def texts(browser: Browser) -> list[str]:
                                         "head: document.querySelector('h1').textContent, "
                                         "loaded: performance.getEntriesByType('resource').length})")
     return [] if facts == {"images": 0, "title": NAME, "head": NAME, "loaded": 0} else [f"names aren't text: {facts}"]
+
+
+def stretch(browser: Browser, params: Path, fore: Path, back: Path, folder: Path) -> list[str]:
+    """A page of a stretch tells the same of it as the page of the whole run, which is open."""
+    script = ("(({page, run}) => ({figures: figuresOf(run, 2.5e9, 3.5e9), queue: [2.5e9, 2.9e9, 3.4e9].map(t => run.queue.at(t)),"
+              "left: run.taskNames.map(name => [2.5e9, 3.4e9].map(t => leftOf(run, name, t))), row: backLine(run, run.rowAt(3e9)),"
+              "line: page.lineOf(run.rowAt(3e9)), arrivals: run.arrivals.upTo(3.4e9) - run.arrivals.upTo(2.5e9)}))(freeblock)")
+    whole = browser.run(script)
+    page = folder / "stretch.html"
+    run(HERE / "page", params, fore, back, page, "--from", "2400", "--to", "3600")
+    browser.open(page)
+    return differences(browser.run(script), whole, "the stretch")
+
+
+def too_long(params: Path, fore: Path, back: Path) -> list[str]:
+    """A run of more rows than a page holds is refused with a stretch that fits."""
+    greatest, kept.GREATEST = kept.GREATEST, 2000
+    try:
+        kept.kept_of(Disk(str(params)), Reports(str(fore), str(back)), 0, None)
+    except kept.TooLong as long:
+        words = str(long).split()
+        end = round(float(words[words.index("--to") + 1]) * 1e6)
+        kept.kept_of(Disk(str(params)), Reports(str(fore), str(back)), 0, end)
+        return []
+    finally:
+        kept.GREATEST = greatest
+    return ["a run that is too long for a page isn't refused"]
+
+
+def touched(browser: Browser) -> list[str]:
+    """Two fingers zoom on a telephone, and the page isn't wider than it."""
+    browser.size(390, 844, mobile=True)
+    browser.settle()
+    box = browser.box("timeline")
+    y, span = round(box["y"] + 60), browser.run("freeblock.page.show(freeblock.run.begin, freeblock.run.end); freeblock.page.timeline.span")
+    for kind, apart in (("Start", 40), ("Move", 60), ("Move", 120)):
+        points = [{"x": 190 - apart / 2, "y": y, "id": 1}, {"x": 190 + apart / 2, "y": y, "id": 2}]
+        browser.ask("Input.dispatchTouchEvent", type=f"touch{kind}", touchPoints=points)
+    browser.ask("Input.dispatchTouchEvent", type="touchEnd", touchPoints=[])
+    browser.settle()
+    faults = [] if browser.run("freeblock.page.timeline.span") < 0.6 * span else ["two fingers don't zoom"]
+    wide = browser.run("document.documentElement.scrollWidth")
+    browser.size(1300, 900)
+    return faults + ([] if wide == 390 else [f"the page is {wide} wide on a telephone"])
+
+
+def calm(browser: Browser) -> list[str]:
+    """Where less motion is wished for, playing goes on in steps of a second."""
+    browser.wish(prefers_reduced_motion="reduce", prefers_color_scheme="dark")
+    browser.run("freeblock.page.setCursor(freeblock.run.begin + 1000); freeblock.page.player.toggle()")
+    time.sleep(0.3)
+    moved = browser.run("freeblock.page.cursor - freeblock.run.begin - 1000")
+    browser.run("freeblock.page.player.toggle()")
+    browser.wish()
+    return [] if moved == 0 else ["it moves on and on where less motion is wished for"]
+
+
+def inflated(browser: Browser) -> list[str]:
+    """What a browser unpacks without a DecompressionStream, packed in each way that there is."""
+    text, faults = bytes(place * place % 251 for place in range(70_000)) + bytes(9_000), []
+    for level, strategy in ((0, zlib.Z_DEFAULT_STRATEGY), (9, zlib.Z_DEFAULT_STRATEGY), (6, zlib.Z_FIXED)):
+        packer = zlib.compressobj(level, strategy=strategy)
+        packed = base64.b64encode(packer.compress(text) + packer.flush()).decode()
+        found = browser.run(f"btoa(Array.from(inflate(bytesOf('{packed}'), {len(text)}), c => String.fromCharCode(c)).join(''))")
+        faults += [] if base64.b64decode(found) == text else [f"level {level} isn't unpacked"]
+    return faults
 
 
 def refusals(folder: Path) -> list[str]:

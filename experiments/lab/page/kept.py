@@ -144,7 +144,7 @@ class Kept:
             more = known.task.left - before
             if more and self._open:
                 self.overwritten.add((known.number, more, len(self.acts) - 1))
-            else:
+            elif self.first is None:
                 known.before -= more
 
     def _add_act(self, row: Gap | Idle) -> None:

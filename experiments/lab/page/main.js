@@ -201,6 +201,7 @@ class Player {
     this.playing = !this.playing;
     this.button.setAttribute("aria-pressed", String(this.playing));
     this.button.textContent = this.playing ? "Stop" : "Play";
+    document.getElementById("words").setAttribute("aria-live", this.playing ? "off" : "polite");
     if (!this.playing) return;
     const { page } = this, pace = Number(this.speed.value), span = page.view.end - page.view.begin;
     if (page.cursor >= page.run.end) page.setCursor(page.run.begin);
