@@ -55,5 +55,6 @@ function heldOf(about, bytes) {
 function heldLength(about) {
   const tables = Object.values(about.tables), texts = Object.values(about.texts);
   const width = shape => shape.columns.reduce((sum, [, bytes]) => sum + bytes, 0);
-  return tables.reduce((sum, shape) => sum + shape.rows * width(shape), 0) + texts.reduce((sum, text) => sum + text.bytes, 0);
+  return tables.reduce((sum, shape) => sum + shape.rows * width(shape), 0)
+    + texts.reduce((sum, text) => sum + text.bytes, 0);
 }

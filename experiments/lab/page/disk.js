@@ -76,7 +76,8 @@ class Disk {
   /** Where a sector lies, and how many of the sectors from it on follow in the next slots of its track. */
   stretch(sector, count) {
     const zone = this.zones[lastAtMost(this.zones.length, i => this.zones[i].begin, sector)];
-    const cylinder = zone.first + Math.floor((sector - zone.begin) / zone.data), index = (sector - zone.begin) % zone.data;
+    const cylinder = zone.first + Math.floor((sector - zone.begin) / zone.data),
+      index = (sector - zone.begin) % zone.data;
     if (this.defects.has(cylinder) || this.grown.has(cylinder))
       return listedStretch(this.dataList(cylinder), index, count, zone.slots);
     const track = cylinder * this.heads + Math.floor(index / zone.trackData), place = index % zone.trackData;
@@ -119,10 +120,13 @@ class Disk {
     const slots = new Array(zone.slots).fill(SPARE), begin = zone.begin + (cylinder - zone.first) * zone.data;
     if (!this.defects.has(cylinder) && !this.grown.has(cylinder)) {
       const data = Math.min(zone.trackData, zone.data - head * zone.trackData), offset = this.offset(track);
-      for (let place = 0; place < data; place++) slots[(offset + place) % zone.slots] = begin + head * zone.trackData + place;
+      for (let place = 0; place < data; place++)
+        slots[(offset + place) % zone.slots] = begin + head * zone.trackData + place;
       return slots;
     }
-    this.dataList(cylinder).forEach((place, index) => { if (place.track === track) slots[place.slot] = begin + index; });
+    this.dataList(cylinder).forEach((place, index) => {
+      if (place.track === track) slots[place.slot] = begin + index;
+    });
     for (const [bad, slot] of [...this.defects.get(cylinder) || [], ...this.grown.get(cylinder) || []])
       if (bad === head) slots[slot] = DEFECT;
     return slots;

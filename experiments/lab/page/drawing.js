@@ -39,7 +39,8 @@ class Dots {
   }
 
   fill(left, top, width, height, colour) {
-    for (let y = Math.max(0, top); y < Math.min(this.height, top + height); y++) this.words.fill(colour, y * this.width + left, y * this.width + left + width);
+    for (let y = Math.max(0, top); y < Math.min(this.height, top + height); y++)
+      this.words.fill(colour, y * this.width + left, y * this.width + left + width);
   }
 
   /** Columns from below, as high as the heights say; where they are thin, their upper ends alone. */

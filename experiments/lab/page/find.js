@@ -9,7 +9,8 @@ function matcherOf(run, kind, text) {
   }
   if (kind === "task") {
     const task = run.taskNames.indexOf(text);
-    return (type, index) => type === NOTE ? run.notes[index].split(" ")[1] === text : type !== ACT && gots.task[index] === task;
+    return (type, index) => type === NOTE ? run.notes[index].split(" ")[1] === text : type !== ACT
+      && gots.task[index] === task;
   }
   if (number === null) return null;
   const within = (table, index) => table.sector[index] <= number && number < table.sector[index] + table.length[index];
@@ -34,7 +35,8 @@ class Finder {
     this.state = document.getElementById("find-state");
     const names = document.getElementById("task-names");
     this.kind.addEventListener("change", () => {
-      names.replaceChildren(...(this.kind.value === "task" ? page.run.taskNames.slice(0, 200) : []).map(name => new Option(name, name)));
+      names.replaceChildren(...(this.kind.value === "task" ? page.run.taskNames.slice(0, 200) : [])
+        .map(name => new Option(name, name)));
     });
     document.getElementById("find").addEventListener("submit", event => { event.preventDefault(); this.find(1); });
     document.getElementById("find-back").addEventListener("click", () => this.find(-1));
@@ -44,9 +46,11 @@ class Finder {
     const { page } = this, kind = this.kind.value, text = this.text.value.trim();
     if (kind === "instant") { this.findInstant(text); return; }
     const matches = matcherOf(page.run, kind, text);
-    const row = matches ? findRow(page.run, matches, page.selected === null ? (step > 0 ? -1 : 0) : page.selected, step) : -1;
+    const row = matches ? findRow(page.run, matches, page.selected === null ? (step > 0 ? -1 : 0) : page.selected,
+      step) : -1;
     if (row >= 0) page.goTo(row);
-    this.state.textContent = !matches ? `${kind === "task" ? "A task" : `A ${kind}`} is found by its ${kind === "task" ? "name" : "number"}.`
+    this.state.textContent = !matches
+      ? `${kind === "task" ? "A task" : `A ${kind}`} is found by its ${kind === "task" ? "name" : "number"}.`
       : row < 0 ? `No row of ${kind} ${text}.` : `Line ${page.lineOf(row)}.`;
   }
 

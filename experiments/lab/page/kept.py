@@ -23,8 +23,8 @@ class TooLong(WrongInput):
     """A run with more rows than a page can hold."""
 
     def __init__(self, begin: int, instant: int, end: int) -> None:
-        super().__init__(f"a page holds {GREATEST} rows, and the run has more: choose a stretch of its {end / 1e6:.6f} ms, "
-                         f"such as --from {begin / 1e6:.6f} --to {instant / 1e6:.6f}")
+        super().__init__(f"a page holds {GREATEST} rows, and the run has more: choose a stretch of its "
+                         f"{end / 1e6:.6f} ms, such as --from {begin / 1e6:.6f} --to {instant / 1e6:.6f}")
 
 
 class Ends:
@@ -61,7 +61,7 @@ class Ends:
 
 @dataclass
 class Known:
-    """What is known of a task: its number in the tables, how much of it was in before them, and what is expected next."""
+    """What is known of a task: its number in the tables, how much was in before them, and what is expected next."""
 
     task: Task
     number: int
@@ -190,7 +190,8 @@ class Kept:
     def _add_idle(self, idle: Idle) -> None:
         track, last = self._track(idle.track), self._last
         self.kinds.add((KINDS["act"],))
-        self.acts.add((IDLE, 0, 0, 0, 0, idle.begin - last.end, idle.end - idle.begin, 0, track - last.target, track, 0, 0))
+        self.acts.add((IDLE, 0, 0, 0, 0, idle.begin - last.end, idle.end - idle.begin, 0, track - last.target, track, 0,
+                       0))
         last.end, last.instant, last.target = idle.end, idle.begin, track
 
     def _add_got(self, got: Got) -> None:
@@ -206,7 +207,8 @@ class Kept:
         if self._open:
             self.kinds.add((KINDS[got.how],))
             self.gots.add((known.number, again, fewer, got.number - known.next_block, got.sector - known.next_sector,
-                           got.length, got.begin - self._last.instant, got.end - got.begin, self.ends["back"].of(got.line)))
+                           got.length, got.begin - self._last.instant, got.end - got.begin,
+                           self.ends["back"].of(got.line)))
             known.next_block, known.next_sector = got.number + 1, got.sector + got.length
             self._last.instant = got.end
         elif self.first is None:

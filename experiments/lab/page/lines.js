@@ -10,7 +10,8 @@ class Lines {
     this.list = this.room.appendChild(document.createElement("ol"));
     this.select = document.getElementById("report");
     const { files } = page.about;
-    for (const [name, text] of [["back", "background report"], ["fore", "foreground report"], ["spill", "text of spills"]])
+    for (const [name, text] of [["back", "background report"], ["fore", "foreground report"],
+      ["spill", "text of spills"]])
       if (files[name]) this.select.append(new Option(`${text} (${files[name]})`, name));
     this.select.addEventListener("change", () => this.turnTo(this.select.value));
     this.box.addEventListener("scroll", () => page.draw("lines"));
@@ -56,14 +57,16 @@ class Lines {
   }
 
   draw() {
-    const { box, list } = this, shown = Math.ceil(box.clientHeight / this.rowHeight) + 1, top = box.scrollTop * this.pace;
+    const { box, list } = this, shown = Math.ceil(box.clientHeight / this.rowHeight) + 1,
+      top = box.scrollTop * this.pace;
     this.room.style.height = `${this.height}px`;
     const first = Math.max(0, Math.min(Math.floor(top), this.count - shown)), rows = [];
     const selected = this.page.selected === null ? -1 : this.indexOf(this.page.selected);
     for (let i = first; i < Math.min(this.count, first + shown); i++) rows.push(this.line(i, i === selected));
     list.replaceChildren(...rows);
     list.style.top = `${Math.min(box.scrollTop, this.height - rows.length * this.rowHeight)}px`;
-    box.setAttribute("aria-activedescendant", rows.some(row => row.id === `line-${selected}`) ? `line-${selected}` : "");
+    const isSeen = rows.some(row => row.id === `line-${selected}`);
+    box.setAttribute("aria-activedescendant", isSeen ? `line-${selected}` : "");
   }
 
   line(index, isSelected) {
@@ -79,8 +82,10 @@ class Lines {
 
   /** Scrolls so that a row's line can be seen. */
   show(row) {
-    const index = this.indexOf(row), shown = Math.floor(this.box.clientHeight / this.rowHeight), top = this.box.scrollTop * this.pace;
-    if (this.pace && (index < top || index > top + shown - 1)) this.box.scrollTop = Math.max(0, index - shown / 2) / this.pace;
+    const index = this.indexOf(row), shown = Math.floor(this.box.clientHeight / this.rowHeight),
+      top = this.box.scrollTop * this.pace;
+    if (this.pace && (index < top || index > top + shown - 1))
+      this.box.scrollTop = Math.max(0, index - shown / 2) / this.pace;
     this.page.draw("lines");
   }
 
@@ -90,8 +95,10 @@ class Lines {
   }
 
   pressed(event) {
-    const shown = Math.floor(this.box.clientHeight / this.rowHeight), at = this.page.selected === null ? -1 : this.indexOf(this.page.selected);
-    const to = { ArrowUp: at - 1, ArrowDown: at + 1, PageUp: at - shown, PageDown: at + shown, Home: 0, End: this.count - 1 }[event.key];
+    const shown = Math.floor(this.box.clientHeight / this.rowHeight);
+    const at = this.page.selected === null ? -1 : this.indexOf(this.page.selected);
+    const to = { ArrowUp: at - 1, ArrowDown: at + 1, PageUp: at - shown, PageDown: at + shown, Home: 0,
+      End: this.count - 1 }[event.key];
     if (to === undefined || !this.count) return;
     event.preventDefault();
     this.page.goTo(this.rowOf(Math.min(this.count - 1, Math.max(0, to))));

@@ -2,7 +2,8 @@
 
 const SPEEDS = [100, 1e3, 1e4, 1e5, 1e6, 1e7, 1e8, 1e9];  // nanoseconds of the run in a second
 const SPEED_TEXTS = ["100 ns", "1 \u00b5s", "10 \u00b5s", "0.1 ms", "1 ms", "10 ms", "0.1 s", "1 s"];
-const COLOURS = ["ground", "panel", "ink", "soft", "line", "accent", "mark", "read", "write", "gap", "ride", "idle", "wait", "rest", "move", "put", "heat"];
+const COLOURS = ["ground", "panel", "ink", "soft", "line", "accent", "mark", "read", "write", "gap", "ride", "idle",
+  "wait", "rest", "move", "put", "heat"];
 
 class Page {
   constructor(about, run) {
@@ -93,7 +94,8 @@ class Page {
 
   /** Shows a stretch, within the run and not shorter than can be seen. */
   show(begin, end) {
-    const { run } = this, span = Math.min(run.end - run.begin, Math.max(end - begin, Math.min(100, run.disk.turn / 10)));
+    const { run } = this, span = Math.min(run.end - run.begin,
+      Math.max(end - begin, Math.min(100, run.disk.turn / 10)));
     const from = Math.min(Math.max(run.begin, (begin + end - span) / 2), run.end - span);
     this.view = { begin: from, end: from + span };
     this.draw("view");
@@ -105,7 +107,8 @@ class Page {
   }
 
   pan(time) {
-    const span = this.view.end - this.view.begin, begin = Math.min(Math.max(this.run.begin, this.view.begin + time), this.run.end - span);
+    const span = this.view.end - this.view.begin, begin = Math.min(Math.max(this.run.begin, this.view.begin + time),
+      this.run.end - span);
     this.show(begin, begin + span);
   }
 
@@ -166,8 +169,11 @@ class Page {
 
   drawLegend() {
     const legend = document.getElementById("legend"), { colours } = this;
-    const items = [["mark", "head"], ["read", "sectors to read"], ["write", "sectors to write"], ["wait", "way of the head: stay and wait"], ["move", "way of the head: move (dashed)"],
-      ["wanted", "block read later in the run"], ["planned", "block read next: in this gap or stay, or with this request"], ["gap", "block that passes now"], ["delivered", "block read before"],
+    const items = [["mark", "head"], ["read", "sectors to read"], ["write", "sectors to write"],
+      ["wait", "way of the head: stay and wait"], ["move", "way of the head: move (dashed)"],
+      ["wanted", "block read later in the run"], ["planned",
+        "block read next: in this gap or stay, or with this request"], ["gap", "block that passes now"],
+        ["delivered", "block read before"],
       ["rest", "other sector"], ["ink", "bad slot, and a stroke at the track's first sector"]];
     legend.replaceChildren(...items.map(([kind, text]) => {
       const item = element("li"), patch = element("i");
@@ -272,7 +278,8 @@ class Hand {
   }
 
   pinched(pointer, before, now) {
-    const other = [...this.down].find(([key]) => key !== pointer)[1], apart = place => Math.max(8, Math.abs(place.x - other.x));
+    const other = [...this.down].find(([key]) => key !== pointer)[1],
+      apart = place => Math.max(8, Math.abs(place.x - other.x));
     const centre = this.page.timeline.instantAt((now.x + other.x) / 2);
     this.page.zoom(apart(now) / apart(before), centre);
   }
@@ -301,7 +308,8 @@ class Hand {
   }
 
   hover(place) {
-    const { page } = this, { timeline } = page, instant = timeline.instantAt(place.x), perDot = timeline.span / timeline.dots * timeline.base.scale;
+    const { page } = this, { timeline } = page, instant = timeline.instantAt(place.x),
+      perDot = timeline.span / timeline.dots * timeline.base.scale;
     page.pointer = instant;
     page.draw("marks");
     const row = this.rowUnder(place);
@@ -313,8 +321,10 @@ function pressedOnTimeline(page, event) {
   if (event.ctrlKey || event.metaKey || event.altKey) return;
   const span = page.view.end - page.view.begin;
   const acts = {
-    ArrowLeft: () => page.pan(-0.1 * span), ArrowRight: () => page.pan(0.1 * span), PageUp: () => page.pan(-span), PageDown: () => page.pan(span),
-    "+": () => page.zoom(1.5, page.centre), "=": () => page.zoom(1.5, page.centre), "-": () => page.zoom(1 / 1.5, page.centre),
+    ArrowLeft: () => page.pan(-0.1 * span), ArrowRight: () => page.pan(0.1 * span), PageUp: () => page.pan(-span),
+      PageDown: () => page.pan(span),
+    "+": () => page.zoom(1.5, page.centre), "=": () => page.zoom(1.5, page.centre),
+      "-": () => page.zoom(1 / 1.5, page.centre),
     Home: () => page.show(page.run.begin, page.run.end), End: () => page.show(page.run.end - span, page.run.end),
     ArrowUp: () => page.step(-1), ArrowDown: () => page.step(1), " ": () => page.player.toggle(),
     Enter: () => document.getElementById("lines").focus(), "/": () => document.getElementById("find-text").focus(),
@@ -341,16 +351,21 @@ function connect(page) {
 }
 
 function centreAt(page, event) {
-  const span = page.view.end - page.view.begin, instant = page.overview.instantAt(event.clientX - event.target.getBoundingClientRect().left);
+  const span = page.view.end - page.view.begin,
+    instant = page.overview.instantAt(event.clientX - event.target.getBoundingClientRect().left);
   page.show(instant - span / 2, instant + span / 2);
 }
 
 /** What the page shows, in a line below its title. */
 function aboutText(about, run) {
-  const files = Object.values(about.files).filter(name => name).join(", ") + (about.section === null ? "" : ` (device ${about.section})`), { disk } = run;
-  const stretch = about.whole ? `${duration(run.end)} long` : `from ${instantText(run, run.begin)} to ${instantText(run, run.end)} of ${duration(about.end)}`;
-  return `${files}: ${stretch}, ${counted(run.requestActs.length, "request")}, ${counted(run.gots.count, "delivery").replace(/ys$/, "ies")}. `
-    + `A disk of ${bytesText(disk.sectors * disk.sectorBytes)}, ${counted(disk.cylinders, "cylinder")} with ${counted(disk.heads, "head")}, ${duration(disk.turn)} a rotation.`;
+  const files = Object.values(about.files).filter(name => name).join(", ")
+    + (about.section === null ? "" : ` (device ${about.section})`), { disk } = run;
+  const stretch = about.whole ? `${duration(run.end)} long`
+    : `from ${instantText(run, run.begin)} to ${instantText(run, run.end)} of ${duration(about.end)}`;
+  const deliveries = counted(run.gots.count, "delivery").replace(/ys$/, "ies");
+  return `${files}: ${stretch}, ${counted(run.requestActs.length, "request")}, ${deliveries}. A disk of `
+    + `${bytesText(disk.sectors * disk.sectorBytes)}, ${counted(disk.cylinders, "cylinder")} with `
+    + `${counted(disk.heads, "head")}, ${duration(disk.turn)} a rotation.`;
 }
 
 async function open() {

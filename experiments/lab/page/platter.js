@@ -14,16 +14,11 @@ class Platter {
     this.slots = new Map();
   }
 
-  /** The tracks that are shown, from outside: all of a small disk, else the way of the present act. */
-  tracksOf(act) {
-    const { acts, disk } = this.run;
+  /** The tracks that are shown, from outside: all of a small disk, else those on which the present act comes. */
+  tracksOf() {
+    const { disk } = this.run;
     if (this.isSmall) return Array.from({ length: disk.cylinders * disk.heads }, (_, track) => track);
-    const way = [acts.source[act]];
-    if (acts.by[act] >= 0) way.push(acts.by[act]);
-    if (!way.includes(acts.target[act])) way.push(acts.target[act]);
-    const { phase } = this.state;
-    if (!way.includes(phase.to)) way[way.length - 1] = phase.to;
-    return way;
+    return [...new Set(this.state.phases.flatMap(({ from, to }) => [from, to]))];
   }
 
   slotsOf(track) {
@@ -41,7 +36,7 @@ class Platter {
     this.state = run.stateAt(page.cursor);
     surface.clear();
     if (!this.state) return;
-    this.tracks = this.tracksOf(this.state.act);
+    this.tracks = this.tracksOf();
     this.centre = surface.width / 2;
     this.radius = surface.width / 2 - 1.6 * surface.em;
     const inner = this.radius * (this.isSmall ? 0.3 : 0.5), room = (this.radius - inner) / this.tracks.length;
@@ -55,10 +50,7 @@ class Platter {
 
   ringRadius(ring) { return this.radius - this.room * (ring + 0.5); }
 
-  radiusOf(track) {
-    const ring = this.tracks.indexOf(track);
-    return this.ringRadius(ring < 0 ? 0 : ring);
-  }
+  radiusOf(track) { return this.ringRadius(this.tracks.indexOf(track)); }
 
   /** Where on the canvas a part of a turn lies, clockwise from the top. */
   angle(turns) { return (turns - 0.25) * 2 * Math.PI; }
@@ -74,7 +66,7 @@ class Platter {
 
   turnsOfSlot(slot, count) { return this.run.disk.slotBegin(slot, count) / this.run.disk.turn; }
 
-  /** How the blocks of a track stand at the cursor: for each slot an index of BLOCK_STATES, with the borders of blocks. */
+  /** How the blocks of a track stand at the cursor: for each slot an index of BLOCK_STATES; and the blocks' borders. */
   blocksOf(track, slots) {
     const { run, page } = this, { gots, disk } = run, states = new Uint8Array(slots.length), borders = new Set();
     for (const got of run.gotsOfTrack(track)) {
@@ -95,9 +87,11 @@ class Platter {
   /** One ring: its slots, blocks, first sector, and the sectors of the present request. */
   drawTrack(track, radius) {
     const { page, run, surface, state } = this, slots = this.slotsOf(track), count = slots.length;
-    const { states, borders } = this.blocksOf(track, slots), colours = page.colours, request = this.requestSlots(track, slots);
+    const { states, borders } = this.blocksOf(track, slots), colours = page.colours,
+      request = this.requestSlots(track, slots);
     const looks = [colours.rest, colours.wanted, colours.planned, colours.gap, colours.delivered];
-    const look = slot => slots[slot] === DEFECT ? colours.ink : slots[slot] === SPARE ? colours.panel : looks[states[slot]];
+    const look = slot => slots[slot] === DEFECT ? colours.ink : slots[slot] === SPARE ? colours.panel
+      : looks[states[slot]];
     for (let slot = 0, from = 0; slot < count; slot++) {
       if (slot + 1 < count && look(slot + 1) === look(from)) continue;
       const wide = states[from] === 3 ? 1.25 : 1;
@@ -106,9 +100,11 @@ class Platter {
     }
     const apart = 2 * Math.PI * radius / count;
     for (let slot = 0; slot < count; slot++)
-      if (apart > 4 * surface.scale || borders.has(slot)) this.tick(radius, this.turnsOfSlot(slot, count), this.thick, colours.ground, Math.min(2 * surface.scale, apart / 3));
+      if (apart > 4 * surface.scale || borders.has(slot))
+        this.tick(radius, this.turnsOfSlot(slot, count), this.thick, colours.ground, Math.min(2 * surface.scale, apart / 3));
     const edge = radius + this.thick / 2 + 2 * surface.scale, kind = run.isWrite(state.act) ? "write" : "read";
-    for (const [from, to] of request) this.arc(edge, this.turnsOfSlot(from, count), this.turnsOfSlot(to, count), colours[kind], 4 * surface.scale);
+    for (const [from, to] of request)
+      this.arc(edge, this.turnsOfSlot(from, count), this.turnsOfSlot(to, count), colours[kind], 4 * surface.scale);
     this.drawOffset(track, radius, count);
     if (apart > 1.9 * surface.em) this.numberSlots(slots, states, radius);
   }
@@ -146,9 +142,11 @@ class Platter {
     const { surface, page } = this;
     slots.forEach((sector, slot) => {
       if (sector < 0) return;
-      const middle = (this.turnsOfSlot(slot, slots.length) + this.turnsOfSlot(slot + 1, slots.length)) / 2, angle = this.angle(middle);
+      const middle = (this.turnsOfSlot(slot, slots.length) + this.turnsOfSlot(slot + 1, slots.length)) / 2,
+        angle = this.angle(middle);
       const colour = states[slot] > 2 ? page.colours.ground : page.colours.ink;
-      surface.text(String(sector), this.centre + Math.cos(angle) * radius, this.centre + Math.sin(angle) * radius, colour, "center");
+      surface.text(String(sector), this.centre + Math.cos(angle) * radius, this.centre + Math.sin(angle) * radius,
+        colour, "center");
     });
   }
 
@@ -157,23 +155,32 @@ class Platter {
     const { run, page, surface, state } = this, { turn } = run.disk, { pen } = surface;
     for (const { kind, begin, end, from, to } of state.phases) {
       if (kind === "rest") continue;
-      const isMove = from !== to, first = this.radiusOf(from), last = this.radiusOf(to), steps = Math.max(2, Math.ceil((end - begin) / turn * 72));
+      const isMove = from !== to, first = this.radiusOf(from), last = this.radiusOf(to),
+        steps = Math.max(2, Math.ceil((end - begin) / turn * 72));
       pen.beginPath();
       for (let i = 0; i <= steps; i++) {
-        const angle = this.angle((begin + (end - begin) * i / steps) / turn % 1), radius = first + (last - first) * i / steps - this.thick / 2 - 3 * surface.scale;
+        const angle = this.angle((begin + (end - begin) * i / steps) / turn % 1);
+        const radius = first + (last - first) * i / steps - this.thick / 2 - 3 * surface.scale;
         pen.lineTo(this.centre + Math.cos(angle) * radius, this.centre + Math.sin(angle) * radius);
       }
       pen.setLineDash(isMove ? [5 * surface.scale, 4 * surface.scale] : []);
       pen.lineWidth = 2 * surface.scale;
-      pen.strokeStyle = isMove ? page.colours.move : kind === "read" || kind === "write" ? page.colours[kind] : page.colours.wait;
+      pen.strokeStyle = isMove ? page.colours.move : kind === "read" || kind === "write" ? page.colours[kind]
+        : page.colours.wait;
       pen.stroke();
     }
     pen.setLineDash([]);
   }
 
+  /** How much of a phase has passed at the cursor. */
+  part({ begin, end }) {
+    return end > begin ? Math.min(1, Math.max(0, (this.page.cursor - begin) / (end - begin))) : 0;
+  }
+
   drawHead() {
-    const { run, page, surface, state } = this, { pen } = surface, { phase } = state, turns = page.cursor / run.disk.turn % 1;
-    const part = phase.end > phase.begin ? Math.min(1, Math.max(0, (page.cursor - phase.begin) / (phase.end - phase.begin))) : 0;
+    const { run, page, surface, state } = this, { pen } = surface, { phase } = state,
+      turns = page.cursor / run.disk.turn % 1;
+    const part = this.part(phase);
     const radius = this.radiusOf(phase.from) * (1 - part) + this.radiusOf(phase.to) * part, angle = this.angle(turns);
     const x = this.centre + Math.cos(angle) * radius, y = this.centre + Math.sin(angle) * radius;
     pen.beginPath();
@@ -193,19 +200,23 @@ class Platter {
 
   /** A bar of all cylinders below: the zones, where the head is, and where the request is. */
   drawCylinders() {
-    const { run, page, surface, state } = this, { pen, em } = surface, { disk } = run, left = 0.5 * em, wide = surface.width - em;
-    const top = surface.height - 2.2 * em, x = track => left + (track / disk.heads + 0.5 / disk.heads) / disk.cylinders * wide;
+    const { run, page, surface, state } = this, { pen, em } = surface, { disk } = run, left = 0.5 * em,
+      wide = surface.width - em;
+    const top = surface.height - 2.2 * em;
+    const x = track => left + (track + 0.5) / disk.heads / disk.cylinders * wide;
     disk.zones.forEach((zone, i) => {
       pen.fillStyle = i % 2 ? page.colours.line : page.colours.rest;
       const from = left + zone.first / disk.cylinders * wide, to = left + (zone.last + 1) / disk.cylinders * wide;
       pen.fillRect(from, top, to - from, 0.8 * em);
       const name = `zone ${i + 1}: ${zone.slots} a track`;
-      if (to - from > 0.46 * em * name.length) surface.text(name, (from + to) / 2, top + 1.5 * em, page.colours.soft, "center");
+      if (to - from > 0.46 * em * name.length)
+        surface.text(name, (from + to) / 2, top + 1.5 * em, page.colours.soft, "center");
     });
-    const { phase } = state, part = phase.end > phase.begin ? (page.cursor - phase.begin) / (phase.end - phase.begin) : 0;
+    const { phase } = state, part = this.part(phase);
     const head = x(phase.from) * (1 - part) + x(phase.to) * part;
     pen.fillStyle = page.colours[run.isWrite(state.act) ? "write" : "read"];
-    if (!run.isIdle(state.act)) pen.fillRect(x(run.acts.target[state.act]) - 1.5 * surface.scale, top - 0.25 * em, 3 * surface.scale, 1.3 * em);
+    if (!run.isIdle(state.act))
+      pen.fillRect(x(run.acts.target[state.act]) - 1.5 * surface.scale, top - 0.25 * em, 3 * surface.scale, 1.3 * em);
     pen.fillStyle = page.colours.mark;
     pen.beginPath();
     pen.moveTo(head, top + 0.1 * em);
@@ -220,7 +231,9 @@ class Platter {
     const { run, page, state } = this;
     if (!state) return "The run has no rows.";
     const { disk } = run, { phase } = state, zone = disk.zoneNumber(phase.from), turns = page.cursor / disk.turn % 1;
-    return `${instantText(run, page.cursor)}: ${phaseWords(run, state)} Angle ${turns.toFixed(3)} of a turn; track ${disk.trackText(phase.from)} `
-      + `is in zone ${zone + 1} of ${disk.zones.length}, ${disk.zones[zone].slots} slots a track; its first sector begins at slot ${disk.offset(phase.from)}.`;
+    const { slots } = disk.zones[zone];
+    return `${instantText(run, page.cursor)}: ${phaseWords(run, state)} Angle ${turns.toFixed(3)} of a turn; track `
+      + `${disk.trackText(phase.from)} is in zone ${zone + 1} of ${disk.zones.length}, ${slots} slots a track;`
+      + ` its first sector begins at slot ${disk.offset(phase.from)}.`;
   }
 }

@@ -48,9 +48,11 @@ class Run {
 
   /** The deliveries, and for each row of the background report which act, delivery or note it is. */
   readGots(kinds, table) {
-    const count = table.count, gots = this.gots = { count, task: table.task, again: table.again, fewer: table.fewer, length: table.length,
+    const count = table.count, gots = this.gots = { count, task: table.task, again: table.again, fewer: table.fewer,
+      length: table.length,
       bad: table.bad, number: new Int32Array(count), sector: new Float64Array(count), begin: new Float64Array(count),
-      end: new Float64Array(count), how: new Uint8Array(count), act: new Int32Array(count), row: new Int32Array(count) };
+      end: new Float64Array(count), how: new Uint8Array(count), act: new Int32Array(count),
+        row: new Int32Array(count) };
     this.kinds = kinds;
     this.indexes = new Int32Array(kinds.length);
     this.actRows = new Int32Array(this.acts.count);
@@ -199,7 +201,8 @@ class Run {
     const fields = this.notes[this.indexes[row]].split(" ");
     const told = { seal: fields[2], done: fields[2], seg: fields[3], end: fields[1], task: this.end }[fields[0]];
     if (told !== undefined) return Number(told);
-    return row && this.kinds[row - 1] === NOTE ? this.instantOfNote(row - 1) : row ? this.timesOfRow(row - 1)[1] : this.begin;
+    if (!row) return this.begin;
+    return this.kinds[row - 1] === NOTE ? this.instantOfNote(row - 1) : this.timesOfRow(row - 1)[1];
   }
 
   /** The way of the head through a gap, one thing after another: `tell(kind, begin, end, from, to)`. */
@@ -222,7 +225,9 @@ class Run {
 
   /** What the head does in an act, one thing after another: on which track, and to which it moves. */
   phasesOf(act) {
-    const phases = [], add = (kind, begin, end, from, to) => { if (end > begin) phases.push({ kind, begin, end, from, to }); };
+    const phases = [], add = (kind, begin, end, from, to) => {
+      if (end > begin) phases.push({ kind, begin, end, from, to });
+    };
     if (this.isIdle(act)) {
       add("rest", this.acts.begin[act], this.acts.finish[act], this.acts.source[act], this.acts.source[act]);
       return phases;
@@ -328,7 +333,8 @@ class Detours {
   upTo(instant) {
     const { acts, coverages } = this.run, at = countAtMost(this.begins, instant) - 1;
     if (at < 0) return 0;
-    const act = this.acts[at], moved = coverages.move.within(acts.begin[act], Math.max(acts.begin[act], Math.min(instant, acts.media[act])));
+    const act = this.acts[at], moved = coverages.move.within(acts.begin[act],
+      Math.max(acts.begin[act], Math.min(instant, acts.media[act])));
     return this.before[at] + (this.moved[at] ? moved / this.moved[at] : 1) * (this.before[at + 1] - this.before[at]);
   }
 }
@@ -342,9 +348,11 @@ function cylindersOf(run) {
     last = Math.max(last, disk.cylinderOf(track));
   }
   if (!acts.count) first = 0;
-  const bands = Math.min(64, last - first + 1), bins = Math.min(65536, Math.max(256, 1 << Math.ceil(Math.log2(acts.count + 1))));
+  const bands = Math.min(64, last - first + 1), bins = Math.min(65536,
+    Math.max(256, 1 << Math.ceil(Math.log2(acts.count + 1))));
   const heat = new Heat(run.begin, run.end, bins, bands);
-  const band = track => Math.min(bands - 1, Math.max(0, Math.floor((disk.cylinderOf(track) - first) * bands / (last - first + 1))));
+  const band = track => Math.min(bands - 1,
+    Math.max(0, Math.floor((disk.cylinderOf(track) - first) * bands / (last - first + 1))));
   for (let i = 0; i < acts.count; i++) addHeat(run, i, heat, band);
   heat.sumUp();
   return { first, last, heat };

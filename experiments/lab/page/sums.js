@@ -97,8 +97,6 @@ class Steps {
     return index < 0 ? 0 : this.areas[index] + this.values[index] * (instant - this.times[index]);
   }
 
-  mean(begin, end) { return end > begin ? (this.areaUpTo(end) - this.areaUpTo(begin)) / (end - begin) : this.at(begin); }
-
   /** The greatest value in the stretch, that at its beginning included. */
   greatest(begin, end) {
     let from = Math.max(0, this.indexAt(begin)), to = this.indexAt(end), found = this.at(begin);
@@ -159,7 +157,8 @@ class Heat {
   shares(begin, step, found) {
     const { bands, sums, bins } = this, steps = found.length / bands, before = new Float64Array(bands);
     for (let i = -1; i < steps; i++) {
-      const at = Math.min(bins, Math.max(0, (begin + (i + 1) * step - this.begin) / this.width)), bin = Math.min(bins - 1, Math.floor(at));
+      const at = Math.min(bins, Math.max(0, (begin + (i + 1) * step - this.begin) / this.width)),
+        bin = Math.min(bins - 1, Math.floor(at));
       const part = at - bin, low = bin * bands;
       for (let band = 0; band < bands; band++) {
         const sum = sums[low + band] + (sums[low + bands + band] - sums[low + band]) * part;

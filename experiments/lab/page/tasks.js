@@ -1,4 +1,5 @@
-// The table of tasks, with the progress of each and where it stands at the cursor; and the tables of the visible stretch.
+// The table of tasks, with the progress of each and where it stands at the cursor; and the tables of the visible
+// stretch.
 
 const MANY_TASKS = 40;  // more are shown on request
 const CURVE = { width: 200, height: 40 };
@@ -44,7 +45,8 @@ class TaskTable {
   }
 
   fill(most) {
-    const head = ["task", "kind", "blocks that are in, over time", "in at the cursor", "at the end", "blocks", "delivered", "given up", "left",
+    const head = ["task", "kind", "blocks that are in, over time", "in at the cursor", "at the end", "blocks",
+      "delivered", "given up", "left",
       "read again", "first delivery", "last delivery", "complete", "sealed"];
     const row = element("tr");
     row.append(...head.map(text => element("th", text, { scope: "col" })));
@@ -59,15 +61,18 @@ class TaskTable {
 
   moreButton() {
     const button = element("button", `All ${this.tasks.length} tasks`, { type: "button" });
-    button.addEventListener("click", () => { button.remove(); this.fill(this.tasks.length); this.page.draw("cursor"); });
+    button.addEventListener("click", () => { button.remove(); this.fill(this.tasks.length); this.page.draw("cursor");
+      });
     return button;
   }
 
   row(name, task, number) {
-    const row = element("tr"), cell = element("td"), at = element("td"), time = instant => instant === null ? "\u2013" : duration(instant);
+    const row = element("tr"), cell = element("td"), at = element("td"), time = instant => instant === null ? "\u2013"
+      : duration(instant);
     cell.append(this.curve(name, task.blocks, number, at));
     row.append(element("th", name, { scope: "row" }), element("td", task.kind), cell, at);
-    const cells = [task.complete ? "complete" : "open", ...["blocks", "delivered", "aborted", "left", "blocks read again"].map(key => grouped(task[key])),
+    const cells = [task.complete ? "complete" : "open", ...["blocks", "delivered", "aborted", "left",
+      "blocks read again"].map(key => grouped(task[key])),
       ...["first delivery", "last delivery", "completion", "seal"].map(key => time(task[key]))];
     row.append(...cells.map(text => element("td", text)));
     return row;
@@ -75,12 +80,14 @@ class TaskTable {
 
   /** The curve of a task: how many of its blocks are in, over the time of the page. */
   curve(name, blocks, number, told) {
-    const { run } = this.page, { width, height } = CURVE, all = Math.max(1, blocks), progress = new Progress(run, number);
+    const { run } = this.page, { width, height } = CURVE, all = Math.max(1, blocks),
+      progress = new Progress(run, number), at = x => progress.at(run.begin + (run.end - run.begin) * x / width);
     const image = drawn("svg", { viewBox: `0 0 ${width} ${height}`, preserveAspectRatio: "none", role: "img" });
     const points = Array.from({ length: width + 1 }, (_, x) =>
-      `${x},${(height - 1 - progress.at(run.begin + (run.end - run.begin) * x / width) / all * (height - 2)).toFixed(2)}`);
+      `${x},${(height - 1 - at(x) / all * (height - 2)).toFixed(2)}`);
     const cursor = drawn("line", { class: "at", y1: 0, y2: height });
-    image.append(drawn("rect", { class: "frame", width, height }), drawn("polyline", { class: "curve", points: points.join(" ") }), cursor);
+    image.append(drawn("rect", { class: "frame", width, height }),
+      drawn("polyline", { class: "curve", points: points.join(" ") }), cursor);
     this.lines.push({ progress, cursor, told, all, image, name });
     return image;
   }
@@ -108,7 +115,8 @@ class Figures {
     this.stretch = document.getElementById("stretch");
     const kinds = ["move", "gap", "put", "wait", "detour", "read", "idle", "rest"], body = element("tbody");
     this.rows = PARTS.map((name, i) => {
-      const row = element("tr"), bar = element("span"), cell = element("td", undefined, { class: "share" }), length = element("td"), share = element("td");
+      const row = element("tr"), bar = element("span"), cell = element("td", undefined, { class: "share" }),
+        length = element("td"), share = element("td");
       bar.dataset.kind = kinds[i];
       cell.append(bar);
       row.append(element("th", name, { scope: "row" }), cell, length, share);
@@ -120,8 +128,11 @@ class Figures {
 
   /** Where the time went; at once, as it is sums. */
   drawTime() {
-    const { run, view, colours } = this.page, spent = spentWithin(run, view.begin, view.end), whole = spent.reduce((sum, part) => sum + part, 0);
-    this.stretch.textContent = `In the visible stretch, from ${instantText(run, view.begin)} to ${instantText(run, view.end)} (${duration(view.end - view.begin)}):`;
+    const { run, view, colours } = this.page, spent = spentWithin(run, view.begin, view.end),
+      whole = spent.reduce((sum, part) => sum + part, 0);
+    this.stretch.textContent =
+      `In the visible stretch, from ${instantText(run, view.begin)} to ${instantText(run, view.end)} `
+      + `(${duration(view.end - view.begin)}):`;
     this.rows.forEach(({ bar, length, share }, i) => {
       const percent = whole ? 100 * spent[i] / whole : 0;
       bar.style.width = `${Math.max(0, percent)}%`;
@@ -148,13 +159,16 @@ function figureRows({ foreground, response, background, spills }) {
   const amount = (bytes, rate) => `${bytesText(bytes)}, ${rate.toFixed(3)} MB/s`;
   const rows = [["requests", `${grouped(foreground.requests)}, ${foreground["requests a second"].toFixed(2)} a second`],
     ["foreground", amount(foreground.bytes, foreground["MB/s"])]];
-  for (const [name, time] of Object.entries(response)) rows.push([name === "mean service" ? name : `response, ${name}`, duration(time)]);
+  for (const [name, time] of Object.entries(response)) rows.push([name === "mean service" ? name
+    : `response, ${name}`, duration(time)]);
   if (background) {
     for (const [how, name] of [["gap", "read in gaps"], ["idle", "read in idle time"], ["ride", "carried by reads"]])
       rows.push([name, amount(background[`bytes by ${how}`], background[`MB/s by ${how}`])]);
-    rows.push(["background", amount(background.bytes, background["MB/s"])], ["gaps with a detour", `${background["gaps with a detour"].toFixed(2)} %`]);
+    rows.push(["background", amount(background.bytes, background["MB/s"])],
+      ["gaps with a detour", `${background["gaps with a detour"].toFixed(2)} %`]);
   }
-  if (spills) rows.push(["written in gaps", amount(spills.bytes, spills["MB/s"])], ["gaps with a spill", `${spills["gaps with a spill"].toFixed(2)} %`]);
+  if (spills) rows.push(["written in gaps", amount(spills.bytes, spills["MB/s"])],
+    ["gaps with a spill", `${spills["gaps with a spill"].toFixed(2)} %`]);
   return rows;
 }
 

@@ -23,11 +23,13 @@ function counted(number, noun) { return `${grouped(number)} ${noun}${number === 
 function grouped(number) { return String(number).replace(/\B(?=(\d{3})+(?!\d))/g, "\u202f"); }
 
 function bytesText(bytes) {
-  const units = ["B", "kB", "MB", "GB", "TB"], step = Math.min(4, Math.max(0, Math.floor(Math.log10(Math.max(1, bytes)) / 3)));
+  const units = ["B", "kB", "MB", "GB", "TB"], step = Math.min(4,
+    Math.max(0, Math.floor(Math.log10(Math.max(1, bytes)) / 3)));
   return `${trimmed(bytes / 1000 ** step, step ? 3 : 0)} ${units[step]}`;
 }
 
-function sectorsText(first, length) { return length === 1 ? `sector ${first}` : `sectors ${first} to ${first + length - 1}`; }
+function sectorsText(first, length) { return length === 1 ? `sector ${first}`
+  : `sectors ${first} to ${first + length - 1}`; }
 
 function contentsText(run, report, ordinal) {
   if (run.about["contents left out"][report]) return "\u2026";
@@ -45,20 +47,24 @@ function foreLine(run, request) {
 function backLine(run, row) {
   const { acts, gots, disk } = run, index = run.indexes[row], kind = run.kinds[row];
   if (kind === NOTE) return run.notes[index];
-  if (kind !== ACT) return ["got", run.taskNames[gots.task[index]], gots.number[index], gots.sector[index], gots.length[index],
+  if (kind !== ACT) return ["got", run.taskNames[gots.task[index]], gots.number[index], gots.sector[index],
+    gots.length[index],
     gots.begin[index], gots.end[index], HOWS[kind], gots.bad[index], contentsText(run, "back", index)].join(" ");
   const source = disk.trackText(acts.source[index]);
   if (run.isIdle(index)) return ["idle", source, acts.begin[index], acts.finish[index]].join(" ");
   const way = acts.by[index] < 0 ? ["direct"] : ["detour", disk.trackText(acts.by[index])];
-  return ["gap", run.name(index), source, disk.trackText(acts.target[index]), acts.begin[index], acts.media[index], ...way,
+  return ["gap", run.name(index), source, disk.trackText(acts.target[index]), acts.begin[index], acts.media[index],
+    ...way,
     acts.leave[index]].join(" ");
 }
 
 /** A line of the text of spills. */
 function spillLine(run, index) {
   const { spills, puts, disk } = run, { spill, put } = run.spillLines[index];
-  if (put < 0) return ["spill", run.name(spills.act[spill]), disk.trackText(spills.track[spill]), spills.begin[spill], spills.end[spill]].join(" ");
-  return ["wrote", puts.put[put], puts.sector[put], puts.length[put], puts.begin[put], puts.end[put], contentsText(run, "spill", index)].join(" ");
+  if (put < 0) return ["spill", run.name(spills.act[spill]), disk.trackText(spills.track[spill]), spills.begin[spill],
+    spills.end[spill]].join(" ");
+  return ["wrote", puts.put[put], puts.sector[put], puts.length[put], puts.begin[put], puts.end[put],
+    contentsText(run, "spill", index)].join(" ");
 }
 
 /** Numbers as words: 3 and 4; 5 to 9. */
@@ -69,7 +75,8 @@ function numbersText(numbers) {
     if (last && number === last[1] + 1) last[1] = number; else runs.push([number, number]);
   }
   if (runs.length > 4) return null;
-  const texts = runs.flatMap(([first, last]) => last === first ? [first] : last === first + 1 ? [first, last] : [`${first} to ${last}`]);
+  const texts = runs.flatMap(([first, last]) => last === first ? [first] : last === first + 1 ? [first, last]
+    : [`${first} to ${last}`]);
   return texts.length < 2 ? String(texts[0]) : `${texts.slice(0, -1).join(", ")} and ${texts[texts.length - 1]}`;
 }
 
@@ -91,20 +98,26 @@ function blocksText(run, act, hows) {
 function putsText(run, act) {
   const puts = run.putsOf(act).map(put => run.puts.put[put]), told = numbersText(puts);
   if (!puts.length) return "";
-  return told ? `put${puts.length === 1 ? "" : "s"} ${told} ${puts.length === 1 ? "is" : "are"} written` : `${puts.length} blocks are written`;
+  return told ? `put${puts.length === 1 ? "" : "s"} ${told} ${puts.length === 1 ? "is" : "are"} written`
+    : `${puts.length} blocks are written`;
 }
 
 /** The way of the head before a request, and the request. */
 function requestWords(run, act) {
   const { acts, disk } = run, name = `Request ${run.name(act)}`, first = `sector ${acts.sector[act]}`;
   const read = run.isRead(act), what = sectorsText(acts.sector[act], acts.length[act]);
-  const queued = acts.begin[act] - acts.arrival[act], wait = run.coverages.wait.within(acts.begin[act], acts.media[act]);
-  const moves = acts.media[act] - acts.begin[act] - wait, caught = blocksText(run, act, [BY_GAP]) || putsText(run, act), rides = blocksText(run, act, [BY_RIDE]);
-  const by = run.spillOf[act] < 0 ? acts.by[act] : run.spills.track[run.spillOf[act]], detour = by < 0 ? "" : ` by way of ${disk.trackText(by)}`;
-  const way = moves ? `moves for ${duration(moves)} from track ${disk.trackText(acts.source[act])} to ${disk.trackText(acts.target[act])}${detour}`
+  const queued = acts.begin[act] - acts.arrival[act], wait =
+    run.coverages.wait.within(acts.begin[act], acts.media[act]);
+  const moves = acts.media[act] - acts.begin[act] - wait, caught = blocksText(run, act, [BY_GAP])
+    || putsText(run, act), rides = blocksText(run, act, [BY_RIDE]);
+  const by = run.spillOf[act] < 0 ? acts.by[act] : run.spills.track[run.spillOf[act]], detour = by < 0 ? ""
+    : ` by way of ${disk.trackText(by)}`;
+  const [source, target] = [acts.source[act], acts.target[act]].map(track => disk.trackText(track));
+  const way = moves ? `moves for ${duration(moves)} from track ${source} to ${target}${detour}`
     : `stays on track ${disk.trackText(acts.target[act])}`;
-  return `${name} ${read ? "reads" : "writes"} ${what}. It ${queued ? `is in the queue for ${duration(queued)}, then` : "begins as it arrives,"} `
-    + `${way}, and waits ${duration(wait)} for ${first}${caught ? `; meanwhile ${caught}` : ""}. `
+  const before = queued ? `is in the queue for ${duration(queued)}, then` : "begins as it arrives,";
+  return `${name} ${read ? "reads" : "writes"} ${what}. It ${before} ${way}, and waits ${duration(wait)} for ${first}`
+    + `${caught ? `; meanwhile ${caught}` : ""}. `
     + `Its sectors pass in ${duration(acts.finish[act] - acts.media[act])}${rides ? `, and carry ${rides}` : ""}. `
     + `It takes ${duration(acts.finish[act] - acts.arrival[act])} in all.${badText(acts.bad[act])}`;
 }
@@ -119,10 +132,12 @@ function idleWords(run, act) {
 
 function gotWords(run, got) {
   const { gots } = run, act = gots.act[got];
-  const where = [`in the gap before request ${run.name(act)}`, "in idle time", `carried by request ${run.name(act)}`][gots.how[got] - 1];
+  const where = [`in the gap before request ${run.name(act)}`, "in idle time",
+    `carried by request ${run.name(act)}`][gots.how[got] - 1];
   const again = gots.again[got] ? ", once more," : "";
-  return `Block ${gots.number[got]} of ${run.taskNames[gots.task[got]]}, ${sectorsText(gots.sector[got], gots.length[got])}, `
-    + `is read${again} in ${duration(gots.end[got] - gots.begin[got])}, ${where}.${badText(gots.bad[got])}`;
+  const what = sectorsText(gots.sector[got], gots.length[got]);
+  return `Block ${gots.number[got]} of ${run.taskNames[gots.task[got]]}, ${what}, is read${again} in `
+    + `${duration(gots.end[got] - gots.begin[got])}, ${where}.${badText(gots.bad[got])}`;
 }
 
 function noteWords(run, row) {
@@ -130,7 +145,7 @@ function noteWords(run, row) {
   switch (verb) {
     case "bad": return `The scrub ${task} has found that sector ${fields[0]} can't be read.`;
     case "seal": return `The backup ${task} is an image of this instant, with ${counted(Number(fields[1]), "sector")}.`;
-    case "seg": return `Segment ${fields[0]} of ${task} is cleaned: its ${counted(Number(fields[2]), "live block")} were read.`;
+    case "seg": return `Segment ${fields[0]} of ${task} is cleaned: ${counted(Number(fields[2]), "live block")}.`;
     case "done": return `The task ${task} is complete.`;
     case "task": return `At the end ${task} (${fields[0]}) is ${fields[5]}: of ${counted(Number(fields[1]), "block")} `
       + `${fields[2]} are delivered, ${fields[3]} given up, ${fields[4]} left.`;
@@ -148,15 +163,17 @@ function rowWords(run, row) {
 
 /** What the head does at an instant, in words. */
 function phaseWords(run, { act, phase }) {
-  const { disk, acts } = run, track = disk.trackText(phase.from), length = duration(phase.end - phase.begin);
-  const caught = run.gotsFrom[act] < run.gotsFrom[act + 1];
+  const { disk, acts } = run, request = `request ${run.name(act)}`, length = duration(phase.end - phase.begin);
+  const track = disk.trackText(phase.from), why = run.gotsFrom[act] < run.gotsFrom[act + 1] ? " to read blocks" : "";
   switch (phase.kind) {
     case "rest": return `The head rests on track ${track}: there is nothing to serve.`;
-    case "stay": return `The head stays on track ${track} for ${length}${caught ? " to read blocks" : ""}, before request ${run.name(act)}.`;
-    case "move": return `The head moves from track ${track} to ${disk.trackText(phase.to)} in ${length}, for request ${run.name(act)}.`;
-    case "wait": return `The head waits on track ${track} for sector ${acts.sector[act]} of request ${run.name(act)}, ${length} in all.`;
-    case "switch": return `The head moves on to track ${disk.trackText(phase.to)} within request ${run.name(act)}.`;
-    case "turn": return `The head waits on track ${track} for the next sector of request ${run.name(act)}.`;
+    case "stay": return `The head stays on track ${track} for ${length}${why}, before ${request}.`;
+    case "move":
+      return `The head moves from track ${track} to ${disk.trackText(phase.to)} in ${length}, for ${request}.`;
+    case "wait":
+      return `The head waits on track ${track} for sector ${acts.sector[act]} of ${request}, ${length} in all.`;
+    case "switch": return `The head moves on to track ${disk.trackText(phase.to)} within ${request}.`;
+    case "turn": return `The head waits on track ${track} for the next sector of ${request}.`;
     default: return `Request ${run.name(act)} ${phase.kind === "read" ? "reads" : "writes"} on track ${track}.`;
   }
 }

@@ -15,8 +15,8 @@ from lab.page.kept import Kept
 from lab.reading import Reports
 
 HERE = Path(__file__).resolve().parent
-SCRIPTS = ("inflate", "data", "disk", "sums", "run", "figures", "words", "drawing", "timeline", "platter", "lines", "tasks",
-           "find", "main")
+SCRIPTS = ("inflate", "data", "disk", "sums", "run", "figures", "words", "drawing", "timeline", "platter", "lines",
+           "tasks", "find", "main")
 
 
 def write_page(path: str, title: str, params: str, reports: Reports, kept: Kept) -> None:
@@ -61,9 +61,9 @@ def _page(title: str, about: dict[str, Any], octets: bytes) -> str:
     script = "\n".join(_ascii((HERE / f"{name}.js").read_text()) for name in SCRIPTS)
     style = _ascii((HERE / "page.css").read_text())
     return Template((HERE / "page.html").read_text()).substitute(
-        title=_ascii(html.escape(title)), style=style, script=script, style_hash=_hash(style), script_hash=_hash(script),
-        about=json.dumps(about, separators=(",", ":")).replace("<", "\\u003c"),
-        rows=base64.b64encode(zlib.compress(octets, 6)).decode())
+        title=_ascii(html.escape(title)), style=style, script=script, style_hash=_hash(style),
+        script_hash=_hash(script), rows=base64.b64encode(zlib.compress(octets, 6)).decode(),
+        about=json.dumps(about, separators=(",", ":")).replace("<", "\\u003c"))
 
 
 def _ascii(text: str) -> str:
