@@ -3,6 +3,7 @@
 import base64
 import json
 import os
+import select
 import shutil
 import subprocess
 import time
@@ -10,7 +11,10 @@ from pathlib import Path
 from typing import Any
 
 WORDS = ("--headless", "--remote-debugging-pipe", "--no-sandbox", "--disable-gpu", "--hide-scrollbars", "--mute-audio",
-         "--no-first-run", "--disable-background-networking", "--disable-component-update", "--disable-sync")
+         "--no-first-run", "--disable-background-networking", "--disable-component-update", "--disable-sync",
+         "--disable-renderer-backgrounding", "--disable-backgrounding-occluded-windows",
+         "--disable-background-timer-throttling", "--disable-features=CalculateNativeWinOcclusion")
+PATIENCE = 60  # seconds for an answer
 
 
 def has_chromium() -> bool:
@@ -41,6 +45,7 @@ class Browser:
         self._session = self.ask("Target.attachToTarget", targetId=target, flatten=True)["sessionId"]
         for domain in ("Page", "Runtime", "Log"):
             self.ask(f"{domain}.enable")
+        self.ask("Page.bringToFront")
 
     def close(self) -> None:
         """Ends the browser."""
@@ -76,6 +81,9 @@ class Browser:
     def _told(self) -> dict[str, Any]:
         """The next message; what is said on the console is kept."""
         while b"\0" not in self._rest:
+            if not select.select([self._from], [], [], PATIENCE)[0]:
+                self._process.kill()
+                raise TimeoutError(f"the browser says nothing for {PATIENCE} s")
             part = os.read(self._from, 1 << 20)
             if not part:
                 raise EOFError("the browser has ended")

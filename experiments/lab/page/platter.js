@@ -101,7 +101,7 @@ class Platter {
     const apart = 2 * Math.PI * radius / count;
     for (let slot = 0; slot < count; slot++)
       if (apart > 4 * surface.scale || borders.has(slot))
-        this.tick(radius, this.turnsOfSlot(slot, count), this.thick, colours.ground, Math.min(2 * surface.scale, apart / 3));
+        this.tick(radius, this.turnsOfSlot(slot, count), colours.ground, Math.min(2 * surface.scale, apart / 3));
     const edge = radius + this.thick / 2 + 2 * surface.scale, kind = run.isWrite(state.act) ? "write" : "read";
     for (const [from, to] of request)
       this.arc(edge, this.turnsOfSlot(from, count), this.turnsOfSlot(to, count), colours[kind], 4 * surface.scale);
@@ -122,7 +122,7 @@ class Platter {
     return found;
   }
 
-  tick(radius, turns, length, colour, width) {
+  tick(radius, turns, colour, width, length = this.thick) {
     const { pen } = this.surface, angle = this.angle(turns), [x, y] = [Math.cos(angle), Math.sin(angle)];
     pen.beginPath();
     pen.moveTo(this.centre + x * (radius - length / 2), this.centre + y * (radius - length / 2));
@@ -135,7 +135,7 @@ class Platter {
   /** A mark where the track's first sector begins: the skew turns it from track to track. */
   drawOffset(track, radius, count) {
     const { surface, page } = this, turns = this.turnsOfSlot(this.run.disk.offset(track), count);
-    this.tick(radius, turns, this.thick * 1.3, page.colours.ink, 2.5 * surface.scale);
+    this.tick(radius, turns, page.colours.ink, 2.5 * surface.scale, 1.3 * this.thick);
   }
 
   numberSlots(slots, states, radius) {
