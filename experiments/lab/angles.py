@@ -1,5 +1,5 @@
-"""Whether a run was made on this disk: each passage must begin and end at the angles of the disk's slots, each move must
-take the time that the disk gives it, and each sector must lie on the track that the report names."""
+"""Whether a run was made on this disk: each passage must begin and end at the angles of the disk's slots, each move
+must take the time that the disk gives it, and each sector must lie on the track that the report names."""
 
 from typing import Iterable, Iterator
 
@@ -37,12 +37,13 @@ class Judge:
         first = self._stretch(gap, served.sector, served.length)
         self._on_disk(gap, gap.source)
         if gap.target != first.track:
-            self._refuse(gap, f"sector {served.sector} lies on track {_text(first.track)} and not on {_text(gap.target)}")
+            self._refuse(gap, f"sector {served.sector} lies on track {_text(first.track)} and not on "
+                              f"{_text(gap.target)}")
         self._at_angle(gap, served.sector, first, gap.deadline)
         least = self.disk.positioning(gap.source, gap.target, not served.is_read)
         if not 0 <= gap.deadline - gap.now - least < self.disk.turn:
-            self._refuse(gap, f"the head takes {least} ns from track {_text(gap.source)} to {_text(gap.target)}, so that it "
-                              f"can't be there first at {gap.deadline}")
+            self._refuse(gap, f"the head takes {least} ns from track {_text(gap.source)} to {_text(gap.target)}, so "
+                              f"that it can't be there first at {gap.deadline}")
         self._plan(gap)
         finish = self._finish(served, first)
         if finish != served.finish:
@@ -90,7 +91,8 @@ class Judge:
         if first.length == row.length:
             return self.disk.passage(first)
         last = self.disk.stretch(row.sector + row.length - 1, 1)
-        return (self.disk.angle(last) + self.disk.passage(last) - self.disk.angle(first)) % self.disk.turn or self.disk.turn
+        behind = self.disk.angle(last) + self.disk.passage(last) - self.disk.angle(first)
+        return behind % self.disk.turn or self.disk.turn
 
     def _to_spill(self, spill: Spill) -> None:
         self._on_disk(spill, spill.track)
@@ -101,15 +103,15 @@ class Judge:
         come = gap.now + self.disk.positioning(gap.source, spill.track, True)
         there = spill.end + self.disk.positioning(spill.track, gap.target, not gap.served.is_read)
         if come != spill.begin or spill.end < come or there > gap.deadline:
-            self._refuse(spill, f"the head comes to track {_text(spill.track)} at {come} and is on {_text(gap.target)} at "
-                                f"{there}, which doesn't fit the gap until {gap.deadline}")
+            self._refuse(spill, f"the head comes to track {_text(spill.track)} at {come} and is on {_text(gap.target)} "
+                                f"at {there}, which doesn't fit the gap until {gap.deadline}")
         self._spill = spill
 
     def _wrote(self, wrote: Wrote) -> None:
         track, spill = self._passing(wrote), self._spill
         if spill is None or track != spill.track or wrote.begin < spill.begin or wrote.end > spill.end:
-            self._refuse(wrote, f"{_name(wrote)} lies on track {_text(track)}, where the head isn't from {wrote.begin} to "
-                                f"{wrote.end}")
+            self._refuse(wrote, f"{_name(wrote)} lies on track {_text(track)}, where the head isn't from {wrote.begin} "
+                                f"to {wrote.end}")
 
     def _is_reached(self, got: Got, track: Track) -> bool:
         """Whether the head is on the block's track while it passes."""

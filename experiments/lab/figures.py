@@ -4,7 +4,8 @@ from array import array
 from fractions import Fraction
 from typing import Any
 
-from lab.accounts import DETOURS, HOWS, IDLE_UNUSED, IDLE_USED, MOVES, TRANSFER, UNUSED, USED, WRITTEN, Account, Bookkeeper
+from lab.accounts import (DETOURS, HOWS, IDLE_UNUSED, IDLE_USED, MOVES, TRANSFER, UNUSED, USED, WRITTEN, Account,
+                          Bookkeeper)
 from lab.disk import Disk
 from lab.ending import Ending, ending_of
 from lab.reading import Reports, run_rows
@@ -126,7 +127,7 @@ def task_figures(task: Task, instants: list[int]) -> dict[str, Any]:
 
 
 def _outlook(task: Task, instants: list[int]) -> dict[str, Any]:
-    """How fast less was left in the last tenth, and when nothing would be left if it went on so, which it needn't do."""
+    """How fast less was left in the last tenth, and when nothing would be left if that went on, which it needn't."""
     lasted = instants[-1] - instants[-2]
     fewer = task.over_time[-2] - task.over_time[-1]
     rate = fewer / lasted * 1e9 if lasted else 0.0

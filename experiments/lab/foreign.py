@@ -13,7 +13,7 @@ SECOND, MILLISECOND, MICROSECOND, FILETIME = 1_000_000_000, 1_000_000, 1_000, 10
 Losses = Counter[str]  # what isn't carried over, and how often
 Lines = Iterable[tuple[int, str]]  # numbered from 1 on
 
-OTHER_DEVICE = "which device it was: accesses of several devices are laid on the same disk (name one by --device, or all)"
+OTHER_DEVICE = "which device it was: all are laid on the same disk (--device and --all-devices part them)"
 
 
 class Access(NamedTuple):

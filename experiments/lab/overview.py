@@ -1,4 +1,4 @@
-"""A long stretch of a run as a picture: what the head's time went into, rates, the queue, and what is left of each task."""
+"""A long stretch of a run as a picture: what the head's time went into, rates, the queue, and what is left of tasks."""
 
 from typing import Iterable, Iterator, NamedTuple
 
@@ -15,15 +15,17 @@ from lab.refusals import Refused
 from lab.reports import Gap, Idle, Note, Row, deliveries_before, marks, served_rows
 from lab.tasks import Tasks
 
-BINS = 240
 SECOND = 1_000_000_000
+PART = SECOND // 10  # how long a part of a stretch lasts, where that makes neither too few nor too many
+FEWEST, MOST = 60, 240
 
 # What the head's time went into, from below, by the kinds of pieces; with `used` in a name, of a wait or of idle time
 # that part in which blocks pass.
 PARTS = {"foreground read": NAVY, "foreground write": RED, "used in gaps": GREEN, "used for puts": "#e377c2",
          "used when idle": "#8fd4a6", "wait unused": AMBER, "arm or head moves": MIDDLE, "idle unused": LIGHT}
-RATES = {"read": ("foreground read", NAVY, "-"), "write": ("foreground write", RED, "-"), "gap": ("in gaps", GREEN, "-"),
-         "ride": ("by rides", GREEN, "--"), "idle": ("in idle time", GREEN, ":"), "put": ("puts", "#e377c2", "-")}
+RATES = {"read": ("foreground read", NAVY, "-"), "write": ("foreground write", RED, "-"),
+         "gap": ("in gaps", GREEN, "-"), "ride": ("by rides", GREEN, "--"), "idle": ("in idle time", GREEN, ":"),
+         "put": ("puts", "#e377c2", "-")}
 
 
 class Bins:
@@ -31,32 +33,33 @@ class Bins:
 
     def __init__(self, begin: int, end: int) -> None:
         self.begin, self.end = begin, end
-        self.width = (end - begin) / BINS
+        self.number = max(FEWEST, min(MOST, (end - begin) // PART))
+        self.width = (end - begin) / self.number
         self.of: dict[str, list[float]] = {}
 
     @property
     def edges(self) -> list[int]:
         """The beginnings of the parts, and the end of the last."""
-        return [self.begin + (self.end - self.begin) * at // BINS for at in range(BINS + 1)]
+        return [self.begin + (self.end - self.begin) * at // self.number for at in range(self.number + 1)]
 
     def add(self, name: str, begin: int, end: int, amount: float) -> None:
         """Spreads an amount evenly from one instant to another; what lies outside of the stretch isn't counted."""
         sums = self.of.get(name)
         if sums is None:
-            sums = self.of[name] = [0.0] * BINS
+            sums = self.of[name] = [0.0] * self.number
         low, high = begin - self.begin, end - self.begin
         first = int(low / self.width)
-        if low >= 0 and first < BINS and high <= (first + 1) * self.width:
+        if low >= 0 and first < self.number and high <= (first + 1) * self.width:
             sums[first] += amount
             return
         low, high = max(low, 0), min(high, self.end - self.begin)
-        for at in range(int(low / self.width), min(int(high / self.width), BINS - 1) + 1):
+        for at in range(int(low / self.width), min(int(high / self.width), self.number - 1) + 1):
             there = min(high, (at + 1) * self.width) - max(low, at * self.width)
             sums[at] += amount * max(0.0, there) / (end - begin)
 
     def sums(self, name: str) -> list[float]:
         """The sums of a name."""
-        return self.of.get(name, [0.0] * BINS)
+        return self.of.get(name, [0.0] * self.number)
 
 
 class Long(NamedTuple):
@@ -88,8 +91,8 @@ def found_in(disk: Disk, reports: Reports, begin: int, end: int) -> Long:
 
 
 def _counted_to(reports: Reports, tasks: Tasks, begin: int) -> int:
-    """Counts what was delivered before the rows that are read for a stretch, and says since when they are: from the start
-    on where a backup's blocks may have been overwritten, which the deliveries don't tell."""
+    """Counts what was delivered before the rows that are read for a stretch, and says since when they are: from the
+    start on where a backup's blocks may have been overwritten, which the deliveries don't tell."""
     if reports.back is None or any(task.at_end.kind == "backup" for task in tasks.by_name.values()):
         return 0
     _, behind = marks(reports.fore, reports.back, reports.section, begin)
@@ -175,7 +178,7 @@ def draw(long: Long, path: str, title: str) -> None:
     _draw_queue(axes[2], long, edges)
     if long.tasks.by_name:
         _draw_left(axes[3], long.tasks, edges)
-    axes[0].set_title(title, fontsize=10, loc="left")
+    axes[0].set_title(title, fontsize=10, loc="left", parse_math=False)
     axes[-1].set_xlabel(f"time ({unit})")
     axes[-1].set_xlim(edges[0], edges[-1])
     for panel in axes:
@@ -186,11 +189,12 @@ def draw(long: Long, path: str, title: str) -> None:
 
 
 def _draw_shares(axes: Axes, bins: Bins, edges: list[float]) -> None:
-    base = [0.0] * BINS
+    base = [0.0] * bins.number
     for name, share in shares(bins).items():
         if max(share) > 1e-9:
             top = [low + more for low, more in zip(base, share)]
-            axes.fill_between(edges, [*base, base[-1]], [*top, top[-1]], step="post", color=PARTS[name], lw=0, label=name)
+            axes.fill_between(edges, [*base, base[-1]], [*top, top[-1]], step="post", color=PARTS[name], lw=0,
+                              label=name)
             base = top
     axes.set_ylim(0, 100)
     axes.set_ylabel("percent of the\nhead's time")
@@ -208,10 +212,11 @@ def _draw_rates(axes: Axes, bins: Bins, edges: list[float]) -> None:
 def _draw_queue(axes: Axes, long: Long, edges: list[float]) -> None:
     """The mean length in each part, and the greatest."""
     bins, (instants, lengths) = long.bins, long.queue.steps(long.bins.begin, long.bins.end)
-    greatest = [0] * BINS
+    greatest = [0] * bins.number
     for begin, end, length in zip(instants, instants[1:], lengths):
         bins.add("queue", begin, end, length * (end - begin))
-        for at in range(int((begin - bins.begin) / bins.width), min(int((end - bins.begin) / bins.width), BINS - 1) + 1):
+        first, last = int((begin - bins.begin) / bins.width), int((end - bins.begin) / bins.width)
+        for at in range(first, min(last, bins.number - 1) + 1):
             greatest[at] = max(greatest[at], length)
     mean = [sum_ / bins.width for sum_ in bins.sums("queue")]
     axes.fill_between(edges, [*greatest, greatest[-1]], step="post", color="#c9d3e3", lw=0, label="greatest")
@@ -228,7 +233,7 @@ def _draw_left(axes: Axes, tasks: Tasks, edges: list[float]) -> None:
         wanted = task.at_end.blocks - task.at_end.aborted
         left = [100 * blocks / wanted if wanted else 0.0 for blocks in task.over_time]
         others += colour == OTHERS
-        label = name if colour != OTHERS else "other tasks" if others == 1 else None
+        label = f"left of {name}" if colour != OTHERS else "left of other tasks" if others == 1 else None
         axes.plot(edges, left, color=colour, lw=1.6 if colour != OTHERS else 0.6, label=label)
     low, high = axes.get_ylim()
     axes.set_ylim(max(low, -3), min(high, 103))

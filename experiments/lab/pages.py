@@ -36,13 +36,14 @@ def _histogram(ranges: list[dict[str, int]]) -> list[str]:
     for one in ranges:
         bar = "#" * -(-one["requests"] * BARS // most)
         span = f"{one['from'] / 1e6:g} to {one['to'] / 1e6:g} ms"
-        lines.append(f"             {span:<22}{one['requests']:>8} {100 * one['requests'] / whole:6.2f} % {bar}".rstrip())
+        share = 100 * one["requests"] / whole
+        lines.append(f"             {span:<22}{one['requests']:>8} {share:6.2f} % {bar}".rstrip())
     return lines
 
 
 def _spills(spills: dict[str, Any]) -> list[str]:
-    return [f"spills       {spills['spills']}, in {spills['gaps with a spill']:.2f} % of the gaps: {spills['bytes']} bytes, "
-            f"{spills['MB/s']:.3f} MB/s",
+    return [f"spills       {spills['spills']}, in {spills['gaps with a spill']:.2f} % of the gaps: "
+            f"{spills['bytes']} bytes, {spills['MB/s']:.3f} MB/s",
             f"             {spills['sectors written']} sectors written, {spills['sectors left']} left"]
 
 
@@ -53,8 +54,8 @@ def _task(name: str, task: dict[str, Any], end: int) -> list[str]:
     instants = [f"{what} {_ms(task[what])}" for what in INSTANTS if task[what] is not None]
     counts = [f"{task[what]} {what}" for what in ("unreadable sectors", "segments cleaned") if task[what]]
     left = " ".join(str(point["left"]) for point in task["left over time"])
-    return lines + [f"             {text}" for text in [*instants, *counts, f"blocks left at each tenth of the run: {left}",
-                                                        *_outlook(task, end)]]
+    over_time = f"blocks left at each tenth of the run: {left}"
+    return lines + [f"             {text}" for text in [*instants, *counts, over_time, *_outlook(task, end)]]
 
 
 def _outlook(task: dict[str, Any], end: int) -> list[str]:
@@ -64,8 +65,8 @@ def _outlook(task: dict[str, Any], end: int) -> list[str]:
     rate, at = task["blocks a second in the last tenth"], task["complete at that rate"]
     if at is None:
         return ["no fewer were left after the last tenth than before it: at that rate it would never be complete"]
-    return [f"{rate:.2f} fewer a second in the last tenth: at that rate, which it needn't keep, complete after {_ms(at)}, "
-            f"{at / end:.1f} times the run"]
+    return [f"{rate:.2f} fewer a second in the last tenth: at that rate, which it needn't keep, complete after "
+            f"{_ms(at)}, {at / end:.1f} times the run"]
 
 
 def _ms(nanoseconds: float) -> str:

@@ -14,7 +14,7 @@ GREATEST = 10**12
 
 
 def disk_of(path: str) -> Disk:
-    """The disk of a parameter file. What is refused here the program refuses too, which knows more faults than these."""
+    """The disk of a parameter file. What is refused here the program refuses too, and it knows more faults."""
     readable(path)
     try:
         with open(path, "rb") as source:
@@ -37,7 +37,7 @@ def _fault(given: dict[str, Any]) -> str:
     if any(one[0] >= later[0] or one[1] > later[1] for one, later in zip(given["seek"], given["seek"][1:])):
         return "the points of seek don't rise"
     for key in ("defects", "grown"):
-        if given.get(key) and not _are_lists(given[key], 3):
+        if given.get(key, []) != [] and not _are_lists(given[key], 3):
             return f"{key} isn't a list of places [cylinder, head, slot]"
     zones = given.get("zone")
     if not isinstance(zones, list) or not zones or not all(isinstance(zone, dict) for zone in zones):
@@ -88,5 +88,7 @@ def _is_number(value: Any, least: int) -> bool:
 
 
 def _are_lists(value: Any, length: int) -> bool:
-    return (isinstance(value, list) and bool(value) and all(isinstance(one, list) and len(one) == length for one in value)
-            and all(_is_number(number, 0) for one in value for number in one))
+    if not isinstance(value, list) or not value:
+        return False
+    return all(isinstance(one, list) and len(one) == length and all(_is_number(number, 0) for number in one)
+               for one in value)

@@ -18,7 +18,7 @@ class Queue(NamedTuple):
         return bisect_right(self.arrivals, now) - bisect_right(self.finishes, now)
 
     def steps(self, begin: int, end: int) -> tuple[list[int], list[int]]:
-        """Where the length changes in a stretch, its beginning and end included, and the length from each of these on."""
+        """Where the length changes in a stretch, with its beginning and end, and the length from each of these on."""
         changes = Counter(_behind(self.arrivals, begin, end))
         changes.subtract(_behind(self.finishes, begin, end))
         now = self.length(begin)

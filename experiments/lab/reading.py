@@ -33,8 +33,8 @@ def run_rows(disk: Disk, reports: Reports, since: int = 0) -> Iterator[Row]:
 
 
 def alone(disk: Disk, fore: str, section: int | None) -> Iterator[Row]:
-    """The run that a foreground report tells of by itself: gaps without a stay, idle time between them, and the end at the
-    last finish."""
+    """The run that a foreground report tells of by itself: gaps without a stay, idle time between them, and the end at
+    the last finish."""
     track: Track = (0, 0)
     now = 0
     for served in served_rows(fore, section):

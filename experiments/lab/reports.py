@@ -104,8 +104,8 @@ class ReportError(WrongInput):
 
 
 def served_rows(path: str, section: int | None = None, mark: Mark = START) -> Iterator[Served]:
-    """The rows of a foreground report, in the order of service; `section` is a device of an array's reports. With a mark
-    they are those from there on."""
+    """The rows of a foreground report, in the order of service; `section` is a device of an array's reports. With a
+    mark they are those from there on."""
     for number, line in row_lines(path, section, mark):
         try:
             name, way, *numbers, _ = line.split(None, 8)
@@ -159,8 +159,8 @@ def _opened_section(path: str, lines: Iterator[tuple[int, str]], section: int) -
 
 
 def rows(fore: str, back: str, section: int | None = None, since: int = 0) -> Iterator[Row]:
-    """The rows of a background report, each gap with its request from the foreground report beside it. Where they can be
-    looked for, rows are left out that stand before the last gap that begins by the instant `since` (nanoseconds)."""
+    """The rows of a background report, each gap with its request from the foreground report beside it. Where they can
+    be looked for, rows are left out that stand before the last gap that begins by the instant `since` (nanoseconds)."""
     lines = numbered_lines(back)
     if next(lines, (1, ""))[1].rstrip("\n") != "freeblock back 1":
         raise ReportError(f"{back}: no background report")
@@ -186,8 +186,8 @@ def rows(fore: str, back: str, section: int | None = None, since: int = 0) -> It
 
 
 def marks(fore: str, back: str, section: int | None, since: int) -> tuple[Mark, Mark]:
-    """Where the two reports can be read from: at the last gap that begins by this instant, and at its request; or at their
-    beginnings, where lines can't be looked for."""
+    """Where the two reports can be read from: at the last gap that begins by this instant, and at its request; or at
+    their beginnings, where lines can't be looked for."""
     if not since or section is not None or not is_plain(fore) or not is_plain(back):
         return START, START
     behind = mark_before(back, _gap_begin, since)

@@ -125,5 +125,5 @@ class Tasks:
         self.stop()
         for name, task in self.by_name.items():
             if task.left != task.at_end.left:
-                raise ReportError(f"the background report's rows leave {task.left} blocks of task {name}, but its line at "
-                                  f"the end says {task.at_end.left}")
+                raise ReportError(f"the background report's rows leave {task.left} blocks of task {name}, but its line "
+                                  f"at the end says {task.at_end.left}")

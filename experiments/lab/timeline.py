@@ -64,7 +64,8 @@ def found_in(disk: Disk, reports: Reports, begin: int, end: int) -> Stretch:
     found = within(pieces(disk, run_rows(disk, reports, begin)), begin, end)
     if not found:
         raise Refused("the run has nothing in this stretch")
-    return Stretch(disk, found, queue_of(reports.fore, reports.section), begin, min(end, max(piece.end for piece in found)))
+    last = max(piece.end for piece in found)
+    return Stretch(disk, found, queue_of(reports.fore, reports.section), begin, min(end, last))
 
 
 def draw(stretch: Stretch, path: str, title: str) -> None:
@@ -79,16 +80,16 @@ def draw(stretch: Stretch, path: str, title: str) -> None:
     way.set_ylabel("cylinder, and head\nas a part of one" if is_narrow else "cylinder")
     way.autoscale_view()
     way.margins(y=0.12)
-    way.set_title(title, fontsize=10, loc="left")
+    way.set_title(title, fontsize=10, loc="left", parse_math=False)
     angle.set_ylabel("angle\n(turns)")
     angle.set_ylim(0, 1)
     lanes.set_xlabel(f"time ({'microseconds' if scale == 1e3 else 'milliseconds'})")
     lanes.set_xlim(stretch.begin / scale, stretch.end / scale)
     lanes.ticklabel_format(axis="x", useOffset=False)
     if colours:
-        entries = [Patch(color=colour, label=name) for name, colour in named(colours).items()]
-        way.legend(handles=entries, loc="lower right", bbox_to_anchor=(1, 1), ncol=min(len(entries), 6), fontsize=8,
-                   borderaxespad=0.1, title="blocks of the task" if len(entries) < 4 else None, title_fontsize=8)
+        entries = [Patch(color=colour, label=f"blocks of {name}") for name, colour in named(colours).items()]
+        lanes.legend(handles=entries, loc="upper left", bbox_to_anchor=(-0.02, -0.2), ncol=4, fontsize=8,
+                     borderaxespad=0)
     figure.align_ylabels()
     figure.tight_layout()
     _name_requests(way, stretch)
@@ -167,7 +168,7 @@ def _draw_queue(axes: Axes, stretch: Stretch) -> None:
     arrived = [at / stretch.scale for at in stretch.queue.arrived(stretch.begin, stretch.end)]
     axes.plot(arrived, [stretch.queue.length(round(at * stretch.scale)) for at in arrived], "v", color=RED, ms=4,
               clip_on=False)
-    axes.set_ylim(0, max(1, max(lengths)) * 1.25)
+    axes.set_ylim(0, max(1, max(lengths)) * 1.5)
     axes.yaxis.get_major_locator().set_params(integer=True)
     axes.set_ylabel("requests\nnot done")
     if arrived:
@@ -183,16 +184,26 @@ def _draw_lanes(axes: Axes, stretch: Stretch, colours: dict[str, str]) -> None:
     for lane, kind in enumerate(kinds):
         of_kind = [piece for piece in stretch.found if piece.kind == kind]
         base = [lane + 0.4] * COLUMNS
-        for colour in dict.fromkeys(_colour(piece, colours) for piece in of_kind):
-            shares = covered([piece for piece in of_kind if _colour(piece, colours) == colour], stretch)
-            top = [max(low - 0.8 * share, lane - 0.4) for low, share in zip(base, shares)]
+        for colour, shares in _shares(of_kind, stretch, colours).items():
+            top = [low - 0.8 * share for low, share in zip(base, shares)]
             _fill(axes, stretch, base, top, colour)
             base = top
         lasted = sum(min(piece.end, stretch.end) - max(piece.begin, stretch.begin) for piece in of_kind)
-        text = f"{len(of_kind)}: {lasted / stretch.scale:.3g} {'µs' if stretch.scale == 1e3 else 'ms'}" if of_kind else "0"
+        unit = "µs" if stretch.scale == 1e3 else "ms"
+        text = f"{len(of_kind)}: {lasted / stretch.scale:.3g} {unit}" if of_kind else "0"
         axes.text(1.008, lane, text, transform=axes.get_yaxis_transform(), fontsize=8, va="center")
     axes.set_yticks(range(len(kinds)), [LOOKS[kind].lane for kind in kinds], fontsize=9)
     axes.set_ylim(len(kinds) - 0.4, -0.6)
+
+
+def _shares(found: list[Piece], stretch: Stretch, colours: dict[str, str]) -> dict[str, list[float]]:
+    """The share of each column by colour; of blocks of several tasks that pass together each has its part."""
+    of: dict[str, list[Piece]] = {}
+    for piece in found:
+        of.setdefault(_colour(piece, colours), []).append(piece)
+    shares = {colour: covered(some, stretch) for colour, some in of.items()}
+    whole = [max(1.0, sum(column)) for column in zip(*shares.values())]
+    return {colour: [share / total for share, total in zip(some, whole)] for colour, some in shares.items()}
 
 
 def covered(found: list[Piece], stretch: Stretch) -> list[float]:
@@ -208,6 +219,7 @@ def covered(found: list[Piece], stretch: Stretch) -> list[float]:
 
 
 def _fill(axes: Axes, stretch: Stretch, base: list[float], top: list[float], colour: str) -> None:
-    edges = [(stretch.begin + (stretch.end - stretch.begin) * at / COLUMNS) / stretch.scale for at in range(COLUMNS + 1)]
+    whole = stretch.end - stretch.begin
+    edges = [(stretch.begin + whole * at / COLUMNS) / stretch.scale for at in range(COLUMNS + 1)]
     axes.fill_between(edges, [*base, base[-1]], [*top, top[-1]], where=[low > high for low, high in zip(base, top)]
                       + [False], step="post", color=colour, lw=0)

@@ -1,5 +1,5 @@
-"""What experiments/check tries: a module for each part, whose `check(folder)` gives what is wrong, in words. A new module
-is found by itself."""
+"""What experiments/check tries: a module for each part, whose `check(folder)` gives what is wrong, in words. A new
+module is found by itself."""
 
 import importlib
 import pkgutil

@@ -71,8 +71,8 @@ def has_matplotlib() -> bool:
     """Whether pictures can be drawn; says so where they can't."""
     there = importlib.util.find_spec("matplotlib") is not None
     if not there:
-        print("check: no matplotlib, so no picture is drawn: apt-get install --no-install-recommends python3-matplotlib",
-              flush=True)
+        print("check: no matplotlib, so no picture is drawn: apt-get install --no-install-recommends "
+              "python3-matplotlib", flush=True)
     return there
 
 

@@ -45,7 +45,8 @@ def _of_an_array(folder: Path) -> list[str]:
     """Two devices with one request each: it begins at slot 5 or 6, and passes for 100 ns or 200."""
     trace, both = folder / "two.trace", folder / "array"
     trace.write_text("0 0 5 1 1\n0 1 6 2 1\n")
-    both.write_text(run(program(), "array", "--params", SMALL_DISK, "--trace", trace, "--policy", "sptf", "--devices", "2"))
+    both.write_text(run(program(), "array", "--params", SMALL_DISK, "--trace", trace, "--policy", "sptf", "--devices",
+                        "2"))
     return [fault for section, end in ((0, 600), (1, 800)) for fault in
             differences(_figures(both, "--section", str(section))["response"]["greatest"], end, f"section {section}")]
 
@@ -67,21 +68,23 @@ def _with_spills(folder: Path) -> list[str]:
 
 
 def _of_a_backup(folder: Path) -> list[str]:
-    """USING's backup of three blocks: they are in at 1,600, 3,200 and 4,800 ns, the first is overwritten at 3,800, and in
-    again at 10,000."""
+    """USING's backup of three blocks: they are in at 1,600, 3,200 and 4,800 ns, the first is overwritten at 3,800, and
+    in again at 10,000."""
     back = folder / "backup.back"
-    fore = _replay(folder, "backup", TASKS_TRACE, "--calls", EXAMPLES / "backup.calls", "--back", back, "--until", "0.012")
+    fore = _replay(folder, "backup", TASKS_TRACE, "--calls", EXAMPLES / "backup.calls", "--back", back, "--until",
+                   "0.012")
     found = _figures(fore, back)["tasks"]["copy"]["left over time"]
     return differences(found, left(3, 3, 2, 1, 1, 1, 1, 1, 1, 0, 0, end=12000), "backup")
 
 
 def _outlook(folder: Path) -> list[str]:
-    """An idle disk whose first track is scrubbed, sector by sector, for 1,000 ns; ten of 24 are read, one each 100 ns, so
-    that the 14 that are left would take 1,400 more."""
+    """An idle disk whose first track is scrubbed, sector by sector, for 1,000 ns; ten of 24 are read, one each 100 ns,
+    so that the 14 that are left would take 1,400 more."""
     fore, back = folder / "idle.fore", folder / "idle.back"
     fore.write_text("freeblock fore 1\nend 0 0\n")
     rows = [f"got scan {at} {at} 1 {100 * at} {100 * at + 100} idle 0 -\n" for at in range(10)]
-    back.write_text("freeblock back 1\nidle 0.0 0 1000\n" + "".join(rows) + "task scan scrub 24 10 0 14 open\nend 1000\n")
+    back.write_text("freeblock back 1\nidle 0.0 0 1000\n" + "".join(rows)
+                    + "task scan scrub 24 10 0 14 open\nend 1000\n")
     found = _figures(fore, back)["tasks"]["scan"]
     faults = differences(found["left over time"], left(*range(24, 13, -1), end=1000), "outlook")
     faults += differences(found["blocks a second in the last tenth"], 1e7, "rate")

@@ -32,12 +32,15 @@ CASES = {
     # fio: completion less latency, 10 ms - 4 ms and 12 ms - 7.5 ms; the trim is dropped.
     "fio": Case("fio", "10, 4000000, 0, 4096, 8192, 0\n12, 7500000, 1, 512, 0, 0\n13, 1, 2, 512, 0, 0\n",
                 "0.000000 0 0 1 0\n1.500000 0 16 8 1\n"),
-    "fio-iolog 2": Case("fio-iolog", "fio version 2 iolog\n/f add\n/f open\n/f wait 1500 0\n/f read 4096 8192\n/f sync 0 0\n"
-                        "/f wait 250 0\n/f write 0 512\n/f close\n", "0.000000 0 8 16 1\n0.250000 0 0 1 0\n"),
-    "fio-iolog 3": Case("fio-iolog", "fio version 3 iolog\n3 /f add\n20 /f open\n30 /f read 4096 8192\n1031 /f trim 0 512\n"
-                        "1131 /f write 0 512\n1200 /f close\n", "0.000000 0 8 16 1\n1.101000 0 0 1 0\n"),
+    "fio-iolog 2": Case("fio-iolog", "fio version 2 iolog\n/f add\n/f open\n/f wait 1500 0\n/f read 4096 8192\n"
+                        "/f sync 0 0\n/f wait 250 0\n/f write 0 512\n/f close\n",
+                        "0.000000 0 8 16 1\n0.250000 0 0 1 0\n"),
+    "fio-iolog 3": Case("fio-iolog", "fio version 3 iolog\n3 /f add\n20 /f open\n30 /f read 4096 8192\n"
+                        "1031 /f trim 0 512\n1131 /f write 0 512\n1200 /f close\n",
+                        "0.000000 0 8 16 1\n1.101000 0 0 1 0\n"),
     "blktrace": Case("blktrace", "8,0 1 1 0.000000001 7 Q R 100 + 8 [a]\n8,0 1 2 0.5 7 D R 100 + 8 [a]\n"
-                     "8,0 1 3 1.000000002 7 Q FWS 0 + 0 [a]\n8,0 1 4 2.000000003 7 Q WS 7 + 1 [b c]\nCPU0 (8,0):\n Reads\n",
+                     "8,0 1 3 1.000000002 7 Q FWS 0 + 0 [a]\n8,0 1 4 2.000000003 7 Q WS 7 + 1 [b c]\nCPU0 (8,0):\n"
+                     " Reads\n",
                      "0.000000 0 100 8 1\n2000.000002 0 7 1 0\n"),
     # biosnoop: completion less latency, 1 s - 2.5 ms and 1.01 s - 10 ms; with the time in the queue 3 ms earlier.
     "biosnoop": Case("biosnoop", SNOOP + "1.000000 Web Content 1 sda R 16 4096 2.50\n1.010000 b 2 sda W 8 512 10.00\n",
@@ -56,9 +59,11 @@ CASES = {
     "a device": Case("alibaba", "7,W,0,512,0\n9,R,512,512,1\n7,R,1024,512,2\n", "0.000000 0 1 1 1\n", "--device 9"),
     "two devices": Case("alibaba", "7,W,0,512,0\n8,W,0,512,0\n9,R,512,512,1\n7,R,1024,512,2\n",
                         "0.000000 1 0 1 0\n0.001000 0 1 1 1\n0.002000 1 2 1 1\n", "--device 9 --device 7"),
-    "all devices": Case("alibaba", "7,W,0,512,0\n9,R,512,512,1\n", "0.000000 0 0 1 0\n0.001000 1 1 1 1\n", "--all-devices"),
+    "all devices": Case("alibaba", "7,W,0,512,0\n9,R,512,512,1\n", "0.000000 0 0 1 0\n0.001000 1 1 1 1\n",
+                        "--all-devices"),
     # A third of 10 ns is 3 ns and some.
-    "times": Case("disksim", "0 0 0 1 1\n0.000010 0 1 1 1\n", "0.000000 0 0 1 1\n0.000003 0 1 1 1\n", "--time-scale 1/3"),
+    "times": Case("disksim", "0 0 0 1 1\n0.000010 0 1 1 1\n", "0.000000 0 0 1 1\n0.000003 0 1 1 1\n",
+                  "--time-scale 1/3"),
     # Two arrivals 4 ms apart, three times: each begins 4 ms behind the last of the one before.
     "repeated": Case("disksim", "1 0 0 1 1\n5 0 1 1 1\n", "".join(f"{at}.000000 0 {at // 4 % 2} 1 1\n" for at in
                                                                (0, 4, 8, 12, 16, 20)), "--repeat 3"),

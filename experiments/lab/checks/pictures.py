@@ -1,4 +1,4 @@
-"""Pictures of long stretches: what they sum up is what `measure` counts, and nothing is lost by reading from the middle."""
+"""Pictures of long stretches: they sum up what `measure` counts, and nothing is lost by reading from the middle."""
 
 from pathlib import Path
 
@@ -7,20 +7,20 @@ from lab.program import program
 
 DISK = EXAMPLES / "disk-10000rpm.toml"
 CALLS = ("0 open all scrub 1 16\n0 want all 0 2000000\n0 open some plain 2 64\n0 want some 1000000 400000\n")
-STARTS = {".png": b"\x89PNG", ".svg": b"<?xml", ".pdf": b"%PDF"}
+WHOLE, SHORT = ["--whole"], ["--from", "900", "--to", "950"]
+FORMS = {"long.png": (b"\x89PNG", WHOLE), "short.svg": (b"<?xml", SHORT), "long.pdf": (b"%PDF", WHOLE)}
 
 
 def check(folder: Path) -> list[str]:
-    """A run of 500 requests, whole and from its middle on, and a short stretch of it in each form."""
+    """A run of 500 requests, whole and from its middle on, and a picture in each form."""
     if not has_matplotlib():
         return []
     fore, back = _made_run(folder)
     faults = _sums(fore, back) + _from_the_middle(fore, back)
-    for suffix, start in STARTS.items():
-        for name, stretch in (("long", ["--whole"]), ("short", ["--from", "900", "--to", "950"])):
-            out = folder / f"{name}{suffix}"
-            answer("picture", DISK, fore, back, out, *stretch, "--title", "<500> requests & $two$ tasks")
-            faults += [] if out.read_bytes().startswith(start) else [f"{out.name} isn't what its name says"]
+    for name, (start, stretch) in FORMS.items():
+        out = folder / name
+        answer("picture", DISK, fore, back, out, *stretch, "--title", r"<500> requests & $\two tasks_{")
+        faults += [] if out.read_bytes().startswith(start) else [f"{name} isn't what its name says"]
     return faults
 
 
@@ -35,9 +35,9 @@ def _made_run(folder: Path) -> tuple[Path, Path]:
 
 
 def _sums(fore: Path, back: Path) -> list[str]:
-    """Times and bytes over the whole run are those of `measure`, but that transfer and moves are told apart otherwise."""
+    """Times and bytes over the whole run are those of `measure`, where transfer and moves are told apart otherwise."""
     from lab.figures import figures_of
-    from lab.overview import BINS, end_of, found_in, shares
+    from lab.overview import end_of, found_in, shares
     from lab.params import disk_of
     from lab.reading import Reports
 
@@ -45,11 +45,12 @@ def _sums(fore: Path, back: Path) -> list[str]:
     bins = found_in(disk, reports, 0, end_of(reports)).bins
     figures = figures_of(disk, reports)
     time, background = figures["time"], figures["background"]
-    found = {name: sum(parts) / BINS for name, parts in shares(bins).items()}
+    found = {name: sum(parts) / bins.number for name, parts in shares(bins).items()}
     wanted = {"used in gaps": time["rotational wait used"], "used for puts": 0, "used when idle": time["idle used"],
               "wait unused": time["rotational wait unused"], "idle unused": time["idle unused"],
               "arm or head moves": time["seek"] + time["detour moves"],
-              "foreground read": time["transfer"] - found["foreground write"], "foreground write": found["foreground write"]}
+              "foreground read": time["transfer"] - found["foreground write"],
+              "foreground write": found["foreground write"]}
     faults = differences({name: round(share, 6) for name, share in found.items()},
                          {name: round(share, 6) for name, share in wanted.items()}, "sums")
     for how in ("gap", "idle", "ride"):
