@@ -78,9 +78,7 @@ class Page {
     this.stale = new Set();
     if (stale.has("view")) {
       this.timeline.draw();
-      this.figures.drawTime();
-      clearTimeout(this.resting);
-      this.resting = setTimeout(() => this.figures.drawRest(), 150);
+      this.figures.drawSoon();
     }
     if (stale.has("view") || stale.has("cursor")) this.overview.draw();
     if (stale.has("view") || stale.has("cursor") || stale.has("marks")) this.timeline.drawMarks();
@@ -343,9 +341,13 @@ function connect(page) {
   at("timeline", "keydown", event => pressedOnTimeline(page, event));
   at("overview", "pointerdown", event => { event.target.setPointerCapture(event.pointerId); centreAt(page, event); });
   at("overview", "pointermove", event => { if (event.buttons) centreAt(page, event); });
-  const redraw = () => page.fit();
+  let width = 0;
+  const redraw = () => page.fit(), resized = ([{ contentRect }]) => {
+    if (contentRect.width !== width) redraw();
+    width = contentRect.width;
+  };
   matchMedia("(prefers-color-scheme: dark)").addEventListener("change", redraw);
-  new ResizeObserver(redraw).observe(document.querySelector("main"));
+  new ResizeObserver(resized).observe(document.querySelector("main"));
   window.addEventListener("resize", redraw);
   return new Hand(page);
 }

@@ -126,7 +126,14 @@ class Figures {
     this.time.append(body);
   }
 
-  /** Where the time went; at once, as it is sums. */
+  /** Draws where the time went ten times a second at most, and the rest when the view has come to rest. */
+  drawSoon() {
+    clearTimeout(this.resting);
+    this.resting = setTimeout(() => this.drawRest(), 150);
+    this.timing = this.timing || setTimeout(() => { this.timing = 0; this.drawTime(); }, 100);
+  }
+
+  /** Where the time went. */
   drawTime() {
     const { run, view, colours } = this.page, spent = spentWithin(run, view.begin, view.end),
       whole = spent.reduce((sum, part) => sum + part, 0);

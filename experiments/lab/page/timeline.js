@@ -23,8 +23,7 @@ class Timeline {
 
   /** Where each part stands, in dots. Names stand beside the parts, or above them where the page is narrow. */
   layOut() {
-    const { em, width, height } = this.base;
-    this.narrow = width < 42 * em;
+    const { em, height } = this.base;
     this.left = this.narrow ? 0 : Math.round(13 * em);
     const name = this.narrow ? 1.2 * em : 0, apart = (this.narrow ? 0.15 : 0.3) * em, axis = 1.9 * em,
       at = { axis: [height - axis, axis] };
@@ -35,8 +34,10 @@ class Timeline {
     place("arrivals", 1.2 * em);
     at.way = [name, Math.max(4 * em, below - apart - name)];
     this.at = Object.fromEntries(Object.entries(at).map(([part, place]) => [part, place.map(Math.round)]));
-    if (this.picture && this.picture.width === this.dots && this.picture.height === height) return;
     this.picture = new Dots(this.dots, height);
+    for (const part of ["way", "queue", ...this.lanes.map(([kind]) => kind)])
+      this.picture.fill(0, this.at[part][0], this.dots, this.at[part][1], this.page.word("panel"));
+    this.ground = this.picture.words.slice();
     this.heights = new Int32Array(this.dots);
     this.numbers = new Float32Array(this.dots);
     this.shares = null;
@@ -59,9 +60,7 @@ class Timeline {
 
   draw() {
     const { run, page, base, picture } = this;
-    picture.words.fill(0);
-    for (const part of ["way", "queue", ...this.lanes.map(([kind]) => kind)]) picture.fill(0, this.at[part][0],
-      this.dots, this.at[part][1], page.word("panel"));
+    picture.words.set(this.ground);
     const instants = this.axis();
     for (const { x } of instants) picture.fill(x, 0, Math.min(this.thin, this.dots - x), this.at.axis[0],
       page.word("line"));
@@ -83,6 +82,9 @@ class Timeline {
 
   /** Takes the size that the page gives it. */
   fit() {
+    this.base.fit();
+    this.narrow = this.base.width < 42 * this.base.em;
+    this.base.canvas.parentElement.classList.toggle("narrow", this.narrow);
     this.base.fit();
     this.layOut();
   }
