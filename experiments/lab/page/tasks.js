@@ -143,6 +143,7 @@ class Figures {
     this.rows.forEach(({ bar, length, share }, i) => {
       const percent = whole ? 100 * spent[i] / whole : 0;
       bar.style.width = `${Math.max(0, percent)}%`;
+      bar.hidden = percent <= 0;
       bar.style.background = colours[bar.dataset.kind];
       length.textContent = duration(spent[i]);
       share.textContent = `${percent.toFixed(2)} %`;
