@@ -125,6 +125,8 @@ class Page {
     const { run } = this, kind = run.kinds[row], index = run.indexes[row], lines = [];
     if (this.about.files.back) lines.push(backLine(run, row));
     if (kind === ACT && !run.isIdle(index)) lines.push(foreLine(run, run.acts.request[index]));
+    if (kind === ACT && run.spillOf[index] >= 0)
+      lines.push(spillLine(run, run.spillLines.findIndex(line => line.spill === run.spillOf[index])));
     setText("words", rowWords(run, row) + aside);
     setText("line", lines.join("\n"));
   }
