@@ -133,12 +133,12 @@ class Judge:
         return track == stay.target and there <= got.begin and got.end <= stay.deadline
 
     def _stretch(self, row: Passing, sector: int, length: int) -> Stretch:
-        if not 0 < length <= self.disk.sectors - sector:
+        if sector < 0 or not 0 < length <= self.disk.sectors - sector:
             self._refuse(row, f"sectors {sector} to {sector + length - 1} aren't on it: it has {self.disk.sectors}")
         return self.disk.stretch(sector, length)
 
     def _on_disk(self, row: Judged, track: Track) -> None:
-        if track[0] >= self.disk.cylinders or track[1] >= self.disk.heads:
+        if min(track) < 0 or track[0] >= self.disk.cylinders or track[1] >= self.disk.heads:
             self._refuse(row, f"it has no track {_text(track)}")
 
     def _at_angle(self, row: Judged, sector: int, stretch: Stretch, instant: int) -> None:

@@ -40,7 +40,7 @@ def alone(disk: Disk, fore: str, section: int | None) -> Iterator[Row]:
     for served in served_rows(fore, section):
         if served.start > now:
             yield Idle(track, now, served.start)
-        fits = served.sector + served.length <= disk.sectors
+        fits = 0 <= served.sector < disk.sectors
         target = disk.stretch(served.sector, 1).track if fits else track
         yield Gap(served, track, target, served.start, served.media, None, served.start)
         track, now = disk.stretch(served.sector + served.length - 1, 1).track, served.finish

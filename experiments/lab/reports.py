@@ -96,7 +96,8 @@ class Spilled(NamedTuple):
 Row = Gap | Idle | Got | Note | Spill | Wrote | Spilled
 GOT = re.compile(rb"^got (\S+)", re.MULTILINE)
 WAYS = {how: how for how in ("gap", "idle", "ride")}
-NOTES = {"bad": 2, "seal": 4, "seg": 5, "done": 2, "task": 7, "end": 1}  # how many fields follow the verb
+NOTES = {"bad": (2, (1,)), "seal": (4, (1, 2)), "seg": (5, (1, 2, 3)), "done": (2, (1,)), "task": (7, (2, 3, 4, 5)),
+         "end": (1, (0,))}  # how many fields follow the verb, and which of them are numbers
 
 
 class ReportError(WrongInput):
@@ -230,7 +231,8 @@ def _row(fields: list[str], number: int, requests: Iterator[Served], back: str) 
         return _gap(fields, next(requests, None), back, number)
     if verb == "idle":
         return Idle(track_of(fields[1]), int(fields[2]), int(fields[3]), number)
-    if len(fields) != 1 + NOTES.get(verb, -1):
+    count, numbers = NOTES[verb]
+    if len(fields) != 1 + count or not all(fields[1 + at].isdecimal() for at in numbers):
         raise ValueError
     return Note(verb, fields[1:], number)
 

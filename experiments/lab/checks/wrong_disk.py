@@ -5,8 +5,8 @@ from pathlib import Path
 from lab.checks._tools import EXAMPLES, SMALL_DISK, Ended, ended, has_matplotlib, small_run
 
 # The first row of the example's reports that can't be of the disk, and a part of what is said. On the worn disk, slot 3
-# of track 0.0 has no sector, so that sector 5 is in slot 6. The gap of request 4 lasts 1,500 ns, too short for a seek of
-# 2,000 over two cylinders, and that of request 2 lasts 950, too short for one of 300 and a settling of 900.
+# of track 0.0 has no sector, so that sector 5 is in slot 6. The gap of request 4 lasts 1,500 ns, too short for a seek
+# of 2,000 over two cylinders, and that of request 2 lasts 950, too short for one of 300 and a settling of 900.
 DISKS = {
     "worn": ("", "line 2 of the background report", "sector 5 begins to pass 600 ns into a rotation"),
     "slow": ("seek = [[1, 300], [3, 3700]]", "line 14 of the background report", "2000 ns from track 1.1 to 3.1"),
