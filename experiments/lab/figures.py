@@ -28,7 +28,7 @@ def figures_of(disk: Disk, reports: Reports) -> dict[str, Any]:
     Times are in nanoseconds, shares in percent of the whole run, rates in a second, megabytes are 10^6 bytes. Without a
     background report `background` is None and there are no tasks; without a text of spills `spills` is None."""
     ending = ending_of(reports.back) if reports.back is not None else Ending(0, {})
-    instants = [ending.end * step // STEPS for step in range(STEPS + 1)]
+    instants = tenths(ending.end)
     keeper, tasks, responses = Bookkeeper(disk), Tasks(ending, instants), array("q")
     end, spilled = 0, None
     for row in run_rows(disk, reports):
@@ -50,8 +50,13 @@ def figures_of(disk: Disk, reports: Reports) -> dict[str, Any]:
         "time": _shares(account),
         "background": _background(account) if reports.back is not None else None,
         "spills": _spills(account, spilled),
-        "tasks": {name: _task(task, instants) for name, task in tasks.by_name.items()},
+        "tasks": {name: task_figures(task, instants) for name, task in tasks.by_name.items()},
     }
+
+
+def tenths(end: int) -> list[int]:
+    """The instants at which it is told how much is left."""
+    return [end * step // STEPS for step in range(STEPS + 1)]
 
 
 def histogram(ascending: "array[int]") -> list[dict[str, int]]:
@@ -110,7 +115,8 @@ def _spills(account: Account, spilled: Spilled | None) -> dict[str, Any] | None:
             "MB/s": account.puts / seconds / 1e6, "sectors written": spilled.written, "sectors left": spilled.left}
 
 
-def _task(task: Task, instants: list[int]) -> dict[str, Any]:
+def task_figures(task: Task, instants: list[int]) -> dict[str, Any]:
+    """How a task fared, with what was left of it at these instants."""
     at_end = task.at_end
     found = {"kind": at_end.kind, "blocks": at_end.blocks, "delivered": at_end.delivered, "aborted": at_end.aborted,
              "left": at_end.left, "complete": at_end.complete, "first delivery": task.first, "last delivery": task.last,
