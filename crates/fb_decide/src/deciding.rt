@@ -241,7 +241,7 @@ fn advance<Q: Queue, P: Planner>(
     course.called = course
         .background
         .prepare(inputs.disk, inputs.calls, course.called, now)?;
-    course.joined = join_arrived(inputs.disk, requests, queue, course.joined, now)?;
+    course.joined = join_arrived(requests, queue, course.joined, now)?;
     act(alloc, inputs, requests, planner, queue, course)
 }
 

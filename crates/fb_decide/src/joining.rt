@@ -1,18 +1,16 @@
 // Requests that join the queue.
 ghost use Rattle.std.specs.Prelude.{◌≡◌, ◌<◌, ◌≤◌, ◌^◌, length, take, IfOk, IfSome, OnOk, slice_get};
 ghost use Rattle.std.specs.List.{AllByRecursion};
-ghost use Rattle.fb_model.specs.Accepted.{IsRequestOf};
+ghost use Rattle.fb_service.specs.declared.disk.Disk.{Disk};
 ghost use Rattle.fb_decide.specs.Waiting.{left};
 
 use fb_queue::Queue;
-use fb_service::Disk;
 use fb_units::{NoMemory, Ns, Request};
 
 /// Adds the requests that have arrived to the queue; returns how many have joined by then.
 ///
 /// The only error is out of memory.
 pub fn join_arrived<Q: Queue>(
-    disk: &Disk,
     requests: &[Request],
     queue: &mut Q,
     next: usize,
@@ -20,8 +18,6 @@ pub fn join_arrived<Q: Queue>(
 ) -> Result<usize, NoMemory>
     requires within { next ≤ length requests.now }
     requires few { length requests.now ≤ 10 ^ 6 }
-    requires on_disk { AllByRecursion (IsRequestOf disk.now.map) requests.now }
-    requires fits { Q.fits queue.old disk.now }
     requires joined { Q.joined queue.old ≡ next }
     requires arrived { AllByRecursion (λ r. r.arrival ≤ now) (Q.pending queue.old) }
     requires come { AllByRecursion (λ r. r.arrival ≤ now) (take next requests.now) }
@@ -30,12 +26,12 @@ pub fn join_arrived<Q: Queue>(
     ensures left { IfOk result (λ later. left requests.now later (Q.pending queue.new) ≡ left requests.now next (Q.pending queue.old)) }
     ensures arrived { OnOk result (AllByRecursion (λ r. r.arrival ≤ now) (Q.pending queue.new)) }
     ensures come { IfOk result (λ later. AllByRecursion (λ r. r.arrival ≤ now) (take later requests.now)) }
-    ensures fits { OnOk result (Q.fits queue.new disk.now) }
+    ensures fits { OnOk result ((disk : Disk) → Q.fits queue.old disk → Q.fits queue.new disk) }
     ensures ahead { IfOk result (λ later. IfSome (slice_get requests.now later) (λ r. now < r.arrival)) }
 {
     let mut next = next;
     while next < requests.len() && requests[next].arrival <= now {
-        queue.add(disk, requests[next])?;
+        queue.add(requests[next])?;
         next += 1;
     }
     Ok(next)

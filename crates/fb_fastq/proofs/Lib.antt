@@ -15,3 +15,6 @@ pub mod InRows
 pub mod Outwards
 pub mod OneMore
 pub mod Divided
+pub mod Both
+pub mod Chosen
+pub mod Placed

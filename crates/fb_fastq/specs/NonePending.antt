@@ -1,5 +1,5 @@
 -- Where none is pending, none waits.
-use Rattle.std.specs.Prelude.{◌≡◌, List, [], ◌∷◌, Bool, true, false, nat_lt, map, if◌then◌else◌}
+use Rattle.std.specs.Prelude.{◌≡◌, List, [], ◌∷◌, ◌++◌, refl, Bool, true, false, nat_lt, map, if◌then◌else◌}
 use Rattle.std.specs.List.{AllByRecursion}
 use Rattle.std.proofs.Common.{subst}
 use Rattle.fb_units.specs.declared.types.Request.{Request}
@@ -20,3 +20,8 @@ some_joined w (x ∷ ws) none = either (nat_lt (number_of w) (number_of x)) none
 pub all_of_none : (P : Waiting → Type 0) (ws : List Waiting) → pending_of ws ≡ [] → AllByRecursion P ws
 all_of_none P [] none = tt
 all_of_none P (w ∷ ws) none = absurd (some_joined w (in_order ws) none)
+
+-- where two lists have none, the first has none
+pub none_left : (xs ys : List Request) → xs ++ ys ≡ [] → xs ≡ []
+none_left [] ys none = refl
+none_left (x ∷ xs) ys none = absurd (subst IsSome none tt)

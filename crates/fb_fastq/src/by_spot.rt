@@ -144,6 +144,17 @@ pub fn add(
     Ok(())
 }
 
+/// The request under a key.
+pub fn held(waiting: &BTreeMap<(u64, u64), Request>, key: (u64, u64)) -> Request
+    requires has { Waits waiting.now key }
+    ensures value { Holds waiting.now key result }
+{
+    match waiting.get(&key) {
+        Some(request) => *request,
+        None => unreachable!(),
+    }
+}
+
 /// Takes out a request.
 pub fn take_out(waiting: &mut BTreeMap<(u64, u64), Request>, key: (u64, u64)) -> Request
     requires has { Waits waiting.old key }

@@ -2,10 +2,10 @@
 ghost use Rattle.std.specs.Prelude.{◌<◌, ◌≤◌, ◌^◌, ◌*◌, length};
 ghost use Rattle.fb_geometry.specs.Shape.{IsTrackOf};
 ghost use Rattle.fb_model.specs.Accepted.{IsRequestOf};
-ghost use Rattle.fb_model.specs.PlainReplay.{Key};
 ghost use Rattle.fb_fastq.specs.Joining.{Waits, AllHeld, IsFirstHeld};
 ghost use Rattle.fb_fastq.specs.Spots.{IsCylinderOf};
 
+use fb_queue::Policy;
 use fb_service::Disk;
 use fb_units::{Ns, Request, Track};
 use std::collections::BTreeMap;
@@ -14,10 +14,7 @@ use std::collections::BTreeMap;
 ///
 /// Requests wait in a map by the cylinder of their first sector, and those of one cylinder in
 /// order of joining.
-pub trait Choice: Drop {
-    /// The key, of which the least is taken.
-    ghost key: { Key };
-
+pub trait Choice: Policy {
     /// The cylinder and the number of joining of the request of least key, while the head is on this
     /// track at the instant `now`, in ns.
     ///
@@ -35,5 +32,5 @@ pub trait Choice: Drop {
         requires head { IsTrackOf disk.now.map head }
         requires now { now ≤ 9 * 10 ^ 18 }
         ensures found { Waits waiting.now result }
-        ensures first { IsFirstHeld (key disk.now head now) waiting.now result };
+        ensures first { IsFirstHeld (Self.key disk.now head now) waiting.now result };
 }

@@ -4,10 +4,10 @@ ghost use Rattle.std.specs.List.{AllByRecursion};
 ghost use Rattle.fb_fastq.specs.Joining.{pending_of};
 ghost use Rattle.fb_fastq.specs.Spots.{IsCylinderOf};
 
-use crate::Choice;
-use crate::by_spot::{add, take_out};
+use crate::by_spot::{add, held, take_out};
 use crate::cylinders::cylinder_of;
-use fb_queue::Queue;
+use crate::{Choice, Placing};
+use fb_queue::Policy;
 use fb_service::Disk;
 use fb_units::{NoMemory, Ns, Request, Track};
 use std::alloc::Global;
@@ -33,26 +33,16 @@ impl<C: Choice> Model for CylinderMap<C> {
     ghost invariant = { λ q. HaveOwnNumbers q.waiting.entries q.joined };
 }
 
-impl<C: Choice + Default> CylinderMap<C> {
-    /// An empty queue.
-    pub fn new(alloc: Global) -> CylinderMap<C>
-        ensures pending { pending_of result.waiting ≡ [] }
-        ensures joined { result.joined ≡ 0 }
-    {
-        CylinderMap {
-            choice: C::default(),
-            waiting: BTreeMap::new(alloc),
-            joined: 0,
-        }
+impl<C: Choice + Default> Policy for CylinderMap<C> {
+    ghost key = { C.key };
+
+    fn key_of(&self, disk: &Disk, head: Track, now: Ns, request: &Request) -> u64 {
+        self.choice.key_of(disk, head, now, request)
     }
 }
 
-impl<C: Choice> Queue for CylinderMap<C> {
+impl<C: Choice + Default> Placing for CylinderMap<C> {
     ghost pending = { λ q. pending_of q.waiting };
-
-    ghost joined = { λ q. q.joined };
-
-    ghost key = { C.key };
 
     ghost fits = { λ q disk. AllByRecursion (λ w. IsCylinderOf disk w.1 w.0.0) q.waiting };
 
@@ -60,11 +50,28 @@ impl<C: Choice> Queue for CylinderMap<C> {
 
     ghost fits_any = { λ q disk none. all_of_none (λ w. IsCylinderOf disk w.1 w.0.0) q.waiting none };
 
-    fn add(&mut self, disk: &Disk, request: Request) -> Result<(), NoMemory> {
+    fn new(alloc: Global) -> CylinderMap<C> {
+        CylinderMap {
+            choice: C::default(),
+            waiting: BTreeMap::new(alloc),
+            joined: 0,
+        }
+    }
+
+    fn place(&mut self, disk: &Disk, request: Request) -> Result<(), NoMemory> {
+        if self.joined == u64::MAX {
+            return Err(NoMemory);
+        }
         let cylinder = cylinder_of(disk, &request);
         add(&mut self.waiting, cylinder, self.joined, request)?;
         self.joined += 1;
         Ok(())
+    }
+
+    fn least_key(&self, disk: &Disk, head: Track, now: Ns) -> u64 {
+        let key = self.choice.choose(&self.waiting, disk, head, now);
+        let request = held(&self.waiting, key);
+        self.choice.key_of(disk, head, now, &request)
     }
 
     fn take(&mut self, disk: &Disk, head: Track, now: Ns) -> Request {

@@ -5,18 +5,15 @@ ghost use Rattle.fb_model.specs.PlainReplay.{sstf};
 ghost use Rattle.fb_fastq.specs.Joining.{Waits, IsNoLater};
 
 use crate::by_spot::{earlier, first_before, next_from};
-use crate::{Choice, CylinderMap};
+use crate::{Choice, CylinderMap, LatePlacing};
+use fb_queue::Nearest;
 use fb_service::Disk;
 use fb_units::{Ns, Request, Track};
 use std::cmp::Ordering;
 use std::collections::BTreeMap;
 
-/// The nearest cylinder first.
-#[derive(Clone, Copy, Default)]
-pub struct Nearest;
-
 /// Shortest seek time first, over a map by cylinder.
-pub type SstfMap = CylinderMap<Nearest>;
+pub type SstfMap = LatePlacing<CylinderMap<Nearest>>;
 
 // The first to join among the requests of the nearest spot; where two spots are equally near, among
 // the requests of both.
@@ -38,8 +35,6 @@ fn first_of_nearest(waiting: &BTreeMap<(u64, u64), Request>, spot: u64) -> (u64,
 }
 
 impl Choice for Nearest {
-    ghost key = { sstf };
-
     fn choose(
         &self,
         waiting: &BTreeMap<(u64, u64), Request>,

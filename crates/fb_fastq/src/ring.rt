@@ -39,7 +39,7 @@ impl Queue for FcfsRing {
 
     ghost fits_any = { λ queue disk none. tt };
 
-    fn add(&mut self, _disk: &Disk, request: Request) -> Result<(), NoMemory> {
+    fn add(&mut self, request: Request) -> Result<(), NoMemory> {
         self.waiting.push_back(request)?;
         self.joined += 1;
         Ok(())

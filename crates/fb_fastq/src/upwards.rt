@@ -2,21 +2,16 @@
 ghost use Rattle.fb_model.specs.PlainReplay.{clook};
 
 use crate::by_spot::next_round;
-use crate::{Choice, CylinderMap};
+use crate::{Choice, CylinderMap, LatePlacing};
+use fb_queue::Upwards;
 use fb_service::Disk;
 use fb_units::{Ns, Request, Track};
 use std::collections::BTreeMap;
 
-/// The next cylinder upwards first, and after the last cylinder the first one again.
-#[derive(Clone, Copy, Default)]
-pub struct Upwards;
-
 /// The circular elevator, over a map by cylinder.
-pub type ClookMap = CylinderMap<Upwards>;
+pub type ClookMap = LatePlacing<CylinderMap<Upwards>>;
 
 impl Choice for Upwards {
-    ghost key = { clook };
-
     fn choose(
         &self,
         waiting: &BTreeMap<(u64, u64), Request>,

@@ -35,8 +35,8 @@ impl<P: Policy + Default> Keyed<P> {
     }
 }
 
-// The index of the first request with the least key.
-fn first_least<P: Policy>(
+/// The index of the first request with the least key.
+pub fn first_least<P: Policy>(
     policy: &P,
     disk: &Disk,
     head: Track,
@@ -72,7 +72,7 @@ impl<P: Policy> Queue for Keyed<P> {
 
     ghost fits_any = { λ queue disk none. tt };
 
-    fn add(&mut self, _disk: &Disk, request: Request) -> Result<(), NoMemory> {
+    fn add(&mut self, request: Request) -> Result<(), NoMemory> {
         self.waiting.push(request)?;
         self.joined += 1;
         Ok(())

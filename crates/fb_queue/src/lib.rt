@@ -10,6 +10,6 @@ mod keyed;
 mod policies;
 mod queue;
 
-pub use keyed::Keyed;
+pub use keyed::{Keyed, first_least};
 pub use policies::{Clook, Earliest, Fcfs, Nearest, Policy, Soonest, Sptf, Sstf, Upwards};
 pub use queue::Queue;

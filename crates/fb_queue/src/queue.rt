@@ -27,15 +27,13 @@ pub trait Queue: Drop {
     /// Adds a request behind all others.
     ///
     /// The only error is out of memory, after which nothing has changed.
-    fn add(&mut self, disk: &Disk, request: Request) -> Result<(), NoMemory>
+    fn add(&mut self, request: Request) -> Result<(), NoMemory>
         requires few { joined self.old < 2 ^ 32 }
-        requires fits { fits self.old disk.now }
-        requires on_disk { IsRequestOf disk.now.map request }
         ensures ok { OnOk result (pending self.new ≡ pending self.old ++ request ∷ []) }
         ensures counted { OnOk result (joined self.new ≡ joined self.old + 1) }
         ensures err { OnErr result (pending self.new ≡ pending self.old) }
         ensures not_counted { OnErr result (joined self.new ≡ joined self.old) }
-        ensures fits { fits self.new disk.now };
+        ensures fits { (disk : Disk) → fits self.old disk → fits self.new disk };
 
     /// Takes out the first request with the least key, while the head is on this track at the
     /// instant `now`, in ns.

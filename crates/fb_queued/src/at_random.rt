@@ -142,7 +142,7 @@ fn step<Q: Queue>(
     let joins = if number < STEPS / 2 { 3 } else { 1 };
     if draw.below(4) < joins || queue.is_empty() {
         let request = draw.request(disk, number as u32);
-        queue.add(disk, request)?;
+        queue.add(request)?;
         return Ok(None);
     }
     let head = draw.track(disk);

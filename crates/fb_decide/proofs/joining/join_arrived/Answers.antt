@@ -3,19 +3,14 @@ use Rattle.std.specs.Prelude.{◌<◌, IfSome}
 use Rattle.std.specs.List.{AllByRecursion}
 use Rattle.std.proofs.lemmas.List.{take_more}
 use Rattle.std.proofs.lemmas.Option.{slice_get-get_or, slice_get_past}
-use Rattle.fb_units.proofs.Lists.{all_at, all_push}
+use Rattle.fb_units.proofs.Lists.{all_push}
 use Rattle.fb_units.specs.declared.types.Name.TheVariants.{Traced}
 use Rattle.fb_units.specs.declared.types.Request.{Request}
-use Rattle.fb_model.specs.Accepted.{IsRequestOf}
 use Rattle.fb_decide.proofs.Decided.{next_joined}
 use Rattle.fb_decide.proofs.joining.join_arrived.Goals as goal
 
 pub add-requires-clause-few : goal.add-requires-clause-few
 add-requires-clause-few g c = omega (arith, c.loop-next.invariant.counted, c.loop-next.invariant.within, c.requires.few)
-
-pub add-requires-clause-on_disk : goal.add-requires-clause-on_disk
-add-requires-clause-on_disk g c =
-    all_at (IsRequestOf c.args.disk.now.map) c.args.requests.now c.loop-next.next _ c.requires.on_disk c.loop-next-test.true
 
 pub loop-next-preserved : goal.loop-next-preserved
 loop-next-preserved g c =
@@ -29,7 +24,7 @@ loop-next-preserved g c =
     let joins = get_or requests next _ in
     record {
       within = omega (arith, within);
-      fits = c.in_ok-add.ensures.fits;
+      fits = λ disk fit. c.in_ok-add.ensures.fits disk (before.fits disk fit);
       counted = c.in_ok-add.ensures.counted ∙ ap (λ n. n + 1) before.counted;
       same = next_joined requests waiting (g.Q.Queue.pending c.add.new.self) next _ within added ∙ before.same;
       arrived = subst (AllByRecursion has_come) (sym added)

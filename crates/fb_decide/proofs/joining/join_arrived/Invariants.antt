@@ -1,12 +1,13 @@
 use Rattle.std.proofs.Common.{◌≡◌, ◌≤◌, ◌-◌, length, take}
 use Rattle.std.specs.List.{AllByRecursion}
+use Rattle.fb_service.specs.declared.disk.Disk.{Disk}
 use Rattle.fb_decide.specs.Waiting.{left}
 use Rattle.fb_decide.proofs.joining.join_arrived.Given as goal
 
 abbrev pub invariant-loop-next : goal.invariant-loop-next
 invariant-loop-next g l = record {
   within : l.next ≤ length l.requests;
-  fits : g.Q.Queue.fits l.queue l.disk;
+  fits : (disk : Disk) → g.Q.Queue.fits l.fn.queue disk → g.Q.Queue.fits l.queue disk;
   counted : g.Q.Queue.joined l.queue ≡ l.next;
   same : left l.requests l.next (g.Q.Queue.pending l.queue) ≡ left l.requests l.fn.next (g.Q.Queue.pending l.fn.queue);
   arrived : AllByRecursion (λ r. r.arrival ≤ l.now) (g.Q.Queue.pending l.queue);

@@ -1,6 +1,6 @@
 use Rattle.fb_fastq.proofs.Words.{◌≡◌, ◌∙◌, ap, sym, subst, length, ◌==◌, pending_of}
 use Rattle.fb_fastq.proofs.Least.{length_pending, tells_none}
-use Rattle.fb_fastq.proofs.cylinder_map.CylinderMapQueue.is_empty.Goals as goal
+use Rattle.fb_fastq.proofs.cylinder_map.CylinderMapPlacing.is_empty.Goals as goal
 
 pub returns : goal.returns
 returns g c =

@@ -1,7 +1,7 @@
 use Rattle.fb_fastq.proofs.Words.{ap, sym, subst, AllByRecursion, Waiting}
 use Rattle.fb_fastq.specs.Spots.{IsCylinderOf}
 use Rattle.fb_fastq.proofs.OneMore.{all_more, insert_more}
-use Rattle.fb_fastq.proofs.cylinder_map.CylinderMapQueue.add.Goals as goal
+use Rattle.fb_fastq.proofs.cylinder_map.CylinderMapPlacing.place.Goals as goal
 
 pub returns-clause-fits : goal.returns-clause-fits
 returns-clause-fits g c =

@@ -3,8 +3,8 @@ use Rattle.fb_fastq.proofs.Words.{◌≡◌, ◌++◌, ◌∷◌, ◌∙◌, [],
 use Rattle.fb_fastq.proofs.Words.{on_err, pending_of, IsAlong, IsMore, all_of_rows}
 use Rattle.fb_fastq.proofs.OneMore.{insert_more, more_left, more_right, pending_more, all_more}
 use Rattle.fb_fastq.proofs.Divided.{numbers_left, map_joined, rows_joined}
-use Rattle.fb_fastq.proofs.sptf.SptfLanesQueue.add.Goals.{After-self}
-use Rattle.fb_fastq.proofs.sptf.SptfLanesQueue.add.Goals as goal
+use Rattle.fb_fastq.proofs.sptf.BucketsPlacing.place.Goals.{After-self}
+use Rattle.fb_fastq.proofs.sptf.BucketsPlacing.place.Goals as goal
 
 pub add-requires : goal.add-requires
 add-requires c =
@@ -89,15 +89,6 @@ returns-clause-fits c =
 pub put-requires-clause-on : goal.put-requires-clause-on
 put-requires-clause-on c = c.cylinder_around-row.ensures
 
-pub overflow_add-self : goal.overflow_add-self
-overflow_add-self c = omega (arith, ap (λ v. v.joined) c.self.view_is, c.requires.few)
-
-pub overflow_add-self-2 : goal.overflow_add-self-2
-overflow_add-self-2 c = omega (arith, ap (λ v. v.joined) c.self.view_is, c.requires.few, c.self.invariant.0.few)
-
-pub overflow_add-self-3 : goal.overflow_add-self-3
-overflow_add-self-3 c = omega (arith, ap (λ v. v.joined) c.self.view_is, c.requires.few)
-
 -- out of memory for the map
 pub invariant_of-self : goal.invariant_of-self
 invariant_of-self c = rw c.in_err-add.ensures.err c.self.invariant
@@ -108,9 +99,7 @@ returns-in_err-add c =
     let rows = all_of_rows c.self.inside.rows.items in
     let same = ap (λ (ws : List Waiting). ws ++ rows) c.in_err-add.ensures.err ∙ ap (λ v. v.waiting) c.self.view_is in record {
       ok = IfOk-from_err result _ c.from_residual.ensures.0;
-      counted = IfOk-from_err result _ c.from_residual.ensures.0;
       err = on_err result (ap pending_of same);
-      not_counted = on_err result (ap (λ v. v.joined) c.self.view_is);
       fits = subst (AllByRecursion (λ (w : Waiting). IsAlong c.args.disk.now w.1 w.0.0)) (sym same) c.requires.fits;
     }
 
@@ -134,8 +123,6 @@ returns-in_err-put c =
     let entries = c.self.inside.overflow.entries in
     let same = ap (λ (ws : List Waiting). entries ++ ws) c.in_err-put.ensures.err ∙ ap (λ v. v.waiting) c.self.view_is in record {
       ok = IfOk-from_err result _ c.from_residual-in_err-put.ensures.0;
-      counted = IfOk-from_err result _ c.from_residual-in_err-put.ensures.0;
       err = on_err result (ap pending_of same);
-      not_counted = on_err result (ap (λ v. v.joined) c.self.view_is);
       fits = subst (AllByRecursion (λ (w : Waiting). IsAlong c.args.disk.now w.1 w.0.0)) (sym same) c.requires.fits;
     }

@@ -2,7 +2,7 @@ use Rattle.fb_fastq.proofs.Words.{◌≡◌, ap, sym, subst, Some, AllByRecursio
 use Rattle.fb_fastq.specs.Spots.{IsCylinderOf}
 use Rattle.fb_model.specs.Accepted.{IsRequestOf}
 use Rattle.fb_fastq.proofs.{Least.all_waiting, Least.all_held, OneMore.all_less, OneMore.taken_more}
-use Rattle.fb_fastq.proofs.cylinder_map.CylinderMapQueue.take.Goals as goal
+use Rattle.fb_fastq.proofs.cylinder_map.CylinderMapPlacing.take.Goals as goal
 
 pub choose-key-requires-clause-on_disk : goal.choose-key-requires-clause-on_disk
 choose-key-requires-clause-on_disk g c =
@@ -21,7 +21,7 @@ invariant_of-self g c = c.take_out.ensures.numbers c.self.inside.joined c.self.i
 
 pub returns-clause-least : goal.returns-clause-least
 returns-clause-least g c =
-    let rank = g.C.Choice.key c.args.disk.now c.args.head c.args.now in
+    let rank = g.C.Policy.key c.args.disk.now c.args.head c.args.now in
     subst (λ es. first_least rank (pending_of es) ≡ Some (c.take_out.result, pending_of c.take_out.new.waiting.entries))
     (ap (λ v. v.waiting) c.self.view_is)
     (c.take_out.ensures.least c.self.inside.joined rank c.self.invariant c.choose-key.ensures.first)
