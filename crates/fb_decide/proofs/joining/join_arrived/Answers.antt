@@ -9,8 +9,8 @@ use Rattle.fb_units.specs.declared.types.Request.{Request}
 use Rattle.fb_decide.proofs.Decided.{next_joined}
 use Rattle.fb_decide.proofs.joining.join_arrived.Goals as goal
 
-pub add-requires-clause-few : goal.add-requires-clause-few
-add-requires-clause-few g c = omega (arith, c.loop-next.invariant.counted, c.loop-next.invariant.within, c.requires.few)
+pub add-requires : goal.add-requires
+add-requires g c = record { few = omega (arith, c.loop-next.invariant.counted, c.loop-next.invariant.within, c.requires.few) }
 
 pub loop-next-preserved : goal.loop-next-preserved
 loop-next-preserved g c =
