@@ -4,6 +4,7 @@ use Rattle.std.specs.Prelude.{◌≡◌, ◌⊎◌, ℕ, ◌<◌, ◌≤◌, Lis
 use Rattle.fb_rows.specs.declared.run.Run.{Run}
 use Rattle.fb_model.specs.Foreground.{promoted}
 use Rattle.fb_model.specs.Known.{AgreeUpTo, SameKnown}
+use Rattle.fb_model.specs.TheRun.{the_run}
 use Rattle.fb_report.specs.declared.bytes.Bytes.{Bytes}
 use Rattle.fb_report.specs.Back.{back_lines}
 use Rattle.fb_report.specs.Fore.{fore_lines, fore_text}
@@ -65,6 +66,11 @@ abbrev pub InputsHaveOneRun : Type 0
 InputsHaveOneRun = (one other : DeskView) (terms others : ReplayTerms) (run run' : Run) → AskForOneRun terms others
     → HoldFilesAlike one other (replay_file_names terms)
     → IsRunOf one terms run → IsRunOf other others run' → run ≡ run'
+
+-- the run of files is the one that is made of them, decision by decision
+abbrev pub RunsAreMade : Type 0
+RunsAreMade = (desk : DeskView) (terms : ReplayTerms) (run : Run) (is_run : IsRunOf desk terms run)
+    → run ≡ the_run (inputs_of_files is_run.files (key_of terms.policy) terms.until)
 
 -- two runs of files that agree up to an instant before both ends are the same in what is known by then
 abbrev pub RunsLookNotAhead : Type 0

@@ -40,6 +40,6 @@ pub use note::note_text;
 pub use outcome::{Outcome, Runs, status};
 pub use untouched::{
     copies_are_the_survivors, inputs_have_one_run, printed_reports_are_right,
-    right_reports_are_right, runs_look_not_ahead, scripts_leave_the_foreground,
+    right_reports_are_right, runs_are_made, runs_look_not_ahead, scripts_leave_the_foreground,
     sections_are_replays,
 };

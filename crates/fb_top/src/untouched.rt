@@ -1,10 +1,10 @@
 // Laws of the runs that `run_command` returns.
 ghost use Rattle.fb_top.specs.Copied.{CopiesAreTheSurvivors};
 ghost use Rattle.fb_top.specs.Untouched.{InputsHaveOneRun, PrintedReportsAreRight, RightReportsAreRight, RunsLookNotAhead};
-ghost use Rattle.fb_top.specs.Untouched.{ScriptsLeaveForeground, SectionsAreReplays};
+ghost use Rattle.fb_top.specs.Untouched.{RunsAreMade, ScriptsLeaveForeground, SectionsAreReplays};
 
 use fb_mirror::{covered_sectors_are_the_survivors, sealed_rebuilds_are_whole};
-use fb_model::{foreground_is_untouched, nothing_looks_ahead, one_full_run};
+use fb_model::{foreground_is_untouched, full_runs_exist, nothing_looks_ahead, one_full_run};
 
 /// Background work leaves the foreground report as it is.
 ///
@@ -25,6 +25,14 @@ pub fn inputs_have_one_run()
     ensures { InputsHaveOneRun }
 {
     one_full_run();
+}
+
+/// The run of files is the one that is made of them, decision by decision: the text of a run is a
+/// function of the words and the files.
+pub fn runs_are_made()
+    ensures { RunsAreMade }
+{
+    full_runs_exist();
 }
 
 /// No decision looks ahead.
