@@ -29,10 +29,8 @@ pub fn are_joined(fields: &ReportLine, text: &[u8]) -> bool
 fn behind_field<'a>(text: &'a [u8], field: &[u8]) -> Option<&'a [u8]>
     ensures { MatchOption result ((rest : List ℕ) → text.now ≢ 32 ∷ (field.now ++ rest)) (λ rest. text.now ≡ 32 ∷ (field.now ++ rest.now)) }
 {
-    match text {
-        [b' ', behind @ ..] => behind.strip_prefix(field),
-        _ => None,
-    }
+    let behind = text.strip_prefix(b" ")?;
+    behind.strip_prefix(field)
 }
 
 /// The first field, counted from 1, in which a due line and printed fields differ. The fields of

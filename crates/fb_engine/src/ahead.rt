@@ -1,5 +1,5 @@
 // That no decision of a replay looks ahead.
-ghost use Rattle.std.specs.Prelude.{◌<◌, ◌×◌};
+ghost use Rattle.std.specs.Prelude.{◌<◌};
 ghost use Rattle.fb_decide.specs.RunInputs.{run_inputs};
 ghost use Rattle.fb_model.specs.Accepted.{IsAccepted};
 ghost use Rattle.fb_model.specs.FullRun.{IsFull};

@@ -2,8 +2,8 @@ use Rattle.fb_tasks.proofs.Words.{◌++◌, ap, ◌∙◌, arith, task_rows}
 use Rattle.fb_tasked.proofs.Script.{rows-there}
 use Rattle.fb_tasked.proofs.played.PlayedScript.end.Goals as goal
 
-pub is_complete-complete-requires-clause-opened : goal.is_complete-complete-requires-clause-opened
-is_complete-complete-requires-clause-opened g c =
+pub complete-complete-requires-clause-opened : goal.complete-complete-requires-clause-opened
+complete-complete-requires-clause-opened g c =
     let past = c.requires.past in
     let all = rows-there c.requires.tells c.task_rows-2.new.rows (c.in_ok-task_rows-2.ensures.ok c.args.self.now.map past c.requires.tells
     ∙ ap (λ rows. rows ++ task_rows past) c.new-rows.ensures) in
