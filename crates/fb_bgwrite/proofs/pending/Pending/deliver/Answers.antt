@@ -7,4 +7,4 @@ invariant_of-self c =
     let old = c.self.inside in
     let bounds = delivered_too old.shortest c.args.put c.args.number old.blocks c.self.invariant.0 in
     let light = still_light c.args.put c.args.number old.blocks c.self.invariant.1 in
-    subst (λ (es : List Entry). AllByRecursion (IsNoShorter old.shortest) es × AreLight es) (sym c.mark_delivered.ensures) (bounds, light)
+    subst (λ (es : List Entry). AllByRecursion (IsNoShorter old.shortest) es × AreLight es) (sym c.deliver.ensures) (bounds, light)
