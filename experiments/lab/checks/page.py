@@ -282,6 +282,7 @@ def refusals(folder: Path) -> list[str]:
             ((EXAMPLES / "worn-disk.toml", fore, back, page), 1, "line 2 of the background report"),
             ((SMALL_DISK, fore, back, page, "--from", "1"), 2, "nothing in this stretch"),
             ((SMALL_DISK, fore, back, back), 2, "would be lost"),
+            ((SMALL_DISK, "/dev/null", page), 2, "can't be read twice"),
             ((SMALL_DISK, fore, back, page, "--from", "0.001", "--to", "0.002"), 0, ""),
             ((SMALL_DISK, fore, page), 0, "")):
         said = ended(HERE / "page", *words)
