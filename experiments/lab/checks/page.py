@@ -69,10 +69,10 @@ def example(folder: Path) -> Run:
 
 
 def made(folder: Path) -> Run:
-    """A made run on a disk of realistic size, with a scrub and a backup."""
+    """A made run on a disk of realistic size, with a scrub and a backup, and reports with a long name."""
     disk, trace, calls = EXAMPLES / "disk-10000rpm.toml", folder / "made.trace", folder / "made.calls"
     run(program(), "make", "--params", disk, "--trace", trace, "--calls", calls, "--number", "7", "--requests", REQUESTS)
-    return Run(disk, *replayed(folder, "made", disk, "--trace", trace, "--policy", "sptf", "--calls", calls))
+    return Run(disk, *replayed(folder, f"made {NAME}", disk, "--trace", trace, "--policy", "sptf", "--calls", calls))
 
 
 def log(folder: Path) -> Run:
