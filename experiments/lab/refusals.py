@@ -53,6 +53,13 @@ def readable(*paths: str) -> None:
             raise Refused(f"{path}: it can't be read")
 
 
+def rereadable(*paths: str) -> None:
+    """Refuses the first input that can be read but once."""
+    for path in paths:
+        if not os.path.isfile(path):
+            raise Refused(f"{path}: a pipe, which can't be read twice: name a file")
+
+
 def writable(path: str, *inputs: str) -> None:
     """Refuses an output that is one of the inputs, a folder, or in a folder that isn't there or can't be written."""
     folder = Path(path).parent

@@ -8,6 +8,7 @@ from matplotlib.patches import Patch
 
 from lab.disk import Disk
 from lab.drawing import AMBER, GREEN, LIGHT, MIDDLE, NAVY, RED, WIDTH, colours_of, named, panels, save
+from lab.ending import ending_of
 from lab.pieces import Piece, pieces, within
 from lab.queueing import Queue, queue_of
 from lab.reading import Reports, run_rows
@@ -48,6 +49,7 @@ class Stretch(NamedTuple):
     queue: Queue
     begin: int
     end: int
+    tasks: list[str]  # all of the run, in the order of the report
 
     @property
     def scale(self) -> float:
@@ -55,8 +57,9 @@ class Stretch(NamedTuple):
         return 1e3 if self.end - self.begin < 1_000_000 else 1e6
 
     def colours(self) -> dict[str, str]:
-        """The colours of the tasks whose blocks are read."""
-        return colours_of(list(dict.fromkeys(piece.name for piece in self.found if piece.kind in OF_TASKS)))
+        """The colours of the tasks whose blocks are read, which are those of any other stretch of the run."""
+        names = {piece.name for piece in self.found if piece.kind in OF_TASKS}
+        return {task: colour for task, colour in colours_of(self.tasks).items() if task in names}
 
 
 def found_in(disk: Disk, reports: Reports, begin: int, end: int) -> Stretch:
@@ -65,7 +68,8 @@ def found_in(disk: Disk, reports: Reports, begin: int, end: int) -> Stretch:
     if not found:
         raise Refused("the run has nothing in this stretch")
     last = max(piece.end for piece in found)
-    return Stretch(disk, found, queue_of(reports.fore, reports.section), begin, min(end, last))
+    tasks = [] if reports.back is None else list(ending_of(reports.back).tasks)
+    return Stretch(disk, found, queue_of(reports.fore, reports.section), begin, min(end, last), tasks)
 
 
 def draw(stretch: Stretch, path: str, title: str) -> None:

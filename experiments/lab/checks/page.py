@@ -69,10 +69,10 @@ def example(folder: Path) -> Run:
 
 
 def made(folder: Path) -> Run:
-    """A made run on a disk of realistic size, with a scrub and a backup."""
+    """A made run on a disk of realistic size, with a scrub and a backup, and reports with a long name."""
     disk, trace, calls = EXAMPLES / "disk-10000rpm.toml", folder / "made.trace", folder / "made.calls"
     run(program(), "make", "--params", disk, "--trace", trace, "--calls", calls, "--number", "7", "--requests", REQUESTS)
-    return Run(disk, *replayed(folder, "made", disk, "--trace", trace, "--policy", "sptf", "--calls", calls))
+    return Run(disk, *replayed(folder, f"made {NAME}", disk, "--trace", trace, "--policy", "sptf", "--calls", calls))
 
 
 def log(folder: Path) -> Run:
@@ -282,6 +282,7 @@ def refusals(folder: Path) -> list[str]:
             ((EXAMPLES / "worn-disk.toml", fore, back, page), 1, "line 2 of the background report"),
             ((SMALL_DISK, fore, back, page, "--from", "1"), 2, "nothing in this stretch"),
             ((SMALL_DISK, fore, back, back), 2, "would be lost"),
+            ((SMALL_DISK, "/dev/null", page), 2, "can't be read twice"),
             ((SMALL_DISK, fore, back, page, "--from", "0.001", "--to", "0.002"), 0, ""),
             ((SMALL_DISK, fore, page), 0, "")):
         said = ended(HERE / "page", *words)
