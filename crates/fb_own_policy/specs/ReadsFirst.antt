@@ -1,5 +1,4 @@
 -- The key of an order of service that takes reads before writes.
-use Rattle.std.specs.Prelude.{ℕ}
 use Rattle.std.specs.Prelude.{if◌then◌else◌}
 use Rattle.fb_model.specs.PlainReplay.{Key}
 

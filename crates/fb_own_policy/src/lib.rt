@@ -1,10 +1,12 @@
 //! An order of service of one's own: reads before writes.
 //!
-//! This crate is the example of docs/EXTENDING.md, and other layers take nothing from it. The layers
-//! above may rely on this: what `replay_reads_first` returns is the full run of its inputs, in which
-//! the writes that wait are served once no read waits.
+//! This crate is the example of docs/EXTENDING.md: the program doesn't use it. What
+//! `replay_reads_first` returns is the full run of its inputs, in which a write is served only when
+//! no read waits.
 #![tactic(auto)]
 
+#[cfg(test)]
+mod by_hand;
 mod reads_first;
 
 pub use reads_first::{ReadsFirst, replay_reads_first};
