@@ -4,8 +4,8 @@ use fb_units::ReadError;
 /// Why a line of a puts file is refused.
 #[derive(Clone, Copy, Debug, PartialEq, Eq)]
 pub enum PutsReason {
-    /// Of the lines that aren't blank, the first isn't `reserve` with two more fields, or a later one
-    /// isn't a time, `put` and two more fields.
+    /// Of the lines that aren't blank, the first isn't `reserve` with two more fields, or a later one hasn't four fields,
+    /// the second of them `put`.
     BadLine,
     /// The first field of a put isn't a time in milliseconds, or is above 10^9 ms.
     BadTime,

@@ -168,8 +168,8 @@ fn add_extent(
 }
 
 /// How a request for `count` sectors from `lbn` on, from 1 to 2,048, is served that starts at `now`, in
-/// ns, with the head on the source track: sector after sector, in ascending order, with settle on each
-/// track for a write. Its only error is `NoMemory`, out of memory.
+/// ns, with the head on the source track: sector after sector, in ascending order. For a write the head settles on each
+/// track that it comes to, but not on the source track. Its only error is `NoMemory`, out of memory.
 pub fn serve(
     alloc: Global,
     disk: &Disk,
