@@ -1,5 +1,0 @@
-use Rattle.fb_geometry.specs.Shape.{IsTrackOf}
-use Rattle.fb_placed.proofs.services.one_by_one.Given as goal
-
-abbrev pub invariant-loop-lbn : goal.invariant-loop-lbn
-invariant-loop-lbn l = IsTrackOf l.disk.map l.source

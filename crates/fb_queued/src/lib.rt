@@ -1,8 +1,0 @@
-//! Tests of the queues, the fast ones beside the plain ones.
-//!
-//! They stand in a crate of their own, since a crate with tests is proved twice. They show what no
-//! contract says; other layers take nothing from them.
-#![tactic(auto)]
-
-#[cfg(test)]
-mod at_random;

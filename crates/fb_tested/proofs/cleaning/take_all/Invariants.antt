@@ -1,5 +1,0 @@
-use Rattle.std.proofs.Common.{◌≡◌}
-use Rattle.fb_tested.proofs.cleaning.take_all.Given as goal
-
-abbrev pub invariant-loop-lbn : goal.invariant-loop-lbn
-invariant-loop-lbn l = (l.segments.segments ≡ l.fn.segments.segments) × (l.segments.unfinished ≡ l.fn.segments.unfinished)

@@ -1,5 +1,0 @@
-use Rattle.fb_worked.proofs.KnownRuns.{run_without_third_is_full, run_with_third_is_full, inputs_agree, same_known}
-use Rattle.fb_worked.proofs.known.runs_known_in_part.Goals as goal
-
-pub returns : goal.returns
-returns c = record { without = run_without_third_is_full; with = run_with_third_is_full; agree = inputs_agree; same = same_known }

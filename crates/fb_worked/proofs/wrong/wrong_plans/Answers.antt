@@ -1,5 +1,0 @@
-use Rattle.fb_worked.proofs.WrongPlans.{late_refuted, soon_refuted, equal_refuted, direct_refuted}
-use Rattle.fb_worked.proofs.wrong.wrong_plans.Goals as goal
-
-pub returns : goal.returns
-returns c = record { late = late_refuted; soon = soon_refuted; equal = equal_refuted; direct = direct_refuted }
