@@ -3,8 +3,9 @@ use Rattle.std.proofs.Common.{◌≡◌, List, [], ◌∷◌, map, refl, subst}
 use Rattle.fb_geometry.specs.Sound.{IsSound}
 use Rattle.fb_model.specs.Inputs.{Inputs}
 use Rattle.fb_model.specs.Accepted.{IsAccepted}
-use Rattle.fb_model.specs.Content.{Medium, medium_of}
-use Rattle.fb_model.specs.Decisions.{decisions}
+use Rattle.fb_model.specs.Content.{Medium, medium_of, fore_rows}
+use Rattle.fb_model.specs.Timeline.{timeline, IsPossible}
+use Rattle.fb_model.specs.Decisions.{decisions, run_end}
 use Rattle.fb_model.specs.History.{Past, wanted}
 use Rattle.fb_model.specs.Steps.{Step, decision_in, decisions_in, chosen_past, past_after, history, AtEach, task_rows}
 use Rattle.fb_model.specs.SoundRun.{IsPlanned, IsTested, IsSublist, IsDelivered, Throughout, none, taken}
@@ -30,29 +31,37 @@ module _ (inputs : Inputs) (steps : List Step) (each : AtEach (IsFullStep inputs
       → Throughout Q inputs steps
   throughout Q f = each_then (Q inputs (medium_of inputs)) f [] steps each
 
+  planned : Throughout IsPlanned inputs steps
+  planned = throughout IsPlanned
+      (λ past step full. best_is_plan inputs.disk (wanted (chosen_past inputs past (decision_in step))) step.act full.best)
+
+  tested : Throughout IsTested inputs steps
+  tested = throughout IsTested (λ past step full. full.tests)
+
+  pub possible_steps_are_full : decisions_in steps ≡ decisions inputs
+      → IsPossible inputs.disk (timeline inputs.disk (run_of inputs steps).back (fore_rows inputs)) (run_end (decisions inputs))
+      → IsFull inputs (run_of inputs steps)
+  possible_steps_are_full decided possible = record {
+    steps = steps;
+    sound = record {
+      fore = refl;
+      passed_over = refl;
+      possible = possible;
+      end = refl;
+      decided = decided;
+      tasks = task_rows (history inputs steps);
+      back = refl;
+      planned = planned;
+      deliveries = throughout IsDelivered (λ past step full. subst (IsSublist (map (λ delivery. delivery.got) step.deliveries)) full.all
+          (all_of_itself (map (λ delivery. delivery.got) step.deliveries)));
+      tested = tested;
+      counted = refl;
+    };
+    best = throughout IsBestPlanned (λ past step full. full.best);
+    all = throughout IsAllDelivered (λ past step full. full.all);
+  }
+
   pub steps_are_full : IsSound inputs.disk.map → IsAccepted inputs → decisions_in steps ≡ decisions inputs
       → IsFull inputs (run_of inputs steps)
   steps_are_full sound accepted decided =
-      let planned = throughout IsPlanned
-      (λ past step full. best_is_plan inputs.disk (wanted (chosen_past inputs past (decision_in step))) step.act full.best) in
-      let tested = throughout IsTested (λ past step full. full.tests) in
-      record {
-        steps = steps;
-        sound = record {
-          fore = refl;
-          passed_over = refl;
-          possible = possible inputs steps (history inputs steps) sound accepted decided planned tested;
-          end = refl;
-          decided = decided;
-          tasks = task_rows (history inputs steps);
-          back = refl;
-          planned = planned;
-          deliveries = throughout IsDelivered
-              (λ past step full. subst (IsSublist (map (λ delivery. delivery.got) step.deliveries)) full.all
-              (all_of_itself (map (λ delivery. delivery.got) step.deliveries)));
-          tested = tested;
-          counted = refl;
-        };
-        best = throughout IsBestPlanned (λ past step full. full.best);
-        all = throughout IsAllDelivered (λ past step full. full.all);
-      }
+      possible_steps_are_full decided (possible inputs steps (history inputs steps) sound accepted decided planned tested)

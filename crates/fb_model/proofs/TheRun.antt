@@ -18,13 +18,16 @@ use Rattle.fb_model.specs.History.{Past, wanted}
 use Rattle.fb_model.specs.Deliveries.{gap_of}
 use Rattle.fb_model.specs.Steps.{Delivery, decisions_in, chosen_past, with_delivery, past_after, AtEach}
 use Rattle.fb_model.specs.SoundRun.{AreFollowed}
-use Rattle.fb_model.specs.FullRun.{HasBestPlan}
+use Rattle.fb_model.specs.FullRun.{HasBestPlan, IsFull}
+use Rattle.fb_model.specs.Timeline.{timeline, IsPossible}
+use Rattle.fb_rows.specs.declared.run.Run.{Run}
+use Rattle.std.specs.List.{AllByRecursion}
 use Rattle.fb_model.specs.TheRun.{act_at, followed, all_followed, step_at, steps_at, the_steps, the_run, FullRunsExist}
 use Rattle.fb_model.proofs.Passages.{LiesOnDisk, requests_lie, from_on}
 use Rattle.fb_model.proofs.Chain.{Follow, decisions_follow}
 use Rattle.fb_model.proofs.BestPlans.{best_exists}
 use Rattle.fb_model.proofs.FullRuns.{IsFullStep, one_full}
-use Rattle.fb_model.proofs.FullSteps.{steps_are_full}
+use Rattle.fb_model.proofs.FullSteps.{steps_are_full, possible_steps_are_full}
 
 -- ---- the head may always go straight to the target of a request that is served
 
@@ -34,7 +37,7 @@ unfolding passages
 media_after disk head now write lbn zero some = absurd (omega arith)
 media_after disk head now write lbn (suc n) some = from_on disk lbn (now + pos disk.mechanism head (track_at disk.map lbn) write)
 
-abbrev GoesStraight : Disk → Decision → Type 0
+abbrev pub GoesStraight : Disk → Decision → Type 0
 GoesStraight disk (serves served) = IsPlan disk (gap_of disk served) (Direct served.start)
 GoesStraight disk _ = Unit {0}
 
@@ -100,29 +103,34 @@ module _ (inputs : Inputs) where
       (act_decides inputs.disk (wanted (chosen_past inputs past decision)) decision)
       (decided (past_after inputs past (step_at inputs medium past decision)) later)
 
-  full_steps : (past : Past) (head : Track) (now : ℕ) (later : List Decision) → Follows head now later
+  all_straight : (head : Track) (now : ℕ) (later : List Decision) → Follows head now later
+      → AllByRecursion (GoesStraight inputs.disk) later
+  all_straight head now [] follow = tt
+  all_straight head now (serves served ∷ later) follow =
+      (goes_straight inputs.disk head now served follow.0 follow.1, all_straight (last_track inputs.disk served) (finish served) later follow.2)
+  all_straight head now (idles dwell ∷ later) follow = (tt, all_straight head dwell.end later follow.3)
+  all_straight head now (ends end ∷ later) follow = (tt, all_straight head now later follow.1)
+
+  full_steps : (past : Past) (later : List Decision) → AllByRecursion (GoesStraight inputs.disk) later
       → AtEach (IsFullStep inputs medium) inputs past (steps_at inputs medium past later)
   unfolding steps_at
-  full_steps past head now [] follow = tt
-  full_steps past head now (serves served ∷ later) follow = (
-    full_step inputs past (serves served) (goes_straight inputs.disk head now served follow.0 follow.1),
-    full_steps (past_after inputs past (step_at inputs medium past (serves served))) (last_track inputs.disk served) (finish served) later
-        follow.2,
-  )
-  full_steps past head now (idles dwell ∷ later) follow = (
-    full_step inputs past (idles dwell) tt,
-    full_steps (past_after inputs past (step_at inputs medium past (idles dwell))) head dwell.end later follow.3,
-  )
-  full_steps past head now (ends end ∷ later) follow = (
-    full_step inputs past (ends end) tt,
-    full_steps (past_after inputs past (step_at inputs medium past (ends end))) head now later follow.1,
-  )
+  full_steps past [] straight = tt
+  full_steps past (decision ∷ later) straight =
+      (full_step inputs past decision straight.0, full_steps (past_after inputs past (step_at inputs medium past decision)) later straight.1)
 
 -- ---- the run
 
 pub full_runs_exist : FullRunsExist
 full_runs_exist inputs sound accepted =
     let follow = (decisions_follow (LiesOnDisk inputs.disk.map) inputs (requests_lie inputs accepted)).0 in
-    let full = steps_are_full inputs (the_steps inputs) (full_steps inputs [] first_track 0 (decisions inputs) follow) sound accepted
+    let straight = all_straight inputs first_track 0 (decisions inputs) follow in
+    let full = steps_are_full inputs (the_steps inputs) (full_steps inputs [] (decisions inputs) straight) sound accepted
     (decided inputs [] (decisions inputs)) in
     record { full = full; only = λ other is. one_full inputs other (the_run inputs) accepted is full }
+
+-- a run that was computed is full if the head can go straight to each request, and can go the whole way
+pub computed_is_full : (inputs : Inputs) (run : Run) → AllByRecursion (GoesStraight inputs.disk) (decisions inputs)
+    → IsPossible inputs.disk (timeline inputs.disk run.back run.fore) run.end → the_run inputs ≡ run → IsFull inputs run
+computed_is_full inputs run straight possible same = subst (IsFull inputs) same (possible_steps_are_full inputs (the_steps inputs)
+    (full_steps inputs [] (decisions inputs) straight) (decided inputs [] (decisions inputs))
+    (subst (λ (run : Run). IsPossible inputs.disk (timeline inputs.disk run.back run.fore) run.end) (sym same) possible))

@@ -1,4 +1,4 @@
-use Rattle.by_hand.proofs.BackupsRuns.{overwritten_backup_is_full, backup_without_aborted_is_full}
+use Rattle.by_hand.proofs.FullRuns.{overwritten_backup_is_full, backup_without_aborted_is_full}
 use Rattle.by_hand.proofs.backups.worked_backups.Goals as goal
 
 pub returns : goal.returns

@@ -1,6 +1,6 @@
-use Rattle.by_hand.proofs.CleaningRuns.{segments_by_benefit_is_full, segment_without_live_blocks_is_full}
-use Rattle.by_hand.proofs.CleaningRuns.{segment_keeps_its_passages_is_full, closed_with_chosen_segment_is_full}
-use Rattle.by_hand.proofs.CleaningRuns.{suspended_session_chooses_is_full}
+use Rattle.by_hand.proofs.FullRuns.{segments_by_benefit_is_full, segment_without_live_blocks_is_full}
+use Rattle.by_hand.proofs.FullRuns.{segment_keeps_its_passages_is_full, closed_with_chosen_segment_is_full}
+use Rattle.by_hand.proofs.FullRuns.{suspended_session_chooses_is_full}
 use Rattle.by_hand.proofs.cleaning.worked_segments.Goals as goal
 
 pub returns : goal.returns

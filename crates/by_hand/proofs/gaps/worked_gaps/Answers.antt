@@ -1,5 +1,5 @@
-use Rattle.by_hand.proofs.GapsRuns.{both_dwells_is_full, detour_is_full, no_time_to_settle_is_full, detour_on_the_way_is_full}
-use Rattle.by_hand.proofs.GapsRuns.{detour_over_nothing_is_full, weight_decides_is_full, block_over_the_turn_is_full}
+use Rattle.by_hand.proofs.FullRuns.{both_dwells_is_full, detour_is_full, no_time_to_settle_is_full, detour_on_the_way_is_full}
+use Rattle.by_hand.proofs.FullRuns.{detour_over_nothing_is_full, weight_decides_is_full, block_over_the_turn_is_full}
 use Rattle.by_hand.proofs.gaps.worked_gaps.Goals as goal
 
 pub returns : goal.returns

@@ -1,5 +1,5 @@
-use Rattle.by_hand.proofs.WrittenRuns.{overwritten_between_is_full, latent_until_written_is_full, read_as_the_write_ends_is_full}
-use Rattle.by_hand.proofs.WrittenRuns.{scrub_finds_latent_is_full}
+use Rattle.by_hand.proofs.FullRuns.{overwritten_between_is_full, latent_until_written_is_full, read_as_the_write_ends_is_full}
+use Rattle.by_hand.proofs.FullRuns.{scrub_finds_latent_is_full}
 use Rattle.by_hand.proofs.written.worked_contents.Goals as goal
 
 pub returns : goal.returns
