@@ -77,12 +77,3 @@ peaks_set numbers peaks i number greatest h room each least =
       ];
       there = λ k lt. omega (arith, h.there k (omega (arith, length-set numbers i number, lt)), length-set peaks (i / 64) greatest);
     }
-
--- the same with room for more numbers
-pub peaks_still : (numbers peaks longer more : List ℕ) → ArePeaks numbers peaks → ((i : ℕ) → get_or longer i 0 ≡ get_or numbers i 0)
-    → ((k : ℕ) → get_or more k 0 ≡ get_or peaks k 0) → ((i : ℕ) → i < length longer → i / 64 < length more) → ArePeaks longer more
-peaks_still numbers peaks longer more h numbers_stay peaks_stay there = record {
-  each = λ i. omega (arith, numbers_stay i, peaks_stay (i / 64), h.each i);
-  least = λ k most all. omega (arith, peaks_stay k, h.least k most (λ i its. omega (arith, numbers_stay i, all i its)));
-  there = there;
-}

@@ -18,7 +18,7 @@ ghost use Rattle.fb_units.specs.declared.types.Track.{Track};
 ghost use Rattle.fb_units.specs.Tracks.{same_track};
 
 use crate::bands::{BAND, band_of};
-use crate::changes::{may_change, shares, state_after};
+use crate::changes::{is_same, may_change, shares, state_after};
 use crate::counting::{counts_of, no_counts};
 use crate::depths::Depths;
 use crate::greatest::{Greatest, update_greatest};
@@ -44,15 +44,16 @@ use std::marker::Model;
 /// counts of a task and the bounds of a band take constant time. Besides, to register a block takes
 /// logarithmic time if it is the first of its task or the one before it in its task begins in
 /// another region of 512 LBNs; and likewise if the block registered before it is another task's or
-/// begins in another chunk of 2,048 LBNs: a note is kept for each of these. To suspend or to resume
-/// takes constant time for each block of the task.
+/// begins in another chunk of 2,048 LBNs: a note is kept for each of these.
 ///
-/// An abort takes constant time where each block of the task is delivered or aborted, and a want
-/// again where none is delivered. Else both look at the regions that the range touches and at those
-/// before it from which the longest block reaches the range: they take constant time for each of the
-/// task's blocks that begin in them, and logarithmic time for each streak of such blocks, which were
-/// registered one after another and begin in one region. The next task near a range is found in
-/// logarithmic time for each chunk that the range touches and for the one before them.
+/// An abort, a suspension and its end take constant time where each block of the task is delivered or
+/// aborted, and a want again where none is delivered. Else to suspend or to resume takes constant time
+/// for each block of the task, and an abort and a want again look at the regions that the range touches
+/// and at those before it from which the longest block reaches the range: they take constant time for
+/// each of the task's blocks that begin in them, and logarithmic time for each streak of such blocks,
+/// which were registered one after another and begin in one region. A block whose state stays as it is
+/// is read and no more. The next task near a range is found in logarithmic time for each chunk that the
+/// range touches and for the one before them.
 ///
 /// When the heaviest track of a cylinder loses weight, each track of that cylinder is looked at, and
 /// likewise each cylinder of a band when its heaviest one does, and each of the 64 bands that are a
@@ -236,13 +237,20 @@ impl Wanted {
     {
         let index = self.index_of(task, number);
         let entry = self.entry_at(index);
-        self.set_state(index, state_after(change, entry.block, entry.state));
+        let state = state_after(change, entry.block, entry.state);
+        if is_same(state, entry.state) {
+            return;
+        }
+        self.set_state(index, state);
     }
 
     // Changes each block of the task.
     fn change(&mut self, task: u32, change: Change)
         ensures { self.new ≡ after task change self.old }
     {
+        if !may_change(self.counts(task), change) {
+            return;
+        }
         for number in 0..self.registered_count(task) {
             self.change_block(task, number, change);
         }
