@@ -1,10 +1,11 @@
 -- What sectors hold after contents were taken or a range was dropped, and the contents of ranges.
-use Rattle.std.proofs.Common.{◌≡◌, ℕ, ◌+◌, ◌-◌, ◌<◌, ◌≤◌, List, [], ◌∷◌, ◌++◌, Option, Some, None, refl, true, false, map, Bool, cond}
+use Rattle.std.proofs.Common.{◌≡◌, ℕ, ◌+◌, ◌-◌, ◌<◌, ◌≤◌, List, [], ◌∷◌, ◌++◌, Option, Some, None, refl, true, false, map, Bool, cond, length}
 use Rattle.std.proofs.Common.{arith, sym, ap, ap₂, ◌∙◌, ◌==◌, suc, zero, inl, inr, take, append_assoc, append-nil, slice_get, subst}
-use Rattle.std.specs.Option.{IsSome}
+use Rattle.std.specs.Option.{IsSome, option_or}
 use Rattle.std.specs.List.{range_with_len, AllByRecursion}
 use Rattle.std.proofs.lemmas.Bool.{cases_lt}
 use Rattle.std.proofs.lemmas.Option.{same_Some}
+use Rattle.fb_units.proofs.Lists.{take_at}
 use Rattle.fb_units.proofs.Comparing.{less_differs, same_number as here, more_differs}
 use Rattle.fb_store.specs.declared.content.Content.{Content}
 use Rattle.fb_store.specs.declared.content.ContentRun.{ContentRun}
@@ -15,6 +16,7 @@ use Rattle.fb_store.specs.Sparse.{after_taking, after_take, after_dropping, held
 use Rattle.fb_store.proofs.Held.{none_held}
 use Rattle.fb_store.proofs.Originals.{inside, before, after, goes_on}
 use Rattle.fb_store.proofs.Joined.{fewest-again}
+use Rattle.fb_store.proofs.Runs.{sectors_of-runs_of}
 
 pub after_taking-append : (sectors more : List (ℕ × Content)) (lbn : ℕ) (held : Option Content)
     → after_taking (sectors ++ more) lbn held ≡ after_taking more lbn (after_taking sectors lbn held)
@@ -63,29 +65,40 @@ taken_block content_of first n lbn sectors held e = ap (λ ss. after_taking ss l
   ]
 ]
 
--- one more run is taken
-pub taken_more : (runs : List ContentRun) (i : ℕ) (run : ContentRun) (lbn : ℕ) (original was is : Option Content)
-    → take (i + 1) runs ≡ take i runs ++ run ∷ []
-    → was ≡ after_taking (sectors_of (take i runs)) lbn original
+-- a run is taken
+pub taken_run : (run : ContentRun) (lbn : ℕ) (was is : Option Content)
     → (run.first ≤ lbn → lbn < run.first + run.count → is ≡ Some run.content) → (lbn < run.first → is ≡ was)
     → (run.first + run.count ≤ lbn → is ≡ was)
+    → is ≡ after_taking (sectors_in run) lbn was
+taken_run run lbn was is within less more = elim (cases_lt lbn run.first) [
+  | inl a ↦ less a ∙ sym (taken_before (λ l. run.content) run.first run.count lbn was a)
+  | inr a ↦ elim (cases_lt lbn (run.first + run.count)) [
+    | inl b ↦ within a b ∙ sym (taken_inside (λ l. run.content) run.first run.count lbn was a b)
+    | inr b ↦ more b ∙ sym (taken_after (λ l. run.content) run.first run.count lbn was b)
+  ]
+]
+
+-- one more run is taken
+pub taken_more : (runs : List ContentRun) (i : ℕ) (run : ContentRun) (lbn : ℕ) (original was is : Option Content)
+    → slice_get runs i ≡ Some run
+    → was ≡ after_taking (sectors_of (take i runs)) lbn original → is ≡ after_taking (sectors_in run) lbn was
     → is ≡ after_taking (sectors_of (take (i + 1) runs)) lbn original
-taken_more runs i run lbn original was is split so_far within less more =
-    let whole = ap (λ rs. after_taking (sectors_of rs) lbn original) split
+taken_more runs i run lbn original was is at so_far next =
+    next ∙ (ap (after_taking (sectors_in run) lbn) so_far
+    ∙ sym (ap (λ rs. after_taking (sectors_of rs) lbn original) (take_at runs i run at)
     ∙ (ap (λ ss. after_taking ss lbn original) (sectors_more (take i runs) run)
-    ∙ (after_taking-append (sectors_of (take i runs)) (sectors_in run) lbn original
-    ∙ ap (λ h. after_taking (sectors_in run) lbn h) (sym so_far))) in
-    elim (cases_lt lbn run.first) [
-      | inl a ↦ less a ∙ sym (whole ∙ taken_before (λ l. run.content) run.first run.count lbn was a)
-      | inr a ↦ elim (cases_lt lbn (run.first + run.count)) [
-        | inl b ↦ within a b ∙ sym (whole ∙ taken_inside (λ l. run.content) run.first run.count lbn was a b)
-        | inr b ↦ more b ∙ sym (whole ∙ taken_after (λ l. run.content) run.first run.count lbn was b)
-      ]
-    ] where
+    ∙ after_taking-append (sectors_of (take i runs)) (sectors_in run) lbn original))) where
       sectors_more : (runs : List ContentRun) (run : ContentRun) → sectors_of (runs ++ run ∷ []) ≡ sectors_of runs ++ sectors_in run
       sectors_more [] run = append-nil (sectors_in run)
       sectors_more (first ∷ runs) run = ap (λ rest. sectors_in first ++ rest) (sectors_more runs run)
           ∙ sym (append_assoc (sectors_in first) (sectors_of runs) (sectors_in run))
+
+-- one run alone
+pub sectors_of-one : (runs : List ContentRun) (run : ContentRun) → length runs ≡ 1 → slice_get runs 0 ≡ Some run
+    → sectors_of runs ≡ sectors_in run
+sectors_of-one [] run one at = absurd (omega arith)
+sectors_of-one (only ∷ []) run one at = append-nil (sectors_in only) ∙ ap sectors_in (same_Some only run at)
+sectors_of-one (only ∷ next ∷ runs) run one at = absurd (omega arith)
 
 -- what a sector holds after a range was dropped
 pub dropped : (first n lbn : ℕ) (was is : Option Content) → (first ≤ lbn → lbn < first + n → is ≡ None) → (lbn < first → is ≡ was)
@@ -167,14 +180,6 @@ added_more content_of start runs more first lbn next from to so_far added =
     ∙ ap (λ l. before ++ held_in content_of (range_with_len l (next - lbn))) at) in
     added ∙ ap runs_of (ap (λ ss. ss ++ next_sectors) own ∙ (append_assoc start before next_sectors ∙ ap (λ ss. start ++ ss) (sym whole)))
 
--- the first i + 1 elements of a list are the first i and the one behind them
-pub take_one : (runs : List ContentRun) (i : ℕ) (run : ContentRun) → slice_get runs i ≡ Some run
-    → take (i + 1) runs ≡ take i runs ++ run ∷ []
-take_one [] i run at = absurd (grind arith)
-take_one (first ∷ runs) zero run at = ap (λ x. x ∷ []) (same_Some first run at)
-take_one (first ∷ runs) (suc i) run at = let more : suc i + 1 ≡ suc (i + 1) = omega arith in
-    rw more (ap (λ rest. first ∷ rest) (take_one runs i run at))
-
 -- what holds of the first i runs and of the next one holds of the first i + 1
 pub so_far_more : (P : ContentRun → Type 0) (runs : List ContentRun) (i : ℕ) (run : ContentRun) → slice_get runs i ≡ Some run
     → ((j : ℕ) (r : ContentRun) → j < i → slice_get runs j ≡ Some r → P r) → P run
@@ -229,3 +234,61 @@ pub held_all : (f : ℕ → Option Content) (content_at : ℕ → Content) (a n 
 held_all f content_at a zero same = refl
 held_all f content_at a (suc n) same =
     rw (same a (omega arith) (omega arith), held_all f content_at (a + 1) n (λ lbn le lt. same lbn (omega arith) (omega arith))) refl
+
+-- a sector that contents speak of holds what they say, whatever it held
+pub said_first : (sectors : List (ℕ × Content)) (lbn : ℕ) (held : Option Content)
+    → after_taking sectors lbn held ≡ option_or (after_taking sectors lbn None) held
+said_first [] lbn held = refl
+said_first (sector ∷ sectors) lbn held = go (after_taking sectors lbn) (said_first sectors lbn) (sector.0 == lbn) where
+  again : (said : Option Content) → option_or said (Some sector.1) ≡ option_or (option_or said (Some sector.1)) held
+  again None = refl
+  again (Some content) = refl
+
+  go : (rest : Option Content → Option Content) → ((h : Option Content) → rest h ≡ option_or (rest None) h) → (b : Bool)
+      → rest (cond b (Some sector.1) held) ≡ option_or (rest (cond b (Some sector.1) None)) held
+  go rest over true = over (Some sector.1) ∙ (again (rest None) ∙ ap (λ o. option_or o held) (sym (over (Some sector.1))))
+  go rest over false = over held
+
+elsewhere : (o : Option Content) (n lbn : ℕ) (held : Option Content) → (n == lbn) ≡ false → after_taking (held_sector n o) lbn held ≡ held
+elsewhere None n lbn held differs = refl
+elsewhere (Some content) n lbn held differs = ap (λ b. cond b (Some content) held) differs
+
+there : (o : Option Content) (n lbn : ℕ) → (n == lbn) ≡ true → after_taking (held_sector n o) lbn None ≡ o
+there None n lbn same = refl
+there (Some content) n lbn same = ap (λ b. cond b (Some content) None) same
+
+-- what the sectors below n hold says of each of them what it holds, and nothing of any other
+taken_held : (content_of : ℕ → Option Content) (n lbn : ℕ)
+    → (lbn < n → after_taking (held_in content_of (range_with_len 0 n)) lbn None ≡ content_of lbn)
+    × (n ≤ lbn → after_taking (held_in content_of (range_with_len 0 n)) lbn None ≡ None)
+taken_held content_of zero lbn = (λ less. absurd (omega arith), λ le. refl)
+taken_held content_of (suc n) lbn =
+    let below = held_in content_of (range_with_len 0 n) in
+    let before = taken_held content_of n lbn in
+    let more : n + 1 ≡ suc n = omega arith in
+    let start : 0 + n ≡ n = omega arith in
+    let whole = ap (λ k. after_taking (held_in content_of (range_with_len 0 k)) lbn None) (sym more)
+    ∙ (ap (λ ss. after_taking ss lbn None) (held_in-split content_of 0 n 1
+    ∙ ap (λ ss. below ++ ss) (ap (λ l. held_in content_of (range_with_len l 1)) start ∙ append-nil (held_sector n (content_of n))))
+    ∙ after_taking-append below (held_sector n (content_of n)) lbn None) in (
+      λ less. whole ∙ elim (cases_lt lbn n) [
+        | inl l ↦ elsewhere (content_of n) n lbn (after_taking below lbn None) (more_differs n lbn l) ∙ before.0 l
+        | inr m ↦ let same : n ≡ lbn = omega arith in
+            ap (after_taking (held_sector n (content_of n)) lbn) (before.1 m)
+            ∙ (there (content_of n) n lbn (here n lbn same) ∙ ap content_of same)
+      ],
+      λ le. whole ∙ (elsewhere (content_of n) n lbn (after_taking below lbn None) (less_differs n lbn (omega arith)) ∙ before.1 (omega arith)),
+    )
+
+-- runs of all that is said in the end are taken as the runs that say it are
+pub said_again : (content_of : ℕ → Option Content) (said runs : List ContentRun) (end : ℕ) → EndsBy content_of end
+    → said ≡ runs_of (held_in content_of (range_with_len 0 end))
+    → ((lbn : ℕ) → content_of lbn ≡ after_taking (sectors_of runs) lbn None)
+    → (lbn : ℕ) (held : Option Content) → after_taking (sectors_of said) lbn held ≡ after_taking (sectors_of runs) lbn held
+said_again content_of said runs end ends e all lbn held =
+    let sectors = ap sectors_of e ∙ sectors_of-runs_of (held_in content_of (range_with_len 0 end)) in
+    let first = ap (λ ss. after_taking ss lbn None) sectors ∙ elim (cases_lt lbn end) [
+      | inl less ↦ (taken_held content_of end lbn).0 less
+      | inr le ↦ (taken_held content_of end lbn).1 le ∙ sym (ends lbn le)
+    ] in
+    said_first (sectors_of said) lbn held ∙ (ap (λ o. option_or o held) (first ∙ all lbn) ∙ sym (said_first (sectors_of runs) lbn held))

@@ -1,5 +1,5 @@
 -- The contents of some of the sectors, after contents were taken or a range was dropped.
-use Rattle.std.specs.Prelude.{◌≡◌, ◌≤◌, ℕ, List, [], ◌∷◌, Option, None, Some, ◌==◌, map, if◌then◌else◌}
+use Rattle.std.specs.Prelude.{◌≡◌, ◌≤◌, ℕ, ◌+◌, List, [], ◌∷◌, Bool, true, ◌&&◌, nat_le, Option, None, Some, ◌==◌, map, if◌then◌else◌}
 use Rattle.std.specs.List.{flat_map, range_with_len}
 use Rattle.fb_store.specs.declared.content.Content.{Content}
 use Rattle.fb_store.specs.declared.content.ContentRun.{ContentRun}
@@ -10,6 +10,11 @@ use Rattle.fb_store.specs.Writes.{is_within}
 abbrev pub after_taking : List (ℕ × Content) → ℕ → Option Content → Option Content
 after_taking [] lbn before = before
 after_taking (sector ∷ sectors) lbn before = after_taking sectors lbn (if sector.0 == lbn then Some sector.1 else before)
+
+-- no run begins below this sector, or below where the run before it ends
+abbrev pub ascend : ℕ → List ContentRun → Bool
+ascend from [] = true
+ascend from (run ∷ runs) = nat_le from run.first && ascend (run.first + run.count) runs
 
 -- the runs give each of n sectors, from the first on and in order, its content, and no other sector any
 abbrev pub Gives : List ContentRun → (ℕ → Content) → ℕ → ℕ → Type 0

@@ -1,12 +1,12 @@
 // The contents of some of the sectors.
-ghost use Rattle.std.specs.Prelude.{◌≡◌, ℕ, List, [], ◌+◌, ◌-◌, ◌<◌, ◌≤◌, ◌^◌, ◌++◌, None, IfOk, OnOk, OnErr};
+ghost use Rattle.std.specs.Prelude.{◌≡◌, ℕ, List, Option, [], ◌+◌, ◌-◌, ◌<◌, ◌≤◌, ◌^◌, ◌++◌, None, IfOk, OnOk, OnErr};
 ghost use Rattle.std.specs.Ordering.{nat_cmp};
 ghost use Rattle.std.specs.BTreeMap.{get};
 ghost use Rattle.std.specs.List.{range_with_len};
 ghost use Rattle.fb_store.specs.declared.content.Content.{Content};
 ghost use Rattle.fb_store.specs.Ranges.{held_of, held_at, AreCut};
-ghost use Rattle.fb_store.specs.Sparse.{after_taking, Gives, EndsBy, after_take, after_dropping, held_in};
-ghost use Rattle.fb_store.specs.Runs.{runs_of, sectors_of};
+ghost use Rattle.fb_store.specs.Sparse.{after_taking, ascend, Gives, EndsBy, after_take, after_dropping, held_in};
+ghost use Rattle.fb_store.specs.Runs.{runs_of, sectors_in, sectors_of, IsInRange};
 
 use crate::ranges::{assign, cut, held_at, next_begin, write};
 use crate::{Content, ContentRun, Contents};
@@ -21,6 +21,7 @@ const SECTORS: u64 = 1_000_000_000_000;
 /// What some sectors hold: each sector has a content or none.
 #[derive(Drop)]
 pub struct SparseContents {
+    alloc: Global,
     ranges: BTreeMap<u64, Option<Content>>,
 }
 
@@ -44,21 +45,27 @@ impl SparseContents {
         ensures none { (lbn : ℕ) → held_at result lbn ≡ None }
     {
         SparseContents {
+            alloc,
             ranges: BTreeMap::new(alloc),
         }
     }
 
     /// Each sector of the runs holds from now on what the last run that has it says, and all other
     /// sectors stay as they are. Out of memory, it returns `NoMemory` and no content has changed.
+    ///
+    /// Its cost grows with the number of runs and of the ranges that their sectors are in, each of
+    /// which is met once, however many runs have them.
     pub fn take(&mut self, contents: &Contents) -> Result<(), NoMemory>
         ensures ok { OnOk result ((lbn : ℕ) → held_at self.new lbn ≡ after_taking (sectors_of contents.now) lbn (held_at self.old lbn)) }
         ensures given { OnOk result ((content_of : ℕ → Content) (first n lbn : ℕ) → Gives contents.now content_of first n
             → held_at self.new lbn ≡ after_take content_of first n lbn (held_at self.old lbn)) }
         ensures err { OnErr result ((lbn : ℕ) → held_at self.new lbn ≡ held_at self.old lbn) }
     {
-        cut_runs(&mut self.ranges, contents)?;
-        assign_runs(&mut self.ranges, contents);
-        Ok(())
+        if ascend(contents) {
+            return take_runs(&mut self.ranges, contents);
+        }
+        let last = last_said(self.alloc, contents)?;
+        take_runs(&mut self.ranges, &last)
     }
 
     /// No sector of the range holds anything from now on, and all other sectors stay as they are.
@@ -133,6 +140,74 @@ impl SparseContents {
             None => Ok(next),
         }
     }
+}
+
+// Whether no run begins before the end of the one before it.
+fn ascend(contents: &Contents) -> bool
+    ensures { result ≡ ascend 0 contents.now }
+{
+    let mut end = 0;
+    for i in 0..contents.len() {
+        let run = contents.get(i);
+        if run.first < end {
+            return false;
+        }
+        end = run.first + run.count;
+    }
+    true
+}
+
+// Of each sector what the last run that has it says, as the fewest runs, ascending. The only error
+// is out of memory.
+fn last_said(alloc: Global, contents: &Contents) -> Result<Contents, NoMemory>
+    ensures { IfOk result (λ runs. (lbn : ℕ) (held : Option Content)
+        → after_taking (sectors_of runs) lbn held ≡ after_taking (sectors_of contents.now) lbn held) }
+{
+    let mut ranges = BTreeMap::new(alloc);
+    for i in 0..contents.len() {
+        let run = contents.get(i);
+        write_run(&mut ranges, &run)?;
+    }
+    let said = SparseContents { alloc, ranges };
+    let runs = said.contents(alloc)?;
+    Ok(runs)
+}
+
+// Each sector of the runs holds from now on what the last run that has it says, and all other
+// sectors stay as they are. Out of memory, no content has changed.
+fn take_runs(
+    ranges: &mut BTreeMap<u64, Option<Content>>,
+    contents: &Contents,
+) -> Result<(), NoMemory>
+    ensures past { EndsBy (held_of (get nat_cmp ranges.old)) (10 ^ 12) → EndsBy (held_of (get nat_cmp ranges.new)) (10 ^ 12) }
+    ensures ok { OnOk result ((lbn : ℕ) → held_of (get nat_cmp ranges.new) lbn
+        ≡ after_taking (sectors_of contents.now) lbn (held_of (get nat_cmp ranges.old) lbn)) }
+    ensures err { OnErr result ((lbn : ℕ) → held_of (get nat_cmp ranges.new) lbn ≡ held_of (get nat_cmp ranges.old) lbn) }
+{
+    if contents.len() == 1 {
+        let run = contents.get(0);
+        return write_run(ranges, &run);
+    }
+    cut_runs(ranges, contents)?;
+    assign_runs(ranges, contents);
+    Ok(())
+}
+
+// Each sector of the run holds its content from now on, and all other sectors stay as they are. Out
+// of memory, no content has changed.
+fn write_run(ranges: &mut BTreeMap<u64, Option<Content>>, run: &ContentRun) -> Result<(), NoMemory>
+    requires { IsInRange run.now }
+    ensures past { EndsBy (held_of (get nat_cmp ranges.old)) (10 ^ 12) → EndsBy (held_of (get nat_cmp ranges.new)) (10 ^ 12) }
+    ensures ok { OnOk result ((lbn : ℕ) → held_of (get nat_cmp ranges.new) lbn
+        ≡ after_taking (sectors_in run.now) lbn (held_of (get nat_cmp ranges.old) lbn)) }
+    ensures err { OnErr result ((lbn : ℕ) → held_of (get nat_cmp ranges.new) lbn ≡ held_of (get nat_cmp ranges.old) lbn) }
+{
+    if run.count == 0 {
+        return Ok(());
+    }
+    let end = run.first + run.count;
+    write(ranges, run.first, end, Some(run.content))?;
+    Ok(())
 }
 
 // Makes ranges begin at each run and behind it. What sectors hold stays as it is.

@@ -2,7 +2,7 @@ use Rattle.std.proofs.Common.{◌+◌, ◌∙◌, arith}
 use Rattle.std.specs.Ordering.{nat_cmp}
 use Rattle.std.specs.BTreeMap.{get}
 use Rattle.fb_store.specs.Ranges.{held_of}
-use Rattle.fb_store.proofs.Taken.{taken_more, take_one}
+use Rattle.fb_store.proofs.Taken.{taken_more, taken_run}
 use Rattle.fb_store.proofs.sparse.assign_runs.Goals as goal
 
 pub assign-requires-clause-ends : goal.assign-requires-clause-ends
@@ -18,7 +18,7 @@ loop-i-preserved c = record {
     c.assign.ensures.keeps (run.first + run.count) before.1,
   );
   so_far = λ lbn. taken_more c.args.contents.now c.loop-i.i c.get-run.result lbn (held_of (get nat_cmp c.args.ranges.now) lbn)
-      (held_of (get nat_cmp c.loop-i.ranges) lbn) (held_of (get nat_cmp c.assign.new.ranges) lbn)
-      (take_one c.args.contents.now c.loop-i.i c.get-run.result c.get-run.ensures.value) (c.loop-i.invariant.so_far lbn)
-      (c.assign.ensures.inside lbn) (c.assign.ensures.before lbn) (c.assign.ensures.after lbn);
+      (held_of (get nat_cmp c.loop-i.ranges) lbn) (held_of (get nat_cmp c.assign.new.ranges) lbn) c.get-run.ensures.value
+      (c.loop-i.invariant.so_far lbn) (taken_run c.get-run.result lbn (held_of (get nat_cmp c.loop-i.ranges) lbn)
+      (held_of (get nat_cmp c.assign.new.ranges) lbn) (c.assign.ensures.inside lbn) (c.assign.ensures.before lbn) (c.assign.ensures.after lbn));
 }

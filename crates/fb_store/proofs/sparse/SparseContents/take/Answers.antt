@@ -1,5 +1,5 @@
 use Rattle.std.proofs.Common.{ap, ◌∙◌}
-use Rattle.fb_units.proofs.Lists.{on_err}
+use Rattle.std.proofs.lemmas.Result.{on_ok_weaker, on_err_weaker}
 use Rattle.fb_store.specs.Sparse.{after_taking}
 use Rattle.fb_store.specs.Ranges.{held_at}
 use Rattle.fb_store.specs.Runs.{sectors_of}
@@ -7,20 +7,33 @@ use Rattle.fb_store.proofs.Taken.{taken_block}
 use Rattle.fb_store.proofs.sparse.SparseContents.take.Goals as goal
 
 pub returns-clause-ok : goal.returns-clause-ok
-returns-clause-ok c lbn = c.assign_runs.ensures.value lbn
-    ∙ ap (after_taking (sectors_of c.args.contents.now) lbn)
-    (c.in_ok-cut_runs.ensures.same lbn ∙ ap (λ ranges. held_at ranges lbn) c.self.view_is)
-
-pub returns-in_err-cut_runs-clause-err : goal.returns-in_err-cut_runs-clause-err
-returns-in_err-cut_runs-clause-err c =
-    on_err c.from_residual.result (λ lbn. c.in_err-cut_runs.ensures.same lbn ∙ ap (λ ranges. held_at ranges lbn) c.self.view_is)
+returns-clause-ok c = on_ok_weaker c.take_runs-2.result (λ took lbn. took lbn
+    ∙ (ap (after_taking (sectors_of c.in_ok-last.last) lbn) (ap (λ ranges. held_at ranges lbn) c.self.view_is)
+    ∙ c.in_ok-last.ensures lbn (held_at c.args.self.now lbn))) c.take_runs-2.ensures.ok
 
 pub returns-clause-given : goal.returns-clause-given
-returns-clause-given c content_of first n lbn gives =
-    returns-clause-ok c lbn ∙ taken_block content_of first n lbn (sectors_of c.args.contents.now) (held_at c.args.self.now lbn) gives
+returns-clause-given c = on_ok_weaker c.take_runs-2.result (λ took content_of first n lbn gives. took lbn
+    ∙ taken_block content_of first n lbn (sectors_of c.args.contents.now) (held_at c.args.self.now lbn) gives) (returns-clause-ok c)
+
+pub returns-clause-err : goal.returns-clause-err
+returns-clause-err c = on_err_weaker c.take_runs-2.result (λ same lbn. same lbn ∙ ap (λ ranges. held_at ranges lbn) c.self.view_is)
+    c.take_runs-2.ensures.err
+
+pub returns-then-ascend-clause-ok : goal.returns-then-ascend-clause-ok
+returns-then-ascend-clause-ok c = on_ok_weaker c.take_runs.result (λ took lbn. took lbn
+    ∙ ap (after_taking (sectors_of c.args.contents.now) lbn) (ap (λ ranges. held_at ranges lbn) c.self.view_is)) c.take_runs.ensures.ok
+
+pub returns-then-ascend-clause-given : goal.returns-then-ascend-clause-given
+returns-then-ascend-clause-given c = on_ok_weaker c.take_runs.result (λ took content_of first n lbn gives. took lbn
+    ∙ taken_block content_of first n lbn (sectors_of c.args.contents.now) (held_at c.args.self.now lbn) gives)
+    (returns-then-ascend-clause-ok c)
+
+pub returns-then-ascend-clause-err : goal.returns-then-ascend-clause-err
+returns-then-ascend-clause-err c = on_err_weaker c.take_runs.result
+    (λ same lbn. same lbn ∙ ap (λ ranges. held_at ranges lbn) c.self.view_is) c.take_runs.ensures.err
 
 pub invariant_of-self : goal.invariant_of-self
-invariant_of-self c lbn past = c.cut_runs.ensures.same lbn ∙ c.self.invariant lbn past
+invariant_of-self c = c.take_runs.ensures.past c.self.invariant
 
 pub invariant_of-self-2 : goal.invariant_of-self-2
-invariant_of-self-2 c = c.assign_runs.ensures.past (λ lbn past. c.cut_runs.ensures.same lbn ∙ c.self.invariant lbn past)
+invariant_of-self-2 c = c.take_runs-2.ensures.past c.self.invariant
