@@ -115,7 +115,7 @@ pub record Admits (disk : Shape) (so_far : Progress) (number : ℕ) (action : Ac
   pub place : IsPlace so_far number action
   pub room : IsRoomFor disk so_far (session_of so_far.sessions number) action
 
-position_inside : {X : Type 0} (test : X → Bool) (xs : List X) (i : ℕ) → position test xs ≡ Some i → i < length xs
+pub position_inside : {X : Type 0} (test : X → Bool) (xs : List X) (i : ℕ) → position test xs ≡ Some i → i < length xs
 position_inside test xs i found = grind (arith, nat_tests)
 
 -- what a call finds in a script

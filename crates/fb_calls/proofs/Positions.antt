@@ -1,35 +1,74 @@
--- The indexes of names.
-use Rattle.std.proofs.Common.{◌≡◌, ℕ, Bool, false, List, [], ◌∷◌, ◌++◌, length, map, None, refl, sym, ap, ◌∙◌, subst, arith}
-use Rattle.std.specs.List.{list_any, position, position_or_len}
+-- The numbers of names.
+use Rattle.std.proofs.Common.{◌≡◌, ℕ, ◌≤◌, Bool, true, false, cond, List, [], ◌∷◌, ◌++◌, length, None, Some, sym, ◌∙◌, subst, arith, inl, inr}
+use Rattle.std.specs.List.{position_or_len}
 use Rattle.std.specs.Str.{bytes_eq}
-use Rattle.std.proofs.lemmas.List.{length-map, length_push, map-append}
-use Rattle.indexmap.specs.IndexSet.{insert_key}
-use Rattle.fb_units.proofs.Lists.{any_of_none}
-use Rattle.fb_units.proofs.Searches.{position-none}
+use Rattle.std.proofs.lemmas.Bool.{cases_Bool}
+use Rattle.std.proofs.lemmas.Bool.Decides.{nat_tests}
+use Rattle.std.proofs.lemmas.Cmp.{nat_list_eq_equiv}
+use Rattle.std.proofs.lemmas.List.{length_push}
+use Rattle.std.proofs.lemmas.List.Folds.{position_or_len_push}
+use Rattle.std.proofs.lemmas.Slice.Eq.{bytes_eq-Decides}
+use Rattle.std.proofs.Common.{Vec}
+use Rattle.std.specs.BTreeMap.{BTreeMap, Updates, get_by}
+use Rattle.std.specs.Cmp.Lexicographic.{slice_cmp}
+unfoldable use Rattle.std.specs.Map.{KeepsOthers}
+use Rattle.std.specs.Map.{lookup, IsKeyTest, AreApart}
+use Rattle.std.specs.Ordering.{is_eq, nat_cmp}
+use Rattle.std.specs.declared.alloc.Global.{Global}
+use Rattle.std.proofs.lemmas.Cmp.{eq_by_cmp_equiv, nat_list_cmp_total}
+use Rattle.std.proofs.lemmas.Map.Text.{is_eq-slice_cmp}
 use Rattle.fb_calls.specs.Sessions.{task_of}
+use Rattle.fb_calls.specs.TaskNames.{AreNumbers}
 
-position_or_len-map : {X Y : Type 0} (p : Y → Bool) (f : X → Y) (xs : List X)
-    → position_or_len p (map f xs) ≡ position_or_len (λ x. p (f x)) xs
-position_or_len-map p f [] = refl
-position_or_len-map p f (x ∷ xs) = rw (position_or_len-map p f xs) refl
+position_or_len-le : {X : Type 0} (test : X → Bool) (xs : List X) → position_or_len test xs ≤ length xs
+position_or_len-le test [] = omega arith
+position_or_len-le test (x ∷ xs) = let rest = position_or_len-le test xs in elim (cases_Bool (test x)) [
+  | inl hit ↦ rw hit (omega arith)
+  | inr miss ↦ rw miss (omega (arith, rest))
+]
 
-pub position-map : {X Y : Type 0} (p : Y → Bool) (f : X → Y) (xs : List X) → position p (map f xs) ≡ position (λ x. p (f x)) xs
-position-map p f xs = rw (position_or_len-map p f xs, length-map xs f) refl
+-- a new name gets the next number, and the other names keep theirs
+pub task_of-push : (names : List (List ℕ)) (name : List ℕ) → task_of names name ≡ None → (other : List ℕ)
+    → task_of (names ++ name ∷ []) other ≡ cond (bytes_eq name other) (Some (length names)) (task_of names other)
+task_of-push names name new other =
+    let same = nat_list_eq_equiv.symm name other in
+    let push = position_or_len_push (bytes_eq other) names name in
+    let most = position_or_len-le (bytes_eq other) names in
+    let long = length_push names name in
+    elim (cases_Bool (bytes_eq name other)) [
+      | inl is ↦
+          let none : task_of names other ≡ None = subst (λ n. task_of names n ≡ None) ((bytes_eq-Decides name other).0 is) new in
+          grind (arith, nat_tests, is, same, push, most, long, none)
+      | inr apart ↦ grind (arith, nat_tests, apart, same, push, most, long)
+    ]
 
-none-list_any : {X : Type 0} (p : X → Bool) (xs : List X) → position p xs ≡ None → list_any p xs ≡ false
-none-list_any p xs h = any_of_none p xs (position-none p xs h)
+apart_in_order : (name other key : List ℕ) → bytes_eq name other ≡ false → is_eq (slice_cmp nat_cmp name key) ≡ true
+    → is_eq (slice_cmp nat_cmp other key) ≡ false
+apart_in_order name other key apart here =
+    let at : bytes_eq name key ≡ true = sym (is_eq-slice_cmp name key) ∙ here in
+    is_eq-slice_cmp other key ∙ (nat_list_eq_equiv.symm other key ∙ (sym (nat_list_eq_equiv.congr name key other at) ∙ apart))
 
-module _ {K : Type 0} (f : K → List ℕ) where
-  -- a new name goes last
-  pub insert_key-new : (keys : List K) (key : K) (name : List ℕ) → f key ≡ name → task_of (map f keys) name ≡ None
-      → map f (insert_key (λ x y. bytes_eq (f x) (f y)) keys key) ≡ map f keys ++ name ∷ []
-  insert_key-new keys key name same = subst
-      (λ n. task_of (map f keys) n ≡ None → map f (insert_key (λ x y. bytes_eq (f x) (f y)) keys key) ≡ map f keys ++ n ∷ []) same (λ h.
-      let none = none-list_any (λ x. bytes_eq (f key) (f x)) keys (sym (position-map (bytes_eq (f key)) f keys) ∙ h) in
-      rw (none, map-append f keys (key ∷ [])) refl)
+others_kept : {K X : Type 0} (eq : K → K → Bool) (test : K → Bool) (old new : List (K × X)) → KeepsOthers eq test old new
+    → (other : K → Bool) → IsKeyTest eq other → AreApart test other → lookup other new ≡ lookup other old
+unfolding KeepsOthers
+others_kept eq test old new kept = kept
 
--- two lists of one length are of one length again after one more element in each
-pub as_long : {X Y Z : Type 0} (f : X → Y) (old new : List X) (y : Y) (others : List Z) (z : Z) → map f new ≡ map f old ++ y ∷ []
-    → length others ≡ length old → length (others ++ z ∷ []) ≡ length new
-as_long f old new y others z names same =
-    omega (arith, length-map new f, length-map old f, ap length names, length_push others z, length_push (map f old) y, same)
+-- with a new name the table has the numbers of all names still
+pub numbers_push : (old new : BTreeMap (Vec ℕ Global) ℕ) (names : List (List ℕ)) (key : Vec ℕ Global) (name : List ℕ)
+    → AreNumbers old names → key.items ≡ name → task_of names name ≡ None
+    → Updates (λ x y. slice_cmp nat_cmp x.items y.items) old new key (Some (length names)) → AreNumbers new (names ++ name ∷ [])
+numbers_push old new names key name are is none updates = λ other.
+    let push = task_of-push names name none other in
+    elim (cases_Bool (bytes_eq name other)) [
+      | inl same ↦
+          let equal = (bytes_eq-Decides name other).0 same in
+          let found : get_by (λ (k : Vec ℕ Global). slice_cmp nat_cmp other k.items) new ≡ Some (length names) =
+          subst (λ n. get_by (λ (k : Vec ℕ Global). slice_cmp nat_cmp n k.items) new ≡ Some (length names)) (is ∙ equal) updates.1 in
+          found ∙ sym (rw same at push)
+      | inr apart ↦
+          let kept : get_by (λ (k : Vec ℕ Global). slice_cmp nat_cmp other k.items) new ≡ get_by (λ (k : Vec ℕ Global). slice_cmp nat_cmp other k.items) old =
+          others_kept _ _ old.entries new.entries updates.3 _
+          (λ x y. (eq_by_cmp_equiv nat_list_cmp_total).congr other x.items y.items)
+          (λ k. apart_in_order key.items other k.items (subst (λ n. bytes_eq n other ≡ false) (sym is) apart)) in
+          kept ∙ (are other ∙ sym (rw apart at push))
+    ]

@@ -2,6 +2,7 @@ pub mod Words
 pub mod Live
 pub mod Line
 pub mod Sessions
+pub mod TaskNames
 pub mod Judgement
 pub mod Reading
 pub mod Verdict

@@ -1,7 +1,6 @@
 -- What the reader holds of the lines so far, as the values of the definitions.
-use Rattle.std.specs.Prelude.{◌≡◌, ℕ, ◌+◌, ◌*◌, ◌^◌, ◌<◌, ◌≤◌, List, length, map, take, true, Vec, Option, Some, None, Result, Ok, Err}
+use Rattle.std.specs.Prelude.{◌≡◌, ℕ, ◌+◌, ◌*◌, ◌^◌, ◌<◌, ◌≤◌, List, length, take, true, Option, Some, None, Result, Ok, Err}
 use Rattle.std.specs.List.{AllByRecursion}
-use Rattle.std.specs.declared.alloc.Global.{Global}
 use Rattle.fb_units.specs.Judging.{◌>>=◌}
 use Rattle.fb_script.specs.declared.call.Action.{Action}
 use Rattle.fb_script.specs.declared.call.Action.TheVariants.{Open, Want, Abort, Promote, Suspend, Resume, Close, Segment}
@@ -60,15 +59,11 @@ IsSmall (AskedPromote first count) = count ≤ 2048
 IsSmall (AskedSegment segment) = segment.blocks ≤ 4096
 IsSmall _ = Unit {0}
 
--- the names of the tasks
-abbrev pub names : List (Vec ℕ Global) → List (List ℕ)
-names keys = map (λ name. name.items) keys
-
 -- the calls so far
 abbrev pub progress : Reader → Progress
 progress reader = record {
   instant = reader.instant;
-  names = names reader.names.keys;
+  names = reader.names;
   sessions = reader.sessions.items;
   blocks = reader.blocks;
   reads = reader.reads;
@@ -81,7 +76,7 @@ HasBlock session = (1 ≤ session.block) × (session.block ≤ 2048)
 
 -- what holds of a reader: it has one session for each name, no more of them than calls, and its counts are within their limits
 pub record IsReader (reader : Reader) : Type 0 where
-  pub tasks : length reader.sessions.items ≡ length reader.names.keys
+  pub tasks : length reader.sessions.items ≡ length reader.names
   pub sessions : AllByRecursion HasBlock reader.sessions.items
   pub few_blocks : reader.blocks ≤ 16 * 10 ^ 6
   pub few_tasks : length reader.sessions.items ≤ length reader.calls.items

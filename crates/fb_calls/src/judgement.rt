@@ -11,7 +11,7 @@ ghost use Rattle.fb_script.specs.Sessions.{is_clean};
 ghost use Rattle.fb_calls.specs.Sessions.{task_of};
 ghost use Rattle.fb_calls.specs.Judgement.{is_beyond, some_on_disk, opened, allowed, allowed_for, task_for, call_of};
 ghost use Rattle.fb_calls.specs.Reading.{line_read};
-ghost use Rattle.fb_calls.specs.Reader.{said, action, call, names, progress, with_step, HasBlock, IsWithin, IsAskedWithin, IsSmall};
+ghost use Rattle.fb_calls.specs.Reader.{said, action, call, progress, with_step, HasBlock, IsWithin, IsAskedWithin, IsSmall};
 ghost use Rattle.fb_calls.specs.Reader.{IsOnSession, HasRoom, IsReader, AreBlocksOf, IsAllowed, IsStep, MayFollow};
 ghost use Rattle.fb_calls.specs.Verdict.{Agrees};
 
@@ -132,12 +132,12 @@ impl Reader {
     #[tactic(auto, unfolding(crate::specs::Judgement::opened))]
     fn opened(&self, name: &[u8], weight: u64, block: u64) -> Result<usize, CallsReason>
         ensures value { result ≡ opened (progress self.now).names name.now weight block }
-        ensures task { IfOk result (λ task. task ≡ length self.now.names.keys) }
+        ensures task { IfOk result (λ task. task ≡ length self.now.names) }
         ensures free { OnOk result (task_of (progress self.now).names name.now ≡ None) }
         ensures weight { OnOk result (weight ≤ 1000) }
         ensures block { OnOk result ((1 ≤ block) × (block ≤ 2048)) }
     {
-        if self.task_of(name).is_some() {
+        if self.names.task_of(name).is_some() {
             return Err(CallsReason::TaskTaken);
         }
         if weight < 1 || weight > 1_000 {
@@ -147,14 +147,6 @@ impl Reader {
             return Err(CallsReason::BlockOutOfRange);
         }
         Ok(self.names.len())
-    }
-
-    // The number of the task with this name, if it is opened.
-    fn task_of(&self, name: &[u8]) -> Option<usize>
-        ensures value { result ≡ task_of (progress self.now).names name.now }
-        ensures within { IfSome result (λ task. task < length self.now.names.keys) }
-    {
-        self.names.get_index_of(name)
     }
 
     // The opened task with this name, if its session is allowed what is asked for.
@@ -171,7 +163,7 @@ impl Reader {
         ensures value { Agrees (λ found. found.task) result (allowed_for map.now (progress self.now) name.now (action asked.entry)) }
         ensures allowed { IfOk result (λ found. IsAllowed map.now (progress self.now) name.now asked.entry found.task found.blocks) }
     {
-        let task = match self.task_of(name) {
+        let task = match self.names.task_of(name) {
             Some(task) => task,
             None => return Err(CallsReason::UnknownTask),
         };

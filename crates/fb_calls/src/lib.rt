@@ -14,6 +14,7 @@ mod judgement;
 mod live_digits;
 mod opened_task;
 mod reader;
+mod task_names;
 mod words;
 
 pub use fault::{CallsError, CallsFault, CallsReason};

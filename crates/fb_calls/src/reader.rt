@@ -5,7 +5,7 @@ ghost use Rattle.fb_script.specs.Allowed.{tasks, IsScript};
 ghost use Rattle.fb_script.specs.Blocks.{reads_in};
 ghost use Rattle.fb_calls.specs.Judgement.{with_blocks};
 ghost use Rattle.fb_calls.specs.Reading.{next_progress, calls_of, at_start, at_end};
-ghost use Rattle.fb_calls.specs.Reader.{progress, names, action, call, HasBlock, HasRoom, IsNameFor, IsReader, IsTaskFor, IsSmall};
+ghost use Rattle.fb_calls.specs.Reader.{progress, action, call, HasBlock, HasRoom, IsNameFor, IsReader, IsTaskFor, IsSmall};
 ghost use Rattle.fb_calls.specs.Reader.{IsWithin};
 ghost use Rattle.fb_calls.specs.Sessions.{names_after, sessions_after, task_of};
 ghost use Rattle.fb_calls.specs.Verdict.{Answers, accepted};
@@ -13,11 +13,11 @@ ghost use Rattle.fb_calls.specs.Verdict.{Answers, accepted};
 use crate::entry::Asked;
 use crate::judgement::Step;
 use crate::opened_task::OpenedTask;
+use crate::task_names::TaskNames;
 use crate::{CallsError, CallsFault};
-use fb_script::{Call, Calls, Names};
+use fb_script::{Call, Calls};
 use fb_sectormap::SectorMap;
-use fb_units::{KeyText, NoMemory, Ns, next_line};
-use indexmap::IndexSet;
+use fb_units::{NoMemory, Ns, next_line};
 use std::alloc::Global;
 
 // A task's number has 32 bits.
@@ -29,7 +29,7 @@ pub struct Reader {
     // The instant of the last call.
     pub instant: Ns,
     // The names of the tasks, in order of opening.
-    pub names: IndexSet<Vec<u8>>,
+    pub names: TaskNames,
     // Their sessions, in the same order.
     pub sessions: Vec<OpenedTask>,
     // The number of blocks into which the wanted ranges and live blocks are cut.
@@ -61,7 +61,7 @@ pub fn read_calls(
         reader.read_line(alloc, map, number, line)?;
         rest = others;
     }
-    Ok(reader.end(alloc)?)
+    Ok(reader.end())
 }
 
 impl Reader {
@@ -72,7 +72,7 @@ impl Reader {
     {
         Reader {
             instant: 0,
-            names: IndexSet::new(alloc),
+            names: TaskNames::new(alloc),
             sessions: Vec::new(alloc),
             blocks: 0,
             reads: trace_count,
@@ -106,7 +106,7 @@ impl Reader {
     fn add(&mut self, alloc: Global, step: Step<'_>) -> Result<(), NoMemory>
         requires reader { IsReader self.old }
         requires task { IsTaskFor self.old.sessions.items step.asked step.task }
-        requires free { IsNameFor (names self.old.names.keys) step.asked step.name.now }
+        requires free { IsNameFor self.old.names step.asked step.name.now }
         requires room { HasRoom self.old.reads step.asked }
         requires small { IsSmall step.asked }
         requires within { IsWithin step.asked }
@@ -135,17 +135,17 @@ impl Reader {
     fn mark(&mut self, alloc: Global, step: Step<'_>) -> Result<(), NoMemory>
         requires reader { IsReader self.old }
         requires task { IsTaskFor self.old.sessions.items step.asked step.task }
-        requires free { IsNameFor (names self.old.names.keys) step.asked step.name.now }
+        requires free { IsNameFor self.old.names step.asked step.name.now }
         requires room { HasRoom self.old.reads step.asked }
         requires small { IsSmall step.asked }
         ensures names { OnOk result
-            (names self.new.names.keys ≡ names_after (names self.old.names.keys) step.entry.name.now (action step.entry.asked)) }
+            (self.new.names ≡ names_after self.old.names step.entry.name.now (action step.entry.asked)) }
         ensures sessions { OnOk result
             (self.new.sessions.items ≡ sessions_after self.old.sessions.items step.entry.task (action step.entry.asked)) }
         ensures reads { OnOk result (self.new.reads ≡ self.old.reads + reads_in (action step.entry.asked)) }
         ensures calls { self.new.calls ≡ self.old.calls }
         ensures blocks { self.new.blocks ≡ self.old.blocks }
-        ensures tasks { OnOk result (length self.new.sessions.items ≡ length self.new.names.keys) }
+        ensures tasks { OnOk result (length self.new.sessions.items ≡ length self.new.names) }
         ensures has_blocks { OnOk result (AllByRecursion HasBlock self.new.sessions.items) }
         ensures few { OnOk result (length self.new.sessions.items ≤ length self.old.calls.items + 1) }
     {
@@ -181,50 +181,27 @@ impl Reader {
 
     // Adds a session with a new name.
     fn open(&mut self, alloc: Global, name: &[u8], session: OpenedTask) -> Result<(), NoMemory>
-        requires free { task_of (names self.old.names.keys) name.now ≡ None }
-        requires tasks { length self.old.sessions.items ≡ length self.old.names.keys }
-        ensures names { OnOk result (names self.new.names.keys ≡ names self.old.names.keys ++ name.now ∷ []) }
+        requires free { task_of self.old.names name.now ≡ None }
+        requires tasks { length self.old.sessions.items ≡ length self.old.names }
+        ensures names { OnOk result (self.new.names ≡ self.old.names ++ name.now ∷ []) }
         ensures sessions { OnOk result (self.new.sessions.items ≡ self.old.sessions.items ++ session ∷ []) }
-        ensures tasks { OnOk result (length self.new.sessions.items ≡ length self.new.names.keys) }
+        ensures tasks { OnOk result (length self.new.sessions.items ≡ length self.new.names) }
         ensures calls { self.new.calls ≡ self.old.calls }
         ensures blocks { self.new.blocks ≡ self.old.blocks }
         ensures reads { self.new.reads ≡ self.old.reads }
     {
-        self.names.insert(Vec::from_slice(alloc, name)?)?;
+        self.names.add(alloc, name)?;
         self.sessions.push(session)?;
         Ok(())
     }
 
     // The script, at the end of the text.
-    fn end(self, alloc: Global) -> Result<Calls, NoMemory>
-        ensures { IfOk result (λ calls. accepted calls ≡ at_end (progress self)) }
+    fn end(self) -> Calls
+        ensures { accepted result ≡ at_end (progress self) }
     {
-        let names = names_of(alloc, self.names.as_slice())?;
-        Ok(Calls {
-            names,
+        Calls {
+            names: self.names.into_names(),
             calls: self.calls,
-        })
+        }
     }
-}
-
-// The texts of the tasks' names.
-fn names_of(alloc: Global, keys: &[Vec<u8>]) -> Result<Names, NoMemory>
-    ensures { IfOk result (λ texts. texts ≡ names keys.now) }
-{
-    let mut names = Names::new(alloc);
-    for name in keys {
-        names.push(key_text(alloc, name)?)?;
-    }
-    Ok(names)
-}
-
-// The text of a task's name.
-fn key_text(alloc: Global, name: &[u8]) -> Result<KeyText, NoMemory>
-    ensures { IfOk result (λ text. text ≡ name.now) }
-{
-    let mut text = KeyText::new(alloc);
-    for byte in name {
-        text.push(*byte)?;
-    }
-    Ok(text)
 }

@@ -34,14 +34,14 @@ returns-clause-answer c =
     let l = c.loop-line in
     read_end c.args.map.now (l.number + 1) (progress l.reader) (lines_of l.rest.now)
     (calls_of c.args.map.now c.args.trace_count c.args.bytes.now) c.in_default.ensures.line l.invariant.read
-    ∙ ap Ok (sym c.in_ok-end.ensures)
+    ∙ ap Ok (sym c.end.ensures)
 
 pub returns-clause-script : goal.returns-clause-script
 returns-clause-script c =
-    (script_allowed c.args.map.now c.args.trace_count c.args.bytes.now (accepted c.in_ok-end.field-0) (returns-clause-answer c)
-    (rw (ap (λ a. a.calls) c.in_ok-end.ensures) c.loop-line.invariant.reader.few_calls)).1
+    (script_allowed c.args.map.now c.args.trace_count c.args.bytes.now (accepted c.end.result) (returns-clause-answer c)
+    (rw (ap (λ a. a.calls) c.end.ensures) c.loop-line.invariant.reader.few_calls)).1
 
 pub returns-clause-names : goal.returns-clause-names
 returns-clause-names c =
-    (script_allowed c.args.map.now c.args.trace_count c.args.bytes.now (accepted c.in_ok-end.field-0) (returns-clause-answer c)
-    (rw (ap (λ a. a.calls) c.in_ok-end.ensures) c.loop-line.invariant.reader.few_calls)).0
+    (script_allowed c.args.map.now c.args.trace_count c.args.bytes.now (accepted c.end.result) (returns-clause-answer c)
+    (rw (ap (λ a. a.calls) c.end.ensures) c.loop-line.invariant.reader.few_calls)).0
