@@ -54,8 +54,7 @@ names_fault report error lines count verdict e all f =
     let P : ReadError ReportsFault → Type 0 = λ error. AnswersReport report (Err error) verdict in
     subst P (sym e) (refl, f ∙ ap (λ n. Err (n + 1)) (sym all))
 
--- what a test of a line by a grammar says of the same line by the same grammar
-pub tested : (test : Grammar → LineFields → Bool) (grammar other : Grammar) (line same : LineFields) (result answer : Bool)
-    → result ≡ test grammar line → result ≡ answer → grammar ≡ other → line ≡ same → test other same ≡ answer
-tested test grammar other line same result answer is was g l =
-    sym (is ∙ ap (λ grammar. test grammar line) g ∙ ap (test other) l) ∙ was
+-- what a test by a grammar says of the same grammar
+pub tested : (test : Grammar → Bool) (grammar other : Grammar) (result answer : Bool)
+    → result ≡ test grammar → result ≡ answer → grammar ≡ other → test other ≡ answer
+tested test grammar other result answer is was g = sym (is ∙ ap test g) ∙ was

@@ -2,7 +2,8 @@
 use Rattle.fb_report.proofs.Words.{◌≡◌, ℕ, ◌+◌, ◌-◌, ◌<◌, ◌≤◌, List, [], ◌∷◌, Bool, length, take, drop, arith, length-drop, sym, ap, ◌∙◌}
 use Rattle.fb_report.proofs.Words.{slice_split, position_or_len, take_all, slice_split_first, slice_split_none}
 use Rattle.fb_report.proofs.Words.{fails_before_first, onto_first, ◌==◌, true, false, refl, report_fields, length-slice_split}
-use Rattle.fb_report.proofs.Words.{slice_split-cons_no, slice_split-cons_yes, ◌≢◌, nat_tests}
+use Rattle.fb_report.proofs.Words.{slice_split-cons_no, slice_split-cons_yes, ◌≢◌, nat_tests, Option, Some, None, LineFields, listed}
+use Rattle.fb_report.specs.declared.grammar.Fields.{Fields}
 
 module _ (p : ℕ → Bool) (text : List ℕ) (index : ℕ) (at : index ≡ position_or_len p text) where
   -- the part before that byte, and the parts behind it
@@ -33,3 +34,8 @@ module _ (byte : ℕ) (rest : List ℕ) where
   other_more is = let other : (byte == 32) ≡ false = grind (arith, nat_tests) in
       ap length (slice_split-cons_no (λ byte. byte == 32) byte rest other)
       ∙ onto_length (report_fields rest) (omega (arith, length-slice_split (λ byte. byte == 32) rest))
+
+-- the fields that are left
+abbrev pub listed_left : Option Fields → LineFields
+listed_left None = []
+listed_left (Some fields) = listed fields

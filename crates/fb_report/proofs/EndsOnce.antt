@@ -1,7 +1,7 @@
 -- The end line is the only line that begins like it.
 use Rattle.std.proofs.lemmas.Option.{same_Some}
 use Rattle.fb_units.proofs.Lists.{all_push, all_weaker, all_get, get_left, get_right}
-use Rattle.fb_report.proofs.Words.{and_parts, ◌≡◌, ℕ, ◌+◌, ◌<◌, ◌≤◌, List, [], ◌∷◌, ◌++◌, ◌⊎◌, inl, inr, length, true, false, refl, sym, ap}
+use Rattle.fb_report.proofs.Words.{and_parts, ◌≡◌, ℕ, ◌+◌, ◌≤◌, List, [], ◌∷◌, ◌++◌, ◌⊎◌, inl, inr, length, true, false, refl, sym, ap}
 use Rattle.fb_report.proofs.Words.{◌∙◌, arith, lit≤, true≢false, subst, length-append, Ok, ◌==◌, ◌&&◌, codes, slice_get}
 use Rattle.fb_report.proofs.Words.{AllByRecursion, onto_first, list_any, bytes_eq, cases_Bool, Decides-eqb, slice_split-cons_yes}
 use Rattle.fb_report.proofs.Words.{slice_split-cons_no, Grammar, LineFields, Form, spelled, ended, fore_grammar, back_grammar, have_forms}
@@ -211,21 +211,6 @@ by_word grammar known = elim known [
   | inl fore ↦ subst EndsByWord (sym fore) fore_by_word
   | inr back ↦ subst EndsByWord (sym back) back_by_word
 ]
-
--- a line with more fields is in no report
-module _ (grammar : Grammar) (known : (grammar ≡ fore_grammar) ⊎ (grammar ≡ back_grammar)) (lines : List LineFields) (line : List ℕ)
-    (many : 16 < length (report_fields line)) where
-  pub follows_none : may_follow grammar lines (report_fields line) ≡ false
-  follows_none = elim (cases_Bool (may_follow grammar lines (report_fields line))) [
-    | inl is ↦ absurd (omega (arith, many, (follower grammar (by_word grammar known) lines line is).few))
-    | inr other ↦ other
-  ]
-
-  pub ends_none : may_end grammar lines (report_fields line) ≡ false
-  ends_none = elim (cases_Bool (may_end grammar lines (report_fields line))) [
-    | inl is ↦ absurd (omega (arith, many, (ender grammar (by_word grammar known) lines line is).few))
-    | inr other ↦ other
-  ]
 
 pub reports_end_once : ReportsEndOnce
 reports_end_once grammar lines known report = ends_once lines (are_ended grammar (by_word grammar known) [] _ lines tt report)

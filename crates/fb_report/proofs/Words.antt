@@ -1,7 +1,7 @@
 -- The names that the proofs cite, of this crate's words and of the crates below: each proof takes them from here.
 pub use Rattle.std.proofs.Common.{Bool, Err, Global, IfOk, List, None, Ok, Option, Result, Some, [], ap, append-nil, append_assoc, arith}
-pub use Rattle.std.proofs.Common.{codes, cond, decimal, drop, false, get_or, inl, inr, length, length-append, length-drop, lit≤, map, max}
-pub use Rattle.std.proofs.Common.{refl, subst, suc, sym, take, true, true≢false, zero, ℕ, ◌%◌, ◌*◌, ◌++◌, ◌+◌, ◌-◌, ◌/◌, ◌<◌, ◌^◌, ◌∙◌, ◌∷◌}
+pub use Rattle.std.proofs.Common.{codes, cond, decimal, drop, false, get_or, inl, inr, length, length-append, length-drop, lit<, lit≤, map}
+pub use Rattle.std.proofs.Common.{max, refl, subst, suc, sym, take, true, true≢false, zero, ℕ, ◌%◌, ◌*◌, ◌++◌, ◌+◌, ◌-◌, ◌/◌, ◌<◌, ◌^◌, ◌∙◌, ◌∷◌}
 pub use Rattle.std.proofs.Common.{◌≡◌, ◌≢◌, ◌≤◌, ◌⊎◌}
 pub use Rattle.std.specs.Borrow.{Bor}
 pub use Rattle.std.specs.Char.{is_ascii_digit}
@@ -34,7 +34,7 @@ pub use Rattle.fb_report.specs.Back.{is_complete_text, segment_fields, task_fiel
 unfoldable pub use Rattle.fb_report.specs.Back.{back_lines}
 pub use Rattle.fb_report.specs.Fore.{fore_first, fore_last, fore_line, fore_text, kind_text, row_bytes, row_fields}
 unfoldable pub use Rattle.fb_report.specs.Fore.{fore_lines}
-pub use Rattle.fb_report.specs.Forms.{fits, grammar_of, written}
+pub use Rattle.fb_report.specs.Forms.{fields_left, fits, grammar_of, listed, written}
 pub use Rattle.fb_report.specs.Grammar.{Form, Grammar, are_bytes, back_grammar, ended, ended_with, fore_grammar, has_no_leading_zero}
 pub use Rattle.fb_report.specs.Grammar.{have_forms, is_line_of, is_lower_hex, is_number, is_one_of, is_point, is_request, is_track, is_word}
 pub use Rattle.fb_report.specs.Grammar.{LineFields, may_end, may_follow, numbers, report_fields, report_of, spelled}

@@ -1,13 +1,17 @@
 // What the fields of a printed line must be.
-ghost use Rattle.std.specs.Prelude.{◌≡◌, ◌+◌, ◌-◌, ◌*◌, ◌<◌, ◌≤◌, ◌==◌, ◌^◌, [], ◌∷◌, length, true, IfSome, IfNone, MatchOption};
+ghost use Rattle.std.specs.Prelude.{◌≡◌, ◌+◌, ◌-◌, ◌*◌, ◌<◌, ◌≤◌, ◌==◌, ◌^◌, ◌&&◌, [], ◌∷◌, length, nat_lt, true, IfSome, IfNone, MatchOption};
 ghost use Rattle.std.specs.Char.{is_ascii_digit};
 ghost use Rattle.std.specs.List.{after_first, before_first, list_all, list_any, position_or_len, slice_split};
 ghost use Rattle.std.specs.Str.{bytes_eq};
+ghost use Rattle.fb_units.specs.Numbers.{digits_after};
 ghost use Rattle.fb_report.specs.Forms.{fits};
 ghost use Rattle.fb_report.specs.Grammar.{are_bytes, is_lower_hex, is_number, is_one_of, is_request, is_track};
 
 use fb_script::is_name;
 use fb_units::index_of;
+
+// So many digits always give a number below 2^64.
+const FREE_DIGITS: usize = 19;
 
 /// What a field must be.
 #[derive(Clone, Copy)]
@@ -58,6 +62,22 @@ fn is_number(text: &[u8]) -> bool
 {
     if text.is_empty() || (text[0] == b'0' && text.len() > 1) {
         return false;
+    }
+    stays_small(text)
+}
+
+fn are_all_digits(text: &[u8]) -> bool
+    ensures { result ≡ list_all is_ascii_digit text.now }
+{
+    text.iter().all(|byte| byte.is_ascii_digit())
+}
+
+// Whether a text is digits alone, which give a number below 2^64.
+fn stays_small(text: &[u8]) -> bool
+    ensures { result ≡ (list_all is_ascii_digit text.now && nat_lt (digits_after 0 text.now) (2 ^ 64)) }
+{
+    if text.len() <= FREE_DIGITS {
+        return are_all_digits(text);
     }
     let mut value = 0;
     for byte in text {

@@ -1,11 +1,12 @@
 // The grammars of the two reports.
-ghost use Rattle.std.specs.Prelude.{◌≡◌, map};
+ghost use Rattle.std.specs.Prelude.{◌≡◌, [], map, MatchOption};
 ghost use Rattle.std.specs.List.{list_any};
-ghost use Rattle.fb_report.specs.Forms.{fits, grammar_of, written};
-ghost use Rattle.fb_report.specs.Grammar.{have_forms, may_end, may_follow};
+ghost use Rattle.fb_report.specs.Forms.{fields_left, fits, grammar_of, listed, written};
+ghost use Rattle.fb_report.specs.Grammar.{have_forms, may_end, may_follow, report_fields};
 
+use crate::TextLines;
 use crate::forms::Form::{self, Bytes, Number, OneOf, Request, Task, Track, Word};
-use crate::{ReportLine, ReportLines};
+use crate::forms::split_once;
 use fb_desk::Input;
 
 /// The forms of the lines of a report.
@@ -117,42 +118,79 @@ pub fn table_of(report: Input) -> Table
 
 impl Table {
     /// Whether a line may stand behind these lines of a report, and isn't the last one.
-    pub fn may_follow(&self, lines: &ReportLines, line: &ReportLine) -> bool
-        ensures { result ≡ may_follow (written self.now) lines.now line.now }
+    pub fn may_follow(&self, lines: &TextLines<'_>, line: &[u8]) -> bool
+        ensures { result ≡ may_follow (written self.now) lines.now (report_fields line.now) }
     {
+        let fields = Fields::of(line);
         if lines.len() == 0 {
-            have_forms(line, self.first)
+            fields.have_forms(self.first)
         } else {
-            is_row(line, self.rows)
+            fields.are_row(self.rows)
         }
     }
 
     /// Whether a line may end a report that begins with these lines.
-    pub fn may_end(&self, lines: &ReportLines, line: &ReportLine) -> bool
-        ensures { result ≡ may_end (written self.now) lines.now line.now }
+    pub fn may_end(&self, lines: &TextLines<'_>, line: &[u8]) -> bool
+        ensures { result ≡ may_end (written self.now) lines.now (report_fields line.now) }
     {
-        lines.len() > 0 && have_forms(line, self.last)
+        lines.len() > 0 && Fields::of(line).have_forms(self.last)
     }
 }
 
-// Whether the fields of a line are what the forms ask for, one for each.
-fn have_forms(line: &ReportLine, forms: &[Form]) -> bool
-    ensures { result ≡ have_forms (map fits forms.now) line.now }
-{
-    if line.len() != forms.len() {
-        return false;
-    }
-    for i in 0..forms.len() {
-        if !forms[i].fits(line.get(i).as_slice()) {
-            return false;
+// The first field of a line, and what stands behind the space that ends it.
+#[derive(Clone, Copy)]
+struct Fields<'a> {
+    first: &'a [u8],
+    rest: Option<&'a [u8]>,
+}
+
+impl<'a> Fields<'a> {
+    fn of(line: &'a [u8]) -> Fields<'a>
+        ensures { listed result ≡ report_fields line.now }
+    {
+        match split_once(line, b' ') {
+            Some((first, rest)) => Fields {
+                first,
+                rest: Some(rest),
+            },
+            None => Fields {
+                first: line,
+                rest: None,
+            },
         }
     }
-    true
-}
 
-// Whether they are what one of the rows asks for.
-fn is_row(line: &ReportLine, rows: &[&[Form]]) -> bool
-    ensures { result ≡ list_any (λ row. have_forms (map fits row.now) line.now) rows.now }
-{
-    rows.iter().any(|row| have_forms(line, row))
+    // The fields behind the first one.
+    fn behind(self) -> Option<Fields<'a>>
+        ensures { MatchOption result (fields_left self.entry.rest ≡ []) (λ fields. fields_left self.entry.rest ≡ listed fields) }
+    {
+        match self.rest {
+            Some(rest) => Some(Fields::of(rest)),
+            None => None,
+        }
+    }
+
+    // Whether these fields are what the forms ask for, one for each.
+    fn have_forms(self, forms: &[Form]) -> bool
+        ensures { result ≡ have_forms (map fits forms.now) (listed self.entry) }
+    {
+        let mut left = Some(self);
+        for form in forms {
+            let Some(fields) = left else {
+                return false;
+            };
+            if !form.fits(fields.first) {
+                return false;
+            }
+            left = fields.behind();
+        }
+        left.is_none()
+    }
+
+    // Whether these fields are what one of the rows asks for.
+    fn are_row(self, rows: &[&[Form]]) -> bool
+        ensures { result ≡ list_any (λ row. have_forms (map fits row.now) (listed self.entry)) rows.now }
+    {
+        rows.iter().any(|row| self.have_forms(row))
+    }
 }

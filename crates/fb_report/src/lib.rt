@@ -29,6 +29,7 @@ mod sectors;
 mod sink;
 mod splitting;
 mod summary;
+mod text_lines;
 
 pub use back::{back_first, back_last, back_piece, back_pieces, back_text};
 pub use back_rows::back_line;
@@ -40,5 +41,7 @@ pub use line::{Line, first_line};
 pub use printed::printed_reports_are_read;
 pub use reading::{
     ReportLine, ReportLines, ReportsError, ReportsFault, read_back, read_fore, reports_end_once,
+    split_back, split_fore,
 };
 pub use summary::summary_text;
+pub use text_lines::TextLines;

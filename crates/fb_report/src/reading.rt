@@ -1,16 +1,15 @@
 // Reads printed reports.
-ghost use Rattle.std.specs.Prelude.{◌≡◌, ◌⊎◌, ◌+◌, ◌<◌, ◌^◌, ◌==◌, IfOk};
+ghost use Rattle.std.specs.Prelude.{◌≡◌, ◌+◌, ◌<◌, ◌^◌, ◌==◌, IfOk};
 ghost use Rattle.std.specs.List.{flat_map, slice_split};
 ghost use Rattle.fb_desk.specs.declared.desk.Input.TheVariants.{ForeReport, BackReport};
 ghost use Rattle.fb_units.specs.declared.read_error.ReadError.TheVariants.{Fault};
 ghost use Rattle.fb_report.specs.Forms.{grammar_of};
-ghost use Rattle.fb_report.specs.Grammar.{back_grammar, ended_with, fore_grammar, report_of, spelled};
+ghost use Rattle.fb_report.specs.Grammar.{back_grammar, ended_with, fore_grammar, report_fields, report_of, spelled};
 ghost use Rattle.fb_report.specs.Reading.{AnswersReport, ReportsEndOnce};
 
-use crate::FieldText;
 use crate::forms::split_once;
 use crate::grammar::table_of;
-use crate::splitting::{fields_of, has_many_fields};
+use crate::{FieldText, TextLines};
 use fb_desk::Input;
 use fb_units::{Items, ReadError};
 use std::alloc::Global;
@@ -40,7 +39,8 @@ pub fn read_fore(alloc: Global, bytes: &[u8]) -> Result<ReportLines, ReportsErro
     ensures answer { AnswersReport ForeReport result (report_of fore_grammar bytes.now) }
     ensures whole { IfOk result (λ lines. flat_map spelled lines ≡ bytes.now) }
 {
-    read(alloc, Input::ForeReport, bytes)
+    let lines = split_fore(alloc, bytes)?;
+    Ok(lines.copied(alloc)?)
 }
 
 /// The lines of a background report. An error names the first line that isn't in its place; or it
@@ -49,7 +49,24 @@ pub fn read_back(alloc: Global, bytes: &[u8]) -> Result<ReportLines, ReportsErro
     ensures answer { AnswersReport BackReport result (report_of back_grammar bytes.now) }
     ensures whole { IfOk result (λ lines. flat_map spelled lines ≡ bytes.now) }
 {
-    read(alloc, Input::BackReport, bytes)
+    let lines = split_back(alloc, bytes)?;
+    Ok(lines.copied(alloc)?)
+}
+
+/// As `read_fore`, but the lines stay parts of the text.
+pub fn split_fore(alloc: Global, bytes: &[u8]) -> Result<TextLines<'_>, ReportsError>
+    ensures answer { AnswersReport ForeReport result (report_of fore_grammar bytes.now) }
+    ensures whole { IfOk result (λ lines. flat_map spelled lines ≡ bytes.now) }
+{
+    split(alloc, Input::ForeReport, bytes)
+}
+
+/// As `read_back`, but the lines stay parts of the text.
+pub fn split_back(alloc: Global, bytes: &[u8]) -> Result<TextLines<'_>, ReportsError>
+    ensures answer { AnswersReport BackReport result (report_of back_grammar bytes.now) }
+    ensures whole { IfOk result (λ lines. flat_map spelled lines ≡ bytes.now) }
+{
+    split(alloc, Input::BackReport, bytes)
 }
 
 /// The last line of a report begins with an e, and no other does; and each line has at most 16
@@ -59,23 +76,18 @@ pub fn reports_end_once()
 {}
 
 // The lines of this report.
-fn read(alloc: Global, report: Input, text: &[u8]) -> Result<ReportLines, ReportsError>
-    requires { (report ≡ ForeReport) ⊎ (report ≡ BackReport) }
+fn split(alloc: Global, report: Input, text: &[u8]) -> Result<TextLines<'_>, ReportsError>
     ensures { AnswersReport report result (report_of (grammar_of report) text.now) }
 {
     let table = table_of(report);
-    let mut lines = ReportLines::new(alloc);
+    let mut lines = TextLines::new(alloc);
     let mut rest = text;
     while let Some((line, behind)) = split_once(rest, b'\n') {
-        if has_many_fields(line) {
-            return Err(fault(report, lines.len()));
-        }
-        let fields = fields_of(alloc, line)?;
-        if table.may_follow(&lines, &fields) {
-            lines.push(fields)?;
+        if table.may_follow(&lines, line) {
+            lines.push(line)?;
             rest = behind;
-        } else if table.may_end(&lines, &fields) {
-            return end(report, lines, fields, behind);
+        } else if table.may_end(&lines, line) {
+            return end(report, lines, line, behind);
         } else {
             return Err(fault(report, lines.len()));
         }
@@ -85,13 +97,14 @@ fn read(alloc: Global, report: Input, text: &[u8]) -> Result<ReportLines, Report
 
 // The lines of a report that ends with this line, if nothing stands behind it. Else the fault is
 // this line, with another one behind it, or the rest that has no line feed.
-fn end(
+fn end<'a>(
     report: Input,
-    lines: ReportLines,
-    line: ReportLine,
+    lines: TextLines<'a>,
+    line: &'a [u8],
     behind: &[u8],
-) -> Result<ReportLines, ReportsError>
-    ensures { AnswersReport report result (ended_with lines line (slice_split (λ byte. byte == 10) behind.now)) }
+) -> Result<TextLines<'a>, ReportsError>
+    ensures { AnswersReport report result
+        (ended_with lines.entry (report_fields line.now) (slice_split (λ byte. byte == 10) behind.now)) }
 {
     if behind.is_empty() {
         let mut whole = lines;

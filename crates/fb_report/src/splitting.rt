@@ -1,21 +1,11 @@
 // Lines are split into their fields.
-ghost use Rattle.std.specs.Prelude.{◌≡◌, ◌<◌, length, IfOk, IsTrue};
+ghost use Rattle.std.specs.Prelude.{◌≡◌, length, IfOk};
 ghost use Rattle.fb_report.specs.Grammar.{report_fields};
 
 use crate::forms::split_once;
 use crate::{FieldText, ReportLine};
 use fb_units::NoMemory;
 use std::alloc::Global;
-
-// No line of a report has more fields.
-const MOST_FIELDS: usize = 16;
-
-/// Whether a line has more fields than any line of a report.
-pub fn has_many_fields(line: &[u8]) -> bool
-    ensures { IsTrue result → 16 < length (report_fields line.now) }
-{
-    count_fields(line) > MOST_FIELDS
-}
 
 // How many fields a line has.
 fn count_fields(line: &[u8]) -> usize

@@ -4,4 +4,4 @@ use Rattle.fb_report.proofs.grammar.Table.may_follow.Goals as goal
 
 pub returns-else-len-eq0 : goal.returns-else-len-eq0
 returns-else-len-eq0 c =
-    c.is_row.ensures ∙ row_of_table c.args.self.now c.args.lines.now c.args.line.now (omega (arith, c.len.ensures.value))
+    c.are_row.ensures ∙ row_of_table c.args.self.now c.args.lines.now _ _ (omega (arith, c.len.ensures.value)) c.of-fields.ensures

@@ -1,6 +1,9 @@
 use Rattle.fb_report.proofs.Words.{◌∙◌, ◌+◌, sym, arith, get_or, drop, at_drop_more}
-use Rattle.fb_report.proofs.Numbers.{stays_below, stays_below-not, stays_below-end}
-use Rattle.fb_report.proofs.forms.is_number.Goals as goal
+use Rattle.fb_report.proofs.Numbers.{few_stay_below, stays_below, stays_below-not, stays_below-end}
+use Rattle.fb_report.proofs.forms.stays_small.Goals as goal
+
+pub returns-then-text-le-FREE_DIGITS : goal.returns-then-text-le-FREE_DIGITS
+returns-then-text-le-FREE_DIGITS c = c.are_all_digits.ensures ∙ few_stay_below c.args.text.now c.if-text-le-FREE_DIGITS.true
 
 pub returns-in-None : goal.returns-in-None
 returns-in-None c =

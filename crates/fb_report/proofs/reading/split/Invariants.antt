@@ -1,5 +1,5 @@
 use Rattle.fb_report.proofs.Words.{◌≡◌, length, ◌==◌, slice_split, grammar_of, lines_behind, report_of}
-use Rattle.fb_report.proofs.reading.read.Given as goal
+use Rattle.fb_report.proofs.reading.split.Given as goal
 
 abbrev pub invariant-loop-line : goal.invariant-loop-line
 invariant-loop-line l =
