@@ -34,13 +34,13 @@ module _ (ga ca gx cx gb cb : ℕ) (some : 0 < cx) where
 -- ---- ratios of benefit to cost
 
 -- the first segment has a smaller ratio
-abbrev Less : LogSegment → LogSegment → Type 0
+abbrev pub Less : LogSegment → LogSegment → Type 0
 Less a b = gain a * cost b < gain b * cost a
 
-abbrev AtMost : LogSegment → LogSegment → Type 0
+abbrev pub AtMost : LogSegment → LogSegment → Type 0
 AtMost a b = gain a * cost b ≤ gain b * cost a
 
-abbrev best : LogSegment → List LogSegment → LogSegment
+abbrev pub best : LogSegment → List LogSegment → LogSegment
 best a xs = best_of is_better a xs
 
 some_left : (m n : ℕ) → 0 < m * n → 0 < m
@@ -52,11 +52,11 @@ some_right m zero h = absurd (omega arith)
 some_right m (suc n) h = omega arith
 
 -- what gains has a cost
-gain-cost : (s : LogSegment) → 0 < gain s → 0 < cost s
+pub gain-cost : (s : LogSegment) → 0 < gain s → 0 < cost s
 gain-cost s h = let free = some_left (s.blocks - length s.live) s.age h in omega arith
 
 -- where one ratio is greater than another, both segments have a cost
-less-costs : (a b : LogSegment) → Less a b → (0 < cost a) × (0 < cost b)
+pub less-costs : (a b : LogSegment) → Less a b → (0 < cost a) × (0 < cost b)
 less-costs a b less =
     let some : 0 < gain b * cost a = omega arith in
     (some_right (gain b) (cost a) some, gain-cost b (some_left (gain b) (cost a) some))
@@ -65,16 +65,16 @@ less-chain : (a x b : LogSegment) → Less a x → Less x b → Less a b
 less-chain a x b p q = let costs = less-costs x b q in
     lt_le (gain a) (cost a) (gain x) (cost x) (gain b) (cost b) costs.0 costs.1 p (omega arith)
 
-better : (x a : LogSegment) → is_better x a ≡ true → Less a x
+pub better : (x a : LogSegment) → is_better x a ≡ true → Less a x
 better x a h = grind (arith, nat_tests)
 
-no_better : (x a : LogSegment) → is_better x a ≡ false → AtMost x a
+pub no_better : (x a : LogSegment) → is_better x a ≡ false → AtMost x a
 no_better x a h = grind (arith, nat_tests)
 
-best_taken : (a x : LogSegment) (xs : List LogSegment) → is_better x a ≡ true → best a (x ∷ xs) ≡ best x xs
+pub best_taken : (a x : LogSegment) (xs : List LogSegment) → is_better x a ≡ true → best a (x ∷ xs) ≡ best x xs
 best_taken a x xs wins = ap (λ b. best (cond b x a) xs) wins
 
-best_kept : (a x : LogSegment) (xs : List LogSegment) → is_better x a ≡ false → best a (x ∷ xs) ≡ best a xs
+pub best_kept : (a x : LogSegment) (xs : List LogSegment) → is_better x a ≡ false → best a (x ∷ xs) ≡ best a xs
 best_kept a x xs loses = ap (λ b. best (cond b x a) xs) loses
 
 -- the best of all is the first one or has a greater ratio

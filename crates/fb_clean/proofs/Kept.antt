@@ -1,7 +1,7 @@
 -- What stays so of the segments of a session.
 use Rattle.std.proofs.Common.{◌≡◌, ◌≤◌, ℕ, ◌+◌, ◌<◌, List, [], ◌∷◌, ◌++◌, Option, Some, None, Bool, true, false, refl, arith, ap, ap₂, sym}
-use Rattle.std.proofs.Common.{◌∙◌, length, map, cond, set, get_or, slice_get, zero, suc, ◌==◌, subst, ◌^◌, ◌-◌, Result, Ok, Err, OnOk}
-use Rattle.std.proofs.Common.{OnErr, IfOk, true≢false}
+use Rattle.std.proofs.Common.{◌∙◌, length, map, cond, set, get_or, slice_get, zero, suc, ◌==◌, subst, ◌^◌, ◌-◌, Result}
+use Rattle.std.proofs.Common.{IfOk, true≢false}
 use Rattle.std.specs.Option.{is_some}
 use Rattle.std.specs.List.{AllByRecursion, flat_map, range_with_len}
 use Rattle.std.proofs.lemmas.List.{length_push, length-map, get_or_default, get_or-map}
@@ -130,20 +130,6 @@ sound_left block segments now unfinished taken sound e =
       as_many = omega arith;
       known = λ n is. let at = sound.known n is in (at.0, omega (arith, at.1));
     }
-
--- one more or none
-pub sound_either : {T E : Type 0} (r : Result T E) (block : ℕ) (segments more : List LogSegment) (unfinished : Option ℕ)
-    (taken more_taken : List (List (ℕ × Option Content))) (s : LogSegment) (held : List (ℕ × Option Content))
-    → IsSound block segments unfinished (length taken) → OnOk r ((more ≡ segments ++ s ∷ []) × (more_taken ≡ taken ++ held ∷ []))
-    → OnErr r ((more ≡ segments) × (more_taken ≡ taken))
-    → s.number ≡ length segments + 1 → AllByRecursion (λ lbn. lbn + block ≤ 10 ^ 12) s.live → length segments < 2 ^ 32 - 1
-    → IsSound block more unfinished (length more_taken)
-sound_either (Ok x) block segments more unfinished taken more_taken s held sound ok err number within room =
-    sound_more block segments more unfinished (length taken) (length more_taken) s sound ok.0
-    (ap length ok.1 ∙ length_push taken held) number within room
-sound_either (Err e) block segments more unfinished taken more_taken s held sound ok err number within room =
-    subst (λ n. IsSound block more unfinished n) (sym (ap length err.1))
-    (subst (λ xs. IsSound block xs unfinished (length taken)) (sym err.0) sound)
 
 pub get_one : (segments : List LogSegment) (i : ℕ) (s d : LogSegment) → slice_get segments i ≡ Some s → get_or segments i d ≡ s
 get_one [] i s d at = absurd (grind arith)

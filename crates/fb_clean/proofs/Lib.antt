@@ -1,4 +1,4 @@
 pub mod Live
-pub mod Chosen
+pub mod Ranked
 pub mod Kept
 pub mod Greatest

@@ -1,4 +1,4 @@
 pub mod Segments
 pub mod Numbers
-pub mod Best
+pub mod Ranks
 pub mod Greatest

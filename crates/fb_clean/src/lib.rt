@@ -8,6 +8,9 @@
 //! segment is added: choosing, finishing and dropping can't run out of it. Out of memory, the
 //! segments stay as they were. The contracts don't say when a segment is finished: the caller
 //! decides.
+//!
+//! The segments that are left to choose stand in an ordered set by rank, so that adding and choosing
+//! one cost a search each, and a look at each segment all choices together.
 #![tactic(auto)]
 
 mod choice;

@@ -1,12 +1,28 @@
 // One segment of a log.
-ghost use Rattle.std.specs.Prelude.{◌≡◌, ◌+◌, ◌-◌, ◌*◌, ◌≤◌, ◌^◌, true, length, IfOk};
+ghost use Rattle.std.specs.Prelude.{◌≡◌, ◌==◌, ◌+◌, ◌*◌, ◌-◌, ◌<◌, ◌≤◌, ◌^◌, true, length, IfOk};
 ghost use Rattle.std.specs.List.{AllByRecursion};
-ghost use Rattle.fb_clean.specs.Segments.{is_better, live_blocks, no_longer_waiting};
+ghost use Rattle.fb_clean.specs.Segments.{LogSegment, cost, live_blocks, no_longer_waiting};
+ghost use Rattle.fb_clean.specs.Ranks.{ratio, rank};
 
 use fb_script::Live;
 use fb_units::NoMemory;
 use std::alloc::Global;
 use std::marker::Model;
+
+// Ratios are counted in this part of one: two of them that differ do so by at least that much, since no
+// cost is above 8,192 blocks.
+const PARTS: u128 = 1 << 26;
+
+// From one ratio to the next lie the ranks of all numbers.
+const RATIO_STEP: u128 = 1 << 32;
+
+/// The number of the segment that has this rank.
+pub fn number_of(code: u128) -> u32
+    requires { (segment : LogSegment) × (segment.number < 2 ^ 32) × (code ≡ rank segment) }
+    ensures { (segment : LogSegment) → segment.number < 2 ^ 32 → code ≡ rank segment → result ≡ segment.number }
+{
+    u32::MAX - (code % RATIO_STEP) as u32
+}
 
 /// A segment of a log, with its live blocks.
 #[derive(Drop)]
@@ -80,20 +96,26 @@ impl Segment {
         self.waits = false;
     }
 
-    /// Whether this segment has a greater ratio of benefit to cost than the other.
-    pub fn is_better(&self, other: &Segment) -> bool
-        ensures { result ≡ is_better self.now other.now }
+    /// Whether the segment has no blocks at all, and so no ratio of benefit to cost.
+    pub fn is_empty(&self) -> bool
+        ensures { result ≡ (cost self.now == 0) }
     {
-        other.product(self) < self.product(other)
+        self.cost() == 0
     }
 
-    /// This segment's benefit, its free blocks times its age, times the other's cost in blocks.
-    ///
-    /// Two ratios of benefit to cost are compared by these products, without a division.
-    pub fn product(&self, other: &Segment) -> u128
-        ensures { result ≡ (self.now.blocks - length self.now.live) * self.now.age * (other.now.blocks + length other.now.live) }
+    /// Greater for a greater ratio of benefit to cost, and where that is the same for the smaller number.
+    pub fn rank(&self) -> u128
+        ensures { result ≡ rank self.now }
     {
-        self.free() * self.age as u128 * other.cost()
+        self.ratio() * RATIO_STEP + (u32::MAX - self.number) as u128
+    }
+
+    // The ratio of benefit to cost in whole parts: the benefit are the free blocks times the age.
+    fn ratio(&self) -> u128
+        ensures value { result ≡ ratio self.now }
+        ensures small { result < 2 ^ 90 }
+    {
+        self.free() * self.age as u128 * PARTS / self.cost().max(1)
     }
 
     // How many blocks are not live.

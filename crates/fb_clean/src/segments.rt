@@ -10,13 +10,14 @@ ghost use Rattle.fb_clean.specs.Greatest.{IsChoice};
 ghost use Rattle.fb_clean.specs.Segments.{live_blocks, no_longer_waiting, after_add, choice_of, after_choice, after_drop, live_of};
 ghost use Rattle.fb_clean.specs.Segments.{taken_for, packed_sectors};
 
-use crate::choice::best_waiting;
+use crate::choice::{best_waiting, next_waiting};
 use crate::segment::Segment;
 use fb_script::Live;
 use fb_store::{Contents, SparseContents};
 use fb_units::NoMemory;
 use fb_wanted::Block;
 use std::alloc::Global;
+use std::collections::BTreeSet;
 use std::marker::Model;
 
 /// The segments of a session that cleans a log, numbered from 1 in order of adding.
@@ -27,18 +28,24 @@ pub struct Segments {
     segments: Vec<Segment>,
     unfinished: Option<u32>,
     taken: Vec<SparseContents>,
+    // The ranks of the segments that are still to be chosen.
+    ranks: BTreeSet<u128>,
+    // No segment before this index is still to be chosen.
+    passed: usize,
 }
 
 impl Model for Segments {
     ghost use Rattle.std.specs.Prelude.{length};
     ghost use Rattle.fb_clean.specs.Segments.{Cleaning};
     ghost use Rattle.fb_clean.specs.Numbers.{IsSound};
+    ghost use Rattle.fb_clean.specs.Ranks.{AreRanked};
 
     ghost Value = { Cleaning };
 
     ghost view = { λ s. record { block = s.block; segments = s.segments.items; unfinished = s.unfinished; taken = s.taken.items } };
 
-    ghost invariant = { λ s. IsSound s.block s.segments.items s.unfinished (length s.taken.items) };
+    ghost invariant = { λ s. IsSound s.block s.segments.items s.unfinished (length s.taken.items)
+        × AreRanked s.segments.items s.ranks s.passed };
 }
 
 impl Segments {
@@ -52,6 +59,8 @@ impl Segments {
             segments: Vec::new(alloc),
             unfinished: None,
             taken: Vec::new(alloc),
+            ranks: BTreeSet::new(alloc),
+            passed: 0,
         }
     }
 
@@ -70,7 +79,15 @@ impl Segments {
         let number = self.segments.len() as u32 + 1;
         let segment = Segment::new(self.alloc, number, first, self.block, age, live)?;
         let held = SparseContents::new(self.alloc);
-        push_both(&mut self.segments, segment, &mut self.taken, held)
+        let rank = segment.rank();
+        self.ranks.insert(rank)?;
+        match push_both(&mut self.segments, segment, &mut self.taken, held) {
+            Ok(()) => Ok(()),
+            Err(NoMemory) => {
+                self.ranks.remove(&rank);
+                Err(NoMemory)
+            }
+        }
     }
 
     /// How many segments were added so far.
@@ -92,7 +109,7 @@ impl Segments {
     pub fn has_rest(&self) -> bool
         ensures { result ≡ list_any (λ segment. segment.waits) self.now.segments }
     {
-        self.segments.iter().any(|segment| segment.waits())
+        !self.ranks.is_empty()
     }
 
     /// How many live blocks the segment of this number has.
@@ -125,7 +142,9 @@ impl Segments {
         if self.unfinished.is_some() {
             return None;
         }
-        let best = best_waiting(&self.segments)?;
+        self.passed = next_waiting(&self.segments, self.passed);
+        let best = best_waiting(&self.segments, &self.ranks, self.passed)?;
+        self.ranks.remove(&self.segments[best].rank());
         self.segments[best].stop_waiting();
         self.unfinished = Some(best as u32 + 1);
         self.unfinished
@@ -165,6 +184,7 @@ impl Segments {
         ensures { self.new ≡ after_drop self.old }
     {
         stop_all_waiting(&mut self.segments);
+        self.ranks.clear();
     }
 
     /// What was kept for a segment, in the order of its live blocks, as the fewest runs.

@@ -8,7 +8,7 @@ pub returns : goal.returns
 returns c =
     let added = c.requires in
     let size = ap (λ v. length v.segments) c.self.view_is in
-    let as_many = c.self.invariant.as_many in
+    let as_many = c.self.invariant.0.as_many in
     subst (λ v. IfOk c.pack.result (λ runs. runs ≡ runs_of (packed_sectors v c.args.segment))) c.self.view_is
     (runs_same c.pack.result _ _
     (packed_at (record {
