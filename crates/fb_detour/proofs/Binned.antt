@@ -1,17 +1,17 @@
 -- The time on a track in bins.
 use Rattle.fb_units.proofs.Comparing.{if_le}
 use Rattle.fb_detour.proofs.Words.{Bool, List, arith, get_or, if◌then◌else◌, length, nat_lt, refl, replicate, suc, take, true, zero, ℕ}
-use Rattle.fb_detour.proofs.Words.{◌*◌, ◌+◌, ◌-◌, ◌/◌, ◌<◌, ◌≡◌, ◌≤◌, div-mul-le_self, nat_tests, le-div, sum_by, Sweep, Offer, added}
+use Rattle.fb_detour.proofs.Words.{◌*◌, ◌+◌, ◌-◌, ◌<◌, ◌^◌, ◌≡◌, ◌≤◌, nat_tests, sum_by, Sweep, Offer, added}
 use Rattle.fb_detour.proofs.Words.{IsReady, bin_at, sum_of_first, Stop}
+use Rattle.fb_detour.specs.declared.bins.Grid.{Grid}
 use Rattle.fb_detour.proofs.Arrays.{sum-cons}
 use Rattle.fb_detour.proofs.Ceilings.{if-le-n}
 use Rattle.fb_detour.proofs.Offers.{bound-more, small-sum, within-more}
+use Rattle.fb_detour.proofs.Packing.{div-rises}
 
 -- no instant lies in an earlier bin than an earlier one does
-pub no_earlier_bin : (begin bin_length a b : ℕ) → 0 < bin_length → a ≤ b → bin_at begin bin_length a ≤ bin_at begin bin_length b
-no_earlier_bin begin bin_length a b some le =
-    let past = (a - begin) / bin_length in
-    omega (arith, le-div past (b - begin) bin_length some (omega (arith, div-mul-le_self (a - begin) bin_length, le)))
+pub no_earlier_bin : (grid : Grid) (a b : ℕ) → a ≤ b → bin_at grid a ≤ bin_at grid b
+no_earlier_bin grid a b le = omega (arith, div-rises (a - grid.begin) (b - grid.begin) (2 ^ grid.shift) (omega (arith, le)))
 
 -- no worth, no sum
 pub no_sum : (m n : ℕ) → sum_of_first n (replicate m 0) ≡ 0
@@ -20,10 +20,10 @@ no_sum zero (suc n) = refl
 no_sum (suc m) (suc n) = omega (arith, sum-cons 0 (replicate m 0) n, no_sum m n)
 
 -- each sum over bins is small, if it is no more than the worth of offers of a stop
-pub bins-small : (stop : Stop) (i k : ℕ) (bins : List ℕ) → IsReady stop
-    → ((n : ℕ) → n ≤ 16384 → sum_of_first n bins ≤ sum_by (λ (offer : Offer). offer.worth) (take i stop.offers.now))
-    → k < 16384 → sum_of_first (k + 1) bins ≤ 16000000 * 2048000
-bins-small stop i k bins ready so_far less =
+pub bins-small : (stop : Stop) (i k count : ℕ) (bins : List ℕ) → IsReady stop
+    → ((n : ℕ) → n ≤ count → sum_of_first n bins ≤ sum_by (λ (offer : Offer). offer.worth) (take i stop.offers.now))
+    → k < count → sum_of_first (k + 1) bins ≤ 16000000 * 2048000
+bins-small stop i k count bins ready so_far less =
     omega (arith, so_far (k + 1) (omega (arith, less)), small-sum stop (λ (o : Offer). o.worth) i (λ o. omega arith) ready)
 
 -- one offer more, whose worth goes to all sums over its index

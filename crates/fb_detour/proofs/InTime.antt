@@ -1,7 +1,9 @@
 -- No stay catches more than what can pass in its time.
-use Rattle.fb_detour.proofs.Words.{List, arith, suc, zero, ℕ, ◌*◌, ◌-◌, ◌/◌, ◌<◌, ◌^◌, ◌≡◌, ◌≤◌, div-mul-le_self, le-div, mul-le, Track}
+use Rattle.fb_detour.proofs.Words.{List, arith, suc, zero, ℕ, ◌*◌, ◌-◌, ◌/◌, ◌<◌, ◌≡◌, ◌≤◌, div-mul-le_self, le-div, mul-le, Track}
 use Rattle.fb_detour.proofs.Words.{slots_at, HasOwnPlaces, IsSound, Disk, depth_at, Entry, AreOnDisk, early_to, slots_within, stay}
-use Rattle.fb_detour.proofs.Packing.{packing}
+use Rattle.fb_detour.proofs.Words.{passing}
+use Rattle.fb_detour.specs.declared.rate.Rate.{Rate}
+use Rattle.fb_detour.proofs.Packing.{div-rises, packing}
 
 pub some_share : (rotation slots : ℕ) → 0 < slots → slots ≤ rotation → 0 < rotation / slots
 some_share rotation slots some room = le-div 1 rotation slots some (omega (arith, room))
@@ -23,27 +25,20 @@ more_pass rotation (suc n) most time le some =
       div-mul-le_self time (rotation / suc n),
     ))
 
--- one sector for each share passes at no more than a rate of as much
-pub rate_passes : (depth share rate time : ℕ) → depth * 2 ^ 24 ≤ rate * share → depth * (time / share) * 2 ^ 24 ≤ time * rate
-rate_passes depth share rate time enough =
-    let n = time / share in
-    let all = mul-le (depth * 2 ^ 24) n (rate * share) n enough (omega arith) in
-    let whole = mul-le rate (n * share) rate time (omega arith) (div-mul-le_self time share) in
-    let left : depth * n * 2 ^ 24 ≡ depth * 2 ^ 24 * n = grind arith in
-    let middle : rate * share * n ≡ rate * (n * share) = grind arith in
-    let right : rate * time ≡ time * rate = grind arith in
-    omega (arith, all, whole, left, middle, right)
+-- in more time no less passes
+pub more_in_time : (rate : Rate) (time more : ℕ) → time ≤ more → passing rate time ≤ passing rate more
+more_in_time rate time more le =
+    mul-le rate.depth (time / rate.share) rate.depth (more / rate.share) (omega arith) (div-rises time more rate.share le)
 
 -- no stay catches more than what passes at a rate of the most weight for each share
-pub within_rate : (disk : Disk) (es : List Entry) (track : Track) (depth slots rate from upto : ℕ) → IsSound disk.map
+pub within_rate : (disk : Disk) (es : List Entry) (track : Track) (depth slots from upto : ℕ) → IsSound disk.map
     → HasOwnPlaces disk.map → AreOnDisk disk es
     → ((lbn : ℕ) → depth_at track lbn es ≤ depth) → slots_at disk.map.zones track.cylinder ≤ slots → 0 < disk.map.rotation / slots
-    → depth * 2 ^ 24 ≤ rate * (disk.map.rotation / slots)
-    → stay disk (early_to track from upto) es * 2 ^ 24 ≤ (upto - from) * rate
-within_rate disk es track depth slots rate from upto sound own on_disk deep few some enough =
+    → stay disk (early_to track from upto) es ≤ depth * ((upto - from) / (disk.map.rotation / slots))
+within_rate disk es track depth slots from upto sound own on_disk deep few some =
     let time = upto - from in
     let rotation = disk.map.rotation in
-    let passing = slots_within rotation (slots_at disk.map.zones track.cylinder) time in
-    let most = mul-le depth passing depth (time / (rotation / slots)) (omega arith)
+    let passed = slots_within rotation (slots_at disk.map.zones track.cylinder) time in
+    let most = mul-le depth passed depth (time / (rotation / slots)) (omega arith)
     (more_pass rotation (slots_at disk.map.zones track.cylinder) slots time few some) in
-    omega (arith, packing disk track from upto sound es depth own on_disk deep, most, rate_passes depth (rotation / slots) rate time enough)
+    omega (arith, packing disk track from upto sound es depth own on_disk deep, most)

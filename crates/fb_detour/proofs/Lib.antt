@@ -8,7 +8,6 @@ pub mod Arrays
 pub mod Offers
 pub mod Binned
 pub mod Missed
-pub mod Noted
 pub mod Counted
 pub mod Spread
 pub mod Within
@@ -18,5 +17,6 @@ pub mod InInterval
 pub mod InTime
 pub mod Slots
 pub mod Bare
+pub mod Levels
 pub mod Limits
 pub mod Keys

@@ -1,14 +1,16 @@
 -- What no plan of a way is worth more than.
-use Rattle.fb_detour.proofs.Words.{List, arith, get_or, inl, inr, min, refl, ℕ, ◌*◌, ◌+◌, ◌-◌, ◌/◌, ◌<◌, ◌^◌, ◌≡◌, ◌≤◌, div-mul-le_self}
+use Rattle.fb_detour.specs.Bounds.{IsGrid, IsTable}
+use Rattle.fb_detour.proofs.Words.{List, arith, get_or, inl, inr, length, min, refl, ℕ, ◌*◌, ◌+◌, ◌-◌, ◌/◌, ◌<◌, ◌≡◌, ◌≤◌, div-mul-le_self}
 use Rattle.fb_detour.proofs.Words.{mod-lt, mul-le, mul-le-mul_right, cases_lt, div-add-mod', sum_by, Track, Disk, on_track, wanted_weight}
 use Rattle.fb_detour.proofs.Words.{Entry, Dwell, Gap, Detour, IsPlan, early_dwell, late_dwell, bounds, arrival, early_track, move_on}
 use Rattle.fb_detour.proofs.Words.{plan_by, Scored, Way, Over, Source, AreBins, IsBounded, IsStop, bin_at, IsDetourIn, IsEnough, IsFound}
-use Rattle.fb_detour.proofs.Words.{IsLate, IsNoWorseIn, IsReach, early_to, late_gain, late_most, offered, part_at, value_in, stay, Bins}
-use Rattle.fb_detour.proofs.Words.{AreSmallSums, Search, LateParts, Stop}
+use Rattle.fb_detour.proofs.Words.{IsLate, IsNoWorseIn, IsReach, early_to, late_gain, late_most, offered, part_at, passing, value_in, stay, Bins}
+use Rattle.fb_detour.proofs.Words.{Search, LateParts, Stop}
 use Rattle.fb_detour.specs.declared.steps.Reach.{Reach}
 use Rattle.fb_detour.proofs.Arrays.{over_all}
 use Rattle.fb_detour.proofs.Ceilings.{longer_stay, two_stays, weight_of_stay}
 use Rattle.fb_detour.proofs.Found.{not_better}
+use Rattle.fb_detour.proofs.InTime.{more_in_time}
 use Rattle.fb_detour.proofs.Offers.{gives}
 use Rattle.fb_detour.proofs.Ranges.{not_itself}
 
@@ -82,11 +84,11 @@ module _ (search : Search) where
     pub by_time : (reach : Reach) (weight time limit part most : ℕ) → IsReach search track reach → wanted_weight track entries ≤ weight
         → leave - arrival disk gap (Over track) ≤ time → limit ≤ leave + move_on disk gap (Over track)
         → stay disk (late_most gap limit) entries ≤ part
-        → ((caught : ℕ) → caught ≤ weight → caught * 2 ^ 24 ≤ time * reach.rate → caught + part ≤ most)
+        → ((caught : ℕ) → caught ≤ weight → caught ≤ passing reach.rate time → caught + part ≤ most)
         → value_in search (Detour track leave) ≤ most
     by_time reach weight time limit part most its light long behind gives bound =
         let arrive = arrival disk gap (Over track) in
-        let longer = mul-le (leave - arrive) reach.rate time reach.rate long (omega arith) in
+        let longer = more_in_time reach.rate (leave - arrive) time long in
         omega (
           arith,
           two_stays disk gap (Detour track leave) entries,
@@ -141,18 +143,17 @@ module _ (search : Search) where
   module _ (way : Way) (bins : Bins) (stop target : Stop) where
     -- what bounds each of its two stays bounds a plan
     pub are_bins : IsStop disk (on_track (early_track gap way) entries) stop → IsStop disk (on_track gap.target entries) target
-        → 0 < bins.leaves.now.bin_length → bins.leaves.now.begin ≡ stop.turning.from → stop.turning.from ≡ arrival disk gap way
+        → IsGrid bins.leaves.now.grid → length bins.leaves.now.firsts.now ≡ bins.leaves.now.grid.bins
+        → IsTable bins.early.now bins.leaves.now.grid.bins → IsTable bins.late.now bins.leaves.now.grid.bins
+        → bins.leaves.now.grid.begin ≡ stop.turning.from → stop.turning.from ≡ arrival disk gap way
         → bins.leaves.now.move_on ≡ move_on disk gap way
-        → AreSmallSums bins.early.now 16384 → AreSmallSums bins.late.now 16384
-        → ((leave : ℕ) → offered stop leave ≤ get_or bins.early.now (bin_at bins.leaves.now.begin bins.leaves.now.bin_length leave) 0)
-        → ((leave : ℕ) → bins.leaves.now.begin ≤ leave → IsBounded bins.leaves.now leave
+        → ((leave : ℕ) → offered stop leave ≤ get_or bins.early.now (bin_at bins.leaves.now.grid leave) 0)
+        → ((leave : ℕ) → bins.leaves.now.grid.begin ≤ leave → IsBounded bins.leaves.now leave
         → sum_by (late_gain target.turning gap (leave + bins.leaves.now.move_on)) target.offers.now
-        ≤ get_or bins.late.now (16383 - bin_at bins.leaves.now.begin bins.leaves.now.bin_length leave) 0)
+        ≤ get_or bins.late.now (bins.leaves.now.grid.bins - 1 - bin_at bins.leaves.now.grid leave) 0)
         → AreBins search way bins
-    are_bins its ends some begin arrive on small_early small_late early late = record {
-      some = some;
-      early = small_early;
-      late = small_late;
+    are_bins its ends grid firsts early_table late_table begin arrive on early late = record {
+      filled = record { grid = grid; firsts = firsts; early = early_table; late = late_table };
       most = λ leave is noted.
           let on_time = (bounds disk gap way leave is).0 in
           let from = stop.turning.from in

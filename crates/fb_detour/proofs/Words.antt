@@ -53,9 +53,9 @@ pub use Rattle.fb_plan.specs.declared.turning.Turning.{Turning}
 pub use Rattle.fb_plan.specs.declared.way.Way.{Way}
 pub use Rattle.fb_plan.specs.declared.way.Way.TheVariants.{Over, Source}
 pub use Rattle.fb_detour.specs.Bounds.{AreBins, AreSidesOf, AreSmallSums, IsBounded, bin_at}
-pub use Rattle.fb_detour.specs.Bounds.{AreNotes, IsAhead, IsCeiling, IsDetourIn, IsEnough, IsFound, IsKey, IsLate, IsNoBetter, IsNoWorseIn}
+pub use Rattle.fb_detour.specs.Bounds.{IsAhead, IsCeiling, IsDetourIn, IsEnough, IsFound, IsKey, IsLate, IsNoBetter, IsNoWorseIn}
 pub use Rattle.fb_detour.specs.Bounds.{IsNoWorseThanTrack, IsNoWorseThanTracks, IsReach, IsReady, IsStop, distance_to, early_to, late_gain}
-pub use Rattle.fb_detour.specs.Bounds.{late_most, late_step, missed, offered, part_at, slots_within, stay_gain, sum_of_first, turned_to}
+pub use Rattle.fb_detour.specs.Bounds.{late_most, late_step, missed, offered, part_at, passing, slots_within, stay_gain, sum_of_first, turned_to}
 pub use Rattle.fb_detour.specs.Bounds.{value_in}
 unfoldable pub use Rattle.fb_detour.specs.Bounds.{stay}
 pub use Rattle.fb_detour.specs.declared.bins.Bins.{Bins}

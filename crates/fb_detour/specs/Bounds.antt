@@ -4,6 +4,7 @@ use Rattle.std.specs.Prelude.{not, ◌&&◌, if◌then◌else◌}
 use Rattle.std.specs.List.{sum_by}
 use Rattle.fb_units.specs.declared.types.Sweep.{Sweep}
 use Rattle.fb_units.specs.declared.types.Track.{Track}
+use Rattle.fb_geometry.specs.Shape.{IsTrackOf}
 use Rattle.fb_seek.specs.Mechanics.{Mechanics}
 use Rattle.fb_seek.specs.Positioning.{distance_of, pos, seek}
 use Rattle.fb_service.specs.declared.disk.Disk.{Disk}
@@ -24,6 +25,7 @@ use Rattle.fb_plan.specs.declared.way.Way.TheVariants.{Over}
 use Rattle.fb_plan.specs.Ways.{IsNoWorse, AreOnDisk, IsGap, IsScored, IsWay, plan_by, early_track, arrival, move_on}
 use Rattle.fb_plan.specs.Turns.{added, passes_by, longest_stay, AreInTurn, AreSides, IsTurning, Stands}
 use Rattle.fb_detour.specs.declared.bins.Bins.{Bins}
+use Rattle.fb_detour.specs.declared.bins.Grid.{Grid}
 use Rattle.fb_detour.specs.declared.bins.Leaves.{Leaves}
 use Rattle.fb_detour.specs.declared.bounds.Moves.{Moves}
 use Rattle.fb_detour.specs.declared.bounds.Seeks.{Seeks}
@@ -31,6 +33,7 @@ use Rattle.fb_detour.specs.declared.candidates.Trial.{Trial}
 use Rattle.fb_detour.specs.declared.given.Search.{Search}
 use Rattle.fb_detour.specs.declared.intervals.Ceilings.{Ceilings}
 use Rattle.fb_detour.specs.declared.parts.LateParts.{LateParts}
+use Rattle.fb_detour.specs.declared.rate.Rate.{Rate}
 use Rattle.fb_detour.specs.declared.steps.Reach.{Reach}
 use Rattle.fb_detour.specs.declared.stop.Stop.{Stop}
 
@@ -145,36 +148,52 @@ pub record AreCeilings (search : Search) (way : Way) (ceilings : Ceilings) : Typ
   pub most : (leave : ℕ) → IsPlan search.disk.now search.gap.now (plan_by way leave)
       → value_in search (plan_by way leave) ≤ ceiling_at ceilings leave
 
--- the bin in which an instant lies, by when the first one begins and how long each is; the last one has no end
-abbrev pub bin_at : ℕ → ℕ → ℕ → ℕ
-bin_at begin bin_length instant = min ((instant - begin) / bin_length) 16383
+-- so many numbers, each of which is small
+pub record IsTable (numbers : List ℕ) (count : ℕ) : Type 0 where
+  pub whole : length numbers ≡ count
+  pub small : AreSmallSums numbers count
 
--- bins have a length, and the head that leaves the track on arrival comes there and to the target within the gap
+-- the bin in which an instant lies; the last one has no end
+abbrev pub bin_at : Grid → ℕ → ℕ
+bin_at grid instant = min ((instant - grid.begin) / 2 ^ grid.shift) (grid.bins - 1)
+
+-- there is a bin
+pub record IsGrid (grid : Grid) : Type 0 where
+  pub some : 0 < grid.bins
+  pub short : grid.shift < 64
+
+-- each bin has a first leave, and the head that leaves the track on arrival comes there and to the target within the gap
 pub record AreLeaves (search : Search) (leaves : Leaves) : Type 0 where
-  pub some : 0 < leaves.bin_length
-  pub after : search.gap.now.now ≤ leaves.begin
-  pub in_time : leaves.begin + leaves.move_on ≤ search.gap.now.deadline
+  pub grid : IsGrid leaves.grid
+  pub whole : length leaves.firsts.now ≡ leaves.grid.bins
+  pub after : search.gap.now.now ≤ leaves.grid.begin
+  pub in_time : leaves.grid.begin + leaves.move_on ≤ search.gap.now.deadline
 
 -- the leave is no earlier than the first one in its bin, so that the bin's bounds hold for it
 abbrev pub IsBounded : Leaves → ℕ → Type 0
-IsBounded leaves leave = get_or leaves.firsts.now (bin_at leaves.begin leaves.bin_length leave) 0 ≤ leave
+IsBounded leaves leave = get_or leaves.firsts.now (bin_at leaves.grid leave) 0 ≤ leave
 
 -- the last bins, so many, have no leave from which the head still catches what passes so at the target
 abbrev pub AreTooLate : Search → Turning → Leaves → Sweep → ℕ → Type 0
-AreTooLate search target leaves sweep bins = (leave : ℕ) → leaves.begin ≤ leave → IsBounded leaves leave
+AreTooLate search target leaves sweep bins = (leave : ℕ) → leaves.grid.begin ≤ leave → IsBounded leaves leave
     → passes_by (turned_to target (leave + leaves.move_on)) search.gap.now.deadline sweep ≡ true
-    → bins + bin_at leaves.begin leaves.bin_length leave < 16384
+    → bins + bin_at leaves.grid leave < leaves.grid.bins
 
 -- what the track and the target give at most to a head that leaves in the instant's bin
 abbrev pub bin_ceiling : Bins → ℕ → ℕ
-bin_ceiling bins leave = get_or bins.early.now (bin_at bins.leaves.now.begin bins.leaves.now.bin_length leave) 0
-    + get_or bins.late.now (16383 - bin_at bins.leaves.now.begin bins.leaves.now.bin_length leave) 0
+bin_ceiling bins leave = get_or bins.early.now (bin_at bins.leaves.now.grid leave) 0
+    + get_or bins.late.now (bins.leaves.now.grid.bins - 1 - bin_at bins.leaves.now.grid leave) 0
+
+-- each bin has a first leave, and two bounds
+pub record AreFilled (bins : Bins) : Type 0 where
+  pub grid : IsGrid bins.leaves.now.grid
+  pub firsts : length bins.leaves.now.firsts.now ≡ bins.leaves.now.grid.bins
+  pub early : IsTable bins.early.now bins.leaves.now.grid.bins
+  pub late : IsTable bins.late.now bins.leaves.now.grid.bins
 
 -- no plan of the way is worth more than the ceiling of its bin, if it leaves no earlier than that bin's first leave
 pub record AreBins (search : Search) (way : Way) (bins : Bins) : Type 0 where
-  pub some : 0 < bins.leaves.now.bin_length
-  pub early : AreSmallSums bins.early.now 16384
-  pub late : AreSmallSums bins.late.now 16384
+  pub filled : AreFilled bins
   pub most : (leave : ℕ) → IsPlan search.disk.now search.gap.now (plan_by way leave) → IsBounded bins.leaves.now leave
       → value_in search (plan_by way leave) ≤ bin_ceiling bins leave
 
@@ -191,10 +210,6 @@ IsNoBetter trial best leave =
     leave + move_on trial.search.now.disk.now trial.search.now.gap.now trial.way ≤ trial.search.now.gap.now.deadline
     → IsNoWorseIn trial.search.now best (plan_by trial.way leave)
 
--- no leave that is noted is better than the best so far
-abbrev pub AreNotes : Trial → Plan → List ℕ → Type 0
-AreNotes trial best notes = (k : ℕ) → k < length notes → IsNoBetter trial best (get_or notes k 0)
-
 -- the stop weighs what its offers are worth together, and each of them passes once a rotation, from where the platter stands on
 -- arrival
 pub record IsReady (stop : Stop) : Type 0 where
@@ -203,8 +218,9 @@ pub record IsReady (stop : Stop) : Type 0 where
   pub in_turn : AreInTurn stop.turning.rotation stop.offers.now
   pub stands : Stands stop.turning
 
--- the stop offers what these blocks do, all of which lie on the disk, and its platter is the disk's
+-- the stop, on a track of the disk, offers what these blocks do, all of which lie on the disk, and its platter is the disk's
 pub record IsStop (disk : Disk) (blocks : List Entry) (stop : Stop) : Type 0 where
+  pub track : IsTrackOf disk.map stop.track
   pub ready : IsReady stop
   pub its : AreOffers stop.offers.now blocks
   pub on_disk : AreOnDisk disk blocks
@@ -251,17 +267,20 @@ pub record AreSeeks (arm : Mechanics) (gap : Gap) (cylinder : ℕ) (seeks : Seek
   pub short_there : seeks.there ≤ 10 ^ 9
   pub short_on : seeks.on ≤ 10 ^ 9
 
--- no stay on the track catches more in each nanosecond, in units of 2^-24
-abbrev pub IsRate : Disk → List Entry → Track → ℕ → Type 0
-IsRate disk entries track rate = (from upto : ℕ)
-    → stay disk (early_to track from upto) entries * 2 ^ 24 ≤ (upto - from) * rate
+-- what passes at a rate in a time
+abbrev pub passing : Rate → ℕ → ℕ
+passing rate time = rate.depth * (time / rate.share)
+
+-- no stay on the track catches more than passes at the rate
+abbrev pub IsRate : Disk → List Entry → Track → Rate → Type 0
+IsRate disk entries track rate = (from upto : ℕ) → stay disk (early_to track from upto) entries ≤ passing rate (upto - from)
 
 -- the same for each track of these cylinders
-abbrev pub AreRated : Search → ℕ → ℕ → ℕ → Type 0
+abbrev pub AreRated : Search → ℕ → ℕ → Rate → Type 0
 AreRated search from end rate = (track : Track) → from ≤ track.cylinder → track.cylinder < end
     → IsRate search.disk.now search.wanted.now track rate
 
--- no detour over the track reaches the target earlier, nor is more caught on the track in each nanosecond
+-- no detour over the track reaches the target earlier, nor is more caught on the track than passes at its rate
 abbrev pub IsReach : Search → Track → Reach → Type 0
 IsReach search track reach =
     (reach.at_target ≤ arrival search.disk.now search.gap.now (Over track) + move_on search.disk.now search.gap.now (Over track))

@@ -1,14 +1,14 @@
 // The plans of a way that can be better than the best so far.
-ghost use Rattle.std.specs.Prelude.{◌≡◌, ◌<◌, ◌≤◌, ◌^◌, ◌⊎◌, true, IfSome};
+ghost use Rattle.std.specs.Prelude.{◌≡◌, ◌<◌, ◌≤◌, ◌^◌, ◌⊎◌, true, IfOk, IfSome};
 ghost use Rattle.fb_geometry.specs.Shape.{IsTrackOf};
 ghost use Rattle.fb_model.specs.Plans.{IsNoLater, IsPlan};
 ghost use Rattle.fb_plan.specs.declared.way.Way.{Way};
 ghost use Rattle.fb_plan.specs.Ways.{IsWay, plan_by, arrival, early_track};
-ghost use Rattle.fb_detour.specs.Bounds.{AreBins, AreCeilings, AreNotes, IsFound, IsNoBetter, IsNoWorseIn, IsNoWorseThanWay};
+ghost use Rattle.fb_detour.specs.Bounds.{AreBins, AreCeilings, IsFound, IsGrid, IsNoBetter, IsNoWorseIn, IsNoWorseThanWay};
 ghost use Rattle.fb_detour.specs.Bounds.{IsReady, IsSearch, IsStopOf, IsTrial, value_in};
 
 use crate::bins::{
-    Bins, Leaves, NEVER, bin_at, bin_length_on, bound_at, early_bins, firsts_of, fullest, late_bins,
+    Bins, Grid, Leaves, bin_at, bound_at, early_bins, firsts_of, fullest, grid_on, late_bins,
 };
 use crate::given::Search;
 use crate::intervals::{Ceilings, ceiling_at, ceilings_of};
@@ -18,7 +18,7 @@ use fb_plan::{
 };
 use fb_rows::Gap;
 use fb_service::Disk;
-use fb_units::Ns;
+use fb_units::{NoMemory, Ns};
 use fb_wanted::Wanted;
 
 // Whether the plan of the way that leaves at this instant, of no more value than the ceiling, is no
@@ -90,78 +90,23 @@ fn try_leave(trial: &Trial, bins: Option<&Bins>, leave: Ns, best: Scored) -> Sco
     )
 }
 
-// Into how many parts two rotations are divided to note which leaves were tried.
-const NOTED: usize = 1_024;
-
-// The index of a leave's note: the number of the part of two rotations in which the head leaves, counted from
-// its arrival. What next passes from then on ends within these. So leaves share a note only if less than a part
-// lies between them.
-fn note_of(disk: &Disk, ceilings: &Ceilings, leave: Ns) -> usize
-    ensures { result < 1024 }
-{
-    let rotation = disk.map.geometry().rotation();
-    let part = 2 * rotation / NOTED as u64 + 1;
-    let past = leave.saturating_sub(ceilings.begin);
-    (past / part).min(NOTED as u64 - 1) as usize
-}
-
-// Tries to leave at an instant, unless that is noted, and notes it. There are as many notes as parts, or
-// none.
-fn try_once(trial: &Trial, bins: Option<&Bins>, leave: Ns, notes: &mut [Ns], best: Scored) -> Scored
-    requires trial { IsTrial trial.now }
-    requires bins { IfSome bins (λ bins. AreBins trial.now.search.now trial.now.way bins.now) }
-    requires after { trial.now.ceilings.now.begin ≤ leave }
-    requires soon { leave ≤ 10 ^ 19 }
-    requires best { IsFound trial.now.search.now best }
-    requires notes { AreNotes trial.now best.plan notes.old }
-    ensures scored { IsFound trial.now.search.now result }
-    ensures keeps { IsNoWorseIn trial.now.search.now result.plan best.plan }
-    ensures tried { IsNoBetter trial.now result.plan leave }
-    ensures notes { AreNotes trial.now result.plan notes.new }
-{
-    if notes.len() < NOTED {
-        return try_leave(trial, bins, leave, best);
-    }
-    let note = note_of(trial.search.disk, trial.ceilings, leave);
-    if notes[note] == leave {
-        return best;
-    }
-    notes[note] = leave;
-    try_leave(trial, bins, leave, best)
-}
-
-// Tries all plans of a way: the leave on arrival, and for each block that at its end. Blocks of many tasks
-// that end in one slot share a leave; where there are notes, most leaves are tried once.
-fn try_each(trial: &Trial, bins: Option<&Bins>, notes: &mut [Ns], best: Scored) -> Scored
+// Tries all plans of a way: the leave on arrival, and for each block that at its end.
+fn try_each(trial: &Trial, bins: Option<&Bins>, best: Scored) -> Scored
     requires trial { IsTrial trial.now }
     requires bins { IfSome bins (λ bins. AreBins trial.now.search.now trial.now.way bins.now) }
     requires best { IsFound trial.now.search.now best }
-    requires notes { AreNotes trial.now best.plan notes.old }
     ensures scored { IsFound trial.now.search.now result }
     ensures keeps { IsNoWorseIn trial.now.search.now result.plan best.plan }
     ensures tried { IsNoWorseThanWay trial.now.search.now trial.now.way result.plan }
 {
     let sides = trial.sides;
     let offers = sides.early.offers();
-    let mut best = try_once(trial, bins, trial.ceilings.begin, notes, best);
+    let mut best = try_leave(trial, bins, trial.ceilings.begin, best);
     for offer in offers {
         let end = sides.turning.end(offer.sweep);
-        best = try_once(trial, bins, end, notes, best);
+        best = try_leave(trial, bins, end, best);
     }
     best
-}
-
-// Tries all plans of a way whose track has many blocks, with notes.
-fn try_noted(trial: &Trial, bins: Option<&Bins>, best: Scored) -> Scored
-    requires trial { IsTrial trial.now }
-    requires bins { IfSome bins (λ bins. AreBins trial.now.search.now trial.now.way bins.now) }
-    requires best { IsFound trial.now.search.now best }
-    ensures scored { IsFound trial.now.search.now result }
-    ensures keeps { IsNoWorseIn trial.now.search.now result.plan best.plan }
-    ensures tried { IsNoWorseThanWay trial.now.search.now trial.now.way result.plan }
-{
-    let mut notes = [NEVER; NOTED];
-    try_each(trial, bins, &mut notes, best)
 }
 
 // Tries the leaves of the bin that promises most.
@@ -179,7 +124,7 @@ fn try_fullest(trial: &Trial, bins: &Bins, stop: &Stop, best: Scored) -> Scored
     let mut best = best;
     for offer in stop.offers {
         let end = stop.turning.end(offer.sweep);
-        if bin_at(bins.leaves.begin, bins.leaves.bin_length, end) == most {
+        if bin_at(bins.leaves.grid, end) == most {
             best = try_leave(trial, Some(bins), end, best);
         }
     }
@@ -199,38 +144,39 @@ fn try_binned(trial: &Trial, bins: &Bins, stop: &Stop, best: Scored) -> Scored
     ensures tried { IsNoWorseThanWay trial.now.search.now trial.now.way result.plan }
 {
     let best = try_fullest(trial, bins, stop, best);
-    try_noted(trial, Some(bins), best)
+    try_each(trial, Some(bins), best)
 }
 
-// Tries all plans of a way by bins.
-fn try_many(trial: &Trial, stop: &Stop, best: Scored) -> Scored
+// Tries all plans of a way by bins. The only error is `NoMemory`.
+fn try_many(trial: &Trial, stop: &Stop, grid: Grid, best: Scored) -> Result<Scored, NoMemory>
     requires trial { IsTrial trial.now }
     requires stop { IsStopOf trial.now.search.now trial.now.way stop.now }
     requires from { stop.now.turning.from ≡ trial.now.ceilings.now.begin }
+    requires grid { IsGrid grid }
+    requires begin { grid.begin ≡ stop.now.turning.from }
     requires best { IsFound trial.now.search.now best }
-    ensures scored { IsFound trial.now.search.now result }
-    ensures keeps { IsNoWorseIn trial.now.search.now result.plan best.plan }
-    ensures tried { IsNoWorseThanWay trial.now.search.now trial.now.way result.plan }
+    ensures scored { IfOk result (IsFound trial.now.search.now) }
+    ensures keeps { IfOk result (λ found. IsNoWorseIn trial.now.search.now found.plan best.plan) }
+    ensures tried { IfOk result (λ found. IsNoWorseThanWay trial.now.search.now trial.now.way found.plan) }
 {
     let search = trial.search;
     let gap = search.gap;
+    let alloc = search.wanted.alloc();
     let target = stop_at(search.disk, &trial.sides.late, gap.target, gap.now);
-    let bin_length = bin_length_on(search.disk);
-    let firsts = firsts_of(stop, bin_length);
+    let firsts = firsts_of(alloc, stop, grid)?;
     let leaves = Leaves {
-        begin: stop.turning.from,
+        grid,
         move_on: trial.ceilings.move_on,
-        bin_length,
-        firsts: &firsts,
+        firsts: firsts.as_slice(),
     };
-    let early = early_bins(stop, bin_length);
-    let late = late_bins(search, &target, &leaves);
+    let early = early_bins(alloc, stop, grid)?;
+    let late = late_bins(alloc, search, &target, &leaves)?;
     let bins = Bins {
         leaves: &leaves,
-        early: &early,
-        late: &late,
+        early: early.as_slice(),
+        late: late.as_slice(),
     };
-    try_binned(trial, &bins, stop, best)
+    Ok(try_binned(trial, &bins, stop, best))
 }
 
 // Tries to leave on arrival, and as late as there is time.
@@ -246,12 +192,19 @@ fn try_both_ends(trial: &Trial, best: Scored) -> Scored
     try_leave(trial, None, latest, best)
 }
 
-// So many leaves are valued one by one, which takes less than to fill bins.
-const MOST_OPEN: usize = 16;
+// So many leaves are valued one by one, without a look at how many bins there would be.
+const FEW: usize = 16;
+
+// How many leaves are valued one by one, at most: so many that it takes as long as to fill the bins.
+fn most_open(trial: &Trial, stop: &Stop, grid: Grid) -> usize {
+    let offers = stop.offers.len();
+    let valued = offers.saturating_add(trial.sides.late.offers().len());
+    FEW.saturating_add(grid.bins.saturating_mul(2) / valued.max(1))
+}
 
 // Whether the intervals leave it open for more leaves than that, of those in time, whether they are better than
 // the best so far.
-fn are_many_open(trial: &Trial, stop: &Stop, best: Scored) -> bool
+fn are_many_open(trial: &Trial, stop: &Stop, most: usize, best: Scored) -> bool
     requires trial { IsTrial trial.now }
     requires stop { IsReady stop.now }
     requires from { stop.now.turning.from ≡ trial.now.ceilings.now.begin }
@@ -264,14 +217,15 @@ fn are_many_open(trial: &Trial, stop: &Stop, best: Scored) -> bool
         if end <= latest && !is_no_better(best, ceiling, trial.way, end) {
             open = open.saturating_add(1);
         }
-        if MOST_OPEN < open {
+        if most < open {
             return true;
         }
     }
     false
 }
 
-// Tries all plans of a way whose track has many blocks, by bins where the intervals leave many of them open.
+// Tries all plans of a way whose track has many blocks: by bins where the intervals leave many of them open and
+// there is memory for bins, and else one by one.
 fn try_dense(trial: &Trial, stop: &Stop, best: Scored) -> Scored
     requires trial { IsTrial trial.now }
     requires stop { IsStopOf trial.now.search.now trial.now.way stop.now }
@@ -282,17 +236,14 @@ fn try_dense(trial: &Trial, stop: &Stop, best: Scored) -> Scored
     ensures tried { IsNoWorseThanWay trial.now.search.now trial.now.way result.plan }
 {
     let best = try_both_ends(trial, best);
-    if are_many_open(trial, stop, best) {
-        return try_many(trial, stop, best);
+    let grid = grid_on(trial.search.disk, stop);
+    if are_many_open(trial, stop, most_open(trial, stop, grid), best) {
+        if let Ok(found) = try_many(trial, stop, grid, best) {
+            return found;
+        }
     }
-    try_noted(trial, None, best)
+    try_each(trial, None, best)
 }
-
-// So many offers of a track are tried without notes, which take longer to clear than they spare.
-const MOST_WITHOUT_NOTES: usize = 16;
-
-// So many are tried without bins, which take longer to clear and to fill than they spare.
-const UNBINNED: usize = 512;
 
 // Tries all plans of a way.
 pub fn try_leaves(
@@ -321,12 +272,8 @@ pub fn try_leaves(
         sides: &both,
         ceilings,
     };
-    let offers = stop.offers.len();
-    if offers <= MOST_WITHOUT_NOTES {
-        return try_each(&trial, None, &mut [], best);
-    }
-    if offers <= UNBINNED {
-        return try_noted(&trial, None, best);
+    if stop.offers.len() <= FEW {
+        return try_each(&trial, None, best);
     }
     try_dense(&trial, stop, best)
 }

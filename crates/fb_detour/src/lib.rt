@@ -15,6 +15,7 @@ mod intervals;
 mod leaves;
 mod missing;
 mod parts;
+mod rate;
 mod search;
 mod steps;
 mod stop;

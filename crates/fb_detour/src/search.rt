@@ -1,6 +1,6 @@
 // The search over tracks: a track is passed over where it is shown that no detour over it is better
 // than the best so far.
-ghost use Rattle.std.specs.Prelude.{◌≡◌, ◌+◌, ◌*◌, ◌≤◌, ◌<◌, ◌^◌, ◌⊎◌, ℕ, get_or, false};
+ghost use Rattle.std.specs.Prelude.{◌≡◌, ◌+◌, ◌-◌, ◌*◌, ◌≤◌, ◌<◌, ◌^◌, ◌⊎◌, ℕ, get_or, false};
 ghost use Rattle.fb_units.specs.declared.types.Track.{Track};
 ghost use Rattle.fb_units.specs.Tracks.{same_track};
 ghost use Rattle.fb_geometry.specs.Shape.{IsTrackOf};
@@ -16,6 +16,7 @@ use crate::intervals::ceilings_of;
 use crate::leaves::none_is_better;
 use crate::missing::misses_enough;
 use crate::parts::late_at;
+use crate::rate::Rate;
 use crate::steps::{Reach, most_by_steps, most_over, rate_in, rate_over, reach_by};
 use crate::stop::stop_at;
 use fb_plan::{Scored, Way, blocks_on, is_same};
@@ -88,7 +89,7 @@ fn try_track(search: &Search, track: Track, seeks: Seeks, reach: Reach, best: Sc
 }
 
 // Tries the tracks of a cylinder.
-fn try_cylinder(search: &Search, cylinder: u32, rate: u64, best: Scored) -> Scored
+fn try_cylinder(search: &Search, cylinder: u32, rate: Rate, best: Scored) -> Scored
     requires cylinder { cylinder < search.now.disk.now.mechanism.cylinders }
     requires rate { AreRated search.now cylinder (cylinder + 1) rate }
     requires search { IsSearch search.now }
@@ -111,20 +112,39 @@ fn try_cylinder(search: &Search, cylinder: u32, rate: u64, best: Scored) -> Scor
 // Into how many parts a range of cylinders is divided, at most.
 const RANGE_PARTS: usize = 8;
 
-// How many cylinders each part of a range of so many has: a power of 8, so that parts and bands of
-// cylinders begin together.
-fn width_of(cylinders: u32) -> u32
-    requires some { 1 < cylinders }
-    requires few { cylinders ≤ 10 ^ 6 }
-    ensures some { 0 < result }
-    ensures less { result < cylinders }
-    ensures whole { cylinders ≤ 8 * result }
+// Cylinders that are next to one another, at most 8 to the power of their level.
+#[derive(Clone, Copy)]
+struct Range {
+    from: u32,
+    end: u32,
+    // How often they are divided, at most, until each stands alone.
+    level: u32,
+}
+
+// The level of all cylinders of the largest disk.
+const TOP_LEVEL: u32 = 7;
+
+// How many cylinders a range of this level has at most: a power of 8, so that parts and bands of cylinders begin
+// together.
+fn width_of(level: u32) -> u32
+    requires shallow { level ≤ 7 }
+    ensures { result ≡ 8 ^ level }
 {
-    let mut width = 1;
-    while width * 8 < cylinders {
-        width *= 8;
+    8u32.pow(level)
+}
+
+// The least level of so many cylinders.
+fn level_of(cylinders: u32) -> u32
+    requires few { cylinders ≤ 10 ^ 6 }
+    ensures shallow { result ≤ 7 }
+    ensures whole { cylinders ≤ 8 ^ result }
+{
+    for level in 0..TOP_LEVEL {
+        if cylinders <= width_of(level) {
+            return level;
+        }
     }
-    width
+    TOP_LEVEL
 }
 
 // For each part of the range an upper bound on the value of detours over it, in one number with the
@@ -135,7 +155,7 @@ fn keys_of(
     from: u32,
     end: u32,
     width: u32,
-    rate: u64,
+    rate: Rate,
     known: u64,
 ) -> [u64; RANGE_PARTS]
     requires within { end ≤ search.now.disk.now.mechanism.cylinders }
@@ -158,7 +178,7 @@ fn keys_of(
 }
 
 // An upper bound on the value of detours over the tracks of these cylinders, if there are any.
-fn most_within(search: &Search, from: u32, end: u32, rate: u64, known: u64) -> u64
+fn most_within(search: &Search, from: u32, end: u32, rate: Rate, known: u64) -> u64
     requires cylinders { end ≤ search.now.disk.now.mechanism.cylinders }
     requires search { IsSearch search.now }
     requires rate { AreRated search.now from end rate }
@@ -198,17 +218,20 @@ fn greater_below(key: u64, other: u64, below: u64) -> u64
 
 // Tries the tracks of these cylinders, if their upper bound leaves it open whether one is better
 // than the best so far: part by part, that with the greatest bound first.
-fn visit(search: &Search, from: u32, end: u32, most: u64, rate: u64, best: Scored) -> Scored
-    requires within { end ≤ search.now.disk.now.mechanism.cylinders }
+fn visit(search: &Search, range: Range, most: u64, rate: Rate, best: Scored) -> Scored
+    requires within { range.end ≤ search.now.disk.now.mechanism.cylinders }
     requires few { search.now.disk.now.mechanism.cylinders ≤ 10 ^ 6 }
-    requires most { IsCeiling search.now from end most }
+    requires shallow { range.level ≤ 7 }
+    requires whole { range.end - range.from ≤ 8 ^ range.level }
+    requires most { IsCeiling search.now range.from range.end most }
     requires search { IsSearch search.now }
-    requires rate { AreRated search.now from end rate }
+    requires rate { AreRated search.now range.from range.end rate }
     requires best { IsFound search.now best }
     ensures scored { IsFound search.now result }
     ensures keeps { IsNoWorseIn search.now result.plan best.plan }
-    ensures tried { IsNoWorseThanTracks search.now result.plan from end }
+    ensures tried { IsNoWorseThanTracks search.now result.plan range.from range.end }
 {
+    let Range { from, end, level } = range;
     if end <= from {
         return best;
     }
@@ -219,7 +242,8 @@ fn visit(search: &Search, from: u32, end: u32, most: u64, rate: u64, best: Score
         return try_cylinder(search, from, rate, best);
     }
     let own = rate_in(search, from, end, rate);
-    let width = width_of(end - from);
+    let below = level - 1;
+    let width = width_of(below);
     let keys = keys_of(search, from, end, width, own, best.value);
     let mut best = best;
     let mut key = next_below(&keys, u64::MAX);
@@ -231,7 +255,12 @@ fn visit(search: &Search, from: u32, end: u32, most: u64, rate: u64, best: Score
         let begin = from + (7 - (key - 1) % 8) as u32 * width;
         let behind = begin + width;
         let upto = end.min(behind);
-        best = visit(search, begin, upto, most, own, best);
+        let part = Range {
+            from: begin,
+            end: upto,
+            level: below,
+        };
+        best = visit(search, part, most, own, best);
         key = next_below(&keys, key);
     }
     best
@@ -250,5 +279,10 @@ pub fn try_all(search: &Search, best: Scored) -> Scored
     let end = geometry.cylinders();
     let rate = rate_over(search.disk, search.wanted, 0, end);
     let most = most_within(search, 0, end, rate, best.value);
-    visit(search, 0, end, most, rate, best)
+    let all = Range {
+        from: 0,
+        end,
+        level: level_of(end),
+    };
+    visit(search, all, most, rate, best)
 }

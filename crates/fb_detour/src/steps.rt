@@ -5,36 +5,28 @@ ghost use Rattle.fb_units.specs.declared.types.Track.{Track};
 ghost use Rattle.fb_rows.specs.declared.gap.Plan.{Plan};
 ghost use Rattle.fb_wanted.specs.Tracks.{wanted_weight};
 ghost use Rattle.fb_plan.specs.Ways.{AreOnDisk};
-ghost use Rattle.fb_detour.specs.Bounds.{value_in, AreRated, AreSeeks, AreSmallSums, IsCeiling, IsDetourIn, IsRate, IsReach, IsSearch};
+ghost use Rattle.fb_detour.specs.Bounds.{passing, value_in, AreRated, AreSeeks, AreSmallSums, IsCeiling, IsDetourIn, IsRate, IsReach};
+ghost use Rattle.fb_detour.specs.Bounds.{IsSearch};
 
 use crate::bounds::{Seeks, first_track_on, least_moves, most_depth, most_slots};
 use crate::given::Search;
 use crate::parts::{GAP_PARTS, LateParts};
+use crate::rate::Rate;
 use fb_service::Disk;
 use fb_units::{Ns, Track};
 use fb_wanted::{BAND, Wanted};
-
-// The unit of rates: one for each ns.
-const UNIT: u64 = 1 << 24;
-
-// At this rate or more the product of a rate and a time may overflow a `u64`: then it bounds nothing.
-const FAST: u64 = 1 << 31;
-
-// In this time or more, in ns, it may overflow as well.
-const LONG: Ns = 1 << 32;
 
 // What bounds a detour.
 #[derive(Clone, Copy)]
 pub struct Reach {
     // When it reaches the target at the earliest, in ns.
     pub at_target: Ns,
-    // An upper bound on what passes in each ns on its track, in units of 2^-24.
-    pub rate: u64,
+    // An upper bound on what passes on its track.
+    pub rate: Rate,
 }
 
-// An upper bound on what passes in each ns on a track of these cylinders, in units of 2^-24: one sector for
-// each least length of a slot, with the most weight that is wanted of one sector.
-pub fn rate_over(disk: &Disk, wanted: &Wanted, from: u32, end: u32) -> u64
+// An upper bound on what passes on a track of these cylinders.
+pub fn rate_over(disk: &Disk, wanted: &Wanted, from: u32, end: u32) -> Rate
     requires some { from < end }
     requires cylinders { end ≤ disk.now.mechanism.cylinders }
     requires blocks { AreOnDisk disk.now wanted.now }
@@ -44,14 +36,15 @@ pub fn rate_over(disk: &Disk, wanted: &Wanted, from: u32, end: u32) -> u64
     geometry.sound();
     geometry.own_places();
     let first = first_track_on(from);
-    let depth = most_depth(wanted, from, end, first);
-    let share = geometry.rotation() / most_slots(disk, from, end, first) as u64;
-    (depth * UNIT).div_ceil(share)
+    Rate {
+        depth: most_depth(wanted, from, end, first),
+        share: geometry.rotation() / most_slots(disk, from, end, first) as u64,
+    }
 }
 
 // A rate for these cylinders, from one that is known for them: if they are fewer than a band has, that
 // rate, else one of their own.
-pub fn rate_in(search: &Search, from: u32, end: u32, known: u64) -> u64
+pub fn rate_in(search: &Search, from: u32, end: u32, known: Rate) -> Rate
     requires some { from < end }
     requires cylinders { end ≤ search.now.disk.now.mechanism.cylinders }
     requires search { IsSearch search.now }
@@ -65,7 +58,7 @@ pub fn rate_in(search: &Search, from: u32, end: u32, known: u64) -> u64
 }
 
 // The reach of detours over these cylinders, by their rate.
-fn reach_of(search: &Search, from: u32, end: u32, rate: u64) -> Reach
+fn reach_of(search: &Search, from: u32, end: u32, rate: Rate) -> Reach
     requires some { from < end }
     requires cylinders { end ≤ search.now.disk.now.mechanism.cylinders }
     requires search { IsSearch search.now }
@@ -80,7 +73,7 @@ fn reach_of(search: &Search, from: u32, end: u32, rate: u64) -> Reach
 }
 
 // The reach of detours over a cylinder, by the times of the seeks there and on and by its rate.
-pub fn reach_by(search: &Search, cylinder: u32, seeks: Seeks, rate: u64) -> Reach
+pub fn reach_by(search: &Search, cylinder: u32, seeks: Seeks, rate: Rate) -> Reach
     requires cylinder { cylinder < search.now.disk.now.mechanism.cylinders }
     requires seeks { AreSeeks search.now.disk.now.mechanism search.now.gap.now cylinder seeks }
     requires search { IsSearch search.now }
@@ -103,17 +96,11 @@ pub fn reach_by(search: &Search, cylinder: u32, seeks: Seeks, rate: u64) -> Reac
 }
 
 // The most that a track of this weight gives in a time, at this rate.
-fn caught_in(rate: u64, weight: u64, time: Ns) -> u64
-    ensures most { (caught : ℕ) → caught ≤ weight → caught * 2 ^ 24 ≤ time * rate → caught ≤ result }
+fn caught_in(rate: Rate, weight: u64, time: Ns) -> u64
+    ensures most { (caught : ℕ) → caught ≤ weight → caught ≤ passing rate time → caught ≤ result }
     ensures small { result ≤ weight }
 {
-    if FAST <= rate {
-        return weight;
-    }
-    if LONG <= time {
-        return weight;
-    }
-    let passed = time * rate / UNIT;
+    let passed = rate.depth.saturating_mul(time / rate.share);
     weight.min(passed)
 }
 
@@ -123,7 +110,7 @@ fn worth_by_step(late: &LateParts, k: usize, reach: Reach, weight: u64) -> u64
     requires part { k < 32 }
     requires parts { AreSmallSums late.now.parts 32 }
     requires light { weight ≤ 16000000 * 2048000 }
-    ensures most { (caught time : ℕ) → caught ≤ weight → caught * 2 ^ 24 ≤ time * reach.rate
+    ensures most { (caught time : ℕ) → caught ≤ weight → caught ≤ passing reach.rate time
         → reach.at_target + time < get_or late.now.limits (k + 1) 0 → caught + get_or late.now.parts k 0 ≤ result }
     ensures small { result ≤ 2 * (16000000 * 2048000) }
 {
@@ -177,7 +164,7 @@ pub fn most_by_steps(search: &Search, reach: Reach, weight: u64, known: u64) -> 
 
 // An upper bound on the value of detours over the tracks of these cylinders. It is found without a
 // look at the times of moves where even the weights are less than `known`.
-pub fn most_over(search: &Search, from: u32, end: u32, rate: u64, known: u64) -> u64
+pub fn most_over(search: &Search, from: u32, end: u32, rate: Rate, known: u64) -> u64
     requires some { from < end }
     requires cylinders { end ≤ search.now.disk.now.mechanism.cylinders }
     requires search { IsSearch search.now }

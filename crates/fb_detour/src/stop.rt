@@ -1,5 +1,6 @@
 // A stop of the head on a track, on its way to the target.
 ghost use Rattle.std.specs.Prelude.{◌≡◌, ◌*◌, ◌≤◌, ◌^◌};
+ghost use Rattle.fb_geometry.specs.Shape.{IsTrackOf};
 ghost use Rattle.fb_plan.specs.Ways.{AreOnDisk};
 ghost use Rattle.fb_detour.specs.Bounds.{IsStop};
 
@@ -23,6 +24,7 @@ pub struct Stop<'a> {
 
 // The stop on a track with these blocks that begins at the instant `arrive`, in ns.
 pub fn stop_at<'a>(disk: &Disk, blocks: &TrackBlocks<'a>, track: Track, arrive: Ns) -> Stop<'a>
+    requires track { IsTrackOf disk.now.map track }
     requires on_disk { AreOnDisk disk.now blocks.now }
     requires early { arrive ≤ 9 * 10 ^ 18 }
     ensures stop { IsStop disk.now blocks.now result }

@@ -392,6 +392,11 @@ impl Wanted {
         }
     }
 
+    /// Where the memory for the blocks is taken from. Whoever looks for a plan takes its tables from there.
+    pub fn alloc(&self) -> Global {
+        self.alloc
+    }
+
     /// Registers a block, wanted or suspended, behind all others; its index is the next of its
     /// task. There are at most 16,000,000 blocks, each of at most 2,048 sectors and weight 1,000. Out
     /// of memory, it returns `NoMemory` and nothing has changed.

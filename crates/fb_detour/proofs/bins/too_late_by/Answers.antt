@@ -6,8 +6,8 @@ pub returns-then-latest-leaves : goal.returns-then-latest-leaves
 returns-then-latest-leaves c = λ leave after noted by.
     let leaves = c.args.leaves.now in
     let k = c.bin_at-k.result in
-    let own = bin_at leaves.begin leaves.bin_length leave in
-    let no_later = no_earlier_bin leaves.begin leaves.bin_length leave (c.args.last - leaves.move_on) c.requires.some (omega (arith, by)) in
+    let own = bin_at leaves.grid leave in
+    let no_later = no_earlier_bin leaves.grid leave (c.args.last - leaves.move_on) (omega (arith, by)) in
     elim (cases_lt own k) [
       | inl less ↦ omega (arith, less, c.bin_at-k.ensures.within)
       | inr more ↦
@@ -19,5 +19,5 @@ returns-then-latest-leaves c = λ leave after noted by.
 pub returns : goal.returns
 returns c = λ leave after noted by.
     let leaves = c.args.leaves.now in
-    let no_later = no_earlier_bin leaves.begin leaves.bin_length leave (c.args.last - leaves.move_on) c.requires.some (omega (arith, by)) in
+    let no_later = no_earlier_bin leaves.grid leave (c.args.last - leaves.move_on) (omega (arith, by)) in
     omega (arith, no_later, c.bin_at-k.ensures.value, c.bin_at-k.ensures.within)

@@ -21,14 +21,6 @@ try_each-requires-clause-trial c =
     let sides = own_sides (goal.at.try_each-requires-clause-trial c).After-sides_of-both in
     record { search = c.requires.search; way = c.requires.way; sides = sides; ceilings = c.requires.ceilings }
 
-pub try_each-requires-clause-notes : goal.try_each-requires-clause-notes
-try_each-requires-clause-notes c = λ k less. absurd (omega (arith, less))
-
-pub try_noted-requires-clause-trial : goal.try_noted-requires-clause-trial
-try_noted-requires-clause-trial c =
-    let sides = own_sides (goal.at.try_noted-requires-clause-trial c).After-sides_of-both in
-    record { search = c.requires.search; way = c.requires.way; sides = sides; ceilings = c.requires.ceilings }
-
 pub try_dense-requires-clause-trial : goal.try_dense-requires-clause-trial
 try_dense-requires-clause-trial c =
     let sides = own_sides (goal.at.try_dense-requires-clause-trial c).After-sides_of-both in

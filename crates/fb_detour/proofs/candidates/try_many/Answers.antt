@@ -1,9 +1,9 @@
-use Rattle.fb_detour.proofs.Words.{arith, refl, subst, ◌∙◌, IsStop}
+use Rattle.fb_detour.proofs.Words.{arith, subst, sym, ◌∙◌, IsStop}
 use Rattle.fb_detour.proofs.Ways.{are_bins, from_now}
 use Rattle.fb_detour.proofs.candidates.try_many.Goals as goal
 
-pub late_bins-late-requires : goal.late_bins-late-requires
-late_bins-late-requires c =
+pub late_bins-requires : goal.late_bins-requires
+late_bins-requires c =
     let trial = c.args.trial.now in
     let search = trial.search.now in
     let ceilings = c.requires.trial.ceilings in record {
@@ -12,9 +12,10 @@ late_bins-late-requires c =
           c.stop_at-target.ensures.stop;
       from = c.stop_at-target.ensures.arrive;
       leaves = record {
-        some = c.bin_length_on-bin_length.ensures;
-        after = omega (arith, from_now search trial.way, c.requires.from, ceilings.begin);
-        in_time = omega (arith, c.requires.from, ceilings.close, ceilings.some);
+        grid = c.requires.grid;
+        whole = rw (sym c.as_slice.ensures.value) at c.in_ok-firsts.ensures;
+        after = omega (arith, from_now search trial.way, c.requires.begin, c.requires.from, ceilings.begin);
+        in_time = omega (arith, c.requires.begin, c.requires.from, ceilings.close, ceilings.some);
       };
     }
 
@@ -24,6 +25,10 @@ try_binned-requires-clause-bins c =
     let search = trial.search.now in
     let is = c.requires.trial in
     let target = subst (λ xs. IsStop search.disk.now xs c.stop_at-target.result) is.sides.its.late c.stop_at-target.ensures.stop in
-    are_bins search trial.way _ c.args.stop.now c.stop_at-target.result c.requires.stop target c.bin_length_on-bin_length.ensures refl
-    (c.requires.from ∙ is.ceilings.begin) is.ceilings.on c.early_bins-early.ensures.small c.late_bins-late.ensures.small
-    c.early_bins-early.ensures.most c.late_bins-late.ensures.most
+    let firsts = sym c.as_slice.ensures.value in
+    let early = sym c.as_slice-2.ensures.value in
+    let late = sym c.as_slice-3.ensures.value in
+    are_bins search trial.way _ c.args.stop.now c.stop_at-target.result c.requires.stop target c.requires.grid
+    (rw firsts at c.in_ok-firsts.ensures) (rw early at c.in_ok-early.ensures.table) (rw late at c.in_ok-late.ensures.table)
+    c.requires.begin (c.requires.from ∙ is.ceilings.begin) is.ceilings.on (rw early at c.in_ok-early.ensures.most)
+    (rw late at c.in_ok-late.ensures.most)

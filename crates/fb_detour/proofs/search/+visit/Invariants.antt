@@ -1,4 +1,4 @@
-use Rattle.fb_detour.proofs.Words.{◌-◌, ◌<◌, IsFound, IsNoWorseIn}
+use Rattle.fb_detour.proofs.Words.{◌<◌, IsFound, IsNoWorseIn}
 use Rattle.fb_detour.proofs.Keys.{AreDone, IsAmong}
 use Rattle.fb_detour.proofs.search.+visit.Given as goal
 
@@ -14,4 +14,4 @@ abbrev pub decreases-loop-key : goal.decreases-loop-key
 decreases-loop-key l = l.key
 
 abbrev pub decreases-visit : goal.decreases-visit
-decreases-visit l = l.end - l.from
+decreases-visit l = l.range.level

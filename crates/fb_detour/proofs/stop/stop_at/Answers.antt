@@ -3,6 +3,7 @@ use Rattle.fb_detour.proofs.stop.stop_at.Goals as goal
 
 pub returns-clause-stop : goal.returns-clause-stop
 returns-clause-stop c = record {
+  track = c.requires.track;
   ready = record {
     weight = c.offers.ensures.its (λ sweep n. n) ∙ sym c.wanted_weight.ensures.sum;
     small = c.wanted_weight.ensures.small;
