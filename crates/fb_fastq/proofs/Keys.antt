@@ -1,6 +1,6 @@
 -- Keys of a spot and a number.
 use Rattle.fb_fastq.proofs.Words.{◌≡◌, ◌≢◌, ℕ, ◌<◌, ◌≤◌, arith, true, false, ◌&&◌, not, nat_cmp, ordering_then, is_gt, is_lt, is_le, is_eq}
-use Rattle.fb_fastq.proofs.Words.{Less, Equal, nat_tests}
+use Rattle.fb_fastq.proofs.Words.{Less, Equal, nat_tests, inl, inr, cases_lt, IsNoLater}
 
 pub at_spot : (a c d : ℕ) → a ≤ c → is_gt (ordering_then (nat_cmp a c) (nat_cmp 0 d)) ≡ false
 at_spot a c d h = grind (arith, nat_tests)
@@ -61,3 +61,14 @@ under_is b k h = grind (arith, nat_tests)
 
 pub number_follows : (a b : ℕ) → nat_cmp a b ≡ Less → a ≤ b
 number_follows a b h = grind (arith, nat_tests)
+
+-- the order of keys, as a request that joined later comes later
+pub no_later_is : (a b c d : ℕ) → IsNoLater a b c d → is_gt (ordering_then (nat_cmp a c) (nat_cmp b d)) ≡ false
+no_later_is a b c d (inl less) = grind (arith, nat_tests)
+no_later_is a b c d (inr tied) = let same = tied.0 in let le = tied.1 in grind (arith, nat_tests)
+
+pub is_no_later : (a b c d : ℕ) → is_gt (ordering_then (nat_cmp a c) (nat_cmp b d)) ≡ false → IsNoLater a b c d
+is_no_later a b c d h = elim (cases_lt a c) [
+  | inl less ↦ inl less
+  | inr ge ↦ inr (grind (arith, nat_tests), grind (arith, nat_tests))
+]

@@ -17,4 +17,5 @@ pub mod OneMore
 pub mod Divided
 pub mod Both
 pub mod Chosen
+pub mod Passing
 pub mod Placed

@@ -1,6 +1,6 @@
 -- Requests that were placed, and those behind them.
 use Rattle.std.proofs.lemmas.List.{take-append-drop, take_all, take_at, length-drop}
-use Rattle.fb_fastq.proofs.Words.{◌≡◌, ℕ, ◌-◌, ◌≤◌, List, [], ◌++◌, ◌∙◌, ap, sym, take, drop, length, append_assoc, append-nil, arith, Request}
+use Rattle.fb_fastq.proofs.Words.{◌≡◌, ℕ, ◌-◌, List, [], ◌++◌, ◌∙◌, ap, take, drop, length, append_assoc, append-nil, arith, Request}
 
 module _ (was placed arrived : List Request) (count : ℕ) (is : placed ≡ was ++ take count arrived) where
   pub all_placed : count ≡ length arrived → placed ++ [] ≡ was ++ arrived

@@ -1,6 +1,7 @@
 pub mod Joining
 pub mod Spots
 pub mod Turns
+pub mod Arcs
 pub mod Sides
 pub mod Lanes
 pub mod Visits
@@ -8,3 +9,4 @@ pub mod Candidates
 pub mod More
 pub mod ByCylinder
 pub mod NonePending
+pub mod Stored

@@ -27,6 +27,23 @@ pub fn next_from(
     }
 }
 
+/// The first request from this key on, by spot and then by number of joining.
+pub fn next_key(
+    waiting: &BTreeMap<(u64, u64), Request>,
+    start: (u64, u64),
+) -> Option<((u64, u64), Request)>
+    ensures found { IfSome result (λ w. Holds waiting.now w.0 w.1) }
+    ensures behind { IfSome result (λ w. IsNoLater start.0 start.1 w.0.0 w.0.1) }
+    ensures least { IfSome result (λ w. (k : ℕ × ℕ) → Waits waiting.now k → IsNoLater start.0 start.1 k.0 k.1
+        → IsNoLater w.0.0 w.0.1 k.0 k.1) }
+    ensures none { IfNone result ((k : ℕ × ℕ) → Waits waiting.now k → IsNoLater start.0 start.1 k.0 k.1 → ⊥) }
+{
+    match waiting.range(start..).next() {
+        Some((key, request)) => Some((*key, *request)),
+        None => None,
+    }
+}
+
 /// The request of the least spot from this one on; if there is none, that of the least spot of all.
 pub fn next_or_first(waiting: &BTreeMap<(u64, u64), Request>, spot: u64) -> ((u64, u64), Request)
     requires { 0 < length waiting.now.entries }

@@ -13,10 +13,13 @@
 //! looked at from the head's cylinder upwards and then downwards, until the seek alone takes longer
 //! than the shortest wait found, and of a row's requests only those are valued that could be sooner.
 //! What a row has no room for waits in the map, where in each lane the next request from the angle
-//! of arrival on is found by a search.
+//! of arrival on is found by a search. On a disk whose arm comes to any cylinder in a small part of
+//! a turn, all requests wait in a map by angle instead, and are looked at as their angles pass.
 #![tactic(auto)]
 
+mod angles;
 mod arrival;
+mod by_angle;
 mod by_spot;
 mod choice;
 mod cylinder_map;
@@ -27,6 +30,7 @@ mod nearest;
 mod placing;
 mod ray;
 mod ring;
+mod row_buckets;
 mod rows;
 mod side;
 mod soonest;

@@ -46,8 +46,8 @@ pub struct Walked {
     pub full: Option<Visit>,
 }
 
-// The sooner of two; of two with the same wait, the one that joined first.
-fn sooner(a: Candidate, b: Candidate) -> Candidate
+/// The sooner of two; of two with the same wait, the one that joined first.
+pub fn sooner(a: Candidate, b: Candidate) -> Candidate
     ensures one { (result ≡ a) ⊎ (result ≡ b) }
     ensures first { IsBefore result a }
     ensures second { IsBefore result b }

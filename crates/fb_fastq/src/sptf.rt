@@ -1,93 +1,80 @@
 // Shortest positioning time first.
-ghost use Rattle.std.specs.Prelude.{◌≡◌, ◌++◌, ◌*◌, ◌<◌, ◌≤◌, ◌^◌, MatchOption, length};
-ghost use Rattle.std.specs.List.{AllByRecursion};
-ghost use Rattle.fb_geometry.specs.Shape.{IsTrackOf};
+ghost use Rattle.std.specs.Prelude.{◌≡◌};
 ghost use Rattle.fb_model.specs.PlainReplay.{sptf};
-ghost use Rattle.fb_fastq.specs.ByCylinder.{AreOccupied, AreRows, IsAt, all_of_rows};
-ghost use Rattle.fb_fastq.specs.Candidates.{IsCandidate};
-ghost use Rattle.fb_fastq.specs.Joining.{IsFirst, NumbersDiffer, Waiting, pending_of};
-ghost use Rattle.fb_fastq.specs.Lanes.{IsAlong};
+ghost use Rattle.fb_fastq.specs.Stored.{pending_in, FitsIn, fits_none};
 
-use crate::by_spot::{add, take_out};
-use crate::lanes::{along, cylinder_around};
-use crate::rows::{Pick, free_if_empty, put, soonest_in_rows, take_from};
-use crate::soonest::soonest_in_map;
+use crate::by_angle::AngleMap;
+use crate::row_buckets::RowBuckets;
 use crate::{LatePlacing, Placing};
 use fb_queue::{Policy, Soonest};
-use fb_service::{Disk, departure_from};
+use fb_service::Disk;
 use fb_units::{NoMemory, Ns, Request, Track};
 use std::alloc::Global;
-use std::collections::{BTreeMap, BTreeSet};
-use std::marker::Model;
 
-// So many requests of a cylinder are looked at one after another. Where more wait, the others wait in the map.
-const ROOM: usize = 128;
+// An arm is quick if it comes to any cylinder in this part of a turn,
+const SEEKS: Ns = 16;
+
+// and to any track, to write there, in this part.
+const WAYS: Ns = 4;
+
+// Where requests wait.
+#[derive(Drop)]
+enum Store {
+    // In rows by cylinder.
+    Rows(RowBuckets),
+    // In a map by angle.
+    Angles(AngleMap),
+}
 
 /// Shortest positioning time first.
 ///
 /// Requests wait in a row for each cylinder, whose requests are looked at one after another; where
-/// more wait than a row has room for, they wait in a map by lane and angle, which is searched.
+/// more wait than a row has room for, they wait in a map by lane and angle, which is searched. Where
+/// the arm comes to any cylinder in a small part of a turn, they wait in a map by angle instead.
 #[derive(Drop)]
 pub struct Buckets {
     alloc: Global,
-    // The requests for which their row had no room.
-    overflow: BTreeMap<(u64, u64), Request>,
-    rows: Vec<Vec<((u64, u64), Request)>>,
-    // The rows that have requests.
-    occupied: BTreeSet<u32>,
-    in_rows: u64,
-    joined: u64,
+    store: Store,
+    // Whether the store is the one for the disk.
+    is_chosen: bool,
 }
 
-impl Model for Buckets {
-    ghost use Rattle.std.specs.Prelude.{◌++◌};
-    ghost use Rattle.fb_fastq.specs.Joining.{QueueState};
-    ghost use Rattle.fb_fastq.specs.ByCylinder.{all_of_rows, IsDivided, AreOccupied};
+/// Shortest positioning time first, over rows, or over a map by angle where the arm is quick.
+pub type SptfBuckets = LatePlacing<Buckets>;
 
-    ghost Value = { QueueState };
-
-    ghost view = { λ q. record { waiting = q.overflow.entries ++ all_of_rows q.rows.items; joined = q.joined } };
-
-    ghost invariant = { λ q. IsDivided q.overflow.entries q.rows.items q.in_rows q.joined × AreOccupied q.occupied q.rows.items };
+// Whether the arm comes to any cylinder in a small part of a turn.
+fn is_quick(disk: &Disk) -> bool {
+    let geometry = disk.map.geometry();
+    let cylinders = geometry.cylinders();
+    if cylinders < 2 {
+        return false;
+    }
+    let first = Track {
+        cylinder: 0,
+        head: 0,
+    };
+    let farthest = Track {
+        cylinder: cylinders - 1,
+        head: 1,
+    };
+    let rotation = geometry.rotation();
+    disk.mechanism.seek(cylinders - 1) <= rotation / SEEKS
+        && disk.mechanism.pos(first, farthest, true) <= rotation / WAYS
 }
 
 impl Buckets {
-    // Whether a request of a cylinder is to wait in its row.
-    fn has_room(&self, row: u32) -> bool {
-        match self.rows.get(row as usize) {
-            Some(row) => row.len() < ROOM,
-            None => true,
+    // Chooses the store for a disk, while no request waits.
+    fn choose(&mut self, disk: &Disk)
+        requires fits { FitsIn self.old.store disk.now }
+        ensures pending { pending_in self.new.store ≡ pending_in self.old.store }
+        ensures fits { FitsIn self.new.store disk.now }
+    {
+        self.is_chosen = true;
+        if !self.is_empty() || !is_quick(disk) {
+            return;
         }
+        self.store = Store::Angles(AngleMap::new(self.alloc));
     }
-}
-
-/// Shortest positioning time first, over rows and a map.
-pub type SptfBuckets = LatePlacing<Buckets>;
-
-// The soonest of the requests of a map and of rows.
-fn soonest_of_all(
-    overflow: &BTreeMap<(u64, u64), Request>,
-    rows: &[Vec<((u64, u64), Request)>],
-    occupied: &BTreeSet<u32>,
-    disk: &Disk,
-    head: Track,
-    now: Ns,
-) -> Pick
-    requires some { 0 < length (overflow.now.entries ++ all_of_rows rows.now) }
-    requires apart { NumbersDiffer (overflow.now.entries ++ all_of_rows rows.now) }
-    requires rows { AreRows 0 rows.now }
-    requires occupied { AreOccupied occupied.now rows.now }
-    requires spots { AllByRecursion (λ w. IsAlong disk.now w.1 w.0.0) (overflow.now.entries ++ all_of_rows rows.now) }
-    requires head { IsTrackOf disk.now.map head }
-    requires now { now ≤ 9 * 10 ^ 18 }
-    ensures found { MatchOption result.position (IsCandidate disk.now head now overflow.now result.best)
-        (λ position. IsAt disk.now head now rows.now position result.best) }
-    ensures first { (w : Waiting) → result.best.key ≡ w.0 → result.best.wait ≡ sptf disk.now head now w.1
-        → IsFirst (sptf disk.now head now) w (overflow.now.entries ++ all_of_rows rows.now) }
-{
-    let from_map = soonest_in_map(overflow, disk, head, now);
-    let from = departure_from(disk, head, now);
-    soonest_in_rows(rows, occupied, disk, &from, from_map)
 }
 
 impl Policy for Buckets {
@@ -99,77 +86,48 @@ impl Policy for Buckets {
 }
 
 impl Placing for Buckets {
-    ghost pending = { λ q. pending_of q.waiting };
+    ghost pending = { λ q. pending_in q.store };
 
-    ghost fits = { λ q disk. AllByRecursion (λ w. IsAlong disk w.1 w.0.0) q.waiting };
+    ghost fits = { λ q disk. FitsIn q.store disk };
 
-    ghost use Rattle.fb_fastq.specs.NonePending.{all_of_none};
-
-    ghost fits_any = { λ q disk none. all_of_none (λ w. IsAlong disk w.1 w.0.0) q.waiting none };
+    ghost fits_any = { λ q disk none. fits_none q.store disk none };
 
     fn new(alloc: Global) -> Buckets {
         Buckets {
             alloc,
-            overflow: BTreeMap::new(alloc),
-            rows: Vec::new(alloc),
-            occupied: BTreeSet::new(alloc),
-            in_rows: 0,
-            joined: 0,
+            store: Store::Rows(RowBuckets::new(alloc)),
+            is_chosen: false,
         }
     }
 
     fn place(&mut self, disk: &Disk, request: Request) -> Result<(), NoMemory> {
-        if self.joined == u64::MAX {
-            return Err(NoMemory);
+        if !self.is_chosen {
+            self.choose(disk);
         }
-        let spot = along(disk, &request);
-        let row = cylinder_around(disk, spot);
-        if !self.has_room(row) {
-            add(&mut self.overflow, spot, self.joined, request)?;
-            self.joined += 1;
-            return Ok(());
+        match &mut self.store {
+            Store::Rows(rows) => rows.place(disk, request),
+            Store::Angles(angles) => angles.place(disk, request),
         }
-        let entry = ((spot, self.joined), request);
-        put(self.alloc, &mut self.rows, &mut self.occupied, row, entry)?;
-        self.in_rows += 1;
-        self.joined += 1;
-        Ok(())
     }
 
     fn least_key(&self, disk: &Disk, head: Track, now: Ns) -> u64 {
-        soonest_of_all(
-            &self.overflow,
-            self.rows.as_slice(),
-            &self.occupied,
-            disk,
-            head,
-            now,
-        )
-        .best
-        .wait
+        match &self.store {
+            Store::Rows(rows) => rows.least_key(disk, head, now),
+            Store::Angles(angles) => angles.least_key(disk, head, now),
+        }
     }
 
     fn take(&mut self, disk: &Disk, head: Track, now: Ns) -> Request {
-        let pick = soonest_of_all(
-            &self.overflow,
-            self.rows.as_slice(),
-            &self.occupied,
-            disk,
-            head,
-            now,
-        );
-        match pick.position {
-            Some(position) => {
-                let request = take_from(&mut self.rows, position);
-                free_if_empty(self.alloc, &mut self.rows, &mut self.occupied, position.row);
-                self.in_rows -= 1;
-                request
-            }
-            None => take_out(&mut self.overflow, pick.best.key),
+        match &mut self.store {
+            Store::Rows(rows) => rows.take(disk, head, now),
+            Store::Angles(angles) => angles.take(disk, head, now),
         }
     }
 
     fn is_empty(&self) -> bool {
-        self.overflow.is_empty() && self.in_rows == 0
+        match &self.store {
+            Store::Rows(rows) => rows.is_empty(),
+            Store::Angles(angles) => angles.is_empty(),
+        }
     }
 }

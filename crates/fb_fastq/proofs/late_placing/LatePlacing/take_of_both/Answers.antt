@@ -2,8 +2,8 @@ use Rattle.fb_model.specs.Accepted.{IsRequestOf}
 use Rattle.fb_queue.specs.Least.{IsFirstLeastAt}
 use Rattle.fb_queue.proofs.FirstLeast.{first_least_at}
 use Rattle.fb_units.proofs.Lists.{all_at, one_element}
-use Rattle.fb_fastq.proofs.Words.{◌≡◌, ◌≤◌, ◌++◌, ◌<◌, ◌∙◌, List, Some, ap, refl, arith, length, remove, AllByRecursion, all_left, all_right, sym, subst}
-use Rattle.fb_fastq.proofs.Words.{slice_get, slice_get_read, nil_from_length, first_least, Request, nat_tests}
+use Rattle.fb_fastq.proofs.Words.{◌≤◌, ◌++◌, ◌<◌, ◌∙◌, List, Some, ap, refl, arith, length, remove, AllByRecursion, all_left, all_right, sym, subst}
+use Rattle.fb_fastq.proofs.Words.{slice_get, slice_get_read, nil_from_length, Request, nat_tests}
 use Rattle.fb_fastq.proofs.Both.{first_left, first_right, some_first}
 use Rattle.fb_fastq.proofs.late_placing.LatePlacing.take_of_both.Goals.{then-not-is_empty+else-least-key_of, else-not-is_empty}
 use Rattle.fb_fastq.proofs.late_placing.LatePlacing.take_of_both.Goals as goal

@@ -1,12 +1,12 @@
 use Rattle.fb_fastq.proofs.Words.{◌≡◌, List, ◌++◌, ◌<◌, ◌∙◌, ap, sym, subst, Some, None, IfSome, IsSome, refl, arith, length, MatchOption}
-use Rattle.fb_fastq.proofs.Words.{AllByRecursion, sptf, first_least, Candidate, Position, Waiting, pending_of, IsFirst, IsAlong}
+use Rattle.fb_fastq.proofs.Words.{AllByRecursion, sptf, first_least, Position, Waiting, pending_of, IsFirst, IsAlong}
 use Rattle.fb_fastq.proofs.Words.{IsCandidate, IsMore, Row, all_of_rows, at_position, IsAt}
 use Rattle.fb_fastq.proofs.Least.{waits_there, held_is_in, length_pending}
 use Rattle.fb_fastq.proofs.Swept.{some_injective}
 use Rattle.fb_fastq.proofs.OneMore.{remove_more, more_left, more_right, least_more, all_less, length_more}
 use Rattle.fb_fastq.proofs.Divided.{numbered_left, rows_taken, map_taken}
-use Rattle.fb_fastq.proofs.sptf.BucketsPlacing.take.Goals.{After-self, After-soonest_of_all-pick, After-free_if_empty}
-use Rattle.fb_fastq.proofs.sptf.BucketsPlacing.take.Goals as goal
+use Rattle.fb_fastq.proofs.row_buckets.RowBucketsPlacing.take.Goals.{After-self, After-soonest_of_all-pick, After-free_if_empty}
+use Rattle.fb_fastq.proofs.row_buckets.RowBucketsPlacing.take.Goals as goal
 
 -- each spot is its request's
 spots : (c : After-self)

@@ -1,9 +1,9 @@
-use Rattle.fb_fastq.proofs.Words.{◌≡◌, ◌++◌, ◌<◌, ◌∙◌, sym, subst, length, Option, None, Some, MatchOption, sptf, Candidate, Position, Waiting, IsAlong}
-use Rattle.fb_fastq.proofs.Words.{IsCandidate, all_of_rows, IsAt, IsPick, RulesOutAll, all_left, all_right, arith, ap}
+use Rattle.fb_fastq.proofs.Words.{◌≡◌, ◌++◌, sym, subst, Option, None, Some, MatchOption, Position, Waiting, IsAlong}
+use Rattle.fb_fastq.proofs.Words.{IsCandidate, all_of_rows, IsAt, IsPick, RulesOutAll, all_left, all_right, arith}
 use Rattle.fb_fastq.proofs.{Least.all_held, Least.length_pending}
 use Rattle.fb_fastq.proofs.Divided.{numbered_left, no_later_than_map, first_of_both, some_of_map}
-use Rattle.fb_fastq.proofs.sptf.soonest_of_all.Goals.{After-soonest_in_rows}
-use Rattle.fb_fastq.proofs.sptf.soonest_of_all.Goals as goal
+use Rattle.fb_fastq.proofs.row_buckets.soonest_of_all.Goals.{After-soonest_in_rows}
+use Rattle.fb_fastq.proofs.row_buckets.soonest_of_all.Goals as goal
 
 -- what was looked for from the departure was looked for from the head's track
 picked : (c : After-soonest_in_rows)

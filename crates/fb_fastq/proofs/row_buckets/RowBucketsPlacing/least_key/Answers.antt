@@ -1,7 +1,7 @@
 use Rattle.fb_fastq.proofs.Words.{◌≡◌, ◌++◌, ◌<◌, ap, sym, subst, Some, arith, length, AllByRecursion, sptf, first_least, Waiting, pending_of}
 use Rattle.fb_fastq.proofs.Words.{List, NumbersDiffer, IsAlong, Row, all_of_rows}
 use Rattle.fb_fastq.proofs.{Least.length_pending, Chosen.rank_of_pick}
-use Rattle.fb_fastq.proofs.sptf.BucketsPlacing.least_key.Goals as goal
+use Rattle.fb_fastq.proofs.row_buckets.RowBucketsPlacing.least_key.Goals as goal
 
 pub soonest_of_all-requires : goal.soonest_of_all-requires
 soonest_of_all-requires c =

@@ -1,6 +1,6 @@
 use Rattle.fb_fastq.proofs.Words.{◌≡◌, ℕ, ◌+◌, length, Bool, false, ap, subst, arith, ◌==◌, nat_tests, pending_of}
 use Rattle.fb_fastq.proofs.{Least.tells_none, Divided.none_of_both}
-use Rattle.fb_fastq.proofs.sptf.BucketsPlacing.is_empty.Goals as goal
+use Rattle.fb_fastq.proofs.row_buckets.RowBucketsPlacing.is_empty.Goals as goal
 
 some_left : (b : Bool) (entries all others : ℕ) → b ≡ (entries == 0) → b ≡ false → all ≡ entries + others → b ≡ (all == 0)
 some_left b entries all others is some sum = grind (arith, nat_tests)

@@ -1,10 +1,10 @@
 use Rattle.std.proofs.lemmas.Result.{IfOk-from_err}
-use Rattle.fb_fastq.proofs.Words.{◌≡◌, ◌++◌, ◌∷◌, ◌∙◌, [], ℕ, List, arith, ap, sym, subst, AllByRecursion, Waiting, order, insert_entry}
+use Rattle.fb_fastq.proofs.Words.{◌≡◌, ◌++◌, ◌∷◌, ◌∙◌, [], ℕ, List, ap, sym, subst, AllByRecursion, Waiting, order, insert_entry}
 use Rattle.fb_fastq.proofs.Words.{on_err, pending_of, IsAlong, IsMore, all_of_rows}
 use Rattle.fb_fastq.proofs.OneMore.{insert_more, more_left, more_right, pending_more, all_more}
 use Rattle.fb_fastq.proofs.Divided.{numbers_left, map_joined, rows_joined}
-use Rattle.fb_fastq.proofs.sptf.BucketsPlacing.place.Goals.{After-self}
-use Rattle.fb_fastq.proofs.sptf.BucketsPlacing.place.Goals as goal
+use Rattle.fb_fastq.proofs.row_buckets.RowBucketsPlacing.place.Goals.{After-self}
+use Rattle.fb_fastq.proofs.row_buckets.RowBucketsPlacing.place.Goals as goal
 
 pub add-requires : goal.add-requires
 add-requires c =
