@@ -18,7 +18,7 @@ ghost use Rattle.fb_bgwrite.specs.Shortest.{AreAtLeast};
 ghost use Rattle.fb_bgwrite.specs.Spilling.{value, IsSpill};
 
 use crate::choice::{Spill, Valued, better};
-use crate::pending::{Pending, least_on};
+use crate::pending::{Pending, are_longer};
 use fb_detour::most_slots;
 use fb_plan::Turning;
 use fb_rows::Gap;
@@ -548,7 +548,7 @@ fn try_track(search: &Search, track: Track, most: u64, best: Option<Valued>) -> 
     if is_enough(best, most.min(blocks.wanted_weight()), track.cylinder) {
         return best;
     }
-    if most < least_on(&blocks, LONGEST) as u64 {
+    if are_longer(&blocks, most) {
         return best;
     }
     let found = spill_on(search, track, &blocks);
