@@ -135,6 +135,12 @@ one_more_offer offers i d old new within none least =
     let before = sum_by-le-sum_by lack (λ (o : Offer). old - o.worth) (take i offers) (λ o. omega (arith, least)) in
     omega (arith, sum_by_more lack offers i d within, before, none, least)
 
+-- nor one more that is worth more than a number
+pub one_longer : (offers : List Offer) (i : ℕ) (d : Offer) (most : ℕ) → i < length offers
+    → sum_by (λ (o : Offer). most + 1 - o.worth) (take i offers) ≡ 0 → most < (get_or offers i d).worth
+    → sum_by (λ (o : Offer). most + 1 - o.worth) (take (i + 1) offers) ≡ 0
+one_longer offers i d most within none long = one_more_offer offers i d (most + 1) (most + 1) within none (omega (arith, long))
+
 -- where no offer is worth less than that, no pending block is
 pub none_less : (least : ℕ) (offers : List Offer) (blocks : List Entry) → AreOffers offers blocks
     → sum_by (λ (o : Offer). least - o.worth) offers ≡ 0

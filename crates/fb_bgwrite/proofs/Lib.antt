@@ -4,6 +4,7 @@ pub mod Values
 pub mod Written
 pub mod Choices
 pub mod Depths
+pub mod Dividing
 pub mod Legs
 pub mod Amended
 pub mod Lengths

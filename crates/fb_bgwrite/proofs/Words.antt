@@ -86,6 +86,7 @@ pub use Rattle.fb_bgwrite.specs.Choosing.{AreLeast, ArePending, AreTried, IsBest
 pub use Rattle.fb_bgwrite.specs.Choosing.{IsNoWorseThanTracks}
 pub use Rattle.fb_bgwrite.specs.Choosing.{IsGap, IsKept, IsLastEnd, IsOnly, IsPart, IsSearch, IsShare, IsTried, IsValuedIf, Keeps}
 pub use Rattle.fb_bgwrite.specs.Choosing.{OneEndsAt, block_range}
+unfoldable pub use Rattle.fb_bgwrite.specs.Depth.{depth, digits_of, divides, powers_upto}
 pub use Rattle.fb_bgwrite.specs.Gaps.{HasNoFree, RunGap, delivers, gaps}
 pub use Rattle.fb_bgwrite.specs.Shortest.{AreAbove, AreAtLeast, AreLight, IsAtLeast, IsNoShorter, IsUnder}
 pub use Rattle.fb_bgwrite.specs.Spilled.{AreGaps, AreOnce, IsGapOf, IsInTime, IsOfPut, IsSpillRun, fore_ranges, left_over, sectors_in}

@@ -10,3 +10,4 @@ pub mod Standing
 pub mod Held
 pub mod Shortest
 pub mod BestSpill
+pub mod Depth

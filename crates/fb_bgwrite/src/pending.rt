@@ -28,8 +28,9 @@ use std::marker::Model;
 /// The registered blocks of puts, each with its state, and how short the pending ones of each
 /// cylinder are. Each of their sectors weighs 1.
 ///
-/// To register or to deliver a block takes constant time; a refresh looks at each pending block of a
-/// cylinder.
+/// To register or to deliver a block takes constant time. A refresh looks at each track of a cylinder,
+/// and at its pending blocks up to one that is as short as the bound; at all of them where there is
+/// none.
 #[derive(Drop)]
 pub struct Pending {
     blocks: Wanted,
@@ -62,6 +63,21 @@ pub fn least_on(blocks: &TrackBlocks, start: u32) -> u32
         least = least.min(offer.worth);
     }
     least
+}
+
+/// Whether each of the pending ones of these blocks has a worth, weight times sectors, of more than
+/// this number.
+pub fn are_longer(blocks: &TrackBlocks, most: u64) -> bool
+    ensures { result ≡ true → (i : ℕ) (entry : Entry) → slice_get blocks.now i ≡ Some entry → is_wanted entry.state ≡ true
+        → most < entry.block.weight * entry.block.count }
+{
+    let offers = blocks.offers();
+    for offer in offers {
+        if offer.worth as u64 <= most {
+            return false;
+        }
+    }
+    true
 }
 
 impl Pending {
@@ -104,9 +120,30 @@ impl Pending {
         self.blocks.deliver(put, number);
     }
 
-    /// Looks at all pending blocks of a cylinder, so that those that were written no longer count when
-    /// it is asked how short they are.
+    /// Sees to it that the blocks of a cylinder that were written no longer count when it is asked how
+    /// short the pending ones are.
     pub fn refresh(&mut self, disk: &Disk, cylinder: u32)
+        requires blocks { AreOnDisk disk.now self.old }
+        ensures { self.new ≡ self.old }
+    {
+        if !self.is_reached(disk, cylinder) {
+            self.renew(disk, cylinder);
+        }
+    }
+
+    // Whether a pending block of the cylinder is as short as its bound.
+    fn is_reached(&self, disk: &Disk, cylinder: u32) -> bool {
+        let bound = self.shortest.at(cylinder) as u64;
+        for head in 0..disk.map.geometry().heads() {
+            if !are_longer(&self.blocks.on(Track { cylinder, head }), bound) {
+                return true;
+            }
+        }
+        false
+    }
+
+    // Finds the bound of a cylinder anew, from all its pending blocks.
+    fn renew(&mut self, disk: &Disk, cylinder: u32)
         requires blocks { AreOnDisk disk.now self.old }
         ensures { self.new ≡ self.old }
     {

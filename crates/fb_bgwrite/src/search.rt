@@ -14,11 +14,12 @@ ghost use Rattle.fb_detour.specs.Bounds.{slots_within};
 ghost use Rattle.fb_bgwrite.specs.declared.choice.Spill.{Spill};
 ghost use Rattle.fb_bgwrite.specs.Choosing.{AreLeast, ArePending, AreTried, IsBestIf, IsEnough, IsFound, IsGap, IsKept};
 ghost use Rattle.fb_bgwrite.specs.Choosing.{IsLastEnd, IsMostOn, IsOnly, IsPart, IsSearch, IsShare, IsTried, IsValuedIf};
+ghost use Rattle.fb_bgwrite.specs.Depth.{depth};
 ghost use Rattle.fb_bgwrite.specs.Shortest.{AreAtLeast};
 ghost use Rattle.fb_bgwrite.specs.Spilling.{value, IsSpill};
 
 use crate::choice::{Spill, Valued, better};
-use crate::pending::{Pending, least_on};
+use crate::pending::{Pending, are_longer};
 use fb_detour::most_slots;
 use fb_plan::Turning;
 use fb_rows::Gap;
@@ -35,9 +36,6 @@ const WIDE: u32 = 2_048;
 
 // So few cylinders are tried one after the other.
 const FEW: u32 = 32;
-
-// At least so many cylinders of those on one side of a gap are looked at first, if little time is left.
-const NEAR: u32 = 512;
 
 // A gap on its disk, and the registered blocks.
 #[derive(Clone, Copy)]
@@ -154,27 +152,22 @@ fn is_swept(gap: &Gap, part: Part) -> bool
     cylinders <= FEW || part.brief && beside && cylinders <= WIDE
 }
 
-// Where a part is divided: beside the tracks of the gap, or behind as many cylinders as lie between them
-// and the part, but no more than half.
+// Where a part is divided: beside the tracks of the gap on either side, or else in the middle.
 fn split_at(gap: &Gap, part: Part) -> u32
-    requires some { part.from + 1 < part.end }
+    requires { part.from + 1 < part.end }
     ensures after { part.from < result }
     ensures within { result < part.end }
+    ensures low { depth gap.entry.now part.from result < depth gap.entry.now part.from part.end }
+    ensures high { depth gap.entry.now result part.end < depth gap.entry.now part.from part.end }
 {
     let low = gap.source.cylinder.min(gap.target.cylinder);
     let high = gap.source.cylinder.max(gap.target.cylinder);
-    let half = (part.end - part.from) / 2;
-    let near = if part.brief { NEAR } else { FEW };
-    if part.end <= low {
-        part.end - half.min((low - part.end).max(near))
-    } else if high < part.from {
-        part.from + half.min((part.from - high).max(near))
-    } else if part.from < low {
+    if part.from < low && low < part.end {
         low
-    } else if high < part.end - 1 {
+    } else if part.from <= high && high < part.end - 1 {
         high + 1
     } else {
-        part.from + half
+        part.from + (part.end - part.from) / 2
     }
 }
 
@@ -548,7 +541,7 @@ fn try_track(search: &Search, track: Track, most: u64, best: Option<Valued>) -> 
     if is_enough(best, most.min(blocks.wanted_weight()), track.cylinder) {
         return best;
     }
-    if most < least_on(&blocks, LONGEST) as u64 {
+    if are_longer(&blocks, most) {
         return best;
     }
     let found = spill_on(search, track, &blocks);

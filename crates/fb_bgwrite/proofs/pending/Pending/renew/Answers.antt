@@ -1,7 +1,7 @@
 use Rattle.fb_bgwrite.proofs.Words.{◌≡◌, ◌≤◌, ◌∙◌, Some, slice_get, inl, inr, ap, sym, subst, arith, cases_lt, Track, Shape, IsSound}
 use Rattle.fb_bgwrite.proofs.Words.{on_track, AreOnDisk}
 use Rattle.fb_bgwrite.proofs.Lengths.{all_of_cylinder, renewed}
-use Rattle.fb_bgwrite.proofs.pending.Pending.refresh.Goals as goal
+use Rattle.fb_bgwrite.proofs.pending.Pending.renew.Goals as goal
 
 pub loop-head-init : goal.loop-head-init
 loop-head-init c = λ head i e less. absurd (omega (arith, less))

@@ -1,5 +1,5 @@
 use Rattle.fb_bgwrite.proofs.Words.{◌≡◌, ◌*◌, ◌<◌, ◌≤◌, ℕ, Some, slice_get, true, Entry, is_wanted, on_track}
-use Rattle.fb_bgwrite.proofs.pending.Pending.refresh.Given as goal
+use Rattle.fb_bgwrite.proofs.pending.Pending.renew.Given as goal
 
 -- no pending block on a track so far is worth less
 abbrev pub invariant-loop-head : goal.invariant-loop-head
