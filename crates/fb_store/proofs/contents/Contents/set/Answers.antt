@@ -1,0 +1,21 @@
+use Rattle.std.proofs.Common.{sym, ap, subst, ◌∙◌, map, Global}
+use Rattle.std.specs.declared.vec.Vec.{Vec}
+use Rattle.std.specs.List.{AllByRecursion}
+use Rattle.fb_store.specs.declared.contents.ShortRun.{ShortRun}
+use Rattle.fb_store.specs.Kept.{kept_runs, run_of}
+use Rattle.fb_store.specs.Runs.{IsInRange}
+use Rattle.fb_store.proofs.Kept.{short_set, all_set}
+use Rattle.fb_store.proofs.contents.Contents.set.Goals as goal
+
+pub returns-in-Some-clause-ok : goal.returns-in-Some-clause-ok
+returns-in-Some-clause-ok c = short_set c.deref_mut-in-Some.result.now.items c.args.self.now c.args.i c.in-Some.run' c.args.run
+    (ap (λ (v : Vec ShortRun Global). map run_of v.items) c.deref_mut-in-Some.ensures.value
+    ∙ (ap kept_runs (sym c.in-Short.is) ∙ c.self.view_is)) c.in-Some.ensures
+
+pub invariant_of-self-in-Some : goal.invariant_of-self-in-Some
+invariant_of-self-in-Some c = subst (AllByRecursion IsInRange)
+    (sym (short_set c.deref_mut-in-Some.result.now.items c.args.self.now c.args.i c.in-Some.run' c.args.run
+    (ap (λ (v : Vec ShortRun Global). map run_of v.items) c.deref_mut-in-Some.ensures.value
+    ∙ (ap kept_runs (sym c.in-Short.is) ∙ c.self.view_is)) c.in-Some.ensures))
+    (all_set IsInRange c.args.i c.args.self.now c.args.run (subst (AllByRecursion IsInRange) c.self.view_is c.self.invariant)
+    c.requires.range)
