@@ -1,11 +1,11 @@
 -- The upper bounds on the weights of tracks, by cylinder and by band.
-use Rattle.std.proofs.Common.{◌≡◌, ℕ, ◌/◌, ◌<◌, ◌≤◌, inl, inr, List, false, length, get_or, set, refl, ap, sym, ◌∙◌, arith, subst}
+use Rattle.std.proofs.Common.{◌≡◌, ℕ, ◌/◌, ◌<◌, ◌≤◌, max, inl, inr, List, false, length, get_or, set, refl, ap, sym, ◌∙◌, arith, subst}
 use Rattle.std.proofs.lemmas.Bool.{cases_eq}
 use Rattle.std.proofs.lemmas.Grind.{get_or-set_at}
 use Rattle.std.proofs.lemmas.List.{get_or-set_other, length-set}
 use Rattle.fb_units.specs.declared.types.Track.{Track}
 use Rattle.fb_units.specs.Tracks.{same_track}
-use Rattle.fb_wanted.specs.LookUp.{OnTrack, track_at, weight_kept, AreGreatest, AreBands, IsChanged}
+use Rattle.fb_wanted.specs.LookUp.{OnTrack, track_at, weight_kept, AreGreatest, ArePeaks, IsChanged}
 
 -- the bounds hold too with room for more cylinders
 pub greatest_still : (tracks : List (List OnTrack)) (was is : List ℕ) → AreGreatest tracks was → ((c : ℕ) → get_or is c 0 ≡ get_or was c 0)
@@ -36,37 +36,44 @@ module _ (old new : List (List OnTrack)) (track : Track) (change : OnTrack → O
       → ((t : Track) → weight_kept new t ≤ get_or is t.cylinder 0) → AreGreatest new is
   greatest_after is room size weights = record { weights = weights; there = omega (arith, room, size) }
 
--- the bounds of bands hold after the bound of a cylinder and that of its band have changed
-pub bands_set : (cylinders bands : List ℕ) (c weight greatest : ℕ) → AreBands cylinders bands → c < length cylinders
-    → weight ≤ 32768000000000
-    → ((k : ℕ) → k / 64 ≡ c / 64 → get_or (set cylinders c weight) k 0 ≤ greatest)
-    → ((most : ℕ) → get_or bands (c / 64) 0 ≤ most → weight ≤ most → ((k : ℕ) → get_or (set cylinders c weight) k 0 ≤ most)
-    → greatest ≤ most)
-    → AreBands (set cylinders c weight) (set bands (c / 64) greatest)
-bands_set cylinders bands c weight greatest h room light each least =
-    let there = h.there c room in
-    let within : (k : ℕ) → get_or (set cylinders c weight) k 0 ≤ 32768000000000
-    = λ k. elim (cases_eq k c) [
-      | inl here ↦ omega (arith, get_or-set_at cylinders c k weight 0 here room, light)
-      | inr other ↦ omega (arith, get_or-set_other cylinders c k weight 0 other, h.each k, h.small (k / 64))
-    ] in
+-- the greatest of each group is right after one number and the greatest of its group have changed
+pub peaks_set : (numbers peaks : List ℕ) (i number greatest : ℕ) → ArePeaks numbers peaks → i < length numbers
+    → ((k : ℕ) → k / 64 ≡ i / 64 → get_or (set numbers i number) k 0 ≤ greatest)
+    → ((most : ℕ) → number ≤ most → (get_or numbers i 0 < get_or peaks (i / 64) 0 → get_or peaks (i / 64) 0 ≤ most)
+    → ((k : ℕ) → k / 64 ≡ i / 64 → get_or (set numbers i number) k 0 ≤ most) → greatest ≤ most)
+    → ArePeaks (set numbers i number) (set peaks (i / 64) greatest)
+peaks_set numbers peaks i number greatest h room each least =
+    let there = h.there i room in
+    let was = get_or numbers i 0 in
+    let elsewhere : (k : ℕ) → (k ≡ i → ⊥) → get_or (set numbers i number) k 0 ≡ get_or numbers k 0
+    = λ k other. get_or-set_other numbers i k number 0 other in
     record {
-      each = λ k. elim (cases_eq (k / 64) (c / 64)) [
-        | inl here ↦ omega (arith, get_or-set_at bands (c / 64) (k / 64) greatest 0 here there, each k here)
+      each = λ k. elim (cases_eq (k / 64) (i / 64)) [
+        | inl here ↦ omega (arith, get_or-set_at peaks (i / 64) (k / 64) greatest 0 here there, each k here)
         | inr other ↦ omega (
           arith,
-          get_or-set_other bands (c / 64) (k / 64) greatest 0 other,
-          get_or-set_other cylinders c k weight 0 (λ same. other (ap (λ x. x / 64) same)),
+          get_or-set_other peaks (i / 64) (k / 64) greatest 0 other,
+          elsewhere k (λ same. other (ap (λ x. x / 64) same)),
           h.each k,
         )
       ];
-      small = λ b. elim (cases_eq b (c / 64)) [
-        | inl here ↦ omega (
+      least = λ group most all. elim (cases_eq group (i / 64)) [
+        | inl here ↦
+            let its = λ (k : ℕ) (same : k / 64 ≡ i / 64). all k (same ∙ sym here) in
+            let old = h.least (i / 64) (max most was) (λ k same. elim (cases_eq k i) [
+              | inl at ↦ omega (arith, ap (λ j. get_or numbers j 0) at)
+              | inr other ↦ omega (arith, elsewhere k other, its k same)
+            ]) in
+            omega (
+              arith,
+              get_or-set_at peaks (i / 64) group greatest 0 here there,
+              least most (omega (arith, its i refl, get_or-set_at numbers i i number 0 refl room)) (λ less. omega (arith, less, old)) its,
+            )
+        | inr other ↦ omega (
           arith,
-          get_or-set_at bands (c / 64) b greatest 0 here there,
-          least 32768000000000 (h.small (c / 64)) light within,
+          get_or-set_other peaks (i / 64) group greatest 0 other,
+          h.least group most (λ k same. omega (arith, elsewhere k (λ at. other (sym same ∙ ap (λ x. x / 64) at)), all k same)),
         )
-        | inr other ↦ omega (arith, get_or-set_other bands (c / 64) b greatest 0 other, h.small b)
       ];
-      there = λ k lt. omega (arith, h.there k (omega (arith, length-set cylinders c weight, lt)), length-set bands (c / 64) greatest);
+      there = λ k lt. omega (arith, h.there k (omega (arith, length-set numbers i number, lt)), length-set peaks (i / 64) greatest);
     }

@@ -1,12 +1,14 @@
 -- Changes that concern no block of a task.
 use Rattle.std.proofs.Common.{◌≡◌, ℕ, ◌+◌, ◌≤◌, ◌==◌, inl, inr, List, [], ◌∷◌, true, false, Bool, refl, ap, ◌∙◌, arith}
 use Rattle.std.proofs.lemmas.Bool.{cases_Bool}
-use Rattle.fb_wanted.specs.declared.block.Change.TheVariants.{Abort, Rewant}
+use Rattle.fb_wanted.specs.declared.block.Change.TheVariants.{Abort, Rewant, Suspend, Resume}
+use Rattle.fb_wanted.specs.declared.block.Block.{Block}
+use Rattle.fb_wanted.specs.declared.block.Change.{Change}
 use Rattle.fb_wanted.specs.declared.block.Counts.{Counts}
 use Rattle.fb_wanted.specs.declared.block.Entry.{Entry}
 use Rattle.fb_wanted.specs.declared.block.State.{State}
 use Rattle.fb_wanted.specs.declared.block.State.TheVariants.{Wanted, Suspended, Delivered, Aborted}
-use Rattle.fb_wanted.specs.States.{after, entry_after, shares, is_open, is_delivered, is_aborted}
+use Rattle.fb_wanted.specs.States.{after, entry_after, state_after, shares, is_open, is_delivered, is_aborted}
 use Rattle.fb_wanted.specs.Counting.{counts_of}
 use Rattle.fb_wanted.proofs.Counted.{counts-append}
 use Rattle.fb_wanted.proofs.OfTask.{others_after}
@@ -23,13 +25,32 @@ fate Suspended = unread refl refl refl
 fate Delivered = read refl refl refl
 fate Aborted = given_up refl refl refl
 
-closed_stays : (task first count : ℕ) (e : Entry) → is_open e.state ≡ false → entry_after task (Abort first count) e ≡ e
-closed_stays task first count e closed = elim (cases_Bool (e.block.task == task)) [
-  | inl own ↦ elim (cases_Bool (shares first count e.block)) [
-    | inl inside ↦ rw (own, inside, closed) refl
-    | inr outside ↦ rw (own, outside) refl
-  ]
-  | inr other ↦ others_after task (Abort first count) e other
+-- the change concerns open blocks alone
+abbrev pub Concerns : Change → Type 0
+Concerns change = (block : Block) (state : State) → is_open state ≡ false → state_after change block state ≡ state
+
+pub open_aborted : (first count : ℕ) → Concerns (Abort first count)
+open_aborted first count block state closed = elim (cases_Bool (shares first count block)) [
+  | inl inside ↦ rw (inside, closed) refl
+  | inr outside ↦ rw outside refl
+]
+
+pub open_suspended : Concerns Suspend
+open_suspended block Wanted closed = grind arith
+open_suspended block Suspended closed = refl
+open_suspended block Delivered closed = refl
+open_suspended block Aborted closed = refl
+
+pub open_resumed : Concerns Resume
+open_resumed block Wanted closed = refl
+open_resumed block Suspended closed = grind arith
+open_resumed block Delivered closed = refl
+open_resumed block Aborted closed = refl
+
+closed_stays : (task : ℕ) (change : Change) (e : Entry) → Concerns change → is_open e.state ≡ false → entry_after task change e ≡ e
+closed_stays task change e of_open closed = elim (cases_Bool (e.block.task == task)) [
+  | inl own ↦ rw own (ap (λ s. let x : Entry = record { block = e.block; state = s } in x) (of_open e.block e.state closed))
+  | inr other ↦ others_after task change e other
 ]
 
 unread_stays : (task first count : ℕ) (suspended : Bool) (e : Entry) → is_delivered e.state ≡ false
@@ -69,11 +90,11 @@ closed_few task (e ∷ es) =
       | inr other ↦ rw other rest
     ]
 
--- an abort changes nothing in a task all of whose blocks are delivered or aborted
-pub none_open : (task first count : ℕ) (es : List Entry)
-    → (counts_of task es).delivered + (counts_of task es).aborted ≡ (counts_of task es).registered → after task (Abort first count) es ≡ es
-none_open task first count [] all = refl
-none_open task first count (e ∷ es) all =
+-- what concerns open blocks alone changes nothing in a task all of whose blocks are delivered or aborted
+pub none_open : (task : ℕ) (change : Change) (es : List Entry) → Concerns change
+    → (counts_of task es).delivered + (counts_of task es).aborted ≡ (counts_of task es).registered → after task change es ≡ es
+none_open task change [] of_open all = refl
+none_open task change (e ∷ es) of_open all =
     let few = closed_few task es in
     let r = registered task e es in
     let d = delivered task e es in
@@ -85,20 +106,20 @@ none_open task first count (e ∷ es) all =
             absurd (omega (arith, all, few, r, d, a, ap (λ n. n.registered) alone, ap (λ n. n.delivered) alone, ap (λ n. n.aborted) alone))
         | read o x y ↦
             let alone : counts_of task (e ∷ []) ≡ one 1 1 0 = rw (own, x, y) refl in
-            let rest = none_open task first count es
+            let rest = none_open task change es of_open
             (omega (arith, all, r, d, a, ap (λ n. n.registered) alone, ap (λ n. n.delivered) alone, ap (λ n. n.aborted) alone)) in
-            ap (λ x. x ∷ after task (Abort first count) es) (closed_stays task first count e o) ∙ ap (λ l. e ∷ l) rest
+            ap (λ x. x ∷ after task change es) (closed_stays task change e of_open o) ∙ ap (λ l. e ∷ l) rest
         | given_up o x y ↦
             let alone : counts_of task (e ∷ []) ≡ one 1 0 1 = rw (own, x, y) refl in
-            let rest = none_open task first count es
+            let rest = none_open task change es of_open
             (omega (arith, all, r, d, a, ap (λ n. n.registered) alone, ap (λ n. n.delivered) alone, ap (λ n. n.aborted) alone)) in
-            ap (λ x. x ∷ after task (Abort first count) es) (closed_stays task first count e o) ∙ ap (λ l. e ∷ l) rest
+            ap (λ x. x ∷ after task change es) (closed_stays task change e of_open o) ∙ ap (λ l. e ∷ l) rest
       ]
       | inr other ↦
           let alone : counts_of task (e ∷ []) ≡ one 0 0 0 = rw other refl in
-          let rest = none_open task first count es
+          let rest = none_open task change es of_open
           (omega (arith, all, r, d, a, ap (λ n. n.registered) alone, ap (λ n. n.delivered) alone, ap (λ n. n.aborted) alone)) in
-          ap (λ x. x ∷ after task (Abort first count) es) (others_after task (Abort first count) e other) ∙ ap (λ l. e ∷ l) rest
+          ap (λ x. x ∷ after task change es) (others_after task change e other) ∙ ap (λ l. e ∷ l) rest
     ]
 
 -- a want again changes nothing in a task none of whose blocks is delivered

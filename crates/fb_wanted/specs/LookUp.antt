@@ -1,5 +1,5 @@
 -- What is kept beside the list of registered blocks.
-use Rattle.std.specs.Prelude.{◌≡◌, ◌↔◌, ◌⊎◌, ℕ, zero, suc, ◌+◌, ◌-◌, ◌*◌, ◌/◌, ◌≤◌, ◌<◌, ◌==◌, Bool, true, false, List, [], ◌∷◌, ◌++◌, Some}
+use Rattle.std.specs.Prelude.{◌≡◌, ◌↔◌, ◌⊎◌, ℕ, zero, suc, ◌+◌, ◌-◌, ◌/◌, ◌≤◌, ◌<◌, ◌==◌, Bool, true, false, List, [], ◌∷◌, ◌++◌, Some}
 use Rattle.std.specs.Prelude.{length, map, filter, get_or, slice_get, if◌then◌else◌}
 use Rattle.std.specs.List.{swap_remove}
 use Rattle.std.specs.Ordering.{nat_cmp, ordering_then}
@@ -229,11 +229,18 @@ pub record AreGreatest (tracks : List (List OnTrack)) (greatest : List ℕ) : Ty
   pub weights : (t : Track) → weight_kept tracks t ≤ get_or greatest t.cylinder 0
   pub there : length tracks ≤ length greatest
 
--- no cylinder's bound is above that of its band, each cylinder has a band, and no band's bound is above what all blocks can weigh
-pub record AreBands (cylinders bands : List ℕ) : Type 0 where
-  pub each : (c : ℕ) → get_or cylinders c 0 ≤ get_or bands (c / 64) 0
-  pub small : (band : ℕ) → get_or bands band 0 ≤ 16000000 * 2048000
-  pub there : (c : ℕ) → c < length cylinders → c / 64 < length bands
+-- the greatest of each 64 numbers that stand side by side
+pub record ArePeaks (numbers peaks : List ℕ) : Type 0 where
+  pub each : (i : ℕ) → get_or numbers i 0 ≤ get_or peaks (i / 64) 0
+  pub least : (k most : ℕ) → ((i : ℕ) → i / 64 ≡ k → get_or numbers i 0 ≤ most) → get_or peaks k 0 ≤ most
+  pub there : (i : ℕ) → i < length numbers → i / 64 < length peaks
+
+-- the bounds of bands and the marks of those with a block stand in lists of numbers too
+pub record AreRanked (depths : List Depth) (bounds marks : List ℕ) : Type 0 where
+  pub bound : (k : ℕ) → get_or bounds k 0 ≡ (get_or depths k no_depth).most
+  pub mark : (k : ℕ) → get_or marks k 0 ≡ 0 → (get_or depths k no_depth).has_block ≡ false
+  pub bounds_there : length depths ≤ length bounds
+  pub marks_there : length depths ≤ length marks
 
 -- the change leaves each block as it is that shares no sector with the range
 abbrev pub IsWithin : Change → ℕ → ℕ → Type 0

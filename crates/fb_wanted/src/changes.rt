@@ -1,5 +1,5 @@
 // Changes of the blocks of a task.
-ghost use Rattle.std.specs.Prelude.{◌≡◌, ℕ, List, false, length, filter};
+ghost use Rattle.std.specs.Prelude.{◌≡◌, ◌+◌, ℕ, List, true, false, length, filter};
 ghost use Rattle.fb_wanted.specs.declared.block.Entry.{Entry};
 ghost use Rattle.fb_wanted.specs.Counting.{counts_of};
 ghost use Rattle.fb_wanted.specs.States.{shares, is_wanted, is_suspended, is_delivered, is_open, wanted_unless, state_after, after};
@@ -101,21 +101,37 @@ pub fn state_after(change: Change, block: Block, state: State) -> State
     }
 }
 
-/// Whether the change may concern a block of a task with these counts: an abort concerns those that are neither delivered
-/// nor aborted, and a want again those that are delivered.
-#[tactic(auto, using(crate::proofs::Unchanged::none_open, crate::proofs::Unchanged::none_delivered))]
+/// Whether the two states are one.
+pub fn is_same(state: State, other: State) -> bool
+    ensures same { result ≡ true → state ≡ other }
+    ensures differ { result ≡ false → state ≡ other → ⊥ }
+{
+    state == other
+}
+
+// Whether a task with these counts has a block that is neither delivered nor aborted.
+fn has_open(counts: Counts) -> bool
+    ensures none { result ≡ false → counts.delivered + counts.aborted ≡ counts.registered }
+    ensures some { result ≡ true → counts.delivered + counts.aborted ≡ counts.registered → ⊥ }
+{
+    counts.delivered as u64 + counts.aborted as u64 != counts.registered as u64
+}
+
+/// Whether the change may concern a block of a task with these counts: a want again concerns those that are delivered, and
+/// an abort, a suspension and its end those that are neither delivered nor aborted.
 pub fn may_change(counts: Counts, change: Change) -> bool
     ensures { result ≡ false → (task : ℕ) (es : List Entry) → counts ≡ counts_of task es → after task change es ≡ es }
 {
+    let some_open = has_open(counts);
     match change {
-        Change::Abort { first: _, count: _ } => {
-            counts.delivered as u64 + counts.aborted as u64 != counts.registered as u64
-        }
+        Change::Abort { first: _, count: _ } => some_open,
+        Change::Deliver { index: _ } => true,
         Change::Rewant {
             first: _,
             count: _,
             suspended: _,
         } => counts.delivered != 0,
-        _ => true,
+        Change::Suspend => some_open,
+        Change::Resume => some_open,
     }
 }

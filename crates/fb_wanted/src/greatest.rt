@@ -1,10 +1,11 @@
 // Upper bounds of the wanted weight of a track, for each cylinder and for each band of cylinders.
-ghost use Rattle.std.specs.Prelude.{◌≡◌, ℕ, false, ◌⊎◌, ◌≤◌, ◌<◌, ◌+◌, ◌*◌, ◌/◌, [], length, get_or, set, OnOk};
+ghost use Rattle.std.specs.Prelude.{◌≡◌, ℕ, false, ◌≤◌, ◌<◌, ◌+◌, ◌*◌, ◌/◌, [], length, get_or, set, OnOk};
 ghost use Rattle.fb_units.specs.declared.types.Track.{Track};
 ghost use Rattle.fb_units.specs.Tracks.{same_track};
 ghost use Rattle.fb_wanted.specs.LookUp.{weight_kept};
 
 use crate::bands::{BAND, add_bands};
+use crate::peaks::{Peaks, greatest_anew, greatest_of};
 use crate::tracks::Tracks;
 use fb_units::{NoMemory, Track};
 use std::alloc::Global;
@@ -15,48 +16,18 @@ use std::marker::Model;
 #[derive(Drop)]
 pub struct Greatest {
     cylinders: Vec<u64>,
-    bands: Vec<u64>,
+    bands: Peaks,
 }
 
 impl Model for Greatest {
-    ghost use Rattle.std.specs.Prelude.{List, ℕ};
-    ghost use Rattle.fb_wanted.specs.LookUp.{AreBands};
+    ghost use Rattle.std.specs.Prelude.{List, ℕ, ◌≤◌, ◌*◌, get_or};
+    ghost use Rattle.fb_wanted.specs.LookUp.{ArePeaks};
 
     ghost Value = { List ℕ };
 
     ghost view = { λ g. g.cylinders.items };
 
-    ghost invariant = { λ g. AreBands g.cylinders.items g.bands.items };
-}
-
-// The greatest of the numbers with indexes from `from` up to the end; 0 if there are none.
-fn greatest_of(numbers: &[u64], from: usize, end: usize) -> u64
-    ensures each { (i : ℕ) → from ≤ i → i < end → get_or numbers.now i 0 ≤ result }
-    ensures least { (most : ℕ) → ((i : ℕ) → from ≤ i → i < end → get_or numbers.now i 0 ≤ most) → result ≤ most }
-{
-    let mut greatest: u64 = 0;
-    for i in from..end.min(numbers.len()) {
-        greatest = greatest.max(numbers[i]);
-    }
-    greatest
-}
-
-// The new bound of a band with the bound `greatest`, after that of one of its cylinders has changed
-// from `was` to `now`.
-fn greatest_anew(cylinders: &[u64], band: u32, greatest: u64, was: u64, now: u64) -> u64
-    requires { (c : ℕ) → c / 64 ≡ band → (get_or cylinders.now c 0 ≤ greatest) ⊎ (get_or cylinders.now c 0 ≤ now) }
-    ensures each { (c : ℕ) → c / 64 ≡ band → get_or cylinders.now c 0 ≤ result }
-    ensures least { (most : ℕ) → now ≤ most → (was < greatest → greatest ≤ most)
-        → ((c : ℕ) → c / 64 ≡ band → get_or cylinders.now c 0 ≤ most) → result ≤ most }
-{
-    if now >= greatest {
-        return now;
-    }
-    if was < greatest {
-        return greatest;
-    }
-    let from = band as usize * BAND as usize;
-    greatest_of(cylinders, from, from + BAND as usize)
+    ghost invariant = { λ g. ArePeaks g.cylinders.items g.bands × ((c : ℕ) → get_or g.cylinders.items c 0 ≤ 16000000 * 2048000) };
 }
 
 impl Greatest {
@@ -66,7 +37,7 @@ impl Greatest {
     {
         Greatest {
             cylinders: Vec::new(alloc),
-            bands: Vec::new(alloc),
+            bands: Peaks::new(alloc),
         }
     }
 
@@ -76,7 +47,7 @@ impl Greatest {
         ensures longer { length self.old ≤ length self.new }
         ensures there { OnOk result (cylinder < length self.new) }
     {
-        add_bands(&mut self.bands, cylinder / BAND, 0)?;
+        self.bands.add_room(cylinder / BAND)?;
         add_bands(&mut self.cylinders, cylinder, 0)
     }
 
@@ -96,9 +67,10 @@ impl Greatest {
     {
         let band = cylinder / BAND;
         let was = self.cylinders[cylinder as usize];
-        let greatest = self.bands[band as usize];
+        let greatest = self.bands.at(band);
         self.cylinders[cylinder as usize] = weight;
-        self.bands[band as usize] = greatest_anew(&self.cylinders, band, greatest, was, weight);
+        let anew = greatest_anew(&self.cylinders, band as usize, greatest, was, weight);
+        self.bands.set(band, anew);
     }
 
     /// An upper bound on the bounds of the cylinders from `from` up to the end: the greatest of these if
@@ -112,8 +84,7 @@ impl Greatest {
         if end - from < BAND {
             return greatest_of(&self.cylinders, from as usize, end as usize);
         }
-        let last = (end - 1) / BAND;
-        greatest_of(&self.bands, (from / BAND) as usize, last as usize + 1)
+        self.bands.among(from / BAND, (end - 1) / BAND + 1)
     }
 }
 

@@ -17,10 +17,10 @@ ghost use Rattle.fb_wanted.specs.LookUp.{IsChanged, IsTaskChanged};
 ghost use Rattle.fb_units.specs.declared.types.Track.{Track};
 ghost use Rattle.fb_units.specs.Tracks.{same_track};
 
-use crate::bands::{add_bands, band_of};
-use crate::changes::{may_change, shares, state_after};
+use crate::bands::{BAND, band_of};
+use crate::changes::{is_same, may_change, shares, state_after};
 use crate::counting::{counts_of, no_counts};
-use crate::depths::{Depth, NO_DEPTH, deepen, most_in};
+use crate::depths::Depths;
 use crate::greatest::{Greatest, update_greatest};
 use crate::near::{chunk_of, next_near};
 use crate::next::next_track;
@@ -44,22 +44,24 @@ use std::marker::Model;
 /// counts of a task and the bounds of a band take constant time. Besides, to register a block takes
 /// logarithmic time if it is the first of its task or the one before it in its task begins in
 /// another region of 512 LBNs; and likewise if the block registered before it is another task's or
-/// begins in another chunk of 2,048 LBNs: a note is kept for each of these. To suspend or to resume
-/// takes constant time for each block of the task.
+/// begins in another chunk of 2,048 LBNs: a note is kept for each of these.
 ///
-/// An abort takes constant time where each block of the task is delivered or aborted, and a want
-/// again where none is delivered. Else both look at the regions that the range touches and at those
-/// before it from which the longest block reaches the range: they take constant time for each of the
-/// task's blocks that begin in them, and logarithmic time for each streak of such blocks, which were
-/// registered one after another and begin in one region. The next task near a range is found in
-/// logarithmic time for each chunk that the range touches and for the one before them.
+/// An abort, a suspension and its end take constant time where each block of the task is delivered or
+/// aborted, and a want again where none is delivered. Else to suspend or to resume takes constant time
+/// for each block of the task, and an abort and a want again look at the regions that the range touches
+/// and at those before it from which the longest block reaches the range: they take constant time for
+/// each of the task's blocks that begin in them, and logarithmic time for each streak of such blocks,
+/// which were registered one after another and begin in one region. A block whose state stays as it is
+/// is read and no more. The next task near a range is found in logarithmic time for each chunk that the
+/// range touches and for the one before them.
 ///
 /// When the heaviest track of a cylinder loses weight, each track of that cylinder is looked at, and
-/// likewise each cylinder of a band when its heaviest one does. There is an entry for each task
-/// number up to the greatest one, for each cylinder up to the last one with a block, and for each
-/// head of a cylinder up to the last one with a block. The next track with a block is found by the
-/// heads of its cylinder and of the one where the search begins, by the cylinders of their bands, and
-/// by the bands between.
+/// likewise each cylinder of a band when its heaviest one does, and each of the 64 bands that are a
+/// group. There is an entry for each task number up to the greatest one, for each cylinder up to the
+/// last one with a block, and for each head of a cylinder up to the last one with a block. The next
+/// track with a block is found by the heads of its cylinder and of the one where the search begins, by
+/// the cylinders of their bands, and by the bands between, as a bound of many bands is: each group that
+/// lies between as a whole is looked at once.
 #[derive(Drop)]
 pub struct Wanted {
     alloc: Global,
@@ -73,7 +75,7 @@ pub struct Wanted {
     longest: u32,
     near: BTreeSet<(u32, u32)>,
     greatest: Greatest,
-    depths: Vec<Depth>,
+    depths: Depths,
 }
 
 impl Model for Wanted {
@@ -90,7 +92,7 @@ impl Model for Wanted {
     ghost invariant = { λ w. IsKept w.entries.items w.tasks.items w.tracks
         × AreNoted w.entries.items w.streaks
         × AreGreatest w.tracks w.greatest
-        × AreDeep w.entries.items w.depths.items
+        × AreDeep w.entries.items w.depths
         × AreNear w.entries.items w.near
         × AreShort w.longest w.entries.items
         × AreOffered w.entries.items (offers_at w.tracks) w.offer_indexes.items };
@@ -132,7 +134,7 @@ fn add_to_look_up(
 fn make_room(
     near: &mut BTreeSet<(u32, u32)>,
     greatest: &mut Greatest,
-    depths: &mut Vec<Depth>,
+    depths: &mut Depths,
     block: Block,
     is_new: bool,
 ) -> Result<(), NoMemory>
@@ -141,12 +143,12 @@ fn make_room(
     ensures greatest { (c : ℕ) → get_or greatest.new c 0 ≡ get_or greatest.old c 0 }
     ensures longer { length greatest.old ≤ length greatest.new }
     ensures cylinder { OnOk result (block.track.cylinder < length greatest.new) }
-    ensures depths { (k : ℕ) → get_or depths.new.items k no_depth ≡ get_or depths.old.items k no_depth }
-    ensures band { OnOk result (band_of block < length depths.new.items) }
+    ensures depths { (k : ℕ) → get_or depths.new k no_depth ≡ get_or depths.old k no_depth }
+    ensures band { OnOk result (band_of block < length depths.new) }
 {
     note(near, chunk_of(block.lbn), block.task, is_new)?;
     greatest.add_room(block.track.cylinder)?;
-    add_bands(depths, band_of(block), NO_DEPTH)
+    depths.add_room(band_of(block))
 }
 
 // The streak that a block begins, if it begins one.
@@ -235,13 +237,20 @@ impl Wanted {
     {
         let index = self.index_of(task, number);
         let entry = self.entry_at(index);
-        self.set_state(index, state_after(change, entry.block, entry.state));
+        let state = state_after(change, entry.block, entry.state);
+        if is_same(state, entry.state) {
+            return;
+        }
+        self.set_state(index, state);
     }
 
     // Changes each block of the task.
     fn change(&mut self, task: u32, change: Change)
         ensures { self.new ≡ after task change self.old }
     {
+        if !may_change(self.counts(task), change) {
+            return;
+        }
         for number in 0..self.registered_count(task) {
             self.change_block(task, number, change);
         }
@@ -352,7 +361,7 @@ impl Wanted {
         note_streak(&mut self.streaks, block.task, streak, begins_streak)?;
         match add_to_look_up(&mut self.tasks, &mut self.tracks, self.alloc, index, entry) {
             Ok(()) => {
-                deepen(&mut self.depths, band_of(block), block);
+                self.depths.deepen(band_of(block), block);
                 self.longest = self.longest.max(block.count);
                 self.offer_indexes.push_reserved(0);
                 self.entries.push_reserved(entry);
@@ -379,7 +388,7 @@ impl Wanted {
             longest: 0,
             near: BTreeSet::new(alloc),
             greatest: Greatest::new(alloc),
-            depths: Vec::new(alloc),
+            depths: Depths::new(alloc),
         }
     }
 
@@ -558,8 +567,8 @@ impl Wanted {
     /// An upper bound on the wanted weight of each track on the cylinders from `from` up to the
     /// end.
     ///
-    /// If there are fewer than 64 cylinders, each of them is looked at, else each band that they
-    /// touch.
+    /// If there are fewer than 64 cylinders, each of them is looked at, else the bands that they
+    /// touch, and of these 64 at once where a whole group is touched.
     pub fn greatest_weight_in(&self, from: u32, end: u32) -> u64
         requires some { from < end }
         ensures each { (track : Track) → from ≤ track.cylinder → track.cylinder < end → wanted_weight track self.now ≤ result }
@@ -574,6 +583,19 @@ impl Wanted {
         ensures deep { (track : Track) (lbn : ℕ) → track.cylinder / 64 ≡ band → depth_at track lbn self.now ≤ result }
         ensures small { result ≤ 16000000 * 1000 }
     {
-        most_in(&self.depths, band)
+        self.depths.most_in(band)
+    }
+
+    /// An upper bound on the weights of all registered blocks that have one sector of the cylinders
+    /// from `from` up to the end in common.
+    ///
+    /// It is the greatest of the bounds of the bands that they touch, of which 64 are looked at at once
+    /// where a whole group is touched.
+    pub fn greatest_depth_in(&self, from: u32, end: u32) -> u64
+        requires some { from < end }
+        ensures each { (track : Track) (lbn : ℕ) → from ≤ track.cylinder → track.cylinder < end → depth_at track lbn self.now ≤ result }
+        ensures small { result ≤ 16000000 * 1000 }
+    {
+        self.depths.most_among(from / BAND, (end - 1) / BAND + 1)
     }
 }

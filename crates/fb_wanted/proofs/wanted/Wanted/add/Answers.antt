@@ -36,7 +36,7 @@ with_room : (c : After-make_room)
     let items = self.entries.items in
     let new = c.make_room.new in
     IsKept items self.tasks.items self.tracks × AreNoted items self.streaks × AreGreatest self.tracks new.greatest
-    × AreDeep items new.depths.items × AreNear items new.near × AreShort self.longest items
+    × AreDeep items new.depths × AreNear items new.near × AreShort self.longest items
     × AreOffered items (offers_at self.tracks) self.offer_indexes.items
 with_room c =
     let self = c.self.inside in
@@ -47,7 +47,7 @@ with_room c =
       held.0,
       held.1,
       greatest_still self.tracks self.greatest new.greatest held.2 stay.greatest stay.longer,
-      deep_still items self.depths.items new.depths.items held.3 stay.depths,
+      deep_still items self.depths new.depths held.3 stay.depths,
       near_still items self.near new.near held.4 stay.near,
       held.5,
       held.6,
@@ -57,7 +57,7 @@ pub deepen-requires-clause-room : goal.deepen-requires-clause-room
 deepen-requires-clause-room c =
     let kept = with_room (goal.at.deepen-requires-clause-room c).After-make_room in
     let room = subst (λ es. length es < 16000000) (sym c.self.view_is) c.requires.room in
-    deep_room c.self.inside.entries.items c.make_room.new.depths.items c.band_of.result c.args.block.weight kept.3 room c.requires.light
+    deep_room c.self.inside.entries.items c.make_room.new.depths c.band_of.result c.args.block.weight kept.3 room c.requires.light
 
 -- out of memory before anything but the chunk is noted of the block
 pub invariant_of-self : goal.invariant_of-self
@@ -110,8 +110,8 @@ invariant_of-self-in-Ok c =
           (changed_weight self.tracks c.add_to_look_up.new.tracks c.args.block.track (grown c.len-index.result) (λ o. refl)
           c.in-Ok.ensures.tracks)
           (c.in-Ok.ensures.no_longer (length c.make_room.new.greatest) kept.2.there c.in_ok-make_room.ensures.cylinder),
-      deep_pushed items c.push_reserved-in-Ok.new.self.items entry c.band_of.result c.make_room.new.depths.items
-          c.deepen.new.depths.items list c.band_of.ensures c.requires.light kept.3 c.deepen.ensures,
+      deep_pushed items c.push_reserved-in-Ok.new.self.items entry c.band_of.result c.make_room.new.depths
+          c.deepen.new.self list c.band_of.ensures c.requires.light kept.3 c.deepen.ensures,
       near_pushed items c.push_reserved-in-Ok.new.self.items entry self.near c.make_room.new.near c.is_new_near-is_new.result
           list c.self.invariant.4 c.in_ok-make_room.ensures.near
           c.in_ok-make_room.ensures.noted (subst (λ es. c.is_new_near-is_new.result ≡ false
@@ -157,7 +157,7 @@ invariant_of-self-in-Err c =
           c.forget_streak.new.streaks c.forget_streak.ensures.gone c.forget_streak.ensures.only c.forget_streak.ensures.others),
       greatest_same self.tracks c.add_to_look_up.new.tracks c.make_room.new.greatest kept.2 (λ t. ap (λ o. o.weight) (stay.tracks_stay t))
           (stay.no_longer (length c.make_room.new.greatest) kept.2.there c.in_ok-make_room.ensures.cylinder),
-      subst (λ es. AreDeep es c.make_room.new.depths.items) list kept.3,
+      subst (λ es. AreDeep es c.make_room.new.depths) list kept.3,
       subst (λ es. AreNear es c.make_room.new.near) list kept.4,
       subst (AreShort self.longest) list c.self.invariant.5,
       subst (λ es. AreOffered es (offers_at c.add_to_look_up.new.tracks) c.reserve-2.new.self.items) list

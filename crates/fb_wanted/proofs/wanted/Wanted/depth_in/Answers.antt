@@ -1,18 +1,16 @@
-use Rattle.std.proofs.Common.{◌≤◌, ◌∙◌, ap, subst, get_or, arith}
-use Rattle.fb_wanted.specs.Depth.{depth_at, band_depth, no_depth}
+use Rattle.std.proofs.Common.{◌≤◌, ap, subst, arith}
+use Rattle.fb_wanted.specs.Depth.{depth_at, band_depth}
 use Rattle.fb_wanted.proofs.Deep.{depth-le_band}
 use Rattle.fb_wanted.proofs.wanted.Wanted.depth_in.Goals as goal
 
 pub returns-clause-deep : goal.returns-clause-deep
 returns-clause-deep c = λ track lbn its.
     let items = c.self.inside.entries.items in
-    let most = c.most_in.ensures ∙ ap (λ xs. (get_or xs c.args.band no_depth).most) c.deref.ensures.value in
     let band = ap (λ b. band_depth b lbn items) its in
     let le : depth_at track lbn items ≤ c.most_in.result =
-    omega (arith, most, (c.self.invariant.3.bounds c.args.band).most lbn, band, depth-le_band track lbn items) in
+    omega (arith, c.most_in.ensures, (c.self.invariant.3.bounds c.args.band).most lbn, band, depth-le_band track lbn items) in
     subst (λ es. depth_at track lbn es ≤ c.most_in.result) c.self.view_is le
 
 pub returns-clause-small : goal.returns-clause-small
 returns-clause-small c =
-    let most = c.most_in.ensures ∙ ap (λ xs. (get_or xs c.args.band no_depth).most) c.deref.ensures.value in
-    omega (arith, most, (c.self.invariant.3.bounds c.args.band).small, c.self.invariant.0.few)
+    omega (arith, c.most_in.ensures, (c.self.invariant.3.bounds c.args.band).small, c.self.invariant.0.few)

@@ -1,5 +1,4 @@
 use Rattle.std.proofs.Common.{◌<◌, ap, ◌∙◌, sym, subst, length, get_or, arith}
-use Rattle.fb_wanted.specs.LookUp.{AreMarked}
 use Rattle.fb_wanted.specs.Tracks.{IsNextRegistered, NoneIsRegistered}
 use Rattle.fb_wanted.proofs.Reading.{are_marked, first_of_track, first_within, next_registered, none_registered}
 use Rattle.fb_wanted.proofs.wanted.Wanted.next_registered_track.Goals as goal
@@ -7,8 +6,7 @@ use Rattle.fb_wanted.proofs.wanted.Wanted.next_registered_track.Goals as goal
 pub next_track-requires : goal.next_track-requires
 next_track-requires c =
     let self = c.self.inside in
-    subst (AreMarked self.tracks) (sym c.deref.ensures.value)
-    (are_marked self.entries.items self.tasks.items self.tracks c.self.invariant.0 self.depths.items c.self.invariant.3)
+    are_marked self.entries.items self.tasks.items self.tracks c.self.invariant.0 self.depths c.self.invariant.3
 
 pub index-requires : goal.index-requires
 index-requires c =

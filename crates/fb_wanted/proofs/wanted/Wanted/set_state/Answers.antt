@@ -135,7 +135,7 @@ invariant_of-self c =
       greatest_after old new entry.block.track change self.greatest (greatest_mid after) c.reweigh-weight.ensures.tracks
           c.update_greatest.new.greatest (omega (arith, c.reweigh-weight.ensures.length, (greatest_mid after).there))
           c.update_greatest.ensures.length c.update_greatest.ensures.weights,
-      deep_set state index entry items self.depths.items (here after) c.self.invariant.3,
+      deep_set state index entry items self.depths (here after) c.self.invariant.3,
       subst (λ l. AreNear l self.near) same (near-with_state state index items self.near c.self.invariant.4),
       subst (AreShort self.longest) same (short-with_state self.longest state index items c.self.invariant.5),
       subst (λ l. AreOffered l (offers_at new) offer_indexes) same

@@ -1,5 +1,5 @@
 use Rattle.std.proofs.Common.{◌<◌, ◌≤◌, ℕ, get_or}
-use Rattle.fb_wanted.proofs.greatest.greatest_of.Given as goal
+use Rattle.fb_wanted.proofs.peaks.greatest_of.Given as goal
 
 -- the greatest of those seen
 abbrev pub invariant-loop-i : goal.invariant-loop-i

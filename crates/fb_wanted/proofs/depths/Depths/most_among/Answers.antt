@@ -1,0 +1,7 @@
+use Rattle.std.proofs.Common.{ap, arith, get_or}
+use Rattle.fb_wanted.specs.Depth.{no_depth}
+use Rattle.fb_wanted.proofs.depths.Depths.most_among.Goals as goal
+
+pub returns-clause-least : goal.returns-clause-least
+returns-clause-least c = λ most all. c.among.ensures.least most (λ k from lt.
+    omega (arith, c.self.invariant.bound k, ap (λ ds. (get_or ds k no_depth).most) c.self.view_is, all k from lt))
